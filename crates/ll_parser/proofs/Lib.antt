@@ -1,0 +1,4 @@
+pub mod Members
+pub mod Theory
+pub mod Steps
+pub mod Coding

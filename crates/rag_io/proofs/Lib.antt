@@ -1,0 +1,4 @@
+pub mod Ends
+pub mod Readings
+pub mod Scanning
+pub mod EndOfFile

@@ -1,0 +1,30 @@
+use Rattle.std.proofs.Common.{arith, rules, sym, subst, ◌++◌, ◌∷◌, []}
+use Rattle.std.proofs.lemmas.List.{append-nil}
+use Rattle.rag_io.specs.Tokens.{IsTokens, IsFirstBad, at_end, here, seen_tokens, seen_token, first_place}
+use Rattle.rag_io.proofs.Scanning.{seen_last, seen_more, over_blank, over_token, bad_over_blank, bad_over_token}
+use Rattle.rag_io.proofs.scanner.scan.Goals as goal
+
+pub returns-in-Nothing : goal.returns-in-Nothing
+returns-in-Nothing c = rw (seen_last _ _ _ c.in_ok-push-in-Nothing.ensures.items) (c.next.invariant.tokens _ (at_end (sym c.in-Nothing.ensures.value)))
+
+pub next-preserved-in-Blank : goal.next-preserved-in-Blank
+next-preserved-in-Blank c = record {
+  tokens = λ ts more. c.next.invariant.tokens ts (over_blank _ _ _ _ _ _ c.moved-place.ensures.value c.split_at.ensures.front c.split_at.ensures.back ts (sym c.in-Blank.ensures.value) more);
+  bad = λ q more. c.next.invariant.bad q (bad_over_blank _ _ _ _ _ _ c.moved-place.ensures.value c.split_at.ensures.front c.split_at.ensures.back q (sym c.in-Blank.ensures.value) more);
+  line = omega arith;
+  column = omega arith;
+  from_one = omega arith;
+}
+
+pub next-preserved : goal.next-preserved
+next-preserved c = record {
+  tokens = λ ts more. rw (seen_more _ _ _ ts c.in_ok-push-in-Token.ensures.items)
+      (c.next.invariant.tokens _ (over_token _ _ _ _ _ _ c.moved-place-in-Token.ensures.value c.split_at-in-Token.ensures.front c.split_at-in-Token.ensures.back c.in-Token.kind ts (sym c.in-Token.ensures.value) more));
+  bad = λ q more. c.next.invariant.bad q (bad_over_token _ _ _ _ _ _ c.moved-place-in-Token.ensures.value c.split_at-in-Token.ensures.front c.split_at-in-Token.ensures.back c.in-Token.kind q (sym c.in-Token.ensures.value) more);
+  line = omega arith;
+  column = omega arith;
+  from_one = omega arith;
+}
+
+pub returns-in-Bad : goal.returns-in-Bad
+returns-in-Bad c = c.next.invariant.bad c.next.place (here (sym c.in-Bad.ensures.value))

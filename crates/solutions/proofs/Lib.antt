@@ -1,0 +1,12 @@
+pub mod Cleaning
+pub mod Closed
+pub mod Composing
+pub mod Growing
+pub mod Larger
+pub mod Loops
+pub mod Lower
+pub mod Reaching
+pub mod Runs
+pub mod Staging
+pub mod Stopping
+pub mod Unique

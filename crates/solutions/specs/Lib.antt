@@ -1,0 +1,4 @@
+pub mod Asking
+pub mod Rounds
+pub mod Rising
+pub mod Leading
