@@ -1,0 +1,13 @@
+-- What is claimed of the table of `ast`, written by tools/table.py: the check computes that it is right.
+use Rattle.std.specs.Prelude.{ℕ, List, [], ◌∷◌, Bool, true, false}
+use Rattle.ll_parser.specs.Table.{Claims, entry, numbers, flag, number}
+
+abbrev pub ast_claims : (ℕ → ℕ → ℕ) → Claims
+ast_claims choice = record {
+  first = numbers ((1 ∷ []) ∷ (1 ∷ []) ∷ (1 ∷ []) ∷ []);
+  empty = flag (false ∷ true ∷ false ∷ []);
+  follow = numbers ((0 ∷ []) ∷ (0 ∷ []) ∷ (0 ∷ 1 ∷ []) ∷ []);
+  weight = number (3 ∷ 3 ∷ 2 ∷ []);
+  ways = 2 ∷ 3 ∷ 0 ∷ [];
+  choice = choice;
+}

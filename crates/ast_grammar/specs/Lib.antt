@@ -1,0 +1,4 @@
+pub mod AstClaims
+pub mod AstGrammar
+pub mod FirstForm
+pub mod Grammar

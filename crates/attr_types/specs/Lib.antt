@@ -1,0 +1,5 @@
+pub mod Expression
+pub mod Items
+pub mod Queries
+pub mod Rules
+pub mod Typing

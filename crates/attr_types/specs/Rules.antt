@@ -1,0 +1,81 @@
+-- The rules of a grammar: which attributes are declared, and which equation gives which attribute its value.
+use Rattle.std.specs.Prelude.{◌≡◌, ℕ, suc, ◌<◌, ◌≤◌, List, [], ◌∷◌, Bool, true, false, not, ◌&&◌, ◌||◌, ◌==◌, Option, Some, None, All, map, length, position}
+use Rattle.std.specs.Str.{bytes_eq}
+use Rattle.ast_grammar.specs.declared.grammar.ClassId.{ClassId}
+use Rattle.attr_types.specs.declared.kinds.Kind.{Kind}
+use Rattle.attr_types.specs.declared.kinds.Kind.TheVariants as kinds
+use Rattle.attr_types.specs.declared.kinds.Attr.{Attr}
+use Rattle.attr_types.specs.declared.kinds.Params.{Params}
+use Rattle.attr_types.specs.declared.kinds.Sort.TheVariants.{Syn}
+use Rattle.attr_types.specs.declared.kinds.Start.TheVariants.{Plain}
+use Rattle.attr_types.specs.Expression.{Expression}
+use Rattle.attr_types.specs.Typing.{type_of, no_names}
+
+-- an attribute: its name, and what is declared of it
+pub record Attribute : Type 0 where
+  pub name : List ℕ
+  pub declared : Attr
+
+-- an equation: it gives the attribute of this number its value at nodes of the class
+pub record Equation : Type 0 where
+  pub class : ClassId
+  pub attribute : ℕ
+  pub body : Expression
+
+pub record RuleSet : Type 0 where
+  pub attributes : List Attribute
+  pub equations : List Equation
+
+-- an item `syn KIND CLASS.NAME() = BODY;`
+pub record Item : Type 0 where
+  pub class : ClassId
+  pub name : List ℕ
+  pub kind : Kind
+  pub body : Expression
+
+abbrev pub no_params : Params
+no_params = record { count = 0; first = kinds.Truth; second = kinds.Truth; third = kinds.Truth }
+
+-- the attribute that an item declares
+abbrev pub attribute_of : Item → Attribute
+attribute_of i = record {
+  name = i.name;
+  declared = record { class = i.class; sort = Syn; kind = i.kind; params = no_params; circular = false; start = Plain };
+}
+
+-- the equations of items, whose attributes are numbered from a on
+abbrev pub equations_from : ℕ → List Item → List Equation
+equations_from a [] = []
+equations_from a (i ∷ items) = record { class = i.class; attribute = a; body = i.body } ∷ equations_from (suc a) items
+
+-- attributes and equations are numbered by the place of their item
+unfoldable pub rules_of : List Item → RuleSet
+rules_of items = record { attributes = map attribute_of items; equations = equations_from 0 items }
+
+-- an item declares an attribute of this name for the class
+abbrev pub declares : List Item → ClassId → List ℕ → Bool
+declares [] class name = false
+declares (i ∷ items) class name = ((i.class.0 == class.0) && bytes_eq i.name name) || declares items class name
+
+-- no attribute is declared twice for one class
+abbrev pub items_differ : List Item → Bool
+items_differ [] = true
+items_differ (i ∷ items) = not (declares items i.class i.name) && items_differ items
+
+abbrev pub most_attributes : ℕ
+most_attributes = 1024
+
+-- Items that break no rule, over a grammar of so many classes.
+pub record AreItems (classes : ℕ) (items : List Item) : Type 0 where
+  pub few : length items ≤ most_attributes
+  pub of_classes : All (λ i. i.class.0 < classes) items
+  pub typed : All (λ i. type_of no_names i.body ≡ Some i.kind) items
+  pub distinct : items_differ items ≡ true
+
+-- the attribute of a class by its name
+abbrev pub attribute_named : RuleSet → ClassId → List ℕ → Option ℕ
+attribute_named rules class name = position (λ a. (a.declared.class.0 == class.0) && bytes_eq a.name name) rules.attributes
+
+-- the equation of an attribute at nodes of a class
+abbrev pub equation_number : RuleSet → ClassId → ℕ → Option ℕ
+equation_number rules class a = position (λ e. (e.class.0 == class.0) && (e.attribute == a)) rules.equations

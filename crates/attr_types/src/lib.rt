@@ -1,0 +1,12 @@
+//! Attributes: their declarations, their equations as typed expressions, and the rules that tie them.
+#![tactic(auto)]
+
+mod expression;
+mod kinds;
+mod queries;
+mod rules;
+
+pub use expression::{Operator, TExpr};
+pub use kinds::{Attr, AttrId, EqId, Kind, Params, Sort, Start};
+pub use queries::QueryEq;
+pub use rules::{FirstEq, Name, Rules};
