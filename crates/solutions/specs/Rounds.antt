@@ -75,3 +75,12 @@ pub record HasFinalValue {I V : Type 0} (G : Equations I V) (i : I) (v : V) : Ty
 -- the assignment as a relation
 abbrev pub Graph : {I V : Type 0} → (I → Option V) → I → V → Type 0
 Graph A i v = A i ≡ Some v
+
+-- The outer rounds over a list, run until nothing is added, leave this assignment.
+pub record RoundsEnd {I V : Type 0} (G : Equations I V) (J : List I) (A : I → Option V) : Type 0 where
+  pub rounds : List ℕ
+  pub whole : AreWhole G J rounds
+  pub turns : ℕ
+  pub stable : IsStable G J (outer_rounds G J rounds) turns
+  pub last : (i : I) → outer_rounds G J (turns ∷ rounds) i ≡ outer_rounds G J rounds i
+  pub is : (i : I) → A i ≡ outer_rounds G J rounds i

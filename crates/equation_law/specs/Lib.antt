@@ -1,0 +1,9 @@
+pub mod Equations
+pub mod Meaning
+pub mod Named
+pub mod Names
+pub mod Program
+pub mod Sets
+pub mod Systems
+pub mod Trees
+pub mod Values

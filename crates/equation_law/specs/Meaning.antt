@@ -1,0 +1,62 @@
+-- The meaning of an expression: what it demands, in order, and the value that comes of it.
+use Rattle.std.specs.Prelude.{ℕ, ℤ, ◌+ℤ◌, ◌-ℤ◌, ◌*ℤ◌, neg_ℤ, int_lt, Bool, true, false, not, cond}
+use Rattle.std.specs.Int.{int_wrap}
+use Rattle.std.specs.Ordering.{int_eq}
+use mir.Syntax.{w32}
+use Rattle.attr_types.specs.declared.kinds.Kind.{Kind}
+use Rattle.attr_types.specs.declared.expression.Operator.{Operator}
+use Rattle.attr_types.specs.declared.expression.Operator.TheVariants.{Add, Subtract, Multiply, Less, AtMost, Greater, AtLeast, Equal}
+use Rattle.attr_types.specs.Expression.{Expression, Truth as TruthLiteral, Int as IntLiteral, Source as SourceNode, Call, Not, Negate, Binary, And, Or, If}
+use Rattle.solutions.specs.Asking.{Demands, Gives, Needs, next}
+use Rattle.equation_law.specs.Names.{NodeName, Source, Reference, Null, At, Instance, Attribute, NoArguments}
+use Rattle.equation_law.specs.Values.{Value, Truth, Int, Text, Node, Texts, Nodes, truth, int, node, as_kind, default_of}
+
+-- what the grammar, the rules and the tree say of attributes
+pub record World : Type 0 where
+  pub kind : ℕ → Kind
+
+-- where an expression is read: the node of the equation
+pub record Place : Type 0 where
+  pub this : Reference
+
+-- two truth values or two integers are equal
+abbrev pub equal : Value → Value → Bool
+equal (Truth a) w = cond a (truth w) (not (truth w))
+equal (Int a) w = int_eq a (int w)
+equal (Text t) w = false
+equal (Node n) w = false
+equal (Texts s) w = false
+equal (Nodes s) w = false
+
+-- a binary operator on two values; sums, differences and products wrap at 32 bits
+abbrev pub operate : Operator → Value → Value → Value
+operate Add v w = Int (int_wrap w32 (int v +ℤ int w))
+operate Subtract v w = Int (int_wrap w32 (int v -ℤ int w))
+operate Multiply v w = Int (int_wrap w32 (int v *ℤ int w))
+operate Less v w = Truth (int_lt (int v) (int w))
+operate AtMost v w = Truth (not (int_lt (int w) (int v)))
+operate Greater v w = Truth (int_lt (int w) (int v))
+operate AtLeast v w = Truth (not (int_lt (int v) (int w)))
+operate Equal v w = Truth (equal v w)
+
+-- an instance's value, read at the attribute's type
+abbrev pub demand : Kind → Instance → Demands Instance Value
+demand k i = Needs i (λ v. Gives (as_kind k v))
+
+-- a call on a receiver; on null it is the default of the type and demands nothing
+abbrev pub call_at : World → ℕ → Reference → Demands Instance Value
+call_at W a Null = Gives (default_of (W.kind a))
+call_at W a (At n) = demand (W.kind a) (Attribute a (At n) NoArguments)
+
+-- The parts are evaluated from the left. Of `&&`, `||` and `? :` only what is needed is.
+abbrev pub meaning_of : World → Expression → Place → Demands Instance Value
+meaning_of W (TruthLiteral b) p = Gives (Truth b)
+meaning_of W (IntLiteral z) p = Gives (Int z)
+meaning_of W (SourceNode k) p = Gives (Node (At (Source k)))
+meaning_of W (Call a e) p = next (meaning_of W e p) (λ r. call_at W a (node r))
+meaning_of W (Not e) p = next (meaning_of W e p) (λ v. Gives (Truth (not (truth v))))
+meaning_of W (Negate e) p = next (meaning_of W e p) (λ v. Gives (Int (int_wrap w32 (neg_ℤ (int v)))))
+meaning_of W (Binary o a b) p = next (meaning_of W a p) (λ v. next (meaning_of W b p) (λ w. Gives (operate o v w)))
+meaning_of W (And a b) p = next (meaning_of W a p) (λ v. cond (truth v) (next (meaning_of W b p) (λ w. Gives (Truth (truth w)))) (Gives (Truth false)))
+meaning_of W (Or a b) p = next (meaning_of W a p) (λ v. cond (truth v) (Gives (Truth true)) (next (meaning_of W b p) (λ w. Gives (Truth (truth w)))))
+meaning_of W (If c a b) p = next (meaning_of W c p) (λ v. cond (truth v) (meaning_of W a p) (meaning_of W b p))

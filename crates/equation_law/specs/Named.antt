@@ -1,0 +1,66 @@
+-- Instances and values by the structural names that the code gives them, and what a table of values stands for.
+use Rattle.std.specs.Prelude.{◌≡◌, ℕ, cond, List, [], ◌∷◌, Option, Some, None, map, slice_get}
+use Rattle.std.specs.Option.{option_map, option_and_then}
+use Rattle.solutions.specs.Rounds.{RoundsEnd}
+use Rattle.equation_law.specs.declared.instances.NamedInstance.{NamedInstance}
+use Rattle.equation_law.specs.declared.instances.NamedInstance.TheVariants as named
+use Rattle.equation_law.specs.declared.instances.NameList.{NameList}
+use Rattle.equation_law.specs.declared.values.PlainValue.{PlainValue}
+use Rattle.equation_law.specs.declared.values.PlainValue.TheVariants as plain
+use Rattle.equation_law.specs.declared.values.NamedValue.{NamedValue}
+use Rattle.equation_law.specs.declared.rounds.Table.{Table}
+use Rattle.equation_law.specs.Names.{Instance, Query, Null, At, Source, same_instance}
+use Rattle.equation_law.specs.Values.{Value, Truth, Int, Text, Node, Texts, Nodes}
+use Rattle.equation_law.specs.Program.{Program, at_source}
+use Rattle.equation_law.specs.Equations.{equations_of}
+
+abbrev pub instance_of : NamedInstance → Instance
+instance_of (named.Attribute a n) = at_source a.0 n
+instance_of (named.Query q) = Query q
+
+abbrev pub instances_in : NameList → List Instance
+instances_in l = map instance_of l.names.items
+
+abbrev pub value_of : PlainValue → Value
+value_of (plain.Truth b) = Truth b
+value_of (plain.Int z) = Int z
+value_of plain.Null = Node Null
+value_of (plain.Node n) = Node (At (Source n))
+
+abbrev pub value_in : NamedValue → Value
+value_in v = value_of v.value
+
+-- the value is no truth value, and no integer
+abbrev pub IsNoTruth : Value → Type 0
+IsNoTruth (Truth b) = ⊥
+IsNoTruth (Int z) = Unit {0}
+IsNoTruth (Text t) = Unit {0}
+IsNoTruth (Node n) = Unit {0}
+IsNoTruth (Texts s) = Unit {0}
+IsNoTruth (Nodes s) = Unit {0}
+
+abbrev pub IsNoInt : Value → Type 0
+IsNoInt (Truth b) = Unit {0}
+IsNoInt (Int z) = ⊥
+IsNoInt (Text t) = Unit {0}
+IsNoInt (Node n) = Unit {0}
+IsNoInt (Texts s) = Unit {0}
+IsNoInt (Nodes s) = Unit {0}
+
+abbrev pub values_in : Table → List (Option Value)
+values_in t = map (option_map value_in) t.values.items
+
+-- the value of the k-th name, where there is one
+abbrev pub value_at : Table → ℕ → Option Value
+value_at t k = option_and_then (λ v. v) (slice_get (values_in t) k)
+
+-- the value that stands under the first place of an instance in the list
+abbrev pub assigned : List Instance → List (Option Value) → Instance → Option Value
+assigned [] values i = None
+assigned (j ∷ names) [] i = None
+assigned (j ∷ names) (v ∷ values) i = cond (same_instance i j) v (assigned names values i)
+
+-- The table has a value for each name, where the rounds over the names, run until nothing is added, give it one.
+pub record Solves (p : Program) (names : List Instance) (t : Table) : Type 0 where
+  pub end : RoundsEnd (equations_of p) names (assigned names (values_in t))
+  pub each : (k : ℕ) (i : Instance) → slice_get names k ≡ Some i → value_at t k ≡ assigned names (values_in t) i

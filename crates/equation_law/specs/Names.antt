@@ -1,0 +1,56 @@
+-- Names of nodes, and instances of attributes. What tells two of them apart, and their order, is their writing
+-- as a list of numbers.
+use Rattle.std.specs.Prelude.{ℕ, Bool, List, [], ◌∷◌}
+use Rattle.std.specs.Ordering.{nat_cmp, on, is_eq}
+use Rattle.std.specs.declared.cmp.Ordering.{Ordering}
+use Rattle.std.specs.Cmp.Lexicographic.{slice_cmp}
+
+-- a node: the source node of this number, in preorder
+pub data NodeName : Type 0 where
+  Source : ℕ → NodeName
+
+-- a node, or null
+pub data Reference : Type 0 where
+  Null : Reference
+  At : NodeName → Reference
+
+-- the arguments of a call: attributes have no parameters yet
+pub data Arguments : Type 0 where
+  NoArguments : Arguments
+
+-- an attribute at a node with arguments, or a query
+pub data Instance : Type 0 where
+  Attribute : ℕ → Reference → Arguments → Instance
+  Query : ℕ → Instance
+
+-- the writing of each, in front of what follows
+abbrev pub node_code : NodeName → List ℕ → List ℕ
+node_code (Source k) rest = 1 ∷ k ∷ rest
+
+abbrev pub reference_code : Reference → List ℕ → List ℕ
+reference_code Null rest = 0 ∷ rest
+reference_code (At n) rest = 1 ∷ node_code n rest
+
+abbrev pub arguments_code : Arguments → List ℕ → List ℕ
+arguments_code NoArguments rest = 0 ∷ rest
+
+abbrev pub instance_code : Instance → List ℕ → List ℕ
+instance_code (Attribute a n xs) rest = 0 ∷ reference_code n (a ∷ arguments_code xs rest)
+instance_code (Query q) rest = 1 ∷ q ∷ rest
+
+-- the order of names
+abbrev pub node_key : NodeName → List ℕ
+node_key n = node_code n []
+
+abbrev pub node_cmp : NodeName → NodeName → Ordering
+node_cmp = on node_key (slice_cmp nat_cmp)
+
+-- texts are ordered by their bytes
+abbrev pub text_cmp : List ℕ → List ℕ → Ordering
+text_cmp = slice_cmp nat_cmp
+
+abbrev pub same_reference : Reference → Reference → Bool
+same_reference a b = is_eq (slice_cmp nat_cmp (reference_code a []) (reference_code b []))
+
+abbrev pub same_instance : Instance → Instance → Bool
+same_instance i j = is_eq (slice_cmp nat_cmp (instance_code i []) (instance_code j []))

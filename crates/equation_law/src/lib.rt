@@ -1,0 +1,18 @@
+//! The meaning of a program: its instances, their equations, the rounds that solve them, and the laws of the
+//! solution. The definitions stand in `specs/`; `plain_rounds` runs them as they are written.
+#![tactic(auto)]
+
+mod evaluation;
+mod instances;
+mod laws;
+mod rounds;
+mod system;
+mod tree;
+mod values;
+
+pub use instances::NameList;
+pub use laws::{ended_has_value, one_solution};
+pub use rounds::{Table, plain_rounds};
+pub use system::{Queries, System};
+pub use tree::{FirstNode, Tokens, Tree};
+pub use values::NamedValue;

@@ -1,0 +1,95 @@
+// Source trees.
+ghost use Rattle.std.specs.Prelude.{◌≡◌, ◌<◌, Some, IfOk, length, map, slice_get};
+ghost use Rattle.std.specs.Option.{option_map};
+ghost use Rattle.equation_law.specs.Program.{IsTree};
+ghost use Rattle.equation_law.specs.Trees.{node_of};
+
+use ast_grammar::ClassId;
+use rag_io::Memory;
+use std::alloc::Global;
+use std::marker::Model;
+
+/// The codes of a node's tokens, one for each component of its class in order: 0 or 1 for a truth value, the
+/// two's complement for an integer, the number in the pool for a text, and 0 where the component is no token.
+#[derive(Debug, Drop)]
+pub struct Tokens {
+    codes: Vec<u32>,
+}
+
+impl Model for Tokens {
+    ghost use Rattle.std.specs.Prelude.{ℕ, List};
+
+    ghost Value = { List ℕ };
+
+    ghost view = { λ t. t.codes.items };
+}
+
+impl Tokens {
+    /// The tokens of these codes.
+    pub fn of(list: Vec<u32>) -> Tokens
+        ensures { result ≡ list.items }
+    {
+        Tokens { codes: list }
+    }
+
+    /// The codes.
+    pub fn list(&self) -> &[u32]
+        ensures { result.now ≡ self.now }
+    {
+        self.codes.as_slice()
+    }
+}
+
+/// A node of a source tree: its class, its parent and the component of the parent's class by which it hangs
+/// there (both 0 at the root), and its tokens.
+#[derive(Debug, Drop)]
+pub struct FirstNode {
+    pub class: ClassId,
+    pub parent: u32,
+    pub component: u32,
+    pub tokens: Tokens,
+}
+
+/// A source tree: its nodes in preorder, the root being 0.
+#[derive(Drop)]
+pub struct Tree {
+    nodes: Vec<FirstNode>,
+}
+
+impl Model for Tree {
+    ghost use Rattle.std.specs.Prelude.{List, map};
+    ghost use Rattle.equation_law.specs.Program.{Node, IsTree};
+    ghost use Rattle.equation_law.specs.Trees.{node_of};
+
+    ghost Value = { List Node };
+
+    ghost view = { λ t. map node_of t.nodes.items };
+
+    ghost invariant = { λ t. IsTree (map node_of t.nodes.items) };
+}
+
+impl Tree {
+    /// The tree of these nodes. It needs the nodes of one tree in preorder; trees have one node so far.
+    pub fn of_nodes(alloc: Global, nodes: Vec<FirstNode>) -> Result<Tree, Memory>
+        requires { IsTree (map node_of nodes.items) }
+        ensures { IfOk result (λ t. t ≡ map node_of nodes.items) }
+    {
+        let _ = alloc;
+        Ok(Tree { nodes })
+    }
+
+    /// The number of nodes.
+    pub fn len(&self) -> u32
+        ensures { result ≡ length self.now }
+    {
+        self.nodes.len() as u32
+    }
+
+    /// The class of a node.
+    pub fn class_of(&self, n: u32) -> ClassId
+        requires { n < length self.now }
+        ensures { option_map (λ x. x.class) (slice_get self.now n) ≡ Some result }
+    {
+        self.nodes[n as usize].class
+    }
+}
