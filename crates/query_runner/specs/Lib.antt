@@ -1,0 +1,11 @@
+pub mod Aspects
+pub mod AspectsClaims
+pub mod AspectsGrammar
+pub mod Names
+pub mod Queries
+pub mod QueryClaims
+pub mod QueryGrammar
+pub mod Tokens
+pub mod TreeClaims
+pub mod TreeGrammar
+pub mod Trees
