@@ -1,1 +1,5 @@
 pub mod Fits
+pub mod Pieces
+pub mod Stopping
+pub mod Answerable
+pub mod Preparing

@@ -1,0 +1,49 @@
+-- Why fetching the four files stops, from why fetching one of them stops.
+use Rattle.std.proofs.Common.{◌≡◌, ℕ, ◌≤◌, List, [], ◌∷◌, length, Option, Some, None, sym, subst, arith}
+use Rattle.rag_io.specs.Outside.{Named, longest_file, IsLong, IsShort, Rose}
+use Rattle.query_runner.specs.declared.fetching.Stop.{Stop}
+use Rattle.query_runner.specs.declared.fetching.Stop.TheVariants as stops
+use Rattle.query_runner.specs.Fetched.{Holds, LongWhereTold, FirstLongWhereTold, StopsOne, StopsAll}
+use Rattle.query_runner.specs.Output.{here, later as behind}
+use Rattle.query_runner.specs.Words.{FileNames}
+
+rose_from : (before mid now : ℕ) → before ≤ mid → Rose mid now → Rose before now
+rose_from before mid now le rose = omega arith
+
+pub stops_all : (files : Option (List Named)) (names : FileNames) (name : List ℕ) (before mid now : ℕ) (stop : Stop) → before ≤ mid
+    → (LongWhereTold files name → FirstLongWhereTold files names name) → StopsOne files name mid now stop → StopsAll files names before now stop
+stops_all files names name before mid now stops.Failed le first cause = rose_from before mid now le cause
+stops_all files names name before mid now (stops.TooLong found) le first cause = subst (λ (n : List ℕ). FirstLongWhereTold files names n) (sym cause.1) (first cause.0)
+stops_all files names name before mid now stops.Memory le first cause = tt
+
+-- the shelf still tells the same files
+pub stops_same : (files later : Option (List Named)) (name : List ℕ) (mid now : ℕ) (stop : Stop) → later ≡ files → StopsOne later name mid now stop → StopsOne files name mid now stop
+stops_same files later name mid now stop e cause = subst (λ (f : Option (List Named)). StopsOne f name mid now stop) e cause
+
+pub holds_same : (files later : Option (List Named)) (name bytes : List ℕ) → later ≡ files → Holds later name bytes → Holds files name bytes
+holds_same files later name bytes e held = subst (λ (f : Option (List Named)). Holds f name bytes) e held
+
+-- a file that was fetched is short enough
+short : (files : List Named) (name bytes : List ℕ) → Holds (Some files) name bytes → length bytes ≤ longest_file → IsShort files name
+short files name bytes held fits = record { bytes = bytes; held = held; fits = fits }
+
+pub first_is_long : (files : Option (List Named)) (names : FileNames) → LongWhereTold files names.ast → FirstLongWhereTold files names names.ast
+first_is_long None names long = tt
+first_is_long (Some files) names long = here long
+
+module _ (names : FileNames) (ast : List ℕ) (fits_ast : length ast ≤ longest_file) where
+  pub second_is_long : (files : Option (List Named)) → Holds files names.ast ast → LongWhereTold files names.jrag → FirstLongWhereTold files names names.jrag
+  second_is_long None a long = tt
+  second_is_long (Some files) a long = behind (short files names.ast ast a fits_ast) (here long)
+
+  module _ (jrag : List ℕ) (fits_jrag : length jrag ≤ longest_file) where
+    pub third_is_long : (files : Option (List Named)) → Holds files names.ast ast → Holds files names.jrag jrag → LongWhereTold files names.tree → FirstLongWhereTold files names names.tree
+    third_is_long None a b long = tt
+    third_is_long (Some files) a b long = behind (short files names.ast ast a fits_ast) (behind (short files names.jrag jrag b fits_jrag) (here long))
+
+    module _ (tree : List ℕ) (fits_tree : length tree ≤ longest_file) where
+      pub fourth_is_long : (files : Option (List Named)) → Holds files names.ast ast → Holds files names.jrag jrag → Holds files names.tree tree
+          → LongWhereTold files names.queries → FirstLongWhereTold files names names.queries
+      fourth_is_long None a b c long = tt
+      fourth_is_long (Some files) a b c long =
+          behind (short files names.ast ast a fits_ast) (behind (short files names.jrag jrag b fits_jrag) (behind (short files names.tree tree c fits_tree) (here long)))

@@ -1,0 +1,62 @@
+-- What the four files say together.
+use Rattle.std.specs.Prelude.{◌≡◌, ℕ, List, [], ◌∷◌}
+use Rattle.rag_io.specs.Tokens.{Lexed, IsTokens, first_place}
+use Rattle.ast_grammar.specs.FirstForm.{SaysGrammar}
+use Rattle.ast_grammar.specs.Grammar.{Class}
+use Rattle.attr_types.specs.Expression.{Expression}
+use Rattle.attr_types.specs.Rules.{Item, rules_of}
+use Rattle.equation_law.specs.Program.{Node, Program}
+use Rattle.query_runner.specs.Aspects.{SaysAspects}
+use Rattle.query_runner.specs.Queries.{SaysQueries}
+use Rattle.query_runner.specs.Trees.{SaysTree}
+
+-- the bytes of the four files
+pub record Contents : Type 0 where
+  pub ast : List ℕ
+  pub jrag : List ℕ
+  pub tree : List ℕ
+  pub queries : List ℕ
+
+-- The bytes of an `.ast` file say this grammar.
+pub record ReadsGrammar (bytes : List ℕ) (g : List Class) : Type 0 where
+  pub tokens : List Lexed
+  pub scanned : IsTokens first_place bytes tokens
+  pub says : SaysGrammar tokens g
+
+-- The bytes of a `.jrag` file say these items over a grammar.
+pub record ReadsItems (g : List Class) (bytes : List ℕ) (items : List Item) : Type 0 where
+  pub tokens : List Lexed
+  pub scanned : IsTokens first_place bytes tokens
+  pub says : SaysAspects g tokens items
+
+-- The bytes of a tree file say this tree of a grammar.
+pub record ReadsTree (g : List Class) (bytes : List ℕ) (tree : List Node) : Type 0 where
+  pub tokens : List Lexed
+  pub scanned : IsTokens first_place bytes tokens
+  pub says : SaysTree g tokens tree
+
+-- The four files say this program. Its only text is the empty one.
+pub record SaysProgram (held : Contents) (p : Program) : Type 0 where
+  pub items : List Item
+  pub grammar : ReadsGrammar held.ast p.grammar
+  pub aspects : ReadsItems p.grammar held.jrag items
+  pub rules : p.rules ≡ rules_of items
+  pub tree : ReadsTree p.grammar held.tree p.tree
+  pub texts : p.texts ≡ [] ∷ []
+  pub queries : SaysQueries p.rules p.tree held.queries p.queries
+
+-- one of the four files
+pub data File : Type 0 where
+  Ast : File
+  Jrag : File
+  Tree : File
+  Queries : File
+
+-- This file is the first, in the order of the command, that isn't in the form that is read so far.
+pub data IsNotBuilt (held : Contents) : File → Type 0 where
+  no_grammar : ((g : List Class) → ReadsGrammar held.ast g → ⊥) → IsNotBuilt held Ast
+  no_items : {g : List Class} → ReadsGrammar held.ast g → ((items : List Item) → ReadsItems g held.jrag items → ⊥) → IsNotBuilt held Jrag
+  no_tree : {g : List Class} {items : List Item} → ReadsGrammar held.ast g → ReadsItems g held.jrag items
+      → ((tree : List Node) → ReadsTree g held.tree tree → ⊥) → IsNotBuilt held Tree
+  no_queries : {g : List Class} {items : List Item} {tree : List Node} → ReadsGrammar held.ast g → ReadsItems g held.jrag items → ReadsTree g held.tree tree
+      → ((es : List Expression) → SaysQueries (rules_of items) tree held.queries es → ⊥) → IsNotBuilt held Queries

@@ -1,0 +1,75 @@
+-- What the program is to write.
+use Rattle.std.specs.Prelude.{◌≡◌, ℕ, suc, ◌≤◌, ℤ, Bool, true, false, List, [], ◌∷◌, ◌++◌, Option, Some, None, codes}
+use Rattle.std.specs.Fmt.{signed_decimal}
+use Rattle.rag_io.specs.Outside.{Named, content_of, IsLong, IsShort}
+use Rattle.attr_types.specs.Expression.{Expression}
+use Rattle.equation_law.specs.Names.{Query}
+use Rattle.equation_law.specs.Values.{Value, Truth, Int}
+use Rattle.equation_law.specs.Program.{Program}
+use Rattle.equation_law.specs.Equations.{HasValue}
+use Rattle.query_runner.specs.Files.{Contents, SaysProgram, File, Ast, Jrag, Tree, Queries, IsNotBuilt}
+use Rattle.query_runner.specs.Words.{FileNames, names_of}
+
+abbrev pub truth_text : Bool → List ℕ
+truth_text true = codes "true"
+truth_text false = codes "false"
+
+-- the text of a value in a reply
+pub data IsReplyText : Value → List ℕ → Type 0 where
+  of_truth : (b : Bool) → IsReplyText (Truth b) (truth_text b)
+  of_int : (z : ℤ) → IsReplyText (Int z) (signed_decimal z)
+
+-- One line for each query from the q-th on: the text of its value in the solution, and a line feed.
+pub data AreReplies (p : Program) : ℕ → List Expression → List ℕ → Type 0 where
+  none : {q : ℕ} → AreReplies p q [] []
+  reply : {q : ℕ} {e : Expression} {es : List Expression} {v : Value} {text rest : List ℕ} → HasValue p (Query q) v → IsReplyText v text
+      → AreReplies p (suc q) es rest → AreReplies p q (e ∷ es) (text ++ 10 ∷ rest)
+
+-- The shelf holds these bytes under the four names, none of them too many.
+pub record HoldsAll (files : List Named) (names : FileNames) (held : Contents) : Type 0 where
+  pub ast : content_of files names.ast ≡ Some held.ast
+  pub jrag : content_of files names.jrag ≡ Some held.jrag
+  pub tree : content_of files names.tree ≡ Some held.tree
+  pub queries : content_of files names.queries ≡ Some held.queries
+
+-- The output for some words, over the files that a shelf holds: the replies of the program that they say.
+pub record Output (words : List (List ℕ)) (files : List Named) (text : List ℕ) : Type 0 where
+  pub names : FileNames
+  pub contents : Contents
+  pub program : Program
+  pub read : names_of words ≡ Some names
+  pub held : HoldsAll files names contents
+  pub said : SaysProgram contents program
+  pub replies : AreReplies program 0 program.queries text
+
+abbrev pub name_of : FileNames → File → List ℕ
+name_of names Ast = names.ast
+name_of names Jrag = names.jrag
+name_of names Tree = names.tree
+name_of names Queries = names.queries
+
+-- the files in the order of the command
+abbrev pub in_order : FileNames → List (List ℕ)
+in_order names = names.ast ∷ names.jrag ∷ names.tree ∷ names.queries ∷ []
+
+-- the first of some files that is too long, those before it being held and short enough
+pub data IsFirstLong (files : List Named) : List (List ℕ) → List ℕ → Type 0 where
+  here : {name : List ℕ} {names : List (List ℕ)} → IsLong files name → IsFirstLong files (name ∷ names) name
+  later : {name found : List ℕ} {names : List (List ℕ)} → IsShort files name → IsFirstLong files names found → IsFirstLong files (name ∷ names) found
+
+-- The line of a file that is refused.
+pub data IsRefused (words : List (List ℕ)) (files : List Named) : List ℕ → Type 0 where
+  too_long : {names : FileNames} {name : List ℕ} → names_of words ≡ Some names → IsFirstLong files (in_order names) name → IsRefused words files (name ++ codes ": too long\n")
+  not_built : {names : FileNames} {contents : Contents} {file : File} → names_of words ≡ Some names → HoldsAll files names contents → IsNotBuilt contents file
+      → IsRefused words files (name_of names file ++ codes ": not built\n")
+
+-- the usage text
+abbrev pub usage : List ℕ
+usage = codes "usage: rag run [--callers N] [--cells N] [--count] AST JRAG TREE QUERIES\n       rag check AST JRAG\n       rag tree AST TREE\n       rag bulk N [--callers N]\n"
+
+-- What is to be written for some words, and the status that goes with it: the replies with 0, the line of a file
+-- that is refused with 1, the usage text with 2.
+pub data Answers (words : List (List ℕ)) (files : List Named) : ℕ → List ℕ → Type 0 where
+  replied : {text : List ℕ} → Output words files text → Answers words files 0 text
+  refused : {line : List ℕ} → IsRefused words files line → Answers words files 1 line
+  misused : names_of words ≡ None → Answers words files 2 usage

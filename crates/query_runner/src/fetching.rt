@@ -1,0 +1,80 @@
+// Fetches the four files, in order.
+ghost use Rattle.std.specs.Prelude.{◌≡◌, ◌≤◌, length, IfOk, IfErr};
+ghost use Rattle.rag_io.specs.Outside.{longest_file};
+ghost use Rattle.query_runner.specs.Fetched.{seen_contents, AreShort, StopsOne, StopsAll, Holds, HoldsFetched};
+ghost use Rattle.query_runner.specs.Named.{seen_names};
+
+use crate::words::Names;
+use rag_io::{FetchFault, Shelf};
+use std::alloc::Global;
+
+/// The bytes of the four files.
+#[derive(Drop)]
+pub(crate) struct Contents {
+    pub ast: Vec<u8>,
+    pub jrag: Vec<u8>,
+    pub tree: Vec<u8>,
+    pub queries: Vec<u8>,
+}
+
+/// Why fetching stopped.
+#[derive(Clone, Copy)]
+pub(crate) enum Stop<'a> {
+    /// The shelf failed.
+    Failed,
+    /// The file of this name is too long.
+    TooLong(&'a str),
+    /// Want of memory.
+    Memory,
+}
+
+fn fetch<'a, S: Shelf>(alloc: Global, shelf: &mut S, name: &'a str) -> Result<Vec<u8>, Stop<'a>>
+    ensures held { IfOk result (λ bytes. Holds (S.files shelf.old) name.now bytes.items) }
+    ensures fits { IfOk result (λ bytes. length bytes.items ≤ longest_file) }
+    ensures cause { IfErr result (λ stop. StopsOne (S.files shelf.old) name.now (S.faults shelf.old) (S.faults shelf.new) stop) }
+    ensures files { S.files shelf.new ≡ S.files shelf.old }
+    ensures later { S.faults shelf.old ≤ S.faults shelf.new }
+{
+    let mut bytes = Vec::new(alloc);
+    match shelf.fetch(name, &mut bytes) {
+        Ok(()) => Ok(bytes),
+        Err(FetchFault::Failed) => Err(Stop::Failed),
+        Err(FetchFault::TooLong) => Err(Stop::TooLong(name)),
+        Err(FetchFault::Memory) => Err(Stop::Memory),
+    }
+}
+
+/// Fetches the files in the order of the command, up to the first that is refused.
+pub(crate) fn fetch_all<'a, S: Shelf>(
+    alloc: Global,
+    shelf: &mut S,
+    names: Names<'a>,
+) -> Result<Contents, Stop<'a>>
+    ensures held { IfOk result (λ c. HoldsFetched (S.files shelf.old) (seen_names names.entry) (seen_contents c)) }
+    ensures fits { IfOk result (λ c. AreShort (seen_contents c)) }
+    ensures cause { IfErr result (λ stop. StopsAll (S.files shelf.old) (seen_names names.entry) (S.faults shelf.old) (S.faults shelf.new) stop) }
+    ensures later { S.faults shelf.old ≤ S.faults shelf.new }
+{
+    let ast = match fetch(alloc, shelf, names.ast) {
+        Ok(bytes) => bytes,
+        Err(stop) => return Err(stop),
+    };
+    let jrag = match fetch(alloc, shelf, names.jrag) {
+        Ok(bytes) => bytes,
+        Err(stop) => return Err(stop),
+    };
+    let tree = match fetch(alloc, shelf, names.tree) {
+        Ok(bytes) => bytes,
+        Err(stop) => return Err(stop),
+    };
+    let queries = match fetch(alloc, shelf, names.queries) {
+        Ok(bytes) => bytes,
+        Err(stop) => return Err(stop),
+    };
+    Ok(Contents {
+        ast,
+        jrag,
+        tree,
+        queries,
+    })
+}
