@@ -40,7 +40,7 @@ never_closed b (c ∷ text) rest after opens e =
     let star : b ≡ 42 = ap (λ (bytes : List ℕ). get_or bytes 0 0) e in
     let slash : c ≡ 47 = ap (λ (bytes : List ℕ). get_or bytes 1 0) e in
     let early : length (b ∷ (c ∷ text)) ≤ length {A = ℕ} [] =
-        opens [] (text ++ codes "*/") (ap (λ (x : ℕ). x ∷ (c ∷ (text ++ codes "*/"))) star ∙ ap (λ (x : ℕ). 42 ∷ (x ∷ (text ++ codes "*/"))) slash) in
+    opens [] (text ++ codes "*/") (ap (λ (x : ℕ). x ∷ (c ∷ (text ++ codes "*/"))) star ∙ ap (λ (x : ℕ). 42 ∷ (x ∷ (text ++ codes "*/"))) slash) in
     absurd (omega arith)
 
 -- the first byte of an open comment doesn't close it
@@ -82,4 +82,5 @@ finds_end (b ∷ bytes) =
         record {
           text = b ∷ is.text;
           front = rw (add-one n) (ap (λ (front : List ℕ). b ∷ front) is.front);
-          opens = open_before b is.text (drop n bytes) (sym (ap (closes_comment b) whole) ∙ fails) is.opens }
+          opens = open_before b is.text (drop n bytes) (sym (ap (closes_comment b) whole) ∙ fails) is.opens;
+        }

@@ -50,7 +50,7 @@ fits_text bytes (Some n) body = rw (add-one n) (text (take n bytes) (drop n byte
 fits_line : (rest : List ℕ) → Fits (47 ∷ (47 ∷ rest)) (Blank (run is_no_line_feed (47 ∷ rest) + 1))
 fits_line rest =
     rw (run-cons is_no_line_feed 47 rest refl, add-one (suc (run is_no_line_feed rest)))
-        (line_comment (take (run is_no_line_feed rest) rest) (drop (run is_no_line_feed rest) rest) (run_passes is_no_line_feed rest) (run_stops is_no_line_feed rest))
+    (line_comment (take (run is_no_line_feed rest) rest) (drop (run is_no_line_feed rest) rest) (run_passes is_no_line_feed rest) (run_stops is_no_line_feed rest))
 
 fits_comment : (rest : List ℕ) (end : Option ℕ) → FindsEnd rest end → Fits (47 ∷ (42 ∷ rest)) (comment_front end)
 fits_comment rest None none = omega arith
@@ -70,9 +70,9 @@ fits_symbol bytes (Some sign) some found no_line no_block =
     let whole : bytes ≡ sign ++ drop (length sign) bytes = begins_from_test bytes sign found.begins in
     let front : take (length sign) bytes ≡ sign = ap (take (length sign)) whole ∙ take-append_seam sign (drop (length sign) bytes) in
     subst (λ (s : List ℕ). IsToken kinds.Symbol s (drop (length sign) bytes)) (sym front)
-        (symbol sign (drop (length sign) bytes) found.listed
-            (λ longer listed is. found.longest longer listed (test_from_begins bytes longer is.0 (whole ∙ is.1)))
-            (λ is. no_line is.0 (whole ∙ is.1)) (λ is. no_block is.0 (whole ∙ is.1)))
+    (symbol sign (drop (length sign) bytes) found.listed
+    (λ longer listed is. found.longest longer listed (test_from_begins bytes longer is.0 (whole ∙ is.1)))
+    (λ is. no_line is.0 (whole ∙ is.1)) (λ is. no_block is.0 (whole ∙ is.1)))
 
 -- what `lexeme_of` says is so
 pub fits : (bytes : List ℕ) → Fits bytes (lexeme_of bytes)
@@ -84,11 +84,11 @@ fits (b ∷ bytes) =
     (λ _. cond_both (begins_name b) _ _ P (λ is. rw (add-one (run goes_on_name bytes)) (name b _ _ is (run_passes goes_on_name bytes) (run_stops goes_on_name bytes)))
     (λ _. cond_both (is_digit b) _ _ P (λ is. rw (add-one (run is_digit bytes)) (int b _ _ is (run_passes is_digit bytes) (run_stops is_digit bytes)))
     (λ _. cond_both (b == quote) _ _ P
-        (λ is. subst (λ (x : ℕ). Fits (x ∷ bytes) (text_front (text_end false bytes))) (sym (eqb-true b quote is)) (fits_text bytes (text_end false bytes) (finds_quote false bytes)))
+    (λ is. subst (λ (x : ℕ). Fits (x ∷ bytes) (text_front (text_end false bytes))) (sym (eqb-true b quote is)) (fits_text bytes (text_end false bytes) (finds_quote false bytes)))
     (λ _. cond_both ((b == 47) && begins 47 bytes) _ _ P (λ is. at_line (two_at 47 47 b bytes is))
     (λ no_line. cond_both ((b == 47) && begins 42 bytes) _ _ P (λ is. at_comment (two_at 47 42 b bytes is))
     (λ no_block. fits_symbol (b ∷ bytes) (first_sign symbols (b ∷ bytes)) (omega arith) (finds_sign symbols (b ∷ bytes) refl)
-        (λ after e. both_ways _ no_line (two_from 47 47 b bytes after e)) (λ after e. both_ways _ no_block (two_from 47 42 b bytes after e))))))))
+    (λ after e. both_ways _ no_line (two_from 47 47 b bytes after e)) (λ after e. both_ways _ no_block (two_from 47 42 b bytes after e))))))))
   where
     at_line : (rest : List ℕ) × (b ∷ bytes ≡ 47 ∷ (47 ∷ rest)) → Fits (b ∷ bytes) (Blank (run is_no_line_feed bytes + 1))
     at_line (rest, e) =

@@ -40,7 +40,7 @@ unfolding first_sign
 finds_sign [] bytes falling = λ other among. absurd (omega (arith, among.1))
 finds_sign (sign ∷ signs) bytes falling =
     cond_both (starts_with nat_eq bytes sign) (Some sign) (first_sign signs bytes) (FindsSign (sign ∷ signs) bytes) here
-        (behind (first_sign signs bytes) (finds_sign signs bytes (and_parts (list_all (λ other. nat_le (length other) (length sign)) signs) (is_falling signs) falling).1))
+    (behind (first_sign signs bytes) (finds_sign signs bytes (and_parts (list_all (λ other. nat_le (length other) (length sign)) signs) (is_falling signs) falling).1))
   where
     no_longer : (other : List ℕ) → (sign ≡ other) ⊎ Contains signs other → length other ≤ length sign
     no_longer other (inl e) = let n : length sign ≡ length other = ap length e in omega arith
@@ -52,7 +52,8 @@ finds_sign (sign ∷ signs) bytes falling =
     here begins = record {
       listed = Contains-head sign signs;
       begins = begins;
-      longest = λ other among _. no_longer other (Contains-cons_cases sign other signs among) }
+      longest = λ other among _. no_longer other (Contains-cons_cases sign other signs among);
+    }
 
     in_rest : (P : List ℕ → Type 0) → starts_with nat_eq bytes sign ≡ false → ((other : List ℕ) → Contains signs other → starts_with nat_eq bytes other ≡ true → P other)
         → (other : List ℕ) → (sign ≡ other) ⊎ Contains signs other → starts_with nat_eq bytes other ≡ true → P other
@@ -68,4 +69,5 @@ finds_sign (sign ∷ signs) bytes falling =
     behind (Some found) is fails = record {
       listed = Contains-tail sign found signs is.listed;
       begins = is.begins;
-      longest = λ other among. in_rest (λ s. length s ≤ length found) fails is.longest other (Contains-cons_cases sign other signs among) }
+      longest = λ other among. in_rest (λ s. length s ≤ length found) fails is.longest other (Contains-cons_cases sign other signs among);
+    }

@@ -41,24 +41,24 @@ IsLeft false body = TextBody body
 left_before : (escaped next : Bool) (b : ℕ) (body : List ℕ) → text_step escaped b ≡ Inside next → IsLeft next body → IsLeft escaped (b ∷ body)
 left_before true next b body step left =
     cond_both (is_escape b) (Inside false) Breaks (λ s. s ≡ Inside next → TextBody (backslash ∷ (b ∷ body)))
-        (λ is inside. let e : next ≡ false = cc in escape b is (subst (λ (n : Bool). IsLeft n body) e left)) (λ _ breaks. cc) step
+    (λ is inside. let e : next ≡ false = cc in escape b is (subst (λ (n : Bool). IsLeft n body) e left)) (λ _ breaks. cc) step
 left_before false next b body step left =
     cond_both (b == quote) Closes (if b == backslash then Inside true else (if is_plain b then Inside false else Breaks)) (λ s. s ≡ Inside next → TextBody (b ∷ body))
-        (λ _ closes. cc)
-        (λ _. cond_both (b == backslash) (Inside true) (if is_plain b then Inside false else Breaks) (λ s. s ≡ Inside next → TextBody (b ∷ body))
-            (λ is inside. let e : next ≡ true = cc in
-                subst (λ (x : ℕ). TextBody (x ∷ body)) (sym (eqb-true b backslash is)) (subst (λ (n : Bool). IsLeft n body) e left))
-            (λ _. cond_both (is_plain b) (Inside false) Breaks (λ s. s ≡ Inside next → TextBody (b ∷ body))
-                (λ is inside. let e : next ≡ false = cc in plain b is (subst (λ (n : Bool). IsLeft n body) e left)) (λ _ breaks. cc))) step
+    (λ _ closes. cc)
+    (λ _. cond_both (b == backslash) (Inside true) (if is_plain b then Inside false else Breaks) (λ s. s ≡ Inside next → TextBody (b ∷ body))
+    (λ is inside. let e : next ≡ true = cc in
+    subst (λ (x : ℕ). TextBody (x ∷ body)) (sym (eqb-true b backslash is)) (subst (λ (n : Bool). IsLeft n body) e left))
+    (λ _. cond_both (is_plain b) (Inside false) Breaks (λ s. s ≡ Inside next → TextBody (b ∷ body))
+    (λ is inside. let e : next ≡ false = cc in plain b is (subst (λ (n : Bool). IsLeft n body) e left)) (λ _ breaks. cc))) step
 
 -- the byte that closes a text
 left_last : (escaped : Bool) (b : ℕ) → text_step escaped b ≡ Closes → IsLeft escaped (b ∷ [])
 left_last true b step = cond_both (is_escape b) (Inside false) Breaks (λ s. s ≡ Closes → TextBody (backslash ∷ (b ∷ []))) (λ _ inside. cc) (λ _ breaks. cc) step
 left_last false b step =
     cond_both (b == quote) Closes (if b == backslash then Inside true else (if is_plain b then Inside false else Breaks)) (λ s. s ≡ Closes → TextBody (b ∷ []))
-        (λ is _. subst (λ (x : ℕ). TextBody (x ∷ [])) (sym (eqb-true b quote is)) closed)
-        (λ _. cond_both (b == backslash) (Inside true) (if is_plain b then Inside false else Breaks) (λ s. s ≡ Closes → TextBody (b ∷ [])) (λ _ inside. cc)
-            (λ _. cond_both (is_plain b) (Inside false) Breaks (λ s. s ≡ Closes → TextBody (b ∷ [])) (λ _ inside. cc) (λ _ breaks. cc))) step
+    (λ is _. subst (λ (x : ℕ). TextBody (x ∷ [])) (sym (eqb-true b quote is)) closed)
+    (λ _. cond_both (b == backslash) (Inside true) (if is_plain b then Inside false else Breaks) (λ s. s ≡ Closes → TextBody (b ∷ [])) (λ _ inside. cc)
+    (λ _. cond_both (is_plain b) (Inside false) Breaks (λ s. s ≡ Closes → TextBody (b ∷ [])) (λ _ inside. cc) (λ _ breaks. cc))) step
 
 abbrev pub FindsQuote : Bool → List ℕ → Option ℕ → Type 0
 FindsQuote escaped bytes None = Unit {0}

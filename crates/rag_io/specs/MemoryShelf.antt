@@ -3,8 +3,6 @@ use Rattle.std.specs.Prelude.{ℕ, ◌+◌, ◌-◌, ◌^◌, min, List, [], ◌
 use Rattle.std.specs.List.{list_any}
 use Rattle.std.specs.String.{string_bytes}
 use Rattle.std.specs.declared.alloc.Global.{Global}
-use Rattle.rag_io.specs.declared.shelf.FetchFault.{FetchFault}
-use Rattle.rag_io.specs.declared.shelf.FetchFault.TheVariants.{Failed, TooLong, Memory}
 use Rattle.rag_io.specs.Outside.{Named, content_of}
 
 -- a file without where it lies in memory
@@ -34,17 +32,6 @@ last_call = 4294967296
 abbrev pub next_call : ℕ → ℕ
 next_call call = min (call + 1) last_call
 
--- the number of faults after one more
-abbrev pub one_fault_more : ℕ → ℕ
-one_fault_more faults = min (faults + 1) (2 ^ 64 - 1)
-
 -- the bytes that the next fetch can read: none where it is to fail, or where no file has the name
 abbrev pub readable : ShelfState → List ℕ → Option (List ℕ)
 readable shelf name = if list_any (λ call. nat_eq call shelf.calls) shelf.fails then None else content_of shelf.files name
-
--- the number of faults after a fetch with this answer
-abbrev pub faults_after_fetch : ℕ → Result Unit FetchFault → ℕ
-faults_after_fetch faults (Ok u) = faults
-faults_after_fetch faults (Err Failed) = one_fault_more faults
-faults_after_fetch faults (Err TooLong) = faults
-faults_after_fetch faults (Err Memory) = faults

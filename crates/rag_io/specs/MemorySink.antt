@@ -1,6 +1,7 @@
 -- What a sink in memory took, and which puts fail.
 use Rattle.std.specs.Prelude.{ℕ, ◌-◌, min, List, [], ◌∷◌, ◌++◌, length, take, nat_eq, nat_lt, Bool, ◌||◌, if◌then◌else◌, Option, Some, None, is_some, unwrap_or}
-use Rattle.rag_io.specs.MemoryShelf.{next_call, one_fault_more}
+use Rattle.rag_io.specs.Outside.{one_fault_more}
+use Rattle.rag_io.specs.MemoryShelf.{next_call}
 
 -- The bytes taken, how many there is room for, the calls that are to fail with the number of bytes after which they do, and how many
 -- calls and how many faults there were.
