@@ -11,8 +11,8 @@ pub data EndsFile : List Lexed → Type 0 where
 
 scanned_ends : {p : Place} {bytes : List ℕ} {ts : List Lexed} → IsTokens p bytes ts → EndsFile ts
 scanned_ends (at_end e) = final refl
-scanned_ends (blank n e h) = scanned_ends h
-scanned_ends (token k n e h) = further (scanned_ends h)
+scanned_ends (blank front rest e is h) = scanned_ends h
+scanned_ends (token k front rest e is h) = further (scanned_ends h)
 
 pub ends_file : {ts : List Lexed} → AreTokens ts → EndsFile ts
 ends_file a = scanned_ends a.scanned

@@ -1,4 +1,9 @@
-pub mod Ends
-pub mod Readings
-pub mod Scanning
+pub mod Comments
 pub mod EndOfFile
+pub mod Ends
+pub mod Lexing
+pub mod Readings
+pub mod Runs
+pub mod Scanning
+pub mod Signs
+pub mod Texts

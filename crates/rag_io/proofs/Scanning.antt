@@ -1,14 +1,18 @@
 -- Steps of the scanner's loops.
 use Rattle.std.proofs.Common.{◌≡◌, ℕ, ◌+◌, ◌<◌, List, [], ◌∷◌, ◌++◌, length, get_or, take, drop, map, add-one, refl, ap, sym, subst, ◌∙◌, append_assoc}
 use Rattle.std.proofs.Math.Seq.{drop-cons}
-use Rattle.std.proofs.lemmas.List.{map_push}
+use Rattle.std.proofs.lemmas.List.{map_push, take-append-drop}
 use Rattle.rag_io.specs.declared.token.Place.{Place}
 use Rattle.rag_io.specs.declared.token.TokenKind.{TokenKind}
-use Rattle.rag_io.specs.declared.token.Lexeme.TheVariants as lexemes
+use Rattle.rag_io.specs.declared.lexeme.Lexeme.TheVariants as lexemes
 use Rattle.rag_io.specs.declared.token.Token as memory
-use Rattle.rag_io.specs.Lexemes.{lexeme_of}
-use Rattle.rag_io.specs.Tokens.{Lexed, IsTokens, blank, token, IsFirstBad, behind_blank, behind_token, behind, moved, seen_token, seen_tokens}
+use Rattle.rag_io.specs.declared.token.TokenKind.TheVariants.{End}
+use Rattle.rag_io.specs.Lexemes.{IsBlank, IsToken}
+use Rattle.rag_io.specs.Fronts.{lexeme_of}
+use Rattle.rag_io.specs.Tokens.{Lexed, IsTokens, at_end, blank, token, IsFirstBad, here, behind_blank, behind_token, behind, moved, seen_token, seen_tokens}
+use Rattle.rag_io.proofs.Lexing.{Fits, fits, lexeme_of-blank, lexeme_of-token}
 
+-- a byte further
 pub moved_at : (p : Place) (bytes : List ℕ) (i : ℕ) → i < length bytes → moved p (drop i bytes) ≡ moved (behind p (get_or bytes i 0)) (drop (i + 1) bytes)
 unfolding moved
 moved_at p bytes i h = rw (add-one i, drop-cons bytes i 0) refl
@@ -22,21 +26,36 @@ pub seen_more : (old new : List memory.Token) (t : memory.Token) (ts : List Lexe
 seen_more old new t ts e =
     ap (λ (xs : List Lexed). xs ++ ts) (seen_last old new t e) ∙ append_assoc (seen_tokens old) (seen_token t ∷ []) ts
 
--- a lexeme of n bytes, front, and what is after it
+-- what `lexeme_of` finds of n bytes, front, and what is after it
 module _ (p next : Place) (bytes front after : List ℕ) (n : ℕ) (moves : next ≡ moved p front) (fronts : front ≡ take n bytes) (afters : after ≡ drop n bytes) where
-  place : next ≡ moved p (take n bytes)
-  place = moves ∙ ap (moved p) fronts
+  whole : bytes ≡ front ++ after
+  whole = sym (take-append-drop n bytes) ∙ ap (λ (xs : List ℕ). xs ++ drop n bytes) (sym fronts) ∙ ap (λ (xs : List ℕ). front ++ xs) (sym afters)
+
+  is_blank : lexeme_of bytes ≡ lexemes.Blank n → IsBlank front after
+  is_blank e = rw (fronts, afters) (subst (Fits bytes) e (fits bytes))
+
+  is_token : (kind : TokenKind) → lexeme_of bytes ≡ lexemes.Token kind n → IsToken kind front after
+  is_token kind e = rw (fronts, afters) (subst (Fits bytes) e (fits bytes))
 
   pub over_blank : (ts : List Lexed) → lexeme_of bytes ≡ lexemes.Blank n → IsTokens next after ts → IsTokens p bytes ts
-  over_blank ts is more = blank n is (subst (λ (q : Place). IsTokens q (drop n bytes) ts) place (subst (λ (b : List ℕ). IsTokens next b ts) afters more))
+  over_blank ts is more = blank front after whole (is_blank is) (subst (λ (q : Place). IsTokens q after ts) moves more)
 
-  pub over_token : (kind : TokenKind) (ts : List Lexed) → lexeme_of bytes ≡ lexemes.Token kind n → IsTokens next after ts → IsTokens p bytes (record { kind = kind; text = front; place = p } ∷ ts)
-  over_token kind ts is more =
-      let whole : IsTokens p bytes (record { kind = kind; text = take n bytes; place = p } ∷ ts) = token kind n is (subst (λ (q : Place). IsTokens q (drop n bytes) ts) place (subst (λ (b : List ℕ). IsTokens next b ts) afters more)) in
-      subst (λ (text : List ℕ). IsTokens p bytes (record { kind = kind; text = text; place = p } ∷ ts)) (sym fronts) whole
+  pub over_token : (kind : TokenKind) (ts : List Lexed) → lexeme_of bytes ≡ lexemes.Token kind n → IsTokens next after ts
+      → IsTokens p bytes (record { kind = kind; text = front; place = p } ∷ ts)
+  over_token kind ts is more = token kind front after whole (is_token kind is) (subst (λ (q : Place). IsTokens q after ts) moves more)
 
   pub bad_over_blank : (q : Place) → lexeme_of bytes ≡ lexemes.Blank n → IsFirstBad next after q → IsFirstBad p bytes q
-  bad_over_blank q is more = behind_blank n is (subst (λ (r : Place). IsFirstBad r (drop n bytes) q) place (subst (λ (b : List ℕ). IsFirstBad next b q) afters more))
+  bad_over_blank q is more = behind_blank front after whole (is_blank is) (subst (λ (r : Place). IsFirstBad r after q) moves more)
 
   pub bad_over_token : (kind : TokenKind) (q : Place) → lexeme_of bytes ≡ lexemes.Token kind n → IsFirstBad next after q → IsFirstBad p bytes q
-  bad_over_token kind q is more = behind_token kind n is (subst (λ (r : Place). IsFirstBad r (drop n bytes) q) place (subst (λ (b : List ℕ). IsFirstBad next b q) afters more))
+  bad_over_token kind q is more = behind_token kind front after whole (is_token kind is) (subst (λ (r : Place). IsFirstBad r after q) moves more)
+
+-- no bytes are left
+pub all_read : (p : Place) (bytes : List ℕ) → lexeme_of bytes ≡ lexemes.Nothing → IsTokens p bytes (record { kind = End; text = []; place = p } ∷ [])
+all_read p bytes e = at_end (subst (Fits bytes) e (fits bytes))
+
+-- neither a blank nor a token is left at the front
+pub bad_here : (p : Place) (bytes : List ℕ) → lexeme_of bytes ≡ lexemes.Bad → IsFirstBad p bytes p
+bad_here p bytes e = here (subst (Fits bytes) e (fits bytes))
+    (λ front rest splits is. let found : lexemes.Bad ≡ lexemes.Blank (length front) = sym e ∙ ap lexeme_of splits ∙ lexeme_of-blank is in cc)
+    (λ kind front rest splits is. let found : lexemes.Bad ≡ lexemes.Token kind (length front) = sym e ∙ ap lexeme_of splits ∙ lexeme_of-token is in cc)

@@ -1,11 +1,10 @@
 use Rattle.std.proofs.Common.{arith, rules, sym, subst, ◌++◌, ◌∷◌, []}
 use Rattle.std.proofs.lemmas.List.{append-nil}
-use Rattle.rag_io.specs.Tokens.{IsTokens, IsFirstBad, at_end, here, seen_tokens, seen_token, first_place}
-use Rattle.rag_io.proofs.Scanning.{seen_last, seen_more, over_blank, over_token, bad_over_blank, bad_over_token}
+use Rattle.rag_io.proofs.Scanning.{seen_last, seen_more, all_read, bad_here, over_blank, over_token, bad_over_blank, bad_over_token}
 use Rattle.rag_io.proofs.scanner.scan.Goals as goal
 
 pub returns-in-Nothing : goal.returns-in-Nothing
-returns-in-Nothing c = rw (seen_last _ _ _ c.in_ok-push-in-Nothing.ensures.items) (c.next.invariant.tokens _ (at_end (sym c.in-Nothing.ensures.value)))
+returns-in-Nothing c = rw (seen_last _ _ _ c.in_ok-push-in-Nothing.ensures.items) (c.next.invariant.tokens _ (all_read _ _ (sym c.in-Nothing.ensures.value)))
 
 pub next-preserved-in-Blank : goal.next-preserved-in-Blank
 next-preserved-in-Blank c = record {
@@ -27,4 +26,4 @@ next-preserved c = record {
 }
 
 pub returns-in-Bad : goal.returns-in-Bad
-returns-in-Bad c = c.next.invariant.bad c.next.place (here (sym c.in-Bad.ensures.value))
+returns-in-Bad c = c.next.invariant.bad c.next.place (bad_here _ _ (sym c.in-Bad.ensures.value))
