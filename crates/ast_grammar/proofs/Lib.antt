@@ -1,0 +1,3 @@
+pub mod AstFits
+pub mod Names
+pub mod Sentences
