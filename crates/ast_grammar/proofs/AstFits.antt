@@ -1,7 +1,7 @@
 -- The table of `ast` is right: the test computes.
-use Rattle.std.proofs.Common.{◌≡◌, ℕ, true, refl}
-use Rattle.ll_parser.specs.Stack.{listed, choice_of, Works}
-use Rattle.ast_grammar.specs.declared.ast_table.TheConstants.{AST_OF, AST_STARTS, AST_BODIES, AST_CHOICE}
+use Rattle.std.proofs.Common.{refl}
+use Rattle.ll_parser.specs.Stack.{choice_of, Works}
+use Rattle.ast_grammar.specs.declared.ast_table.TheConstants.{AST_CHOICE}
 use Rattle.ast_grammar.specs.AstGrammar.{ast_grammar}
 use Rattle.ast_grammar.specs.AstClaims.{ast_claims}
 

@@ -1,28 +1,20 @@
 -- The names of classes, in memory and as they are seen.
-use Rattle.std.proofs.Common.{◌≡◌, ℕ, ◌+◌, List, [], ◌∷◌, not, cond, eqb, Vec, Option, map, length, position, refl, ap, sym, ◌∙◌, arith}
-use Rattle.std.specs.List.{position_or_len, count_by}
+use Rattle.std.proofs.Common.{◌≡◌, ℕ, ◌+◌, List, [], ◌∷◌, cond, eqb, Vec, Option, map, length, position, refl, ap, sym, ◌∙◌, arith}
+use Rattle.std.specs.List.{count_by}
 use Rattle.std.proofs.lemmas.Bool.Decides.{nat_tests}
-use Rattle.std.proofs.lemmas.List.{length-map}
 use Rattle.std.proofs.lemmas.List.Sums.{sum_by-cons}
 use Rattle.std.specs.Str.{bytes_eq}
 use Rattle.std.specs.declared.alloc.Global.{Global}
 use Rattle.rag_io.specs.Tokens.{Lexed}
 use Rattle.ast_grammar.specs.Grammar.{Class, class_named}
+use Rattle.ast_grammar.proofs.Positions.{position-map}
 use Rattle.ast_grammar.specs.FirstForm.{classes_named}
-
--- the place of a name among the classes is its place in memory
-position_or_len-named : (name : List ℕ) (names : List (Vec ℕ Global)) → position_or_len (λ c. bytes_eq c.name name) (map class_named names) ≡ position_or_len (λ v. bytes_eq v.items name) names
-position_or_len-named name [] = refl
-position_or_len-named name (v ∷ names) = ap (λ n. cond (not (bytes_eq v.items name)) (1 + n) 0) (position_or_len-named name names)
-
-position-named : (name : List ℕ) (names : List (Vec ℕ Global)) → position (λ c. bytes_eq c.name name) (map class_named names) ≡ position (λ v. bytes_eq v.items name) names
-position-named name names = rw (position_or_len-named name names, length-map names class_named) refl
 
 -- what is found in memory is found among the classes
 pub found_at : {seen : List Class} {names held : List (Vec ℕ Global)} {found : Option ℕ} (name : List ℕ) → map class_named names ≡ seen → held ≡ names
     → found ≡ position (λ v. bytes_eq v.items name) held → found ≡ position (λ c. bytes_eq c.name name) seen
 found_at {names = names} name is same found =
-    found ∙ ap (position (λ v. bytes_eq v.items name)) same ∙ sym (position-named name names) ∙ ap (position (λ c. bytes_eq c.name name)) is
+    found ∙ ap (position (λ v. bytes_eq v.items name)) same ∙ sym (position-map class_named (λ c. bytes_eq c.name name) names) ∙ ap (position (λ c. bytes_eq c.name name)) is
 
 -- an event names one class, where it is 1
 length_goes : (e : ℕ) (c : Class) (behind others : List Class) (n : ℕ) → length behind ≡ n → length others ≡ n → length (cond (eqb e 255) behind (cond (eqb e 1) (c ∷ others) others)) ≡ cond (eqb e 1) 1 0 + n

@@ -1,17 +1,17 @@
 -- Sentences and faults of the grammar `ast`.
-use Rattle.std.proofs.Common.{◌≡◌, ℕ, zero, suc, ◌+◌, ◌<◌, ◌≤◌, true, false, cond, eqb, List, [], ◌∷◌, ◌++◌, Option, Some, None, Vec, map, length, take, drop, refl, ap, sym, subst, ◌∙◌, arith}
+use Rattle.std.proofs.Common.{◌≡◌, ℕ, zero, suc, ◌+◌, ◌<◌, ◌≤◌, cond, eqb, List, [], ◌∷◌, ◌++◌, Some, Vec, map, length, drop, ap, sym, subst, ◌∙◌, arith}
 use Rattle.std.specs.List.{count_by}
 use Rattle.std.specs.declared.alloc.Global.{Global}
 use Rattle.std.proofs.lemmas.List.{take-append-drop, length-map}
 use Rattle.std.proofs.lemmas.List.Sums.{sum_by-cons}
 use Rattle.ll_parser.specs.declared.symbols.Symbol.{Symbol}
 use Rattle.ll_parser.specs.declared.symbols.Symbol.TheVariants.{Terminal, Nonterminal, Action}
-use Rattle.ll_parser.specs.Grammar.{Production, nth, Derives, done, token, act, rule, start, IsSentence, IsFault}
+use Rattle.ll_parser.specs.Grammar.{Production, nth, Derives, token, act, rule, start, IsSentence, IsFault}
 use Rattle.rag_io.specs.declared.token.TokenKind.TheVariants.{End}
 use Rattle.rag_io.specs.Tokens.{Lexed}
 use Rattle.ast_grammar.specs.AstGrammar.{ast_grammar}
 use Rattle.ast_grammar.specs.Grammar.{Class, class_named, most_classes, IsSized}
-use Rattle.ast_grammar.specs.FirstForm.{SaysGrammar, token_class, class_of_parts, classes_named, all_may, names_differ}
+use Rattle.ast_grammar.specs.FirstForm.{SaysGrammar, token_class, class_of_parts, classes_named}
 use Rattle.ast_grammar.proofs.Names.{length-classes_named}
 
 -- tokens with a fault are no sentence

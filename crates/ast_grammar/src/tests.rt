@@ -1,6 +1,7 @@
 use super::*;
-use rag_io::scan;
+use rag_io::{LONGEST_FILE, scan};
 use std::alloc::{AllocError, Global};
+use std::process::Abort;
 use std::test::Fail;
 
 // A text of so many rules, of different names.
@@ -13,7 +14,8 @@ fn rules_text(alloc: Global, count: u32) -> Result<String, AllocError> {
 }
 
 // How many classes the bytes say, or None where they say no grammar.
-fn classes_said(alloc: Global, text: &str) -> Result<Option<u32>, Fail> {
+fn classes_said(rt: &impl Abort, alloc: Global, text: &str) -> Result<Option<u32>, Fail> {
+    assert!(rt; text.len() <= LONGEST_FILE);
     let tokens = scan(alloc, text.as_bytes())?;
     Ok(read_first(alloc, &tokens)?.map(|grammar| grammar.classes()))
 }
@@ -41,14 +43,14 @@ fn reads_the_first_form(rt: HostRuntime) -> Result<(), Fail> {
         ("; A", None),
         ("1;", None),
     ] {
-        assert_eq!(rt; classes_said(alloc, text)?, classes, "{text}");
+        assert_eq!(rt; classes_said(&rt, alloc, text)?, classes, "{text}");
     }
     assert_eq!(rt;
-        classes_said(alloc, rules_text(alloc, 256)?.as_str())?,
+        classes_said(&rt, alloc, rules_text(alloc, 256)?.as_str())?,
         Some(256)
     );
     assert_eq!(rt;
-        classes_said(alloc, rules_text(alloc, 257)?.as_str())?,
+        classes_said(&rt, alloc, rules_text(alloc, 257)?.as_str())?,
         None
     );
     let tokens = scan(alloc, b"A; B;".as_slice())?;
