@@ -179,8 +179,8 @@ def write_claims(grammar, claims, path):
     name = grammar.name
     with open(path, "w", encoding="utf-8") as file:
         file.write(f"-- What is claimed of the table of `{name}`, written by tools/table.py: the check computes that it is right.\n")
-        file.write("use Rattle.std.specs.Prelude.{ℕ, List, [], ◌∷◌, Bool, true, false}\n")
-        file.write("use Rattle.ll_parser.specs.Table.{Claims, entry, numbers, flag, number}\n\n")
+        file.write("use Rattle.std.specs.Prelude.{ℕ, [], ◌∷◌, true, false}\n")
+        file.write("use Rattle.ll_parser.specs.Table.{Claims, numbers, flag, number}\n\n")
         file.write(f"abbrev pub {name}_claims : (ℕ → ℕ → ℕ) → Claims\n{name}_claims choice = record {{\n")
         file.write(f"  first = numbers ({numbers(claims.first)});\n")
         file.write(f"  empty = flag ({antt_list('true' if e else 'false' for e in claims.empty)});\n")

@@ -1,10 +1,13 @@
 // A grammar and its accessors.
-ghost use Rattle.std.specs.Prelude.{◌≡◌, ◌<◌, length, position, slice_get, Some};
+ghost use Rattle.std.specs.Prelude.{◌≡◌, ◌<◌, length, map, position, slice_get, Some, IfSome};
 ghost use Rattle.std.specs.Option.{option_map};
 ghost use Rattle.std.specs.Str.{bytes_eq};
-ghost use Rattle.ast_grammar.specs.Grammar.{number_of};
+ghost use Rattle.ast_grammar.specs.Grammar.{number_of, class_named, IsSized};
 
 use std::marker::Model;
+
+/// A grammar has at most so many classes.
+pub(crate) const MOST_CLASSES: usize = 256;
 
 /// The number of a class of a grammar: classes are numbered from 0 in the order of the file.
 #[derive(Clone, Copy, Debug, PartialEq, Eq)]
@@ -28,6 +31,14 @@ impl Model for Grammar {
 }
 
 impl Grammar {
+    // The grammar of the classes of these names.
+    pub(crate) fn of_names(names: Vec<Vec<u8>>) -> Grammar
+        requires { IsSized names.items }
+        ensures { result ≡ map class_named names.items }
+    {
+        Grammar { names }
+    }
+
     /// The number of classes.
     pub fn classes(&self) -> u32
         ensures { result ≡ length self.now }
@@ -54,7 +65,15 @@ impl Grammar {
     pub fn find_class(&self, name: &[u8]) -> Option<ClassId>
         ensures { option_map number_of result ≡ position (λ c. bytes_eq c.name name.now) self.now }
     {
-        let found = self.names.iter().position(|held| held.as_slice() == name)?;
+        let found = place_of(&self.names, name)?;
         Some(ClassId(found as u16))
     }
+}
+
+// The place of the first of these names.
+fn place_of(names: &[Vec<u8>], name: &[u8]) -> Option<usize>
+    ensures first { result ≡ position (λ held. bytes_eq held.items name.now) names.now }
+    ensures within { IfSome result (λ i. i < length names.now) }
+{
+    names.iter().position(|held| held.as_slice() == name)
 }

@@ -3,7 +3,11 @@
 
 mod ast_table;
 mod grammar;
+mod laws;
 mod reading;
+#[cfg(test)]
+mod tests;
 
 pub use grammar::{ClassId, Grammar};
+pub use laws::one_grammar;
 pub use reading::read_first;

@@ -1,0 +1,4 @@
+pub mod AstFits
+pub mod Names
+pub mod Positions
+pub mod Sentences
