@@ -3,3 +3,4 @@ pub mod Pieces
 pub mod Stopping
 pub mod Answerable
 pub mod Preparing
+pub mod Unread

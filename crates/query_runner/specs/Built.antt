@@ -1,9 +1,66 @@
--- Why the four files say no program.
+-- What reading the four files answers.
+use Rattle.std.specs.Prelude.{◌≡◌, ℕ, List, Result, Ok, Err, Vec}
+use Rattle.std.specs.declared.alloc.Global.{Global}
+use Rattle.rag_io.specs.declared.token.Token as memory
+use Rattle.rag_io.specs.Tokens.{Lexed, IsTokens, first_place, seen_tokens}
+use Rattle.ast_grammar.specs.Grammar.{Class}
+use Rattle.attr_types.specs.declared.rules.Rules.{Rules}
+use Rattle.attr_types.specs.Expression.{Expression}
+use Rattle.attr_types.specs.Items.{rules_in}
+use Rattle.attr_types.specs.Rules.{Item, RuleSet, rules_of}
+use Rattle.equation_law.specs.declared.system.Queries.{Queries as KeptQueries}
+use Rattle.equation_law.specs.Program.{Node}
+use Rattle.equation_law.specs.Systems.{queries_in}
 use Rattle.query_runner.specs.declared.files.Refusal.{Refusal}
-use Rattle.query_runner.specs.declared.files.Refusal.TheVariants.{NotBuilt, Memory}
-use Rattle.query_runner.specs.Files.{Contents, IsNotBuilt}
+use Rattle.query_runner.specs.declared.files.Refusal.TheVariants as refusals
+use Rattle.query_runner.specs.declared.files.Unread.{Unread}
+use Rattle.query_runner.specs.declared.files.Unread.TheVariants.{NotBuilt, Memory}
+use Rattle.query_runner.specs.declared.words.FileKind.{FileKind}
+use Rattle.query_runner.specs.Files.{Contents, IsNotBuilt, ReadsGrammar, ReadsItems, ReadsTree}
 use Rattle.query_runner.specs.Named.{seen_file}
+use Rattle.query_runner.specs.Queries.{SaysQueries}
 
+-- The tokens of some bytes; or there are none.
+abbrev pub Scans : List ℕ → Result (Vec memory.Token Global) Unread → Type 0
+Scans bytes (Ok tokens) = IsTokens first_place bytes (seen_tokens tokens.items)
+Scans bytes (Err NotBuilt) = (ts : List Lexed) → IsTokens first_place bytes ts → ⊥
+Scans bytes (Err Memory) = Unit {0}
+
+-- The grammar that the bytes say; or they say none.
+abbrev pub AnswersGrammar : List ℕ → Result (List Class) Unread → Type 0
+AnswersGrammar bytes (Ok g) = ReadsGrammar bytes g
+AnswersGrammar bytes (Err NotBuilt) = (g : List Class) → ReadsGrammar bytes g → ⊥
+AnswersGrammar bytes (Err Memory) = Unit {0}
+
+-- The bytes say items, and these are their rules.
+pub record ReadsRules (g : List Class) (bytes : List ℕ) (rules : RuleSet) : Type 0 where
+  pub items : List Item
+  pub reads : ReadsItems g bytes items
+  pub are : rules ≡ rules_of items
+
+abbrev pub AnswersRules : List Class → List ℕ → Result Rules Unread → Type 0
+AnswersRules g bytes (Ok rules) = ReadsRules g bytes (rules_in rules)
+AnswersRules g bytes (Err NotBuilt) = (items : List Item) → ReadsItems g bytes items → ⊥
+AnswersRules g bytes (Err Memory) = Unit {0}
+
+-- The tree that the bytes say; or they say none.
+abbrev pub AnswersSource : List Class → List ℕ → Result (List Node) Unread → Type 0
+AnswersSource g bytes (Ok tree) = ReadsTree g bytes tree
+AnswersSource g bytes (Err NotBuilt) = (tree : List Node) → ReadsTree g bytes tree → ⊥
+AnswersSource g bytes (Err Memory) = Unit {0}
+
+-- The queries that the bytes say; or they say none.
+abbrev pub AnswersAsked : RuleSet → List Node → List ℕ → Result KeptQueries Unread → Type 0
+AnswersAsked rules tree bytes (Ok queries) = SaysQueries rules tree bytes (queries_in queries)
+AnswersAsked rules tree bytes (Err NotBuilt) = (es : List Expression) → SaysQueries rules tree bytes es → ⊥
+AnswersAsked rules tree bytes (Err Memory) = Unit {0}
+
+-- the refusal of a file
+abbrev pub Refuses : FileKind → Unread → Refusal → Type 0
+Refuses file NotBuilt refusal = refusal ≡ refusals.NotBuilt file
+Refuses file Memory refusal = refusal ≡ refusals.Memory
+
+-- why the four files say no program
 abbrev pub IsRefusal : Contents → Refusal → Type 0
-IsRefusal held (NotBuilt file) = IsNotBuilt held (seen_file file)
-IsRefusal held Memory = Unit {0}
+IsRefusal held (refusals.NotBuilt file) = IsNotBuilt held (seen_file file)
+IsRefusal held refusals.Memory = Unit {0}

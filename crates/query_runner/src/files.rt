@@ -1,16 +1,32 @@
 // From the bytes of the four files to the system that they say.
-ghost use Rattle.std.specs.Prelude.{◌≤◌, ◌≡◌, length, IfOk, IfErr};
+ghost use Rattle.std.specs.Prelude.{◌≡◌, ◌≤◌, length, IfOk, IfErr};
 ghost use Rattle.rag_io.specs.Outside.{longest_file};
+ghost use Rattle.attr_types.specs.Items.{rules_in};
+ghost use Rattle.equation_law.specs.Program.{lone};
 ghost use Rattle.equation_law.specs.Systems.{program_of};
+ghost use Rattle.query_runner.specs.Built.{Scans, AnswersGrammar, AnswersRules, AnswersSource, AnswersAsked, Refuses, IsRefusal};
 ghost use Rattle.query_runner.specs.Fetched.{seen_contents, AreShort};
 ghost use Rattle.query_runner.specs.Files.{SaysProgram};
-ghost use Rattle.query_runner.specs.Built.{IsRefusal};
 
+use crate::aspects::read_aspects;
 use crate::fetching::Contents;
+use crate::queries::read_queries;
+use crate::trees::read_tree;
 use crate::words::FileKind;
-use equation_law::System;
-use rag_io::Memory;
+use ast_grammar::{Grammar, read_first};
+use attr_types::Rules;
+use equation_law::{FirstNode, Queries, System, Tokens, Tree};
+use rag_io::{Memory, Pool, ScanFault, Token, scan};
 use std::alloc::Global;
+
+/// Why a file was not read.
+#[derive(Clone, Copy, Debug, PartialEq, Eq)]
+pub(crate) enum Unread {
+    /// It isn't in the form that is read so far.
+    NotBuilt,
+    /// Want of memory.
+    Memory,
+}
 
 /// Why there is no system.
 #[derive(Clone, Copy, Debug, PartialEq, Eq)]
@@ -21,11 +37,149 @@ pub(crate) enum Refusal {
     Memory,
 }
 
-/// The system that the files say.
+fn refusal_of(file: FileKind, unread: Unread) -> Refusal
+    ensures { Refuses file unread result }
+{
+    match unread {
+        Unread::NotBuilt => Refusal::NotBuilt(file),
+        Unread::Memory => Refusal::Memory,
+    }
+}
+
+// The tokens of a file.
+fn tokens_of(alloc: Global, bytes: &[u8]) -> Result<Vec<Token<'_>>, Unread>
+    requires { length bytes.now ≤ longest_file }
+    ensures { Scans bytes.now result }
+{
+    match scan(alloc, bytes) {
+        Ok(tokens) => Ok(tokens),
+        Err(fault) => match fault {
+            ScanFault::Bad(_) => Err(Unread::NotBuilt),
+            ScanFault::Memory => Err(Unread::Memory),
+        },
+    }
+}
+
+fn read_grammar(alloc: Global, bytes: &[u8]) -> Result<Grammar, Unread>
+    requires { length bytes.now ≤ longest_file }
+    ensures { AnswersGrammar bytes.now result }
+{
+    let tokens = match tokens_of(alloc, bytes) {
+        Ok(tokens) => tokens,
+        Err(unread) => return Err(unread),
+    };
+    match read_first(alloc, &tokens) {
+        Ok(read) => match read {
+            Some(grammar) => Ok(grammar),
+            None => Err(Unread::NotBuilt),
+        },
+        Err(_) => Err(Unread::Memory),
+    }
+}
+
+fn read_rules(alloc: Global, grammar: &Grammar, bytes: &[u8]) -> Result<Rules, Unread>
+    requires { length bytes.now ≤ longest_file }
+    ensures { AnswersRules grammar.now bytes.now result }
+{
+    let tokens = match tokens_of(alloc, bytes) {
+        Ok(tokens) => tokens,
+        Err(unread) => return Err(unread),
+    };
+    let items = match read_aspects(alloc, grammar, &tokens) {
+        Ok(read) => match read {
+            Some(items) => items,
+            None => return Err(Unread::NotBuilt),
+        },
+        Err(_) => return Err(Unread::Memory),
+    };
+    match Rules::of_equations(alloc, grammar, items) {
+        Ok(rules) => Ok(rules),
+        Err(_) => Err(Unread::Memory),
+    }
+}
+
+// The tree of one node of the first class.
+fn lone_tree(alloc: Global, grammar: &Grammar) -> Result<Tree, Memory>
+    ensures { IfOk result (λ tree. tree ≡ lone (record { 0 = 0 })) }
+{
+    let root = FirstNode {
+        class: grammar.first_class(),
+        parent: 0,
+        component: 0,
+        tokens: Tokens::of(Vec::new(alloc)),
+    };
+    let mut nodes = Vec::new(alloc);
+    match nodes.push(root) {
+        Ok(_) => Tree::of_nodes(alloc, nodes),
+        Err(_) => Err(Memory),
+    }
+}
+
+fn read_source(alloc: Global, grammar: &Grammar, bytes: &[u8]) -> Result<Tree, Unread>
+    requires { length bytes.now ≤ longest_file }
+    ensures { AnswersSource grammar.now bytes.now result }
+{
+    let tokens = match tokens_of(alloc, bytes) {
+        Ok(tokens) => tokens,
+        Err(unread) => return Err(unread),
+    };
+    match read_tree(alloc, grammar, &tokens) {
+        Ok(said) => {
+            if !said {
+                return Err(Unread::NotBuilt);
+            }
+        }
+        Err(_) => return Err(Unread::Memory),
+    }
+    match lone_tree(alloc, grammar) {
+        Ok(tree) => Ok(tree),
+        Err(_) => Err(Unread::Memory),
+    }
+}
+
+fn read_asked(
+    alloc: Global,
+    grammar: &Grammar,
+    rules: &Rules,
+    tree: &Tree,
+    bytes: &[u8],
+) -> Result<Queries, Unread>
+    requires { length bytes.now ≤ longest_file }
+    ensures { AnswersAsked (rules_in rules.now) tree.now bytes.now result }
+{
+    match read_queries(alloc, grammar, rules, tree, bytes) {
+        Ok(read) => match read {
+            Some(list) => Ok(Queries::new(list)),
+            None => Err(Unread::NotBuilt),
+        },
+        Err(_) => Err(Unread::Memory),
+    }
+}
+
+/// The system that the files say, tested in the order of the command.
 pub(crate) fn read_system(alloc: Global, contents: &Contents) -> Result<System, Refusal>
     requires { AreShort (seen_contents contents.now) }
     ensures said { IfOk result (λ system. SaysProgram (seen_contents contents.now) (program_of system)) }
     ensures refused { IfErr result (λ refusal. IsRefusal (seen_contents contents.now) refusal) }
 {
-    Err(Refusal::Memory)
+    let grammar = match read_grammar(alloc, &contents.ast) {
+        Ok(grammar) => grammar,
+        Err(unread) => return Err(refusal_of(FileKind::Ast, unread)),
+    };
+    let rules = match read_rules(alloc, &grammar, &contents.jrag) {
+        Ok(rules) => rules,
+        Err(unread) => return Err(refusal_of(FileKind::Jrag, unread)),
+    };
+    let tree = match read_source(alloc, &grammar, &contents.tree) {
+        Ok(tree) => tree,
+        Err(unread) => return Err(refusal_of(FileKind::Tree, unread)),
+    };
+    let queries = match read_asked(alloc, &grammar, &rules, &tree, &contents.queries) {
+        Ok(queries) => queries,
+        Err(unread) => return Err(refusal_of(FileKind::Queries, unread)),
+    };
+    match Pool::new(alloc) {
+        Ok(pool) => Ok(System::new(grammar, rules, tree, pool, queries)),
+        Err(_) => Err(Refusal::Memory),
+    }
 }
