@@ -1,9 +1,9 @@
 -- A comment ends behind the first `*/`.
-use Rattle.std.proofs.Common.{◌≡◌, ℕ, zero, suc, ◌+◌, ◌<◌, ◌≤◌, List, [], ◌∷◌, ◌++◌, length, take, drop, get_or, codes, Bool, true, false, ◌&&◌, ◌==◌, Option, Some, None, add-one, refl, sym, subst, ap, ◌∙◌, arith}
+use Rattle.std.proofs.Common.{◌≡◌, ℕ, suc, ◌+◌, ◌≤◌, List, [], ◌∷◌, ◌++◌, length, take, drop, get_or, codes, true, false, ◌==◌, Option, Some, None, add-one, refl, sym, ap, ◌∙◌, arith}
 use Rattle.std.proofs.lemmas.List.{take-append-drop}
 use Rattle.std.proofs.lemmas.Bool.{cond_both, cond-false, and_parts, eqb-true, both_ways, false_from_ne_true, and_from, eq-eqb}
 use Rattle.rag_io.specs.Lexemes.{IsOpen}
-use Rattle.rag_io.specs.Fronts.{begins, one_more, closes_comment, comment_end}
+use Rattle.rag_io.specs.Fronts.{one_more, closes_comment, comment_end}
 
 -- a star and a slash behind it
 closes_at : (b : ℕ) (bytes after : List ℕ) → b ∷ bytes ≡ codes "*/" ++ after → closes_comment b bytes ≡ true

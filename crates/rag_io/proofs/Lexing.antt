@@ -1,16 +1,16 @@
 -- What `lexeme_of` computes is what the forms of blanks and tokens say.
-use Rattle.std.proofs.Common.{◌≡◌, ℕ, zero, suc, ◌+◌, ◌<◌, ◌≤◌, List, [], ◌∷◌, ◌++◌, length, take, drop, codes, Bool, true, false, ◌&&◌, ◌==◌, not, if◌then◌else◌, Option, Some, None, Contains, add-one, refl, sym, subst, ap, ◌∙◌, arith, get_or, length-append}
+use Rattle.std.proofs.Common.{◌≡◌, ℕ, suc, ◌+◌, ◌<◌, ◌≤◌, List, [], ◌∷◌, ◌++◌, length, take, drop, codes, Bool, true, false, ◌&&◌, ◌==◌, not, Option, Some, None, Contains, add-one, refl, sym, subst, ap, ◌∙◌, arith, get_or, length-append}
 use Rattle.std.specs.List.{starts_with, list_all}
 use Rattle.std.specs.Prelude.{nat_eq}
 use Rattle.std.proofs.lemmas.Bool.{cond_both, cond-true, cond-false, and_parts, eqb-true, both_ways, false_from_ne_true, and_from, eq-eqb, not-true}
 use Rattle.std.proofs.lemmas.Bool.Decides.{nat_tests, Decides-eqb}
 use Rattle.std.proofs.lemmas.Slice.Eq.{starts_is}
-use Rattle.std.proofs.Math.Seq.{take-append_seam, drop-append_seam}
+use Rattle.std.proofs.Math.Seq.{take-append_seam}
 use Rattle.rag_io.specs.declared.token.TokenKind.{TokenKind}
 use Rattle.rag_io.specs.declared.token.TokenKind.TheVariants as kinds
 use Rattle.rag_io.specs.declared.lexeme.Lexeme.{Lexeme}
 use Rattle.rag_io.specs.declared.lexeme.Lexeme.TheVariants.{Nothing, Blank, Token, Bad}
-use Rattle.rag_io.specs.Lexemes.{IsBlank, white, line_comment, block_comment, IsToken, name, int, text, symbol, TextBody, BeginsWith, IsOpen, symbols, quote, is_white, is_digit, begins_name, goes_on_name, is_no_line_feed}
+use Rattle.rag_io.specs.Lexemes.{IsBlank, white, line_comment, block_comment, IsToken, name, int, text, symbol, BeginsWith, symbols, quote, is_white, is_digit, begins_name, goes_on_name, is_no_line_feed}
 use Rattle.rag_io.specs.Fronts.{begins, run, text_end, comment_end, first_sign, text_front, comment_front, symbol_front, lexeme_of}
 use Rattle.rag_io.proofs.Runs.{run-cons, run-append, run_passes, run_stops}
 use Rattle.rag_io.proofs.Texts.{text_end-append, finds_quote, FindsQuote}

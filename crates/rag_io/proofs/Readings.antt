@@ -1,5 +1,5 @@
 -- Some bytes have one list of tokens or one first bad place, and not both.
-use Rattle.std.proofs.Common.{◌≡◌, ℕ, ◌<◌, List, [], ◌∷◌, ◌++◌, length, take, drop, refl, ap, sym, subst, ◌∙◌, arith}
+use Rattle.std.proofs.Common.{◌≡◌, ℕ, ◌<◌, List, [], ◌++◌, length, take, drop, refl, ap, sym, ◌∙◌, arith}
 use Rattle.std.proofs.Math.Seq.{take-append_seam, drop-append_seam}
 use Rattle.rag_io.specs.declared.token.Place.{Place}
 use Rattle.rag_io.specs.declared.token.TokenKind.{TokenKind}

@@ -1,6 +1,6 @@
 -- A run takes the front that passes the test, and what follows it stops there.
-use Rattle.std.proofs.Common.{◌≡◌, ℕ, suc, ◌+◌, ◌<◌, List, [], ◌∷◌, ◌++◌, length, take, drop, cond, Bool, true, false, add-one, one-add, refl, sym, ap, ◌∙◌, arith, get_or}
-use Rattle.std.specs.List.{All, AllPass, prefix_len}
+use Rattle.std.proofs.Common.{◌≡◌, ℕ, suc, ◌+◌, List, [], ◌∷◌, ◌++◌, length, take, drop, Bool, true, false, one-add, refl, sym, ap, ◌∙◌, arith}
+use Rattle.std.specs.List.{AllPass, prefix_len}
 use Rattle.std.proofs.lemmas.Bool.{cond-true, cond-false, not-true, not_from_false}
 use Rattle.std.proofs.lemmas.List.Elements.{All-nil, All-cons}
 use Rattle.std.proofs.lemmas.List.Folds.{length-prefix_len}

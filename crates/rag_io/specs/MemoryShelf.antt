@@ -1,5 +1,5 @@
 -- What a shelf in memory holds, and which fetches fail.
-use Rattle.std.specs.Prelude.{ℕ, ◌+◌, ◌-◌, ◌^◌, min, List, [], ◌∷◌, map, nat_eq, Bool, true, ◌&&◌, not, if◌then◌else◌, Option, None, Result, Ok, Err, String, Vec}
+use Rattle.std.specs.Prelude.{ℕ, ◌+◌, min, List, nat_eq, if◌then◌else◌, Option, None, String, Vec}
 use Rattle.std.specs.List.{list_any}
 use Rattle.std.specs.String.{string_bytes}
 use Rattle.std.specs.declared.alloc.Global.{Global}
@@ -11,11 +11,6 @@ named file = (string_bytes file.0, file.1.items)
 
 abbrev pub name_of : Named → List ℕ
 name_of file = file.0
-
--- no element is equal to a later one
-abbrev pub are_distinct : {X : Type 0} → (X → X → Bool) → List X → Bool
-are_distinct eq [] = true
-are_distinct eq (x ∷ xs) = not (list_any (eq x) xs) && are_distinct eq xs
 
 -- the files, the numbers of the calls that are to fail, how many calls and how many faults there were
 pub record ShelfState : Type 0 where

@@ -16,7 +16,7 @@ pub struct Pool {
 impl Model for Pool {
     ghost use Rattle.std.specs.Prelude.{ℕ, List, IsTrue};
     ghost use Rattle.std.specs.Str.{bytes_eq};
-    ghost use Rattle.rag_io.specs.MemoryShelf.{are_distinct};
+    ghost use Rattle.rag_io.specs.Distinct.{are_distinct};
     ghost use Rattle.rag_io.specs.Pool.{texts_of};
 
     ghost Value = { List (List ℕ) };

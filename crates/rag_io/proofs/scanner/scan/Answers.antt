@@ -1,5 +1,4 @@
-use Rattle.std.proofs.Common.{arith, rules, sym, subst, ◌++◌, ◌∷◌, []}
-use Rattle.std.proofs.lemmas.List.{append-nil}
+use Rattle.std.proofs.Common.{arith, sym}
 use Rattle.rag_io.proofs.Scanning.{seen_last, seen_more, all_read, bad_here, over_blank, over_token, bad_over_blank, bad_over_token}
 use Rattle.rag_io.proofs.scanner.scan.Goals as goal
 
