@@ -1,7 +1,10 @@
 -- The rules of a grammar: which attributes are declared, and which equation gives which attribute its value.
-use Rattle.std.specs.Prelude.{◌≡◌, ℕ, suc, ◌<◌, ◌≤◌, List, [], ◌∷◌, Bool, true, false, not, ◌&&◌, ◌||◌, ◌==◌, Option, Some, None, All, map, length, position}
+use Rattle.std.specs.Prelude.{◌≡◌, ℕ, suc, ◌<◌, ◌≤◌, List, [], ◌∷◌, Bool, true, false, not, ◌&&◌, ◌||◌, ◌==◌, Option, Some, None, All, map, length, position, slice_get}
+use Rattle.std.specs.Option.{option_map}
 use Rattle.std.specs.Str.{bytes_eq}
 use Rattle.ast_grammar.specs.declared.grammar.ClassId.{ClassId}
+use Rattle.attr_types.specs.declared.kinds.AttrId.{AttrId}
+use Rattle.attr_types.specs.declared.kinds.EqId.{EqId}
 use Rattle.attr_types.specs.declared.kinds.Kind.{Kind}
 use Rattle.attr_types.specs.declared.kinds.Kind.TheVariants as kinds
 use Rattle.attr_types.specs.declared.kinds.Attr.{Attr}
@@ -36,17 +39,22 @@ pub record Item : Type 0 where
 abbrev pub no_params : Params
 no_params = record { count = 0; first = kinds.Truth; second = kinds.Truth; third = kinds.Truth }
 
+-- what is declared of a synthesized attribute without parameters
+abbrev pub plain_attribute : ClassId → Kind → Attr
+plain_attribute class kind = record { class = class; sort = Syn; kind = kind; params = no_params; circular = false; start = Plain }
+
 -- the attribute that an item declares
 abbrev pub attribute_of : Item → Attribute
-attribute_of i = record {
-  name = i.name;
-  declared = record { class = i.class; sort = Syn; kind = i.kind; params = no_params; circular = false; start = Plain };
-}
+attribute_of i = record { name = i.name; declared = plain_attribute i.class i.kind }
+
+-- the equation of an item, for the attribute of this number
+abbrev pub equation_of : ℕ → Item → Equation
+equation_of a i = record { class = i.class; attribute = a; body = i.body }
 
 -- the equations of items, whose attributes are numbered from a on
 abbrev pub equations_from : ℕ → List Item → List Equation
 equations_from a [] = []
-equations_from a (i ∷ items) = record { class = i.class; attribute = a; body = i.body } ∷ equations_from (suc a) items
+equations_from a (i ∷ items) = equation_of a i ∷ equations_from (suc a) items
 
 -- attributes and equations are numbered by the place of their item
 unfoldable pub rules_of : List Item → RuleSet
@@ -79,3 +87,23 @@ attribute_named rules class name = position (λ a. (a.declared.class.0 == class.
 -- the equation of an attribute at nodes of a class
 abbrev pub equation_number : RuleSet → ClassId → ℕ → Option ℕ
 equation_number rules class a = position (λ e. (e.class.0 == class.0) && (e.attribute == a)) rules.equations
+
+abbrev pub declared_of : Attribute → Attr
+declared_of a = a.declared
+
+-- what is declared of the attribute of this number
+abbrev pub attribute_at : RuleSet → ℕ → Option Attr
+attribute_at rules a = option_map declared_of (slice_get rules.attributes a)
+
+abbrev pub expression_in : Equation → Expression
+expression_in e = e.body
+
+-- the right side of the equation of this number
+abbrev pub body_at : RuleSet → ℕ → Option Expression
+body_at rules e = option_map expression_in (slice_get rules.equations e)
+
+abbrev pub number_of_attribute : AttrId → ℕ
+number_of_attribute a = a.0
+
+abbrev pub number_of_equation : EqId → ℕ
+number_of_equation e = e.0

@@ -5,6 +5,8 @@ mod expression;
 mod kinds;
 mod queries;
 mod rules;
+#[cfg(test)]
+mod tests;
 
 pub use expression::{Operator, TExpr};
 pub use kinds::{Attr, AttrId, EqId, Kind, Params, Sort, Start};

@@ -1,7 +1,9 @@
 // The rules of a grammar.
-ghost use Rattle.std.specs.Prelude.{◌≡◌, length, map, IfOk};
-ghost use Rattle.attr_types.specs.Rules.{AreItems, rules_of};
-ghost use Rattle.attr_types.specs.Items.{item_of, rules_in};
+ghost use Rattle.std.specs.Prelude.{◌≡◌, ◌≤◌, ◌<◌, ◌==◌, ◌&&◌, length, map, position, IfOk, IfSome};
+ghost use Rattle.std.specs.Option.{option_map};
+ghost use Rattle.std.specs.Str.{bytes_eq};
+ghost use Rattle.attr_types.specs.Expression.{expression_of};
+ghost use Rattle.attr_types.specs.Rules.{AreItems, rules_of, most_attributes, plain_attribute, attribute_at, attribute_named, equation_number, body_at, number_of_attribute, number_of_equation};
 
 use crate::expression::TExpr;
 use crate::kinds::{Attr, AttrId, EqId, Kind, Params, Sort, Start};
@@ -54,9 +56,47 @@ pub struct FirstEq {
 pub struct Rules {
     items: Vec<FirstEq>,
     attributes: Vec<Attr>,
+    ghost few: { length items.items ≤ most_attributes },
+    ghost declared: { attributes.items ≡ map (λ i. plain_attribute i.class i.kind) items.items },
+}
+
+// What the items declare.
+fn declared_by(alloc: Global, items: &[FirstEq]) -> Result<Vec<Attr>, Memory>
+    ensures { IfOk result (λ v. v.items ≡ map (λ i. plain_attribute i.class i.kind) items.now) }
+{
+    let mut attributes = Vec::new(alloc);
+    for item in items {
+        let attribute = Attr {
+            class: item.class,
+            sort: Sort::Syn,
+            kind: item.kind,
+            params: Params {
+                count: 0,
+                first: Kind::Truth,
+                second: Kind::Truth,
+                third: Kind::Truth,
+            },
+            circular: false,
+            start: Start::Plain,
+        };
+        attributes.push(attribute).map_err(|_| Memory)?;
+    }
+    Ok(attributes)
+}
+
+// The place of the first item of this class and name.
+fn place_of(items: &[FirstEq], class: ClassId, name: &[u8]) -> Option<usize>
+    ensures first { result ≡ position (λ i. (i.class.0 == class.0) && bytes_eq i.name name.now) items.now }
+    ensures within { IfSome result (λ k. k < length items.now) }
+{
+    items
+        .iter()
+        .position(|item| item.class == class && item.name.list() == name)
 }
 
 impl Rules {
+    ghost use Rattle.attr_types.specs.Items.{item_of, rules_in};
+
     /// The rules of some items. It needs a list that breaks no rule: at most 1,024 items, of classes of the
     /// grammar, each with a body of its type, and no two of one class and name. Attributes and equations are
     /// numbered by the place of their item.
@@ -68,13 +108,66 @@ impl Rules {
         requires { AreItems (length grammar.now) (map item_of list.items) }
         ensures { IfOk result (λ r. rules_in r ≡ rules_of (map item_of list.items)) }
     {
-        Err(Memory)
+        let attributes = declared_by(alloc, &list)?;
+        Ok(Rules {
+            items: list,
+            attributes,
+        })
     }
 
     /// The number of attributes.
+    #[tactic(auto, using(crate::proofs::Kept::attributes_in))]
     pub fn attrs(&self) -> u32
         ensures { result ≡ length (rules_in self.now).attributes }
     {
-        0
+        self.attributes.len() as u32
+    }
+
+    /// What is declared of an attribute.
+    #[tactic(auto, using(crate::proofs::Kept::attributes_in, crate::proofs::Kept::attribute_in))]
+    pub fn attr(&self, a: AttrId) -> &Attr
+        requires { a.0 < length (rules_in self.now).attributes }
+        ensures { attribute_at (rules_in self.now) a.0 ≡ Some result.now }
+    {
+        &self.attributes[a.0 as usize]
+    }
+
+    /// The attribute of this name that is declared for the class, or None where none is. It looks at the
+    /// attributes one by one.
+    #[tactic(auto, using(crate::proofs::Kept::found_in))]
+    pub fn find(&self, _grammar: &Grammar, class: ClassId, name: &[u8]) -> Option<AttrId>
+        ensures { option_map number_of_attribute result ≡ attribute_named (rules_in self.now) class name.now }
+    {
+        let found = place_of(&self.items, class, name)?;
+        Some(AttrId(found as u16))
+    }
+
+    /// The number of equations.
+    #[tactic(auto, using(crate::proofs::Kept::equations_in))]
+    pub fn equations(&self) -> u32
+        ensures { result ≡ length (rules_in self.now).equations }
+    {
+        self.items.len() as u32
+    }
+
+    /// The equation that gives a synthesized attribute its value at nodes of a class, or None where none does.
+    pub fn syn_equation(&self, class: ClassId, a: AttrId) -> Option<EqId>
+        ensures { option_map number_of_equation result ≡ equation_number (rules_in self.now) class a.0 }
+    {
+        let attribute = self.attributes.get(a.0 as usize)?;
+        if attribute.class == class {
+            Some(EqId(u32::from(a.0)))
+        } else {
+            None
+        }
+    }
+
+    /// The right side of an equation.
+    #[tactic(auto, using(crate::proofs::Kept::equations_in, crate::proofs::Kept::body_in))]
+    pub fn body(&self, e: EqId) -> &TExpr
+        requires { e.0 < length (rules_in self.now).equations }
+        ensures { body_at (rules_in self.now) e.0 ≡ Some (expression_of result.now) }
+    {
+        &self.items[e.0 as usize].body
     }
 }
