@@ -57,8 +57,8 @@ fn choice(choices: &[u8], n: u8, t: u8) -> u8
     }
 }
 
-#[tactic(auto, using(crate::proofs::Coding::moves))]
 // A step at a symbol that was taken off the stack.
+#[tactic(auto, using(crate::proofs::Coding::moves))]
 fn step(
     table: &Table<'_>,
     stack: &mut Vec<Symbol>,
@@ -123,8 +123,12 @@ fn advance(
     Ok(false)
 }
 
-/// The events of some tokens, where they are what the nonterminal n derives and the end; else the first
-/// index such that the tokens up to it begin nothing such, and the events before it.
+/// Reads the classes of some tokens, the last of which is the end of the file. Ok leaves in `events` the events with
+/// which they are a sentence of the nonterminal n: 255 for each token, and the number of each action where it stands.
+/// `At(i)` names the first token such that the tokens up to it begin no sentence, and leaves the events before it.
+///
+/// The caller names, as a ghost, claims about the grammar with which the table fits it. It takes time and memory
+/// linear in the tokens, and doesn't recurse: nesting costs a place on a stack in memory.
 pub fn parse(
     alloc: Global,
     table: &Table<'_>,
