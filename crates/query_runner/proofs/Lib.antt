@@ -4,3 +4,5 @@ pub mod Stopping
 pub mod Answerable
 pub mod Preparing
 pub mod Unread
+pub mod OneAnswer
+pub mod Uniqueness

@@ -24,26 +24,26 @@ pub holds_same : (files later : Option (List Named)) (name bytes : List ℕ) →
 holds_same files later name bytes e held = subst (λ (f : Option (List Named)). Holds f name bytes) e held
 
 -- a file that was fetched is short enough
-short : (files : List Named) (name bytes : List ℕ) → Holds (Some files) name bytes → length bytes ≤ longest_file → IsShort files name
-short files name bytes held fits = record { bytes = bytes; held = held; fits = fits }
+short : (files : List Named) (name bytes : List ℕ) → Holds (Some files) name bytes → IsShort files name
+short files name bytes h = record { bytes = bytes; held = h.held; fits = h.fits }
 
 pub first_is_long : (files : Option (List Named)) (names : FileNames) → LongWhereTold files names.ast → FirstLongWhereTold files names names.ast
 first_is_long None names long = tt
 first_is_long (Some files) names long = here long
 
-module _ (names : FileNames) (ast : List ℕ) (fits_ast : length ast ≤ longest_file) where
+module _ (names : FileNames) (ast : List ℕ) where
   pub second_is_long : (files : Option (List Named)) → Holds files names.ast ast → LongWhereTold files names.jrag → FirstLongWhereTold files names names.jrag
   second_is_long None a long = tt
-  second_is_long (Some files) a long = behind (short files names.ast ast a fits_ast) (here long)
+  second_is_long (Some files) a long = behind (short files names.ast ast a) (here long)
 
-  module _ (jrag : List ℕ) (fits_jrag : length jrag ≤ longest_file) where
+  module _ (jrag : List ℕ) where
     pub third_is_long : (files : Option (List Named)) → Holds files names.ast ast → Holds files names.jrag jrag → LongWhereTold files names.tree → FirstLongWhereTold files names names.tree
     third_is_long None a b long = tt
-    third_is_long (Some files) a b long = behind (short files names.ast ast a fits_ast) (behind (short files names.jrag jrag b fits_jrag) (here long))
+    third_is_long (Some files) a b long = behind (short files names.ast ast a) (behind (short files names.jrag jrag b) (here long))
 
-    module _ (tree : List ℕ) (fits_tree : length tree ≤ longest_file) where
+    module _ (tree : List ℕ) where
       pub fourth_is_long : (files : Option (List Named)) → Holds files names.ast ast → Holds files names.jrag jrag → Holds files names.tree tree
           → LongWhereTold files names.queries → FirstLongWhereTold files names names.queries
       fourth_is_long None a b c long = tt
       fourth_is_long (Some files) a b c long =
-          behind (short files names.ast ast a fits_ast) (behind (short files names.jrag jrag b fits_jrag) (behind (short files names.tree tree c fits_tree) (here long)))
+          behind (short files names.ast ast a) (behind (short files names.jrag jrag b) (behind (short files names.tree tree c) (here long)))

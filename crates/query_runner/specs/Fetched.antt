@@ -5,7 +5,7 @@ use Rattle.query_runner.specs.declared.fetching.Contents as kept
 use Rattle.query_runner.specs.declared.fetching.Stop.{Stop}
 use Rattle.query_runner.specs.declared.fetching.Stop.TheVariants as stops
 use Rattle.query_runner.specs.Files.{Contents}
-use Rattle.query_runner.specs.Output.{HoldsAll, IsFirstLong, in_order}
+use Rattle.query_runner.specs.Output.{HoldsAll, HoldsShort, IsFirstLong, in_order}
 use Rattle.query_runner.specs.Words.{FileNames}
 
 abbrev pub seen_contents : kept.Contents → Contents
@@ -18,10 +18,10 @@ pub record AreShort (c : Contents) : Type 0 where
   pub tree : length c.tree ≤ longest_file
   pub queries : length c.queries ≤ longest_file
 
--- where the shelf tells its files, this one has these bytes
+-- where the shelf tells its files, this one has these bytes, and they aren't too many
 abbrev pub Holds : Option (List Named) → List ℕ → List ℕ → Type 0
 Holds None name bytes = Unit {0}
-Holds (Some files) name bytes = content_of files name ≡ Some bytes
+Holds (Some files) name bytes = HoldsShort files name bytes
 
 abbrev pub HoldsFetched : Option (List Named) → FileNames → Contents → Type 0
 HoldsFetched None names held = Unit {0}

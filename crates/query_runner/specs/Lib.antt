@@ -12,6 +12,7 @@ pub mod Queries
 pub mod QueryClaims
 pub mod QueryGrammar
 pub mod Ready
+pub mod Replies
 pub mod Run
 pub mod Tokens
 pub mod TreeClaims

@@ -1,7 +1,7 @@
 -- What the program is to write.
-use Rattle.std.specs.Prelude.{◌≡◌, ℕ, suc, ◌≤◌, ℤ, Bool, true, false, List, [], ◌∷◌, ◌++◌, Option, Some, None, codes}
+use Rattle.std.specs.Prelude.{◌≡◌, ℕ, suc, ◌≤◌, ℤ, Bool, true, false, List, [], ◌∷◌, ◌++◌, Option, Some, None, codes, length}
 use Rattle.std.specs.Fmt.{signed_decimal}
-use Rattle.rag_io.specs.Outside.{Named, content_of, IsLong, IsShort}
+use Rattle.rag_io.specs.Outside.{Named, content_of, longest_file, IsLong, IsShort}
 use Rattle.attr_types.specs.Expression.{Expression}
 use Rattle.equation_law.specs.Names.{Query}
 use Rattle.equation_law.specs.Values.{Value, Truth, Int}
@@ -25,12 +25,17 @@ pub data AreReplies (p : Program) : ℕ → List Expression → List ℕ → Typ
   reply : {q : ℕ} {e : Expression} {es : List Expression} {v : Value} {text rest : List ℕ} → HasValue p (Query q) v → IsReplyText v text
       → AreReplies p (suc q) es rest → AreReplies p q (e ∷ es) (text ++ 10 ∷ rest)
 
--- The shelf holds these bytes under the four names, none of them too many.
+-- The shelf holds these bytes under a name, and they aren't too many.
+pub record HoldsShort (files : List Named) (name bytes : List ℕ) : Type 0 where
+  pub held : content_of files name ≡ Some bytes
+  pub fits : length bytes ≤ longest_file
+
+-- It holds these bytes under the four names.
 pub record HoldsAll (files : List Named) (names : FileNames) (held : Contents) : Type 0 where
-  pub ast : content_of files names.ast ≡ Some held.ast
-  pub jrag : content_of files names.jrag ≡ Some held.jrag
-  pub tree : content_of files names.tree ≡ Some held.tree
-  pub queries : content_of files names.queries ≡ Some held.queries
+  pub ast : HoldsShort files names.ast held.ast
+  pub jrag : HoldsShort files names.jrag held.jrag
+  pub tree : HoldsShort files names.tree held.tree
+  pub queries : HoldsShort files names.queries held.queries
 
 -- The output for some words, over the files that a shelf holds: the replies of the program that they say.
 pub record Output (words : List (List ℕ)) (files : List Named) (text : List ℕ) : Type 0 where

@@ -5,6 +5,7 @@
 mod aspects_table;
 mod fetching;
 mod files;
+mod laws;
 mod putting;
 mod query_table;
 mod replies;
@@ -12,4 +13,5 @@ mod running;
 mod tree_table;
 mod words;
 
+pub use laws::one_answer;
 pub use running::run;
