@@ -48,6 +48,7 @@ goes_on : (b : ℕ) (text rest : List ℕ) → IsOpen (b ∷ text) → closes_co
 goes_on b text rest opens = false_from_ne_true _
     (λ closes. let closed = closed_at b (text ++ codes "*/" ++ rest) closes in never_closed b text rest closed.0 opens closed.1)
 
+-- a comment ends at the first `*/`
 pub comment_end-append : (text rest : List ℕ) → IsOpen text → comment_end (text ++ codes "*/" ++ rest) ≡ Some (length text + 2)
 unfolding comment_end
 comment_end-append [] rest opens = refl
@@ -62,10 +63,12 @@ pub record IsClosed (bytes : List ℕ) (n : ℕ) : Type 0 where
   pub front : take n bytes ≡ text ++ codes "*/"
   pub opens : IsOpen text
 
+-- what the search finds
 abbrev pub FindsEnd : List ℕ → Option ℕ → Type 0
 FindsEnd bytes None = Unit {0}
 FindsEnd bytes (Some n) = IsClosed bytes n
 
+-- up to its end a comment is open
 pub finds_end : (bytes : List ℕ) → FindsEnd bytes (comment_end bytes)
 unfolding comment_end
 finds_end [] = tt

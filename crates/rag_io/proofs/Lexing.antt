@@ -18,10 +18,11 @@ use Rattle.rag_io.proofs.Comments.{comment_end-append, finds_end, FindsEnd}
 use Rattle.rag_io.proofs.Signs.{finds_sign, FindsSign, IsLongest, passes_among}
 
 -- the bytes begin with the sign where the test says so
-pub begins_from_test : (bytes sign : List ℕ) → starts_with nat_eq bytes sign ≡ true → bytes ≡ sign ++ drop (length sign) bytes
+begins_from_test : (bytes sign : List ℕ) → starts_with nat_eq bytes sign ≡ true → bytes ≡ sign ++ drop (length sign) bytes
 begins_from_test bytes sign h = (starts_is Decides-eqb bytes sign (starts_with nat_eq bytes sign) refl).0 h
 
-pub test_from_begins : (bytes sign rest : List ℕ) → bytes ≡ sign ++ rest → starts_with nat_eq bytes sign ≡ true
+-- and the test says so where they do
+test_from_begins : (bytes sign rest : List ℕ) → bytes ≡ sign ++ rest → starts_with nat_eq bytes sign ≡ true
 test_from_begins bytes sign rest e = (starts_is Decides-eqb bytes sign (starts_with nat_eq bytes sign) refl).1 rest e
 
 -- two bytes at the front
@@ -31,6 +32,7 @@ two_at first second b (c ∷ bytes) h =
     let parts = and_parts (b == first) (c == second) h in
     (bytes, ap (λ (x : ℕ). x ∷ (c ∷ bytes)) (eqb-true b first parts.0) ∙ ap (λ (x : ℕ). first ∷ (x ∷ bytes)) (eqb-true c second parts.1))
 
+-- and the test says so
 two_from : (first second b : ℕ) (bytes rest : List ℕ) → b ∷ bytes ≡ first ∷ (second ∷ rest) → ((b == first) && begins second bytes) ≡ true
 two_from first second b [] rest e = let n : 1 ≡ suc (suc (length rest)) = ap length e in absurd (omega arith)
 two_from first second b (c ∷ bytes) rest e =
@@ -43,26 +45,30 @@ Fits bytes (Blank n) = IsBlank (take n bytes) (drop n bytes)
 Fits bytes (Token kind n) = IsToken kind (take n bytes) (drop n bytes)
 Fits bytes Bad = 0 < length bytes
 
+-- a text
 fits_text : (bytes : List ℕ) (end : Option ℕ) → FindsQuote false bytes end → Fits (quote ∷ bytes) (text_front end)
 fits_text bytes None none = omega arith
 fits_text bytes (Some n) body = rw (add-one n) (text (take n bytes) (drop n bytes) body)
 
+-- a comment up to the end of its line
 fits_line : (rest : List ℕ) → Fits (47 ∷ (47 ∷ rest)) (Blank (run is_no_line_feed (47 ∷ rest) + 1))
 fits_line rest =
     rw (run-cons is_no_line_feed 47 rest refl, add-one (suc (run is_no_line_feed rest)))
     (line_comment (take (run is_no_line_feed rest) rest) (drop (run is_no_line_feed rest) rest) (run_passes is_no_line_feed rest) (run_stops is_no_line_feed rest))
 
+-- a comment up to `*/`
 fits_comment : (rest : List ℕ) (end : Option ℕ) → FindsEnd rest end → Fits (47 ∷ (42 ∷ rest)) (comment_front end)
 fits_comment rest None none = omega arith
 fits_comment rest (Some n) closed =
     let e : n + 2 ≡ suc (suc n) = omega arith in
     rw e (subst (λ (front : List ℕ). IsBlank (47 ∷ (42 ∷ front)) (drop n rest)) (sym closed.front) (block_comment closed.text (drop n rest) closed.opens))
 
--- a byte that begins no other token and no white space
+-- the first byte begins no other token and no white space
 abbrev pub begins_symbol : List ℕ → Bool
 begins_symbol [] = false
 begins_symbol (b ∷ more) = not (is_white b) && (not (begins_name b) && (not (is_digit b) && not (b == quote)))
 
+-- the first sign in the table
 fits_symbol : (bytes : List ℕ) (found : Option (List ℕ)) → 0 < length bytes → FindsSign symbols bytes found
     → ((after : List ℕ) → bytes ≡ codes "//" ++ after → ⊥) → ((after : List ℕ) → bytes ≡ codes "/*" ++ after → ⊥) → Fits bytes (symbol_front found)
 fits_symbol bytes None some none no_line no_block = some
@@ -98,15 +104,19 @@ fits (b ∷ bytes) =
     at_comment (rest, e) =
         subst (λ (all : List ℕ). Fits all (comment_front (comment_end (drop 2 all)))) (sym e) (fits_comment rest (comment_end rest) (finds_end rest))
 
+-- what begins a name is no white space
 name_is_no_white : (b : ℕ) → begins_name b ≡ true → is_white b ≡ false
 name_is_no_white b h = grind (arith, nat_tests)
 
+-- a digit is no white space
 digit_is_no_white : (b : ℕ) → is_digit b ≡ true → is_white b ≡ false
 digit_is_no_white b h = grind (arith, nat_tests)
 
+-- a digit begins no name
 digit_begins_no_name : (b : ℕ) → is_digit b ≡ true → begins_name b ≡ false
 digit_begins_no_name b h = grind (arith, nat_tests)
 
+-- nothing begins behind the last byte
 pub lexeme_of-nil : lexeme_of [] ≡ Nothing
 unfolding lexeme_of
 lexeme_of-nil = refl
@@ -120,9 +130,11 @@ lexeme_of-blank (line_comment more rest all stops) =
 lexeme_of-blank (block_comment inner rest opens) = ap comment_front (comment_end-append inner rest opens)
     ∙ (let e : length inner + 2 + 2 ≡ suc (suc (length (inner ++ codes "*/"))) = omega (arith, length-append inner (codes "*/")) in ap Blank e)
 
+-- each sign begins as no other token does
 symbols_begin : list_all begins_symbol symbols ≡ true
 symbols_begin = refl
 
+-- at a sign `lexeme_of` looks into the table
 lexeme_of-sign : (sign rest : List ℕ) → begins_symbol sign ≡ true → (BeginsWith (sign ++ rest) (codes "//") → ⊥) → (BeginsWith (sign ++ rest) (codes "/*") → ⊥)
     → lexeme_of (sign ++ rest) ≡ symbol_front (first_sign symbols (sign ++ rest))
 unfolding lexeme_of

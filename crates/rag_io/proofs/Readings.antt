@@ -10,25 +10,27 @@ use Rattle.rag_io.specs.Tokens.{Lexed, IsTokens, at_end, blank, token, IsFirstBa
 use Rattle.rag_io.proofs.Lexing.{lexeme_of-nil, lexeme_of-blank, lexeme_of-token}
 
 -- the front of a list that falls into two parts, at the length of the first
-pub same_front : (xs ys us vs : List ℕ) → xs ++ ys ≡ us ++ vs → length xs ≡ length us → xs ≡ us
+same_front : (xs ys us vs : List ℕ) → xs ++ ys ≡ us ++ vs → length xs ≡ length us → xs ≡ us
 same_front xs ys us vs e n = sym (take-append_seam xs ys) ∙ ap (take (length xs)) e ∙ ap (λ (k : ℕ). take k (us ++ vs)) n ∙ take-append_seam us vs
 
-pub same_rest : (xs ys us vs : List ℕ) → xs ++ ys ≡ us ++ vs → length xs ≡ length us → ys ≡ vs
+-- and what follows it
+same_rest : (xs ys us vs : List ℕ) → xs ++ ys ≡ us ++ vs → length xs ≡ length us → ys ≡ vs
 same_rest xs ys us vs e n = sym (drop-append_seam xs ys) ∙ ap (drop (length xs)) e ∙ ap (λ (k : ℕ). drop k (us ++ vs)) n ∙ drop-append_seam us vs
 
 module _ (bytes front rest other behind : List ℕ) (splits : bytes ≡ front ++ rest) (also : bytes ≡ other ++ behind) where
+  -- both are the bytes
   whole : front ++ rest ≡ other ++ behind
   whole = sym splits ∙ also
 
   -- two blanks at one front are one
-  pub same_blank : IsBlank front rest → IsBlank other behind → (front ≡ other) × (rest ≡ behind)
+  same_blank : IsBlank front rest → IsBlank other behind → (front ≡ other) × (rest ≡ behind)
   same_blank a b =
       let e : lexemes.Blank (length front) ≡ lexemes.Blank (length other) = sym (lexeme_of-blank a) ∙ ap lexeme_of whole ∙ lexeme_of-blank b in
       let n : length front ≡ length other = cc in
       (same_front front rest other behind whole n, same_rest front rest other behind whole n)
 
   -- two tokens at one front are one
-  pub same_token : (k l : TokenKind) → IsToken k front rest → IsToken l other behind → (k ≡ l) × (front ≡ other) × (rest ≡ behind)
+  same_token : (k l : TokenKind) → IsToken k front rest → IsToken l other behind → (k ≡ l) × (front ≡ other) × (rest ≡ behind)
   same_token k l a b =
       let e : lexemes.Token k (length front) ≡ lexemes.Token l (length other) = sym (lexeme_of-token a) ∙ ap lexeme_of whole ∙ lexeme_of-token b in
       let kind : k ≡ l = cc in
@@ -36,7 +38,7 @@ module _ (bytes front rest other behind : List ℕ) (splits : bytes ≡ front ++
       (kind, same_front front rest other behind whole n, same_rest front rest other behind whole n)
 
   -- no blank and no token are at one front
-  pub no_blank_and_token : (l : TokenKind) → IsBlank front rest → IsToken l other behind → ⊥
+  no_blank_and_token : (l : TokenKind) → IsBlank front rest → IsToken l other behind → ⊥
   no_blank_and_token l a b =
       let e : lexemes.Blank (length front) ≡ lexemes.Token l (length other) = sym (lexeme_of-blank a) ∙ ap lexeme_of whole ∙ lexeme_of-token b in
       cc
@@ -51,16 +53,20 @@ no_token_at_end : (bytes front rest : List ℕ) (kind : TokenKind) → bytes ≡
 no_token_at_end bytes front rest kind ends splits is =
     let found : lexemes.Nothing ≡ lexemes.Token kind (length front) = sym lexeme_of-nil ∙ ap lexeme_of (sym ends ∙ splits) ∙ lexeme_of-token is in cc
 
+-- bytes that are left aren't none
 none_left : (bytes : List ℕ) → bytes ≡ [] → 0 < length bytes → ⊥
 none_left bytes ends some = let n : length bytes ≡ 0 = ap length ends in omega arith
 
 module _ (p : Place) (front rest other behind : List ℕ) (fronts : front ≡ other) (rests : rest ≡ behind) where
+  -- the tokens behind one front, as those behind an equal one
   tokens_at : (ts : List Lexed) → IsTokens (moved p other) behind ts → IsTokens (moved p front) rest ts
   tokens_at ts more = rw (fronts, rests) more
 
+  -- the same of the first bad place
   bad_at : (q : Place) → IsFirstBad (moved p other) behind q → IsFirstBad (moved p front) rest q
   bad_at q more = rw (fronts, rests) more
 
+-- there is one list of tokens
 pub one_list : {p : Place} {bytes : List ℕ} {ts us : List Lexed} → IsTokens p bytes ts → IsTokens p bytes us → ts ≡ us
 one_list (at_end a) (at_end b) = refl
 one_list (at_end a) (blank other behind also b more) = absurd (no_blank_at_end _ other behind a also b)
@@ -77,6 +83,7 @@ one_list {p} {bytes} (token {tokens = ts} k front rest splits a this) (token {to
     let rests : ts ≡ us = one_list this (tokens_at p front rest other behind same.1 same.2 us more) in
     cc
 
+-- there is one first bad place
 pub one_place : {p q r : Place} {bytes : List ℕ} → IsFirstBad p bytes q → IsFirstBad p bytes r → q ≡ r
 one_place (here some no_blank no_token) (here more none nor) = refl
 one_place (here some no_blank no_token) (behind_blank other behind also b more) = absurd (no_blank other behind also b)
@@ -92,6 +99,7 @@ one_place {p} {q} {r} {bytes} (behind_token k front rest splits a this) (behind_
     let same = same_token bytes front rest other behind splits also k l a b in
     one_place this (bad_at p front rest other behind same.1 same.2 r more)
 
+-- there aren't both
 pub not_both : {p q : Place} {bytes : List ℕ} {ts : List Lexed} → IsTokens p bytes ts → IsFirstBad p bytes q → ⊥
 not_both (at_end a) (here some no_blank no_token) = none_left _ a some
 not_both (at_end a) (behind_blank other behind also b more) = no_blank_at_end _ other behind a also b

@@ -18,6 +18,7 @@ module _ (test : ℕ → Bool) where
   run-none : (b : ℕ) (bytes : List ℕ) → test b ≡ false → run test (b ∷ bytes) ≡ 0
   run-none b bytes fails = length-prefix_len test (b ∷ bytes) ∙ cond-false (test b) (1 + prefix_len test bytes) 0 fails
 
+  -- what stands behind the first byte passes too
   all_behind : (b : ℕ) (bytes : List ℕ) → AllPass test (b ∷ bytes) → AllPass test bytes
   all_behind b bytes all = λ k d h. all (suc k) d (omega arith)
 

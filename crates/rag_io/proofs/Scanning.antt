@@ -28,25 +28,32 @@ seen_more old new t ts e =
 
 -- what `lexeme_of` finds of n bytes, front, and what is after it
 module _ (p next : Place) (bytes front after : List ℕ) (n : ℕ) (moves : next ≡ moved p front) (fronts : front ≡ take n bytes) (afters : after ≡ drop n bytes) where
+  -- the front and what is after it are the bytes
   whole : bytes ≡ front ++ after
   whole = sym (take-append-drop n bytes) ∙ ap (λ (xs : List ℕ). xs ++ drop n bytes) (sym fronts) ∙ ap (λ (xs : List ℕ). front ++ xs) (sym afters)
 
+  -- what was found as a blank is one
   is_blank : lexeme_of bytes ≡ lexemes.Blank n → IsBlank front after
   is_blank e = rw (fronts, afters) (subst (Fits bytes) e (fits bytes))
 
+  -- what was found as a token is one
   is_token : (kind : TokenKind) → lexeme_of bytes ≡ lexemes.Token kind n → IsToken kind front after
   is_token kind e = rw (fronts, afters) (subst (Fits bytes) e (fits bytes))
 
+  -- the tokens after a blank
   pub over_blank : (ts : List Lexed) → lexeme_of bytes ≡ lexemes.Blank n → IsTokens next after ts → IsTokens p bytes ts
   over_blank ts is more = blank front after whole (is_blank is) (subst (λ (q : Place). IsTokens q after ts) moves more)
 
+  -- a token before those after it
   pub over_token : (kind : TokenKind) (ts : List Lexed) → lexeme_of bytes ≡ lexemes.Token kind n → IsTokens next after ts
       → IsTokens p bytes (record { kind = kind; text = front; place = p } ∷ ts)
   over_token kind ts is more = token kind front after whole (is_token kind is) (subst (λ (q : Place). IsTokens q after ts) moves more)
 
+  -- the first bad place after a blank
   pub bad_over_blank : (q : Place) → lexeme_of bytes ≡ lexemes.Blank n → IsFirstBad next after q → IsFirstBad p bytes q
   bad_over_blank q is more = behind_blank front after whole (is_blank is) (subst (λ (r : Place). IsFirstBad r after q) moves more)
 
+  -- the first bad place after a token
   pub bad_over_token : (kind : TokenKind) (q : Place) → lexeme_of bytes ≡ lexemes.Token kind n → IsFirstBad next after q → IsFirstBad p bytes q
   bad_over_token kind q is more = behind_token kind front after whole (is_token kind is) (subst (λ (r : Place). IsFirstBad r after q) moves more)
 

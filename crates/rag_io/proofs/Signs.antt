@@ -5,12 +5,15 @@ use Rattle.std.proofs.lemmas.Bool.{cond_both, and_parts, leb-true, both_ways}
 use Rattle.std.proofs.lemmas.List.Sums.{AllPass-from_list_all}
 use Rattle.rag_io.specs.Fronts.{first_sign}
 
-pub Contains-head : (sign : List ℕ) (signs : List (List ℕ)) → Contains (sign ∷ signs) sign
+-- the first sign is listed
+Contains-head : (sign : List ℕ) (signs : List (List ℕ)) → Contains (sign ∷ signs) sign
 Contains-head sign signs = (0, omega arith, refl)
 
-pub Contains-tail : (sign other : List ℕ) (signs : List (List ℕ)) → Contains signs other → Contains (sign ∷ signs) other
+-- a sign behind the first one is listed
+Contains-tail : (sign other : List ℕ) (signs : List (List ℕ)) → Contains signs other → Contains (sign ∷ signs) other
 Contains-tail sign other signs (k, h, e) = (suc k, omega arith, e)
 
+-- a listed sign is the first one or stands behind it
 Contains-cons_cases : (sign other : List ℕ) (signs : List (List ℕ)) → Contains (sign ∷ signs) other → (sign ≡ other) ⊎ Contains signs other
 Contains-cons_cases sign other signs (zero, h, e) = inl e
 Contains-cons_cases sign other signs (suc k, h, e) = inr (k, omega arith, e)
@@ -35,6 +38,7 @@ abbrev pub FindsSign : List (List ℕ) → List ℕ → Option (List ℕ) → Ty
 FindsSign signs bytes None = (other : List ℕ) → Contains signs other → starts_with nat_eq bytes other ≡ false
 FindsSign signs bytes (Some sign) = IsLongest signs bytes sign
 
+-- the first sign that begins the bytes is the longest of those that do
 pub finds_sign : (signs : List (List ℕ)) (bytes : List ℕ) → is_falling signs ≡ true → FindsSign signs bytes (first_sign signs bytes)
 unfolding first_sign
 finds_sign [] bytes falling = λ other among. absurd (omega (arith, among.1))

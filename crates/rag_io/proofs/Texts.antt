@@ -7,9 +7,11 @@ use Rattle.rag_io.specs.declared.lexeme.TextStep.TheVariants.{Inside, Closes, Br
 use Rattle.rag_io.specs.Lexemes.{TextBody, closed, plain, escape, is_plain, is_escape, quote, backslash}
 use Rattle.rag_io.specs.Fronts.{one_more, text_step, text_end}
 
+-- a plain byte is no quote
 plain_is_no_quote : (b : ℕ) → is_plain b ≡ true → (b == quote) ≡ false
 plain_is_no_quote b h = grind (arith, nat_tests)
 
+-- a plain byte is no backslash
 plain_is_no_backslash : (b : ℕ) → is_plain b ≡ true → (b == backslash) ≡ false
 plain_is_no_backslash b h = grind (arith, nat_tests)
 
@@ -18,6 +20,7 @@ text_end-inside : (escaped next : Bool) (b : ℕ) (bytes : List ℕ) → text_st
 unfolding text_end
 text_end-inside escaped next b bytes step = rw (step, text_end) refl
 
+-- a plain byte stands inside the text
 text_step-plain : (b : ℕ) → is_plain b ≡ true → text_step false b ≡ Inside false
 text_step-plain b is = cond-false _ _ _ (plain_is_no_quote b is) ∙ cond-false _ _ _ (plain_is_no_backslash b is) ∙ cond-true _ _ _ is
 
@@ -60,6 +63,7 @@ left_last false b step =
     (λ _. cond_both (b == backslash) (Inside true) (if is_plain b then Inside false else Breaks) (λ s. s ≡ Closes → TextBody (b ∷ [])) (λ _ inside. cc)
     (λ _. cond_both (is_plain b) (Inside false) Breaks (λ s. s ≡ Closes → TextBody (b ∷ [])) (λ _ inside. cc) (λ _ breaks. cc))) step
 
+-- what the end of a text is
 abbrev pub FindsQuote : Bool → List ℕ → Option ℕ → Type 0
 FindsQuote escaped bytes None = Unit {0}
 FindsQuote escaped bytes (Some n) = IsLeft escaped (take n bytes)
@@ -69,6 +73,7 @@ quote_behind : (escaped next : Bool) (b : ℕ) (bytes : List ℕ) → text_step 
 quote_behind escaped next b bytes step None none = tt
 quote_behind escaped next b bytes step (Some n) left = rw (add-one n) (left_before escaped next b (take n bytes) step left)
 
+-- up to its end a text is well formed
 pub finds_quote : (escaped : Bool) (bytes : List ℕ) → FindsQuote escaped bytes (text_end escaped bytes)
 unfolding text_end
 finds_quote escaped [] = tt

@@ -9,6 +9,7 @@ use Rattle.rag_io.specs.Outside.{Named, content_of}
 abbrev pub named : String Global × Vec ℕ Global → Named
 named file = (string_bytes file.0, file.1.items)
 
+-- the name alone
 abbrev pub name_of : Named → List ℕ
 name_of file = file.0
 

@@ -1,7 +1,7 @@
 -- What a sink in memory took, and which puts fail.
-use Rattle.std.specs.Prelude.{ℕ, ◌-◌, min, List, [], ◌∷◌, ◌++◌, length, take, nat_eq, nat_lt, Bool, ◌||◌, if◌then◌else◌, Option, Some, None, is_some, unwrap_or}
+use Rattle.std.specs.Prelude.{ℕ, ◌≤◌, ◌-◌, min, List, [], ◌∷◌, ◌++◌, length, take, nat_eq, nat_lt, Bool, ◌||◌, if◌then◌else◌, Option, Some, None, is_some, unwrap_or}
 use Rattle.rag_io.specs.Outside.{one_fault_more}
-use Rattle.rag_io.specs.MemoryShelf.{next_call}
+use Rattle.rag_io.specs.MemoryShelf.{last_call, next_call}
 
 -- The bytes taken, how many there is room for, the calls that are to fail with the number of bytes after which they do, and how many
 -- calls and how many faults there were.
@@ -11,6 +11,12 @@ pub record SinkState : Type 0 where
   pub fails : List (ℕ × ℕ)
   pub calls : ℕ
   pub faults : ℕ
+
+-- The bytes taken are within the room, for which memory is reserved, and the number of calls is one that is kept.
+pub record HasRoom (taken room reserved calls : ℕ) : Type 0 where
+  pub within : taken ≤ room
+  pub kept : room ≤ reserved
+  pub counted : calls ≤ last_call
 
 -- after how many bytes a call is to fail
 abbrev pub stop_of : List (ℕ × ℕ) → ℕ → Option ℕ
