@@ -11,7 +11,7 @@ use Rattle.attr_types.specs.declared.rules.FirstEq.{FirstEq}
 use Rattle.attr_types.specs.declared.rules.Rules.{Rules}
 use Rattle.attr_types.specs.Expression.{expression_of}
 use Rattle.attr_types.specs.Items.{item_of, rules_in}
-use Rattle.attr_types.specs.Rules.{Item, Attribute, plain_attribute, attribute_of, declared_of, expression_in, equation_of, rules_of, attribute_at, attribute_named, body_at, equation_number}
+use Rattle.attr_types.specs.Rules.{Attribute, plain_attribute, attribute_of, declared_of, expression_in, equation_of, rules_of, attribute_at, attribute_named, body_at, equation_number}
 use Rattle.attr_types.proofs.RuleSets.{length-attributes, length-equations, slice_get-attributes, slice_get-equations, where_of_class, equation_number-rules_of}
 
 -- one map behind another

@@ -2,8 +2,6 @@
 use Rattle.std.specs.Prelude.{map}
 use Rattle.attr_types.specs.declared.rules.FirstEq.{FirstEq}
 use Rattle.attr_types.specs.declared.rules.Rules.{Rules}
-use Rattle.attr_types.specs.declared.kinds.AttrId.{AttrId}
-use Rattle.attr_types.specs.declared.kinds.EqId.{EqId}
 use Rattle.attr_types.specs.Expression.{expression_of}
 use Rattle.attr_types.specs.Rules.{Item, RuleSet, rules_of}
 

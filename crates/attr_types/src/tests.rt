@@ -1,3 +1,8 @@
+ghost use Rattle.std.specs.Prelude.{◌≡◌, map, IfOk};
+ghost use Rattle.attr_types.specs.Rules.{AreItems};
+ghost use Rattle.attr_types.specs.Items.{item_of};
+ghost use Rattle.attr_types.specs.Expression.{expression_of};
+
 use super::*;
 use ast_grammar::{ClassId, Grammar, read_first};
 use rag_io::scan;
@@ -67,5 +72,54 @@ fn expressions_have_types(rt: HostRuntime) -> Result<(), Fail> {
     for (expression, kind) in &cases {
         assert_eq!(rt; expression.constant_kind(), *kind, "{expression:?}");
     }
+    Ok(())
+}
+
+fn item(
+    alloc: Global,
+    class: u16,
+    name: &str,
+    kind: Kind,
+    body: TExpr,
+) -> Result<FirstEq, AllocError>
+    ensures { IfOk result (λ i. item_of i ≡ record { class = record { 0 = class }; name = name.now; kind = kind; body = expression_of body }) }
+{
+    let bytes = Vec::from_slice(alloc, name.as_bytes())?;
+    Ok(FirstEq {
+        class: ClassId(class),
+        name: Name::of(bytes),
+        kind,
+        body,
+    })
+}
+
+// One attribute of two classes.
+fn two_items(alloc: Global) -> Result<Vec<FirstEq>, Fail>
+    ensures { IfOk result (λ list. AreItems 2 (map item_of list.items)) }
+{
+    let mut list = Vec::new(alloc);
+    list.push(item(alloc, 0, "v", Kind::Int, TExpr::Int(7))?)?;
+    list.push(item(alloc, 1, "v", Kind::Truth, TExpr::Truth(true))?)?;
+    Ok(list)
+}
+
+#[test]
+fn rules_answer(rt: HostRuntime) -> Result<(), Fail> {
+    let alloc = rt.alloc();
+    let tokens = scan(alloc, b"A; B;".as_slice())?;
+    let grammar = read_first(alloc, &tokens)?.ok_or("no grammar")?;
+    assert_eq!(rt; grammar.classes(), 2);
+    let rules = Rules::of_equations(alloc, &grammar, two_items(alloc)?)?;
+    assert_eq!(rt; rules.attrs(), 2);
+    assert_eq!(rt; rules.equations(), 2);
+    assert_eq!(rt; rules.attr(AttrId(1)).kind, Kind::Truth);
+    assert_eq!(rt; rules.body(EqId(0)).constant_kind(), Some(Kind::Int));
+    assert_eq!(rt;
+        rules.find(&grammar, ClassId(1), b"v".as_slice()),
+        Some(AttrId(1))
+    );
+    assert_eq!(rt; rules.find(&grammar, ClassId(1), b"w".as_slice()), None);
+    assert_eq!(rt; rules.syn_equation(ClassId(1), AttrId(1)), Some(EqId(1)));
+    assert_eq!(rt; rules.syn_equation(ClassId(0), AttrId(1)), None);
     Ok(())
 }
