@@ -1,9 +1,13 @@
+pub mod Answering
 pub mod Equations
 pub mod Meaning
 pub mod Named
 pub mod Names
+pub mod Places
 pub mod Program
 pub mod Sets
+pub mod Sites
+pub mod Steps
 pub mod Systems
 pub mod Trees
 pub mod Values

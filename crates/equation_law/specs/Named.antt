@@ -9,7 +9,8 @@ use Rattle.equation_law.specs.declared.values.PlainValue.{PlainValue}
 use Rattle.equation_law.specs.declared.values.PlainValue.TheVariants as plain
 use Rattle.equation_law.specs.declared.values.NamedValue.{NamedValue}
 use Rattle.equation_law.specs.declared.rounds.Table.{Table}
-use Rattle.equation_law.specs.Names.{Instance, Query, Null, At, Source, same_instance}
+use Rattle.equation_law.specs.Names.{Instance, Query, Reference, Null, At, Source, same_instance}
+use Rattle.equation_law.specs.Sets.{no_elements}
 use Rattle.equation_law.specs.Values.{Value, Truth, Int, Text, Node, Texts, Nodes}
 use Rattle.equation_law.specs.Program.{Program, at_source}
 use Rattle.equation_law.specs.Equations.{equations_of}
@@ -26,6 +27,14 @@ value_of (plain.Truth b) = Truth b
 value_of (plain.Int z) = Int z
 value_of plain.Null = Node Null
 value_of (plain.Node n) = Node (At (Source n))
+value_of plain.EmptyText = Text []
+value_of plain.NoTexts = Texts no_elements
+value_of plain.NoNodes = Nodes no_elements
+
+-- a source node by its number, or null
+abbrev pub reference_of : Option ℕ → Reference
+reference_of None = Null
+reference_of (Some n) = At (Source n)
 
 abbrev pub value_in : NamedValue → Value
 value_in v = value_of v.value

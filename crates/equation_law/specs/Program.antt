@@ -25,6 +25,9 @@ pub record IsTree (nodes : List Node) : Type 0 where
   pub root : ClassId
   pub is : nodes ≡ lone root
 
+abbrev pub most_nodes : ℕ
+most_nodes = 65536
+
 pub record Program : Type 0 where
   pub grammar : List Class
   pub rules : RuleSet

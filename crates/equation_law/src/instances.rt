@@ -1,9 +1,7 @@
 // Instances by their structural names, and lists of them.
-ghost use Rattle.std.specs.Prelude.{◌≡◌, IfOk, length};
-ghost use Rattle.equation_law.specs.Program.{source_instances};
-ghost use Rattle.equation_law.specs.Systems.{program_of};
-ghost use Rattle.equation_law.specs.Named.{instances_in};
+ghost use Rattle.std.specs.Prelude.{◌≡◌, ◌<◌, ◌^◌, IfOk, length};
 
+use crate::listing::{push_attributes, push_queries};
 use crate::system::System;
 use attr_types::AttrId;
 use rag_io::Memory;
@@ -20,15 +18,23 @@ pub enum NamedInstance {
 #[derive(Drop)]
 pub struct NameList {
     names: Vec<NamedInstance>,
+    ghost few: { length names.items < 2 ^ 32 },
 }
 
 impl NameList {
+    ghost use Rattle.equation_law.specs.Program.{source_instances};
+    ghost use Rattle.equation_law.specs.Systems.{program_of};
+    ghost use Rattle.equation_law.specs.Named.{instances_in};
+
     /// The attribute instances without arguments at source nodes, attribute by attribute and in each by node,
     /// then the queries.
     pub fn of_source(alloc: Global, system: &System) -> Result<NameList, Memory>
         ensures { IfOk result (λ names. instances_in names ≡ source_instances (program_of system.now)) }
     {
-        Err(Memory)
+        let mut names = Vec::new(alloc);
+        push_attributes(&mut names, system)?;
+        push_queries(&mut names, system)?;
+        Ok(NameList { names })
     }
 
     /// The number of instances.
@@ -36,5 +42,12 @@ impl NameList {
         ensures { result ≡ length (instances_in self.now) }
     {
         self.names.len() as u32
+    }
+
+    /// The instances.
+    pub(crate) fn list(&self) -> &[NamedInstance]
+        ensures { result.now ≡ self.now.names.items }
+    {
+        self.names.as_slice()
     }
 }

@@ -3,15 +3,20 @@
 #![tactic(auto)]
 
 mod evaluation;
+mod growing;
 mod instances;
 mod laws;
+mod listing;
+mod places;
+mod query_types;
 mod rounds;
+mod sites;
 mod system;
 mod tree;
 mod values;
 
 pub use instances::NameList;
-pub use laws::{ended_has_value, one_solution};
+pub use laws::{ended_has_value, finished_rounds, one_solution, stuck_has_none};
 pub use rounds::{Table, plain_rounds};
 pub use system::{Queries, System};
 pub use tree::{FirstNode, Tokens, Tree};

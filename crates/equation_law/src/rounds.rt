@@ -1,9 +1,17 @@
 // The rounds of the model over a list of instances.
-ghost use Rattle.std.specs.Prelude.{◌≡◌, IfOk, MatchOption, Some, None};
+ghost use Rattle.std.specs.Prelude.{◌≡◌, IfOk, MatchOption, Some, None, count_by, is_none, length, map, replicate};
+ghost use Rattle.solutions.specs.Asking.{run};
+ghost use Rattle.equation_law.specs.Names.{Instance};
+ghost use Rattle.equation_law.specs.Equations.{equations_of};
 ghost use Rattle.equation_law.specs.Systems.{program_of};
-ghost use Rattle.equation_law.specs.Named.{instances_in, values_in, value_in, value_at, Solves};
+ghost use Rattle.equation_law.specs.Named.{instance_of, instances_in, value_in, value_at, Solves};
+ghost use Rattle.equation_law.specs.Places.{place_in, kept_place, found};
+ghost use Rattle.equation_law.specs.Steps.{IsStep, IsRound};
 
-use crate::instances::NameList;
+use crate::growing::push;
+use crate::instances::{NameList, NamedInstance};
+use crate::places::Places;
+use crate::sites::equation_value;
 use crate::system::System;
 use crate::values::NamedValue;
 use rag_io::Memory;
@@ -28,6 +36,62 @@ impl Table {
     }
 }
 
+/// The value that one more round leaves an instance: the one that stands, or that of its equation.
+fn stepped(
+    system: &System,
+    places: &Places,
+    values: &[Option<NamedValue>],
+    name: NamedInstance,
+    value: Option<NamedValue>,
+) -> Option<NamedValue>
+    ensures { IsStep value result (run (found places.now.map values.now) ((equations_of (program_of system.now)).equation (instance_of name))) }
+{
+    match value {
+        Some(held) => Some(held),
+        None => equation_value(system, places, values, name),
+    }
+}
+
+/// One round over all names.
+fn round(
+    alloc: Global,
+    system: &System,
+    names: &[NamedInstance],
+    places: &Places,
+    values: &[Option<NamedValue>],
+) -> Result<Vec<Option<NamedValue>>, Memory>
+    requires long { length values.now ≡ length names.now }
+    requires places { (i : Instance) → kept_place places.now.map i ≡ place_in (map instance_of names.now) i }
+    ensures long { IfOk result (λ next. length next.items ≡ length names.now) }
+    ensures round { IfOk result (λ next. IsRound (program_of system.now) names.now values.now next.items) }
+{
+    let mut next = Vec::with_capacity(alloc, names.len()).map_err(|_| Memory)?;
+    for (i, name) in names.iter().enumerate() {
+        let value = stepped(system, places, values, *name, values[i]);
+        push(&mut next, value)?;
+    }
+    Ok(next)
+}
+
+/// How many names have no value.
+fn missing(values: &[Option<NamedValue>]) -> usize
+    ensures { result ≡ count_by is_none values.now }
+{
+    values.iter().filter(|value| value.is_none()).count()
+}
+
+/// No value for any name.
+fn nothing(alloc: Global, count: usize) -> Result<Vec<Option<NamedValue>>, Memory>
+    ensures { IfOk result (λ v. v.items ≡ replicate count None) }
+{
+    let mut values = Vec::with_capacity(alloc, count).map_err(|_| Memory)?;
+    for i in 0..count {
+        let _turn = i;
+        push(&mut values, None)?;
+    }
+    Ok(values)
+}
+
 /// Runs the rounds over the instances until nothing is added: each round gives each instance that has no value
 /// yet the value of its equation, where that isn't stuck under the values of the round before. It is the slow
 /// definition in executable form: a round takes time linear in the list and the expressions, and there are at
@@ -35,5 +99,17 @@ impl Table {
 pub fn plain_rounds(alloc: Global, system: &System, names: &NameList) -> Result<Table, Memory>
     ensures { IfOk result (λ table. Solves (program_of system.now) (instances_in names.now) table) }
 {
-    Err(Memory)
+    let names = names.list();
+    let places = Places::of_names(alloc, names)?;
+    let mut values = nothing(alloc, names.len())?;
+    let mut left = missing(&values);
+    loop {
+        let next = round(alloc, system, names, &places, &values)?;
+        let now = missing(&next);
+        if now >= left {
+            return Ok(Table { values: next });
+        }
+        values = next;
+        left = now;
+    }
 }

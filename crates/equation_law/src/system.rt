@@ -37,6 +37,7 @@ pub struct System {
     ghost few: { length queries.list.items ≤ most_replies },
 }
 
+#[tactic(auto, unfolding(crate::specs::Systems::program_of))]
 impl System {
     ghost use Rattle.equation_law.specs.Systems.{program_of, queries_in};
 
@@ -85,7 +86,8 @@ impl System {
 
     /// The number of queries.
     pub fn replies(&self) -> u32
-        ensures { result ≡ length (program_of self.now).queries }
+        ensures number { result ≡ length (program_of self.now).queries }
+        ensures few { result ≤ most_replies }
     {
         self.queries.list.len() as u32
     }

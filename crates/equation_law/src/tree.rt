@@ -1,7 +1,7 @@
 // Source trees.
-ghost use Rattle.std.specs.Prelude.{◌≡◌, ◌<◌, Some, IfOk, length, map, slice_get};
+ghost use Rattle.std.specs.Prelude.{◌≡◌, ◌<◌, ◌≤◌, Some, IfOk, length, map, slice_get};
 ghost use Rattle.std.specs.Option.{option_map};
-ghost use Rattle.equation_law.specs.Program.{IsTree};
+ghost use Rattle.equation_law.specs.Program.{IsTree, most_nodes};
 ghost use Rattle.equation_law.specs.Trees.{node_of};
 
 use ast_grammar::ClassId;
@@ -80,7 +80,8 @@ impl Tree {
 
     /// The number of nodes.
     pub fn len(&self) -> u32
-        ensures { result ≡ length self.now }
+        ensures number { result ≡ length self.now }
+        ensures few { result ≤ most_nodes }
     {
         self.nodes.len() as u32
     }

@@ -1,17 +1,21 @@
 // Values by their structural names.
 ghost use Rattle.std.specs.Prelude.{◌≡◌, pos, Some, None, MatchOption};
-ghost use Rattle.equation_law.specs.Values.{Value, Truth, Int, Node, as_kind, default_of, truth, int};
-ghost use Rattle.equation_law.specs.Named.{value_of, value_in, IsNoTruth, IsNoInt};
+ghost use Rattle.equation_law.specs.Values.{Value, Truth, Int, Node, as_kind, default_of, truth, int, node};
+ghost use Rattle.equation_law.specs.Named.{value_of, value_in, reference_of, IsNoTruth, IsNoInt};
 
 use attr_types::Kind;
 
-/// A value as an expression meets it: a truth value, an integer, null, or a source node.
+/// A value as an expression meets it: a truth value, an integer, null, or a source node. Of texts and of sets
+/// there are only the empty ones so far, as defaults.
 #[derive(Clone, Copy, Debug, PartialEq, Eq)]
 pub enum PlainValue {
     Truth(bool),
     Int(i32),
     Null,
     Node(u32),
+    EmptyText,
+    NoTexts,
+    NoNodes,
 }
 
 impl PlainValue {
@@ -21,7 +25,7 @@ impl PlainValue {
     {
         match self {
             PlainValue::Truth(b) => b,
-            PlainValue::Int(_) | PlainValue::Null | PlainValue::Node(_) => false,
+            _ => false,
         }
     }
 
@@ -31,7 +35,49 @@ impl PlainValue {
     {
         match self {
             PlainValue::Int(z) => z,
-            PlainValue::Truth(_) | PlainValue::Null | PlainValue::Node(_) => 0,
+            _ => 0,
+        }
+    }
+
+    /// The source node; of null and of a value of another type, none.
+    pub fn node(self) -> Option<u32>
+        ensures { reference_of result ≡ node (value_of self) }
+    {
+        match self {
+            PlainValue::Node(n) => Some(n),
+            _ => None,
+        }
+    }
+
+    /// The value read at a type: a value of another type reads as the type's default.
+    #[tactic(auto, using(crate::proofs::Reading::text_empty, crate::proofs::Reading::texts_empty, crate::proofs::Reading::nodes_empty))]
+    pub fn read_as(self, kind: Kind) -> PlainValue
+        ensures { value_of result ≡ as_kind kind (value_of self) }
+    {
+        match kind {
+            Kind::Truth => PlainValue::Truth(self.truth()),
+            Kind::Int => PlainValue::Int(self.int()),
+            Kind::Text => PlainValue::EmptyText,
+            Kind::Node(_) => match self.node() {
+                Some(n) => PlainValue::Node(n),
+                None => PlainValue::Null,
+            },
+            Kind::Texts => PlainValue::NoTexts,
+            Kind::Nodes(_) => PlainValue::NoNodes,
+        }
+    }
+
+    /// The default of a type.
+    pub fn default_of(kind: Kind) -> PlainValue
+        ensures { value_of result ≡ default_of kind }
+    {
+        match kind {
+            Kind::Truth => PlainValue::Truth(false),
+            Kind::Int => PlainValue::Int(0),
+            Kind::Text => PlainValue::EmptyText,
+            Kind::Node(_) => PlainValue::Null,
+            Kind::Texts => PlainValue::NoTexts,
+            Kind::Nodes(_) => PlainValue::NoNodes,
         }
     }
 }
@@ -39,7 +85,7 @@ impl PlainValue {
 /// A value with structural names of nodes.
 #[derive(Clone, Copy, Debug, PartialEq, Eq)]
 pub struct NamedValue {
-    value: PlainValue,
+    pub(crate) value: PlainValue,
 }
 
 impl NamedValue {

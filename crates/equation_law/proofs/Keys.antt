@@ -1,0 +1,146 @@
+-- A map by names is one by instances.
+use Rattle.std.proofs.Common.{◌≡◌, ℕ, suc, ◌+◌, Bool, true, false, cond, ◌&&◌, List, [], ◌∷◌, ◌++◌, length, Option, Some, None, is_some, refl, sym, ap, subst, ◌∙◌, eqb, arith, map, take, get_or, ◌<◌}
+use Rattle.std.proofs.lemmas.List.{length-map, length-take, take_more, map-append}
+use Rattle.std.specs.Option.{option_map}
+use Rattle.std.specs.Map.{lookup}
+use Rattle.std.specs.HashMap.{HashMap, get, get_by, Updates}
+use Rattle.std.proofs.lemmas.Bool.{eqb-true, eq-eqb}
+use Rattle.attr_types.specs.declared.kinds.AttrId.{AttrId}
+use Rattle.solutions.specs.Rounds.{or_else}
+use Rattle.equation_law.specs.declared.instances.NamedInstance.{NamedInstance}
+use Rattle.equation_law.specs.declared.instances.NamedInstance.TheVariants as named
+use Rattle.equation_law.specs.contracts.instances.NamedInstancePartialEq.TheImpl as equality
+use Rattle.equation_law.specs.Names.{Instance, Attribute, Query, Reference, Null, At, NodeName, Source, Arguments, NoArguments, same_instance}
+use Rattle.equation_law.specs.Named.{instance_of}
+use Rattle.equation_law.specs.Program.{at_source}
+use Rattle.equation_law.specs.Places.{place_in, kept_place}
+use Rattle.equation_law.proofs.Names.{same_instance_is, same_instance_self}
+
+both_ways : (a b : Bool) → (a ≡ true → b ≡ true) → (b ≡ true → a ≡ true) → a ≡ b
+both_ways true b f g = sym (f refl)
+both_ways false true f g = g refl
+both_ways false false f g = refl
+
+same_as : (i j : Instance) → i ≡ j → same_instance i j ≡ true
+same_as i j e = subst (λ x. same_instance i x ≡ true) e (same_instance_self i)
+
+pub same_turned : (i j : Instance) → same_instance i j ≡ same_instance j i
+same_turned i j = both_ways (same_instance i j) (same_instance j i) (λ e. same_as j i (sym (same_instance_is i j e))) (λ e. same_as i j (sym (same_instance_is j i e)))
+
+both_equal : (a b n m : ℕ) → (eqb a b && eqb n m) ≡ true → (a ≡ b) × (n ≡ m)
+both_equal a b n m e =
+    elim (eqb a b) as (λ x. eqb a b ≡ x → (x && eqb n m) ≡ true → (a ≡ b) × (n ≡ m)) [
+      | true ↦ λ h g. (eqb-true a b h, eqb-true n m g)
+      | false ↦ λ h g. cc
+    ] refl e
+
+equal_both : (a b n m : ℕ) → a ≡ b → n ≡ m → (eqb a b && eqb n m) ≡ true
+equal_both a b n m e f = ap (λ x. x && eqb n m) (eq-eqb a b e) ∙ eq-eqb n m f
+
+same_attribute : (a b n m : ℕ) → (eqb a b && eqb n m) ≡ same_instance (at_source a n) (at_source b m)
+same_attribute a b n m =
+    both_ways (eqb a b && eqb n m) (same_instance (at_source a n) (at_source b m))
+    (λ e.
+      let h = both_equal a b n m e in
+      let f = h.0 in
+      let g = h.1 in
+      let i : at_source a n ≡ at_source b m = cc in
+      same_as (at_source a n) (at_source b m) i
+    )
+    (λ e.
+      let h = same_instance_is (at_source a n) (at_source b m) e in
+      let f : a ≡ b = cc in
+      let g : n ≡ m = cc in
+      equal_both a b n m f g
+    )
+
+same_query : (p q : ℕ) → eqb p q ≡ same_instance (Query p) (Query q)
+same_query p q =
+    both_ways (eqb p q) (same_instance (Query p) (Query q))
+    (λ e. same_as (Query p) (Query q) (ap Query (eqb-true p q e)))
+    (λ e.
+      let h = same_instance_is (Query p) (Query q) e in
+      let f : p ≡ q = cc in
+      eq-eqb p q f
+    )
+
+-- two names are equal where they stand for one instance
+key_same : (a b : NamedInstance) → equality.ghosts.eq a b ≡ same_instance (instance_of a) (instance_of b)
+key_same (named.Attribute a n) (named.Attribute b m) = same_attribute a.0 b.0 n m
+key_same (named.Attribute a n) (named.Query q) = refl
+key_same (named.Query p) (named.Attribute b m) = refl
+key_same (named.Query p) (named.Query q) = same_query p q
+
+-- an attribute at null has no name
+unnamed_apart : (a : ℕ) (n : NamedInstance) → same_instance (Attribute a Null NoArguments) (instance_of n) ≡ false
+unnamed_apart a (named.Attribute b m) = refl
+unnamed_apart a (named.Query q) = refl
+
+unnamed : (a : ℕ) (es : List (NamedInstance × ℕ)) → lookup (λ n. same_instance (Attribute a Null NoArguments) (instance_of n)) es ≡ None
+unnamed a [] = refl
+unnamed a (e ∷ es) = ap (λ b. cond b (Some e.1) (lookup (λ n. same_instance (Attribute a Null NoArguments) (instance_of n)) es)) (unnamed_apart a e.0) ∙ unnamed a es
+
+or_none : {V : Type 0} (o : Option V) → o ≡ or_else o None
+or_none None = refl
+or_none (Some v) = refl
+
+module _ {S : Type 0} where
+  pub by_name : (m : HashMap NamedInstance ℕ S) (q : NamedInstance) → get_by (equality.ghosts.eq q) m ≡ kept_place m (instance_of q)
+  by_name m q = ap (λ (t : NamedInstance → Bool). get_by t m) (λ t x. key_same q x t)
+
+  pub not_kept : (m : HashMap NamedInstance ℕ S) (q : NamedInstance) (b : Bool) → b ≡ is_some (get_by (equality.ghosts.eq q) m) → b ≡ false → kept_place m (instance_of q) ≡ None
+  not_kept m q b e f = sym (by_name m q) ∙ nothing (get_by (equality.ghosts.eq q) m) (sym e ∙ f)
+    where
+      nothing : (o : Option ℕ) → is_some o ≡ false → o ≡ None
+      nothing None g = refl
+      nothing (Some x) g = cc
+
+  put : (m : HashMap NamedInstance ℕ S) (j i : Instance) (k : ℕ) (o : Option ℕ) → kept_place m j ≡ None → o ≡ cond (same_instance j i) (Some k) (kept_place m i) → o ≡ or_else (kept_place m i) (cond (same_instance i j) (Some k) None)
+  put m j i k o h e =
+      elim (same_instance i j) as (λ b. same_instance i j ≡ b → o ≡ or_else (kept_place m i) (cond b (Some k) None)) [
+        | true ↦ λ s.
+            let f : kept_place m i ≡ None = ap (kept_place m) (same_instance_is i j s) ∙ h in
+            let t : same_instance j i ≡ true = same_turned j i ∙ s in
+            e ∙ ap (λ b. cond b (Some k) (kept_place m i)) t ∙ sym (ap (λ x. or_else x (Some k)) f)
+        | false ↦ λ s.
+            let t : same_instance j i ≡ false = same_turned j i ∙ s in
+            e ∙ ap (λ b. cond b (Some k) (kept_place m i)) t ∙ or_none (kept_place m i)
+      ] refl
+
+  named_put : (m n : HashMap NamedInstance ℕ S) (j q : NamedInstance) (k : ℕ) → kept_place m (instance_of j) ≡ None → Updates equality.ghosts.eq m n j (Some k) → kept_place n (instance_of q) ≡ or_else (kept_place m (instance_of q)) (cond (same_instance (instance_of q) (instance_of j)) (Some k) None)
+  named_put m n j q k h u =
+      put m (instance_of j) (instance_of q) k (kept_place n (instance_of q)) h
+      (sym (by_name n q) ∙ u.0 q ∙ ap (λ b. cond b (Some k) (get_by (equality.ghosts.eq q) m)) (key_same j q) ∙ ap (λ o. cond (same_instance (instance_of j) (instance_of q)) (Some k) o) (by_name m q))
+
+  -- the place that is put is kept
+  pub kept_now : (m n : HashMap NamedInstance ℕ S) (j : NamedInstance) (k : ℕ) → kept_place m (instance_of j) ≡ None → Updates equality.ghosts.eq m n j (Some k) → (i : Instance) → kept_place n i ≡ or_else (kept_place m i) (cond (same_instance i (instance_of j)) (Some k) None)
+  kept_now m n j k h u (Attribute a Null NoArguments) =
+      unnamed a n.entries ∙ sym (ap (λ b. cond b (Some k) None) (unnamed_apart a j)) ∙ sym (ap (λ o. or_else o (cond (same_instance (Attribute a Null NoArguments) (instance_of j)) (Some k) None)) (unnamed a m.entries))
+  kept_now m n j k h u (Attribute a (At (Source s)) NoArguments) = named_put m n j (named.Attribute (record { 0 = a }) s) k h u
+  kept_now m n j k h u (Query q) = named_put m n j (named.Query q) k h u
+
+-- one name more at the end
+place_more : (names : List Instance) (j i : Instance) → place_in (names ++ j ∷ []) i ≡ or_else (place_in names i) (cond (same_instance i j) (Some (length names)) None)
+place_more [] j i = refl
+place_more (l ∷ names) j i =
+    elim (same_instance i l) as (λ b. cond b (Some 0) (option_map suc (place_in (names ++ j ∷ []) i)) ≡ or_else (cond b (Some 0) (option_map suc (place_in names i))) (cond (same_instance i j) (Some (length (l ∷ names))) None)) [
+      | true ↦ refl
+      | false ↦ ap (option_map suc) (place_more names j i) ∙ later (place_in names i) (same_instance i j)
+    ]
+  where
+    later : (o : Option ℕ) (b : Bool) → option_map suc (or_else o (cond b (Some (length names)) None)) ≡ or_else (option_map suc o) (cond b (Some (length (l ∷ names))) None)
+    later None true = refl
+    later None false = refl
+    later (Some x) b = refl
+
+-- the same through the first so many names
+place_next : (names : List NamedInstance) (k : ℕ) (d : NamedInstance) → k < length names → (i : Instance) → place_in (map instance_of (take (k + 1) names)) i ≡ or_else (place_in (map instance_of (take k names)) i) (cond (same_instance i (instance_of (get_or names k d))) (Some k) None)
+place_next names k d h i =
+    let l : length (map instance_of (take k names)) ≡ k = omega (arith, length-map (take k names) instance_of, length-take k names) in
+    let m = place_more (map instance_of (take k names)) (instance_of (get_or names k d)) i in
+    ap (λ xs. place_in (map instance_of xs) i) (take_more names k d h) ∙ ap (λ xs. place_in xs i) (map-append instance_of (take k names) (get_or names k d ∷ [])) ∙ subst (λ (n : ℕ). place_in (map instance_of (take k names) ++ instance_of (get_or names k d) ∷ []) i ≡ or_else (place_in (map instance_of (take k names)) i) (cond (same_instance i (instance_of (get_or names k d))) (Some n) None)) l m
+
+-- a map that has the places in the first so many names, and the next one too
+pub next_kept : (names : List NamedInstance) (k : ℕ) (d : NamedInstance) (f g : Instance → Option ℕ) → k < length names → ((i : Instance) → f i ≡ place_in (map instance_of (take k names)) i) → ((i : Instance) → g i ≡ or_else (f i) (cond (same_instance i (instance_of (get_or names k d))) (Some k) None)) → (i : Instance) → g i ≡ place_in (map instance_of (take (k + 1) names)) i
+next_kept names k d f g h before here i =
+    here i ∙ ap (λ o. or_else o (cond (same_instance i (instance_of (get_or names k d))) (Some k) None)) (before i) ∙ sym (place_next names k d h i)

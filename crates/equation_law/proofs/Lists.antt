@@ -1,0 +1,61 @@
+-- One instance more, or those of one attribute more, in a list of instances.
+use Rattle.std.proofs.Common.{◌≡◌, ℕ, suc, ◌+◌, ◌<◌, Bool, true, false, cond, eqb, List, [], ◌∷◌, ◌++◌, append_assoc, add-one, drop, drop-cons, get_or, length, map, Option, Some, None, refl, sym, ap, subst, ◌∙◌, slice_get}
+use Rattle.std.specs.Option.{option_map}
+use Rattle.std.proofs.lemmas.List.{map-append}
+use Rattle.std.proofs.lemmas.Option.{get_or_from_slice_get, slice_get-get_or, slice_get_within}
+use Rattle.ast_grammar.specs.declared.grammar.ClassId.{ClassId}
+use Rattle.attr_types.specs.declared.kinds.Attr.{Attr}
+use Rattle.attr_types.specs.Expression.{Expression, Truth}
+use Rattle.attr_types.specs.Rules.{Attribute as DeclaredAttribute}
+use Rattle.equation_law.specs.declared.instances.NamedInstance.{NamedInstance}
+use Rattle.equation_law.specs.declared.instances.NamedInstance.TheVariants as named
+use Rattle.equation_law.specs.Names.{Instance, Query}
+use Rattle.equation_law.specs.Named.{instance_of}
+use Rattle.equation_law.specs.Program.{Node, at_source, attribute_instances, nodes_of, query_instances}
+
+drop_at : {A : Type 0} (xs : List A) (k : ℕ) (x : A) → slice_get xs k ≡ Some x → drop k xs ≡ x ∷ drop (k + 1) xs
+drop_at xs k x e =
+    drop-cons xs k x (slice_get_within xs k x e) ∙ ap (λ y. y ∷ drop (suc k) xs) (get_or_from_slice_get xs k x x e) ∙ ap (λ j. x ∷ drop j xs) (sym (add-one k))
+
+pub some_of : {A B : Type 0} (f : A → B) (o : Option A) (y : B) → option_map f o ≡ Some y → (x : A) × (o ≡ Some x) × (f x ≡ y)
+some_of f None y e = cc
+some_of f (Some x) y e = (x, refl, cc)
+
+-- one instance more in front of the rest
+one_more : (xs ys : List NamedInstance) (n : NamedInstance) (rest : List Instance) → ys ≡ xs ++ n ∷ [] → map instance_of ys ++ rest ≡ map instance_of xs ++ instance_of n ∷ rest
+one_more xs ys n rest e =
+    ap (λ zs. map instance_of zs ++ rest) e ∙ ap (λ zs. zs ++ rest) (map-append instance_of xs (n ∷ [])) ∙ append_assoc (map instance_of xs) (instance_of n ∷ []) rest
+
+pub query_listed : (xs ys : List NamedInstance) (qs : List Expression) (k : ℕ) (all : List Instance) → k < length qs → ys ≡ xs ++ named.Query k ∷ [] → map instance_of xs ++ query_instances (drop k qs) k ≡ all → map instance_of ys ++ query_instances (drop (k + 1) qs) (k + 1) ≡ all
+query_listed xs ys qs k all h e i =
+    let d = drop_at qs k (get_or qs k (Truth false)) (slice_get-get_or qs k (Truth false) h) in
+    let r : query_instances (drop k qs) k ≡ Query k ∷ query_instances (drop (k + 1) qs) (k + 1) = ap (λ zs. query_instances zs k) d ∙ ap (λ j. Query k ∷ query_instances (drop (k + 1) qs) j) (sym (add-one k)) in
+    one_more xs ys (named.Query k) (query_instances (drop (k + 1) qs) (k + 1)) e ∙ ap (λ zs. map instance_of xs ++ zs) (sym r) ∙ i
+
+module _ (tree : List Node) (class : ClassId) where
+  nodes_from : (k : ℕ) (c : ClassId) → option_map (λ (x : Node). x.class) (slice_get tree k) ≡ Some c → nodes_of (drop k tree) class k ≡ cond (eqb c.0 class.0) (k ∷ nodes_of (drop (k + 1) tree) class (k + 1)) (nodes_of (drop (k + 1) tree) class (k + 1))
+  nodes_from k c e =
+      let s = some_of (λ (x : Node). x.class) (slice_get tree k) c e in
+      ap (λ zs. nodes_of zs class k) (drop_at tree k s.0 s.1) ∙ ap (λ j. cond (eqb s.0.class.0 class.0) (k ∷ nodes_of (drop (k + 1) tree) class j) (nodes_of (drop (k + 1) tree) class j)) (sym (add-one k)) ∙ ap (λ (x : ClassId). cond (eqb x.0 class.0) (k ∷ nodes_of (drop (k + 1) tree) class (k + 1)) (nodes_of (drop (k + 1) tree) class (k + 1))) s.2
+
+  chosen : (k : ℕ) (c : ClassId) (b : Bool) → eqb c.0 class.0 ≡ b → option_map (λ (x : Node). x.class) (slice_get tree k) ≡ Some c → nodes_of (drop k tree) class k ≡ cond b (k ∷ nodes_of (drop (k + 1) tree) class (k + 1)) (nodes_of (drop (k + 1) tree) class (k + 1))
+  chosen k c b h e = nodes_from k c e ∙ ap (λ x. cond x (k ∷ nodes_of (drop (k + 1) tree) class (k + 1)) (nodes_of (drop (k + 1) tree) class (k + 1))) h
+
+  -- a node of the class
+  pub node_listed : (xs ys : List NamedInstance) (n : NamedInstance) (a k : ℕ) (c : ClassId) (all : List Instance) → instance_of n ≡ at_source a k → eqb c.0 class.0 ≡ true → option_map (λ (x : Node). x.class) (slice_get tree k) ≡ Some c → ys ≡ xs ++ n ∷ [] → map instance_of xs ++ map (at_source a) (nodes_of (drop k tree) class k) ≡ all → map instance_of ys ++ map (at_source a) (nodes_of (drop (k + 1) tree) class (k + 1)) ≡ all
+  node_listed xs ys n a k c all m h e p i =
+      one_more xs ys n (map (at_source a) (nodes_of (drop (k + 1) tree) class (k + 1))) p ∙ ap (λ z. map instance_of xs ++ z ∷ map (at_source a) (nodes_of (drop (k + 1) tree) class (k + 1))) m ∙ ap (λ zs. map instance_of xs ++ map (at_source a) zs) (sym (chosen k c true h e)) ∙ i
+
+  -- and one of another class
+  pub node_passed : (xs : List NamedInstance) (a k : ℕ) (c : ClassId) (all : List Instance) → eqb c.0 class.0 ≡ false → option_map (λ (x : Node). x.class) (slice_get tree k) ≡ Some c → map instance_of xs ++ map (at_source a) (nodes_of (drop k tree) class k) ≡ all → map instance_of xs ++ map (at_source a) (nodes_of (drop (k + 1) tree) class (k + 1)) ≡ all
+  node_passed xs a k c all h e i = ap (λ zs. map instance_of xs ++ map (at_source a) zs) (sym (chosen k c false h e)) ∙ i
+
+-- the instances of one attribute more
+pub attribute_listed : (xs ys : List NamedInstance) (attributes : List DeclaredAttribute) (tree : List Node) (k : ℕ) (a : Attr) (all : List Instance) → option_map (λ (x : DeclaredAttribute). x.declared) (slice_get attributes k) ≡ Some a → map instance_of ys ≡ map instance_of xs ++ map (at_source k) (nodes_of tree a.class 0) → map instance_of xs ++ attribute_instances (drop k attributes) k tree ≡ all → map instance_of ys ++ attribute_instances (drop (k + 1) attributes) (k + 1) tree ≡ all
+attribute_listed xs ys attributes tree k a all e p i =
+    let s = some_of (λ (x : DeclaredAttribute). x.declared) (slice_get attributes k) a e in
+    let rest = attribute_instances (drop (k + 1) attributes) (k + 1) tree in
+    let r : attribute_instances (drop k attributes) k tree ≡ map (at_source k) (nodes_of tree a.class 0) ++ rest =
+      ap (λ zs. attribute_instances zs k tree) (drop_at attributes k s.0 s.1) ∙ ap (λ (x : Attr). map (at_source k) (nodes_of tree x.class 0) ++ attribute_instances (drop (k + 1) attributes) (suc k) tree) s.2 ∙ ap (λ j. map (at_source k) (nodes_of tree a.class 0) ++ attribute_instances (drop (k + 1) attributes) j tree) (sym (add-one k))
+    in
+    ap (λ zs. zs ++ rest) p ∙ append_assoc (map instance_of xs) (map (at_source k) (nodes_of tree a.class 0)) rest ∙ ap (λ zs. map instance_of xs ++ zs) (sym r) ∙ i

@@ -1,0 +1,84 @@
+-- What the forms' parts that were evaluated give.
+use Rattle.std.proofs.Common.{sym, ◌∙◌}
+use Rattle.equation_law.proofs.Forms.{said, boxed, thrown, call_stops, call_goes, not_stops, not_goes, negate_stops, negate_goes, binary_stops, binary_stops_right, binary_goes, and_stops, and_ends, and_stops_right, and_goes, or_stops, or_ends, or_stops_right, or_goes, if_stops, if_then, if_otherwise}
+use Rattle.equation_law.proofs.evaluation.+evaluate.Goals as goal
+
+pub returns-in_err-receiver-in-Call : goal.returns-in_err-receiver-in-Call
+returns-in_err-receiver-in-Call t c =
+    thrown c.from_residual.ensures (said c.in-Call.is (call_stops (boxed c.deref.ensures c.in_err-receiver-in-Call.ensures)))
+
+pub returns-in_ok-receiver-in-Call : goal.returns-in_ok-receiver-in-Call
+returns-in_ok-receiver-in-Call t c =
+    said c.in-Call.is (call_goes (boxed c.deref.ensures c.in_ok-receiver-in-Call.ensures) c.call.ensures)
+
+pub returns-then-not-truth : goal.returns-then-not-truth
+returns-then-not-truth t c =
+    said c.in-And.is (and_ends (boxed c.deref-in-And.ensures c.in_ok-evaluate-in-And.ensures) (sym c.truth-in-And.ensures ∙ c.if-not-truth.true))
+
+pub returns-in_err-value-in-Not : goal.returns-in_err-value-in-Not
+returns-in_err-value-in-Not t c =
+    thrown c.from_residual-in_err-value-in-Not.ensures (said c.in-Not.is (not_stops (boxed c.deref-in-Not.ensures c.in_err-value-in-Not.ensures)))
+
+pub returns-in_err-evaluate-in-Negate : goal.returns-in_err-evaluate-in-Negate
+returns-in_err-evaluate-in-Negate t c =
+    thrown c.from_residual-in_err-evaluate-in-Negate.ensures (said c.in-Negate.is (negate_stops (boxed c.deref-in-Negate.ensures c.in_err-evaluate-in-Negate.ensures)))
+
+pub returns-in_err-left-in-Binary : goal.returns-in_err-left-in-Binary
+returns-in_err-left-in-Binary t c =
+    thrown c.from_residual-in_err-left-in-Binary.ensures (said c.in-Binary.is (binary_stops (boxed c.deref-in-Binary.ensures c.in_err-left-in-Binary.ensures)))
+
+pub returns-in_err-right-in-Binary : goal.returns-in_err-right-in-Binary
+returns-in_err-right-in-Binary t c =
+    thrown c.from_residual-in_err-right-in-Binary.ensures (said c.in-Binary.is (binary_stops_right (boxed c.deref-in-Binary.ensures c.in_ok-left-in-Binary.ensures) (boxed c.deref-in-Binary-2.ensures c.in_err-right-in-Binary.ensures)))
+
+pub returns-in_err-evaluate-in-And : goal.returns-in_err-evaluate-in-And
+returns-in_err-evaluate-in-And t c =
+    thrown c.from_residual-in_err-evaluate-in-And.ensures (said c.in-And.is (and_stops (boxed c.deref-in-And.ensures c.in_err-evaluate-in-And.ensures)))
+
+pub returns-in_err-value-in-And : goal.returns-in_err-value-in-And
+returns-in_err-value-in-And t c =
+    thrown c.from_residual-in_err-value-in-And.ensures (said c.in-And.is (and_stops_right (boxed c.deref-in-And.ensures c.in_ok-evaluate-in-And.ensures) (sym c.truth-in-And.ensures ∙ c.if-not-truth.false) (boxed c.deref-in-And-2.ensures c.in_err-value-in-And.ensures)))
+
+pub returns-in_err-evaluate-in-Or : goal.returns-in_err-evaluate-in-Or
+returns-in_err-evaluate-in-Or t c =
+    thrown c.from_residual-in_err-evaluate-in-Or.ensures (said c.in-Or.is (or_stops (boxed c.deref-in-Or.ensures c.in_err-evaluate-in-Or.ensures)))
+
+pub returns-in_err-value-in-Or : goal.returns-in_err-value-in-Or
+returns-in_err-value-in-Or t c =
+    thrown c.from_residual-in_err-value-in-Or.ensures (said c.in-Or.is (or_stops_right (boxed c.deref-in-Or.ensures c.in_ok-evaluate-in-Or.ensures) (sym c.truth-in-Or.ensures ∙ c.if-truth.false) (boxed c.deref-in-Or-2.ensures c.in_err-value-in-Or.ensures)))
+
+pub returns-in_err-evaluate-in-If : goal.returns-in_err-evaluate-in-If
+returns-in_err-evaluate-in-If t c =
+    thrown c.from_residual-in_err-evaluate-in-If.ensures (said c.in-If.is (if_stops (boxed c.deref-in-If.ensures c.in_err-evaluate-in-If.ensures)))
+
+pub returns-in_ok-value-in-Not : goal.returns-in_ok-value-in-Not
+returns-in_ok-value-in-Not t c =
+    said c.in-Not.is (not_goes (boxed c.deref-in-Not.ensures c.in_ok-value-in-Not.ensures) c.truth.ensures)
+
+pub returns-in_ok-evaluate-in-Negate : goal.returns-in_ok-evaluate-in-Negate
+returns-in_ok-evaluate-in-Negate t c =
+    said c.in-Negate.is (negate_goes (boxed c.deref-in-Negate.ensures c.in_ok-evaluate-in-Negate.ensures) c.negate.ensures)
+
+pub returns-in_ok-right-in-Binary : goal.returns-in_ok-right-in-Binary
+returns-in_ok-right-in-Binary t c =
+    said c.in-Binary.is (binary_goes (boxed c.deref-in-Binary.ensures c.in_ok-left-in-Binary.ensures) (boxed c.deref-in-Binary-2.ensures c.in_ok-right-in-Binary.ensures) c.operate.ensures)
+
+pub returns-in_ok-value-in-And : goal.returns-in_ok-value-in-And
+returns-in_ok-value-in-And t c =
+    said c.in-And.is (and_goes (boxed c.deref-in-And.ensures c.in_ok-evaluate-in-And.ensures) (sym c.truth-in-And.ensures ∙ c.if-not-truth.false) (boxed c.deref-in-And-2.ensures c.in_ok-value-in-And.ensures) c.truth-in-And-2.ensures)
+
+pub returns-then-truth : goal.returns-then-truth
+returns-then-truth t c =
+    said c.in-Or.is (or_ends (boxed c.deref-in-Or.ensures c.in_ok-evaluate-in-Or.ensures) (sym c.truth-in-Or.ensures ∙ c.if-truth.true))
+
+pub returns-in_ok-value-in-Or : goal.returns-in_ok-value-in-Or
+returns-in_ok-value-in-Or t c =
+    said c.in-Or.is (or_goes (boxed c.deref-in-Or.ensures c.in_ok-evaluate-in-Or.ensures) (sym c.truth-in-Or.ensures ∙ c.if-truth.false) (boxed c.deref-in-Or-2.ensures c.in_ok-value-in-Or.ensures) c.truth-in-Or-2.ensures)
+
+pub returns-then-truth-2 : goal.returns-then-truth-2
+returns-then-truth-2 t c =
+    said c.in-If.is (if_then (boxed c.deref-in-If.ensures c.in_ok-evaluate-in-If.ensures) (sym c.truth-in-If.ensures ∙ c.if-truth-2.true) (boxed c.deref-then-truth-2.ensures c.evaluate-then-truth-2.ensures))
+
+pub returns-else-truth-2 : goal.returns-else-truth-2
+returns-else-truth-2 t c =
+    said c.in-If.is (if_otherwise (boxed c.deref-in-If.ensures c.in_ok-evaluate-in-If.ensures) (sym c.truth-in-If.ensures ∙ c.if-truth-2.false) (boxed c.deref-else-truth-2.ensures c.evaluate-else-truth-2.ensures))

@@ -1,0 +1,11 @@
+use Rattle.std.proofs.Common.{arith, ap, List, length}
+use Rattle.attr_types.specs.Expression.{Expression}
+use Rattle.equation_law.specs.Systems.{program_of}
+use Rattle.equation_law.proofs.Lists.{query_listed}
+use Rattle.equation_law.proofs.listing.push_queries.Goals as goal
+
+pub loop-query-preserved : goal.loop-query-preserved
+loop-query-preserved c = record {
+  listed = query_listed c.loop-query.names.items c.push.new.list.items (program_of c.args.system.now).queries c.loop-query.query _ (omega arith) c.in_ok-push.ensures.added c.loop-query.invariant.listed;
+  few = omega arith;
+}

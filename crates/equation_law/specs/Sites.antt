@@ -1,0 +1,12 @@
+-- The equation that the code finds.
+use Rattle.std.specs.Prelude.{◌≡◌, Option, Some, None}
+use Rattle.attr_types.specs.declared.kinds.Kind.{Kind}
+use Rattle.attr_types.specs.Expression.{expression_of}
+use Rattle.equation_law.specs.declared.sites.Site.{Site as FoundSite}
+use Rattle.equation_law.specs.Equations.{Site}
+use Rattle.equation_law.specs.Meaning.{Place}
+
+-- it is found exactly where there is one, but for its place, which no form reads yet
+abbrev pub IsSite : Option Site → Option FoundSite → Type 0
+IsSite o None = o ≡ None
+IsSite o (Some s) = (p : Place) × (o ≡ Some (record { body = expression_of s.body.now; kind = s.kind; place = p }))
