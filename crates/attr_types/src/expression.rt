@@ -44,7 +44,8 @@ pub enum TExpr {
     If(Box<TExpr>, Box<TExpr>, Box<TExpr>),
 }
 
-fn where_truth(part: Option<Kind>, whole: Option<Kind>) -> Option<Kind>
+/// The type of a whole with a part that has to be `boolean`: None where the part is of another type.
+pub fn where_truth(part: Option<Kind>, whole: Option<Kind>) -> Option<Kind>
     ensures { result ≡ spec.where_truth part whole }
 {
     match part {
@@ -53,7 +54,8 @@ fn where_truth(part: Option<Kind>, whole: Option<Kind>) -> Option<Kind>
     }
 }
 
-fn where_int(part: Option<Kind>, whole: Option<Kind>) -> Option<Kind>
+/// The type of a whole with a part that has to be `int`: None where the part is of another type.
+pub fn where_int(part: Option<Kind>, whole: Option<Kind>) -> Option<Kind>
     ensures { result ≡ spec.where_int part whole }
 {
     match part {
@@ -72,7 +74,8 @@ fn compared(left: Option<Kind>, right: Option<Kind>) -> Option<Kind>
     }
 }
 
-fn common(left: Option<Kind>, right: Option<Kind>) -> Option<Kind>
+/// The type of a choice between two parts, which have to be of one type, `boolean` or `int`.
+pub fn common(left: Option<Kind>, right: Option<Kind>) -> Option<Kind>
     ensures { result ≡ spec.common left right }
 {
     match left {
@@ -82,7 +85,8 @@ fn common(left: Option<Kind>, right: Option<Kind>) -> Option<Kind>
     }
 }
 
-fn operated(operator: Operator, left: Option<Kind>, right: Option<Kind>) -> Option<Kind>
+/// The type of an operator's result, by the types of its sides.
+pub fn operated(operator: Operator, left: Option<Kind>, right: Option<Kind>) -> Option<Kind>
     ensures { result ≡ spec.operated operator left right }
 {
     match operator {

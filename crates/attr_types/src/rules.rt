@@ -118,7 +118,8 @@ impl Rules {
     /// The number of attributes.
     #[tactic(auto, using(crate::proofs::Kept::attributes_in))]
     pub fn attrs(&self) -> u32
-        ensures { result ≡ length (rules_in self.now).attributes }
+        ensures number { result ≡ length (rules_in self.now).attributes }
+        ensures few { result ≤ most_attributes }
     {
         self.attributes.len() as u32
     }

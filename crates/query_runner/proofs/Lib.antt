@@ -6,3 +6,4 @@ pub mod Preparing
 pub mod Unread
 pub mod OneAnswer
 pub mod Uniqueness
+pub mod Answered

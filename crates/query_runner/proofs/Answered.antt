@@ -1,0 +1,123 @@
+-- The table of a program that was read has a value for each query.
+use Rattle.std.proofs.Common.{◌≡◌, ℕ, zero, suc, ◌+◌, ◌<◌, Bool, true, false, cond, ◌||◌, ◌&&◌, ◌==◌, List, [], ◌∷◌, ◌++◌, length, map, get_or, Option, Some, None, refl, sym, ap, subst, ◌∙◌, arith, bytes_eq, slice_get}
+use Rattle.std.specs.Option.{option_map, option_and_then}
+use Rattle.std.proofs.lemmas.Bool.{eqb-true, eq-eqb}
+use Rattle.std.proofs.lemmas.List.Quantifiers.{position-Some}
+use Rattle.std.proofs.lemmas.Option.{slice_get-get_or, slice_get_within}
+use Rattle.ast_grammar.specs.declared.grammar.ClassId.{ClassId}
+use Rattle.attr_types.specs.declared.kinds.Kind.{Kind}
+use Rattle.attr_types.specs.declared.kinds.Kind.TheVariants as kinds
+use Rattle.attr_types.specs.Expression.{Expression, Call, Source as SourceNode, Truth as TruthLiteral}
+use Rattle.attr_types.specs.Rules.{Attribute as DeclaredAttribute, Equation, Item, RuleSet, attribute_named, attribute_of, body_at, declared_of as declared_in, equation_number, equation_of as equation_of_item, expression_in, plain_attribute, rules_of}
+use Rattle.attr_types.specs.Typing.{type_of, call_type, node_type, called_on}
+use Rattle.attr_types.proofs.RuleSets.{length-attributes, slice_get-attributes, slice_get-equations, equation_number-rules_of, where_of_class}
+use Rattle.solutions.specs.Asking.{Demands, Ends, Gives, Needs, asks, gives, next}
+use Rattle.solutions.specs.Rounds.{Graph, is_in}
+use Rattle.equation_law.specs.declared.rounds.Table.{Table}
+use Rattle.equation_law.specs.Names.{Instance, Query, At, Source, same_instance}
+use Rattle.equation_law.specs.Values.{Value, as_kind}
+use Rattle.equation_law.specs.Program.{Node, Program, at_source, attribute_instances, class_of, declared_of, names_in, nodes_of, query_instances, source_instances}
+use Rattle.equation_law.specs.Meaning.{World, meaning_of}
+use Rattle.equation_law.specs.Equations.{HasValue, Site, attribute_kind, equation_of, equations_of, kind_or_truth, site_demands, world_of}
+use Rattle.equation_law.specs.Named.{Solves, assigned, value_at, values_in}
+use Rattle.equation_law.proofs.Constants.{IsOf, constant_means, reads_itself}
+use Rattle.equation_law.proofs.Ended.{left_value, ended_value}
+use Rattle.equation_law.proofs.Found.{attribute_found, query_found}
+use Rattle.equation_law.proofs.Names.{same_instance_self}
+use Rattle.query_runner.specs.Ready.{IsReady, IsAnswerable}
+use Rattle.query_runner.specs.Replies.{IsPlain, IsReply}
+
+-- membership in a list of instances
+here : (i : Instance) (xs : List Instance) → is_in same_instance (i ∷ xs) i ≡ true
+here i xs = ap (λ b. b || is_in same_instance xs i) (same_instance_self i)
+
+behind : (i j : Instance) (xs : List Instance) → is_in same_instance xs i ≡ true → is_in same_instance (j ∷ xs) i ≡ true
+behind i j xs m = elim (same_instance i j) as (λ b. (b || is_in same_instance xs i) ≡ true) [ true ↦ refl | false ↦ m ]
+
+in_front : (i : Instance) (xs ys : List Instance) → is_in same_instance xs i ≡ true → is_in same_instance (xs ++ ys) i ≡ true
+in_front i [] ys m = cc
+in_front i (x ∷ xs) ys m = elim (same_instance i x) as (λ b. (b || is_in same_instance xs i) ≡ true → (b || is_in same_instance (xs ++ ys) i) ≡ true) [ true ↦ λ h. refl | false ↦ λ h. in_front i xs ys h ] m
+
+in_back : (i : Instance) (xs ys : List Instance) → is_in same_instance ys i ≡ true → is_in same_instance (xs ++ ys) i ≡ true
+in_back i [] ys m = m
+in_back i (x ∷ xs) ys m = behind i x (xs ++ ys) (in_back i xs ys m)
+
+-- a node of the class is among the nodes of the class
+node_in : (a n k : ℕ) (class : ClassId) (tree : List Node) (c : ClassId) → option_map (λ (x : Node). x.class) (slice_get tree k) ≡ Some c → (c.0 == class.0) ≡ true → is_in same_instance (map (at_source a) (nodes_of tree class n)) (at_source a (n + k)) ≡ true
+node_in a n k class [] c e m = cc
+node_in a n zero class (x ∷ tree) c e m =
+    let same : x.class ≡ c = cc in
+    let of_class : (x.class.0 == class.0) ≡ true = ap (λ (y : ClassId). y.0 == class.0) same ∙ m in
+    let first : is_in same_instance (map (at_source a) (nodes_of (x ∷ tree) class n)) (at_source a n) ≡ true = rw of_class (here (at_source a n) _) in
+    subst (λ j. is_in same_instance (map (at_source a) (nodes_of (x ∷ tree) class n)) (at_source a j) ≡ true) (omega arith) first
+node_in a n (suc k) class (x ∷ tree) c e m =
+    let later : is_in same_instance (map (at_source a) (nodes_of tree class (suc n))) (at_source a (suc n + k)) ≡ true = node_in a (suc n) k class tree c e m in
+    let at : n + suc k ≡ suc n + k = omega arith in
+    subst (λ j. is_in same_instance (map (at_source a) (nodes_of (x ∷ tree) class n)) (at_source a j) ≡ true) (sym at)
+    (elim (x.class.0 == class.0) as (λ b. is_in same_instance (map (at_source a) (cond b (n ∷ nodes_of tree class (suc n)) (nodes_of tree class (suc n)))) (at_source a (suc n + k)) ≡ true) [
+      | true ↦ behind (at_source a (suc n + k)) (at_source a n) _ later
+      | false ↦ later
+    ])
+
+attribute_in : (n a k : ℕ) (attributes : List DeclaredAttribute) (x : DeclaredAttribute) (tree : List Node) (c : ClassId) → slice_get attributes a ≡ Some x
+    → option_map (λ (y : Node). y.class) (slice_get tree k) ≡ Some c → (c.0 == x.declared.class.0) ≡ true → is_in same_instance (attribute_instances attributes n tree) (at_source (n + a) k) ≡ true
+attribute_in n a k [] x tree c e h m = cc
+attribute_in n zero k (y ∷ attributes) x tree c e h m =
+    let same : x ≡ y = cc in
+    let m' : (c.0 == y.declared.class.0) ≡ true = ap (λ (z : DeclaredAttribute). c.0 == z.declared.class.0) (sym same) ∙ m in
+    let first = in_front (at_source n k) (map (at_source n) (nodes_of tree y.declared.class 0)) (attribute_instances attributes (suc n) tree)
+      (subst (λ j. is_in same_instance (map (at_source n) (nodes_of tree y.declared.class 0)) (at_source n j) ≡ true) (omega arith) (node_in n 0 k y.declared.class tree c h m'))
+    in
+    subst (λ j. is_in same_instance (attribute_instances (y ∷ attributes) n tree) (at_source j k) ≡ true) (omega arith) first
+attribute_in n (suc a) k (y ∷ attributes) x tree c e h m =
+    let later = attribute_in (suc n) a k attributes x tree c e h m in
+    let at : suc n + a ≡ n + suc a = omega arith in
+    subst (λ j. is_in same_instance (attribute_instances (y ∷ attributes) n tree) (at_source j k) ≡ true) at
+    (in_back (at_source (suc n + a) k) (map (at_source n) (nodes_of tree y.declared.class 0)) (attribute_instances attributes (suc n) tree) later)
+
+-- a query is where its number says
+query_at : (n q : ℕ) (es : List Expression) → q < length es → slice_get (query_instances es n) q ≡ Some (Query (n + q))
+query_at n q [] h = absurd (omega arith)
+query_at n zero (e ∷ es) h = let at : n ≡ n + 0 = omega arith in ap (λ j. Some (Query j)) at
+query_at n (suc q) (e ∷ es) h = let at : suc n + q ≡ n + suc q = omega arith in query_at (suc n) q es (omega arith) ∙ ap (λ j. Some (Query j)) at
+
+query_in : (n q : ℕ) (es : List Expression) → q < length es → is_in same_instance (query_instances es n) (Query (n + q)) ≡ true
+query_in n q [] h = absurd (omega arith)
+query_in n zero (e ∷ es) h = subst (λ j. is_in same_instance (query_instances (e ∷ es) n) (Query j) ≡ true) (omega arith) (here (Query n) _)
+query_in n (suc q) (e ∷ es) h =
+    let at : suc n + q ≡ n + suc q = omega arith in
+    subst (λ j. is_in same_instance (query_instances (e ∷ es) n) (Query j) ≡ true) at (behind (Query (suc n + q)) (Query n) _ (query_in (suc n) q es (omega arith)))
+
+slice_get-behind : {A : Type 0} (xs ys : List A) (k : ℕ) → slice_get (xs ++ ys) (length xs + k) ≡ slice_get ys k
+slice_get-behind [] ys k = let e : 0 + k ≡ k = omega arith in ap (slice_get ys) e
+slice_get-behind (x ∷ xs) ys k = let e : length (x ∷ xs) + k ≡ suc (length xs + k) = omega arith in ap (slice_get (x ∷ xs ++ ys)) e ∙ slice_get-behind xs ys k
+
+-- how many instances stand before the queries
+abbrev pub attributes_before : Program → ℕ
+attributes_before p = length (attribute_instances p.rules.attributes 0 p.tree)
+
+length-queries : (n : ℕ) (es : List Expression) → length (query_instances es n) ≡ length es
+length-queries n [] = refl
+length-queries n (e ∷ es) = let r = length-queries (suc n) es in omega arith
+
+pub length-source : (p : Program) → length (source_instances p) ≡ attributes_before p + length p.queries
+unfolding source_instances
+length-source p = ?
+
+query_listed : (p : Program) (q : ℕ) → q < length p.queries → slice_get (source_instances p) (attributes_before p + q) ≡ Some (Query q)
+unfolding source_instances
+query_listed p q h = slice_get-behind (attribute_instances p.rules.attributes 0 p.tree) (query_instances p.queries 0) q ∙ query_at 0 q p.queries h ∙ ?
+
+query_member : (p : Program) (q : ℕ) → q < length p.queries → is_in same_instance (source_instances p) (Query q) ≡ true
+unfolding source_instances
+query_member p q h = in_back (Query q) (attribute_instances p.rules.attributes 0 p.tree) (query_instances p.queries 0) (subst (λ j. is_in same_instance (query_instances p.queries 0) (Query j) ≡ true) (omega arith) (query_in 0 q p.queries h))
+
+attribute_member : (p : Program) (a k : ℕ) (x : DeclaredAttribute) (c : ClassId) → slice_get p.rules.attributes a ≡ Some x → class_of p k ≡ Some c → (c.0 == x.declared.class.0) ≡ true → is_in same_instance (source_instances p) (at_source a k) ≡ true
+unfolding source_instances
+attribute_member p a k x c e h m =
+    in_front (at_source a k) (attribute_instances p.rules.attributes 0 p.tree) (query_instances p.queries 0)
+    (subst (λ j. is_in same_instance (attribute_instances p.rules.attributes 0 p.tree) (at_source j k) ≡ true) (omega arith) (attribute_in 0 a k p.rules.attributes x p.tree c e h m))
+
+-- a truth value or an integer
+plain : (k : Kind) (v : Value) → IsOf k v → IsPlain v
+plain k v h = ?
