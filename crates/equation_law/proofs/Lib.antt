@@ -1,4 +1,6 @@
 pub mod Answering
+pub mod Constants
+pub mod Ended
 pub mod Forms
 pub mod Found
 pub mod Keys
@@ -7,3 +9,4 @@ pub mod Names
 pub mod Reading
 pub mod Solution
 pub mod Solving
+mod Worked

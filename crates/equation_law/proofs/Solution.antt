@@ -19,7 +19,7 @@ Same i v w = v ≡ w
 abbrev Fits : Instance → Value → Type 0
 Fits i v = ⊥
 
-none_circular : (p : Program) (i : Instance) → (equations_of p).circular i ≡ false
+pub none_circular : (p : Program) (i : Instance) → (equations_of p).circular i ≡ false
 unfolding equations_of
 none_circular p i = refl
 

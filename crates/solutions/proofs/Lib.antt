@@ -1,6 +1,7 @@
 pub mod Cleaning
 pub mod Closed
 pub mod Composing
+pub mod Ended
 pub mod Growing
 pub mod Larger
 pub mod Loops
