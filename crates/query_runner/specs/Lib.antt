@@ -1,7 +1,9 @@
 pub mod Answered
+pub mod AspectSteps
 pub mod Aspects
 pub mod AspectsClaims
 pub mod AspectsGrammar
+pub mod Building
 pub mod Built
 pub mod Fetched
 pub mod Files
@@ -11,9 +13,11 @@ pub mod Output
 pub mod Queries
 pub mod QueryClaims
 pub mod QueryGrammar
+pub mod QuerySteps
 pub mod Ready
 pub mod Replies
 pub mod Run
+pub mod Sentences
 pub mod Tokens
 pub mod TreeClaims
 pub mod TreeGrammar

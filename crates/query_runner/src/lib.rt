@@ -2,15 +2,21 @@
 //! call.
 #![tactic(auto)]
 
+mod aspect_tokens;
+mod aspects;
 mod aspects_table;
+mod building;
 mod fetching;
 mod files;
 mod laws;
 mod putting;
+mod queries;
 mod query_table;
 mod replies;
 mod running;
+mod sentences;
 mod tree_table;
+mod trees;
 mod words;
 
 pub use laws::one_answer;

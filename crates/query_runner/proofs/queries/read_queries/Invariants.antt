@@ -1,0 +1,16 @@
+use Rattle.std.proofs.Common.{◌≤◌, length, map}
+use Rattle.attr_types.specs.Items.{rules_in}
+use Rattle.attr_types.specs.Queries.{query_of}
+use Rattle.query_runner.specs.Queries.{most_lines}
+use Rattle.query_runner.specs.QuerySteps.{IsSofar}
+use Rattle.query_runner.proofs.queries.read_queries.Given as goal
+
+abbrev pub decreases-lines : goal.decreases-lines
+decreases-lines l = length l.rest
+
+abbrev pub invariant-lines : goal.invariant-lines
+invariant-lines l = record {
+  sofar : IsSofar (rules_in l.rules) l.tree l.bytes l.lines l.rest (map query_of l.list.items);
+  few : l.lines ≤ most_lines;
+  within : length l.rest ≤ length l.bytes;
+}

@@ -1,0 +1,249 @@
+// The reader of queries in the first form.
+ghost use Rattle.std.specs.Prelude.{◌≡◌, ◌<◌, ◌≤◌, ◌++◌, ◌∷◌, [], length, map, IfOk};
+ghost use Rattle.std.specs.List.{take_while};
+ghost use Rattle.rag_io.specs.Lexemes.{is_white};
+ghost use Rattle.rag_io.specs.Outside.{longest_file};
+ghost use Rattle.rag_io.specs.Tokens.{AreTokens, seen_token, seen_tokens};
+ghost use Rattle.attr_types.specs.Items.{rules_in};
+ghost use Rattle.attr_types.specs.Queries.{query_of};
+ghost use Rattle.query_runner.specs.Queries.{symbol_class, query_class, is_inside, is_silent, AnswersQueries};
+ghost use Rattle.query_runner.specs.QueryGrammar.{query_grammar};
+ghost use Rattle.query_runner.specs.QuerySteps.{FindsNode, AnswersCall, AnswersQuery, AnswersLine, IsFirstLine, ReadsLine};
+ghost use Rattle.query_runner.specs.Sentences.{Recognizes};
+
+use crate::query_table::{QUERY_BODIES, QUERY_CHOICE, QUERY_OF, QUERY_STARTS};
+use crate::sentences::{capped, is_name, sentence, text_at};
+use ast_grammar::Grammar;
+use attr_types::{QueryEq, Rules};
+use equation_law::Tree;
+use ll_parser::Table;
+use rag_io::{Memory, ScanFault, Token, TokenKind, scan};
+use std::alloc::Global;
+
+/// A query file has at most so many lines.
+const MOST_LINES: usize = 65_536;
+
+fn symbol_class(text: &[u8]) -> u8
+    ensures { result ≡ symbol_class text.now }
+{
+    if text == b"@".as_slice() {
+        3
+    } else if text == b".".as_slice() {
+        4
+    } else if text == b"(".as_slice() {
+        5
+    } else if text == b")".as_slice() {
+        6
+    } else {
+        7
+    }
+}
+
+fn class_of(token: &Token<'_>) -> u8
+    ensures { result ≡ query_class (seen_token token.now) }
+{
+    match token.kind {
+        TokenKind::Name => {
+            if is_name(token.text) {
+                1
+            } else {
+                7
+            }
+        }
+        TokenKind::Int => 2,
+        TokenKind::Text => 7,
+        TokenKind::Symbol => symbol_class(token.text),
+        TokenKind::End => 0,
+    }
+}
+
+fn classes_of(alloc: Global, tokens: &[Token<'_>]) -> Result<Vec<u8>, Memory>
+    ensures { IfOk result (λ v. v.items ≡ map query_class (seen_tokens tokens.now)) }
+{
+    let mut classes = Vec::new(alloc);
+    for token in tokens {
+        classes.push(class_of(token)).map_err(|_| Memory)?;
+    }
+    Ok(classes)
+}
+
+fn sentence_of(alloc: Global, tokens: &[Token<'_>]) -> Result<Option<Vec<u8>>, Memory>
+    requires { AreTokens (seen_tokens tokens.now) }
+    ensures { Recognizes query_grammar (map query_class (seen_tokens tokens.now)) result }
+{
+    let classes = classes_of(alloc, tokens)?;
+    let table = Table {
+        of: &QUERY_OF,
+        starts: &QUERY_STARTS,
+        bodies: &QUERY_BODIES,
+        choice: &QUERY_CHOICE,
+    };
+    sentence(alloc, &table, &classes)
+}
+
+// The node of the number that the digits write.
+fn find_node(tree: &Tree, digits: &[u8]) -> Option<u32>
+    ensures { FindsNode tree.now digits.now result }
+{
+    let node = capped(digits, u64::from(u32::MAX)) as u32;
+    if node < tree.len() { Some(node) } else { None }
+}
+
+// The call of the attribute of this name at the node of the number that the digits write.
+fn call(
+    alloc: Global,
+    grammar: &Grammar,
+    rules: &Rules,
+    tree: &Tree,
+    digits: &[u8],
+    name: &[u8],
+) -> Result<Option<QueryEq>, Memory>
+    ensures { AnswersCall (rules_in rules.now) tree.now digits.now name.now result }
+{
+    match find_node(tree, digits) {
+        Some(node) => match rules.find(grammar, tree.class_of(node), name) {
+            Some(attribute) => Ok(Some(QueryEq::of_call(alloc, node, attribute)?)),
+            None => Ok(None),
+        },
+        None => Ok(None),
+    }
+}
+
+fn query_of_tokens(
+    alloc: Global,
+    grammar: &Grammar,
+    rules: &Rules,
+    tree: &Tree,
+    tokens: &[Token<'_>],
+) -> Result<Option<QueryEq>, Memory>
+    requires { AreTokens (seen_tokens tokens.now) }
+    ensures { AnswersQuery (rules_in rules.now) tree.now (seen_tokens tokens.now) result }
+{
+    match sentence_of(alloc, tokens)? {
+        Some(_) => call(
+            alloc,
+            grammar,
+            rules,
+            tree,
+            text_at(tokens, 1),
+            text_at(tokens, 3),
+        ),
+        None => Ok(None),
+    }
+}
+
+// The query that the bytes of a line say.
+fn query_of_line(
+    alloc: Global,
+    grammar: &Grammar,
+    rules: &Rules,
+    tree: &Tree,
+    line: &[u8],
+) -> Result<Option<QueryEq>, Memory>
+    requires { length line.now ≤ longest_file }
+    ensures { AnswersLine (rules_in rules.now) tree.now line.now result }
+{
+    match scan(alloc, line) {
+        Ok(tokens) => query_of_tokens(alloc, grammar, rules, tree, &tokens),
+        Err(ScanFault::Bad(_)) => Ok(None),
+        Err(ScanFault::Memory) => Err(Memory),
+    }
+}
+
+fn is_white(b: u8) -> bool
+    ensures { result ≡ is_white b }
+{
+    b == b' ' || b == b'\t' || b == b'\n' || b == b'\r' || b == 12
+}
+
+// A line that holds white space only, or a `#` as its first byte that isn't white space.
+fn is_silent(line: &[u8]) -> bool
+    ensures { result ≡ is_silent line.now }
+{
+    for b in line {
+        if !is_white(*b) {
+            return *b == b'#';
+        }
+    }
+    true
+}
+
+fn line_length(bytes: &[u8]) -> usize
+    ensures value { result ≡ length (take_while is_inside bytes.now) }
+    ensures within { result ≤ length bytes.now }
+{
+    bytes.iter().take_while(|b| **b != b'\n').count()
+}
+
+// The first line of some bytes, and the bytes behind it.
+fn first_line(bytes: &[u8]) -> (&[u8], &[u8])
+    ensures line { IsFirstLine bytes.now result.0.now result.1.now }
+    ensures within { length result.0.now ≤ length bytes.now }
+    ensures rest { length result.1.now ≤ length bytes.now }
+    ensures shorter { 0 < length bytes.now → length result.1.now < length bytes.now }
+{
+    let (line, behind) = bytes.split_at(line_length(bytes));
+    match behind {
+        [_, rest @ ..] => (line, rest),
+        [] => (line, behind),
+    }
+}
+
+fn add(list: &mut Vec<QueryEq>, query: QueryEq) -> Result<(), Memory>
+    ensures { IfOk result (λ u. map query_of list.new.items ≡ map query_of list.old.items ++ query_of query ∷ []) }
+{
+    list.push(query).map_err(|_| Memory)
+}
+
+// Adds what a line says, or answers false where it says no query and isn't silent.
+fn read_line(
+    alloc: Global,
+    grammar: &Grammar,
+    rules: &Rules,
+    tree: &Tree,
+    line: &[u8],
+    list: &mut Vec<QueryEq>,
+) -> Result<bool, Memory>
+    requires { length line.now ≤ longest_file }
+    ensures { ReadsLine (rules_in rules.now) tree.now line.now result (map query_of list.old.items) (map query_of list.new.items) }
+{
+    if is_silent(line) {
+        return Ok(true);
+    }
+    match query_of_line(alloc, grammar, rules, tree, line)? {
+        Some(query) => {
+            add(list, query)?;
+            Ok(true)
+        }
+        None => Ok(false),
+    }
+}
+
+/// The queries that the bytes of a query file say, or None exactly where they say none in the form that is
+/// read so far: at most 65,536 lines, each of them white space, a `#` line, or `@NUMBER.NAME()`.
+pub fn read_queries(
+    alloc: Global,
+    grammar: &Grammar,
+    rules: &Rules,
+    tree: &Tree,
+    bytes: &[u8],
+) -> Result<Option<Vec<QueryEq>>, Memory>
+    requires { length bytes.now ≤ longest_file }
+    ensures { AnswersQueries (rules_in rules.now) tree.now bytes.now result }
+{
+    let mut list = Vec::new(alloc);
+    let mut rest = bytes;
+    let mut lines: usize = 0;
+    'lines: while !rest.is_empty() {
+        if lines == MOST_LINES {
+            return Ok(None);
+        }
+        let (line, behind) = first_line(rest);
+        if !read_line(alloc, grammar, rules, tree, line, &mut list)? {
+            return Ok(None);
+        }
+        rest = behind;
+        lines += 1;
+    }
+    Ok(Some(list))
+}

@@ -1,0 +1,64 @@
+// Sentences, and what their tokens write.
+ghost use Rattle.std.specs.Prelude.{◌≡◌, ◌-◌, ◌<◌, ◌*◌, ◌+◌, ◌^◌, min, length, slice_index_or};
+ghost use Rattle.ll_parser.specs.Stack.{Works, choice_of, rows_of};
+ghost use Rattle.ll_parser.specs.Table.{Claims};
+ghost use Rattle.rag_io.specs.Tokens.{seen_tokens};
+ghost use Rattle.query_runner.specs.Names.{is_name};
+ghost use Rattle.query_runner.specs.Sentences.{Recognizes};
+ghost use Rattle.query_runner.specs.Tokens.{text_at, decimal};
+
+use ll_parser::{ParseFault, Table, parse};
+use rag_io::{Memory, Token, is_left_out, is_reserved};
+use std::alloc::Global;
+
+/// The largest integer literal.
+pub const GREATEST: u64 = 2_147_483_647;
+
+// The events of the sentence that the tokens of these classes are, or None where they are none.
+pub fn sentence(
+    alloc: Global,
+    table: &Table<'_>,
+    classes: &[u8],
+) -> Result<Option<Vec<u8>>, Memory>
+    ghost facts: { Claims }
+    requires works { Works (rows_of table.now) 0 (choice_of table.now.choice.now) facts }
+    requires some { 0 < length classes.now }
+    requires ends { slice_index_or classes.now (length classes.now - 1) 1 ≡ 0 }
+    ensures { Recognizes (rows_of table.now) classes.now result }
+{
+    let mut events = Vec::new(alloc);
+    match parse(alloc, table, 0, classes, &mut events) {
+        Ok(()) => Ok(Some(events)),
+        Err(ParseFault::At(_)) => Ok(None),
+        Err(ParseFault::OutOfMemory) => Err(Memory),
+    }
+}
+
+// The text of the token of this number.
+pub fn text_at<'a>(tokens: &[Token<'a>], k: usize) -> &'a [u8]
+    ensures { result.now ≡ text_at (seen_tokens tokens.now) k }
+{
+    match tokens.get(k) {
+        Some(token) => token.text,
+        None => b"".as_slice(),
+    }
+}
+
+// A word that aspects neither reserve nor leave out.
+pub fn is_name(text: &[u8]) -> bool
+    ensures { result ≡ is_name text.now }
+{
+    !(is_reserved(text) || is_left_out(text))
+}
+
+// The number that decimal digits write, or the limit where it is larger.
+pub fn capped(digits: &[u8], limit: u64) -> u64
+    requires { limit < 2 ^ 32 }
+    ensures { result ≡ min (decimal digits.now) limit }
+{
+    let mut number = 0;
+    for digit in digits {
+        number = (number * 10 + u64::from(digit.saturating_sub(b'0'))).min(limit);
+    }
+    number
+}
