@@ -14,3 +14,4 @@ pub mod SayingTrees
 pub mod Stopping
 pub mod Uniqueness
 pub mod Unread
+pub mod ReplyLines

@@ -1,9 +1,9 @@
 // The reply lines.
-ghost use Rattle.std.specs.Prelude.{◌<◌, length, IfOk, OnOk};
+ghost use Rattle.std.specs.Prelude.{◌≡◌, ◌++◌, ◌∷◌, [], IfOk, OnOk};
+ghost use Rattle.std.specs.Fmt.{signed_decimal};
 ghost use Rattle.equation_law.specs.Named.{value_in};
 ghost use Rattle.equation_law.specs.Systems.{program_of};
-ghost use Rattle.equation_law.specs.Values.{Truth, Int};
-ghost use Rattle.query_runner.specs.Output.{AreReplies};
+ghost use Rattle.query_runner.specs.Output.{AreReplies, truth_text};
 ghost use Rattle.query_runner.specs.Ready.{IsReady};
 ghost use Rattle.query_runner.specs.Replies.{IsPlain, AddsReply};
 
@@ -12,32 +12,27 @@ use rag_io::{Gate, Memory};
 use std::alloc::Global;
 
 fn add_truth(text: &mut Vec<u8>, truth: bool) -> Result<(), Memory>
-    ensures { OnOk result (AddsReply (Truth truth) text.old.items text.new.items) }
+    ensures { OnOk result (text.new.items ≡ text.old.items ++ (truth_text truth ++ 10 ∷ [])) }
 {
-    let line = if truth {
-        b"true\n".as_slice()
+    let added = if truth {
+        text.extend_from_slice(b"true\n")
     } else {
-        b"false\n".as_slice()
+        text.extend_from_slice(b"false\n")
     };
-    match text.extend_from_slice(line) {
+    match added {
         Ok(_) => Ok(()),
         Err(_) => Err(Memory),
     }
 }
 
 fn add_int(alloc: Global, text: &mut Vec<u8>, int: i32) -> Result<(), Memory>
-    ensures { OnOk result (AddsReply (Int int) text.old.items text.new.items) }
+    ensures { OnOk result (text.new.items ≡ text.old.items ++ (signed_decimal int ++ 10 ∷ [])) }
 {
-    let Ok(digits) = int.to_string(alloc) else {
-        return Err(Memory);
-    };
-    if text.extend_from_slice(digits.as_bytes()).is_err() {
-        return Err(Memory);
-    }
-    match text.push(b'\n') {
-        Ok(_) => Ok(()),
-        Err(_) => Err(Memory),
-    }
+    let digits = int.to_string(alloc).map_err(|_| Memory)?;
+    text.extend_from_slice(digits.as_bytes())
+        .map_err(|_| Memory)?;
+    text.push(b'\n').map_err(|_| Memory)?;
+    Ok(())
 }
 
 // The line of a reply.
@@ -74,15 +69,13 @@ pub(crate) fn reply_lines<G: Gate>(
     let first = names.len() - system.replies();
     let mut text = Vec::new(alloc);
     'replies: for q in 0..system.replies() {
-        match table.value(first + q) {
-            Some(value) => {
-                if add_reply(alloc, &mut text, value).is_err() {
-                    return Err(Memory);
-                }
-            }
-            None => unreachable!(),
+        let Some(value) = table.value(first + q) else {
+            unreachable!()
+        };
+        match add_reply(alloc, &mut text, value) {
+            Ok(()) => gate.reached(0, q),
+            Err(fault) => return Err(fault),
         }
-        gate.reached(0, q);
     }
     Ok(text)
 }
