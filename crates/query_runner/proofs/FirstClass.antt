@@ -1,12 +1,10 @@
 -- The first class of a grammar, by its place.
-use Rattle.std.proofs.Common.{◌≡◌, ℕ, zero, suc, true, false, cond, ltb, length, ap, eqb, List, [], ◌∷◌, Option, Some, None, Bool, position, refl, sym, ◌∙◌, arith}
-use Rattle.std.specs.Option.{option_map}
+use Rattle.std.proofs.Common.{◌≡◌, ℕ, zero, suc, true, false, cond, ltb, length, ap, eqb, List, [], ◌∷◌, Some, None, Bool, position, refl, ◌∙◌, arith}
 use Rattle.std.specs.Str.{bytes_eq}
 use Rattle.std.proofs.lemmas.Bool.{lt-ltb}
 use Rattle.std.proofs.lemmas.Bool.Decides.{nat_tests}
 use Rattle.std.proofs.lemmas.List.Quantifiers.{position-Some}
-use Rattle.ast_grammar.specs.declared.grammar.ClassId.{ClassId}
-use Rattle.ast_grammar.specs.Grammar.{Class, number_of}
+use Rattle.ast_grammar.specs.Grammar.{Class}
 use Rattle.query_runner.specs.Trees.{is_first}
 
 -- the first of some classes that passes a test is at the place 0

@@ -7,6 +7,7 @@ pub mod Lines
 pub mod OneAnswer
 pub mod Pieces
 pub mod Preparing
+pub mod ReplyLines
 pub mod Resolving
 pub mod SayingAspects
 pub mod SayingQueries
@@ -14,4 +15,3 @@ pub mod SayingTrees
 pub mod Stopping
 pub mod Uniqueness
 pub mod Unread
-pub mod ReplyLines

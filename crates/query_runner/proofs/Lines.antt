@@ -1,5 +1,5 @@
 -- The lines of some bytes.
-use Rattle.std.proofs.Common.{◌≡◌, ℕ, suc, ◌+◌, ◌<◌, true, false, not, cond, eqb, Bool, List, [], ◌∷◌, ◌++◌, length, take, drop, refl, sym, ap, subst, ◌∙◌, arith}
+use Rattle.std.proofs.Common.{◌≡◌, ℕ, suc, ◌+◌, ◌<◌, true, false, not, cond, eqb, List, [], ◌∷◌, ◌++◌, length, take, drop, refl, sym, ap, subst, ◌∙◌, arith}
 use Rattle.std.specs.List.{AllPass, take_while, prefix_len}
 use Rattle.std.proofs.lemmas.Bool.Decides.{nat_tests}
 use Rattle.std.proofs.lemmas.List.{length-append}
@@ -103,11 +103,11 @@ joined {bytes = b ∷ bytes} {line} {rest} {lines} (final i e f) h a =
     subst (λ x. AreLines (b ∷ bytes) (x ∷ lines)) (sym e) (subst (λ xs. AreLines (b ∷ bytes) ((b ∷ bytes) ∷ xs)) (sym (no_lines a f)) (last i))
 
 -- some bytes have one list of lines
-pub one_list_of_lines : {bytes : List ℕ} {ls ms : List (List ℕ)} → AreLines bytes ls → AreLines bytes ms → ls ≡ ms
-one_list_of_lines none b = sym (no_lines b refl)
-one_list_of_lines (last {b} {line} i) m =
+pub one_lines : {bytes : List ℕ} {ls ms : List (List ℕ)} → AreLines bytes ls → AreLines bytes ms → ls ≡ ms
+one_lines none b = sym (no_lines b refl)
+one_lines (last {b} {line} i) m =
     let p = parted (b ∷ line) [] m (omega arith) (final i refl refl) in
     ap (λ x. (b ∷ line) ∷ x) (sym (no_lines p.behind refl)) ∙ sym p.are
-one_list_of_lines (more {line} {rest} {lines} i a) m =
+one_lines (more {line} {rest} {lines} i a) m =
     let p = parted line rest m (omega (arith, length-append line (10 ∷ rest))) (ended i refl) in
-    ap (λ x. line ∷ x) (one_list_of_lines a p.behind) ∙ sym p.are
+    ap (λ x. line ∷ x) (one_lines a p.behind) ∙ sym p.are

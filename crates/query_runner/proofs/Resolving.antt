@@ -6,7 +6,7 @@ use Rattle.std.proofs.lemmas.List.Elements.{All-cons}
 use Rattle.std.proofs.lemmas.List.Quantifiers.{position-Some}
 use Rattle.rag_io.specs.Tokens.{Lexed}
 use Rattle.ast_grammar.specs.declared.grammar.ClassId.{ClassId}
-use Rattle.ast_grammar.specs.Grammar.{Class, number_of}
+use Rattle.ast_grammar.specs.Grammar.{Class}
 use Rattle.attr_types.specs.Rules.{Item}
 use Rattle.query_runner.specs.Aspects.{WrittenItem, class_number, resolved, all_resolved}
 use Rattle.query_runner.specs.Building.{written_of}

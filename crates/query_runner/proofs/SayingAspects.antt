@@ -1,5 +1,5 @@
 -- What tokens say of aspects, against the events of their sentence.
-use Rattle.std.proofs.Common.{◌≡◌, ℕ, suc, ◌+◌, ◌-◌, ◌<◌, ◌≤◌, Bool, true, false, cond, eqb, List, [], ◌∷◌, ◌++◌, Option, Some, None, All, map, length, refl, sym, ap, subst, ◌∙◌, arith}
+use Rattle.std.proofs.Common.{◌≡◌, ℕ, ◌+◌, ◌<◌, true, false, cond, eqb, List, [], ◌∷◌, Some, None, All, map, length, sym, ap, subst, ◌∙◌, arith}
 use Rattle.std.specs.List.{count_by}
 use Rattle.std.proofs.lemmas.Bool.Decides.{nat_tests}
 use Rattle.std.proofs.lemmas.Grind.{common_steps}
@@ -88,7 +88,3 @@ module _ {g : List Class} {ts : List Lexed} {events : List ℕ} (modest : IsMode
 
     pub twice : items_differ (map item_of list) ≡ false → (items : List Item) → SaysAspects g ts items → ⊥
     twice same items says = let e = ap items_differ (same_items says) in let d = says.allowed.distinct in cc
-
--- some tokens say one list of items
-pub one_list_of_items : {g : List Class} {ts : List Lexed} {a b : List Item} → SaysAspects g ts a → SaysAspects g ts b → a ≡ b
-one_list_of_items x y = let both = sym x.resolve ∙ are_said x.sentence y in cc

@@ -1,22 +1,19 @@
 -- What the lines of some bytes say.
-use Rattle.std.proofs.Common.{◌≡◌, ℕ, ◌+◌, ◌<◌, ◌≤◌, true, false, List, [], ◌∷◌, ◌++◌, Option, Some, None, Result, Ok, Err, map, length, refl, sym, ap, subst, ◌∙◌, append-nil, append_assoc, arith}
-use Rattle.std.specs.Option.{option_map}
-use Rattle.std.specs.Prelude.{slice_get}
+use Rattle.std.proofs.Common.{◌≡◌, ℕ, ◌+◌, ◌<◌, ◌≤◌, List, [], ◌∷◌, ◌++◌, Option, Some, None, Result, Ok, Err, map, length, refl, sym, ap, subst, ◌∙◌, append-nil, append_assoc, arith}
 use Rattle.rag_io.specs.declared.Memory.{Memory}
 use Rattle.rag_io.specs.declared.token.Place.{Place}
 use Rattle.rag_io.specs.Tokens.{Lexed, IsTokens, IsFirstBad, first_place}
 use Rattle.rag_io.proofs.Readings.{one_list, not_both}
 use Rattle.ll_parser.specs.Grammar.{IsSentence}
-use Rattle.ast_grammar.specs.declared.grammar.ClassId.{ClassId}
 use Rattle.attr_types.specs.declared.queries.QueryEq.{QueryEq}
 use Rattle.attr_types.specs.Expression.{Expression, Call, Source}
 use Rattle.attr_types.specs.Rules.{RuleSet, attribute_named}
 use Rattle.equation_law.specs.Program.{Node}
-use Rattle.query_runner.specs.Queries.{query_class, SaysQuery, SaysLines, over, silent, query, SaysQueries, AreLines, none, is_silent, most_lines}
+use Rattle.query_runner.specs.Queries.{query_class, SaysQuery, SaysLines, over, silent, query, SaysQueries, AreLines, none, most_lines}
 use Rattle.query_runner.specs.QueryGrammar.{query_grammar}
 use Rattle.query_runner.specs.QuerySteps.{IsCall, AnswersCall, AnswersQuery, AnswersLine, SaysLine, IsFirstLine, Adds, nothing, one, IsWrong, SaysBehind, IsSofar}
 use Rattle.query_runner.specs.Tokens.{text_at, decimal}
-use Rattle.query_runner.proofs.Lines.{parted, joined, some_line, one_list_of_lines}
+use Rattle.query_runner.proofs.Lines.{parted, joined, some_line, one_lines}
 
 module _ (rules : RuleSet) (tree : List Node) where
   pub one_call : {digits name : List ℕ} {e f : Expression} → IsCall rules tree digits name e → IsCall rules tree digits name f → e ≡ f
@@ -59,15 +56,8 @@ module _ (rules : RuleSet) (tree : List Node) where
       let first : e ≡ f = one_line (record { tokens = ts; scanned = i; says = p }) (record { tokens = us; scanned = j; says = q }) in
       ap (λ x. x ∷ es) first ∙ ap (λ xs. f ∷ xs) (one_said a b)
 
-  pub one_list_of_queries : {bytes : List ℕ} {a b : List Expression} → SaysQueries rules tree bytes a → SaysQueries rules tree bytes b → a ≡ b
-  one_list_of_queries {b = b} x y = one_said x.said (subst (λ ls. SaysLines rules tree ls b) (one_list_of_lines y.are_lines x.are_lines) y.said)
-
-  -- at the first line
-  pub sofar_begins : (bytes : List ℕ) → IsSofar rules tree bytes 0 bytes []
-  sofar_begins bytes = record {
-    forth = λ es s. record { lines = s.lines; are_lines = s.are_lines; few = omega (arith, s.few); said = s.said };
-    back = λ all s. (all, refl, record { lines = s.lines; are_lines = s.are_lines; few = omega (arith, s.few); said = s.said });
-  }
+  pub one_queries : {bytes : List ℕ} {a b : List Expression} → SaysQueries rules tree bytes a → SaysQueries rules tree bytes b → a ≡ b
+  one_queries {b = b} x y = one_said x.said (subst (λ ls. SaysLines rules tree ls b) (one_lines y.are_lines x.are_lines) y.said)
 
   -- behind the last line
   pub sofar_ends : {bytes rest : List ℕ} {n : ℕ} {old : List Expression} → IsSofar rules tree bytes n rest old → rest ≡ [] → n ≤ most_lines → SaysQueries rules tree bytes old

@@ -1,5 +1,5 @@
 -- What the steps of the reader of aspects answer.
-use Rattle.std.specs.Prelude.{◌≡◌, ◌==◌, ℕ, ◌≤◌, List, true, Option, Some, None, Result, Ok, Err, Vec, map, length, count_by}
+use Rattle.std.specs.Prelude.{◌≡◌, ◌==◌, ℕ, ◌≤◌, List, true, Option, Some, None, Result, Ok, Err, Vec, map, count_by}
 use Rattle.std.specs.declared.alloc.Global.{Global}
 use Rattle.rag_io.specs.Tokens.{Lexed}
 use Rattle.rag_io.specs.declared.Memory.{Memory}

@@ -1,6 +1,6 @@
 -- What is claimed of the table of `aspects`, written by tools/table.py: the check computes that it is right.
-use Rattle.std.specs.Prelude.{ℕ, List, [], ◌∷◌, Bool, true, false}
-use Rattle.ll_parser.specs.Table.{Claims, entry, numbers, flag, number}
+use Rattle.std.specs.Prelude.{ℕ, [], ◌∷◌, true, false}
+use Rattle.ll_parser.specs.Table.{Claims, numbers, flag, number}
 
 abbrev pub aspects_claims : (ℕ → ℕ → ℕ) → Claims
 aspects_claims choice = record {

@@ -1,6 +1,5 @@
 -- What a builder of aspects holds, without where it lies in memory.
-use Rattle.std.specs.Prelude.{◌≡◌, ℕ, List, [], ◌∷◌, Option, Some, None, Result, Ok, Err, Vec, map, reverse}
-use Rattle.std.specs.declared.alloc.Global.{Global}
+use Rattle.std.specs.Prelude.{◌≡◌, List, ◌∷◌, Option, Some, None, map, reverse}
 use Rattle.attr_types.specs.declared.expression.TExpr.{TExpr}
 use Rattle.attr_types.specs.Expression.{Expression, expression_of}
 use Rattle.query_runner.specs.Aspects.{WrittenItem, Building, binary, ternary}

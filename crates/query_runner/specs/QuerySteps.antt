@@ -1,5 +1,5 @@
 -- What the steps of the reader of queries answer.
-use Rattle.std.specs.Prelude.{◌≡◌, ℕ, ◌+◌, ◌<◌, ◌≤◌, List, [], ◌∷◌, ◌++◌, Bool, true, false, Option, Some, None, Result, Ok, Err, map, length, slice_get}
+use Rattle.std.specs.Prelude.{◌≡◌, ℕ, ◌+◌, ◌<◌, ◌≤◌, List, [], ◌∷◌, ◌++◌, Bool, true, false, Option, Some, None, Result, Ok, Err, length, slice_get}
 use Rattle.std.specs.List.{AllPass}
 use Rattle.std.specs.Option.{option_map}
 use Rattle.rag_io.specs.Tokens.{Lexed, IsTokens, first_place}

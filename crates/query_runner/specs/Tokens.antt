@@ -1,5 +1,5 @@
 -- Tokens by their number in a file, and the numbers that they write.
-use Rattle.std.specs.Prelude.{ℕ, ◌+◌, ◌-◌, ◌*◌, ◌≤◌, List, [], ◌∷◌, Option, Some, None, fold, slice_get}
+use Rattle.std.specs.Prelude.{ℕ, ◌+◌, ◌-◌, ◌*◌, List, [], Option, Some, None, fold, slice_get}
 use Rattle.rag_io.specs.Tokens.{Lexed}
 
 abbrev pub text_in : Option Lexed → List ℕ

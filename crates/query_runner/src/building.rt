@@ -146,12 +146,7 @@ fn operator_for(event: u8) -> Option<Operator>
 }
 
 // What the event of another form does to the stack; the text is that of the last token.
-fn put_form(
-    alloc: Global,
-    stack: &mut Vec<TExpr>,
-    text: &[u8],
-    event: u8,
-) -> Result<(), Memory>
+fn put_form(alloc: Global, stack: &mut Vec<TExpr>, text: &[u8], event: u8) -> Result<(), Memory>
     ensures { IfOk result (λ u. tops stack.new.items ≡ form_on text.now event (tops stack.old.items)) }
 {
     match event {
@@ -171,12 +166,7 @@ fn put_form(
     }
 }
 
-fn put_event(
-    alloc: Global,
-    stack: &mut Vec<TExpr>,
-    text: &[u8],
-    event: u8,
-) -> Result<(), Memory>
+fn put_event(alloc: Global, stack: &mut Vec<TExpr>, text: &[u8], event: u8) -> Result<(), Memory>
     ensures { IfOk result (λ u. tops stack.new.items ≡ stack_after text.now event (tops stack.old.items)) }
 {
     match operator_for(event) {
@@ -209,12 +199,7 @@ fn add_item(b: &mut Builder) -> Result<(), Memory>
     b.items.push(item).map_err(|_| Memory)
 }
 
-fn act(
-    alloc: Global,
-    tokens: &[Token<'_>],
-    b: &mut Builder,
-    event: u8,
-) -> Result<(), Memory>
+fn act(alloc: Global, tokens: &[Token<'_>], b: &mut Builder, event: u8) -> Result<(), Memory>
     requires { b.old.at < 2 ^ 63 }
     ensures { IfOk result (λ u. seen_builder b.new ≡ after (seen_tokens tokens.now) (seen_builder b.old) event) }
 {
@@ -233,11 +218,7 @@ fn act(
 }
 
 // The items that the events of a sentence build.
-pub fn build(
-    alloc: Global,
-    tokens: &[Token<'_>],
-    events: &[u8],
-) -> Result<Vec<Written>, Memory>
+pub fn build(alloc: Global, tokens: &[Token<'_>], events: &[u8]) -> Result<Vec<Written>, Memory>
     ensures { IfOk result (λ v. map written_of v.items ≡ (built (seen_tokens tokens.now) nothing events.now).items) }
 {
     let mut b = Builder {

@@ -12,6 +12,8 @@ mod laws;
 mod putting;
 mod queries;
 mod query_table;
+#[cfg(test)]
+mod reader_tests;
 mod replies;
 mod running;
 mod sentences;

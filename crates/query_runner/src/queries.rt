@@ -43,13 +43,7 @@ fn class_of(token: &Token<'_>) -> u8
     ensures { result ≡ query_class (seen_token token.now) }
 {
     match token.kind {
-        TokenKind::Name => {
-            if is_name(token.text) {
-                1
-            } else {
-                7
-            }
-        }
+        TokenKind::Name => { if is_name(token.text) { 1 } else { 7 } }
         TokenKind::Int => 2,
         TokenKind::Text => 7,
         TokenKind::Symbol => symbol_class(token.text),

@@ -15,11 +15,7 @@ use std::alloc::Global;
 pub const GREATEST: u64 = 2_147_483_647;
 
 // The events of the sentence that the tokens of these classes are, or None where they are none.
-pub fn sentence(
-    alloc: Global,
-    table: &Table<'_>,
-    classes: &[u8],
-) -> Result<Option<Vec<u8>>, Memory>
+pub fn sentence(alloc: Global, table: &Table<'_>, classes: &[u8]) -> Result<Option<Vec<u8>>, Memory>
     ghost facts: { Claims }
     requires works { Works (rows_of table.now) 0 (choice_of table.now.choice.now) facts }
     requires some { 0 < length classes.now }

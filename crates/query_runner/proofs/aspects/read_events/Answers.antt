@@ -1,4 +1,4 @@
-use Rattle.std.proofs.Common.{◌≡◌, ap, ℕ, List, eqb, ◌∙◌, sym, arith}
+use Rattle.std.proofs.Common.{ap, eqb, ◌∙◌, sym, arith}
 use Rattle.std.specs.List.{count_by}
 use Rattle.query_runner.specs.Aspects.{are_short}
 use Rattle.query_runner.proofs.SayingAspects.{too_many, too_long, too_large}

@@ -1,7 +1,6 @@
 use Rattle.std.proofs.Common.{List, subst}
 use Rattle.rag_io.specs.declared.token.Token.{Token}
 use Rattle.rag_io.specs.Tokens.{seen_tokens}
-use Rattle.rag_io.proofs.EndOfFile.{ends_file}
 use Rattle.attr_types.specs.Items.{rules_in}
 use Rattle.query_runner.specs.QuerySteps.{AnswersQuery}
 use Rattle.query_runner.proofs.SayingQueries.{line_by, no_line}

@@ -1,0 +1,307 @@
+use crate::aspects::read_aspects;
+use crate::queries::read_queries;
+use crate::trees::read_tree;
+use ast_grammar::{Grammar, read_first};
+use attr_types::{FirstEq, Rules};
+use equation_law::{FirstNode, Tokens, Tree};
+use rag_io::{LONGEST_FILE, scan};
+use std::alloc::{AllocError, Global};
+use std::fmt::Write;
+use std::process::Abort;
+use std::test::Fail;
+
+fn grammar_said(rt: &impl Abort, alloc: Global, text: &str) -> Result<Grammar, Fail> {
+    assert!(rt; text.len() <= LONGEST_FILE);
+    let tokens = scan(alloc, text.as_bytes())?;
+    Ok(read_first(alloc, &tokens)?.ok_or("no grammar")?)
+}
+
+// How many items the text says, or None where it says none.
+fn items_said(
+    rt: &impl Abort,
+    alloc: Global,
+    grammar: &Grammar,
+    text: &str,
+) -> Result<Option<usize>, Fail> {
+    assert!(rt; text.len() <= LONGEST_FILE);
+    let tokens = scan(alloc, text.as_bytes())?;
+    Ok(read_aspects(alloc, grammar, &tokens)?.map(|list| list.len()))
+}
+
+// The expression that a body of this type says, written out, or an empty text where it says none.
+fn body_said(
+    rt: &impl Abort,
+    alloc: Global,
+    grammar: &Grammar,
+    kind: &str,
+    body: &str,
+) -> Result<String, Fail> {
+    let text = format!(in alloc; "aspect A {{ syn {kind} N.v() = {body}; }}")?;
+    assert!(rt; text.len() <= LONGEST_FILE);
+    let tokens = scan(alloc, text.as_bytes())?;
+    let mut shown = String::new(alloc);
+    if let Some(list) = read_aspects(alloc, grammar, &tokens)? {
+        for item in &list {
+            write!(shown, "{:?}", item.body)?;
+        }
+    }
+    Ok(shown)
+}
+
+// An expression of so many tokens: signs, and a digit.
+fn signs(alloc: Global, tokens: usize) -> Result<String, AllocError> {
+    let mut text = String::new(alloc);
+    for _ in 1..tokens {
+        text.push('-')?;
+    }
+    text.push('1')?;
+    Ok(text)
+}
+
+// An aspect of so many attributes.
+fn many_items(alloc: Global, count: u32) -> Result<String, AllocError> {
+    let mut text = String::new(alloc);
+    text.push_str("aspect A {")?;
+    for i in 0..count {
+        write!(text, "syn int N.v{i}() = {i};\n")?;
+    }
+    text.push('}')?;
+    Ok(text)
+}
+
+#[test]
+fn reads_aspects(rt: HostRuntime) -> Result<(), Fail> {
+    let alloc = rt.alloc();
+    let grammar = grammar_said(&rt, alloc, "N; M;")?;
+    for (text, items) in [
+        ("", Some(0)),
+        ("aspect A { syn int N.v() = 5; }", Some(1)),
+        ("aspect A {} aspect B { syn int M.v() = 1; }", Some(1)),
+        (
+            "aspect A { syn int N.v() = 1; syn int M.v() = 2; }",
+            Some(2),
+        ),
+        ("aspect A { syn int N.v() = 1; syn int N.v() = 2; }", None),
+        (
+            "aspect A { syn int N.v() = 1; } aspect B { syn boolean N.v() = true; }",
+            None,
+        ),
+        ("aspect A { syn int X.v() = 5; }", None),
+        ("aspect A { syn boolean N.v() = 5; }", None),
+        ("aspect A { syn int N.v() = true; }", None),
+        ("aspect A { syn lazy int N.v() = 5; }", None),
+        ("aspect A { syn int N.v(int k) = 5; }", None),
+        ("aspect A { syn int N.int() = 5; }", None),
+        ("aspect A { syn int N.class() = 5; }", None),
+        ("aspect A { inh int N.v(); }", None),
+        ("aspect A { syn int N.v() = 5; ", None),
+        ("syn int N.v() = 5;", None),
+    ] {
+        assert_eq!(rt; items_said(&rt, alloc, &grammar, text)?, items, "{text}");
+    }
+    let most = many_items(alloc, 1024)?;
+    assert_eq!(rt;
+        items_said(&rt, alloc, &grammar, most.as_str())?,
+        Some(1024)
+    );
+    let more = many_items(alloc, 1025)?;
+    assert_eq!(rt; items_said(&rt, alloc, &grammar, more.as_str())?, None);
+    Ok(())
+}
+
+#[test]
+fn reads_expressions(rt: HostRuntime) -> Result<(), Fail> {
+    let alloc = rt.alloc();
+    let grammar = grammar_said(&rt, alloc, "N;")?;
+    for (kind, body, shown) in [
+        ("int", "2147483647", "Int(2147483647)"),
+        ("int", "002147483647", "Int(2147483647)"),
+        ("int", "2147483648", ""),
+        ("int", "-2147483648", ""),
+        ("int", "-2147483647", "Negate(Int(2147483647))"),
+        (
+            "int",
+            "1 - 2 - 3",
+            "Binary(Subtract, Binary(Subtract, Int(1), Int(2)), Int(3))",
+        ),
+        (
+            "int",
+            "1 - (2 - 3)",
+            "Binary(Subtract, Int(1), Binary(Subtract, Int(2), Int(3)))",
+        ),
+        (
+            "int",
+            "1 + -2 * 3",
+            "Binary(Add, Int(1), Binary(Multiply, Negate(Int(2)), Int(3)))",
+        ),
+        (
+            "boolean",
+            "1 + 2 < 3 == 4 >= 5",
+            "Binary(Equal, Binary(Less, Binary(Add, Int(1), Int(2)), Int(3)), Binary(AtLeast, Int(4), Int(5)))",
+        ),
+        (
+            "boolean",
+            "1 <= 2 != (3 > 4)",
+            "Not(Binary(Equal, Binary(AtMost, Int(1), Int(2)), Binary(Greater, Int(3), Int(4))))",
+        ),
+        (
+            "boolean",
+            "true || !false && true == false",
+            "Or(Truth(true), And(Not(Truth(false)), Binary(Equal, Truth(true), Truth(false))))",
+        ),
+        (
+            "int",
+            "true ? 1 : false || true ? 2 : 3",
+            "If(Truth(true), Int(1), If(Or(Truth(false), Truth(true)), Int(2), Int(3)))",
+        ),
+        ("boolean", "1 < 2 < 3", ""),
+        ("boolean", "true == 1", ""),
+        ("int", "true ? 1 : false", ""),
+        ("int", "1 ? 2 : 3", ""),
+        ("int", "-true", ""),
+        ("boolean", "!1", ""),
+        ("int", "this", ""),
+        ("int", "v()", ""),
+        ("int", "v", ""),
+        ("int", "1 / 2", ""),
+        ("int", "(1", ""),
+        ("int", "1 +", ""),
+        ("int", "", ""),
+    ] {
+        let said = body_said(&rt, alloc, &grammar, kind, body)?;
+        assert_eq!(rt; said.as_str(), shown, "{body}");
+    }
+    for (tokens, is_said) in [(400, true), (401, false)] {
+        let body = signs(alloc, tokens)?;
+        let said = body_said(&rt, alloc, &grammar, "int", body.as_str())?;
+        assert_eq!(rt; !said.is_empty(), is_said, "{tokens}");
+    }
+    Ok(())
+}
+
+#[test]
+fn reads_trees(rt: HostRuntime) -> Result<(), Fail> {
+    let alloc = rt.alloc();
+    let grammar = grammar_said(&rt, alloc, "N; M;")?;
+    for (text, is_said) in [
+        ("N()", true),
+        (" N ( ) // the root", true),
+        ("M()", false),
+        ("X()", false),
+        ("N", false),
+        ("N(N())", false),
+        ("N() N()", false),
+        ("", false),
+    ] {
+        assert!(rt; text.len() <= LONGEST_FILE);
+        let tokens = scan(alloc, text.as_bytes())?;
+        assert_eq!(rt; read_tree(alloc, &grammar, &tokens)?, is_said, "{text}");
+    }
+    Ok(())
+}
+
+fn rules_said(
+    rt: &impl Abort,
+    alloc: Global,
+    grammar: &Grammar,
+    text: &str,
+) -> Result<Rules, Fail> {
+    assert!(rt; text.len() <= LONGEST_FILE);
+    let tokens = scan(alloc, text.as_bytes())?;
+    match read_aspects(alloc, grammar, &tokens)? {
+        Some(list) => Ok(Rules::of_equations(alloc, grammar, list)?),
+        None => Err("no aspects")?,
+    }
+}
+
+// The tree of one node of the first class.
+fn lone_tree(alloc: Global, grammar: &Grammar) -> Result<Tree, Fail> {
+    let root = FirstNode {
+        class: grammar.first_class(),
+        parent: 0,
+        component: 0,
+        tokens: Tokens::of(Vec::new(alloc)),
+    };
+    let mut nodes = Vec::new(alloc);
+    nodes.push(root)?;
+    Ok(Tree::of_nodes(alloc, nodes)?)
+}
+
+// The queries that the text says, written out with a blank behind each, or `none`.
+fn queries_said(
+    rt: &impl Abort,
+    alloc: Global,
+    grammar: &Grammar,
+    rules: &Rules,
+    tree: &Tree,
+    text: &str,
+) -> Result<String, Fail> {
+    assert!(rt; text.len() <= LONGEST_FILE);
+    let mut shown = String::new(alloc);
+    match read_queries(alloc, grammar, rules, tree, text.as_bytes())? {
+        Some(list) => {
+            for query in &list {
+                write!(shown, "{:?} ", query.expression())?;
+            }
+        }
+        None => shown.push_str("none")?,
+    }
+    Ok(shown)
+}
+
+// So many line feeds, and a query.
+fn late_query(alloc: Global, lines: usize) -> Result<String, AllocError> {
+    let mut text = String::new(alloc);
+    for _ in 0..lines {
+        text.push('\n')?;
+    }
+    text.push_str("@0.v()")?;
+    Ok(text)
+}
+
+#[test]
+fn reads_queries(rt: HostRuntime) -> Result<(), Fail> {
+    let alloc = rt.alloc();
+    let grammar = grammar_said(&rt, alloc, "N; M;")?;
+    let rules = rules_said(
+        &rt,
+        alloc,
+        &grammar,
+        "aspect A { syn int N.v() = 5; syn int N.u() = 6; syn int M.w() = 7; }",
+    )?;
+    let tree = lone_tree(alloc, &grammar)?;
+    let v = "Call(AttrId(0), Source(0)) ";
+    for (text, shown) in [
+        ("", ""),
+        ("@0.v()", v),
+        ("@0.v()\n", v),
+        (
+            "@0.u()\n@0.v()\n",
+            "Call(AttrId(1), Source(0)) Call(AttrId(0), Source(0)) ",
+        ),
+        ("\n \t\n@0.v()\n\n", v),
+        ("# @0.u()\n  # again\n@0.v()", v),
+        ("\r\n@0.v()\r\n", v),
+        (" @ 00000000000000000000 . v ( ) // a comment", v),
+        ("// a comment", "none"),
+        ("@0.v() # behind", "none"),
+        ("@1.v()", "none"),
+        ("@4294967296.v()", "none"),
+        ("@0.w()", "none"),
+        ("@0.x()", "none"),
+        ("@0.v", "none"),
+        ("@0.v()\n@0.v() @0.v()", "none"),
+        ("@0.\nv()", "none"),
+        ("@0.int()", "none"),
+        ("v()", "none"),
+    ] {
+        let said = queries_said(&rt, alloc, &grammar, &rules, &tree, text)?;
+        assert_eq!(rt; said.as_str(), shown, "{text}");
+    }
+    for (lines, shown) in [(65_535, v), (65_536, "none")] {
+        let text = late_query(alloc, lines)?;
+        let said = queries_said(&rt, alloc, &grammar, &rules, &tree, text.as_str())?;
+        assert_eq!(rt; said.as_str(), shown, "{lines}");
+    }
+    Ok(())
+}
