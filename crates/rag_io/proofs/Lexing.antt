@@ -15,7 +15,7 @@ use Rattle.rag_io.specs.Fronts.{begins, run, text_end, comment_end, first_sign, 
 use Rattle.rag_io.proofs.Runs.{run-cons, run-append, run_passes, run_stops}
 use Rattle.rag_io.proofs.Texts.{text_end-append, finds_quote, FindsQuote}
 use Rattle.rag_io.proofs.Comments.{comment_end-append, finds_end, FindsEnd}
-use Rattle.rag_io.proofs.Signs.{finds_sign, FindsSign, IsLongest, passes_among}
+use Rattle.rag_io.proofs.Signs.{finds_sign, FindsSign, passes_among}
 
 -- the bytes begin with the sign where the test says so
 begins_from_test : (bytes sign : List ℕ) → starts_with nat_eq bytes sign ≡ true → bytes ≡ sign ++ drop (length sign) bytes
@@ -171,13 +171,3 @@ lexeme_of-token (text body rest is) = ap text_front (text_end-append rest is) �
 lexeme_of-token (symbol sign rest listed longest no_line no_block) =
     lexeme_of-sign sign rest (passes_among begins_symbol symbols sign symbols_begin listed) no_line no_block
     ∙ same_length sign rest listed longest (first_sign symbols (sign ++ rest)) (finds_sign symbols (sign ++ rest) refl)
-
--- a symbol takes a byte
-pub first_sign-takes : (bytes sign : List ℕ) → Some sign ≡ first_sign symbols bytes → 0 < length sign
-first_sign-takes bytes sign e =
-    let found : IsLongest symbols bytes sign = subst (FindsSign symbols bytes) (sym e) (finds_sign symbols bytes refl) in
-    some sign (passes_among begins_symbol symbols sign symbols_begin found.listed)
-  where
-    some : (sign : List ℕ) → begins_symbol sign ≡ true → 0 < length sign
-    some [] starts = cc
-    some (b ∷ more) starts = omega arith

@@ -6,4 +6,5 @@ pub mod Readings
 pub mod Runs
 pub mod Scanning
 pub mod Signs
+pub mod SymbolLengths
 pub mod Texts

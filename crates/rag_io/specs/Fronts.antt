@@ -1,7 +1,6 @@
 -- What begins at the front of some bytes, computed.
-use Rattle.std.specs.Prelude.{ℕ, ◌+◌, ◌<◌, ◌≤◌, List, [], ◌∷◌, Bool, true, false, ◌&&◌, Option, Some, None, length, ◌==◌, if◌then◌else◌, take_while, drop, nat_eq}
-use Rattle.std.specs.List.{starts_with}
-use Rattle.std.specs.Borrow.{Bor}
+use Rattle.std.specs.Prelude.{ℕ, ◌+◌, ◌<◌, ◌≤◌, List, [], ◌∷◌, Bool, true, false, ◌&&◌, Option, Some, None, length, codes, ◌==◌, if◌then◌else◌, take_while, drop, nat_eq}
+use Rattle.std.specs.List.{starts_with, list_any}
 use Rattle.rag_io.specs.declared.token.TokenKind.TheVariants as kinds
 use Rattle.rag_io.specs.declared.lexeme.TextStep.{TextStep}
 use Rattle.rag_io.specs.declared.lexeme.TextStep.TheVariants.{Inside, Closes, Breaks}
@@ -42,10 +41,6 @@ unfoldable pub comment_end : List ℕ → Option ℕ
 comment_end [] = None
 comment_end (b ∷ bytes) = if closes_comment b bytes then Some 2 else one_more (comment_end bytes)
 
--- what a reference points to
-abbrev pub pointed : Bor (List ℕ) → List ℕ
-pointed sign = sign.now
-
 -- the first of the signs with which the bytes begin
 unfoldable pub first_sign : List (List ℕ) → List ℕ → Option (List ℕ)
 first_sign [] bytes = None
@@ -67,6 +62,22 @@ text_front (Some n) = Token kinds.Text (n + 1)
 abbrev pub comment_front : Option ℕ → Lexeme
 comment_front None = Bad
 comment_front (Some n) = Blank (n + 2)
+
+-- the signs that begin no longer one
+abbrev pub is_lone : ℕ → Bool
+is_lone b = list_any (λ sign. b == sign) (codes ";,.()[]{}?+-*/@")
+
+-- the signs that an equals sign behind makes longer ones
+abbrev pub takes_equals : ℕ → Bool
+takes_equals b = list_any (λ sign. b == sign) (codes "=!<>")
+
+-- How many bytes the symbol takes of which this is the first: none where no symbol begins. It agrees with the table of signs.
+abbrev pub symbol_length : ℕ → List ℕ → ℕ
+symbol_length b more = if b == 58 then (if starts_with nat_eq more (codes ":=") then 3 else 1)
+    else (if b == 38 then (if begins 38 more then 2 else 0)
+    else (if b == 124 then (if begins 124 more then 2 else 1)
+    else (if takes_equals b then (if begins 61 more then 2 else 1)
+    else (if is_lone b then 1 else 0))))
 
 -- a symbol
 abbrev pub symbol_front : Option (List ℕ) → Lexeme
