@@ -121,5 +121,7 @@ fn rules_answer(rt: HostRuntime) -> Result<(), Fail> {
     assert_eq!(rt; rules.find(&grammar, ClassId(1), b"w".as_slice()), None);
     assert_eq!(rt; rules.syn_equation(ClassId(1), AttrId(1)), Some(EqId(1)));
     assert_eq!(rt; rules.syn_equation(ClassId(0), AttrId(1)), None);
+    let query = QueryEq::of_call(alloc, 3, AttrId(1))?;
+    assert!(rt; matches!(query.expression(), TExpr::Call(AttrId(1), _)));
     Ok(())
 }
