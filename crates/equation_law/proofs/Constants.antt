@@ -122,29 +122,29 @@ module _ (W : World) (p : Place) where
   means (Binary o a b) = operated_means o (type_of no_names a) (type_of no_names b) (meaning_of W a p) (meaning_of W b p) (means a) (means b)
   means (And a b) =
       part_truth (type_of no_names a) (where_truth (type_of no_names b) (Some kinds.Truth)) (meaning_of W a p) (meaning_of W (And a b) p) (means a) (λ x e.
-        part_truth (type_of no_names b) (Some kinds.Truth) (meaning_of W b p) (meaning_of W (And a b) p) (means b) (λ y f. (
-          Truth (cond x y false),
-          ap (λ c. next c (λ v. cond (truth v) (next (meaning_of W b p) (λ w. Gives (Truth (truth w)))) (Gives (Truth false)))) e ∙ elim x as (λ z. cond z (next (meaning_of W b p) (λ w. Gives (Truth (truth w)))) (Gives (Truth false)) ≡ Gives (Truth (cond z y false))) [
-            | true ↦ ap (λ c. next c (λ w. Gives (Truth (truth w)))) f
-            | false ↦ refl
-          ],
-          (_, refl),
-        ))
+      part_truth (type_of no_names b) (Some kinds.Truth) (meaning_of W b p) (meaning_of W (And a b) p) (means b) (λ y f. (
+        Truth (cond x y false),
+        ap (λ c. next c (λ v. cond (truth v) (next (meaning_of W b p) (λ w. Gives (Truth (truth w)))) (Gives (Truth false)))) e ∙ elim x as (λ z. cond z (next (meaning_of W b p) (λ w. Gives (Truth (truth w)))) (Gives (Truth false)) ≡ Gives (Truth (cond z y false))) [
+          | true ↦ ap (λ c. next c (λ w. Gives (Truth (truth w)))) f
+          | false ↦ refl
+        ],
+        (_, refl),
+      ))
       )
   means (Or a b) =
       part_truth (type_of no_names a) (where_truth (type_of no_names b) (Some kinds.Truth)) (meaning_of W a p) (meaning_of W (Or a b) p) (means a) (λ x e.
-        part_truth (type_of no_names b) (Some kinds.Truth) (meaning_of W b p) (meaning_of W (Or a b) p) (means b) (λ y f. (
-          Truth (cond x true y),
-          ap (λ c. next c (λ v. cond (truth v) (Gives (Truth true)) (next (meaning_of W b p) (λ w. Gives (Truth (truth w)))))) e ∙ elim x as (λ z. cond z (Gives (Truth true)) (next (meaning_of W b p) (λ w. Gives (Truth (truth w)))) ≡ Gives (Truth (cond z true y))) [
-            | true ↦ refl
-            | false ↦ ap (λ c. next c (λ w. Gives (Truth (truth w)))) f
-          ],
-          (_, refl),
-        ))
+      part_truth (type_of no_names b) (Some kinds.Truth) (meaning_of W b p) (meaning_of W (Or a b) p) (means b) (λ y f. (
+        Truth (cond x true y),
+        ap (λ c. next c (λ v. cond (truth v) (Gives (Truth true)) (next (meaning_of W b p) (λ w. Gives (Truth (truth w)))))) e ∙ elim x as (λ z. cond z (Gives (Truth true)) (next (meaning_of W b p) (λ w. Gives (Truth (truth w)))) ≡ Gives (Truth (cond z true y))) [
+          | true ↦ refl
+          | false ↦ ap (λ c. next c (λ w. Gives (Truth (truth w)))) f
+        ],
+        (_, refl),
+      ))
       )
   means (If t a b) =
       part_truth (type_of no_names t) (common (type_of no_names a) (type_of no_names b)) (meaning_of W t p) (meaning_of W (If t a b) p) (means t) (λ x e.
-        subst (λ c. Means (common (type_of no_names a) (type_of no_names b)) c) (sym (ap (λ c. next c (λ v. cond (truth v) (meaning_of W a p) (meaning_of W b p))) e)) (either_part (type_of no_names a) (type_of no_names b) (meaning_of W a p) (meaning_of W b p) x (means a) (means b))
+      subst (λ c. Means (common (type_of no_names a) (type_of no_names b)) c) (sym (ap (λ c. next c (λ v. cond (truth v) (meaning_of W a p) (meaning_of W b p))) e)) (either_part (type_of no_names a) (type_of no_names b) (meaning_of W a p) (meaning_of W b p) x (means a) (means b))
       )
 
   -- what a well typed constant means

@@ -41,17 +41,17 @@ same_attribute : (a b n m : ℕ) → (eqb a b && eqb n m) ≡ same_instance (at_
 same_attribute a b n m =
     both_ways (eqb a b && eqb n m) (same_instance (at_source a n) (at_source b m))
     (λ e.
-      let h = both_equal a b n m e in
-      let f = h.0 in
-      let g = h.1 in
-      let i : at_source a n ≡ at_source b m = cc in
-      same_as (at_source a n) (at_source b m) i
+    let h = both_equal a b n m e in
+    let f = h.0 in
+    let g = h.1 in
+    let i : at_source a n ≡ at_source b m = cc in
+    same_as (at_source a n) (at_source b m) i
     )
     (λ e.
-      let h = same_instance_is (at_source a n) (at_source b m) e in
-      let f : a ≡ b = cc in
-      let g : n ≡ m = cc in
-      equal_both a b n m f g
+    let h = same_instance_is (at_source a n) (at_source b m) e in
+    let f : a ≡ b = cc in
+    let g : n ≡ m = cc in
+    equal_both a b n m f g
     )
 
 same_query : (p q : ℕ) → eqb p q ≡ same_instance (Query p) (Query q)
@@ -59,9 +59,9 @@ same_query p q =
     both_ways (eqb p q) (same_instance (Query p) (Query q))
     (λ e. same_as (Query p) (Query q) (ap Query (eqb-true p q e)))
     (λ e.
-      let h = same_instance_is (Query p) (Query q) e in
-      let f : p ≡ q = cc in
-      eq-eqb p q f
+    let h = same_instance_is (Query p) (Query q) e in
+    let f : p ≡ q = cc in
+    eq-eqb p q f
     )
 
 -- two names are equal where they stand for one instance

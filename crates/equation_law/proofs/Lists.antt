@@ -56,6 +56,6 @@ attribute_listed xs ys attributes tree k a all e p i =
     let s = some_of (λ (x : DeclaredAttribute). x.declared) (slice_get attributes k) a e in
     let rest = attribute_instances (drop (k + 1) attributes) (k + 1) tree in
     let r : attribute_instances (drop k attributes) k tree ≡ map (at_source k) (nodes_of tree a.class 0) ++ rest =
-      ap (λ zs. attribute_instances zs k tree) (drop_at attributes k s.0 s.1) ∙ ap (λ (x : Attr). map (at_source k) (nodes_of tree x.class 0) ++ attribute_instances (drop (k + 1) attributes) (suc k) tree) s.2 ∙ ap (λ j. map (at_source k) (nodes_of tree a.class 0) ++ attribute_instances (drop (k + 1) attributes) j tree) (sym (add-one k))
+    ap (λ zs. attribute_instances zs k tree) (drop_at attributes k s.0 s.1) ∙ ap (λ (x : Attr). map (at_source k) (nodes_of tree x.class 0) ++ attribute_instances (drop (k + 1) attributes) (suc k) tree) s.2 ∙ ap (λ j. map (at_source k) (nodes_of tree a.class 0) ++ attribute_instances (drop (k + 1) attributes) j tree) (sym (add-one k))
     in
     ap (λ zs. zs ++ rest) p ∙ append_assoc (map instance_of xs) (map (at_source k) (nodes_of tree a.class 0)) rest ∙ ap (λ zs. map instance_of xs ++ zs) (sym r) ∙ i

@@ -12,6 +12,8 @@ mod query_types;
 mod rounds;
 mod sites;
 mod system;
+#[cfg(test)]
+mod tests;
 mod tree;
 mod values;
 

@@ -60,7 +60,11 @@ impl Places {
     }
 
     /// The value that stands at the first place of an instance, if there are such a place and a value.
-    pub(crate) fn value(&self, values: &[Option<NamedValue>], name: NamedInstance) -> Option<PlainValue>
+    pub(crate) fn value(
+        &self,
+        values: &[Option<NamedValue>],
+        name: NamedInstance,
+    ) -> Option<PlainValue>
         ensures { option_map value_of result ≡ found self.now.map values.now (instance_of name) }
     {
         let place = self.map.get(&name)?;

@@ -10,10 +10,10 @@ use Rattle.equation_law.proofs.listing.push_attributes.Goals as goal
 pub loop-number-preserved : goal.loop-number-preserved
 loop-number-preserved c = record {
   listed =
-    let rules : option_map (λ (x : Attribute). x.declared) (slice_get (program_of c.args.system.now).rules.attributes c.loop-number.number) ≡ Some c.attr.result.now =
+      let rules : option_map (λ (x : Attribute). x.declared) (slice_get (program_of c.args.system.now).rules.attributes c.loop-number.number) ≡ Some c.attr.result.now =
       subst (λ (r : RuleSet). option_map (λ (x : Attribute). x.declared) (slice_get r.attributes c.loop-number.number) ≡ Some c.attr.result.now) c.rules-rules.ensures c.attr.ensures
-    in
-    let more = subst (λ (t : List Node). map instance_of c.push_nodes.new.names.items ≡ map instance_of c.loop-number.names.items ++ map (at_source c.loop-number.number) (nodes_of t c.attr.result.now.class 0)) c.tree.ensures c.in_ok-push_nodes.ensures.names in
-    attribute_listed c.loop-number.names.items c.push_nodes.new.names.items (program_of c.args.system.now).rules.attributes (program_of c.args.system.now).tree c.loop-number.number c.attr.result.now _ rules more c.loop-number.invariant.listed;
+      in
+      let more = subst (λ (t : List Node). map instance_of c.push_nodes.new.names.items ≡ map instance_of c.loop-number.names.items ++ map (at_source c.loop-number.number) (nodes_of t c.attr.result.now.class 0)) c.tree.ensures c.in_ok-push_nodes.ensures.names in
+      attribute_listed c.loop-number.names.items c.push_nodes.new.names.items (program_of c.args.system.now).rules.attributes (program_of c.args.system.now).tree c.loop-number.number c.attr.result.now _ rules more c.loop-number.invariant.listed;
   few = omega arith;
 }
