@@ -18,7 +18,9 @@ use Rattle.query_runner.specs.Output.{Answers, AreReplies, HoldsAll, HoldsShort,
 use Rattle.query_runner.specs.Queries.{SaysQueries}
 use Rattle.query_runner.specs.Trees.{SaysTree}
 use Rattle.query_runner.specs.Words.{FileNames, names_of}
-use Rattle.query_runner.proofs.Uniqueness.{one_grammar, one_items, one_tree, one_queries}
+use Rattle.query_runner.proofs.SayingQueries.{one_queries}
+use Rattle.query_runner.proofs.SayingTrees.{one_tree}
+use Rattle.query_runner.proofs.Uniqueness.{one_grammar, one_items}
 
 -- what is read from some bytes is one
 module _ {bytes : List ℕ} where
@@ -64,7 +66,7 @@ same_program held p q a b =
     let rules : p.rules ≡ q.rules = a.rules ∙ ap rules_of items ∙ sym b.rules in
     let tree : p.tree ≡ q.tree = both_trees held a.grammar b.grammar a.tree b.tree in
     let texts : p.texts ≡ q.texts = a.texts ∙ sym b.texts in
-    let queries : p.queries ≡ q.queries = one_queries a.queries (queries_there rules tree b.queries) in
+    let queries : p.queries ≡ q.queries = one_queries p.rules p.tree a.queries (queries_there rules tree b.queries) in
     same_parts grammar rules tree texts queries
 
 one_text : {v w : Value} {t u : List ℕ} → v ≡ w → IsReplyText v t → IsReplyText w u → t ≡ u

@@ -1,9 +1,10 @@
 -- Steps of the loop over the replies.
-use Rattle.std.proofs.Common.{◌≡◌, ℕ, suc, ◌+◌, ◌<◌, Bool, true, ℤ, List, [], ◌∷◌, ◌++◌, length, drop, drop-cons, add-one, get_or, Option, Some, None, Result, Ok, Err, OnOk, refl, sym, ap, subst, ◌∙◌, append_assoc}
+use Rattle.std.proofs.Common.{◌≡◌, ℕ, suc, ◌+◌, ◌<◌, Bool, true, ℤ, List, [], ◌∷◌, ◌++◌, length, drop, drop-cons, add-one, get_or, Option, Some, None, Result, Ok, Err, OnOk, IfSome, IsSome, MatchOption, refl, sym, ap, subst, ◌∙◌, append_assoc}
 use Rattle.std.proofs.lemmas.List.{append-nil}
 use Rattle.std.specs.Fmt.{signed_decimal}
 use Rattle.rag_io.specs.declared.Memory.{Memory}
 use Rattle.attr_types.specs.Expression.{Expression, Truth as TruthLiteral}
+use Rattle.equation_law.specs.Named.{IsNoInt, IsNoTruth}
 use Rattle.equation_law.specs.Names.{Query}
 use Rattle.equation_law.specs.Program.{Program}
 use Rattle.equation_law.specs.Equations.{HasValue}
@@ -15,9 +16,16 @@ pub truth_added : (r : Result Unit Memory) (v : Value) (b : Bool) (old new : Lis
 truth_added (Ok u) v b old new e h = subst (λ (x : Value). AddsReply x old new) (sym e) (record { text = truth_text b; of_value = of_truth b; added = h })
 truth_added (Err m) v b old new e h = tt
 
-pub int_added : (r : Result Unit Memory) (v : Value) (z : ℤ) (old new : List ℕ) → v ≡ Int z → OnOk r (new ≡ old ++ (signed_decimal z ++ 10 ∷ [])) → OnOk r (AddsReply v old new)
-int_added (Ok u) v z old new e h = subst (λ (x : Value). AddsReply x old new) (sym e) (record { text = signed_decimal z; of_value = of_int z; added = h })
-int_added (Err m) v z old new e h = tt
+-- a plain value that is no truth value is an integer
+pub int_there : (o : Option ℤ) (v : Value) → MatchOption o (IsNoInt v) (λ z. v ≡ Int z) → IsNoTruth v → IsPlain v → IsSome o
+int_there None v h no_truth plain = absurd (plain no_truth h)
+int_there (Some z) v h no_truth plain = refl
+
+pub int_added : (o : Option ℤ) (r : Result Unit Memory) (v : Value) (old new : List ℕ) → MatchOption o (IsNoInt v) (λ z. v ≡ Int z) → IsNoTruth v → IsPlain v
+    → IfSome o (λ z. OnOk r (new ≡ old ++ (signed_decimal z ++ 10 ∷ []))) → OnOk r (AddsReply v old new)
+int_added None r v old new is no_truth plain h = absurd (plain no_truth is)
+int_added (Some z) (Ok u) v old new is no_truth plain h = subst (λ (x : Value). AddsReply x old new) (sym is) (record { text = signed_decimal z; of_value = of_int z; added = h })
+int_added (Some z) (Err m) v old new is no_truth plain h = tt
 
 -- what a table has for a query is plain, and its value
 pub reply_plain : (p : Program) (q : ℕ) (o : Option Value) (v : Value) → IsReply p q o → o ≡ Some v → IsPlain v

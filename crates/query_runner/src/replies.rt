@@ -1,5 +1,5 @@
 // The reply lines.
-ghost use Rattle.std.specs.Prelude.{◌≡◌, ◌++◌, ◌∷◌, [], IfOk, OnOk};
+ghost use Rattle.std.specs.Prelude.{◌≡◌, ◌++◌, ◌∷◌, [], IfOk, IfSome, IsSome, OnOk};
 ghost use Rattle.std.specs.Fmt.{signed_decimal};
 ghost use Rattle.equation_law.specs.Named.{value_in};
 ghost use Rattle.equation_law.specs.Systems.{program_of};
@@ -25,14 +25,20 @@ fn add_truth(text: &mut Vec<u8>, truth: bool) -> Result<(), Memory>
     }
 }
 
-fn add_int(alloc: Global, text: &mut Vec<u8>, int: i32) -> Result<(), Memory>
-    ensures { OnOk result (text.new.items ≡ text.old.items ++ (signed_decimal int ++ 10 ∷ [])) }
+fn add_int(alloc: Global, text: &mut Vec<u8>, int: Option<i32>) -> Result<(), Memory>
+    requires { IsSome int }
+    ensures { IfSome int (λ z. OnOk result (text.new.items ≡ text.old.items ++ (signed_decimal z ++ 10 ∷ []))) }
 {
-    let digits = int.to_string(alloc).map_err(|_| Memory)?;
-    text.extend_from_slice(digits.as_bytes())
-        .map_err(|_| Memory)?;
-    text.push(b'\n').map_err(|_| Memory)?;
-    Ok(())
+    match int {
+        Some(int) => {
+            let digits = int.to_string(alloc).map_err(|_| Memory)?;
+            text.extend_from_slice(digits.as_bytes())
+                .map_err(|_| Memory)?;
+            text.push(b'\n').map_err(|_| Memory)?;
+            Ok(())
+        }
+        None => unreachable!(),
+    }
 }
 
 // The line of a reply.
@@ -42,10 +48,7 @@ fn add_reply(alloc: Global, text: &mut Vec<u8>, value: &NamedValue) -> Result<()
 {
     match value.truth() {
         Some(truth) => add_truth(text, truth),
-        None => match value.int() {
-            Some(int) => add_int(alloc, text, int),
-            None => unreachable!(),
-        },
+        None => add_int(alloc, text, value.int()),
     }
 }
 
