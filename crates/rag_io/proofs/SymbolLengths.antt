@@ -85,7 +85,7 @@ none_begins keys b more (sign ∷ signs) other all =
     let parts = and_parts (begins_among keys sign) (list_all (begins_among keys) signs) all in
     cond-false (starts_with nat_eq (b ∷ more) sign) _ _ (differs keys b more sign other parts.0) ∙ none_begins keys b more signs other parts.1
 
--- none of the bytes with which the signs begin
+-- at a byte with which no sign begins
 at_other : (b : ℕ) (more : List ℕ) → (b == 58) ≡ false → (b == 38) ≡ false → (b == 124) ≡ false → takes_equals b ≡ false → is_lone b ≡ false
     → symbol_front (first_sign symbols (b ∷ more)) ≡ Bad
 at_other b more no_colon no_and no_bar no_equals no_lone =

@@ -71,7 +71,7 @@ is_lone b = list_any (λ sign. b == sign) (codes ";,.()[]{}?+-*/@")
 abbrev pub takes_equals : ℕ → Bool
 takes_equals b = list_any (λ sign. b == sign) (codes "=!<>")
 
--- How many bytes the symbol takes of which this is the first: none where no symbol begins. It agrees with the table of signs.
+-- How many bytes the symbol takes that begins with this byte: none where no symbol begins. It is proved to be the first sign of the table.
 abbrev pub symbol_length : ℕ → List ℕ → ℕ
 symbol_length b more = if b == 58 then (if starts_with nat_eq more (codes ":=") then 3 else 1)
     else (if b == 38 then (if begins 38 more then 2 else 0)
