@@ -13,6 +13,13 @@ use ll_parser::{ParseFault, Table, parse};
 use rag_io::{Memory, Token, TokenKind, is_reserved};
 use std::alloc::Global;
 
+// The event of a token.
+const TOKEN_EVENT: u8 = 255;
+
+// The event of a class, which stands behind that of its name.
+const CLASS_EVENT: u8 = 1;
+
+// The class of a token, in the numbers of the grammar.
 fn class_of(token: &Token<'_>) -> u8
     ensures { result ≡ token_class (seen_token token.now) }
 {
@@ -60,7 +67,7 @@ fn events_of(alloc: Global, classes: &[u8], events: &mut Vec<u8>) -> Result<(), 
 fn class_count(events: &[u8]) -> usize
     ensures { result ≡ count_by (λ e. e == 1) events.now }
 {
-    events.iter().filter(|event| **event == 1).count()
+    events.iter().filter(|event| **event == CLASS_EVENT).count()
 }
 
 // The text of the token of this number, counted from 1.
@@ -80,9 +87,9 @@ fn names_of(alloc: Global, tokens: &[Token<'_>], events: &[u8]) -> Result<Vec<Ve
     let mut names = Vec::new(alloc);
     let mut at = 0;
     for event in events {
-        if *event == 255 {
+        if *event == TOKEN_EVENT {
             at += 1;
-        } else if *event == 1 {
+        } else if *event == CLASS_EVENT {
             let name = Vec::from_slice(alloc, text_of(tokens, at)).map_err(|_| Memory)?;
             names.push(name).map_err(|_| Memory)?;
         }
