@@ -69,7 +69,7 @@ attribute_in n zero k (y ∷ attributes) x tree c e h m =
     let same : x ≡ y = cc in
     let m' : (c.0 == y.declared.class.0) ≡ true = ap (λ (z : DeclaredAttribute). c.0 == z.declared.class.0) (sym same) ∙ m in
     let first = in_front (at_source n k) (map (at_source n) (nodes_of tree y.declared.class 0)) (attribute_instances attributes (suc n) tree)
-      (subst (λ j. is_in same_instance (map (at_source n) (nodes_of tree y.declared.class 0)) (at_source n j) ≡ true) (omega arith) (node_in n 0 k y.declared.class tree c h m'))
+    (subst (λ j. is_in same_instance (map (at_source n) (nodes_of tree y.declared.class 0)) (at_source n j) ≡ true) (omega arith) (node_in n 0 k y.declared.class tree c h m'))
     in
     subst (λ j. is_in same_instance (attribute_instances (y ∷ attributes) n tree) (at_source j k) ≡ true) (omega arith) first
 attribute_in n (suc a) k (y ∷ attributes) x tree c e h m =

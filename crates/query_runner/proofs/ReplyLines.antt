@@ -44,10 +44,10 @@ pub next_reply : (p : Program) (q : ℕ) (v : Value) (old new : List ℕ) → q 
 next_reply p q v old new h has adds before rest later =
     let later' : AreReplies p (suc q) (drop (suc q) p.queries) rest = subst (λ j. AreReplies p j (drop j p.queries) rest) (add-one q) later in
     let line : AreReplies p q (drop q p.queries) (adds.text ++ 10 ∷ rest) =
-      subst (λ (es : List Expression). AreReplies p q es (adds.text ++ 10 ∷ rest)) (sym (drop-cons p.queries q (TruthLiteral true) h)) (reply has adds.of_value later')
+    subst (λ (es : List Expression). AreReplies p q es (adds.text ++ 10 ∷ rest)) (sym (drop-cons p.queries q (TruthLiteral true) h)) (reply has adds.of_value later')
     in
     let texts : old ++ (adds.text ++ 10 ∷ rest) ≡ new ++ rest =
-      ap (λ (t : List ℕ). old ++ t) (sym (append_assoc adds.text (10 ∷ []) rest)) ∙ sym (append_assoc old (adds.text ++ 10 ∷ []) rest) ∙ ap (λ (t : List ℕ). t ++ rest) (sym adds.added)
+    ap (λ (t : List ℕ). old ++ t) (sym (append_assoc adds.text (10 ∷ []) rest)) ∙ sym (append_assoc old (adds.text ++ 10 ∷ []) rest) ∙ ap (λ (t : List ℕ). t ++ rest) (sym adds.added)
     in
     subst (AreReplies p 0 p.queries) texts (before (adds.text ++ 10 ∷ rest) line)
 
