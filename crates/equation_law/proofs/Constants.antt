@@ -1,7 +1,6 @@
 -- A well typed expression without calls and source nodes demands nothing, and its value is of its type.
-use Rattle.std.proofs.Common.{◌≡◌, ℕ, ℤ, ◌+ℤ◌, ◌-ℤ◌, ◌*ℤ◌, neg_ℤ, int_lt, Bool, true, false, not, cond, Option, Some, None, refl, sym, ap, subst, ◌∙◌}
+use Rattle.std.proofs.Common.{◌≡◌, ℤ, neg_ℤ, Bool, true, false, not, cond, Option, Some, None, refl, sym, ap, subst, ◌∙◌}
 use Rattle.std.specs.Int.{int_wrap}
-use Rattle.std.specs.Ordering.{int_eq}
 use mir.Syntax.{w32}
 use Rattle.attr_types.specs.declared.expression.Operator.{Operator}
 use Rattle.attr_types.specs.declared.expression.Operator.TheVariants.{Add, Subtract, Multiply, Less, AtMost, Greater, AtLeast, Equal}

@@ -74,9 +74,9 @@ module _ {W : World} {A : Instance → Option Value} where
   pub and_stops : {a b : Expression} {n : NamedInstance} → Says W A a (Err n) → Says W A (And a b) (Err n)
   and_stops {a = a} {b = b} {n = n} s = stops (And a b) a n _ (λ p. refl) s
 
-  pub and_ends : {a b : Expression} {v : PlainValue} → Says W A a (Ok v) → truth (value_of v) ≡ false → Says W A (And a b) (Ok (plain.Truth false))
-  and_ends {a = a} {b = b} {v = v} s e =
-      goes (And a b) a v (Ok (plain.Truth false)) _ (λ p. refl) s (λ p. tested A false (truth (value_of v)) _ _ (Ok (plain.Truth false)) e refl)
+  pub and_ends : {a b : Expression} {v : PlainValue} {t : Bool} → Says W A a (Ok v) → t ≡ truth (value_of v) → t ≡ false → Says W A (And a b) (Ok (plain.Truth t))
+  and_ends {a = a} {b = b} {v = v} {t = t} s e f =
+      goes (And a b) a v (Ok (plain.Truth t)) _ (λ p. refl) s (λ p. tested A false (truth (value_of v)) _ _ (Ok (plain.Truth t)) (sym e ∙ f) (ap Truth (sym f)))
 
   pub and_stops_right : {a b : Expression} {v : PlainValue} {n : NamedInstance} → Says W A a (Ok v) → truth (value_of v) ≡ true → Says W A b (Err n) → Says W A (And a b) (Err n)
   and_stops_right {a = a} {b = b} {v = v} {n = n} s e u =
@@ -90,9 +90,9 @@ module _ {W : World} {A : Instance → Option Value} where
   pub or_stops : {a b : Expression} {n : NamedInstance} → Says W A a (Err n) → Says W A (Or a b) (Err n)
   or_stops {a = a} {b = b} {n = n} s = stops (Or a b) a n _ (λ p. refl) s
 
-  pub or_ends : {a b : Expression} {v : PlainValue} → Says W A a (Ok v) → truth (value_of v) ≡ true → Says W A (Or a b) (Ok (plain.Truth true))
-  or_ends {a = a} {b = b} {v = v} s e =
-      goes (Or a b) a v (Ok (plain.Truth true)) _ (λ p. refl) s (λ p. tested A true (truth (value_of v)) _ _ (Ok (plain.Truth true)) e refl)
+  pub or_ends : {a b : Expression} {v : PlainValue} {t : Bool} → Says W A a (Ok v) → t ≡ truth (value_of v) → t ≡ true → Says W A (Or a b) (Ok (plain.Truth t))
+  or_ends {a = a} {b = b} {v = v} {t = t} s e f =
+      goes (Or a b) a v (Ok (plain.Truth t)) _ (λ p. refl) s (λ p. tested A true (truth (value_of v)) _ _ (Ok (plain.Truth t)) (sym e ∙ f) (ap Truth (sym f)))
 
   pub or_stops_right : {a b : Expression} {v : PlainValue} {n : NamedInstance} → Says W A a (Ok v) → truth (value_of v) ≡ false → Says W A b (Err n) → Says W A (Or a b) (Err n)
   or_stops_right {a = a} {b = b} {v = v} {n = n} s e u =

@@ -3,14 +3,13 @@ use Rattle.std.proofs.Common.{◌≡◌, ℕ, suc, ◌+◌, Bool, true, false, c
 use Rattle.std.proofs.lemmas.List.{length-map, length-take, take_more, map-append}
 use Rattle.std.specs.Option.{option_map}
 use Rattle.std.specs.Map.{lookup}
-use Rattle.std.specs.HashMap.{HashMap, get, get_by, Updates}
+use Rattle.std.specs.HashMap.{HashMap, get_by, Updates}
 use Rattle.std.proofs.lemmas.Bool.{eqb-true, eq-eqb}
-use Rattle.attr_types.specs.declared.kinds.AttrId.{AttrId}
 use Rattle.solutions.specs.Rounds.{or_else}
 use Rattle.equation_law.specs.declared.instances.NamedInstance.{NamedInstance}
 use Rattle.equation_law.specs.declared.instances.NamedInstance.TheVariants as named
 use Rattle.equation_law.specs.contracts.instances.NamedInstancePartialEq.TheImpl as equality
-use Rattle.equation_law.specs.Names.{Instance, Attribute, Query, Reference, Null, At, NodeName, Source, Arguments, NoArguments, same_instance}
+use Rattle.equation_law.specs.Names.{Instance, Attribute, Query, Null, At, Source, NoArguments, same_instance}
 use Rattle.equation_law.specs.Named.{instance_of}
 use Rattle.equation_law.specs.Program.{at_source}
 use Rattle.equation_law.specs.Places.{place_in, kept_place}

@@ -14,9 +14,9 @@ use Rattle.equation_law.specs.Names.{Instance, same_instance}
 use Rattle.equation_law.specs.Values.{Value}
 use Rattle.equation_law.specs.Program.{Program}
 use Rattle.equation_law.specs.Equations.{equations_of}
-use Rattle.equation_law.specs.Named.{assigned, instance_of, value_in}
-use Rattle.equation_law.specs.Places.{found, place_in, value_on}
-use Rattle.equation_law.specs.Steps.{IsAfter, IsRound, IsStep, IsStepAt, name_at, standing}
+use Rattle.equation_law.specs.Named.{instance_of, value_in}
+use Rattle.equation_law.specs.Places.{place_in, value_on}
+use Rattle.equation_law.specs.Steps.{IsAfter, IsRound, IsStep, name_at, standing}
 use Rattle.equation_law.proofs.Lists.{some_of}
 use Rattle.equation_law.proofs.Names.{same_instance_is, same_instance_self}
 

@@ -1,14 +1,13 @@
 -- A small program, worked through the definitions: classes N and M, a tree of one N, `syn int N.v() = 5`,
 -- `syn boolean M.w() = true`, and the query `@0.v()`.
-use Rattle.std.proofs.Common.{◌≡◌, ℕ, pos, negsuc, true, false, not, List, [], ◌∷◌, Option, Some, None, codes, refl}
+use Rattle.std.proofs.Common.{◌≡◌, pos, negsuc, true, false, List, [], ◌∷◌, Some, None, codes, refl}
 use Rattle.std.specs.Int.{int_wrap}
-use Rattle.ast_grammar.specs.Grammar.{Class}
 use Rattle.attr_types.specs.declared.expression.Operator.TheVariants.{Add, Subtract, Multiply, Less, AtMost, Greater, AtLeast, Equal}
 use Rattle.attr_types.specs.declared.kinds.Kind.TheVariants as kinds
-use Rattle.attr_types.specs.Expression.{Expression, Truth as TruthLiteral, Int as IntLiteral, Source as SourceNode, Call, Not, Negate, Binary, And, Or, If}
+use Rattle.attr_types.specs.Expression.{Expression, Truth as TruthLiteral, Int as IntLiteral, Source as SourceNode, Call, Negate, Binary, And, Or, If}
 use Rattle.attr_types.specs.Rules.{Item, rules_of}
 use Rattle.solutions.specs.Asking.{Gives, Needs}
-use Rattle.equation_law.specs.Names.{At, Attribute, Instance, NoArguments, Null, Query, Source}
+use Rattle.equation_law.specs.Names.{At, Attribute, NoArguments, Null, Query, Source}
 use Rattle.equation_law.specs.Values.{Int, Node, Truth, as_kind, truth}
 use Rattle.equation_law.specs.Meaning.{Place, meaning_of, operate}
 use Rattle.equation_law.specs.Program.{Program, at_source, lone, source_instances}

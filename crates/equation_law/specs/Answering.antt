@@ -1,7 +1,7 @@
 -- What an evaluation answers.
-use Rattle.std.specs.Prelude.{◌≡◌, ℕ, List, Option, Result, Ok, Err}
+use Rattle.std.specs.Prelude.{◌≡◌, ℕ, Option, Result, Ok, Err}
 use Rattle.attr_types.specs.Expression.{Expression}
-use Rattle.solutions.specs.Asking.{Demands, Outcome, Done, Stuck, run}
+use Rattle.solutions.specs.Asking.{Outcome, Done, Stuck, run}
 use Rattle.equation_law.specs.declared.instances.NamedInstance.{NamedInstance}
 use Rattle.equation_law.specs.declared.values.PlainValue.{PlainValue}
 use Rattle.equation_law.specs.Names.{Instance}

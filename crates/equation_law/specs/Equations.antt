@@ -4,14 +4,13 @@ use Rattle.std.specs.Option.{option_and_then, option_map}
 use Rattle.ast_grammar.specs.declared.grammar.ClassId.{ClassId}
 use Rattle.attr_types.specs.declared.kinds.Kind.{Kind}
 use Rattle.attr_types.specs.declared.kinds.Kind.TheVariants as kinds
-use Rattle.attr_types.specs.declared.kinds.Attr.{Attr}
 use Rattle.attr_types.specs.Expression.{Expression}
 use Rattle.attr_types.specs.Rules.{Equation, equation_number}
 use Rattle.attr_types.specs.Typing.{type_of}
 use Rattle.solutions.specs.Asking.{Demands, Gives, next}
 use Rattle.solutions.specs.Rounds.{Equations, HasValue as HasValueOf}
-use Rattle.equation_law.specs.Names.{NodeName, Source, Reference, Null, At, Arguments, NoArguments, Instance, Attribute, Query, same_instance}
-use Rattle.equation_law.specs.Values.{Value, Node, as_kind, default_of}
+use Rattle.equation_law.specs.Names.{Source, Null, At, NoArguments, Instance, Attribute, Query, same_instance}
+use Rattle.equation_law.specs.Values.{Value, Node, as_kind}
 use Rattle.equation_law.specs.Program.{Program, declared_of, class_of, names_in}
 use Rattle.equation_law.specs.Meaning.{World, Place, meaning_of}
 

@@ -1,5 +1,5 @@
 -- The meaning of an expression: what it demands, in order, and the value that comes of it.
-use Rattle.std.specs.Prelude.{ℕ, ℤ, ◌+ℤ◌, ◌-ℤ◌, ◌*ℤ◌, neg_ℤ, int_lt, Bool, true, false, not, cond}
+use Rattle.std.specs.Prelude.{ℕ, ◌+ℤ◌, ◌-ℤ◌, ◌*ℤ◌, neg_ℤ, int_lt, Bool, true, false, not, cond}
 use Rattle.std.specs.Int.{int_wrap}
 use Rattle.std.specs.Ordering.{int_eq}
 use mir.Syntax.{w32}
@@ -8,7 +8,7 @@ use Rattle.attr_types.specs.declared.expression.Operator.{Operator}
 use Rattle.attr_types.specs.declared.expression.Operator.TheVariants.{Add, Subtract, Multiply, Less, AtMost, Greater, AtLeast, Equal}
 use Rattle.attr_types.specs.Expression.{Expression, Truth as TruthLiteral, Int as IntLiteral, Source as SourceNode, Call, Not, Negate, Binary, And, Or, If}
 use Rattle.solutions.specs.Asking.{Demands, Gives, Needs, next}
-use Rattle.equation_law.specs.Names.{NodeName, Source, Reference, Null, At, Instance, Attribute, NoArguments}
+use Rattle.equation_law.specs.Names.{Source, Reference, Null, At, Instance, Attribute, NoArguments}
 use Rattle.equation_law.specs.Values.{Value, Truth, Int, Text, Node, Texts, Nodes, truth, int, node, as_kind, default_of}
 
 -- what the grammar, the rules and the tree say of attributes

@@ -1,12 +1,12 @@
 -- A program: a grammar with its rules, a source tree, and queries.
-use Rattle.std.specs.Prelude.{◌≡◌, ℕ, suc, ◌<◌, ◌≤◌, Bool, List, [], ◌∷◌, ◌++◌, Option, Some, None, All, map, length, slice_get, if◌then◌else◌, ◌==◌, IsSome}
+use Rattle.std.specs.Prelude.{◌≡◌, ℕ, suc, List, [], ◌∷◌, ◌++◌, Option, map, slice_get, if◌then◌else◌, ◌==◌}
 use Rattle.std.specs.Option.{option_map}
 use Rattle.ast_grammar.specs.declared.grammar.ClassId.{ClassId}
 use Rattle.ast_grammar.specs.Grammar.{Class}
 use Rattle.attr_types.specs.declared.kinds.Attr.{Attr}
 use Rattle.attr_types.specs.Expression.{Expression}
-use Rattle.attr_types.specs.Rules.{Attribute as DeclaredAttribute, RuleSet, Item, AreItems, rules_of}
-use Rattle.attr_types.specs.Typing.{Names, type_of}
+use Rattle.attr_types.specs.Rules.{Attribute as DeclaredAttribute, RuleSet}
+use Rattle.attr_types.specs.Typing.{Names}
 use Rattle.equation_law.specs.Names.{Instance, Attribute, Query, At, Source, NoArguments}
 
 -- a source node: its class, its parent and the component of the parent by which it hangs, and its tokens

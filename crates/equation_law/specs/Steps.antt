@@ -1,5 +1,5 @@
 -- One round over a list of names.
-use Rattle.std.specs.Prelude.{◌≡◌, ℕ, ◌<◌, List, [], Option, Some, None, map, length, slice_index_or}
+use Rattle.std.specs.Prelude.{◌≡◌, ℕ, ◌<◌, List, Option, Some, None, map, length, slice_index_or}
 use Rattle.std.specs.Option.{option_map}
 use Rattle.solutions.specs.Asking.{Outcome, run}
 use Rattle.solutions.specs.Rounds.{AreWhole, outer_rounds, value_of as outcome_value}

@@ -114,20 +114,14 @@ pub(crate) fn evaluate(
             let right = evaluate(system, places, values, right)?;
             Ok(operate(*operator, left, right))
         }
-        TExpr::And(left, right) => {
-            if !evaluate(system, places, values, left)?.truth() {
-                return Ok(PlainValue::Truth(false));
-            }
-            let value = evaluate(system, places, values, right)?;
-            Ok(PlainValue::Truth(value.truth()))
-        }
-        TExpr::Or(left, right) => {
-            if evaluate(system, places, values, left)?.truth() {
-                return Ok(PlainValue::Truth(true));
-            }
-            let value = evaluate(system, places, values, right)?;
-            Ok(PlainValue::Truth(value.truth()))
-        }
+        TExpr::And(left, right) => Ok(PlainValue::Truth(
+            evaluate(system, places, values, left)?.truth()
+                && evaluate(system, places, values, right)?.truth(),
+        )),
+        TExpr::Or(left, right) => Ok(PlainValue::Truth(
+            evaluate(system, places, values, left)?.truth()
+                || evaluate(system, places, values, right)?.truth(),
+        )),
         TExpr::If(condition, then, otherwise) => {
             if evaluate(system, places, values, condition)?.truth() {
                 evaluate(system, places, values, then)

@@ -15,6 +15,8 @@ mod query_table;
 #[cfg(test)]
 mod reader_tests;
 mod replies;
+#[cfg(test)]
+mod run_tests;
 mod running;
 mod sentences;
 mod tree_table;

@@ -69,35 +69,38 @@ fn many_items(alloc: Global, count: u32) -> Result<String, AllocError> {
     Ok(text)
 }
 
+// A text, and how many items it says, if it says some.
+const ASPECTS: [(&str, Option<usize>); 16] = [
+    ("", Some(0)),
+    ("aspect A { syn int N.v() = 5; }", Some(1)),
+    ("aspect A {} aspect B { syn int M.v() = 1; }", Some(1)),
+    (
+        "aspect A { syn int N.v() = 1; syn int M.v() = 2; }",
+        Some(2),
+    ),
+    ("aspect A { syn int N.v() = 1; syn int N.v() = 2; }", None),
+    (
+        "aspect A { syn int N.v() = 1; } aspect B { syn boolean N.v() = true; }",
+        None,
+    ),
+    ("aspect A { syn int X.v() = 5; }", None),
+    ("aspect A { syn boolean N.v() = 5; }", None),
+    ("aspect A { syn int N.v() = true; }", None),
+    ("aspect A { syn lazy int N.v() = 5; }", None),
+    ("aspect A { syn int N.v(int k) = 5; }", None),
+    ("aspect A { syn int N.int() = 5; }", None),
+    ("aspect A { syn int N.class() = 5; }", None),
+    ("aspect A { inh int N.v(); }", None),
+    ("aspect A { syn int N.v() = 5; ", None),
+    ("syn int N.v() = 5;", None),
+];
+
 #[test]
 fn reads_aspects(rt: HostRuntime) -> Result<(), Fail> {
     let alloc = rt.alloc();
     let grammar = grammar_said(&rt, alloc, "N; M;")?;
-    for (text, items) in [
-        ("", Some(0)),
-        ("aspect A { syn int N.v() = 5; }", Some(1)),
-        ("aspect A {} aspect B { syn int M.v() = 1; }", Some(1)),
-        (
-            "aspect A { syn int N.v() = 1; syn int M.v() = 2; }",
-            Some(2),
-        ),
-        ("aspect A { syn int N.v() = 1; syn int N.v() = 2; }", None),
-        (
-            "aspect A { syn int N.v() = 1; } aspect B { syn boolean N.v() = true; }",
-            None,
-        ),
-        ("aspect A { syn int X.v() = 5; }", None),
-        ("aspect A { syn boolean N.v() = 5; }", None),
-        ("aspect A { syn int N.v() = true; }", None),
-        ("aspect A { syn lazy int N.v() = 5; }", None),
-        ("aspect A { syn int N.v(int k) = 5; }", None),
-        ("aspect A { syn int N.int() = 5; }", None),
-        ("aspect A { syn int N.class() = 5; }", None),
-        ("aspect A { inh int N.v(); }", None),
-        ("aspect A { syn int N.v() = 5; ", None),
-        ("syn int N.v() = 5;", None),
-    ] {
-        assert_eq!(rt; items_said(&rt, alloc, &grammar, text)?, items, "{text}");
+    for (text, items) in &ASPECTS {
+        assert_eq!(rt; items_said(&rt, alloc, &grammar, text)?, *items, "{text}");
     }
     let most = many_items(alloc, 1024)?;
     assert_eq!(rt;
@@ -109,67 +112,70 @@ fn reads_aspects(rt: HostRuntime) -> Result<(), Fail> {
     Ok(())
 }
 
+// A type, an expression, and how it is written out where it is said.
+const EXPRESSIONS: [(&str, &str, &str); 25] = [
+    ("int", "2147483647", "Int(2147483647)"),
+    ("int", "002147483647", "Int(2147483647)"),
+    ("int", "2147483648", ""),
+    ("int", "-2147483648", ""),
+    ("int", "-2147483647", "Negate(Int(2147483647))"),
+    (
+        "int",
+        "1 - 2 - 3",
+        "Binary(Subtract, Binary(Subtract, Int(1), Int(2)), Int(3))",
+    ),
+    (
+        "int",
+        "1 - (2 - 3)",
+        "Binary(Subtract, Int(1), Binary(Subtract, Int(2), Int(3)))",
+    ),
+    (
+        "int",
+        "1 + -2 * 3",
+        "Binary(Add, Int(1), Binary(Multiply, Negate(Int(2)), Int(3)))",
+    ),
+    (
+        "boolean",
+        "1 + 2 < 3 == 4 >= 5",
+        "Binary(Equal, Binary(Less, Binary(Add, Int(1), Int(2)), Int(3)), Binary(AtLeast, Int(4), Int(5)))",
+    ),
+    (
+        "boolean",
+        "1 <= 2 != (3 > 4)",
+        "Not(Binary(Equal, Binary(AtMost, Int(1), Int(2)), Binary(Greater, Int(3), Int(4))))",
+    ),
+    (
+        "boolean",
+        "true || !false && true == false",
+        "Or(Truth(true), And(Not(Truth(false)), Binary(Equal, Truth(true), Truth(false))))",
+    ),
+    (
+        "int",
+        "true ? 1 : false || true ? 2 : 3",
+        "If(Truth(true), Int(1), If(Or(Truth(false), Truth(true)), Int(2), Int(3)))",
+    ),
+    ("boolean", "1 < 2 < 3", ""),
+    ("boolean", "true == 1", ""),
+    ("int", "true ? 1 : false", ""),
+    ("int", "1 ? 2 : 3", ""),
+    ("int", "-true", ""),
+    ("boolean", "!1", ""),
+    ("int", "this", ""),
+    ("int", "v()", ""),
+    ("int", "v", ""),
+    ("int", "1 / 2", ""),
+    ("int", "(1", ""),
+    ("int", "1 +", ""),
+    ("int", "", ""),
+];
+
 #[test]
 fn reads_expressions(rt: HostRuntime) -> Result<(), Fail> {
     let alloc = rt.alloc();
     let grammar = grammar_said(&rt, alloc, "N;")?;
-    for (kind, body, shown) in [
-        ("int", "2147483647", "Int(2147483647)"),
-        ("int", "002147483647", "Int(2147483647)"),
-        ("int", "2147483648", ""),
-        ("int", "-2147483648", ""),
-        ("int", "-2147483647", "Negate(Int(2147483647))"),
-        (
-            "int",
-            "1 - 2 - 3",
-            "Binary(Subtract, Binary(Subtract, Int(1), Int(2)), Int(3))",
-        ),
-        (
-            "int",
-            "1 - (2 - 3)",
-            "Binary(Subtract, Int(1), Binary(Subtract, Int(2), Int(3)))",
-        ),
-        (
-            "int",
-            "1 + -2 * 3",
-            "Binary(Add, Int(1), Binary(Multiply, Negate(Int(2)), Int(3)))",
-        ),
-        (
-            "boolean",
-            "1 + 2 < 3 == 4 >= 5",
-            "Binary(Equal, Binary(Less, Binary(Add, Int(1), Int(2)), Int(3)), Binary(AtLeast, Int(4), Int(5)))",
-        ),
-        (
-            "boolean",
-            "1 <= 2 != (3 > 4)",
-            "Not(Binary(Equal, Binary(AtMost, Int(1), Int(2)), Binary(Greater, Int(3), Int(4))))",
-        ),
-        (
-            "boolean",
-            "true || !false && true == false",
-            "Or(Truth(true), And(Not(Truth(false)), Binary(Equal, Truth(true), Truth(false))))",
-        ),
-        (
-            "int",
-            "true ? 1 : false || true ? 2 : 3",
-            "If(Truth(true), Int(1), If(Or(Truth(false), Truth(true)), Int(2), Int(3)))",
-        ),
-        ("boolean", "1 < 2 < 3", ""),
-        ("boolean", "true == 1", ""),
-        ("int", "true ? 1 : false", ""),
-        ("int", "1 ? 2 : 3", ""),
-        ("int", "-true", ""),
-        ("boolean", "!1", ""),
-        ("int", "this", ""),
-        ("int", "v()", ""),
-        ("int", "v", ""),
-        ("int", "1 / 2", ""),
-        ("int", "(1", ""),
-        ("int", "1 +", ""),
-        ("int", "", ""),
-    ] {
+    for (kind, body, shown) in &EXPRESSIONS {
         let said = body_said(&rt, alloc, &grammar, kind, body)?;
-        assert_eq!(rt; said.as_str(), shown, "{body}");
+        assert_eq!(rt; said.as_str(), *shown, "{body}");
     }
     for (tokens, is_said) in [(400, true), (401, false)] {
         let body = signs(alloc, tokens)?;
@@ -179,23 +185,26 @@ fn reads_expressions(rt: HostRuntime) -> Result<(), Fail> {
     Ok(())
 }
 
+// A text, and whether it says a tree.
+const TREES: [(&str, bool); 8] = [
+    ("N()", true),
+    (" N ( ) // the root", true),
+    ("M()", false),
+    ("X()", false),
+    ("N", false),
+    ("N(N())", false),
+    ("N() N()", false),
+    ("", false),
+];
+
 #[test]
 fn reads_trees(rt: HostRuntime) -> Result<(), Fail> {
     let alloc = rt.alloc();
     let grammar = grammar_said(&rt, alloc, "N; M;")?;
-    for (text, is_said) in [
-        ("N()", true),
-        (" N ( ) // the root", true),
-        ("M()", false),
-        ("X()", false),
-        ("N", false),
-        ("N(N())", false),
-        ("N() N()", false),
-        ("", false),
-    ] {
+    for (text, is_said) in &TREES {
         assert!(rt; text.len() <= LONGEST_FILE);
         let tokens = scan(alloc, text.as_bytes())?;
-        assert_eq!(rt; read_tree(alloc, &grammar, &tokens)?, is_said, "{text}");
+        assert_eq!(rt; read_tree(alloc, &grammar, &tokens)?, *is_said, "{text}");
     }
     Ok(())
 }
@@ -259,6 +268,35 @@ fn late_query(alloc: Global, lines: usize) -> Result<String, AllocError> {
     Ok(text)
 }
 
+// A text, and its queries, each written out with a blank behind it, or `none`.
+const QUERIES: [(&str, &str); 19] = [
+    ("", ""),
+    ("@0.v()", "Call(AttrId(0), Source(0)) "),
+    ("@0.v()\n", "Call(AttrId(0), Source(0)) "),
+    (
+        "@0.u()\n@0.v()\n",
+        "Call(AttrId(1), Source(0)) Call(AttrId(0), Source(0)) ",
+    ),
+    ("\n \t\n@0.v()\n\n", "Call(AttrId(0), Source(0)) "),
+    ("# @0.u()\n  # again\n@0.v()", "Call(AttrId(0), Source(0)) "),
+    ("\r\n@0.v()\r\n", "Call(AttrId(0), Source(0)) "),
+    (
+        " @ 00000000000000000000 . v ( ) // a comment",
+        "Call(AttrId(0), Source(0)) ",
+    ),
+    ("// a comment", "none"),
+    ("@0.v() # behind", "none"),
+    ("@1.v()", "none"),
+    ("@4294967296.v()", "none"),
+    ("@0.w()", "none"),
+    ("@0.x()", "none"),
+    ("@0.v", "none"),
+    ("@0.v()\n@0.v() @0.v()", "none"),
+    ("@0.\nv()", "none"),
+    ("@0.int()", "none"),
+    ("v()", "none"),
+];
+
 #[test]
 fn reads_queries(rt: HostRuntime) -> Result<(), Fail> {
     let alloc = rt.alloc();
@@ -270,35 +308,11 @@ fn reads_queries(rt: HostRuntime) -> Result<(), Fail> {
         "aspect A { syn int N.v() = 5; syn int N.u() = 6; syn int M.w() = 7; }",
     )?;
     let tree = lone_tree(alloc, &grammar)?;
-    let v = "Call(AttrId(0), Source(0)) ";
-    for (text, shown) in [
-        ("", ""),
-        ("@0.v()", v),
-        ("@0.v()\n", v),
-        (
-            "@0.u()\n@0.v()\n",
-            "Call(AttrId(1), Source(0)) Call(AttrId(0), Source(0)) ",
-        ),
-        ("\n \t\n@0.v()\n\n", v),
-        ("# @0.u()\n  # again\n@0.v()", v),
-        ("\r\n@0.v()\r\n", v),
-        (" @ 00000000000000000000 . v ( ) // a comment", v),
-        ("// a comment", "none"),
-        ("@0.v() # behind", "none"),
-        ("@1.v()", "none"),
-        ("@4294967296.v()", "none"),
-        ("@0.w()", "none"),
-        ("@0.x()", "none"),
-        ("@0.v", "none"),
-        ("@0.v()\n@0.v() @0.v()", "none"),
-        ("@0.\nv()", "none"),
-        ("@0.int()", "none"),
-        ("v()", "none"),
-    ] {
+    for (text, shown) in &QUERIES {
         let said = queries_said(&rt, alloc, &grammar, &rules, &tree, text)?;
-        assert_eq!(rt; said.as_str(), shown, "{text}");
+        assert_eq!(rt; said.as_str(), *shown, "{text}");
     }
-    for (lines, shown) in [(65_535, v), (65_536, "none")] {
+    for (lines, shown) in [(65_535, "Call(AttrId(0), Source(0)) "), (65_536, "none")] {
         let text = late_query(alloc, lines)?;
         let said = queries_said(&rt, alloc, &grammar, &rules, &tree, text.as_str())?;
         assert_eq!(rt; said.as_str(), shown, "{lines}");

@@ -11,10 +11,6 @@ pub returns-in_ok-receiver-in-Call : goal.returns-in_ok-receiver-in-Call
 returns-in_ok-receiver-in-Call t c =
     said c.in-Call.is (call_goes (boxed c.deref.ensures c.in_ok-receiver-in-Call.ensures) c.call.ensures)
 
-pub returns-then-not-truth : goal.returns-then-not-truth
-returns-then-not-truth t c =
-    said c.in-And.is (and_ends (boxed c.deref-in-And.ensures c.in_ok-evaluate-in-And.ensures) (sym c.truth-in-And.ensures ∙ c.if-not-truth.true))
-
 pub returns-in_err-value-in-Not : goal.returns-in_err-value-in-Not
 returns-in_err-value-in-Not t c =
     thrown c.from_residual-in_err-value-in-Not.ensures (said c.in-Not.is (not_stops (boxed c.deref-in-Not.ensures c.in_err-value-in-Not.ensures)))
@@ -35,17 +31,9 @@ pub returns-in_err-evaluate-in-And : goal.returns-in_err-evaluate-in-And
 returns-in_err-evaluate-in-And t c =
     thrown c.from_residual-in_err-evaluate-in-And.ensures (said c.in-And.is (and_stops (boxed c.deref-in-And.ensures c.in_err-evaluate-in-And.ensures)))
 
-pub returns-in_err-value-in-And : goal.returns-in_err-value-in-And
-returns-in_err-value-in-And t c =
-    thrown c.from_residual-in_err-value-in-And.ensures (said c.in-And.is (and_stops_right (boxed c.deref-in-And.ensures c.in_ok-evaluate-in-And.ensures) (sym c.truth-in-And.ensures ∙ c.if-not-truth.false) (boxed c.deref-in-And-2.ensures c.in_err-value-in-And.ensures)))
-
 pub returns-in_err-evaluate-in-Or : goal.returns-in_err-evaluate-in-Or
 returns-in_err-evaluate-in-Or t c =
     thrown c.from_residual-in_err-evaluate-in-Or.ensures (said c.in-Or.is (or_stops (boxed c.deref-in-Or.ensures c.in_err-evaluate-in-Or.ensures)))
-
-pub returns-in_err-value-in-Or : goal.returns-in_err-value-in-Or
-returns-in_err-value-in-Or t c =
-    thrown c.from_residual-in_err-value-in-Or.ensures (said c.in-Or.is (or_stops_right (boxed c.deref-in-Or.ensures c.in_ok-evaluate-in-Or.ensures) (sym c.truth-in-Or.ensures ∙ c.if-truth.false) (boxed c.deref-in-Or-2.ensures c.in_err-value-in-Or.ensures)))
 
 pub returns-in_err-evaluate-in-If : goal.returns-in_err-evaluate-in-If
 returns-in_err-evaluate-in-If t c =
@@ -63,22 +51,34 @@ pub returns-in_ok-right-in-Binary : goal.returns-in_ok-right-in-Binary
 returns-in_ok-right-in-Binary t c =
     said c.in-Binary.is (binary_goes (boxed c.deref-in-Binary.ensures c.in_ok-left-in-Binary.ensures) (boxed c.deref-in-Binary-2.ensures c.in_ok-right-in-Binary.ensures) c.operate.ensures)
 
-pub returns-in_ok-value-in-And : goal.returns-in_ok-value-in-And
-returns-in_ok-value-in-And t c =
-    said c.in-And.is (and_goes (boxed c.deref-in-And.ensures c.in_ok-evaluate-in-And.ensures) (sym c.truth-in-And.ensures ∙ c.if-not-truth.false) (boxed c.deref-in-And-2.ensures c.in_ok-value-in-And.ensures) c.truth-in-And-2.ensures)
+pub returns-in_err-evaluate-in-And-2 : goal.returns-in_err-evaluate-in-And-2
+returns-in_err-evaluate-in-And-2 t c =
+    thrown c.from_residual-in_err-evaluate-in-And-2.ensures (said c.in-And.is (and_stops_right (boxed c.deref-in-And.ensures c.in_ok-evaluate-in-And.ensures) (sym c.truth-in-And.ensures ∙ c.if-truth.true) (boxed c.deref-then-truth.ensures c.in_err-evaluate-in-And-2.ensures)))
 
-pub returns-then-truth : goal.returns-then-truth
-returns-then-truth t c =
-    said c.in-Or.is (or_ends (boxed c.deref-in-Or.ensures c.in_ok-evaluate-in-Or.ensures) (sym c.truth-in-Or.ensures ∙ c.if-truth.true))
+pub returns-in_ok-evaluate-in-And-2 : goal.returns-in_ok-evaluate-in-And-2
+returns-in_ok-evaluate-in-And-2 t c =
+    said c.in-And.is (and_goes (boxed c.deref-in-And.ensures c.in_ok-evaluate-in-And.ensures) (sym c.truth-in-And.ensures ∙ c.if-truth.true) (boxed c.deref-then-truth.ensures c.in_ok-evaluate-in-And-2.ensures) c.truth-then-truth.ensures)
 
-pub returns-in_ok-value-in-Or : goal.returns-in_ok-value-in-Or
-returns-in_ok-value-in-Or t c =
-    said c.in-Or.is (or_goes (boxed c.deref-in-Or.ensures c.in_ok-evaluate-in-Or.ensures) (sym c.truth-in-Or.ensures ∙ c.if-truth.false) (boxed c.deref-in-Or-2.ensures c.in_ok-value-in-Or.ensures) c.truth-in-Or-2.ensures)
+pub returns-else-truth : goal.returns-else-truth
+returns-else-truth t c =
+    said c.in-And.is (and_ends (boxed c.deref-in-And.ensures c.in_ok-evaluate-in-And.ensures) c.truth-in-And.ensures c.if-truth.false)
+
+pub returns-in_err-evaluate-in-Or-2 : goal.returns-in_err-evaluate-in-Or-2
+returns-in_err-evaluate-in-Or-2 t c =
+    thrown c.from_residual-in_err-evaluate-in-Or-2.ensures (said c.in-Or.is (or_stops_right (boxed c.deref-in-Or.ensures c.in_ok-evaluate-in-Or.ensures) (sym c.truth-in-Or.ensures ∙ c.if-truth-2.false) (boxed c.deref-else-truth-2.ensures c.in_err-evaluate-in-Or-2.ensures)))
+
+pub returns-in_ok-evaluate-in-Or-2 : goal.returns-in_ok-evaluate-in-Or-2
+returns-in_ok-evaluate-in-Or-2 t c =
+    said c.in-Or.is (or_goes (boxed c.deref-in-Or.ensures c.in_ok-evaluate-in-Or.ensures) (sym c.truth-in-Or.ensures ∙ c.if-truth-2.false) (boxed c.deref-else-truth-2.ensures c.in_ok-evaluate-in-Or-2.ensures) c.truth-else-truth-2.ensures)
 
 pub returns-then-truth-2 : goal.returns-then-truth-2
 returns-then-truth-2 t c =
-    said c.in-If.is (if_then (boxed c.deref-in-If.ensures c.in_ok-evaluate-in-If.ensures) (sym c.truth-in-If.ensures ∙ c.if-truth-2.true) (boxed c.deref-then-truth-2.ensures c.evaluate-then-truth-2.ensures))
+    said c.in-Or.is (or_ends (boxed c.deref-in-Or.ensures c.in_ok-evaluate-in-Or.ensures) c.truth-in-Or.ensures c.if-truth-2.true)
 
-pub returns-else-truth-2 : goal.returns-else-truth-2
-returns-else-truth-2 t c =
-    said c.in-If.is (if_otherwise (boxed c.deref-in-If.ensures c.in_ok-evaluate-in-If.ensures) (sym c.truth-in-If.ensures ∙ c.if-truth-2.false) (boxed c.deref-else-truth-2.ensures c.evaluate-else-truth-2.ensures))
+pub returns-then-truth-3 : goal.returns-then-truth-3
+returns-then-truth-3 t c =
+    said c.in-If.is (if_then (boxed c.deref-in-If.ensures c.in_ok-evaluate-in-If.ensures) (sym c.truth-in-If.ensures ∙ c.if-truth-3.true) (boxed c.deref-then-truth-3.ensures c.evaluate-then-truth-3.ensures))
+
+pub returns-else-truth-3 : goal.returns-else-truth-3
+returns-else-truth-3 t c =
+    said c.in-If.is (if_otherwise (boxed c.deref-in-If.ensures c.in_ok-evaluate-in-If.ensures) (sym c.truth-in-If.ensures ∙ c.if-truth-3.false) (boxed c.deref-else-truth-3.ensures c.evaluate-else-truth-3.ensures))

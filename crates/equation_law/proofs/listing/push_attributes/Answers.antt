@@ -1,4 +1,4 @@
-use Rattle.std.proofs.Common.{◌≡◌, arith, ap, map, length, Some, slice_get, List, ◌++◌, sym, subst, ◌∙◌}
+use Rattle.std.proofs.Common.{◌≡◌, arith, map, Some, slice_get, List, ◌++◌, subst}
 use Rattle.std.specs.Option.{option_map}
 use Rattle.attr_types.specs.Rules.{RuleSet, Attribute}
 use Rattle.equation_law.specs.Named.{instance_of}

@@ -1,5 +1,4 @@
-use Rattle.std.proofs.Common.{◌+◌, ◌≤◌, arith, ap, length, refl, sym, subst, ◌∙◌}
-use Rattle.equation_law.specs.declared.instances.NamedInstance.{NamedInstance}
+use Rattle.std.proofs.Common.{arith, ap, length, refl, sym, ◌∙◌}
 use Rattle.equation_law.proofs.Lists.{node_listed, node_passed}
 use Rattle.equation_law.proofs.listing.push_nodes.Goals as goal
 use Rattle.equation_law.proofs.listing.push_nodes.Goals.{then-eq+in_ok-push, else-eq}

@@ -1,5 +1,4 @@
-use Rattle.std.proofs.Common.{arith, ap, List, length}
-use Rattle.attr_types.specs.Expression.{Expression}
+use Rattle.std.proofs.Common.{arith}
 use Rattle.equation_law.specs.Systems.{program_of}
 use Rattle.equation_law.proofs.Lists.{query_listed}
 use Rattle.equation_law.proofs.listing.push_queries.Goals as goal

@@ -1,4 +1,3 @@
-use Rattle.equation_law.specs.Places.{found}
 use Rattle.equation_law.specs.Named.{instance_of}
 use Rattle.equation_law.specs.Systems.{program_of}
 use Rattle.equation_law.proofs.Found.{equation_done, equation_none, equation_stuck}

@@ -1,0 +1,202 @@
+ghost use Rattle.std.specs.Prelude.{◌≡◌, IfOk};
+ghost use Rattle.std.specs.String.{string_bytes};
+
+use crate::running::run;
+use rag_io::{Gate, LONGEST_FILE, MemoryShelf, MemorySink};
+use std::alloc::{AllocError, Global};
+use std::test::Fail;
+use std::thread::Threads;
+
+const FIRST: &str = "aspect A { syn int N.v() = 5; }";
+const USAGE: &[u8] =
+    b"usage: rag run [--callers N] [--cells N] [--count] AST JRAG TREE QUERIES\n       rag check AST JRAG\n       rag tree AST TREE\n       rag bulk N [--callers N]\n";
+
+struct IdleGate;
+
+impl Gate for IdleGate {
+    fn reached(&self, _caller: u32, _reply: u32) {}
+}
+
+fn file(alloc: Global, name: &str, text: &str) -> Result<(String, Vec<u8>), AllocError>
+    ensures { IfOk result (λ file. string_bytes file.0 ≡ name.now) }
+{
+    Ok((
+        String::from_str(alloc, name)?,
+        Vec::from_slice(alloc, text.as_bytes())?,
+    ))
+}
+
+// The files of the first case, with this aspect and these queries.
+fn shelf(
+    alloc: Global,
+    aspects: &str,
+    queries: &str,
+    fails: Vec<u32>,
+) -> Result<MemoryShelf, AllocError> {
+    let mut files = Vec::new(alloc);
+    files.push(file(alloc, "g.ast", "N;")?)?;
+    files.push(file(alloc, "a.jrag", aspects)?)?;
+    files.push(file(alloc, "t.tree", "N()")?)?;
+    files.push(file(alloc, "q.txt", queries)?)?;
+    Ok(MemoryShelf::new(files, fails))
+}
+
+// The words between blanks.
+fn words(alloc: Global, line: &str) -> Result<Vec<String>, AllocError> {
+    let mut all = Vec::new(alloc);
+    for word in line.split_ascii_whitespace() {
+        all.push(String::from_str(alloc, word)?)?;
+    }
+    Ok(all)
+}
+
+// The status, and what a sink that fails as told took.
+fn written<R: Threads + Sync>(
+    rt: &R,
+    alloc: Global,
+    line: &str,
+    shelf: &mut MemoryShelf,
+    fails: Option<(u32, u32)>,
+) -> Result<(u8, Vec<u8>), Fail> {
+    let mut planned = Vec::new(alloc);
+    if let Some(fail) = fails {
+        planned.push(fail)?;
+    }
+    let Ok(mut sink) = MemorySink::with_room(alloc, 200_000, planned) else {
+        return Err("no memory")?;
+    };
+    let words = words(alloc, line)?;
+    let status = run(rt, alloc, &words, shelf, &mut sink, &IdleGate);
+    Ok((status, Vec::from_slice(alloc, sink.taken())?))
+}
+
+const RUN: &str = "run g.ast a.jrag t.tree q.txt";
+
+#[test]
+fn writes_replies_and_refusals(rt: HostRuntime) -> Result<(), Fail> {
+    let alloc = rt.alloc();
+    for (aspects, queries, status, text) in [
+        (FIRST, "@0.v()", 0, "5\n"),
+        (FIRST, "@0.v() + 1", 1, "q.txt: not built\n"),
+        (
+            "aspect A { syn boolean N.v() = !(1 + 2147483647 < 0) || false; }",
+            "@0.v()",
+            0,
+            "false\n",
+        ),
+        (
+            "aspect A { syn int N.v() = -2147483647 - 1; syn boolean N.b() = 1 < 2 == !false; }",
+            "# two\n@0.v()\n\n@0.b()\n@0.v()\n",
+            0,
+            "-2147483648\ntrue\n-2147483648\n",
+        ),
+        (
+            "aspect A { syn int N.v() = 65536 * 65535; }",
+            "@0.v()",
+            0,
+            "-65536\n",
+        ),
+        (
+            "aspect A { syn boolean N.v() = false && 1 / 2 == 0; }",
+            "@0.v() + 1",
+            1,
+            "a.jrag: not built\n",
+        ),
+        (
+            "aspect A { syn int N.v() = true && false ? 1 : 2 - 3; }",
+            "@0.v()",
+            0,
+            "-1\n",
+        ),
+    ] {
+        let mut shelf = shelf(alloc, aspects, queries, Vec::new(alloc))?;
+        let (ended, taken) = written(&rt, alloc, RUN, &mut shelf, None)?;
+        assert_eq!(rt; ended, status, "{aspects} {queries}");
+        assert_eq!(rt; taken.as_slice(), text.as_bytes(), "{aspects} {queries}");
+    }
+    Ok(())
+}
+
+#[test]
+fn puts_nothing_where_nothing_is_asked(rt: HostRuntime) -> Result<(), Fail> {
+    let alloc = rt.alloc();
+    let mut shelf = shelf(alloc, FIRST, "", Vec::new(alloc))?;
+    let (ended, taken) = written(&rt, alloc, RUN, &mut shelf, Some((0, 0)))?;
+    assert_eq!(rt; ended, 0);
+    assert!(rt; taken.is_empty());
+    Ok(())
+}
+
+#[test]
+fn refuses_words_and_files(rt: HostRuntime) -> Result<(), Fail> {
+    let alloc = rt.alloc();
+    for line in [
+        "",
+        "run a b c",
+        "run a b c d e",
+        "run -x b c d",
+        "ran g.ast a.jrag t.tree q.txt",
+        "--help",
+    ] {
+        let mut shelf = shelf(alloc, FIRST, "@0.v()", Vec::new(alloc))?;
+        let (ended, taken) = written(&rt, alloc, line, &mut shelf, None)?;
+        assert_eq!(rt; ended, 2, "{line}");
+        assert_eq!(rt; taken.as_slice(), USAGE, "{line}");
+    }
+    for (line, text) in [
+        ("run q.txt a.jrag t.tree g.ast", "q.txt: not built\n"),
+        ("run g.ast g.ast t.tree q.txt", "g.ast: not built\n"),
+        ("run g.ast a.jrag q.txt t.tree", "q.txt: not built\n"),
+        ("run g.ast a.jrag t.tree t.tree", "t.tree: not built\n"),
+    ] {
+        let mut shelf = shelf(alloc, FIRST, "@0.v()", Vec::new(alloc))?;
+        let (ended, taken) = written(&rt, alloc, line, &mut shelf, None)?;
+        assert_eq!(rt; ended, 1, "{line}");
+        assert_eq!(rt; taken.as_slice(), text.as_bytes(), "{line}");
+    }
+    Ok(())
+}
+
+#[test]
+fn ends_by_the_fault_that_came(rt: HostRuntime) -> Result<(), Fail> {
+    let alloc = rt.alloc();
+    for call in 0..4u32 {
+        let mut shelf = shelf(alloc, FIRST, "@0.v()", vec![in alloc; call]?)?;
+        let (ended, taken) = written(&rt, alloc, RUN, &mut shelf, None)?;
+        assert_eq!(rt; ended, 5, "{call}");
+        assert!(rt; taken.is_empty(), "{call}");
+    }
+    for (after, text) in [(0, b"".as_slice()), (1, b"5".as_slice())] {
+        let mut shelf = shelf(alloc, FIRST, "@0.v()", Vec::new(alloc))?;
+        let (ended, taken) = written(&rt, alloc, RUN, &mut shelf, Some((0, after)))?;
+        assert_eq!(rt; ended, 6, "{after}");
+        assert_eq!(rt; taken.as_slice(), text, "{after}");
+    }
+    Ok(())
+}
+
+// So many blanks, or one query a line so many times.
+fn repeated(alloc: Global, part: &str, times: usize) -> Result<String, AllocError> {
+    let mut text = String::new(alloc);
+    for _ in 0..times {
+        text.push_str(part)?;
+    }
+    Ok(text)
+}
+
+#[test]
+fn takes_long_files(rt: HostRuntime) -> Result<(), Fail> {
+    let alloc = rt.alloc();
+    let long = repeated(alloc, " ", LONGEST_FILE + 1)?;
+    let mut too_long = shelf(alloc, "no aspect", long.as_str(), Vec::new(alloc))?;
+    let (ended, taken) = written(&rt, alloc, RUN, &mut too_long, None)?;
+    assert_eq!(rt; ended, 1);
+    assert_eq!(rt; taken.as_slice(), b"q.txt: too long\n".as_slice());
+
+    let queries = repeated(alloc, "@0.v()\n", 65_536)?;
+    let mut many = shelf(alloc, FIRST, queries.as_str(), Vec::new(alloc))?;
+    let (ended, taken) = written(&rt, alloc, RUN, &mut many, Some((1, 3)))?;
+    assert_eq!(rt; ended, 6);
+    assert_eq!(rt; taken.len(), 65_539);
+    Ok(())
+}
