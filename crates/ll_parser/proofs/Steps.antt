@@ -1,13 +1,13 @@
 -- Steps of a reader, whole tokens, and whole lists.
-use Rattle.std.proofs.Common.{◌≡◌, ℕ, zero, suc, ◌+◌, ◌-◌, ◌<◌, ◌≤◌, ◌==◌, Bool, true, false, cond, List, [], ◌∷◌, ◌++◌, append_assoc, append-nil, length, take, Option, Some, None, Result, Ok, Err, refl, sym, ap, subst, ◌∙◌, inl, inr, ◌⊎◌, arith}
+use Rattle.std.proofs.Common.{◌≡◌, ℕ, ◌<◌, ◌==◌, false, List, [], ◌∷◌, ◌++◌, append_assoc, append-nil, Some, Ok, refl, sym, ap, subst, ◌∙◌, arith}
 use Rattle.ll_parser.specs.declared.symbols.Symbol.{Symbol}
 use Rattle.ll_parser.specs.declared.symbols.Symbol.TheVariants.{Terminal, Nonterminal, Action}
 use Rattle.ll_parser.specs.declared.symbols.Step.TheVariants.{Goes, Shifts, Stops}
-use Rattle.ll_parser.specs.Grammar.{Production, nth, shift, Derives, done, token, act, rule, start, Begins, IsFault, IsSentence, Leading}
-use Rattle.ll_parser.specs.Table.{Claims, member, begins, cost, made, fits}
-use Rattle.ll_parser.specs.Stack.{In, here, there, Good, bare, good_token, good_act, good_rule, Closed, last, closed_token, closed_act, closed_rule, Proper, over, open_at, Gives, Leads, Shifted, Stuck, Moves, shifts, acts, goes, wrong, none, spent, Works, Ready, Sofar}
+use Rattle.ll_parser.specs.Grammar.{Production, nth, shift, Derives, done, token, act, rule, start, Begins, IsSentence, Leading}
+use Rattle.ll_parser.specs.Table.{Claims, cost, made}
+use Rattle.ll_parser.specs.Stack.{In, here, there, Good, bare, good_token, good_act, good_rule, last, closed_token, closed_act, closed_rule, Proper, over, open_at, Gives, Leads, Shifted, Stuck, Moves, shifts, acts, goes, wrong, none, Works, Ready, Sofar}
 use Rattle.ll_parser.proofs.Members.{member_in}
-use Rattle.ll_parser.proofs.Theory.{IsTable, Lives, only, good_goes, closed_goes, cost_goes, stack_lives, is_table, start_in}
+use Rattle.ll_parser.proofs.Theory.{IsTable, Lives, only, good_goes, closed_goes, cost_goes, is_table, start_in}
 
 pub leads_start : (P : List Production) (t : ℕ) (s : List Symbol) (es : List ℕ) → Leads P t s es s es
 leads_start P t s es = record { forth = λ w all g. g; back = λ w all g. g }

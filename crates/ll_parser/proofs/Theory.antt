@@ -1,12 +1,11 @@
 -- What a right table gives.
 use Rattle.std.proofs.Common.{◌≡◌, ℕ, zero, suc, ◌+◌, ◌<◌, ◌≤◌, ◌==◌, Bool, true, false, cond, not, ◌&&◌, ◌||◌, List, [], ◌∷◌, ◌++◌, append_assoc, append-nil, Option, Some, None, refl, sym, ap, subst, ◌∙◌, inl, inr, ◌⊎◌, arith}
-use Rattle.std.proofs.Math.Dec.{ltb}
-use Rattle.std.proofs.lemmas.Bool.{ltb-true, eqb-true, eq-eqb, and_parts, or_cases}
+use Rattle.std.proofs.lemmas.Bool.{ltb-true, eqb-true, and_parts}
 use Rattle.ll_parser.specs.declared.symbols.Symbol.{Symbol}
 use Rattle.ll_parser.specs.declared.symbols.Symbol.TheVariants.{Terminal, Nonterminal, Action}
 use Rattle.ll_parser.specs.Grammar.{Production, nth, shift, Derives, done, token, act, rule}
 use Rattle.ll_parser.specs.Table.{Claims, member, every, within, begins, vanishes, cost, follows, uses, inner, with_row, bind, grow, list_of, made, row_fits, rows_fit, fits}
-use Rattle.ll_parser.specs.Stack.{In, here, there, Good, bare, good_token, good_act, good_rule, Closed, last, closed_token, closed_act, closed_rule, Gives, Leads, Shifted, Stuck}
+use Rattle.ll_parser.specs.Stack.{In, here, there, Good, bare, good_token, good_act, good_rule, Closed, closed_token, closed_act, closed_rule}
 use Rattle.ll_parser.proofs.Members.{in_left, in_right, in_either, member_in, every_in, within_in}
 
 pub record RowFits (F : Claims) (have : List ℕ) (p : ℕ) (r : Production) : Type 0 where

@@ -1,5 +1,5 @@
 -- The stack of symbols of a reader, and what its steps do.
-use Rattle.std.specs.Prelude.{◌≡◌, ℕ, zero, suc, ◌+◌, ◌==◌, List, [], ◌∷◌, ◌++◌, Option, Some, None, Bool, true, false, Result, Ok, Err, ◌*◌, ◌<◌, ◌-◌, reverse, min, length, slice_range, slice_index_or, Vec, take, ◌⊎◌}
+use Rattle.std.specs.Prelude.{◌≡◌, ℕ, suc, ◌+◌, ◌==◌, List, [], ◌∷◌, ◌++◌, Option, Some, None, Bool, true, false, Result, Ok, Err, ◌*◌, reverse, min, length, slice_range, slice_index_or, take}
 use Rattle.std.specs.Borrow.{Bor}
 use Rattle.ll_parser.specs.declared.symbols.Symbol.{Symbol}
 use Rattle.ll_parser.specs.declared.symbols.Symbol.TheVariants.{Terminal, Nonterminal, Action}
@@ -9,7 +9,6 @@ use Rattle.ll_parser.specs.declared.symbols.Memory.{Memory}
 use Rattle.ll_parser.specs.declared.symbols.Table as memory
 use Rattle.ll_parser.specs.declared.symbols.ParseFault.{ParseFault}
 use Rattle.ll_parser.specs.declared.symbols.ParseFault.TheVariants.{At, OutOfMemory}
-use Rattle.std.specs.declared.alloc.Global.{Global}
 use Rattle.ll_parser.specs.Grammar.{Production, nth, shift, Derives, start, IsSentence, IsFault, Leading}
 use Rattle.ll_parser.specs.Table.{Claims, member, begins, made, fits}
 

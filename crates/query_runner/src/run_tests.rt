@@ -8,6 +8,7 @@ use std::test::Fail;
 use std::thread::Threads;
 
 const FIRST: &str = "aspect A { syn int N.v() = 5; }";
+
 const USAGE: &[u8] =
     b"usage: rag run [--callers N] [--cells N] [--count] AST JRAG TREE QUERIES\n       rag check AST JRAG\n       rag tree AST TREE\n       rag bulk N [--callers N]\n";
 

@@ -1,6 +1,6 @@
-use Rattle.std.proofs.Common.{◌≡◌, reverse, Ok, Err, ap, subst, append-nil, List, [], length, arith}
-use Rattle.ll_parser.proofs.Coding.{moved, empty_of, kept_none, kept_moves}
-use Rattle.ll_parser.proofs.Steps.{leads_start, leads_goes, ready_goes, cost_less, leads_shifts, ready_shifts, over_shifts, leads_stops, leads_empty}
+use Rattle.std.proofs.Common.{reverse, Ok, ap, subst, arith}
+use Rattle.ll_parser.proofs.Coding.{moved, empty_of, kept_moves}
+use Rattle.ll_parser.proofs.Steps.{leads_goes, ready_goes, cost_less, leads_shifts, ready_shifts, over_shifts, leads_stops, leads_empty}
 use Rattle.ll_parser.specs.Stack.{rows_of, choice_of, Leads}
 use Rattle.ll_parser.proofs.parser.advance.Goals as goal
 

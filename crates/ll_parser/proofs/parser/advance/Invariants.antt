@@ -1,5 +1,5 @@
-use Rattle.std.proofs.Common.{List, reverse}
-use Rattle.ll_parser.specs.Table.{cost, made}
+use Rattle.std.proofs.Common.{reverse}
+use Rattle.ll_parser.specs.Table.{cost}
 use Rattle.ll_parser.specs.Stack.{rows_of, Leads, Ready, Kept}
 use Rattle.ll_parser.proofs.parser.advance.Given as goal
 

@@ -1,7 +1,7 @@
-use Rattle.std.proofs.Common.{◌≡◌, ◌++◌, ◌∷◌, reverse, Ok, Err, ap, subst, sym, ◌∙◌, append-nil, List, [], arith, get_or, take, length}
-use Rattle.ll_parser.specs.declared.symbols.Symbol.TheVariants.{Terminal, Nonterminal, Action}
+use Rattle.std.proofs.Common.{◌≡◌, ◌++◌, ◌∷◌, reverse, ap, subst, sym, ◌∙◌, [], arith, get_or, take, length}
+use Rattle.ll_parser.specs.declared.symbols.Symbol.TheVariants.{Terminal, Nonterminal}
 use Rattle.ll_parser.specs.Grammar.{start}
-use Rattle.ll_parser.proofs.Steps.{ready_start, sofar_start, sofar_next, sofar_ends, sofar_begins, sofar_stuck}
+use Rattle.ll_parser.proofs.Steps.{ready_start, sofar_start}
 use Rattle.ll_parser.proofs.Coding.{leading_at, fault_at, next_at, ended_at, one_default}
 use Rattle.ll_parser.specs.Stack.{rows_of, choice_of, Sofar, Ready}
 use Rattle.ll_parser.proofs.parser.parse.Goals as goal

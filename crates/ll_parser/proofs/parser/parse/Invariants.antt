@@ -1,4 +1,4 @@
-use Rattle.std.proofs.Common.{◌≡◌, ◌-◌, ◌<◌, List, [], reverse, take, get_or}
+use Rattle.std.proofs.Common.{◌≡◌, ◌-◌, ◌<◌, [], reverse, take, get_or}
 use Rattle.ll_parser.specs.Stack.{rows_of, Sofar, Ready}
 use Rattle.ll_parser.proofs.parser.parse.Given as goal
 

@@ -1,4 +1,3 @@
-use Rattle.std.proofs.Common.{reverse}
 use Rattle.ll_parser.proofs.Coding.{goes_by, none_by}
 use Rattle.ll_parser.proofs.parser.step.Goals as goal
 
