@@ -4,6 +4,7 @@ ghost use Rattle.std.specs.String.{string_bytes};
 use crate::running::run;
 use rag_io::{Gate, LONGEST_FILE, MemoryShelf, MemorySink};
 use std::alloc::{AllocError, Global};
+use std::sync::atomic::{AtomicU64, Ordering};
 use std::test::Fail;
 use std::thread::Threads;
 
@@ -12,10 +13,29 @@ const FIRST: &str = "aspect A { syn int N.v() = 5; }";
 const USAGE: &[u8] =
     b"usage: rag run [--callers N] [--cells N] [--count] AST JRAG TREE QUERIES\n       rag check AST JRAG\n       rag tree AST TREE\n       rag bulk N [--callers N]\n";
 
-struct IdleGate;
+// Counts the replies, and those that came out of order or from another caller.
+#[derive(Drop)]
+struct CountingGate {
+    replies: AtomicU64,
+    strays: AtomicU64,
+}
 
-impl Gate for IdleGate {
-    fn reached(&self, _caller: u32, _reply: u32) {}
+impl CountingGate {
+    fn new() -> CountingGate {
+        CountingGate {
+            replies: AtomicU64::new(0),
+            strays: AtomicU64::new(0),
+        }
+    }
+}
+
+impl Gate for CountingGate {
+    fn reached(&self, caller: u32, reply: u32) {
+        let before = self.replies.fetch_add(1, Ordering::SeqCst);
+        if caller != 0 || u64::from(reply) != before {
+            self.strays.fetch_add(1, Ordering::SeqCst);
+        }
+    }
 }
 
 fn file(alloc: Global, name: &str, text: &str) -> Result<(String, Vec<u8>), AllocError>
@@ -67,7 +87,7 @@ fn written<R: Threads + Sync>(
         return Err("no memory")?;
     };
     let words = words(alloc, line)?;
-    let status = run(rt, alloc, &words, shelf, &mut sink, &IdleGate);
+    let status = run(rt, alloc, &words, shelf, &mut sink, &CountingGate::new());
     Ok((status, Vec::from_slice(alloc, sink.taken())?))
 }
 
@@ -129,6 +149,21 @@ fn puts_nothing_where_nothing_is_asked(rt: HostRuntime) -> Result<(), Fail> {
 }
 
 #[test]
+fn tells_the_gate_of_each_reply(rt: HostRuntime) -> Result<(), Fail> {
+    let alloc = rt.alloc();
+    let gate = CountingGate::new();
+    let mut shelf = shelf(alloc, FIRST, "@0.v()\n@0.v()\n@0.v()\n", Vec::new(alloc))?;
+    let Ok(mut sink) = MemorySink::with_room(alloc, 10, Vec::new(alloc)) else {
+        return Err("no memory")?;
+    };
+    let words = words(alloc, RUN)?;
+    assert_eq!(rt; run(&rt, alloc, &words, &mut shelf, &mut sink, &gate), 0);
+    assert_eq!(rt; gate.replies.load(Ordering::SeqCst), 3);
+    assert_eq!(rt; gate.strays.load(Ordering::SeqCst), 0);
+    Ok(())
+}
+
+#[test]
 fn refuses_words_and_files(rt: HostRuntime) -> Result<(), Fail> {
     let alloc = rt.alloc();
     for line in [
@@ -176,7 +211,7 @@ fn ends_by_the_fault_that_came(rt: HostRuntime) -> Result<(), Fail> {
     Ok(())
 }
 
-// So many blanks, or one query a line so many times.
+// A text so many times.
 fn repeated(alloc: Global, part: &str, times: usize) -> Result<String, AllocError> {
     let mut text = String::new(alloc);
     for _ in 0..times {
@@ -186,18 +221,29 @@ fn repeated(alloc: Global, part: &str, times: usize) -> Result<String, AllocErro
 }
 
 #[test]
-fn takes_long_files(rt: HostRuntime) -> Result<(), Fail> {
+fn refuses_a_file_that_is_too_long(rt: HostRuntime) -> Result<(), Fail> {
     let alloc = rt.alloc();
-    let long = repeated(alloc, " ", LONGEST_FILE + 1)?;
-    let mut too_long = shelf(alloc, "no aspect", long.as_str(), Vec::new(alloc))?;
-    let (ended, taken) = written(&rt, alloc, RUN, &mut too_long, None)?;
+    let page = repeated(alloc, " ", 4_096)?;
+    let mut long = repeated(alloc, page.as_str(), LONGEST_FILE / 4_096)?;
+    long.push(' ')?;
+    let mut shelf = shelf(alloc, "no aspect", long.as_str(), Vec::new(alloc))?;
+    let (ended, taken) = written(&rt, alloc, RUN, &mut shelf, None)?;
     assert_eq!(rt; ended, 1);
     assert_eq!(rt; taken.as_slice(), b"q.txt: too long\n".as_slice());
+    Ok(())
+}
 
-    let queries = repeated(alloc, "@0.v()\n", 65_536)?;
-    let mut many = shelf(alloc, FIRST, queries.as_str(), Vec::new(alloc))?;
-    let (ended, taken) = written(&rt, alloc, RUN, &mut many, Some((1, 3)))?;
-    assert_eq!(rt; ended, 6);
-    assert_eq!(rt; taken.len(), 65_539);
+#[test]
+fn puts_pieces(rt: HostRuntime) -> Result<(), Fail> {
+    let alloc = rt.alloc();
+    let aspects = "aspect A { syn int N.v() = -2147483647 - 1; }";
+    let queries = repeated(alloc, "@0.v()\n", 5_462)?;
+    for (fails, status, length) in [(None, 0, 65_544), (Some((1, 3)), 6, 65_539)] {
+        let mut shelf = shelf(alloc, aspects, queries.as_str(), Vec::new(alloc))?;
+        let (ended, taken) = written(&rt, alloc, RUN, &mut shelf, fails)?;
+        assert_eq!(rt; ended, status);
+        assert_eq!(rt; taken.len(), length);
+        assert!(rt; taken.as_slice().starts_with(b"-2147483648\n"));
+    }
     Ok(())
 }
