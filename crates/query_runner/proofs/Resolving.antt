@@ -17,6 +17,7 @@ use Rattle.query_runner.specs.declared.building.Written.{Written}
 abbrev joined : Option Item → Option (List Item) → Option (List Item)
 joined first rest = option_and_then (λ i. option_map (λ items. i ∷ items) rest) first
 
+-- where both are there, these are they
 record Parts (first : Option Item) (rest : Option (List Item)) (items : List Item) : Type 0 where
   item : Item
   others : List Item
@@ -24,26 +25,31 @@ record Parts (first : Option Item) (rest : Option (List Item)) (items : List Ite
   rest_are : rest ≡ Some others
   are : items ≡ item ∷ others
 
+-- they are, where an item in front of others is there
 parts : (first : Option Item) (rest : Option (List Item)) (items : List Item) → joined first rest ≡ Some items → Parts first rest items
 parts None rest items e = absurd (cc)
 parts (Some i) None items e = absurd (cc)
 parts (Some i) (Some others) items e = record { item = i; others = others; first_is = refl; rest_are = refl; are = cc }
 
+-- an item in front of others
 joined_some : (first : Option Item) (rest : Option (List Item)) (i : Item) (others : List Item) → first ≡ Some i → rest ≡ Some others → joined first rest ≡ Some (i ∷ others)
 joined_some first rest i others e f = ap (λ z. joined z rest) e ∙ ap (joined (Some i)) f
 
+-- no item in front of others, where those are not there
 joined_none : (first : Option Item) (rest : Option (List Item)) → rest ≡ None → joined first rest ≡ None
 joined_none None rest e = refl
 joined_none (Some i) rest e = ap (option_map (λ items. i ∷ items)) e
 
+-- the class of a number
 abbrev numbered : ℕ → ClassId
 numbered k = record { 0 = k }
 
--- the class of a name is one of the grammar
+-- the class at a place that is found is one of the grammar
 within_classes : (g : List Class) (at : Option ℕ) (class : ClassId) → ((k : ℕ) → at ≡ Some k → k < length g) → option_map numbered at ≡ Some class → class.0 < length g
 within_classes g None class h e = absurd (cc)
 within_classes g (Some k) class h e = let same : k ≡ class.0 = cc in subst (λ n. n < length g) same (h k refl)
 
+-- the class of a name is one of the grammar
 class_number-within : (g : List Class) (name : List ℕ) (class : ClassId) → class_number g name ≡ Some class → class.0 < length g
 class_number-within g name class e =
     let test : Class → Bool = λ c. bytes_eq c.name name in

@@ -1,5 +1,5 @@
 -- What tokens say of aspects, against the events of their sentence.
-use Rattle.std.proofs.Common.{◌≡◌, ℕ, ◌+◌, ◌<◌, true, false, cond, eqb, List, [], ◌∷◌, Some, None, All, map, length, sym, ap, subst, ◌∙◌, arith}
+use Rattle.std.proofs.Common.{◌≡◌, ℕ, ◌+◌, ◌<◌, true, false, cond, eqb, List, [], ◌∷◌, Some, All, map, length, sym, ap, subst, ◌∙◌, arith}
 use Rattle.std.specs.List.{count_by}
 use Rattle.std.proofs.lemmas.Bool.Decides.{nat_tests}
 use Rattle.std.proofs.lemmas.Grind.{common_steps}
@@ -22,6 +22,7 @@ use Rattle.query_runner.proofs.Resolving.{length-all_resolved, all_resolved-with
 length-after : (ts : List Lexed) (b : Building) (e : ℕ) → length (after ts b e).items ≡ length b.items + cond (eqb e 6) 1 0
 length-after ts b e = grind (arith, common_steps, nat_tests)
 
+-- some events add an item for each event 6
 pub length-built : (ts : List Lexed) (b : Building) (events : List ℕ) → length (built ts b events).items ≡ length b.items + count_by (λ e. eqb e 6) events
 length-built ts b [] = omega arith
 length-built ts b (e ∷ events) =
@@ -32,17 +33,20 @@ module _ {ts : List Lexed} {events : List ℕ} (sentence : IsSentence aspects_gr
   pub same_events : {g : List Class} {items : List Item} (says : SaysAspects g ts items) → says.events ≡ events
   same_events says = sentence.only says.events says.sentence.runs
 
+  -- the items that are said are those that the events build, with their classes
   pub are_said : {g : List Class} {items : List Item} → SaysAspects g ts items → all_resolved g ts (built ts nothing events).items ≡ Some items
   are_said {g} says = ap (λ es. all_resolved g ts (built ts nothing es).items) (sym (same_events says)) ∙ says.resolve
 
-  -- tokens of too many items, of a long expression or of a large literal say nothing
+  -- tokens of too many items say nothing
   pub too_many : most_attributes < count_by (λ e. eqb e 6) events → (g : List Class) (items : List Item) → SaysAspects g ts items → ⊥
   too_many many g items says =
       absurd (omega (arith, says.allowed.few, length-all_resolved g ts (built ts nothing events).items items (are_said says), length-built ts nothing events))
 
+  -- so do tokens of a long expression
   pub too_long : are_short 0 0 events ≡ false → (g : List Class) (items : List Item) → SaysAspects g ts items → ⊥
   too_long long g items says = let e = ap (are_short 0 0) (same_events says) in let s = says.short in cc
 
+-- so do tokens of a large literal
 pub too_large : {ts : List Lexed} → are_small ts ≡ false → (g : List Class) (items : List Item) → SaysAspects g ts items → ⊥
 too_large large g items says = let s = says.small in cc
 
@@ -52,15 +56,13 @@ all_seen P list all k d h =
     let within : k < length (map item_of list) = simp length-map h in
     subst P (get_or-map item_of list k d (item_of d) h) (all k (item_of d) within)
 
+-- the body of an item has its type
 abbrev pub HasItsType : Item → Type 0
 HasItsType i = type_of no_names i.body ≡ Some i.kind
 
 module _ {g : List Class} {ts : List Lexed} {events : List ℕ} (modest : IsModest ts events) where
-  -- an item of no class
-  pub unresolved : all_resolved g ts (built ts nothing events).items ≡ None → (items : List Item) → SaysAspects g ts items → ⊥
-  unresolved none items says = let some = are_said modest.sentence says in cc
-
   module _ (list : List FirstEq) (are : all_resolved g ts (built ts nothing events).items ≡ Some (map item_of list)) where
+    -- no other items are said
     same_items : {items : List Item} → SaysAspects g ts items → map item_of list ≡ items
     same_items says = let both = sym are ∙ are_said modest.sentence says in cc
 
@@ -82,9 +84,10 @@ module _ {g : List Class} {ts : List Lexed} {events : List ℕ} (modest : IsMode
           };
         }
 
-    -- a body of another type, or an attribute twice
+    -- a body of another type
     pub untyped : (All (λ e. HasItsType (item_of e)) list → ⊥) → (items : List Item) → SaysAspects g ts items → ⊥
     untyped wrong items says = wrong (all_seen HasItsType list (subst (All HasItsType) (sym (same_items says)) says.allowed.typed))
 
+    -- an attribute twice
     pub twice : items_differ (map item_of list) ≡ false → (items : List Item) → SaysAspects g ts items → ⊥
     twice same items says = let e = ap items_differ (same_items says) in let d = says.allowed.distinct in cc

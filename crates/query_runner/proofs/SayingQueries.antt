@@ -16,6 +16,7 @@ use Rattle.query_runner.specs.Tokens.{text_at, decimal}
 use Rattle.query_runner.proofs.Lines.{parted, joined, some_line, one_lines}
 
 module _ (rules : RuleSet) (tree : List Node) where
+  -- there is one call of a name at a number
   pub one_call : {digits name : List ℕ} {e f : Expression} → IsCall rules tree digits name e → IsCall rules tree digits name f → e ≡ f
   one_call {digits} {name} a b =
       let class : a.class ≡ b.class = let both = sym a.node ∙ b.node in cc in
@@ -23,15 +24,17 @@ module _ (rules : RuleSet) (tree : List Node) where
       let attribute : a.attribute ≡ b.attribute = let both = sym a.named ∙ named in cc in
       a.is ∙ ap (λ n. Call n (Source (decimal digits))) attribute ∙ sym b.is
 
+  -- what tokens say is the call of their words
   pub call_of : {ts : List Lexed} {e : Expression} → SaysQuery rules tree ts e → IsCall rules tree (text_at ts 1) (text_at ts 3) e
   call_of s = record { class = s.class; attribute = s.attribute; node = s.node; named = s.named; is = s.is }
 
-  -- tokens that are a sentence say the call, and a line what its tokens say
+  -- tokens that are a sentence say the call of their words
   pub query_by : (ts : List Lexed) {events : List ℕ} (r : Result (Option QueryEq) Memory) → IsSentence query_grammar 0 (map query_class ts) events → AnswersCall rules tree (text_at ts 1) (text_at ts 3) r → AnswersQuery rules tree ts r
   query_by ts {events = events} (Ok (Some q)) s a = record { events = events; sentence = s; class = a.class; attribute = a.attribute; node = a.node; named = a.named; is = a.is }
   query_by ts (Ok None) s a = λ e says. a e (call_of says)
   query_by ts (Err m) s a = tt
 
+  -- a line says what its tokens say
   pub line_by : {line : List ℕ} {ts : List Lexed} (r : Result (Option QueryEq) Memory) → IsTokens first_place line ts → AnswersQuery rules tree ts r → AnswersLine rules tree line r
   line_by {ts = ts} (Ok (Some q)) scanned a = record { tokens = ts; scanned = scanned; says = a }
   line_by (Ok None) scanned a = λ e says. a e (subst (λ us. SaysQuery rules tree us e) (one_list says.scanned scanned) says.says)
@@ -41,6 +44,7 @@ module _ (rules : RuleSet) (tree : List Node) where
   pub no_line : {line : List ℕ} {p : Place} → IsFirstBad first_place line p → (e : Expression) → SaysLine rules tree line e → ⊥
   no_line bad e says = not_both says.scanned bad
 
+  -- tokens, a line, lines and some bytes say one query, or one list of queries
   pub one_query : {ts : List Lexed} {e f : Expression} → SaysQuery rules tree ts e → SaysQuery rules tree ts f → e ≡ f
   one_query a b = one_call (call_of a) (call_of b)
 
@@ -72,9 +76,11 @@ module _ (rules : RuleSet) (tree : List Node) where
 
   -- behind one more line
   module _ {bytes rest line behind : List ℕ} {n : ℕ} {old : List Expression} (sofar : IsSofar rules tree bytes n rest old) (some : 0 < length rest) (first : IsFirstLine rest line behind) where
+    -- the line and those behind it
     with_line : {es fs : List Expression} (s : SaysBehind rules tree (n + 1) behind es) → SaysLines rules tree (line ∷ s.lines) fs → SaysBehind rules tree n rest fs
     with_line s said = record { lines = line ∷ s.lines; are_lines = joined first some s.are_lines; few = omega (arith, s.few); said = said }
 
+    -- what the lines behind say, the bytes say behind what was read
     goes_forth : {new : List Expression} → Adds rules tree line old new → (es : List Expression) → SaysBehind rules tree (n + 1) behind es → SaysQueries rules tree bytes (new ++ es)
     goes_forth (nothing quiet same) es s = subst (λ x. SaysQueries rules tree bytes (x ++ es)) (sym same) (sofar.forth es (with_line s (silent quiet s.said)))
     goes_forth (one e loud says same) es s =
@@ -85,6 +91,7 @@ module _ (rules : RuleSet) (tree : List Node) where
     fewer : {es : List Expression} {others : List (List ℕ)} → AreLines behind others → n + length (line ∷ others) ≤ most_lines → SaysLines rules tree others es → SaysBehind rules tree (n + 1) behind es
     fewer {others = others} a few said = record { lines = others; are_lines = a; few = omega arith; said = said }
 
+    -- what the bytes say is what was read, and what the lines behind say
     goes_back_to : {new : List Expression} → Adds rules tree line old new → (all es : List Expression) → all ≡ old ++ es → (others : List (List ℕ)) → AreLines behind others → n + length (line ∷ others) ≤ most_lines → SaysLines rules tree (line ∷ others) es
         → (fs : List Expression) × (all ≡ new ++ fs) × SaysBehind rules tree (n + 1) behind fs
     goes_back_to (nothing quiet same) all es is others a few (silent q said) = (es, is ∙ ap (λ x. x ++ es) (sym same), fewer a few said)

@@ -24,12 +24,13 @@ ReadsEvents ts (Ok (Some events)) = IsModest ts events.items
 ReadsEvents ts (Ok None) = (g : List Class) (items : List Item) → SaysAspects g ts items → ⊥
 ReadsEvents ts (Err m) = Unit {0}
 
--- what resolving an item, and all items, answers
+-- what resolving an item answers
 abbrev pub ResolvesItem : List Class → List Lexed → WrittenItem → Result (Option FirstEq) Memory → Type 0
 ResolvesItem g ts w (Ok (Some e)) = resolved g ts w ≡ Some (item_of e)
 ResolvesItem g ts w (Ok None) = resolved g ts w ≡ None
 ResolvesItem g ts w (Err m) = Unit {0}
 
+-- what resolving all items answers
 abbrev pub Resolves : List Class → List Lexed → List WrittenItem → Result (Option (Vec FirstEq Global)) Memory → Type 0
 Resolves g ts written (Ok (Some list)) = all_resolved g ts written ≡ Some (map item_of list.items)
 Resolves g ts written (Ok None) = all_resolved g ts written ≡ None

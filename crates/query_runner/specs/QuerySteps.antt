@@ -26,11 +26,13 @@ pub record IsCall (rules : RuleSet) (tree : List Node) (digits name : List ℕ) 
   pub named : attribute_named rules class name ≡ Some attribute
   pub is : e ≡ Call attribute (Source (decimal digits))
 
+-- what looking for a call answers
 abbrev pub AnswersCall : RuleSet → List Node → List ℕ → List ℕ → Result (Option QueryEq) Memory → Type 0
 AnswersCall rules tree digits name (Ok (Some q)) = IsCall rules tree digits name (query_of q)
 AnswersCall rules tree digits name (Ok None) = (e : Expression) → IsCall rules tree digits name e → ⊥
 AnswersCall rules tree digits name (Err m) = Unit {0}
 
+-- what reading the tokens of a line answers
 abbrev pub AnswersQuery : RuleSet → List Node → List Lexed → Result (Option QueryEq) Memory → Type 0
 AnswersQuery rules tree ts (Ok (Some q)) = SaysQuery rules tree ts (query_of q)
 AnswersQuery rules tree ts (Ok None) = (e : Expression) → SaysQuery rules tree ts e → ⊥
@@ -42,6 +44,7 @@ pub record SaysLine (rules : RuleSet) (tree : List Node) (line : List ℕ) (e : 
   pub scanned : IsTokens first_place line tokens
   pub says : SaysQuery rules tree tokens e
 
+-- what reading the bytes of a line answers
 abbrev pub AnswersLine : RuleSet → List Node → List ℕ → Result (Option QueryEq) Memory → Type 0
 AnswersLine rules tree line (Ok (Some q)) = SaysLine rules tree line (query_of q)
 AnswersLine rules tree line (Ok None) = (e : Expression) → SaysLine rules tree line e → ⊥

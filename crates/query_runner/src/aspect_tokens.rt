@@ -107,7 +107,7 @@ fn class_of(token: &Token<'_>) -> u8
     }
 }
 
-pub fn classes_of(alloc: Global, tokens: &[Token<'_>]) -> Result<Vec<u8>, Memory>
+pub(crate) fn classes_of(alloc: Global, tokens: &[Token<'_>]) -> Result<Vec<u8>, Memory>
     ensures { IfOk result (λ v. v.items ≡ map aspect_class (seen_tokens tokens.now)) }
 {
     let mut classes = Vec::new(alloc);

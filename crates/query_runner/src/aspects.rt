@@ -216,7 +216,7 @@ fn read_items(
 
 /// The items that the tokens say over the grammar, or None exactly where they say none in the form that is
 /// read so far: `syn boolean` and `syn int` attributes without parameters over constant expressions.
-pub fn read_aspects(
+pub(crate) fn read_aspects(
     alloc: Global,
     grammar: &Grammar,
     tokens: &[Token<'_>],

@@ -13,7 +13,7 @@ use std::alloc::Global;
 
 // An item as it is written: its class and its name by the numbers of their tokens.
 #[derive(Drop)]
-pub struct Written {
+pub(crate) struct Written {
     pub class: usize,
     pub name: usize,
     pub kind: Kind,
@@ -218,7 +218,11 @@ fn act(alloc: Global, tokens: &[Token<'_>], b: &mut Builder, event: u8) -> Resul
 }
 
 // The items that the events of a sentence build.
-pub fn build(alloc: Global, tokens: &[Token<'_>], events: &[u8]) -> Result<Vec<Written>, Memory>
+pub(crate) fn build(
+    alloc: Global,
+    tokens: &[Token<'_>],
+    events: &[u8],
+) -> Result<Vec<Written>, Memory>
     ensures { IfOk result (λ v. map written_of v.items ≡ (built (seen_tokens tokens.now) nothing events.now).items) }
 {
     let mut b = Builder {

@@ -215,7 +215,7 @@ fn read_line(
 
 /// The queries that the bytes of a query file say, or None exactly where they say none in the form that is
 /// read so far: at most 65,536 lines, each of them white space, a `#` line, or `@NUMBER.NAME()`.
-pub fn read_queries(
+pub(crate) fn read_queries(
     alloc: Global,
     grammar: &Grammar,
     rules: &Rules,

@@ -12,10 +12,14 @@ use rag_io::{Memory, Token, is_left_out, is_reserved};
 use std::alloc::Global;
 
 /// The largest integer literal.
-pub const GREATEST: u64 = 2_147_483_647;
+pub(crate) const GREATEST: u64 = 2_147_483_647;
 
 // The events of the sentence that the tokens of these classes are, or None where they are none.
-pub fn sentence(alloc: Global, table: &Table<'_>, classes: &[u8]) -> Result<Option<Vec<u8>>, Memory>
+pub(crate) fn sentence(
+    alloc: Global,
+    table: &Table<'_>,
+    classes: &[u8],
+) -> Result<Option<Vec<u8>>, Memory>
     ghost facts: { Claims }
     requires works { Works (rows_of table.now) 0 (choice_of table.now.choice.now) facts }
     requires some { 0 < length classes.now }
@@ -31,7 +35,7 @@ pub fn sentence(alloc: Global, table: &Table<'_>, classes: &[u8]) -> Result<Opti
 }
 
 // The text of the token of this number.
-pub fn text_at<'a>(tokens: &[Token<'a>], k: usize) -> &'a [u8]
+pub(crate) fn text_at<'a>(tokens: &[Token<'a>], k: usize) -> &'a [u8]
     ensures { result.now ≡ text_at (seen_tokens tokens.now) k }
 {
     match tokens.get(k) {
@@ -41,14 +45,14 @@ pub fn text_at<'a>(tokens: &[Token<'a>], k: usize) -> &'a [u8]
 }
 
 // A word that aspects neither reserve nor leave out.
-pub fn is_name(text: &[u8]) -> bool
+pub(crate) fn is_name(text: &[u8]) -> bool
     ensures { result ≡ is_name text.now }
 {
     !(is_reserved(text) || is_left_out(text))
 }
 
 // The number that decimal digits write, or the limit where it is larger.
-pub fn capped(digits: &[u8], limit: u64) -> u64
+pub(crate) fn capped(digits: &[u8], limit: u64) -> u64
     requires { limit < 2 ^ 32 }
     ensures { result ≡ min (decimal digits.now) limit }
 {

@@ -68,7 +68,11 @@ fn is_first(grammar: &Grammar, name: &[u8]) -> bool
 
 /// Whether the tokens say a tree over the grammar, in the form that is read so far: one node, of the first
 /// class.
-pub fn read_tree(alloc: Global, grammar: &Grammar, tokens: &[Token<'_>]) -> Result<bool, Memory>
+pub(crate) fn read_tree(
+    alloc: Global,
+    grammar: &Grammar,
+    tokens: &[Token<'_>],
+) -> Result<bool, Memory>
     requires { AreTokens (seen_tokens tokens.now) }
     ensures { AnswersTree grammar.now (seen_tokens tokens.now) result }
 {
