@@ -8,10 +8,12 @@ use Rattle.solutions.specs.Asking.{Demands, Gives, Needs, Outcome, Done, Stuck, 
 use Rattle.equation_law.specs.Answering.{Answers}
 use Rattle.equation_law.specs.Named.{value_of}
 
+-- what is stuck behind a demand was stuck before it was counted
 stuck_more : (j : Instance) (o : Outcome Instance Value) (n : NamedInstance) → Answers (demanded j o) (Err n) → Answers o (Err n)
 stuck_more j (Done v ds) n h = h
 stuck_more j (Stuck i ds) n h = h
 
+-- a demand in front leaves what is stuck so
 more_stuck : (j : Instance) (o : Outcome Instance Value) (n : NamedInstance) → Answers o (Err n) → Answers (demanded j o) (Err n)
 more_stuck j (Done v ds) n h = h
 more_stuck j (Stuck i ds) n h = h
@@ -25,10 +27,12 @@ answers_err A (Needs j f) k n h =
       | Some w ↦ λ g. more_stuck j (run A (next (f w) k)) n (answers_err A (f w) k n (stuck_more j (run A (f w)) n g))
     ] h
 
+-- what has a value behind a demand had it before it was counted
 ok_more : (j : Instance) (o : Outcome Instance Value) (w : PlainValue) → Answers (demanded j o) (Ok w) → Answers o (Ok w)
 ok_more j (Done v ds) w h = h
 ok_more j (Stuck i ds) w h = h
 
+-- a demand in front changes no answer
 more_answers : (j : Instance) (o : Outcome Instance Value) (r : Result PlainValue NamedInstance) → Answers o r → Answers (demanded j o) r
 more_answers j (Done v ds) (Ok w) h = h
 more_answers j (Done v ds) (Err n) h = h

@@ -36,6 +36,7 @@ abbrev pub Means : Option Kind → Demands Instance Value → Type 0
 Means None c = Unit {0}
 Means (Some k) c = (v : Value) × (c ≡ Gives v) × IsOf k v
 
+-- a whole with a part that has to be a truth value
 part_truth : (t k : Option Kind) (c d : Demands Instance Value) → Means t c → ((b : Bool) → c ≡ Gives (Truth b) → Means k d) → Means (where_truth t k) d
 part_truth None k c d m g = tt
 part_truth (Some kinds.Truth) k c d m g = g m.2.0 (m.1 ∙ ap Gives m.2.1)
@@ -45,6 +46,7 @@ part_truth (Some (kinds.Node l)) k c d m g = tt
 part_truth (Some kinds.Texts) k c d m g = tt
 part_truth (Some (kinds.Nodes l)) k c d m g = tt
 
+-- a whole with a part that has to be an integer
 part_int : (t k : Option Kind) (c d : Demands Instance Value) → Means t c → ((z : ℤ) → c ≡ Gives (Int z) → Means k d) → Means (where_int t k) d
 part_int None k c d m g = tt
 part_int (Some kinds.Truth) k c d m g = tt
@@ -54,6 +56,7 @@ part_int (Some (kinds.Node l)) k c d m g = tt
 part_int (Some kinds.Texts) k c d m g = tt
 part_int (Some (kinds.Nodes l)) k c d m g = tt
 
+-- a choice between two parts of one type
 either_part : (t u : Option Kind) (c d : Demands Instance Value) (b : Bool) → Means t c → Means u d → Means (common t u) (cond b c d)
 either_part None u c d b m n = tt
 either_part (Some kinds.Truth) u c d b m n =
@@ -69,13 +72,16 @@ either_part (Some (kinds.Nodes l)) u c d b m n = tt
 abbrev both_sides : Operator → Demands Instance Value → Demands Instance Value → Demands Instance Value
 both_sides o c d = next c (λ v. next d (λ w. Gives (operate o v w)))
 
+-- both sides with values give the operator on these
 both_give : (o : Operator) (c d : Demands Instance Value) (v w : Value) → c ≡ Gives v → d ≡ Gives w → both_sides o c d ≡ Gives (operate o v w)
 both_give o c d v w e f = ap (λ x. both_sides o x d) e ∙ ap (λ x. next x (λ y. Gives (operate o v y))) f
 
+-- an operator on two integers
 of_ints : (o : Operator) (t u : Option Kind) (c d : Demands Instance Value) (k : Kind) → ((y z : ℤ) → IsOf k (operate o (Int y) (Int z))) → Means t c → Means u d → Means (where_int t (where_int u (Some k))) (both_sides o c d)
 of_ints o t u c d k g m n =
     part_int t (where_int u (Some k)) c (both_sides o c d) m (λ y e. part_int u (Some k) d (both_sides o c d) n (λ z f. (operate o (Int y) (Int z), both_give o c d (Int y) (Int z) e f, g y z)))
 
+-- a comparison for equality
 compared_means : (t u : Option Kind) (c d : Demands Instance Value) → Means t c → Means u d → Means (compared t u) (both_sides Equal c d)
 compared_means None u c d m n = tt
 compared_means (Some kinds.Truth) u c d m n =
@@ -87,6 +93,7 @@ compared_means (Some (kinds.Node l)) u c d m n = tt
 compared_means (Some kinds.Texts) u c d m n = tt
 compared_means (Some (kinds.Nodes l)) u c d m n = tt
 
+-- a binary operator
 operated_means : (o : Operator) (t u : Option Kind) (c d : Demands Instance Value) → Means t c → Means u d → Means (operated o t u) (both_sides o c d)
 operated_means Add t u c d m n = of_ints Add t u c d kinds.Int (λ y z. (_, refl)) m n
 operated_means Subtract t u c d m n = of_ints Subtract t u c d kinds.Int (λ y z. (_, refl)) m n
@@ -97,6 +104,7 @@ operated_means Greater t u c d m n = of_ints Greater t u c d kinds.Truth (λ y z
 operated_means AtLeast t u c d m n = of_ints AtLeast t u c d kinds.Truth (λ y z. (_, refl)) m n
 operated_means Equal t u c d m n = compared_means t u c d m n
 
+-- without names no call has a type
 no_call : (t : Option Kind) → call_type t None ≡ None
 no_call None = refl
 no_call (Some kinds.Truth) = refl
@@ -107,6 +115,7 @@ no_call (Some kinds.Texts) = refl
 no_call (Some (kinds.Nodes c)) = refl
 
 module _ (W : World) (p : Place) where
+  -- an expression, form by form
   means : (e : Expression) → Means (type_of no_names e) (meaning_of W e p)
   means (TruthLiteral b) = (Truth b, refl, (b, refl))
   means (IntLiteral z) = (Int z, refl, (z, refl))

@@ -21,6 +21,7 @@ use Rattle.equation_law.specs.Values.{Node, Value, as_kind}
 use Rattle.equation_law.proofs.Answering.{answers_err, answers_ok}
 use Rattle.equation_law.proofs.Lists.{some_of}
 
+-- the equation of an attribute, from the rules of the program
 rule_found : (p : Program) (a k e : ℕ) (c : ClassId) (body : Expression) (kind : Kind) → class_of p k ≡ Some c → equation_number p.rules c a ≡ Some e → body_at p.rules e ≡ Some body → kind ≡ attribute_kind p a → equation_of p (at_source a k) ≡ Some (record { body = body; kind = kind; place = record { this = At (Source k) } })
 rule_found p a k e c body kind h n b t =
     let s = some_of expression_in (slice_get p.rules.equations e) body b in
@@ -28,6 +29,7 @@ rule_found p a k e c body kind h n b t =
     let r : Some (site_at p a k s.0) ≡ Some (record { body = body; kind = kind; place = record { this = At (Source k) } }) = cc in
     ap (λ (o : Option ClassId). option_map (site_at p a k) (option_and_then (equation_for p a) o)) h ∙ ap (λ (o : Option ℕ). option_map (site_at p a k) (option_and_then (slice_get p.rules.equations) o)) n ∙ ap (λ (o : Option Equation). option_map (site_at p a k) o) s.1 ∙ r
 
+-- the same, from what the code asks of its rules
 pub attribute_found : (p : Program) (rules : RuleSet) (a k e : ℕ) (c : ClassId) (body : Expression) (kind : Kind) → rules ≡ p.rules → Some c ≡ class_of p k → Some e ≡ equation_number rules c a → body_at rules e ≡ Some body → kind ≡ attribute_kind p a → equation_of p (at_source a k) ≡ Some (record { body = body; kind = kind; place = record { this = At (Source k) } })
 attribute_found p rules a k e c body kind same h n b t =
     rule_found p a k e c body kind (sym h)
@@ -35,28 +37,34 @@ attribute_found p rules a k e c body kind same h n b t =
     (subst (λ (x : RuleSet). body_at x e ≡ Some body) same b)
     t
 
+-- what has no type counts as a truth value
 pub or_truth : (o : Option Kind) → unwrap_or o kinds.Truth ≡ kind_or_truth o
 or_truth None = refl
 or_truth (Some k) = refl
 
+-- the equation of a query
 pub query_found : (p : Program) (q : ℕ) (body : Expression) (kind : Kind) → slice_get p.queries q ≡ Some body → kind ≡ kind_or_truth (type_of (names_in p) body) → equation_of p (Query q) ≡ Some (record { body = body; kind = kind; place = record { this = At (Source 0) } })
 query_found p q body kind h t =
     let r : Some (record { body = body; kind = kind_or_truth (type_of (names_in p) body); place = record { this = At (Source 0) } }) ≡ Some (record { body = body; kind = kind; place = record { this = At (Source 0) } }) = cc in
     ap (λ (o : Option Expression). option_map (λ e. record { body = e; kind = kind_or_truth (type_of (names_in p) e); place = record { this = At (Source 0) } }) o) h ∙ r
 
+-- what is stuck has no value
 stuck_value : (o : Outcome Instance Value) (n : NamedInstance) → Answers o (Err n) → outcome_value o ≡ None
 stuck_value (Done v ds) n h = elim h [ ]
 stuck_value (Stuck j ds) n h = refl
 
+-- what is done has the value that is answered
 done_value : (o : Outcome Instance Value) (w : PlainValue) → Answers o (Ok w) → outcome_value o ≡ Some (value_of w)
 done_value (Done v ds) w h = ap Some h
 done_value (Stuck j ds) w h = elim h [ ]
 
 module _ (p : Program) (A : Instance → Option Value) (i : Instance) where
+  -- the demands of an equation that is found
   at_site : (o : Option Site) → equation_of p i ≡ o → outcome_value (run A ((equations_of p).equation i)) ≡ outcome_value (run A (site_demands (world_of p) o))
   unfolding equations_of
   at_site o h = ap (λ x. outcome_value (run A (site_demands (world_of p) x))) h
 
+  -- without an equation the value is null
   pub equation_none : equation_of p i ≡ None → Some (Node Null) ≡ outcome_value (run A ((equations_of p).equation i))
   equation_none h = sym (at_site None h)
 

@@ -15,17 +15,21 @@ use Rattle.equation_law.specs.Program.{at_source}
 use Rattle.equation_law.specs.Places.{place_in, kept_place}
 use Rattle.equation_law.proofs.Names.{same_instance_is, same_instance_self}
 
+-- two tests that imply each other are one
 both_ways : (a b : Bool) → (a ≡ true → b ≡ true) → (b ≡ true → a ≡ true) → a ≡ b
 both_ways true b f g = sym (f refl)
 both_ways false true f g = g refl
 both_ways false false f g = refl
 
+-- equal instances count as the same
 same_as : (i j : Instance) → i ≡ j → same_instance i j ≡ true
 same_as i j e = subst (λ x. same_instance i x ≡ true) e (same_instance_self i)
 
+-- which of two comes first makes no difference
 pub same_turned : (i j : Instance) → same_instance i j ≡ same_instance j i
 same_turned i j = both_ways (same_instance i j) (same_instance j i) (λ e. same_as j i (sym (same_instance_is i j e))) (λ e. same_as i j (sym (same_instance_is j i e)))
 
+-- what the test of two pairs of numbers says
 both_equal : (a b n m : ℕ) → (eqb a b && eqb n m) ≡ true → (a ≡ b) × (n ≡ m)
 both_equal a b n m e =
     elim (eqb a b) as (λ x. eqb a b ≡ x → (x && eqb n m) ≡ true → (a ≡ b) × (n ≡ m)) [
@@ -33,9 +37,11 @@ both_equal a b n m e =
       | false ↦ λ h g. cc
     ] refl e
 
+-- and the other way round
 equal_both : (a b n m : ℕ) → a ≡ b → n ≡ m → (eqb a b && eqb n m) ≡ true
 equal_both a b n m e f = ap (λ x. x && eqb n m) (eq-eqb a b e) ∙ eq-eqb n m f
 
+-- two attribute instances are the same where their numbers are equal
 same_attribute : (a b n m : ℕ) → (eqb a b && eqb n m) ≡ same_instance (at_source a n) (at_source b m)
 same_attribute a b n m =
     both_ways (eqb a b && eqb n m) (same_instance (at_source a n) (at_source b m))
@@ -53,6 +59,7 @@ same_attribute a b n m =
     equal_both a b n m f g
     )
 
+-- and two queries
 same_query : (p q : ℕ) → eqb p q ≡ same_instance (Query p) (Query q)
 same_query p q =
     both_ways (eqb p q) (same_instance (Query p) (Query q))
@@ -75,18 +82,22 @@ unnamed_apart : (a : ℕ) (n : NamedInstance) → same_instance (Attribute a Nul
 unnamed_apart a (named.Attribute b m) = refl
 unnamed_apart a (named.Query q) = refl
 
+-- so no map keeps a place of it
 unnamed : (a : ℕ) (es : List (NamedInstance × ℕ)) → lookup (λ n. same_instance (Attribute a Null NoArguments) (instance_of n)) es ≡ None
 unnamed a [] = refl
 unnamed a (e ∷ es) = ap (λ b. cond b (Some e.1) (lookup (λ n. same_instance (Attribute a Null NoArguments) (instance_of n)) es)) (unnamed_apart a e.0) ∙ unnamed a es
 
-or_none : {V : Type 0} (o : Option V) → o ≡ or_else o None
+-- nothing is added
+pub or_none : {V : Type 0} (o : Option V) → o ≡ or_else o None
 or_none None = refl
 or_none (Some v) = refl
 
 module _ {S : Type 0} where
+  -- what a name finds is what is kept of its instance
   pub by_name : (m : HashMap NamedInstance ℕ S) (q : NamedInstance) → get_by (equality.ghosts.eq q) m ≡ kept_place m (instance_of q)
   by_name m q = ap (λ (t : NamedInstance → Bool). get_by t m) (λ t x. key_same q x t)
 
+  -- where the name is no key, nothing is kept of its instance
   pub not_kept : (m : HashMap NamedInstance ℕ S) (q : NamedInstance) (b : Bool) → b ≡ is_some (get_by (equality.ghosts.eq q) m) → b ≡ false → kept_place m (instance_of q) ≡ None
   not_kept m q b e f = sym (by_name m q) ∙ nothing (get_by (equality.ghosts.eq q) m) (sym e ∙ f)
     where
@@ -94,6 +105,7 @@ module _ {S : Type 0} where
       nothing None g = refl
       nothing (Some x) g = cc
 
+  -- the place that an instance gets, from the test of the keys
   put : (m : HashMap NamedInstance ℕ S) (j i : Instance) (k : ℕ) (o : Option ℕ) → kept_place m j ≡ None → o ≡ cond (same_instance j i) (Some k) (kept_place m i) → o ≡ or_else (kept_place m i) (cond (same_instance i j) (Some k) None)
   put m j i k o h e =
       elim (same_instance i j) as (λ b. same_instance i j ≡ b → o ≡ or_else (kept_place m i) (cond b (Some k) None)) [
@@ -106,6 +118,7 @@ module _ {S : Type 0} where
             e ∙ ap (λ b. cond b (Some k) (kept_place m i)) t ∙ or_none (kept_place m i)
       ] refl
 
+  -- the same for an instance with a name
   named_put : (m n : HashMap NamedInstance ℕ S) (j q : NamedInstance) (k : ℕ) → kept_place m (instance_of j) ≡ None → Updates equality.ghosts.eq m n j (Some k) → kept_place n (instance_of q) ≡ or_else (kept_place m (instance_of q)) (cond (same_instance (instance_of q) (instance_of j)) (Some k) None)
   named_put m n j q k h u =
       put m (instance_of j) (instance_of q) k (kept_place n (instance_of q)) h

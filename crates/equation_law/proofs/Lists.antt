@@ -13,10 +13,12 @@ use Rattle.equation_law.specs.Names.{Instance, Query}
 use Rattle.equation_law.specs.Named.{instance_of}
 use Rattle.equation_law.specs.Program.{Node, at_source, attribute_instances, nodes_of, query_instances}
 
+-- the rest of a list from an element on
 drop_at : {A : Type 0} (xs : List A) (k : ℕ) (x : A) → slice_get xs k ≡ Some x → drop k xs ≡ x ∷ drop (k + 1) xs
 drop_at xs k x e =
     drop-cons xs k x (slice_get_within xs k x e) ∙ ap (λ y. y ∷ drop (suc k) xs) (get_or_from_slice_get xs k x x e) ∙ ap (λ j. x ∷ drop j xs) (sym (add-one k))
 
+-- what is mapped to something was there
 pub some_of : {A B : Type 0} (f : A → B) (o : Option A) (y : B) → option_map f o ≡ Some y → (x : A) × (o ≡ Some x) × (f x ≡ y)
 some_of f None y e = cc
 some_of f (Some x) y e = (x, refl, cc)
@@ -26,6 +28,7 @@ one_more : (xs ys : List NamedInstance) (n : NamedInstance) (rest : List Instanc
 one_more xs ys n rest e =
     ap (λ zs. map instance_of zs ++ rest) e ∙ ap (λ zs. zs ++ rest) (map-append instance_of xs (n ∷ [])) ∙ append_assoc (map instance_of xs) (instance_of n ∷ []) rest
 
+-- a query more
 pub query_listed : (xs ys : List NamedInstance) (qs : List Expression) (k : ℕ) (all : List Instance) → k < length qs → ys ≡ xs ++ named.Query k ∷ [] → map instance_of xs ++ query_instances (drop k qs) k ≡ all → map instance_of ys ++ query_instances (drop (k + 1) qs) (k + 1) ≡ all
 query_listed xs ys qs k all h e i =
     let d = drop_at qs k (get_or qs k (Truth false)) (slice_get-get_or qs k (Truth false) h) in
@@ -33,11 +36,13 @@ query_listed xs ys qs k all h e i =
     one_more xs ys (named.Query k) (query_instances (drop (k + 1) qs) (k + 1)) e ∙ ap (λ zs. map instance_of xs ++ zs) (sym r) ∙ i
 
 module _ (tree : List Node) (class : ClassId) where
+  -- the nodes from one on, by the test of its class
   nodes_from : (k : ℕ) (c : ClassId) → option_map (λ (x : Node). x.class) (slice_get tree k) ≡ Some c → nodes_of (drop k tree) class k ≡ cond (eqb c.0 class.0) (k ∷ nodes_of (drop (k + 1) tree) class (k + 1)) (nodes_of (drop (k + 1) tree) class (k + 1))
   nodes_from k c e =
       let s = some_of (λ (x : Node). x.class) (slice_get tree k) c e in
       ap (λ zs. nodes_of zs class k) (drop_at tree k s.0 s.1) ∙ ap (λ j. cond (eqb s.0.class.0 class.0) (k ∷ nodes_of (drop (k + 1) tree) class j) (nodes_of (drop (k + 1) tree) class j)) (sym (add-one k)) ∙ ap (λ (x : ClassId). cond (eqb x.0 class.0) (k ∷ nodes_of (drop (k + 1) tree) class (k + 1)) (nodes_of (drop (k + 1) tree) class (k + 1))) s.2
 
+  -- the same, by what the test says
   chosen : (k : ℕ) (c : ClassId) (b : Bool) → eqb c.0 class.0 ≡ b → option_map (λ (x : Node). x.class) (slice_get tree k) ≡ Some c → nodes_of (drop k tree) class k ≡ cond b (k ∷ nodes_of (drop (k + 1) tree) class (k + 1)) (nodes_of (drop (k + 1) tree) class (k + 1))
   chosen k c b h e = nodes_from k c e ∙ ap (λ x. cond x (k ∷ nodes_of (drop (k + 1) tree) class (k + 1)) (nodes_of (drop (k + 1) tree) class (k + 1))) h
 

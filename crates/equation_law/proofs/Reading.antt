@@ -6,6 +6,7 @@ use Rattle.equation_law.specs.Named.{value_of}
 use Rattle.equation_law.specs.Sets.{no_elements}
 use Rattle.equation_law.specs.Values.{text, texts, nodes}
 
+-- as a text
 pub text_empty : (v : PlainValue) → text (value_of v) ≡ []
 text_empty (plain.Truth b) = refl
 text_empty (plain.Int z) = refl
@@ -15,6 +16,7 @@ text_empty plain.EmptyText = refl
 text_empty plain.NoTexts = refl
 text_empty plain.NoNodes = refl
 
+-- as a set of texts
 pub texts_empty : (v : PlainValue) → texts (value_of v) ≡ no_elements
 texts_empty (plain.Truth b) = refl
 texts_empty (plain.Int z) = refl
@@ -24,6 +26,7 @@ texts_empty plain.EmptyText = refl
 texts_empty plain.NoTexts = refl
 texts_empty plain.NoNodes = refl
 
+-- as a set of nodes
 pub nodes_empty : (v : PlainValue) → nodes (value_of v) ≡ no_elements
 nodes_empty (plain.Truth b) = refl
 nodes_empty (plain.Int z) = refl

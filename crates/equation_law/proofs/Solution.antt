@@ -19,13 +19,16 @@ Same i v w = v ≡ w
 abbrev Fits : Instance → Value → Type 0
 Fits i v = ⊥
 
+-- no instance is circular
 pub none_circular : (p : Program) (i : Instance) → (equations_of p).circular i ≡ false
 unfolding equations_of
 none_circular p i = refl
 
+-- none is
 not_circular : (p : Program) (i : Instance) → (equations_of p).circular i ≡ true → ⊥
 not_circular p i c = let h = none_circular p i in cc
 
+-- so all rules of rising equations hold
 are_rising : (p : Program) → AreRising (equations_of p) Same Fits
 unfolding equations_of
 are_rising p = record {
@@ -40,23 +43,29 @@ are_rising p = record {
   rising = λ i c. absurd (not_circular p i c);
 }
 
+-- one height serves for all values
 flat : Instance → Value → ℕ
 flat i v = 0
 
+-- nothing rises
 heights : HaveHeights Same Fits flat
 heights = record {
   grows = λ i v w f g d. absurd f;
   strict = λ i v w f g d e. absurd f;
 }
 
+-- two lists give one value
 pub one : (p : Program) (i : Instance) (v w : Value) → HasValue p i v → HasValue p i w → v ≡ w
 one p i v w a b = unique (equations_of p) Same Fits (are_rising p) i v w a b
 
+-- an instance whose equation ends has a value
 pub ended : (p : Program) (i : Instance) (v : Value) (demands : List Instance) → Ends (HasValue p) ((equations_of p).equation i) v demands → HasValue p i v
 ended p i v demands e = undeclared_val (equations_of p) Same Fits (are_rising p) flat heights i v demands (none_circular p i) e
 
+-- one whose equation is stuck has none
 pub stuck : (p : Program) (i j : Instance) (demands : List Instance) → Halts (HasValue p) ((equations_of p).equation i) j demands → (v : Value) → ¬ HasValue p i v
 stuck p i j demands s v a = stuck_no_val (equations_of p) Same Fits (are_rising p) flat heights i j demands s v a
 
+-- some rounds, and those that ran until nothing was added
 pub finished : (p : Program) (i : Instance) (v : Value) → HasValue p i v ↔ HasFinalValue (equations_of p) i v
 finished p i v = val_finished (equations_of p) Same Fits (are_rising p) i v

@@ -17,6 +17,7 @@ use Rattle.equation_law.specs.Equations.{equations_of}
 use Rattle.equation_law.specs.Named.{instance_of, value_in}
 use Rattle.equation_law.specs.Places.{place_in, value_on}
 use Rattle.equation_law.specs.Steps.{IsAfter, IsRound, IsStep, name_at, standing}
+use Rattle.equation_law.proofs.Keys.{or_none}
 use Rattle.equation_law.proofs.Lists.{some_of}
 use Rattle.equation_law.proofs.Names.{same_instance_is, same_instance_self}
 
@@ -25,6 +26,7 @@ later_place : (v : Option NamedValue) (values : List (Option NamedValue)) (o : O
 later_place v values None = refl
 later_place v values (Some k) = refl
 
+-- what is at the first places stands under the names
 placed_stands : (names : List NamedInstance) (values : List (Option NamedValue)) → length values ≡ length names → (i : Instance) → option_and_then (value_on values) (place_in (map instance_of names) i) ≡ standing names values i
 placed_stands [] values l i = refl
 placed_stands (n ∷ names) [] l i = absurd (omega arith)
@@ -35,6 +37,7 @@ placed_stands (n ∷ names) (v ∷ values) l i =
       | false ↦ later_place v values (place_in (map instance_of names) i) ∙ placed_stands names values l' i
     ]
 
+-- the same for kept places
 pub found_stands : (f : Instance → Option ℕ) (names : List NamedInstance) (values : List (Option NamedValue)) → ((i : Instance) → f i ≡ place_in (map instance_of names) i) → length values ≡ length names → (i : Instance) → option_and_then (value_on values) (f i) ≡ standing names values i
 found_stands f names values h l i = ap (option_and_then (value_on values)) (h i) ∙ placed_stands names values l i
 
@@ -55,6 +58,7 @@ module _ (p : Program) (A : Instance → Option Value) where
   abbrev Comes : Instance → Option Value
   Comes i = outcome_value (run A ((equations_of p).equation i))
 
+  -- what a step leaves one name
   stepped_is : (v w : Option NamedValue) (i j : Instance) → i ≡ j → IsStep v w (run A ((equations_of p).equation j)) → option_map value_in w ≡ or_else (option_map value_in v) (Comes i)
   stepped_is (Some v) w i j e s = ap (option_map value_in) s
   stepped_is None w i j e s = s ∙ ap Comes (sym e)
@@ -62,6 +66,7 @@ module _ (p : Program) (A : Instance → Option Value) where
   abbrev AreSteps : List NamedInstance → List (Option NamedValue) → List (Option NamedValue) → Type 0
   AreSteps ns vs ws = (k : ℕ) → k < length ns → IsStep (get_or vs k None) (get_or ws k None) (run A ((equations_of p).equation (instance_of (name_at ns k))))
 
+  -- what the steps leave all names
   steps_are : (ns : List NamedInstance) (vs ws : List (Option NamedValue)) → length vs ≡ length ns → length ws ≡ length ns → AreSteps ns vs ws → (i : Instance) → standing ns ws i ≡ or_else (standing ns vs i) (cond (is_in same_instance (map instance_of ns) i) (Comes i) None)
   steps_are [] vs ws l m s i = refl
   steps_are (n ∷ ns) [] ws l m s i = absurd (omega arith)
@@ -74,18 +79,17 @@ module _ (p : Program) (A : Instance → Option Value) where
         | false ↦ λ e. steps_are ns vs ws l' m' (λ k h. s (suc k) (omega arith)) i
       ] refl
 
-or_none : {V : Type 0} (o : Option V) → o ≡ or_else o None
-or_none None = refl
-or_none (Some v) = refl
-
+-- nothing, whatever a test says
 none_either : {V : Type 0} (b : Bool) (o : Option V) → o ≡ None → cond b None o ≡ None
 none_either true o e = refl
 none_either false o e = e
 
+-- in the first table nothing stands
 none_stands : (ns : List NamedInstance) (i : Instance) → standing ns (replicate (length ns) None) i ≡ None
 none_stands [] i = refl
 none_stands (n ∷ ns) i = none_either (same_instance i (instance_of n)) _ (none_stands ns i)
 
+-- and no name has a value
 none_at : (n k : ℕ) → option_map value_in (get_or (replicate n None) k None) ≡ None
 none_at zero k = refl
 none_at (suc n) zero = refl
@@ -102,6 +106,7 @@ named_in (n ∷ ns) (suc k) h = either_way (same_instance (instance_of (name_at 
     either_way false b e = e
 
 module _ (p : Program) (ns : List NamedInstance) where
+  -- the first table is that of no rounds
   pub after_none : IsAfter p ns (replicate (length ns) None)
   after_none = record {
     long = length-replicate (length ns) None;
@@ -115,29 +120,35 @@ module _ (p : Program) (ns : List NamedInstance) where
   added : (Instance → Option Value) → Instance → Option Value
   added S i = or_else (S i) (or_else (plain_round (equations_of p) (map instance_of ns) S i) None)
 
+  -- what a round adds
   added_is : (vs ws : List (Option NamedValue)) → length vs ≡ length ns → length ws ≡ length ns → IsRound p ns vs ws → (i : Instance) → standing ns ws i ≡ added (standing ns vs) i
   unfolding added equations_of
   added_is vs ws l m r i = steps_are p (standing ns vs) ns vs ws l m r.each i ∙ ap (λ x. or_else (standing ns vs i) x) (or_none _)
 
+  -- what an outer round adds
   outer_added : (ms : List ℕ) (i : Instance) → outer_rounds (equations_of p) (map instance_of ns) (0 ∷ ms) i ≡ added (outer_rounds (equations_of p) (map instance_of ns) ms) i
   unfolding added equations_of
   outer_added ms i = refl
 
+  -- so the table after a round is that of one outer round more
   round_outer : (vs ws : List (Option NamedValue)) → length ws ≡ length ns → IsRound p ns vs ws → (a : IsAfter p ns vs) → (i : Instance) → standing ns ws i ≡ outer_rounds (equations_of p) (map instance_of ns) (0 ∷ a.rounds) i
   round_outer vs ws m r a i =
       let same : standing ns vs ≡ outer_rounds (equations_of p) (map instance_of ns) a.rounds = λ t j. a.is j t in
       added_is vs ws a.long m r i ∙ ap (λ (S : Instance → Option Value). added S i) same ∙ sym (outer_added a.rounds i)
 
+  -- without circular instances nothing changes in inner rounds
   stable : (S : Instance → Option Value) → IsStable (equations_of p) (map instance_of ns) S 0
   unfolding equations_of
   stable S i = refl
 
+  -- a name that stands twice keeps one value
   even_after : (vs ws : List (Option NamedValue)) → length ws ≡ length ns → IsRound p ns vs ws → IsAfter p ns vs → (k : ℕ) → k < length ns → option_map value_in (get_or ws k None) ≡ standing ns ws (instance_of (name_at ns k))
   even_after vs ws m r a k h =
       let i = instance_of (name_at ns k) in
       let come = Comes p (standing ns vs) i in
       stepped_is p (standing ns vs) (get_or vs k None) (get_or ws k None) i i refl (r.each k h) ∙ ap (λ o. or_else o come) (a.even k h) ∙ ap (λ b. or_else (standing ns vs i) (cond b come None)) (sym (named_in ns k h)) ∙ sym (steps_are p (standing ns vs) ns vs ws a.long m r.each i)
 
+  -- the table after a round is one of rounds
   pub after_round : (vs ws : List (Option NamedValue)) → length ws ≡ length ns → IsRound p ns vs ws → IsAfter p ns vs → IsAfter p ns ws
   after_round vs ws m r a = record {
     long = m;
@@ -152,6 +163,7 @@ abbrev Stays : Option NamedValue → Option NamedValue → Type 0
 Stays None w = Unit {0}
 Stays (Some v) w = w ≡ Some v
 
+-- a step keeps what stands
 step_stays : (v w : Option NamedValue) (o : Outcome Instance Value) → IsStep v w o → Stays v w
 step_stays None w o s = tt
 step_stays (Some v) w o s = s
@@ -162,16 +174,19 @@ gaps [] = 0
 gaps (None ∷ vs) = 1 + gaps vs
 gaps (Some v ∷ vs) = gaps vs
 
+-- one value more
 gaps_more : (v : Option NamedValue) (vs : List (Option NamedValue)) → gaps (v ∷ vs) ≡ cond (is_none v) (1 + gaps vs) (gaps vs)
 gaps_more None vs = refl
 gaps_more (Some v) vs = refl
 
+-- that is the count of the code
 gaps_are : (vs : List (Option NamedValue)) → gaps vs ≡ count_by is_none vs
 gaps_are = is_count_by gaps is_none refl gaps_more
 
 abbrev AllStay : List (Option NamedValue) → List (Option NamedValue) → Type 0
 AllStay vs ws = (k : ℕ) → k < length vs → Stays (get_or vs k None) (get_or ws k None)
 
+-- no gap comes up
 fewer : (vs ws : List (Option NamedValue)) → length vs ≡ length ws → AllStay vs ws → gaps ws ≤ gaps vs
 fewer [] [] l s = omega arith
 fewer [] (w ∷ ws) l s = absurd (omega arith)
@@ -181,6 +196,7 @@ fewer (Some v ∷ vs) (None ∷ ws) l s = let e : None ≡ Some v = s 0 (omega a
 fewer (None ∷ vs) (Some w ∷ ws) l s = let r = fewer vs ws (omega arith) (λ k h. s (suc k) (omega arith)) in omega arith
 fewer (None ∷ vs) (None ∷ ws) l s = let r = fewer vs ws (omega arith) (λ k h. s (suc k) (omega arith)) in omega arith
 
+-- where no gap is filled, nothing changes
 same_table : (vs ws : List (Option NamedValue)) → length vs ≡ length ws → AllStay vs ws → gaps vs ≤ gaps ws → ws ≡ vs
 same_table [] [] l s c = refl
 same_table [] (w ∷ ws) l s c = absurd (omega arith)

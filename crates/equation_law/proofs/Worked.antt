@@ -38,34 +38,41 @@ small = record {
 abbrev root : Place
 root = record { this = At (Source 0) }
 
+-- the instances at its source nodes
 instances : source_instances small ≡ at_source 0 0 ∷ Query 0 ∷ []
 unfolding source_instances rules_of
 instances = refl
 
+-- the equation of its attribute at the root
 of_attribute : equation_of small (at_source 0 0) ≡ Some (record { body = IntLiteral (pos 5); kind = kinds.Int; place = root })
 unfolding rules_of
 of_attribute = refl
 
+-- that of the query
 of_query : equation_of small (Query 0) ≡ Some (record { body = v; kind = kinds.Int; place = root })
 unfolding rules_of
 of_query = refl
 
--- the root is no M, and there is no second node, no third attribute and no second query
+-- the root is no M
 of_other_class : equation_of small (at_source 1 0) ≡ None
 unfolding rules_of
 of_other_class = refl
 
+-- no second node
 of_no_node : equation_of small (at_source 0 1) ≡ None
 unfolding rules_of
 of_no_node = refl
 
+-- no third attribute
 of_no_attribute : equation_of small (at_source 2 0) ≡ None
 unfolding rules_of
 of_no_attribute = refl
 
+-- no second query
 of_no_query : equation_of small (Query 1) ≡ None
 of_no_query = refl
 
+-- and nothing at null
 of_null : equation_of small (Attribute 0 Null NoArguments) ≡ None
 of_null = refl
 
@@ -74,39 +81,45 @@ no_equation : (equations_of small).equation (Query 1) ≡ Gives (Node Null)
 unfolding equations_of
 no_equation = refl
 
--- `1 - 2 - 3` and `1 - (2 - 3)`
+-- `1 - 2 - 3`
 from_the_left : meaning_of (world_of small) (Binary Subtract (Binary Subtract (IntLiteral (pos 1)) (IntLiteral (pos 2))) (IntLiteral (pos 3))) root ≡ Gives (Int (negsuc 3))
 unfolding int_wrap
 from_the_left = refl
 
+-- `1 - (2 - 3)`
 from_the_right : meaning_of (world_of small) (Binary Subtract (IntLiteral (pos 1)) (Binary Subtract (IntLiteral (pos 2)) (IntLiteral (pos 3)))) root ≡ Gives (Int (pos 2))
 unfolding int_wrap
 from_the_right = refl
 
--- the ends of the range
+-- past the greatest integer
 sum_wraps : operate Add (Int (pos 2147483647)) (Int (pos 1)) ≡ Int (negsuc 2147483647)
 unfolding int_wrap
 sum_wraps = refl
 
+-- below the least integer
 difference_wraps : operate Subtract (Int (negsuc 2147483646)) (Int (pos 2)) ≡ Int (pos 2147483647)
 unfolding int_wrap
 difference_wraps = refl
 
+-- far past the greatest integer
 product_wraps : operate Multiply (Int (pos 65536)) (Int (pos 65536)) ≡ Int (pos 0)
 unfolding int_wrap
 product_wraps = refl
 
+-- the least integer has no opposite
 lowest_negated : meaning_of (world_of small) (Negate (IntLiteral (negsuc 2147483647))) root ≡ Gives (Int (negsuc 2147483647))
 unfolding int_wrap
 lowest_negated = refl
 
--- comparisons, at equal values and in both orders
+-- comparisons of equal values
 equal_values : (operate Less (Int (pos 2)) (Int (pos 2)) ≡ Truth false) × (operate AtMost (Int (pos 2)) (Int (pos 2)) ≡ Truth true) × (operate Greater (Int (pos 2)) (Int (pos 2)) ≡ Truth false) × (operate AtLeast (Int (pos 2)) (Int (pos 2)) ≡ Truth true) × (operate Equal (Int (pos 2)) (Int (pos 2)) ≡ Truth true)
 equal_values = (refl, refl, refl, refl, refl)
 
+-- a lower value on the left
 lower_values : (operate Less (Int (negsuc 2)) (Int (pos 2)) ≡ Truth true) × (operate AtMost (Int (negsuc 2)) (Int (pos 2)) ≡ Truth true) × (operate Greater (Int (negsuc 2)) (Int (pos 2)) ≡ Truth false) × (operate AtLeast (Int (negsuc 2)) (Int (pos 2)) ≡ Truth false) × (operate Equal (Int (negsuc 2)) (Int (pos 2)) ≡ Truth false)
 lower_values = (refl, refl, refl, refl, refl)
 
+-- two truth values
 truth_values : (operate Equal (Truth false) (Truth false) ≡ Truth true) × (operate Equal (Truth false) (Truth true) ≡ Truth false) × (operate Equal (Truth true) (Truth false) ≡ Truth false) × (operate Equal (Truth true) (Truth true) ≡ Truth true)
 truth_values = (refl, refl, refl, refl)
 
@@ -115,17 +128,20 @@ both_demanded : meaning_of (world_of small) (Binary Add v w) root ≡ Needs (at_
 unfolding rules_of
 both_demanded = refl
 
--- `false && w` and `true || w` demand nothing
+-- `false && w` demands nothing
 and_short : meaning_of (world_of small) (And (TruthLiteral false) w) root ≡ Gives (Truth false)
 and_short = refl
 
+-- nor does `true || w`
 or_short : meaning_of (world_of small) (Or (TruthLiteral true) w) root ≡ Gives (Truth true)
 or_short = refl
 
+-- `true && w` demands w
 and_long : meaning_of (world_of small) (And (TruthLiteral true) w) root ≡ Needs (at_source 1 0) (λ x. Gives (Truth (truth x)))
 unfolding rules_of
 and_long = refl
 
+-- so does `false || w`
 or_long : meaning_of (world_of small) (Or (TruthLiteral false) w) root ≡ Needs (at_source 1 0) (λ x. Gives (Truth (truth x)))
 unfolding rules_of
 or_long = refl

@@ -84,12 +84,7 @@ fn missing(values: &[Option<NamedValue>]) -> usize
 fn nothing(alloc: Global, count: usize) -> Result<Vec<Option<NamedValue>>, Memory>
     ensures { IfOk result (λ v. v.items ≡ replicate count None) }
 {
-    let mut values = Vec::with_capacity(alloc, count).map_err(|_| Memory)?;
-    for i in 0..count {
-        let _turn = i;
-        push(&mut values, None)?;
-    }
-    Ok(values)
+    vec![in alloc; None; count].map_err(|_| Memory)
 }
 
 /// Runs the rounds over the instances until nothing is added: each round gives each instance that has no value
