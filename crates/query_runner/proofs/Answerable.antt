@@ -1,5 +1,5 @@
 -- What the four files say is a program all of whose queries can be answered.
-use Rattle.std.proofs.Common.{◌≡◌, ℕ, List, [], ◌∷◌, All, length, arith}
+use Rattle.std.proofs.Common.{ℕ, List, All, arith}
 use Rattle.std.proofs.lemmas.List.Elements.{All-cons}
 use Rattle.rag_io.specs.Tokens.{Lexed}
 use Rattle.attr_types.specs.Expression.{Expression}

@@ -1,16 +1,16 @@
 -- The table of a program that was read has a value for each query.
 use Rattle.std.proofs.Common.{length-append, ◌≡◌, ℕ, zero, suc, ◌+◌, ◌<◌, Bool, true, false, cond, ◌||◌, ◌&&◌, ◌==◌, List, [], ◌∷◌, ◌++◌, length, map, get_or, Option, Some, None, refl, sym, ap, subst, ◌∙◌, arith, slice_get}
 use Rattle.std.specs.Str.{bytes_eq}
-use Rattle.std.specs.Option.{option_map, option_and_then}
+use Rattle.std.specs.Option.{option_map}
 use Rattle.std.proofs.lemmas.Bool.{eqb-true, eq-eqb}
 use Rattle.std.proofs.lemmas.List.Quantifiers.{position-Some}
-use Rattle.std.proofs.lemmas.Option.{slice_get-get_or, slice_get_within}
+use Rattle.std.proofs.lemmas.Option.{slice_get-get_or}
 use Rattle.ast_grammar.specs.declared.grammar.ClassId.{ClassId}
 use Rattle.attr_types.specs.declared.kinds.Attr.{Attr}
 use Rattle.attr_types.specs.declared.kinds.Kind.{Kind}
 use Rattle.attr_types.specs.declared.kinds.Kind.TheVariants as kinds
 use Rattle.attr_types.specs.Expression.{Expression, Call, Source as SourceNode, Truth as TruthLiteral}
-use Rattle.attr_types.specs.Rules.{Attribute as DeclaredAttribute, Equation, Item, RuleSet, attribute_named, attribute_of, body_at, declared_of as declared_in, equation_number, equation_of as equation_of_item, expression_in, plain_attribute, rules_of}
+use Rattle.attr_types.specs.Rules.{Attribute as DeclaredAttribute, Item, RuleSet, attribute_named, attribute_of, body_at, equation_number, equation_of as equation_of_item, expression_in, rules_of}
 use Rattle.attr_types.specs.Typing.{type_of, call_type, node_type, called_on, no_names}
 use Rattle.attr_types.proofs.RuleSets.{length-attributes, slice_get-attributes, slice_get-equations, equation_number-rules_of, where_of_class}
 use Rattle.solutions.specs.Asking.{Demands, Ends, Gives, Needs, asks, gives, next}
@@ -20,14 +20,14 @@ use Rattle.equation_law.specs.declared.rounds.Table.{Table}
 use Rattle.equation_law.specs.Names.{Instance, Query, At, Source, same_instance}
 use Rattle.equation_law.specs.Values.{Value, as_kind}
 use Rattle.equation_law.specs.Program.{Node, Program, at_source, attribute_instances, class_of, declared_of, names_in, nodes_of, query_instances, source_instances}
-use Rattle.equation_law.specs.Meaning.{World, meaning_of}
-use Rattle.equation_law.specs.Equations.{HasValue, Site, attribute_kind, equation_of, equations_of, kind_or_truth, site_demands, world_of}
+use Rattle.equation_law.specs.Meaning.{meaning_of}
+use Rattle.equation_law.specs.Equations.{attribute_kind, equations_of, kind_or_truth, site_demands, world_of}
 use Rattle.equation_law.specs.Named.{IsNoInt, IsNoTruth, Solves, assigned, value_at, values_in}
 use Rattle.equation_law.proofs.Constants.{IsOf, constant_means, reads_itself}
 use Rattle.equation_law.proofs.Ended.{left_value, ended_value}
 use Rattle.equation_law.proofs.Found.{attribute_found, query_found}
 use Rattle.equation_law.proofs.Names.{same_instance_self}
-use Rattle.query_runner.specs.Ready.{IsReady, IsAnswerable}
+use Rattle.query_runner.specs.Ready.{IsReady}
 use Rattle.query_runner.specs.Replies.{IsPlain, IsReply}
 
 -- membership in a list of instances

@@ -1,10 +1,10 @@
 -- For some words and the files that a shelf holds there is one answer.
-use Rattle.std.proofs.Common.{◌≡◌, ℕ, suc, ◌+◌, ◌<◌, ◌≤◌, List, [], ◌∷◌, ◌++◌, length, map, Option, Some, None, codes, refl, sym, ap, subst, ◌∙◌, arith}
+use Rattle.std.proofs.Common.{◌≡◌, ℕ, List, ◌++◌, length, Some, None, codes, refl, sym, ap, subst, ◌∙◌, arith}
 use Rattle.std.specs.Fmt.{signed_decimal}
 use Rattle.rag_io.specs.Tokens.{Lexed}
-use Rattle.rag_io.specs.Outside.{Named, content_of, IsLong, IsShort}
+use Rattle.rag_io.specs.Outside.{Named, IsLong, IsShort}
 use Rattle.rag_io.proofs.Readings.{one_list}
-use Rattle.ast_grammar.specs.FirstForm.{SaysGrammar, classes_named}
+use Rattle.ast_grammar.specs.FirstForm.{SaysGrammar}
 use Rattle.ast_grammar.specs.Grammar.{Class}
 use Rattle.attr_types.specs.Expression.{Expression}
 use Rattle.attr_types.specs.Rules.{Item, RuleSet, rules_of}
@@ -14,7 +14,7 @@ use Rattle.equation_law.specs.Values.{Value}
 use Rattle.equation_law.proofs.Solution.{one}
 use Rattle.query_runner.specs.Aspects.{SaysAspects}
 use Rattle.query_runner.specs.Files.{Contents, File, IsNotBuilt, ReadsGrammar, ReadsItems, ReadsTree, SaysProgram, no_grammar, no_items, no_tree, no_queries}
-use Rattle.query_runner.specs.Output.{Answers, AreReplies, HoldsAll, HoldsShort, IsFirstLong, IsRefused, IsReplyText, Output, truth_text, here, in_order, later, misused, name_of, none, not_built, of_int, of_truth, refused, replied, reply, too_long}
+use Rattle.query_runner.specs.Output.{Answers, AreReplies, HoldsAll, HoldsShort, IsFirstLong, IsRefused, IsReplyText, Output, truth_text, here, in_order, later, misused, none, not_built, of_int, of_truth, refused, replied, reply, too_long}
 use Rattle.query_runner.specs.Queries.{SaysQueries}
 use Rattle.query_runner.specs.Trees.{SaysTree}
 use Rattle.query_runner.specs.Words.{FileNames, names_of}

@@ -1,5 +1,5 @@
 -- What is to be written, from what was fetched and read.
-use Rattle.std.proofs.Common.{◌≡◌, ℕ, List, ◌++◌, Option, Some, None, Result, Ok, Err, IfOk, codes, sym, subst, ◌∙◌, ap}
+use Rattle.std.proofs.Common.{◌≡◌, ℕ, List, ◌++◌, Option, Some, None, Result, Ok, Err, IfOk, codes, sym, subst}
 use Rattle.rag_io.specs.Outside.{Named}
 use Rattle.query_runner.specs.declared.running.Answer.{Answer}
 use Rattle.query_runner.specs.declared.running.Answer.TheVariants as answers
@@ -7,7 +7,7 @@ use Rattle.query_runner.specs.declared.running.Failure.{Failure}
 use Rattle.query_runner.specs.Answered.{AnswersWhereTold, status_of, text_of}
 use Rattle.query_runner.specs.Fetched.{FirstLongWhereTold, HoldsFetched}
 use Rattle.query_runner.specs.Files.{Contents, File, IsNotBuilt, SaysProgram}
-use Rattle.query_runner.specs.Output.{Answers, Output, AreReplies, misused, refused, replied, too_long, not_built, name_of}
+use Rattle.query_runner.specs.Output.{Answers, AreReplies, misused, refused, replied, too_long, not_built, name_of}
 use Rattle.query_runner.specs.Words.{FileNames, names_of}
 use Rattle.equation_law.specs.Program.{Program}
 

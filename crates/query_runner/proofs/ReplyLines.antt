@@ -1,5 +1,5 @@
 -- Steps of the loop over the replies.
-use Rattle.std.proofs.Common.{◌≡◌, ℕ, suc, ◌+◌, ◌<◌, Bool, true, ℤ, List, [], ◌∷◌, ◌++◌, length, drop, drop-cons, add-one, get_or, Option, Some, None, Result, Ok, Err, OnOk, IfSome, IsSome, MatchOption, refl, sym, ap, subst, ◌∙◌, append_assoc}
+use Rattle.std.proofs.Common.{◌≡◌, ℕ, suc, ◌+◌, ◌<◌, Bool, true, ℤ, List, [], ◌∷◌, ◌++◌, length, drop, drop-cons, add-one, Option, Some, None, Result, Ok, Err, OnOk, IfSome, IsSome, MatchOption, refl, sym, ap, subst, ◌∙◌, append_assoc}
 use Rattle.std.proofs.lemmas.List.{append-nil}
 use Rattle.std.specs.Fmt.{signed_decimal}
 use Rattle.rag_io.specs.declared.Memory.{Memory}

@@ -1,6 +1,6 @@
 -- Why fetching the four files stops, from why fetching one of them stops.
-use Rattle.std.proofs.Common.{◌≡◌, ℕ, ◌≤◌, List, [], ◌∷◌, length, Option, Some, None, sym, subst, arith}
-use Rattle.rag_io.specs.Outside.{Named, longest_file, IsLong, IsShort, Rose}
+use Rattle.std.proofs.Common.{◌≡◌, ℕ, ◌≤◌, List, Option, Some, None, sym, subst, arith}
+use Rattle.rag_io.specs.Outside.{Named, IsShort, Rose}
 use Rattle.query_runner.specs.declared.fetching.Stop.{Stop}
 use Rattle.query_runner.specs.declared.fetching.Stop.TheVariants as stops
 use Rattle.query_runner.specs.Fetched.{Holds, LongWhereTold, FirstLongWhereTold, StopsOne, StopsAll}

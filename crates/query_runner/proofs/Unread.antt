@@ -1,5 +1,5 @@
 -- What isn't said by the tokens of a file isn't said by its bytes; and which file is refused.
-use Rattle.std.proofs.Common.{◌≡◌, ℕ, suc, ◌+◌, ◌≤◌, List, [], ◌∷◌, length, Err, refl, sym, subst, arith}
+use Rattle.std.proofs.Common.{ℕ, ◌≤◌, List, length, Err, sym, subst, arith}
 use Rattle.rag_io.specs.Tokens.{Lexed, IsTokens, first_place}
 use Rattle.rag_io.proofs.Readings.{one_list}
 use Rattle.ast_grammar.specs.FirstForm.{SaysGrammar}

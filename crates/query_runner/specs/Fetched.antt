@@ -1,6 +1,6 @@
 -- What fetching the four files gives.
 use Rattle.std.specs.Prelude.{◌≡◌, ℕ, ◌≤◌, List, Option, Some, None, length}
-use Rattle.rag_io.specs.Outside.{Named, content_of, longest_file, IsLong, Rose}
+use Rattle.rag_io.specs.Outside.{Named, longest_file, IsLong, Rose}
 use Rattle.query_runner.specs.declared.fetching.Contents as kept
 use Rattle.query_runner.specs.declared.fetching.Stop.{Stop}
 use Rattle.query_runner.specs.declared.fetching.Stop.TheVariants as stops

@@ -1,5 +1,5 @@
 -- What the program is to write.
-use Rattle.std.specs.Prelude.{◌≡◌, ℕ, suc, ◌≤◌, ℤ, Bool, true, false, List, [], ◌∷◌, ◌++◌, Option, Some, None, codes, length}
+use Rattle.std.specs.Prelude.{◌≡◌, ℕ, suc, ◌≤◌, ℤ, Bool, true, false, List, [], ◌∷◌, ◌++◌, Some, None, codes, length}
 use Rattle.std.specs.Fmt.{signed_decimal}
 use Rattle.rag_io.specs.Outside.{Named, content_of, longest_file, IsLong, IsShort}
 use Rattle.attr_types.specs.Expression.{Expression}

@@ -1,5 +1,5 @@
 -- What is claimed of the table of `tree`, written by tools/table.py: the check computes that it is right.
-use Rattle.std.specs.Prelude.{ℕ, [], ◌∷◌, true, false}
+use Rattle.std.specs.Prelude.{ℕ, [], ◌∷◌, false}
 use Rattle.ll_parser.specs.Table.{Claims, numbers, flag, number}
 
 abbrev pub tree_claims : (ℕ → ℕ → ℕ) → Claims

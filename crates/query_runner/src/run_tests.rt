@@ -93,43 +93,46 @@ fn written<R: Threads + Sync>(
 
 const RUN: &str = "run g.ast a.jrag t.tree q.txt";
 
+// Aspects and queries, and the status and the text that they give.
+const CASES: [(&str, &str, u8, &str); 7] = [
+    (FIRST, "@0.v()", 0, "5\n"),
+    (FIRST, "@0.v() + 1", 1, "q.txt: not built\n"),
+    (
+        "aspect A { syn boolean N.v() = !(1 + 2147483647 < 0) || false; }",
+        "@0.v()",
+        0,
+        "false\n",
+    ),
+    (
+        "aspect A { syn int N.v() = -2147483647 - 1; syn boolean N.b() = 1 < 2 == !false; }",
+        "# two\n@0.v()\n\n@0.b()\n@0.v()\n",
+        0,
+        "-2147483648\ntrue\n-2147483648\n",
+    ),
+    (
+        "aspect A { syn int N.v() = 65536 * 65535; }",
+        "@0.v()",
+        0,
+        "-65536\n",
+    ),
+    (
+        "aspect A { syn boolean N.v() = false && 1 / 2 == 0; }",
+        "@0.v() + 1",
+        1,
+        "a.jrag: not built\n",
+    ),
+    (
+        "aspect A { syn int N.v() = true && false ? 1 : 2 - 3; }",
+        "@0.v()",
+        0,
+        "-1\n",
+    ),
+];
+
 #[test]
 fn writes_replies_and_refusals(rt: HostRuntime) -> Result<(), Fail> {
     let alloc = rt.alloc();
-    for (aspects, queries, status, text) in [
-        (FIRST, "@0.v()", 0, "5\n"),
-        (FIRST, "@0.v() + 1", 1, "q.txt: not built\n"),
-        (
-            "aspect A { syn boolean N.v() = !(1 + 2147483647 < 0) || false; }",
-            "@0.v()",
-            0,
-            "false\n",
-        ),
-        (
-            "aspect A { syn int N.v() = -2147483647 - 1; syn boolean N.b() = 1 < 2 == !false; }",
-            "# two\n@0.v()\n\n@0.b()\n@0.v()\n",
-            0,
-            "-2147483648\ntrue\n-2147483648\n",
-        ),
-        (
-            "aspect A { syn int N.v() = 65536 * 65535; }",
-            "@0.v()",
-            0,
-            "-65536\n",
-        ),
-        (
-            "aspect A { syn boolean N.v() = false && 1 / 2 == 0; }",
-            "@0.v() + 1",
-            1,
-            "a.jrag: not built\n",
-        ),
-        (
-            "aspect A { syn int N.v() = true && false ? 1 : 2 - 3; }",
-            "@0.v()",
-            0,
-            "-1\n",
-        ),
-    ] {
+    for (aspects, queries, status, text) in CASES {
         let mut shelf = shelf(alloc, aspects, queries, Vec::new(alloc))?;
         let (ended, taken) = written(&rt, alloc, RUN, &mut shelf, None)?;
         assert_eq!(rt; ended, status, "{aspects} {queries}");

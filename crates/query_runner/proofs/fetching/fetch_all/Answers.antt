@@ -1,5 +1,5 @@
 -- Each file's fetch may stop all of it; those before it were short enough.
-use Rattle.std.proofs.Common.{arith, ◌∙◌, ◌≤◌}
+use Rattle.std.proofs.Common.{arith, ◌∙◌}
 use Rattle.query_runner.specs.Named.{seen_names}
 use Rattle.query_runner.proofs.Stopping.{stops_all, stops_same, holds_same, first_is_long, second_is_long, third_is_long, fourth_is_long}
 use Rattle.query_runner.proofs.fetching.fetch_all.Goals as goal

@@ -1,4 +1,4 @@
-use Rattle.std.proofs.Common.{List, ℕ, subst, Err, Ok}
+use Rattle.std.proofs.Common.{List, ℕ, subst, Err}
 use Rattle.attr_types.specs.Items.{rules_in}
 use Rattle.query_runner.specs.Built.{AnswersGrammar, AnswersRules, AnswersSource, AnswersAsked, ReadsRules}
 use Rattle.query_runner.specs.Fetched.{seen_contents}

@@ -1,9 +1,8 @@
 -- Each query has a value in the table, and its line is added.
-use Rattle.std.proofs.Common.{◌≡◌, ℕ, ◌+◌, ◌-◌, ◌<◌, ◌≤◌, List, [], length, drop, arith, ap, subst, sym, ◌∙◌}
+use Rattle.std.proofs.Common.{◌≡◌, ℕ, ◌+◌, ◌-◌, ◌<◌, ◌≤◌, List, length, arith, ap, subst, ◌∙◌}
 use Rattle.std.proofs.Math.ListN.{drop_of_length-le}
-use Rattle.equation_law.specs.Named.{Solves, instances_in, value_at, value_in}
+use Rattle.equation_law.specs.Named.{Solves, value_at, value_in}
 use Rattle.equation_law.specs.Names.{Instance}
-use Rattle.equation_law.specs.Program.{source_instances}
 use Rattle.equation_law.specs.Systems.{program_of}
 use Rattle.query_runner.specs.Replies.{IsReply}
 use Rattle.query_runner.proofs.Answered.{answered, attributes_before, length-source}
