@@ -1,0 +1,83 @@
+#!/usr/bin/env python3
+"""Times the program on large files.
+
+    python3 tools/measure.py
+
+prints a line for each case: seconds, the most memory that was in use, and how the answer begins. The program must have
+been built (`rt ci`).
+"""
+import os
+import subprocess
+import tempfile
+import time
+
+TOP = os.path.dirname(os.path.dirname(os.path.abspath(__file__)))
+PROGRAM = os.path.join(TOP, "crates", "rag", "out", "rag")
+LONGEST = 16777216
+FIRST = {"g.ast": b"N;", "a.jrag": b"aspect A { syn int N.v() = 5; }", "t.tree": b"N()", "q.txt": b"@0.v()"}
+
+
+ASPECT = b"aspect A { syn int N.v() = "
+
+
+def repeated(part, times, front=b""):
+    """The front and the part so many times, in pieces: what this program holds would count as the child's."""
+    yield front
+    many = 4096
+    for _ in range(times // many):
+        yield part * many
+    yield part * (times % many)
+
+
+def filled(part, front=b""):
+    return repeated(part, (LONGEST - len(front)) // len(part), front)
+
+
+def attributes(count):
+    yield b"aspect A {\n"
+    for number in range(count):
+        yield b"syn int N.v%d() = %d;\n" % (number, number)
+    yield b"}\n"
+
+
+CASES = [
+    ("the first example", {}),
+    ("grammar: blanks", {"g.ast": filled(b" ")}),
+    ("grammar: ;", {"g.ast": filled(b";")}),
+    ("grammar: (", {"g.ast": filled(b"(")}),
+    ("grammar: :x", {"g.ast": filled(b":x")}),
+    ("grammar: abcdefg;", {"g.ast": filled(b"abcdefg;")}),
+    ("grammar: /*", {"g.ast": filled(b"/*")}),
+    ("aspects: an expression of (", {"a.jrag": filled(b"(", ASPECT)}),
+    ("aspects: an expression of -", {"a.jrag": filled(b"-", ASPECT)}),
+    ("aspects: empty ones", {"a.jrag": filled(b"aspect A {}\n")}),
+    ("tree: N(", {"t.tree": filled(b"N(")}),
+    ("queries: line feeds", {"q.txt": filled(b"\n")}),
+    ("queries: 65,536", {"q.txt": repeated(b"@0.v()\n", 65536)}),
+    ("1,024 attributes, 65,536 queries for the last", {"a.jrag": attributes(1024), "q.txt": repeated(b"@0.v1023()\n", 65536)}),
+]
+
+
+def measure(folder, name, files):
+    for file, content in FIRST.items():
+        with open(os.path.join(folder, file), "wb") as out:
+            out.writelines(files.get(file, [content]))
+    start = time.monotonic()
+    with tempfile.TemporaryFile() as answer:
+        child = subprocess.Popen([PROGRAM, "run", *FIRST], cwd=folder, stdout=answer)
+        _, status, usage = os.wait4(child.pid, 0)
+        seconds = time.monotonic() - start
+        child.returncode = os.waitstatus_to_exitcode(status)
+        answer.seek(0)
+        first = answer.readline().decode().strip()
+    print(f"{name:48} {seconds:7.2f} s {usage.ru_maxrss // 1024:6} MB  {child.returncode} {first}")
+
+
+def main():
+    with tempfile.TemporaryDirectory() as folder:
+        for name, files in CASES:
+            measure(folder, name, files)
+
+
+if __name__ == "__main__":
+    main()
