@@ -1,5 +1,5 @@
 -- Steps of putting a text in pieces.
-use Rattle.std.proofs.Common.{◌≡◌, ℕ, ◌+◌, ◌-◌, ◌≤◌, List, ◌++◌, length, take, drop, Option, Some, None, Ok, Err, ap, sym, subst, ◌∙◌, append_assoc, arith}
+use Rattle.std.proofs.Common.{◌≡◌, ℕ, ◌+◌, ◌-◌, ◌≤◌, List, ◌++◌, length, take, drop, Option, Some, None, Result, Ok, Err, OnErr, ap, sym, subst, ◌∙◌, append_assoc, arith}
 use Rattle.std.proofs.Math.Seq.{take-add}
 use Rattle.std.proofs.lemmas.List.{length-take, take-take}
 use Rattle.rag_io.specs.declared.sink.PutFault.{PutFault}
@@ -35,3 +35,8 @@ pub took_part : (old mid new : Option (List ℕ)) (text : List ℕ) (at end : �
 took_part None mid new text at end fault le within before puts = tt
 took_part (Some a) mid new text at end fault le within before puts =
     part_front a text new at end le within (subst (λ (m : Option (List ℕ)). Puts m new (take (end - at) (drop at text)) (Err fault)) before puts)
+
+-- what holds anyway, where a call failed
+pub where_err : {T E P : Type 0} (r : Result T E) → P → OnErr r P
+where_err (Ok v) p = tt
+where_err (Err e) p = p

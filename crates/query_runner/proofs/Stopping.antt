@@ -1,11 +1,17 @@
 -- Why fetching the four files stops, from why fetching one of them stops.
-use Rattle.std.proofs.Common.{◌≡◌, ℕ, ◌≤◌, List, Option, Some, None, sym, subst, arith}
+use Rattle.std.proofs.Common.{◌≡◌, ℕ, ◌≤◌, List, Option, Some, None, Result, Err, IfErr, sym, ap, subst, arith, ◌∙◌}
+use Rattle.std.specs.Result.{IsErr, IsErrAnd}
+use Rattle.std.proofs.lemmas.Result.{err_from_is_err_and}
 use Rattle.rag_io.specs.Outside.{Named, IsShort, Rose}
 use Rattle.query_runner.specs.declared.fetching.Stop.{Stop}
 use Rattle.query_runner.specs.declared.fetching.Stop.TheVariants as stops
 use Rattle.query_runner.specs.Fetched.{Holds, LongWhereTold, FirstLongWhereTold, StopsOne, StopsAll}
 use Rattle.query_runner.specs.Output.{here, later as behind}
 use Rattle.query_runner.specs.Words.{FileNames}
+
+-- an error that `?` hands on
+pub handed_on : {T E : Type 0} (r : Result T E) {e : E} (P : E → Type 0) → IsErr r × IsErrAnd r (λ m. m ≡ e) → P e → IfErr r P
+handed_on r P h p = let q = err_from_is_err_and r h.1 in subst (λ x. IfErr x P) (sym (q.1 ∙ ap Err q.2)) p
 
 rose_from : (before mid now : ℕ) → before ≤ mid → Rose mid now → Rose before now
 rose_from before mid now le rose = omega arith

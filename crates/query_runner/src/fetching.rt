@@ -55,22 +55,10 @@ pub(crate) fn fetch_all<'a, S: Shelf>(
     ensures cause { IfErr result (λ stop. StopsAll (S.files shelf.old) (seen_names names.entry) (S.faults shelf.old) (S.faults shelf.new) stop) }
     ensures later { S.faults shelf.old ≤ S.faults shelf.new }
 {
-    let ast = match fetch(alloc, shelf, names.ast) {
-        Ok(bytes) => bytes,
-        Err(stop) => return Err(stop),
-    };
-    let jrag = match fetch(alloc, shelf, names.jrag) {
-        Ok(bytes) => bytes,
-        Err(stop) => return Err(stop),
-    };
-    let tree = match fetch(alloc, shelf, names.tree) {
-        Ok(bytes) => bytes,
-        Err(stop) => return Err(stop),
-    };
-    let queries = match fetch(alloc, shelf, names.queries) {
-        Ok(bytes) => bytes,
-        Err(stop) => return Err(stop),
-    };
+    let ast = fetch(alloc, shelf, names.ast)?;
+    let jrag = fetch(alloc, shelf, names.jrag)?;
+    let tree = fetch(alloc, shelf, names.tree)?;
+    let queries = fetch(alloc, shelf, names.queries)?;
     Ok(Contents {
         ast,
         jrag,

@@ -18,10 +18,8 @@ pub(crate) fn put_all<K: Sink>(sink: &mut K, text: &[u8]) -> Result<(), PutFault
     let mut from: usize = 0;
     'pieces: while from < text.len() {
         let end = text.len().min(from.saturating_add(PIECE));
-        match sink.put(&text[from..end]) {
-            Ok(()) => from = end,
-            Err(fault) => return Err(fault),
-        }
+        sink.put(&text[from..end])?;
+        from = end;
     }
     Ok(())
 }

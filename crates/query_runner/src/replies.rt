@@ -61,24 +61,16 @@ pub(crate) fn reply_lines<G: Gate>(
     requires { IsReady (program_of system.now) }
     ensures { IfOk result (λ text. AreReplies (program_of system.now) 0 (program_of system.now).queries text.items) }
 {
-    let names = match NameList::of_source(alloc, system) {
-        Ok(names) => names,
-        Err(_) => return Err(Memory),
-    };
-    let table = match plain_rounds(alloc, system, &names) {
-        Ok(table) => table,
-        Err(_) => return Err(Memory),
-    };
+    let names = NameList::of_source(alloc, system)?;
+    let table = plain_rounds(alloc, system, &names)?;
     let first = names.len() - system.replies();
     let mut text = Vec::new(alloc);
     'replies: for q in 0..system.replies() {
         let Some(value) = table.value(first + q) else {
             unreachable!()
         };
-        match add_reply(alloc, &mut text, value) {
-            Ok(()) => gate.reached(0, q),
-            Err(fault) => return Err(fault),
-        }
+        add_reply(alloc, &mut text, value)?;
+        gate.reached(0, q);
     }
     Ok(text)
 }

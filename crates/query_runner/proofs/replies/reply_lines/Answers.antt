@@ -12,15 +12,15 @@ use Rattle.query_runner.proofs.replies.reply_lines.Goals as goal
 pub overflow_sub-first : goal.overflow_sub-first
 overflow_sub-first g c =
     let p = program_of c.args.system.now in
-    let before : c.len.result ≡ attributes_before p + length p.queries = c.len.ensures ∙ ap length c.in-Ok.ensures ∙ length-source p in
+    let before : c.len.result ≡ attributes_before p + length p.queries = c.len.ensures ∙ ap length c.in_ok-names.ensures ∙ length-source p in
     omega (arith, before, c.replies-2.ensures)
 
 pub unreachable-requires : goal.unreachable-requires
 unreachable-requires g c =
     let p = program_of c.args.system.now in
-    let table = c.in-Ok-plain_rounds.table in
-    let before : c.len.result ≡ attributes_before p + length p.queries = c.len.ensures ∙ ap length c.in-Ok.ensures ∙ length-source p in
-    let solved = subst (λ (names : List Instance). Solves p names table) c.in-Ok.ensures c.in-Ok-plain_rounds.ensures in
+    let table = c.in_ok-table.table in
+    let before : c.len.result ≡ attributes_before p + length p.queries = c.len.ensures ∙ ap length c.in_ok-names.ensures ∙ length-source p in
+    let solved = subst (λ (names : List Instance). Solves p names table) c.in_ok-names.ensures c.in_ok-table.ensures in
     let at : attributes_before p + c.replies.q ≡ c.len.result - c.replies-2.result + c.replies.q = omega (arith, before, c.replies-2.ensures) in
     let within : c.replies.q < length p.queries = omega (arith, c.replies-test.true, c.replies-q-end.ensures) in
     let found = subst (λ (k : ℕ). IsReply p c.replies.q (value_at table k)) at (answered p c.requires table solved c.replies.q within) in
@@ -29,9 +29,9 @@ unreachable-requires g c =
 pub add_reply-requires : goal.add_reply-requires
 add_reply-requires g c =
     let p = program_of c.args.system.now in
-    let table = c.in-Ok-plain_rounds.table in
-    let before : c.len.result ≡ attributes_before p + length p.queries = c.len.ensures ∙ ap length c.in-Ok.ensures ∙ length-source p in
-    let solved = subst (λ (names : List Instance). Solves p names table) c.in-Ok.ensures c.in-Ok-plain_rounds.ensures in
+    let table = c.in_ok-table.table in
+    let before : c.len.result ≡ attributes_before p + length p.queries = c.len.ensures ∙ ap length c.in_ok-names.ensures ∙ length-source p in
+    let solved = subst (λ (names : List Instance). Solves p names table) c.in_ok-names.ensures c.in_ok-table.ensures in
     let at : attributes_before p + c.replies.q ≡ c.len.result - c.replies-2.result + c.replies.q = omega (arith, before, c.replies-2.ensures) in
     let within : c.replies.q < length p.queries = omega (arith, c.replies-test.true, c.replies-q-end.ensures) in
     let found = subst (λ (k : ℕ). IsReply p c.replies.q (value_at table k)) at (answered p c.requires table solved c.replies.q within) in
@@ -40,14 +40,14 @@ add_reply-requires g c =
 pub replies-preserved : goal.replies-preserved
 replies-preserved g c =
     let p = program_of c.args.system.now in
-    let table = c.in-Ok-plain_rounds.table in
-    let before : c.len.result ≡ attributes_before p + length p.queries = c.len.ensures ∙ ap length c.in-Ok.ensures ∙ length-source p in
-    let solved = subst (λ (names : List Instance). Solves p names table) c.in-Ok.ensures c.in-Ok-plain_rounds.ensures in
+    let table = c.in_ok-table.table in
+    let before : c.len.result ≡ attributes_before p + length p.queries = c.len.ensures ∙ ap length c.in_ok-names.ensures ∙ length-source p in
+    let solved = subst (λ (names : List Instance). Solves p names table) c.in_ok-names.ensures c.in_ok-table.ensures in
     let at : attributes_before p + c.replies.q ≡ c.len.result - c.replies-2.result + c.replies.q = omega (arith, before, c.replies-2.ensures) in
     let within : c.replies.q < length p.queries = omega (arith, c.replies-test.true, c.replies-q-end.ensures) in
     let found = subst (λ (k : ℕ). IsReply p c.replies.q (value_at table k)) at (answered p c.requires table solved c.replies.q within) in
     let has = reply_has p c.replies.q (value_at table (c.len.result - c.replies-2.result + c.replies.q)) (value_in c.in-Some.value.now) found c.in-Some.ensures in
-    next_reply p c.replies.q (value_in c.in-Some.value.now) c.replies.text.items c.add_reply.new.text.items within has c.in-Ok-add_reply.ensures c.replies.invariant
+    next_reply p c.replies.q (value_in c.in-Some.value.now) c.replies.text.items c.add_reply.new.text.items within has c.in_ok-add_reply.ensures c.replies.invariant
 
 pub returns : goal.returns
 returns g c =
