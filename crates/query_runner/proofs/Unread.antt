@@ -1,5 +1,7 @@
 -- What isn't said by the tokens of a file isn't said by its bytes; and which file is refused.
-use Rattle.std.proofs.Common.{ℕ, ◌≤◌, List, length, Err, sym, subst, arith}
+use Rattle.std.proofs.Common.{◌≡◌, ℕ, ◌≤◌, List, length, Result, Err, sym, ap, subst, arith, ◌∙◌}
+use Rattle.std.specs.Result.{IsErr, IsErrAnd}
+use Rattle.std.proofs.lemmas.Result.{err_from_is_err_and}
 use Rattle.rag_io.specs.Tokens.{Lexed, IsTokens, first_place}
 use Rattle.rag_io.proofs.Readings.{one_list}
 use Rattle.ast_grammar.specs.FirstForm.{SaysGrammar}
@@ -16,6 +18,10 @@ use Rattle.query_runner.specs.Built.{AnswersGrammar, AnswersRules, AnswersSource
 use Rattle.query_runner.specs.Files.{Contents, ReadsGrammar, ReadsItems, ReadsTree, no_grammar, no_items, no_tree, no_queries}
 use Rattle.query_runner.specs.Queries.{SaysLines, over, silent, query, SaysQueries}
 use Rattle.query_runner.specs.Trees.{SaysTree}
+
+-- where `?` hands on want of memory
+pub out_of_memory : {T : Type 0} (P : Result T Unread → Type 0) (r : Result T Unread) → IsErr r × IsErrAnd r (λ u. u ≡ Memory) → P (Err Memory) → P r
+out_of_memory P r h p = let q = err_from_is_err_and r h.1 in subst P (sym (q.1 ∙ ap Err q.2)) p
 
 module _ {bytes : List ℕ} {ts : List Lexed} (scanned : IsTokens first_place bytes ts) where
   pub says_no_grammar : ((g : List Class) → SaysGrammar ts g → ⊥) → (g : List Class) → ReadsGrammar bytes g → ⊥

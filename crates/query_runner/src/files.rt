@@ -4,6 +4,7 @@ ghost use Rattle.rag_io.specs.Outside.{longest_file};
 ghost use Rattle.attr_types.specs.Items.{rules_in};
 ghost use Rattle.equation_law.specs.Program.{lone};
 ghost use Rattle.equation_law.specs.Systems.{program_of};
+ghost use Rattle.query_runner.specs.declared.files.Unread.TheVariants.{Memory as OutOfMemory};
 ghost use Rattle.query_runner.specs.Built.{Scans, AnswersGrammar, AnswersRules, AnswersSource, AnswersAsked, Refuses, IsRefusal};
 ghost use Rattle.query_runner.specs.Fetched.{seen_contents, AreShort};
 ghost use Rattle.query_runner.specs.Files.{SaysProgram};
@@ -26,6 +27,14 @@ pub(crate) enum Unread {
     NotBuilt,
     /// Want of memory.
     Memory,
+}
+
+impl From<Memory> for Unread {
+    ghost from_gives = { λ _ unread. unread ≡ OutOfMemory };
+
+    fn from(_: Memory) -> Unread {
+        Unread::Memory
+    }
 }
 
 /// Why there is no system.
@@ -64,16 +73,10 @@ fn read_grammar(alloc: Global, bytes: &[u8]) -> Result<Grammar, Unread>
     requires { length bytes.now ≤ longest_file }
     ensures { AnswersGrammar bytes.now result }
 {
-    let tokens = match tokens_of(alloc, bytes) {
-        Ok(tokens) => tokens,
-        Err(unread) => return Err(unread),
-    };
-    match read_first(alloc, &tokens) {
-        Ok(read) => match read {
-            Some(grammar) => Ok(grammar),
-            None => Err(Unread::NotBuilt),
-        },
-        Err(_) => Err(Unread::Memory),
+    let tokens = tokens_of(alloc, bytes)?;
+    match read_first(alloc, &tokens)? {
+        Some(grammar) => Ok(grammar),
+        None => Err(Unread::NotBuilt),
     }
 }
 
@@ -81,20 +84,10 @@ fn read_rules(alloc: Global, grammar: &Grammar, bytes: &[u8]) -> Result<Rules, U
     requires { length bytes.now ≤ longest_file }
     ensures { AnswersRules grammar.now bytes.now result }
 {
-    let tokens = match tokens_of(alloc, bytes) {
-        Ok(tokens) => tokens,
-        Err(unread) => return Err(unread),
-    };
-    let items = match read_aspects(alloc, grammar, &tokens) {
-        Ok(read) => match read {
-            Some(items) => items,
-            None => return Err(Unread::NotBuilt),
-        },
-        Err(_) => return Err(Unread::Memory),
-    };
-    match Rules::of_equations(alloc, grammar, items) {
-        Ok(rules) => Ok(rules),
-        Err(_) => Err(Unread::Memory),
+    let tokens = tokens_of(alloc, bytes)?;
+    match read_aspects(alloc, grammar, &tokens)? {
+        Some(items) => Ok(Rules::of_equations(alloc, grammar, items)?),
+        None => Err(Unread::NotBuilt),
     }
 }
 
@@ -119,22 +112,11 @@ fn read_source(alloc: Global, grammar: &Grammar, bytes: &[u8]) -> Result<Tree, U
     requires { length bytes.now ≤ longest_file }
     ensures { AnswersSource grammar.now bytes.now result }
 {
-    let tokens = match tokens_of(alloc, bytes) {
-        Ok(tokens) => tokens,
-        Err(unread) => return Err(unread),
-    };
-    match read_tree(alloc, grammar, &tokens) {
-        Ok(said) => {
-            if !said {
-                return Err(Unread::NotBuilt);
-            }
-        }
-        Err(_) => return Err(Unread::Memory),
+    let tokens = tokens_of(alloc, bytes)?;
+    if !read_tree(alloc, grammar, &tokens)? {
+        return Err(Unread::NotBuilt);
     }
-    match lone_tree(alloc, grammar) {
-        Ok(tree) => Ok(tree),
-        Err(_) => Err(Unread::Memory),
-    }
+    Ok(lone_tree(alloc, grammar)?)
 }
 
 fn read_asked(
@@ -147,12 +129,9 @@ fn read_asked(
     requires { length bytes.now ≤ longest_file }
     ensures { AnswersAsked (rules_in rules.now) tree.now bytes.now result }
 {
-    match read_queries(alloc, grammar, rules, tree, bytes) {
-        Ok(read) => match read {
-            Some(list) => Ok(Queries::new(list)),
-            None => Err(Unread::NotBuilt),
-        },
-        Err(_) => Err(Unread::Memory),
+    match read_queries(alloc, grammar, rules, tree, bytes)? {
+        Some(list) => Ok(Queries::new(list)),
+        None => Err(Unread::NotBuilt),
     }
 }
 
