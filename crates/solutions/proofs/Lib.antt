@@ -2,8 +2,11 @@ pub mod Cleaning
 pub mod Closed
 pub mod Composing
 pub mod Ended
+pub mod Falling
+pub mod Finishing
 pub mod Growing
 pub mod Larger
+pub mod Looping
 pub mod Loops
 pub mod Lower
 pub mod Reaching

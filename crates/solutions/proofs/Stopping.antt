@@ -1,15 +1,11 @@
 -- Inner rounds come to an end, where values have heights and the heights have a bound.
-use Rattle.std.proofs.Common.{◌≡◌, ℕ, zero, suc, ◌+◌, ◌-◌, ◌≤◌, true, false, ◌||◌, List, [], ◌∷◌, Option, Some, None, refl, sym, ap, subst, ◌∙◌, inl, inr, arith}
-use native.Mathlib.Decide.{dec_le}
+use Rattle.std.proofs.Common.{◌≡◌, ℕ, zero, suc, ◌-◌, ◌≤◌, true, false, List, Option, Some, None, sum_by, refl, sym, ap, subst, ◌∙◌, inl, inr, arith}
+use Rattle.std.proofs.lemmas.List.Sums.{sum_by-le-sum_by}
 use Rattle.solutions.specs.Rounds.{Equations, Graph, IsStable, inner_rounds, is_in, or_else, over}
-use Rattle.solutions.specs.Rising.{AgreeBelow, AreRising}
+use Rattle.solutions.specs.Rising.{AgreeBelow, AreRising, HaveHeights}
+use Rattle.solutions.proofs.Falling.{rests, sum_stays}
 use Rattle.solutions.proofs.Growing.{done_below}
 use Rattle.solutions.proofs.Runs.{and_then_some, ends_leaf, inner_circular, inner_ends, inner_first, inner_in, option_cases, or_else_none}
-
--- the greater value is the higher one
-pub record HaveHeights {I V : Type 0} (le : I → V → V → Type 0) (Fits : I → V → Type 0) (height : I → V → ℕ) : Type 0 where
-  pub grows : (i : I) (v w : V) → Fits i v → Fits i w → le i v w → height i v ≤ height i w
-  pub strict : (i : I) (v w : V) → Fits i v → Fits i w → le i v w → height i v ≡ height i w → w ≡ v
 
 module _ {I V : Type 0} (G : Equations I V) (le : I → V → V → Type 0) (Fits : I → V → Type 0) (r : AreRising G le Fits) (height : I → V → ℕ) (h : HaveHeights le Fits height) where
   -- the values of the inner rounds over S stay below a height
@@ -71,27 +67,8 @@ module _ {I V : Type 0} (G : Equations I V) (le : I → V → V → Type 0) (Fit
           let t = bound (suc n) i w b in
           (omega arith, λ e. let q : height i v ≡ height i w = omega arith in ap Some (h.strict i v w f g l q))
 
-      total : ℕ → List I → ℕ
-      total n [] = 0
-      total n (j ∷ js) = room j (inner_rounds G J S n j) + total n js
-
-      falls : (n : ℕ) (js : List I) → (total (suc n) js ≤ total n js) × (total (suc n) js ≡ total n js → (i : I) → is_in G.same js i ≡ true → inner_rounds G J S (suc n) i ≡ inner_rounds G J S n i)
-      unfolding total
-      falls n [] = (omega arith, λ e i m. absurd (cc))
-      falls n (j ∷ js) =
-          let a = falls_by n j (inner_rounds G J S n j) (inner_rounds G J S (suc n) j) refl refl in
-          let b = falls n js in
-          let x = a.0 in
-          let y = b.0 in (
-            omega arith,
-            λ e i m.
-                let p : room j (inner_rounds G J S (suc n) j) ≡ room j (inner_rounds G J S n j) = omega arith in
-                let q : total (suc n) js ≡ total n js = omega arith in
-                elim (G.same i j) as (λ c. G.same i j ≡ c → (c || is_in G.same js i) ≡ true → inner_rounds G J S (suc n) i ≡ inner_rounds G J S n i) [
-                  | true ↦ λ s m'. subst (λ k. inner_rounds G J S (suc n) k ≡ inner_rounds G J S n k) (sym (r.same_is i j s)) (a.1 p)
-                  | false ↦ λ s m'. b.1 q i m'
-                ] refl m,
-          )
+      left_over : ℕ → ℕ
+      left_over n = sum_by (λ i. room i (inner_rounds G J S n i)) J
 
       outside : (n : ℕ) (i : I) → is_in G.same J i ≡ false → inner_rounds G J S n i ≡ None
       outside n i m = elim (option_cases (inner_rounds G J S n i)) [
@@ -99,20 +76,16 @@ module _ {I V : Type 0} (G : Equations I V) (le : I → V → V → Type 0) (Fit
         | inr s ↦ s
       ]
 
-      stable_at : (n : ℕ) → total (suc n) J ≡ total n J → IsStable G J S n
-      stable_at n e i = elim (is_in G.same J i) as (λ c. is_in G.same J i ≡ c → inner_rounds G J S (suc n) i ≡ inner_rounds G J S n i) [
-        | true ↦ λ m. (falls n J).1 e i m
-        | false ↦ λ m. outside (suc n) i m ∙ sym (outside n i m)
-      ] refl
-
-      seek : (fuel n : ℕ) → total n J ≤ fuel → (m : ℕ) × IsStable G J S m
-      seek zero n l = let f = (falls n J).0 in (n, stable_at n (omega arith))
-      seek (suc fuel) n l =
-          let f = (falls n J).0 in
-          elim (dec_le (total n J) (total (suc n) J)) [
-            | yes p ↦ (n, stable_at n (omega arith))
-            | no q ↦ seek fuel (suc n) (omega arith)
-          ]
+      turn : (n : ℕ) → (left_over (suc n) ≤ left_over n) × (left_over (suc n) ≡ left_over n → IsStable G J S n)
+      unfolding left_over
+      turn n =
+          let each = λ (i : I). falls_by n i (inner_rounds G J S n i) (inner_rounds G J S (suc n) i) refl refl in (
+            sum_by-le-sum_by (λ i. room i (inner_rounds G J S (suc n) i)) (λ i. room i (inner_rounds G J S n i)) J (λ i. (each i).0),
+            λ e i. elim (is_in G.same J i) as (λ c. is_in G.same J i ≡ c → inner_rounds G J S (suc n) i ≡ inner_rounds G J S n i) [
+              | true ↦ λ m. sum_stays G.same r.same_is (λ j. inner_rounds G J S (suc n) j ≡ inner_rounds G J S n j) (λ j. room j (inner_rounds G J S (suc n) j)) (λ j. room j (inner_rounds G J S n j)) each J e i m
+              | false ↦ λ m. outside (suc n) i m ∙ sym (outside n i m)
+            ] refl,
+          )
 
       pub ends : (n : ℕ) × IsStable G J S n
-      ends = seek (total zero J) zero (omega arith)
+      ends = rests left_over (IsStable G J S) turn

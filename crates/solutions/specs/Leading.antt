@@ -1,7 +1,7 @@
 -- Rising lists, lower assignments, what leads where, and loops.
-use Rattle.std.specs.Prelude.{◌≡◌, true, false, cond, List}
+use Rattle.std.specs.Prelude.{◌≡◌, true, false, cond, List, Option}
 use Rattle.solutions.specs.Asking.{Ends, Meets}
-use Rattle.solutions.specs.Rounds.{Equations, HasValue, is_in}
+use Rattle.solutions.specs.Rounds.{Equations, Graph, HasValue, is_in}
 
 -- The solution on the undeclared instances, and T on the circular ones
 pub data Mixed {I V : Type 0} (G : Equations I V) (T : I → V) : I → V → Type 0 where
@@ -73,3 +73,11 @@ pub record IsClosed {I V : Type 0} (G : Equations I V) (le : I → V → V → T
 pub data Demanded {I V : Type 0} (G : Equations I V) : I → I → Type 0 where
   itself : {i : I} → Demanded G i i
   further : {i j k : I} → Meets (HasValue G) (G.equation i) j → Demanded G j k → Demanded G i k
+
+-- no instance of the list is circular
+abbrev pub AreUndeclared : {I V : Type 0} → Equations I V → List I → Type 0
+AreUndeclared {I} G J = (i : I) → is_in G.same J i ≡ true → G.circular i ≡ false
+
+-- what an instance of the list demands or is stuck at, under the assignment, is in the list
+abbrev pub HasDemands : {I V : Type 0} → Equations I V → List I → (I → Option V) → Type 0
+HasDemands {I} G J A = (i j : I) → is_in G.same J i ≡ true → Meets (Graph A) (G.equation i) j → is_in G.same J j ≡ true
