@@ -1,4 +1,7 @@
+pub mod Allowed
 pub mod AstFits
-pub mod Names
+mod Checked
+pub mod Kept
 pub mod Positions
 pub mod Sentences
+pub mod Written

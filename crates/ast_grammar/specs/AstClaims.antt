@@ -4,10 +4,10 @@ use Rattle.ll_parser.specs.Table.{Claims, numbers, flag, number}
 
 abbrev pub ast_claims : (ℕ → ℕ → ℕ) → Claims
 ast_claims choice = record {
-  first = numbers ((1 ∷ []) ∷ (1 ∷ []) ∷ (1 ∷ []) ∷ []);
-  empty = flag (false ∷ true ∷ false ∷ []);
-  follow = numbers ((0 ∷ []) ∷ (0 ∷ []) ∷ (0 ∷ 1 ∷ []) ∷ []);
-  weight = number (3 ∷ 3 ∷ 2 ∷ []);
-  ways = 2 ∷ 3 ∷ 0 ∷ [];
+  first = numbers ((1 ∷ []) ∷ (1 ∷ []) ∷ (1 ∷ []) ∷ (3 ∷ []) ∷ (1 ∷ 5 ∷ []) ∷ (1 ∷ 5 ∷ []) ∷ (4 ∷ []) ∷ (7 ∷ 8 ∷ []) ∷ []);
+  empty = flag (false ∷ true ∷ false ∷ true ∷ true ∷ false ∷ true ∷ false ∷ []);
+  follow = numbers ((0 ∷ []) ∷ (0 ∷ []) ∷ (0 ∷ 1 ∷ []) ∷ (2 ∷ []) ∷ (2 ∷ []) ∷ (1 ∷ 2 ∷ 5 ∷ []) ∷ (1 ∷ 2 ∷ 5 ∷ []) ∷ (6 ∷ []) ∷ []);
+  weight = number (3 ∷ 3 ∷ 2 ∷ 2 ∷ 3 ∷ 2 ∷ 2 ∷ 2 ∷ []);
+  ways = 2 ∷ 5 ∷ 3 ∷ 0 ∷ 7 ∷ 10 ∷ 8 ∷ 12 ∷ [];
   choice = choice;
 }
