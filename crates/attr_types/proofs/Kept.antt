@@ -15,7 +15,7 @@ use Rattle.attr_types.specs.Rules.{Attribute, plain_attribute, attribute_of, dec
 use Rattle.attr_types.proofs.RuleSets.{length-attributes, length-equations, slice_get-attributes, slice_get-equations, where_of_class, equation_number-rules_of}
 
 -- one map behind another
-twice : {X Y Z : Type 0} (f : X → Y) (g : Y → Z) (o : Option X) → option_map g (option_map f o) ≡ option_map (λ x. g (f x)) o
+pub twice : {X Y Z : Type 0} (f : X → Y) (g : Y → Z) (o : Option X) → option_map g (option_map f o) ≡ option_map (λ x. g (f x)) o
 twice f g None = refl
 twice f g (Some x) = refl
 

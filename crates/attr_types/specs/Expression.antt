@@ -1,5 +1,6 @@
 -- Typed expressions without where they lie in memory.
 use Rattle.std.specs.Prelude.{ℕ, ℤ, Bool}
+use Rattle.attr_types.specs.declared.kinds.Kind.{Kind}
 use Rattle.attr_types.specs.declared.expression.Operator.{Operator}
 use Rattle.attr_types.specs.declared.expression.TExpr.{TExpr}
 use Rattle.attr_types.specs.declared.expression.TExpr.TheVariants as kept
@@ -7,8 +8,14 @@ use Rattle.attr_types.specs.declared.expression.TExpr.TheVariants as kept
 pub data Expression : Type 0 where
   Truth : Bool → Expression
   Int : ℤ → Expression
+  -- the node at which the equation is read
+  This : Expression
   -- the source node of this number
   Source : ℕ → Expression
+  -- the child of a receiver at the component of this number
+  Child : ℕ → Expression → Expression
+  -- the token of a receiver, of this type, at the component of this number
+  Token : Kind → ℕ → Expression → Expression
   -- the call of the attribute of this number on a receiver
   Call : ℕ → Expression → Expression
   Not : Expression → Expression
@@ -21,7 +28,10 @@ pub data Expression : Type 0 where
 abbrev pub expression_of : TExpr → Expression
 expression_of (kept.Truth b) = Truth b
 expression_of (kept.Int z) = Int z
+expression_of kept.This = This
 expression_of (kept.Source k) = Source k
+expression_of (kept.Child' k p e) = Child k (expression_of e)
+expression_of (kept.Token' t k p e) = Token t k (expression_of e)
 expression_of (kept.Call' a p e) = Call a.0 (expression_of e)
 expression_of (kept.Not' p e) = Not (expression_of e)
 expression_of (kept.Negate' p e) = Negate (expression_of e)

@@ -1,3 +1,4 @@
+pub mod Accessors
 pub mod Expression
 pub mod Items
 pub mod Queries

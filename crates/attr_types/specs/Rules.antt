@@ -1,8 +1,9 @@
 -- The rules of a grammar: which attributes are declared, and which equation gives which attribute its value.
-use Rattle.std.specs.Prelude.{◌≡◌, ℕ, suc, ◌<◌, ◌≤◌, List, [], ◌∷◌, Bool, true, false, not, ◌&&◌, ◌||◌, ◌==◌, Option, Some, All, map, length, position, slice_get}
+use Rattle.std.specs.Prelude.{◌≡◌, ℕ, suc, ◌<◌, ◌≤◌, List, [], ◌∷◌, Bool, true, false, not, ◌&&◌, ◌||◌, ◌==◌, Option, Some, None, All, map, length, position, slice_get}
 use Rattle.std.specs.Option.{option_map}
 use Rattle.std.specs.Str.{bytes_eq}
 use Rattle.ast_grammar.specs.declared.grammar.ClassId.{ClassId}
+use Rattle.ast_grammar.specs.Grammar.{Class, component_at}
 use Rattle.attr_types.specs.declared.kinds.AttrId.{AttrId}
 use Rattle.attr_types.specs.declared.kinds.EqId.{EqId}
 use Rattle.attr_types.specs.declared.kinds.Kind.{Kind}
@@ -12,7 +13,8 @@ use Rattle.attr_types.specs.declared.kinds.Params.{Params}
 use Rattle.attr_types.specs.declared.kinds.Sort.TheVariants.{Syn}
 use Rattle.attr_types.specs.declared.kinds.Start.TheVariants.{Plain}
 use Rattle.attr_types.specs.Expression.{Expression}
-use Rattle.attr_types.specs.Typing.{type_of, no_names}
+use Rattle.attr_types.specs.Accessors.{accessed_by}
+use Rattle.attr_types.specs.Typing.{Names, type_of}
 
 -- an attribute: its name, and what is declared of it
 pub record Attribute : Type 0 where
@@ -73,11 +75,31 @@ items_differ (i ∷ items) = not (declares items i.class i.name) && items_differ
 abbrev pub most_attributes : ℕ
 most_attributes = 1024
 
--- Items that break no rule, over a grammar of so many classes.
-pub record AreItems (classes : ℕ) (items : List Item) : Type 0 where
+-- the type is `boolean` or `int`, as of all attributes that are read so far
+abbrev pub is_plain : Kind → Bool
+is_plain kinds.Truth = true
+is_plain kinds.Int = true
+is_plain kinds.Text = false
+is_plain (kinds.Node c) = false
+is_plain kinds.Texts = false
+is_plain (kinds.Nodes c) = false
+
+-- what the equations of some items may name at a node of a class
+abbrev pub names_for : List Class → List Item → ClassId → Names
+names_for g items c = record { attribute = λ a. option_map (λ i. plain_attribute i.class i.kind) (slice_get items a); node = λ k. None; component = component_at g; this = Some c }
+
+-- An item that breaks no rule, among the items of a grammar: its equation has the attribute's type, and its name
+-- is no accessor's of its class.
+pub record IsItem (g : List Class) (items : List Item) (i : Item) : Type 0 where
+  pub of_class : i.class.0 < length g
+  pub plain : is_plain i.kind ≡ true
+  pub typed : type_of (names_for g items i.class) i.body ≡ Some i.kind
+  pub free : accessed_by g i.class.0 i.name ≡ None
+
+-- Items of a grammar that break no rule.
+pub record AreItems (g : List Class) (items : List Item) : Type 0 where
   pub few : length items ≤ most_attributes
-  pub of_classes : All (λ i. i.class.0 < classes) items
-  pub typed : All (λ i. type_of no_names i.body ≡ Some i.kind) items
+  pub each : All (IsItem g items) items
   pub distinct : items_differ items ≡ true
 
 -- the attribute of a class by its name

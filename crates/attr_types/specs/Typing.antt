@@ -1,21 +1,24 @@
 -- Types of expressions.
 use Rattle.std.specs.Prelude.{ℕ, Option, Some, None, if◌then◌else◌, ◌==◌}
+use Rattle.std.specs.Option.{option_and_then}
 use Rattle.ast_grammar.specs.declared.grammar.ClassId.{ClassId}
+use Rattle.ast_grammar.specs.declared.grammar.Shape.{Shape}
+use Rattle.ast_grammar.specs.declared.grammar.Shape.TheVariants as shapes
+use Rattle.ast_grammar.specs.Grammar.{Component}
 use Rattle.attr_types.specs.declared.kinds.Kind.{Kind}
 use Rattle.attr_types.specs.declared.kinds.Kind.TheVariants as kinds
 use Rattle.attr_types.specs.declared.kinds.Attr.{Attr}
 use Rattle.attr_types.specs.declared.expression.Operator.{Operator}
 use Rattle.attr_types.specs.declared.expression.Operator.TheVariants.{Add, Subtract, Multiply, Less, AtMost, Greater, AtLeast, Equal}
-use Rattle.attr_types.specs.Expression.{Expression, Truth, Int, Source, Call, Not, Negate, Binary, And, Or, If}
+use Rattle.attr_types.specs.Expression.{Expression, Truth, Int, This, Source, Child, Token, Call, Not, Negate, Binary, And, Or, If}
 
--- the attributes and the source nodes that an expression may name
+-- what an expression may name: attributes, source nodes, the components of a class by their numbers, and the
+-- class of the node at which it is read
 pub record Names : Type 0 where
   pub attribute : ℕ → Option Attr
   pub node : ℕ → Option ClassId
-
--- none, as in the equations that are read so far
-abbrev pub no_names : Names
-no_names = record { attribute = λ a. None; node = λ k. None }
+  pub component : ℕ → ℕ → Option Component
+  pub this : Option ClassId
 
 -- the type k, where the part has the type that it needs
 abbrev pub where_truth : Option Kind → Option Kind → Option Kind
@@ -46,13 +49,23 @@ compared (Some (kinds.Node c)) right = None
 compared (Some kinds.Texts) right = None
 compared (Some (kinds.Nodes c)) right = None
 
--- both parts of a choice have one type, `boolean` or `int`
+-- two nodes have a common type where they are of one class, since no class has a superclass so far
+abbrev pub common_class : ClassId → Option Kind → Option Kind
+common_class c None = None
+common_class c (Some kinds.Truth) = None
+common_class c (Some kinds.Int) = None
+common_class c (Some kinds.Text) = None
+common_class c (Some (kinds.Node d)) = if c.0 == d.0 then Some (kinds.Node c) else None
+common_class c (Some kinds.Texts) = None
+common_class c (Some (kinds.Nodes d)) = None
+
+-- both parts of a choice have one type: `boolean`, `int` or a class
 abbrev pub common : Option Kind → Option Kind → Option Kind
 common None right = None
 common (Some kinds.Truth) right = where_truth right (Some kinds.Truth)
 common (Some kinds.Int) right = where_int right (Some kinds.Int)
 common (Some kinds.Text) right = None
-common (Some (kinds.Node c)) right = None
+common (Some (kinds.Node c)) right = common_class c right
 common (Some kinds.Texts) right = None
 common (Some (kinds.Nodes c)) right = None
 
@@ -86,11 +99,57 @@ call_type (Some (kinds.Node c)) a = called_on c a
 call_type (Some kinds.Texts) a = None
 call_type (Some (kinds.Nodes c)) a = None
 
+-- a component of a receiver that is a node
+abbrev pub component_on : (ℕ → ℕ → Option Component) → Option Kind → ℕ → Option Component
+component_on components None k = None
+component_on components (Some kinds.Truth) k = None
+component_on components (Some kinds.Int) k = None
+component_on components (Some kinds.Text) k = None
+component_on components (Some (kinds.Node c)) k = components c.0 k
+component_on components (Some kinds.Texts) k = None
+component_on components (Some (kinds.Nodes c)) k = None
+
+-- the type of a child of this shape and class
+abbrev pub child_kind : Shape → ClassId → Option Kind
+child_kind shapes.Child c = Some (kinds.Node c)
+child_kind shapes.List c = None
+child_kind shapes.Optional c = None
+child_kind shapes.Text c = None
+child_kind shapes.Int c = None
+child_kind shapes.Truth c = None
+
+-- the type of a token of this shape; texts aren't read so far
+abbrev pub token_kind : Shape → Option Kind
+token_kind shapes.Child = None
+token_kind shapes.List = None
+token_kind shapes.Optional = None
+token_kind shapes.Text = None
+token_kind shapes.Int = Some kinds.Int
+token_kind shapes.Truth = Some kinds.Truth
+
+abbrev pub child_type : Option Component → Option Kind
+child_type o = option_and_then (λ x. child_kind x.shape x.class) o
+
+-- the type of a token of a type, which is read at the type t
+abbrev pub token_read : Kind → Option Kind → Option Kind
+token_read kinds.Truth k = where_truth k (Some kinds.Truth)
+token_read kinds.Int k = where_int k (Some kinds.Int)
+token_read kinds.Text k = None
+token_read (kinds.Node c) k = None
+token_read kinds.Texts k = None
+token_read (kinds.Nodes c) k = None
+
+abbrev pub token_type : Kind → Option Component → Option Kind
+token_type t o = token_read t (option_and_then (λ x. token_kind x.shape) o)
+
 -- the type of an expression, or None where it isn't well typed
 abbrev pub type_of : Names → Expression → Option Kind
 type_of N (Truth b) = Some kinds.Truth
 type_of N (Int z) = Some kinds.Int
+type_of N This = node_type N.this
 type_of N (Source k) = node_type (N.node k)
+type_of N (Child k e) = child_type (component_on N.component (type_of N e) k)
+type_of N (Token t k e) = token_type t (component_on N.component (type_of N e) k)
 type_of N (Call a e) = call_type (type_of N e) (N.attribute a)
 type_of N (Not e) = where_truth (type_of N e) (Some kinds.Truth)
 type_of N (Negate e) = where_int (type_of N e) (Some kinds.Int)

@@ -1,4 +1,6 @@
 // Types, and what is declared of an attribute.
+ghost use Rattle.std.specs.Prelude.{◌≡◌};
+
 use ast_grammar::ClassId;
 
 /// The number of an attribute: attributes are numbered from 0 in the order of their declarations.
@@ -58,4 +60,27 @@ pub struct Attr {
     pub params: Params,
     pub circular: bool,
     pub start: Start,
+}
+
+impl Attr {
+    ghost use Rattle.attr_types.specs.Rules.{plain_attribute};
+
+    /// A synthesized attribute of a class, of this type, without parameters.
+    pub fn plain(class: ClassId, kind: Kind) -> Attr
+        ensures { result ≡ plain_attribute class kind }
+    {
+        Attr {
+            class,
+            sort: Sort::Syn,
+            kind,
+            params: Params {
+                count: 0,
+                first: Kind::Truth,
+                second: Kind::Truth,
+                third: Kind::Truth,
+            },
+            circular: false,
+            start: Start::Plain,
+        }
+    }
 }

@@ -15,6 +15,13 @@ pub struct QueryEq {
 }
 
 impl QueryEq {
+    /// The query that asks for the value of an expression.
+    pub fn of(expression: TExpr) -> QueryEq
+        ensures { query_of result ≡ expression_of expression }
+    {
+        QueryEq { expression }
+    }
+
     /// The query `@node.attr()`.
     pub fn of_call(alloc: Global, node: u32, attr: AttrId) -> Result<QueryEq, Memory>
         ensures { IfOk result (λ q. query_of q ≡ Call attr.0 (Source node)) }

@@ -6,7 +6,7 @@ ghost use Rattle.attr_types.specs.Expression.{expression_of};
 ghost use Rattle.attr_types.specs.Rules.{AreItems, rules_of, most_attributes, plain_attribute, attribute_at, attribute_named, equation_number, body_at, number_of_attribute, number_of_equation};
 
 use crate::expression::TExpr;
-use crate::kinds::{Attr, AttrId, EqId, Kind, Params, Sort, Start};
+use crate::kinds::{Attr, AttrId, EqId, Kind};
 use ast_grammar::{ClassId, Grammar};
 use rag_io::Memory;
 use std::alloc::Global;
@@ -66,20 +66,9 @@ fn declared_by(alloc: Global, items: &[FirstEq]) -> Result<Vec<Attr>, Memory>
 {
     let mut attributes = Vec::new(alloc);
     for item in items {
-        let attribute = Attr {
-            class: item.class,
-            sort: Sort::Syn,
-            kind: item.kind,
-            params: Params {
-                count: 0,
-                first: Kind::Truth,
-                second: Kind::Truth,
-                third: Kind::Truth,
-            },
-            circular: false,
-            start: Start::Plain,
-        };
-        attributes.push(attribute).map_err(|_| Memory)?;
+        attributes
+            .push(Attr::plain(item.class, item.kind))
+            .map_err(|_| Memory)?;
     }
     Ok(attributes)
 }
@@ -98,14 +87,14 @@ impl Rules {
     ghost use Rattle.attr_types.specs.Items.{item_of, rules_in};
 
     /// The rules of some items. It needs a list that breaks no rule: at most 1,024 items, of classes of the
-    /// grammar, each with a body of its type, and no two of one class and name. Attributes and equations are
-    /// numbered by the place of their item.
+    /// grammar, each of type `boolean` or `int` with a body of its type and a name that is no accessor's of its
+    /// class, and no two of one class and name. Attributes and equations are numbered by the place of their item.
     pub fn of_equations(
         alloc: Global,
         grammar: &Grammar,
         list: Vec<FirstEq>,
     ) -> Result<Rules, Memory>
-        requires { AreItems (length grammar.now) (map item_of list.items) }
+        requires { AreItems grammar.now (map item_of list.items) }
         ensures { IfOk result (λ r. rules_in r ≡ rules_of (map item_of list.items)) }
     {
         let attributes = declared_by(alloc, &list)?;

@@ -1,78 +1,122 @@
-ghost use Rattle.std.specs.Prelude.{◌≡◌, map, IfOk};
+ghost use Rattle.std.specs.Prelude.{◌≡◌, codes, length, map, IfOk};
 ghost use Rattle.attr_types.specs.Rules.{AreItems};
 ghost use Rattle.attr_types.specs.Items.{item_of};
 ghost use Rattle.attr_types.specs.Expression.{expression_of};
 
 use super::*;
-use ast_grammar::{ClassId, Grammar, read_first};
+use ast_grammar::{ClassId, Component, Grammar, Shape, read_first};
 use rag_io::scan;
-use std::alloc::{AllocError, AllocFailed, Global};
+use std::alloc::{AllocError, Global};
 use std::process::Abort;
 use std::test::Fail;
 
-type Failed = AllocFailed<TExpr>;
+const TRUTH: Option<Kind> = Some(Kind::Truth);
 
-fn not(alloc: Global, a: TExpr) -> Result<TExpr, Failed> {
-    Ok(TExpr::Not(Box::new(alloc, a)?))
+const INT: Option<Kind> = Some(Kind::Int);
+
+const TEXT: Option<Kind> = Some(Kind::Text);
+
+// Nodes of two classes.
+const P: Option<Kind> = Some(Kind::Node(ClassId(0)));
+
+const L: Option<Kind> = Some(Kind::Node(ClassId(1)));
+
+// The types of the sides of an operator, and of its result.
+const OPERATORS: [(Operator, Option<Kind>, Option<Kind>, Option<Kind>); 10] = [
+    (Operator::Add, INT, INT, INT),
+    (Operator::Add, INT, TRUTH, None),
+    (Operator::Multiply, None, INT, None),
+    (Operator::Less, INT, INT, TRUTH),
+    (Operator::AtLeast, TRUTH, INT, None),
+    (Operator::Equal, INT, INT, TRUTH),
+    (Operator::Equal, TRUTH, TRUTH, TRUTH),
+    (Operator::Equal, TRUTH, INT, None),
+    (Operator::Equal, P, P, None),
+    (Operator::Equal, TEXT, TEXT, None),
+];
+
+// The types of the parts of a choice, and of the choice.
+const CHOICES: [(Option<Kind>, Option<Kind>, Option<Kind>); 8] = [
+    (INT, INT, INT),
+    (TRUTH, TRUTH, TRUTH),
+    (INT, TRUTH, None),
+    (TRUTH, None, None),
+    (L, L, L),
+    (P, L, None),
+    (L, INT, None),
+    (TEXT, TEXT, None),
+];
+
+// The types of a receiver and of the call of an `int` attribute of the class L.
+const CALLS: [(Option<Kind>, Option<Kind>); 4] = [(L, INT), (P, None), (INT, None), (None, None)];
+
+// A type at which a token is read, a component, and the token's type.
+const TOKENS: [(Kind, Shape, Option<Kind>); 7] = [
+    (Kind::Int, Shape::Int, INT),
+    (Kind::Truth, Shape::Truth, TRUTH),
+    (Kind::Truth, Shape::Int, None),
+    (Kind::Int, Shape::Truth, None),
+    (Kind::Int, Shape::Child, None),
+    (Kind::Text, Shape::Text, None),
+    (Kind::Node(ClassId(1)), Shape::Child, None),
+];
+
+// A component, and the type of the child there.
+const CHILDREN: [(Shape, Option<Kind>); 6] = [
+    (Shape::Child, L),
+    (Shape::List, None),
+    (Shape::Optional, None),
+    (Shape::Text, None),
+    (Shape::Int, None),
+    (Shape::Truth, None),
+];
+
+// A component of the class L.
+fn component(shape: Shape) -> Option<Component> {
+    Some(Component {
+        name: 0,
+        shape,
+        class: ClassId(1),
+    })
 }
 
-fn binary(alloc: Global, operator: Operator, a: TExpr, b: TExpr) -> Result<TExpr, Failed> {
-    let a = Box::new(alloc, a)?;
-    Ok(TExpr::Binary(operator, a, Box::new(alloc, b)?))
-}
-
-fn and(alloc: Global, a: TExpr, b: TExpr) -> Result<TExpr, Failed> {
-    let a = Box::new(alloc, a)?;
-    Ok(TExpr::And(a, Box::new(alloc, b)?))
-}
-
-fn choice(alloc: Global, condition: TExpr, a: TExpr, b: TExpr) -> Result<TExpr, Failed> {
-    let condition = Box::new(alloc, condition)?;
-    let a = Box::new(alloc, a)?;
-    Ok(TExpr::If(condition, a, Box::new(alloc, b)?))
-}
-
-fn call(alloc: Global, attribute: AttrId, receiver: TExpr) -> Result<TExpr, Failed> {
-    Ok(TExpr::Call(attribute, Box::new(alloc, receiver)?))
-}
-
-fn truth(value: bool) -> TExpr {
-    TExpr::Truth(value)
-}
-
-fn int(value: i32) -> TExpr {
-    TExpr::Int(value)
+// An `int` attribute of the class L.
+fn attribute() -> Option<Attr> {
+    Some(Attr::plain(ClassId(1), Kind::Int))
 }
 
 #[test]
-fn expressions_have_types(rt: HostRuntime) -> Result<(), Fail> {
-    let alloc = rt.alloc();
-    let cases = [
-        (
-            binary(alloc, Operator::Add, int(1), int(2))?,
-            Some(Kind::Int),
-        ),
-        (
-            binary(alloc, Operator::Less, int(1), int(2))?,
-            Some(Kind::Truth),
-        ),
-        (
-            binary(alloc, Operator::Equal, truth(true), truth(false))?,
-            Some(Kind::Truth),
-        ),
-        (binary(alloc, Operator::Equal, truth(true), int(1))?, None),
-        (binary(alloc, Operator::Add, int(1), truth(true))?, None),
-        (not(alloc, int(1))?, None),
-        (and(alloc, truth(true), int(1))?, None),
-        (choice(alloc, truth(true), int(1), int(2))?, Some(Kind::Int)),
-        (choice(alloc, truth(true), int(1), truth(false))?, None),
-        (choice(alloc, int(1), int(1), int(2))?, None),
-        (call(alloc, AttrId(0), TExpr::Source(0))?, None),
-    ];
-    for (expression, kind) in &cases {
-        assert_eq!(rt; expression.constant_kind(), *kind, "{expression:?}");
+fn operators_have_types(rt: HostRuntime) {
+    for (operator, left, right, want) in OPERATORS {
+        assert_eq!(rt;
+            operated(operator, left, right),
+            want,
+            "{left:?} {operator:?} {right:?}"
+        );
     }
-    Ok(())
+    for (left, right, want) in CHOICES {
+        assert_eq!(rt; common(left, right), want, "{left:?} : {right:?}");
+    }
+}
+
+#[test]
+fn accessors_and_calls_have_types(rt: HostRuntime) {
+    for (receiver, want) in CALLS {
+        assert_eq!(rt; call_type(receiver, attribute()), want, "on {receiver:?}");
+        assert_eq!(rt; call_type(receiver, None), None);
+    }
+    for (shape, want) in CHILDREN {
+        assert_eq!(rt; child_type(component(shape)), want, "{shape:?}");
+    }
+    assert_eq!(rt; child_type(None), None);
+    for (kind, shape, want) in TOKENS {
+        assert_eq!(rt;
+            token_type(kind, component(shape)),
+            want,
+            "{shape:?} as {kind:?}"
+        );
+        assert_eq!(rt; token_type(kind, None), None);
+    }
 }
 
 fn item(
@@ -94,9 +138,11 @@ fn item(
 }
 
 // One attribute of two classes.
-fn two_items(alloc: Global) -> Result<Vec<FirstEq>, Fail>
-    ensures { IfOk result (λ list. AreItems 2 (map item_of list.items)) }
+fn two_items(alloc: Global, grammar: &Grammar) -> Result<Vec<FirstEq>, Fail>
+    requires { length grammar.now ≡ 2 }
+    ensures { IfOk result (λ list. AreItems grammar.now (map item_of list.items)) }
 {
+    let _ = grammar;
     let mut list = Vec::new(alloc);
     list.push(item(alloc, 0, "v", Kind::Int, TExpr::Int(7))?)?;
     list.push(item(alloc, 1, "v", Kind::Truth, TExpr::Truth(true))?)?;
@@ -109,11 +155,11 @@ fn rules_answer(rt: HostRuntime) -> Result<(), Fail> {
     let tokens = scan(alloc, b"A; B;".as_slice())?;
     let grammar = read_first(alloc, &tokens)?.ok_or("no grammar")?;
     assert_eq!(rt; grammar.classes(), 2);
-    let rules = Rules::of_equations(alloc, &grammar, two_items(alloc)?)?;
+    let rules = Rules::of_equations(alloc, &grammar, two_items(alloc, &grammar)?)?;
     assert_eq!(rt; rules.attrs(), 2);
     assert_eq!(rt; rules.equations(), 2);
     assert_eq!(rt; rules.attr(AttrId(1)).kind, Kind::Truth);
-    assert_eq!(rt; rules.body(EqId(0)).constant_kind(), Some(Kind::Int));
+    assert!(rt; matches!(rules.body(EqId(0)), TExpr::Int(7)));
     assert_eq!(rt;
         rules.find(&grammar, ClassId(1), b"v".as_slice()),
         Some(AttrId(1))
@@ -123,5 +169,7 @@ fn rules_answer(rt: HostRuntime) -> Result<(), Fail> {
     assert_eq!(rt; rules.syn_equation(ClassId(0), AttrId(1)), None);
     let query = QueryEq::of_call(alloc, 3, AttrId(1))?;
     assert!(rt; matches!(query.expression(), TExpr::Call(AttrId(1), _)));
+    let query = QueryEq::of(TExpr::This);
+    assert!(rt; matches!(query.expression(), TExpr::This));
     Ok(())
 }
