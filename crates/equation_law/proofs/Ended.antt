@@ -1,13 +1,16 @@
 -- What the rounds over a list of instances of a program leave.
-use Rattle.std.proofs.Common.{◌≡◌, true, List, Option, Some}
+use Rattle.std.proofs.Common.{◌≡◌, ◌↔◌, true, List, Option, Some, None}
 use Rattle.solutions.specs.Asking.{Ends}
 use Rattle.solutions.specs.Rounds.{Graph, RoundsEnd, is_in}
+use Rattle.solutions.specs.Leading.{HasDemands}
 use Rattle.solutions.proofs.Ended.{ended_left, left_val}
+use Rattle.solutions.proofs.Looping.{left_loop, loop_left, value_left}
 use Rattle.equation_law.specs.Names.{Instance, same_instance}
 use Rattle.equation_law.specs.Values.{Value}
 use Rattle.equation_law.specs.Program.{Program}
 use Rattle.equation_law.specs.Equations.{HasValue, equations_of}
-use Rattle.equation_law.proofs.Solution.{none_circular}
+use Rattle.equation_law.specs.Loops.{order_in, fits_in, join_in, HasLoop}
+use Rattle.equation_law.proofs.Solution.{are_joins, are_rising, none_circular}
 
 module _ (p : Program) (names : List Instance) (A : Instance → Option Value) (r : RoundsEnd (equations_of p) names A) where
   -- what an instance is left with is its value
@@ -18,3 +21,20 @@ module _ (p : Program) (names : List Instance) (A : Instance → Option Value) (
   pub ended_value : (i : Instance) (v : Value) (demands : List Instance) → is_in same_instance names i ≡ true → Ends (Graph A) ((equations_of p).equation i) v demands → A i ≡ Some v
   unfolding equations_of
   ended_value i v demands m e = ended_left (equations_of p) names A r i (none_circular p i) m v demands e
+
+  -- where the list has all that its instances demand or are stuck at
+  module _ (whole : HasDemands (equations_of p) names A) (i : Instance) (m : is_in same_instance names i ≡ true) where
+    -- an instance that is left without a value has a loop
+    pub left_has_loop : A i ≡ None → HasLoop p i
+    unfolding equations_of
+    left_has_loop n = left_loop (equations_of p) (order_in p) (fits_in p) (join_in p) (are_rising p) names A r (λ j q. none_circular p j) whole i m n
+
+    -- it is left with a value exactly where it has that value
+    pub left_is_value : (v : Value) → A i ≡ Some v ↔ HasValue p i v
+    unfolding equations_of
+    left_is_value v = value_left (equations_of p) (order_in p) (fits_in p) (join_in p) (are_rising p) names A r (λ j q. none_circular p j) whole (are_joins p) i m v
+
+    -- and without one exactly where it has a loop
+    pub left_is_loop : A i ≡ None ↔ HasLoop p i
+    unfolding equations_of
+    left_is_loop = loop_left (equations_of p) (order_in p) (fits_in p) (join_in p) (are_rising p) names A r (λ j q. none_circular p j) whole (are_joins p) i m

@@ -69,11 +69,11 @@ module _ (p : Program) (A : Instance → Option Value) (i : Instance) where
   equation_none h = sym (at_site None h)
 
   -- an expression that is stuck leaves its equation stuck
-  pub equation_stuck : (s : Site) (n : NamedInstance) → equation_of p i ≡ Some s → Says (world_of p) A s.body (Err n) → None ≡ outcome_value (run A ((equations_of p).equation i))
+  pub equation_stuck : (s : Site) (n : NamedInstance) → equation_of p i ≡ Some s → Says (world_of p) A s.place s.body (Err n) → None ≡ outcome_value (run A ((equations_of p).equation i))
   equation_stuck s n h a =
-      sym (at_site (Some s) h ∙ stuck_value _ n (answers_err A (meaning_of (world_of p) s.body s.place) (λ v. Gives (as_kind s.kind v)) n (a.is s.place)))
+      sym (at_site (Some s) h ∙ stuck_value _ n (answers_err A (meaning_of (world_of p) s.body s.place) (λ v. Gives (as_kind s.kind v)) n a.is))
 
   -- and one with a value gives its equation that value, read at the equation's type
-  pub equation_done : (s : Site) (v w : PlainValue) → equation_of p i ≡ Some s → Says (world_of p) A s.body (Ok v) → value_of w ≡ as_kind s.kind (value_of v) → Some (value_of w) ≡ outcome_value (run A ((equations_of p).equation i))
+  pub equation_done : (s : Site) (v w : PlainValue) → equation_of p i ≡ Some s → Says (world_of p) A s.place s.body (Ok v) → value_of w ≡ as_kind s.kind (value_of v) → Some (value_of w) ≡ outcome_value (run A ((equations_of p).equation i))
   equation_done s v w h a e =
-      sym (at_site (Some s) h ∙ done_value _ w (answers_ok A (meaning_of (world_of p) s.body s.place) (λ x. Gives (as_kind s.kind x)) v (Ok w) (a.is s.place) (sym e)))
+      sym (at_site (Some s) h ∙ done_value _ w (answers_ok A (meaning_of (world_of p) s.body s.place) (λ x. Gives (as_kind s.kind x)) v (Ok w) a.is (sym e)))

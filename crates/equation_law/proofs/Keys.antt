@@ -13,10 +13,11 @@ use Rattle.equation_law.specs.Names.{Instance, Attribute, Query, Null, At, Sourc
 use Rattle.equation_law.specs.Named.{instance_of}
 use Rattle.equation_law.specs.Program.{at_source}
 use Rattle.equation_law.specs.Places.{place_in, kept_place}
+use Rattle.equation_law.proofs.Firsts.{first_put, not_there}
 use Rattle.equation_law.proofs.Names.{same_instance_is, same_instance_self}
 
 -- two tests that imply each other are one
-both_ways : (a b : Bool) → (a ≡ true → b ≡ true) → (b ≡ true → a ≡ true) → a ≡ b
+pub both_ways : (a b : Bool) → (a ≡ true → b ≡ true) → (b ≡ true → a ≡ true) → a ≡ b
 both_ways true b f g = sym (f refl)
 both_ways false true f g = g refl
 both_ways false false f g = refl
@@ -30,7 +31,7 @@ pub same_turned : (i j : Instance) → same_instance i j ≡ same_instance j i
 same_turned i j = both_ways (same_instance i j) (same_instance j i) (λ e. same_as j i (sym (same_instance_is i j e))) (λ e. same_as i j (sym (same_instance_is j i e)))
 
 -- what the test of two pairs of numbers says
-both_equal : (a b n m : ℕ) → (eqb a b && eqb n m) ≡ true → (a ≡ b) × (n ≡ m)
+pub both_equal : (a b n m : ℕ) → (eqb a b && eqb n m) ≡ true → (a ≡ b) × (n ≡ m)
 both_equal a b n m e =
     elim (eqb a b) as (λ x. eqb a b ≡ x → (x && eqb n m) ≡ true → (a ≡ b) × (n ≡ m)) [
       | true ↦ λ h g. (eqb-true a b h, eqb-true n m g)
@@ -38,7 +39,7 @@ both_equal a b n m e =
     ] refl e
 
 -- and the other way round
-equal_both : (a b n m : ℕ) → a ≡ b → n ≡ m → (eqb a b && eqb n m) ≡ true
+pub equal_both : (a b n m : ℕ) → a ≡ b → n ≡ m → (eqb a b && eqb n m) ≡ true
 equal_both a b n m e f = ap (λ x. x && eqb n m) (eq-eqb a b e) ∙ eq-eqb n m f
 
 -- two attribute instances are the same where their numbers are equal
@@ -87,11 +88,6 @@ unnamed : (a : ℕ) (es : List (NamedInstance × ℕ)) → lookup (λ n. same_in
 unnamed a [] = refl
 unnamed a (e ∷ es) = ap (λ b. cond b (Some e.1) (lookup (λ n. same_instance (Attribute a Null NoArguments) (instance_of n)) es)) (unnamed_apart a e.0) ∙ unnamed a es
 
--- nothing is added
-pub or_none : {V : Type 0} (o : Option V) → o ≡ or_else o None
-or_none None = refl
-or_none (Some v) = refl
-
 module _ {S : Type 0} where
   -- what a name finds is what is kept of its instance
   pub by_name : (m : HashMap NamedInstance ℕ S) (q : NamedInstance) → get_by (equality.ghosts.eq q) m ≡ kept_place m (instance_of q)
@@ -99,30 +95,17 @@ module _ {S : Type 0} where
 
   -- where the name is no key, nothing is kept of its instance
   pub not_kept : (m : HashMap NamedInstance ℕ S) (q : NamedInstance) (b : Bool) → b ≡ is_some (get_by (equality.ghosts.eq q) m) → b ≡ false → kept_place m (instance_of q) ≡ None
-  not_kept m q b e f = sym (by_name m q) ∙ nothing (get_by (equality.ghosts.eq q) m) (sym e ∙ f)
-    where
-      nothing : (o : Option ℕ) → is_some o ≡ false → o ≡ None
-      nothing None g = refl
-      nothing (Some x) g = cc
+  not_kept m q b e f = sym (by_name m q) ∙ not_there (get_by (equality.ghosts.eq q) m) b e f
 
-  -- the place that an instance gets, from the test of the keys
-  put : (m : HashMap NamedInstance ℕ S) (j i : Instance) (k : ℕ) (o : Option ℕ) → kept_place m j ≡ None → o ≡ cond (same_instance j i) (Some k) (kept_place m i) → o ≡ or_else (kept_place m i) (cond (same_instance i j) (Some k) None)
-  put m j i k o h e =
-      elim (same_instance i j) as (λ b. same_instance i j ≡ b → o ≡ or_else (kept_place m i) (cond b (Some k) None)) [
-        | true ↦ λ s.
-            let f : kept_place m i ≡ None = ap (kept_place m) (same_instance_is i j s) ∙ h in
-            let t : same_instance j i ≡ true = same_turned j i ∙ s in
-            e ∙ ap (λ b. cond b (Some k) (kept_place m i)) t ∙ sym (ap (λ x. or_else x (Some k)) f)
-        | false ↦ λ s.
-            let t : same_instance j i ≡ false = same_turned j i ∙ s in
-            e ∙ ap (λ b. cond b (Some k) (kept_place m i)) t ∙ or_none (kept_place m i)
-      ] refl
+  -- and so it is at each name of that instance
+  free_at : (m : HashMap NamedInstance ℕ S) (j q : NamedInstance) → kept_place m (instance_of j) ≡ None → equality.ghosts.eq j q ≡ true → get_by (equality.ghosts.eq q) m ≡ None
+  free_at m j q h e = by_name m q ∙ ap (kept_place m) (sym (same_instance_is (instance_of j) (instance_of q) (sym (key_same j q) ∙ e))) ∙ h
 
-  -- the same for an instance with a name
+  -- the place that is put is kept of an instance with a name
   named_put : (m n : HashMap NamedInstance ℕ S) (j q : NamedInstance) (k : ℕ) → kept_place m (instance_of j) ≡ None → Updates equality.ghosts.eq m n j (Some k) → kept_place n (instance_of q) ≡ or_else (kept_place m (instance_of q)) (cond (same_instance (instance_of q) (instance_of j)) (Some k) None)
   named_put m n j q k h u =
-      put m (instance_of j) (instance_of q) k (kept_place n (instance_of q)) h
-      (sym (by_name n q) ∙ u.0 q ∙ ap (λ b. cond b (Some k) (get_by (equality.ghosts.eq q) m)) (key_same j q) ∙ ap (λ o. cond (same_instance (instance_of j) (instance_of q)) (Some k) o) (by_name m q))
+      sym (by_name n q) ∙ first_put equality.ghosts.eq m n j k (λ r e. free_at m j r h e) u q ∙ ap (λ o. or_else o (cond (equality.ghosts.eq j q) (Some k) None)) (by_name m q)
+      ∙ ap (λ b. or_else (kept_place m (instance_of q)) (cond b (Some k) None)) (key_same j q ∙ same_turned (instance_of j) (instance_of q))
 
   -- the place that is put is kept
   pub kept_now : (m n : HashMap NamedInstance ℕ S) (j : NamedInstance) (k : ℕ) → kept_place m (instance_of j) ≡ None → Updates equality.ghosts.eq m n j (Some k) → (i : Instance) → kept_place n i ≡ or_else (kept_place m i) (cond (same_instance i (instance_of j)) (Some k) None)

@@ -1,12 +1,24 @@
 pub mod Answering
-pub mod Constants
+pub mod Deciding
+pub mod Demanded
 pub mod Ended
+pub mod Firsts
 pub mod Forms
 pub mod Found
+pub mod Hanging
+pub mod Heights
 pub mod Keys
+pub mod Listed
 pub mod Lists
 pub mod Names
+pub mod Orders
+pub mod Preordered
+pub mod QueryValues
 pub mod Reading
+pub mod Sets
+pub mod Slotted
 pub mod Solution
 pub mod Solving
+pub mod Typed
 mod Worked
+mod WorkedLoops

@@ -6,7 +6,7 @@ use Rattle.std.specs.Ordering.{nat_cmp, is_eq}
 use Rattle.std.specs.Cmp.{tied_itself}
 use Rattle.std.specs.Cmp.Lexicographic.{slice_cmp, nat_list_cmp_total}
 use Rattle.std.specs.FinMap.{IsAntisymmetric, slice_cmp-IsAntisymmetric, nat_cmp-IsAntisymmetric}
-use Rattle.equation_law.specs.Names.{NodeName, Source, Reference, Null, At, Arguments, NoArguments, Instance, Attribute, Query, node_code, reference_code, arguments_code, instance_code, same_instance}
+use Rattle.equation_law.specs.Names.{NodeName, Source, Reference, Null, At, Arguments, NoArguments, Instance, Attribute, Query, node_code, reference_code, arguments_code, instance_code, node_cmp, same_instance}
 
 -- two writings that begin with different numbers differ
 tags : {A : Type 0} (a b : ℕ) (x y : List ℕ) → (a ≡ b → ⊥) → a ∷ x ≡ b ∷ y → A
@@ -41,14 +41,18 @@ instance_same (Query p) (Attribute b m ys) x y e = tags 1 0 _ _ (λ h. omega ari
 instance_same (Query p) (Query q) x y e = (cc, cc)
 
 -- the test of an order for equality
-is_equal : (r : Ordering) → is_eq r ≡ true → r ≡ Equal
+pub is_equal : (r : Ordering) → is_eq r ≡ true → r ≡ Equal
 is_equal Less e = cc
 is_equal Equal e = refl
 is_equal Greater e = cc
 
 -- numbers in order are told apart
-code_anti : IsAntisymmetric (slice_cmp nat_cmp)
+pub code_anti : IsAntisymmetric (slice_cmp nat_cmp)
 code_anti = slice_cmp-IsAntisymmetric nat_cmp-IsAntisymmetric
+
+-- so are nodes
+pub node_anti : IsAntisymmetric node_cmp
+node_anti a b e = (node_same a b [] [] (code_anti _ _ e)).0
 
 -- what counts as the same is the same
 pub same_instance_is : (i j : Instance) → same_instance i j ≡ true → i ≡ j

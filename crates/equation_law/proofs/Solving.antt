@@ -17,7 +17,7 @@ use Rattle.equation_law.specs.Equations.{equations_of}
 use Rattle.equation_law.specs.Named.{instance_of, value_in}
 use Rattle.equation_law.specs.Places.{place_in, value_on}
 use Rattle.equation_law.specs.Steps.{IsAfter, IsRound, IsStep, name_at, standing}
-use Rattle.equation_law.proofs.Keys.{or_none}
+use Rattle.equation_law.proofs.Firsts.{or_none}
 use Rattle.equation_law.proofs.Lists.{some_of}
 use Rattle.equation_law.proofs.Names.{same_instance_is, same_instance_self}
 

@@ -1,16 +1,19 @@
--- A small program, worked through the definitions: classes N and M, a tree of one N, `syn int N.v() = 5`,
--- `syn boolean M.w() = true`, and the query `@0.v()`.
-use Rattle.std.proofs.Common.{◌≡◌, pos, negsuc, true, false, List, [], ◌∷◌, Some, None, codes, refl}
+-- A small program, worked through the definitions: the grammar `N ::= m:M; M ::= <V:int> <B:boolean>;`, a tree of
+-- one N with one M, `syn int N.v() = 5`, `syn boolean M.w() = true`, and the query `@0.v()`.
+use Rattle.std.proofs.Common.{◌≡◌, pos, negsuc, arith, true, false, List, [], ◌∷◌, Some, None, codes, refl}
 use Rattle.std.specs.Int.{int_wrap}
+use Rattle.ast_grammar.specs.declared.grammar.Shape.TheVariants as shapes
+use Rattle.ast_grammar.specs.Grammar.{Class}
 use Rattle.attr_types.specs.declared.expression.Operator.TheVariants.{Add, Subtract, Multiply, Less, AtMost, Greater, AtLeast, Equal}
 use Rattle.attr_types.specs.declared.kinds.Kind.TheVariants as kinds
-use Rattle.attr_types.specs.Expression.{Expression, Truth as TruthLiteral, Int as IntLiteral, Source as SourceNode, Call, Negate, Binary, And, Or, If}
+use Rattle.attr_types.specs.Expression.{Expression, Truth as TruthLiteral, Int as IntLiteral, This, Source as SourceNode, Child, Token, Call, Negate, Binary, And, Or, If}
 use Rattle.attr_types.specs.Rules.{Item, rules_of}
 use Rattle.solutions.specs.Asking.{Gives, Needs}
 use Rattle.equation_law.specs.Names.{At, Attribute, NoArguments, Null, Query, Source}
 use Rattle.equation_law.specs.Values.{Int, Node, Truth, as_kind, truth}
 use Rattle.equation_law.specs.Meaning.{Place, meaning_of, operate}
-use Rattle.equation_law.specs.Program.{Program, at_source, lone, source_instances}
+use Rattle.equation_law.specs.Preorder.{IsTreeOf, TellsNode, TellsToken, node, over, token}
+use Rattle.equation_law.specs.Program.{Node as TreeNode, Program, at_source, source_instances}
 use Rattle.equation_law.specs.Equations.{HasValue, equation_of, equations_of, world_of}
 
 abbrev items : List Item
@@ -26,20 +29,52 @@ v = Call 0 (SourceNode 0)
 abbrev w : Expression
 w = Call 1 (SourceNode 0)
 
+abbrev classes : List Class
+classes =
+    record {
+      name = codes "N";
+      abstract = false;
+      superclass = None;
+      components = record { name = codes "m"; number = 0; shape = shapes.Child; class = record { 0 = 1 } } ∷ [];
+    } ∷
+    record {
+      name = codes "M";
+      abstract = false;
+      superclass = None;
+      components = record { name = codes "V"; number = 1; shape = shapes.Int; class = record { 0 = 0 } } ∷ record { name = codes "B"; number = 2; shape = shapes.Truth; class = record { 0 = 0 } } ∷ [];
+    } ∷
+    []
+
+-- the tokens are -5 and true
+abbrev two_nodes : List TreeNode
+two_nodes =
+    record { class = record { 0 = 0 }; parent = 0; component = 0; tokens = 0 ∷ [] } ∷
+    record { class = record { 0 = 1 }; parent = 0; component = 0; tokens = 4294967291 ∷ 1 ∷ [] } ∷
+    []
+
 abbrev small : Program
 small = record {
-  grammar = record { name = codes "N" } ∷ record { name = codes "M" } ∷ [];
+  grammar = classes;
   rules = rules_of items;
-  tree = lone (record { 0 = 0 });
+  tree = two_nodes;
   texts = [];
   queries = v ∷ [];
+}
+
+-- they are a tree of the grammar
+is_tree : IsTreeOf classes two_nodes
+is_tree = record {
+  told = TellsNode (record { 0 = 0 }) 0 0 ∷ TellsNode (record { 0 = 1 }) 0 0 ∷ TellsToken 1 0 4294967291 ∷ TellsToken 1 1 1 ∷ [];
+  tells = node (omega arith) (node (omega arith) (token (omega arith) (token (omega arith) over)));
+  are = refl;
+  few = omega arith;
 }
 
 abbrev root : Place
 root = record { this = At (Source 0) }
 
 -- the instances at its source nodes
-instances : source_instances small ≡ at_source 0 0 ∷ Query 0 ∷ []
+instances : source_instances small ≡ at_source 0 0 ∷ at_source 1 1 ∷ Query 0 ∷ []
 unfolding source_instances rules_of
 instances = refl
 
@@ -58,8 +93,8 @@ of_other_class : equation_of small (at_source 1 0) ≡ None
 unfolding rules_of
 of_other_class = refl
 
--- no second node
-of_no_node : equation_of small (at_source 0 1) ≡ None
+-- no third node
+of_no_node : equation_of small (at_source 0 2) ≡ None
 unfolding rules_of
 of_no_node = refl
 
@@ -150,6 +185,25 @@ or_long = refl
 chosen : (meaning_of (world_of small) (If (TruthLiteral true) v (IntLiteral (pos 7))) root ≡ Needs (at_source 0 0) (λ x. Gives (as_kind kinds.Int x))) × (meaning_of (world_of small) (If (TruthLiteral false) v (IntLiteral (pos 7))) root ≡ Gives (Int (pos 7)))
 unfolding rules_of
 chosen = (refl, refl)
+
+-- `this`, `this.getm()`, and the same of that
+accessors : (meaning_of (world_of small) This root ≡ Gives (Node (At (Source 0)))) × (meaning_of (world_of small) (Child 0 This) root ≡ Gives (Node (At (Source 1)))) × (meaning_of (world_of small) (Child 0 (Child 0 This)) root ≡ Gives (Node Null))
+accessors = (refl, refl, refl)
+
+-- the tokens of the child
+tokens : (meaning_of (world_of small) (Token kinds.Int 0 (Child 0 This)) root ≡ Gives (Int (negsuc 4))) × (meaning_of (world_of small) (Token kinds.Truth 1 (Child 0 This)) root ≡ Gives (Truth true))
+unfolding int_wrap
+tokens = (refl, refl)
+
+-- on null a token and a call are defaults, and demand nothing
+on_null : (meaning_of (world_of small) (Token kinds.Int 0 (Child 1 This)) root ≡ Gives (Int (pos 0))) × (meaning_of (world_of small) (Call 1 (Child 1 This)) root ≡ Gives (Truth false))
+unfolding rules_of
+on_null = (refl, refl)
+
+-- a call on the child
+on_child : meaning_of (world_of small) (Call 1 (Child 0 This)) root ≡ Needs (at_source 1 1) (λ x. Gives (Truth (truth x)))
+unfolding rules_of
+on_child = refl
 
 -- the rounds give the attribute its value in the first round, and the query in the second
 five : HasValue small (Query 0) (Int (pos 5))

@@ -16,10 +16,9 @@ Answers (Stuck j ds) (Err n) = j ≡ instance_of n
 Answers (Done v ds) (Err n) = ⊥
 Answers (Stuck j ds) (Ok w) = ⊥
 
--- The value of an expression under an assignment, or the first demand that has none. It is the same at each
--- place, since no form reads the place yet.
-pub record Says (W : World) (A : Instance → Option Value) (e : Expression) (r : Result PlainValue NamedInstance) : Type 0 where
-  pub is : (p : Place) → Answers (run A (meaning_of W e p)) r
+-- The value of an expression at a place under an assignment, or the first demand that has none.
+pub record Says (W : World) (A : Instance → Option Value) (p : Place) (e : Expression) (r : Result PlainValue NamedInstance) : Type 0 where
+  pub is : Answers (run A (meaning_of W e p)) r
 
 -- the answer to a call on a receiver
 pub record SaysOfCall (W : World) (A : Instance → Option Value) (a : ℕ) (v : PlainValue) (r : Result PlainValue NamedInstance) : Type 0 where

@@ -1,6 +1,8 @@
 -- The equations of the instances of a program, and the solution.
-use Rattle.std.specs.Prelude.{ℕ, false, Option, Some, None, slice_get}
+use Rattle.std.specs.Prelude.{ℕ, pos, false, not, ◌==◌, Option, Some, None, slice_get}
+use Rattle.std.specs.Int.{int_wrap}
 use Rattle.std.specs.Option.{option_and_then, option_map}
+use mir.Syntax.{w32}
 use Rattle.ast_grammar.specs.declared.grammar.ClassId.{ClassId}
 use Rattle.attr_types.specs.declared.kinds.Kind.{Kind}
 use Rattle.attr_types.specs.declared.kinds.Kind.TheVariants as kinds
@@ -9,9 +11,9 @@ use Rattle.attr_types.specs.Rules.{Equation, equation_number}
 use Rattle.attr_types.specs.Typing.{type_of}
 use Rattle.solutions.specs.Asking.{Demands, Gives, next}
 use Rattle.solutions.specs.Rounds.{Equations, HasValue as HasValueOf}
-use Rattle.equation_law.specs.Names.{Source, Null, At, NoArguments, Instance, Attribute, Query, same_instance}
-use Rattle.equation_law.specs.Values.{Value, Node, as_kind}
-use Rattle.equation_law.specs.Program.{Program, declared_of, class_of, names_in}
+use Rattle.equation_law.specs.Names.{NodeName, Source, Reference, Null, At, NoArguments, Instance, Attribute, Query, same_instance}
+use Rattle.equation_law.specs.Values.{Value, Truth, Int, Node, as_kind, default_of}
+use Rattle.equation_law.specs.Program.{Program, declared_of, class_of, child_in, token_in, names_in}
 use Rattle.equation_law.specs.Meaning.{World, Place, meaning_of}
 
 -- an equation as it is read: an expression of a type, with the node at which it is read
@@ -27,8 +29,38 @@ kind_or_truth (Some k) = k
 abbrev pub attribute_kind : Program → ℕ → Kind
 attribute_kind p a = kind_or_truth (option_map (λ x. x.kind) (declared_of p a))
 
+-- a source node by its number, or null
+abbrev pub source_or_null : Option ℕ → Reference
+source_or_null None = Null
+source_or_null (Some k) = At (Source k)
+
+abbrev pub child_of : Program → NodeName → ℕ → Reference
+child_of p (Source n) k = source_or_null (child_in p.tree n k)
+
+-- the value that a code stands for; a missing one is the type's default. Texts aren't read so far
+abbrev pub decoded : Kind → Option ℕ → Value
+decoded t None = default_of t
+decoded kinds.Truth (Some v) = Truth (not (v == 0))
+decoded kinds.Int (Some v) = Int (int_wrap w32 (pos v))
+decoded kinds.Text (Some v) = default_of kinds.Text
+decoded (kinds.Node c) (Some v) = default_of (kinds.Node c)
+decoded kinds.Texts (Some v) = default_of kinds.Texts
+decoded (kinds.Nodes c) (Some v) = default_of (kinds.Nodes c)
+
+abbrev pub token_of : Program → Kind → NodeName → ℕ → Value
+token_of p t (Source n) k = decoded t (token_in p.tree n k)
+
 abbrev pub world_of : Program → World
-world_of p = record { kind = attribute_kind p }
+world_of p = record { kind = attribute_kind p; child = child_of p; token = token_of p }
+
+-- the type of a query, or truth where it has none
+abbrev pub query_kind : Program → Expression → Kind
+query_kind p e = kind_or_truth (type_of (names_in p) e)
+
+-- the type of an instance's values
+abbrev pub kind_in : Program → Instance → Kind
+kind_in p (Attribute a n xs) = attribute_kind p a
+kind_in p (Query q) = kind_or_truth (option_map (query_kind p) (slice_get p.queries q))
 
 -- the equation of an attribute at nodes of a class
 abbrev pub equation_for : Program → ℕ → ClassId → Option Equation
@@ -42,20 +74,20 @@ site_at p a k e = record { body = e.body; kind = attribute_kind p a; place = rec
 abbrev pub equation_of : Program → Instance → Option Site
 equation_of p (Attribute a Null NoArguments) = None
 equation_of p (Attribute a (At (Source k)) NoArguments) = option_map (site_at p a k) (option_and_then (equation_for p a) (class_of p k))
-equation_of p (Query q) = option_map (λ e. record { body = e; kind = kind_or_truth (type_of (names_in p) e); place = record { this = At (Source 0) } }) (slice_get p.queries q)
+equation_of p (Query q) = option_map (λ e. record { body = e; kind = query_kind p e; place = record { this = At (Source 0) } }) (slice_get p.queries q)
 
 -- what an equation demands; an instance that the program doesn't have counts as null
 abbrev pub site_demands : World → Option Site → Demands Instance Value
 site_demands W None = Gives (Node Null)
 site_demands W (Some s) = next (meaning_of W s.body s.place) (λ v. Gives (as_kind s.kind v))
 
--- no attribute is circular so far
+-- no attribute is circular so far; a circular one would start at the default of its type
 unfoldable pub equations_of : Program → Equations Instance Value
 equations_of p = record {
   same = same_instance;
   equation = λ i. site_demands (world_of p) (equation_of p i);
   circular = λ i. false;
-  bottom = λ i. Node Null;
+  bottom = λ i. default_of (kind_in p i);
 }
 
 -- the solution: the value of an instance that the rounds over some list of instances give

@@ -6,14 +6,18 @@ use mir.Syntax.{w32}
 use Rattle.attr_types.specs.declared.kinds.Kind.{Kind}
 use Rattle.attr_types.specs.declared.expression.Operator.{Operator}
 use Rattle.attr_types.specs.declared.expression.Operator.TheVariants.{Add, Subtract, Multiply, Less, AtMost, Greater, AtLeast, Equal}
-use Rattle.attr_types.specs.Expression.{Expression, Truth as TruthLiteral, Int as IntLiteral, Source as SourceNode, Call, Not, Negate, Binary, And, Or, If}
+use Rattle.attr_types.specs.Expression.{Expression, Truth as TruthLiteral, Int as IntLiteral, This, Source as SourceNode, Child, Token, Call, Not, Negate, Binary, And, Or, If}
 use Rattle.solutions.specs.Asking.{Demands, Gives, Needs, next}
-use Rattle.equation_law.specs.Names.{Source, Reference, Null, At, Instance, Attribute, NoArguments}
+use Rattle.equation_law.specs.Names.{NodeName, Source, Reference, Null, At, Instance, Attribute, NoArguments}
 use Rattle.equation_law.specs.Values.{Value, Truth, Int, Text, Node, Texts, Nodes, truth, int, node, as_kind, default_of}
 
--- what the grammar, the rules and the tree say of attributes
+-- what the grammar, the rules and the tree say of attributes and nodes
 pub record World : Type 0 where
   pub kind : ℕ → Kind
+  -- the child of a node at a component
+  pub child : NodeName → ℕ → Reference
+  -- the token of a node at a component, read at a type
+  pub token : Kind → NodeName → ℕ → Value
 
 -- where an expression is read: the node of the equation
 pub record Place : Type 0 where
@@ -48,11 +52,24 @@ abbrev pub call_at : World → ℕ → Reference → Demands Instance Value
 call_at W a Null = Gives (default_of (W.kind a))
 call_at W a (At n) = demand (W.kind a) (Attribute a (At n) NoArguments)
 
+-- the accessor of a child; on null it is null
+abbrev pub child_at : World → ℕ → Reference → Reference
+child_at W k Null = Null
+child_at W k (At n) = W.child n k
+
+-- the accessor of a token; on null it is the default of the type
+abbrev pub token_at : World → Kind → ℕ → Reference → Value
+token_at W t k Null = default_of t
+token_at W t k (At n) = W.token t n k
+
 -- The parts are evaluated from the left. Of `&&`, `||` and `? :` only what is needed is.
 abbrev pub meaning_of : World → Expression → Place → Demands Instance Value
 meaning_of W (TruthLiteral b) p = Gives (Truth b)
 meaning_of W (IntLiteral z) p = Gives (Int z)
+meaning_of W This p = Gives (Node p.this)
 meaning_of W (SourceNode k) p = Gives (Node (At (Source k)))
+meaning_of W (Child k e) p = next (meaning_of W e p) (λ r. Gives (Node (child_at W k (node r))))
+meaning_of W (Token t k e) p = next (meaning_of W e p) (λ r. Gives (token_at W t k (node r)))
 meaning_of W (Call a e) p = next (meaning_of W e p) (λ r. call_at W a (node r))
 meaning_of W (Not e) p = next (meaning_of W e p) (λ v. Gives (Truth (not (truth v))))
 meaning_of W (Negate e) p = next (meaning_of W e p) (λ v. Gives (Int (int_wrap w32 (neg_ℤ (int v)))))

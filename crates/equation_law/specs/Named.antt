@@ -8,6 +8,8 @@ use Rattle.equation_law.specs.declared.instances.NameList.{NameList}
 use Rattle.equation_law.specs.declared.values.PlainValue.{PlainValue}
 use Rattle.equation_law.specs.declared.values.PlainValue.TheVariants as plain
 use Rattle.equation_law.specs.declared.values.NamedValue.{NamedValue}
+use Rattle.equation_law.specs.declared.values.NodeName.{NodeName}
+use Rattle.equation_law.specs.declared.values.NodeName.TheVariants as names
 use Rattle.equation_law.specs.declared.rounds.Table.{Table}
 use Rattle.equation_law.specs.Names.{Instance, Query, Reference, Null, At, Source, same_instance}
 use Rattle.equation_law.specs.Sets.{no_elements}
@@ -31,15 +33,15 @@ value_of plain.EmptyText = Text []
 value_of plain.NoTexts = Texts no_elements
 value_of plain.NoNodes = Nodes no_elements
 
--- a source node by its number, or null
-abbrev pub reference_of : Option ℕ → Reference
-reference_of None = Null
-reference_of (Some n) = At (Source n)
+-- a node by its name
+abbrev pub reference_named : NodeName → Reference
+reference_named names.Null = Null
+reference_named (names.Source n) = At (Source n)
 
 abbrev pub value_in : NamedValue → Value
 value_in v = value_of v.value
 
--- the value is no truth value, and no integer
+-- the value is no truth value, no integer, and no node
 abbrev pub IsNoTruth : Value → Type 0
 IsNoTruth (Truth b) = ⊥
 IsNoTruth (Int z) = Unit {0}
@@ -55,6 +57,14 @@ IsNoInt (Text t) = Unit {0}
 IsNoInt (Node n) = Unit {0}
 IsNoInt (Texts s) = Unit {0}
 IsNoInt (Nodes s) = Unit {0}
+
+abbrev pub IsNoNode : Value → Type 0
+IsNoNode (Truth b) = Unit {0}
+IsNoNode (Int z) = Unit {0}
+IsNoNode (Text t) = Unit {0}
+IsNoNode (Node n) = ⊥
+IsNoNode (Texts s) = Unit {0}
+IsNoNode (Nodes s) = Unit {0}
 
 abbrev pub values_in : Table → List (Option Value)
 values_in t = map (option_map value_in) t.values.items

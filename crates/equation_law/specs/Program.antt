@@ -1,8 +1,8 @@
 -- A program: a grammar with its rules, a source tree, and queries.
-use Rattle.std.specs.Prelude.{◌≡◌, ℕ, suc, List, [], ◌∷◌, ◌++◌, Option, map, slice_get, if◌then◌else◌, ◌==◌}
-use Rattle.std.specs.Option.{option_map}
+use Rattle.std.specs.Prelude.{ℕ, suc, List, [], ◌∷◌, ◌++◌, Option, None, map, position, slice_get, if◌then◌else◌, ◌==◌, ◌&&◌}
+use Rattle.std.specs.Option.{option_and_then, option_map}
 use Rattle.ast_grammar.specs.declared.grammar.ClassId.{ClassId}
-use Rattle.ast_grammar.specs.Grammar.{Class}
+use Rattle.ast_grammar.specs.Grammar.{Class, component_at}
 use Rattle.attr_types.specs.declared.kinds.Attr.{Attr}
 use Rattle.attr_types.specs.Expression.{Expression}
 use Rattle.attr_types.specs.Rules.{Attribute as DeclaredAttribute, RuleSet}
@@ -16,17 +16,17 @@ pub record Node : Type 0 where
   pub component : ℕ
   pub tokens : List ℕ
 
--- a tree of one node
-abbrev pub lone : ClassId → List Node
-lone c = record { class = c; parent = 0; component = 0; tokens = [] } ∷ []
+-- the child of a node at a component: the node that hangs there
+abbrev pub child_in : List Node → ℕ → ℕ → Option ℕ
+child_in [] n k = None
+child_in (root ∷ nodes) n k = option_map suc (position (λ x. (x.parent == n) && (x.component == k)) nodes)
 
--- The nodes are those of a tree in preorder. Trees have one node so far.
-pub record IsTree (nodes : List Node) : Type 0 where
-  pub root : ClassId
-  pub is : nodes ≡ lone root
+abbrev pub tokens_of : Node → List ℕ
+tokens_of n = n.tokens
 
-abbrev pub most_nodes : ℕ
-most_nodes = 65536
+-- the code of the token of a node at a component
+abbrev pub token_in : List Node → ℕ → ℕ → Option ℕ
+token_in nodes n k = option_and_then (λ x. slice_get (tokens_of x) k) (slice_get nodes n)
 
 pub record Program : Type 0 where
   pub grammar : List Class
@@ -44,7 +44,7 @@ class_of p k = option_map (λ n. n.class) (slice_get p.tree k)
 
 -- what queries may name
 abbrev pub names_in : Program → Names
-names_in p = record { attribute = declared_of p; node = class_of p }
+names_in p = record { attribute = declared_of p; node = class_of p; component = component_at p.grammar; this = class_of p 0 }
 
 -- the nodes of a class, by their numbers, from the k-th on
 abbrev pub nodes_of : List Node → ClassId → ℕ → List ℕ

@@ -1,6 +1,7 @@
 -- Finite sets under an order.
+use Rattle.std.specs.Prelude.{◌≡◌, Bool, true, List, [], ◌∷◌}
 use Rattle.std.specs.declared.cmp.Ordering.{Ordering}
-use Rattle.std.specs.FinMap.{FinMap, empty}
+use Rattle.std.specs.FinMap.{FinMap, empty, insert, contains_key, keys}
 
 abbrev pub SetBy : {K : Type 0} → (K → K → Ordering) → Type 0
 SetBy R = FinMap R (Unit {0})
@@ -8,3 +9,21 @@ SetBy R = FinMap R (Unit {0})
 module _ {K : Type 0} {R : K → K → Ordering} where
   abbrev pub no_elements : SetBy R
   no_elements = empty
+
+  abbrev pub has : SetBy R → K → Bool
+  has s q = contains_key s q
+
+  -- in their order
+  abbrev pub elements : SetBy R → List K
+  elements s = keys s
+
+  abbrev pub with_all : SetBy R → List K → SetBy R
+  with_all s [] = s
+  with_all s (x ∷ xs) = insert (with_all s xs) x tt
+
+  abbrev pub union : SetBy R → SetBy R → SetBy R
+  union s t = with_all s (elements t)
+
+-- each element of the first is one of the second
+abbrev pub IsPart : {K : Type 0} {R : K → K → Ordering} → SetBy R → SetBy R → Type 0
+IsPart {K} s t = (q : K) → has s q ≡ true → has t q ≡ true

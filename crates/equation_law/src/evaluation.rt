@@ -1,15 +1,15 @@
 // Evaluation under the values of a round.
-ghost use Rattle.std.specs.Prelude.{◌≡◌, Some, neg_ℤ};
+ghost use Rattle.std.specs.Prelude.{◌≡◌, neg_ℤ, pos};
 ghost use Rattle.std.specs.Int.{int_wrap};
 ghost use mir.Syntax.{w32};
 ghost use Rattle.attr_types.specs.Expression.{expression_of};
-ghost use Rattle.equation_law.specs.Names.{Instance};
-ghost use Rattle.equation_law.specs.Values.{Int, int};
-ghost use Rattle.equation_law.specs.Meaning.{equal as same_value, operate as operated_by};
-ghost use Rattle.equation_law.specs.Equations.{world_of, attribute_kind as kind_in};
+ghost use Rattle.equation_law.specs.Values.{Int, Node, int, node};
+ghost use Rattle.equation_law.specs.Meaning.{child_at, equal as same_value, operate as operated_by, token_at};
+ghost use Rattle.equation_law.specs.Equations.{attribute_kind as kind_in};
+ghost use Rattle.equation_law.specs.Equations as spec;
 ghost use Rattle.equation_law.specs.Systems.{program_of};
 ghost use Rattle.equation_law.specs.Named.{value_of};
-ghost use Rattle.equation_law.specs.Places.{found};
+ghost use Rattle.equation_law.specs.Contexts.{place_in, standing_in, world_in};
 ghost use Rattle.equation_law.specs.Answering.{Says, SaysOfCall};
 
 use crate::instances::NamedInstance;
@@ -63,22 +63,30 @@ fn operate(operator: Operator, left: PlainValue, right: PlainValue) -> PlainValu
     }
 }
 
+/// What an expression is evaluated in: the program, the values that stand, and the source node at which the
+/// equation is read.
+#[derive(Clone, Copy)]
+pub(crate) struct Context<'a> {
+    pub(crate) system: &'a System,
+    pub(crate) places: &'a Places,
+    pub(crate) values: &'a [Option<NamedValue>],
+    pub(crate) this: u32,
+}
+
 /// A call on a receiver: the instance's value read at the attribute's type, and on null the type's default.
 fn call(
-    system: &System,
-    places: &Places,
-    values: &[Option<NamedValue>],
+    context: &Context<'_>,
     attribute: AttrId,
     receiver: PlainValue,
 ) -> Result<PlainValue, NamedInstance>
-    ensures { SaysOfCall (world_of (program_of system.now)) (found places.now.map values.now) attribute.0 receiver result }
+    ensures { SaysOfCall (world_in context.now) (standing_in context.now) attribute.0 receiver result }
 {
-    let kind = attribute_kind(system, attribute);
+    let kind = attribute_kind(context.system, attribute);
     match receiver.node() {
         None => Ok(PlainValue::default_of(kind)),
         Some(node) => {
             let name = NamedInstance::Attribute(attribute, node);
-            match places.value(values, name) {
+            match context.places.value(context.values, name) {
                 Some(value) => Ok(value.read_as(kind)),
                 None => Err(name),
             }
@@ -86,47 +94,88 @@ fn call(
     }
 }
 
+/// The child of a receiver at a component; null where there is none, and on null.
+fn child_of(context: &Context<'_>, k: u32, receiver: PlainValue) -> PlainValue
+    ensures { value_of result ≡ Node (child_at (world_in context.now) k (node (value_of receiver))) }
+{
+    match receiver.node() {
+        None => PlainValue::Null,
+        Some(node) => match context.system.tree().child(node, k) {
+            Some(child) => PlainValue::Node(child),
+            None => PlainValue::Null,
+        },
+    }
+}
+
+/// The integer that a code stands for, in two's complement.
+fn decoded_int(code: u32) -> PlainValue
+    ensures { value_of result ≡ Int (int_wrap w32 (pos code)) }
+{
+    PlainValue::Int(code.cast_signed())
+}
+
+/// The value that a token's code stands for; a missing one is the type's default.
+fn decoded(kind: Kind, code: Option<u32>) -> PlainValue
+    ensures { value_of result ≡ spec.decoded kind code }
+{
+    match (kind, code) {
+        (Kind::Truth, Some(code)) => PlainValue::Truth(code != 0),
+        (Kind::Int, Some(code)) => decoded_int(code),
+        _ => PlainValue::default_of(kind),
+    }
+}
+
+/// The token of a receiver at a component, read at a type; on null it is the type's default.
+fn token_of(context: &Context<'_>, kind: Kind, k: u32, receiver: PlainValue) -> PlainValue
+    ensures { value_of result ≡ token_at (world_in context.now) kind k (node (value_of receiver)) }
+{
+    match receiver.node() {
+        None => PlainValue::default_of(kind),
+        Some(node) => decoded(kind, context.system.tree().token(node, k)),
+    }
+}
+
 /// The value of an expression, or the first demand that has none. It walks down the expression, which has at
 /// most 400 tokens.
 pub(crate) fn evaluate(
-    system: &System,
-    places: &Places,
-    values: &[Option<NamedValue>],
+    context: &Context<'_>,
     expression: &TExpr,
 ) -> Result<PlainValue, NamedInstance>
-    ensures { Says (world_of (program_of system.now)) (found places.now.map values.now) (expression_of expression.now) result }
+    ensures { Says (world_in context.now) (standing_in context.now) (place_in context.now) (expression_of expression.now) result }
 {
     match expression {
         TExpr::Truth(b) => Ok(PlainValue::Truth(*b)),
         TExpr::Int(z) => Ok(PlainValue::Int(*z)),
+        TExpr::This => Ok(PlainValue::Node(context.this)),
         TExpr::Source(node) => Ok(PlainValue::Node(*node)),
+        TExpr::Child(k, receiver) => Ok(child_of(context, *k, evaluate(context, receiver)?)),
+        TExpr::Token(kind, k, receiver) => {
+            Ok(token_of(context, *kind, *k, evaluate(context, receiver)?))
+        }
         TExpr::Call(attribute, receiver) => {
-            let receiver = evaluate(system, places, values, receiver)?;
-            call(system, places, values, *attribute, receiver)
+            call(context, *attribute, evaluate(context, receiver)?)
         }
         TExpr::Not(operand) => {
-            let value = evaluate(system, places, values, operand)?;
+            let value = evaluate(context, operand)?;
             Ok(PlainValue::Truth(!value.truth()))
         }
-        TExpr::Negate(operand) => Ok(negate(evaluate(system, places, values, operand)?)),
+        TExpr::Negate(operand) => Ok(negate(evaluate(context, operand)?)),
         TExpr::Binary(operator, left, right) => {
-            let left = evaluate(system, places, values, left)?;
-            let right = evaluate(system, places, values, right)?;
+            let left = evaluate(context, left)?;
+            let right = evaluate(context, right)?;
             Ok(operate(*operator, left, right))
         }
         TExpr::And(left, right) => Ok(PlainValue::Truth(
-            evaluate(system, places, values, left)?.truth()
-                && evaluate(system, places, values, right)?.truth(),
+            evaluate(context, left)?.truth() && evaluate(context, right)?.truth(),
         )),
         TExpr::Or(left, right) => Ok(PlainValue::Truth(
-            evaluate(system, places, values, left)?.truth()
-                || evaluate(system, places, values, right)?.truth(),
+            evaluate(context, left)?.truth() || evaluate(context, right)?.truth(),
         )),
         TExpr::If(condition, then, otherwise) => {
-            if evaluate(system, places, values, condition)?.truth() {
-                evaluate(system, places, values, then)
+            if evaluate(context, condition)?.truth() {
+                evaluate(context, then)
             } else {
-                evaluate(system, places, values, otherwise)
+                evaluate(context, otherwise)
             }
         }
     }

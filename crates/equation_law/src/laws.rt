@@ -1,11 +1,14 @@
-// The laws of the solution, over the definitions alone.
-ghost use Rattle.std.specs.Prelude.{◌≡◌, ◌↔◌, List};
-ghost use Rattle.solutions.specs.Asking.{Ends, Halts};
-ghost use Rattle.solutions.specs.Rounds.{Equations, HasFinalValue};
-ghost use Rattle.equation_law.specs.Names.{Instance};
+// The laws of the solution and of the instances of a program, over the definitions alone.
+ghost use Rattle.std.specs.Prelude.{◌≡◌, ◌↔◌, ◌⊎◌, List, Option, true};
+ghost use Rattle.solutions.specs.Asking.{Ends, Halts, Meets};
+ghost use Rattle.solutions.specs.Rounds.{Equations, Graph, HasFinalValue, is_in};
+ghost use Rattle.solutions.specs.Leading.{Demanded};
+ghost use Rattle.equation_law.specs.Checked.{IsInstance, IsProgram};
+ghost use Rattle.equation_law.specs.Names.{Instance, same_instance};
 ghost use Rattle.equation_law.specs.Values.{Value};
-ghost use Rattle.equation_law.specs.Program.{Program};
+ghost use Rattle.equation_law.specs.Program.{Program, source_instances};
 ghost use Rattle.equation_law.specs.Equations.{HasValue, equations_of};
+ghost use Rattle.equation_law.specs.Loops.{Chain, HasLoop};
 
 /// One solution: two lists of instances that give an instance a value give it the same one.
 pub fn one_solution()
@@ -25,4 +28,29 @@ pub fn stuck_has_none()
 /// The values that some rounds give are those that rounds give which run until nothing is added.
 pub fn finished_rounds()
     ensures { (p : Program) (i : Instance) (v : Value) → HasValue p i v ↔ HasFinalValue (equations_of p) i v }
+{}
+
+/// An instance with a value has no loop: it leads into none, and stands on none.
+pub fn loop_has_no_value()
+    ensures { (p : Program) (i : Instance) (v : Value) → HasValue p i v → ¬ HasLoop p i }
+{}
+
+/// Value or loop: each instance of a program has a value or a loop. With `loop_has_no_value`, never both.
+pub fn value_or_loop()
+    ensures { (p : Program) → IsProgram p → (i : Instance) → IsInstance p i → ((v : Value) × HasValue p i v) ⊎ HasLoop p i }
+{}
+
+/// What a chain leads to from an instance with a value is what is demanded from it under the solution.
+pub fn reach_is_demanded()
+    ensures { (p : Program) (i j : Instance) (v : Value) → HasValue p i v → Chain p i j ↔ Demanded (equations_of p) i j }
+{}
+
+/// An instance of a program demands only instances of it.
+pub fn demands_instances()
+    ensures { (p : Program) → IsProgram p → (i j : Instance) → IsInstance p i → (A : Instance → Option Value) → Meets (Graph A) ((equations_of p).equation i) j → IsInstance p j }
+{}
+
+/// The instances that are listed are those of the program.
+pub fn listed_instances()
+    ensures { (p : Program) (i : Instance) → (is_in same_instance (source_instances p) i ≡ true) ↔ IsInstance p i }
 {}

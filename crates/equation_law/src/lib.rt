@@ -11,6 +11,7 @@ mod places;
 mod query_types;
 mod rounds;
 mod sites;
+mod slots;
 mod system;
 #[cfg(test)]
 mod tests;
@@ -18,8 +19,12 @@ mod tree;
 mod values;
 
 pub use instances::NameList;
-pub use laws::{ended_has_value, finished_rounds, one_solution, stuck_has_none};
+pub use laws::{
+    demands_instances, ended_has_value, finished_rounds, listed_instances, loop_has_no_value,
+    one_solution, reach_is_demanded, stuck_has_none, value_or_loop,
+};
 pub use rounds::{Table, plain_rounds};
+pub use slots::Slots;
 pub use system::{Queries, System};
 pub use tree::{FirstNode, Tokens, Tree};
-pub use values::NamedValue;
+pub use values::{NamedValue, NodeName};

@@ -1,7 +1,8 @@
 // The instances of a program, listed.
 ghost use Rattle.std.specs.Prelude.{◌≡◌, ◌≤◌, ◌+◌, ◌*◌, ◌++◌, OnOk, length, map};
 ghost use Rattle.attr_types.specs.Rules.{most_attributes};
-ghost use Rattle.equation_law.specs.Program.{attribute_instances, query_instances, nodes_of, at_source, most_nodes, most_replies};
+ghost use Rattle.equation_law.specs.Program.{attribute_instances, query_instances, nodes_of, at_source, most_replies};
+ghost use Rattle.equation_law.specs.Preorder.{most_nodes};
 ghost use Rattle.equation_law.specs.Systems.{program_of};
 ghost use Rattle.equation_law.specs.Named.{instance_of};
 

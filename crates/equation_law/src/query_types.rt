@@ -1,13 +1,16 @@
 // Types of queries.
 ghost use Rattle.std.specs.Prelude.{◌≡◌, Option};
 ghost use Rattle.attr_types.specs.Expression.{expression_of};
-ghost use Rattle.attr_types.specs.Typing.{type_of, node_type, call_type as typed_call};
+ghost use Rattle.attr_types.specs.Typing.{node_type, type_of};
 ghost use Rattle.equation_law.specs.Program.{names_in, class_of, declared_of};
 ghost use Rattle.equation_law.specs.Systems.{program_of};
 
 use crate::system::System;
 use ast_grammar::ClassId;
-use attr_types::{Attr, AttrId, Kind, TExpr, common, operated, where_int, where_truth};
+use attr_types::{
+    Attr, AttrId, Kind, TExpr, call_type, child_type, common, component_on, operated, token_type,
+    where_int, where_truth,
+};
 
 /// What is declared of an attribute, if there is one of this number.
 pub(crate) fn declared(system: &System, attribute: AttrId) -> Option<Attr>
@@ -33,27 +36,35 @@ pub(crate) fn class_at(system: &System, node: u32) -> Option<ClassId>
     }
 }
 
-/// The type of a call: that of the attribute, where the receiver is a node of the attribute's class.
-fn call_type(receiver: Option<Kind>, attribute: Option<Attr>) -> Option<Kind>
-    ensures { result ≡ typed_call receiver attribute }
+/// The type of a source node, if there is one of this number.
+fn node_kind(system: &System, node: u32) -> Option<Kind>
+    ensures { result ≡ node_type (class_of (program_of system.now) node) }
 {
-    match (receiver, attribute) {
-        (Some(Kind::Node(class)), Some(attribute)) if class == attribute.class => {
-            Some(attribute.kind)
-        }
-        _ => None,
+    match class_at(system, node) {
+        Some(class) => Some(Kind::Node(class)),
+        None => None,
     }
 }
 
-/// The type of an expression, or None where it isn't well typed. It walks down the expression, which has at
-/// most 400 tokens.
+/// The type of an expression of a query, or None where it isn't well typed. It walks down the expression,
+/// which has at most 400 tokens.
 pub(crate) fn expression_kind(system: &System, expression: &TExpr) -> Option<Kind>
     ensures { result ≡ type_of (names_in (program_of system.now)) (expression_of expression.now) }
 {
     match expression {
         TExpr::Truth(_) => Some(Kind::Truth),
         TExpr::Int(_) => Some(Kind::Int),
-        TExpr::Source(node) => class_at(system, *node).map(Kind::Node),
+        TExpr::This => node_kind(system, 0),
+        TExpr::Source(node) => node_kind(system, *node),
+        TExpr::Child(k, receiver) => child_type(component_on(
+            system.grammar(),
+            expression_kind(system, receiver),
+            *k,
+        )),
+        TExpr::Token(kind, k, receiver) => token_type(
+            *kind,
+            component_on(system.grammar(), expression_kind(system, receiver), *k),
+        ),
         TExpr::Call(attribute, receiver) => call_type(
             expression_kind(system, receiver),
             declared(system, *attribute),

@@ -11,7 +11,7 @@ ghost use Rattle.equation_law.specs.Named.{instance_of, value_in};
 ghost use Rattle.equation_law.specs.Places.{found};
 ghost use Rattle.equation_law.specs.Sites.{IsSite};
 
-use crate::evaluation::{attribute_kind, evaluate};
+use crate::evaluation::{Context, attribute_kind, evaluate};
 use crate::instances::NamedInstance;
 use crate::places::Places;
 use crate::query_types::{class_at, expression_kind};
@@ -19,14 +19,15 @@ use crate::system::System;
 use crate::values::{NamedValue, PlainValue};
 use attr_types::{AttrId, Kind, TExpr};
 
-/// An equation as it is read: an expression of a type.
+/// An equation as it is read: an expression of a type, and the source node at which it is read.
 #[derive(Clone, Copy)]
 struct Site<'a> {
     body: &'a TExpr,
     kind: Kind,
+    this: u32,
 }
 
-/// The equation of an attribute at a node: that of the node's class.
+/// The equation of an attribute at a node: that of the node's class, read at the node.
 fn attribute_site(system: &System, attribute: AttrId, node: u32) -> Option<Site<'_>>
     ensures { IsSite (equation_of (program_of system.now) (at_source attribute.0 node)) result }
 {
@@ -35,10 +36,11 @@ fn attribute_site(system: &System, attribute: AttrId, node: u32) -> Option<Site<
     Some(Site {
         body: rules.body(equation),
         kind: attribute_kind(system, attribute),
+        this: node,
     })
 }
 
-/// The equation of a query: its expression.
+/// The equation of a query: its expression, read at the root.
 fn query_site(system: &System, query: u32) -> Option<Site<'_>>
     ensures { IsSite (equation_of (program_of system.now) (Query query)) result }
 {
@@ -49,6 +51,7 @@ fn query_site(system: &System, query: u32) -> Option<Site<'_>>
     Some(Site {
         body,
         kind: expression_kind(system, body).unwrap_or(Kind::Truth),
+        this: 0,
     })
 }
 
@@ -74,11 +77,19 @@ pub(crate) fn equation_value(
         None => Some(NamedValue {
             value: PlainValue::Null,
         }),
-        Some(site) => match evaluate(system, places, values, site.body) {
-            Err(_) => None,
-            Ok(value) => Some(NamedValue {
-                value: value.read_as(site.kind),
-            }),
-        },
+        Some(site) => {
+            let context = Context {
+                system,
+                places,
+                values,
+                this: site.this,
+            };
+            match evaluate(&context, site.body) {
+                Err(_) => None,
+                Ok(value) => Some(NamedValue {
+                    value: value.read_as(site.kind),
+                }),
+            }
+        }
     }
 }

@@ -1,9 +1,12 @@
 // Source trees.
-ghost use Rattle.std.specs.Prelude.{◌≡◌, ◌<◌, ◌≤◌, Some, IfOk, length, map, slice_get};
+ghost use Rattle.std.specs.Prelude.{◌≡◌, ℕ, ◌<◌, ◌≤◌, Some, IfOk, length, map, slice_get};
 ghost use Rattle.std.specs.Option.{option_map};
-ghost use Rattle.equation_law.specs.Program.{IsTree, most_nodes};
+ghost use Rattle.equation_law.specs.Program.{child_in, token_in};
+ghost use Rattle.equation_law.specs.Preorder.{IsTree, most_nodes};
+ghost use Rattle.equation_law.specs.Slots.{kept};
 ghost use Rattle.equation_law.specs.Trees.{node_of};
 
+use crate::slots::Slots;
 use ast_grammar::ClassId;
 use rag_io::Memory;
 use std::alloc::Global;
@@ -50,37 +53,55 @@ pub struct FirstNode {
     pub tokens: Tokens,
 }
 
-/// A source tree: its nodes in preorder, the root being 0.
+/// The first node that hangs at each component of each of these nodes. The first of them is the root, which hangs
+/// nowhere.
+fn children_of(alloc: Global, nodes: &[FirstNode]) -> Result<Slots, Memory>
+    requires { length nodes.now ≤ most_nodes }
+    ensures { IfOk result (λ slots. (n k : ℕ) → kept slots n k ≡ child_in (map node_of nodes.now) n k) }
+{
+    let mut children = Slots::new(alloc);
+    for place in 1..nodes.len() {
+        let node = &nodes[place];
+        children.keep(node.parent, node.component, place as u32)?;
+    }
+    Ok(children)
+}
+
+/// A source tree: its nodes in preorder, the root being 0, at most 65,536.
 #[derive(Drop)]
 pub struct Tree {
     nodes: Vec<FirstNode>,
+    children: Slots,
 }
 
 impl Model for Tree {
     ghost use Rattle.std.specs.Prelude.{List, map};
-    ghost use Rattle.equation_law.specs.Program.{Node, IsTree};
-    ghost use Rattle.equation_law.specs.Trees.{node_of};
+    ghost use Rattle.equation_law.specs.Program.{Node};
+    ghost use Rattle.equation_law.specs.Slots.{kept};
+    ghost use Rattle.equation_law.specs.Trees.{IsKept, node_of};
 
     ghost Value = { List Node };
 
     ghost view = { λ t. map node_of t.nodes.items };
 
-    ghost invariant = { λ t. IsTree (map node_of t.nodes.items) };
+    ghost invariant = { λ t. IsKept (map node_of t.nodes.items) (kept t.children) };
 }
 
+#[tactic(auto, using(crate::proofs::Preordered::tree_some, crate::proofs::Preordered::tree_few))]
 impl Tree {
-    /// The tree of these nodes. It needs the nodes of one tree in preorder; trees have one node so far.
+    /// The tree of these nodes. It needs the nodes of one tree in preorder.
     pub fn of_nodes(alloc: Global, nodes: Vec<FirstNode>) -> Result<Tree, Memory>
         requires { IsTree (map node_of nodes.items) }
         ensures { IfOk result (λ t. t ≡ map node_of nodes.items) }
     {
-        let _ = alloc;
-        Ok(Tree { nodes })
+        let children = children_of(alloc, &nodes)?;
+        Ok(Tree { nodes, children })
     }
 
     /// The number of nodes.
     pub fn len(&self) -> u32
         ensures number { result ≡ length self.now }
+        ensures some { 0 < result }
         ensures few { result ≤ most_nodes }
     {
         self.nodes.len() as u32
@@ -92,5 +113,22 @@ impl Tree {
         ensures { option_map (λ x. x.class) (slice_get self.now n) ≡ Some result }
     {
         self.nodes[n as usize].class
+    }
+
+    /// The child of a node: the node that hangs there at this component, or None where none does.
+    pub fn child(&self, n: u32, k: u32) -> Option<u32>
+        ensures { result ≡ child_in self.now n k }
+    {
+        self.children.get(n, k)
+    }
+
+    /// The code of the token of a node at this component, 0 where the component is no token, or None where
+    /// there is no such node or component.
+    pub fn token(&self, n: u32, k: u32) -> Option<u32>
+        ensures { result ≡ token_in self.now n k }
+    {
+        let node = self.nodes.get(n as usize)?;
+        let code = node.tokens.list().get(k as usize)?;
+        Some(*code)
     }
 }

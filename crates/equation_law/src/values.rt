@@ -1,7 +1,8 @@
 // Values by their structural names.
 ghost use Rattle.std.specs.Prelude.{◌≡◌, pos, Some, None, MatchOption};
 ghost use Rattle.equation_law.specs.Values.{Value, Truth, Int, Node, as_kind, default_of, truth, int, node};
-ghost use Rattle.equation_law.specs.Named.{value_of, value_in, reference_of, IsNoTruth, IsNoInt};
+ghost use Rattle.equation_law.specs.Equations.{source_or_null};
+ghost use Rattle.equation_law.specs.Named.{value_of, value_in, reference_named, IsNoTruth, IsNoInt, IsNoNode};
 
 use attr_types::Kind;
 
@@ -41,7 +42,7 @@ impl PlainValue {
 
     /// The source node; of null and of a value of another type, none.
     pub fn node(self) -> Option<u32>
-        ensures { reference_of result ≡ node (value_of self) }
+        ensures { source_or_null result ≡ node (value_of self) }
     {
         match self {
             PlainValue::Node(n) => Some(n),
@@ -82,6 +83,13 @@ impl PlainValue {
     }
 }
 
+/// The name of a node: null, or the source node of this number.
+#[derive(Clone, Copy, Debug, PartialEq, Eq)]
+pub enum NodeName {
+    Null,
+    Source(u32),
+}
+
 /// A value with structural names of nodes.
 #[derive(Clone, Copy, Debug, PartialEq, Eq)]
 pub struct NamedValue {
@@ -105,6 +113,16 @@ impl NamedValue {
     {
         match self.value {
             PlainValue::Int(z) => Some(z),
+            _ => None,
+        }
+    }
+    /// The name of the node, or None exactly where the value is of another kind.
+    pub fn node(&self) -> Option<NodeName>
+        ensures { MatchOption result (IsNoNode (value_in self.now)) (λ n. value_in self.now ≡ Node (reference_named n)) }
+    {
+        match self.value {
+            PlainValue::Null => Some(NodeName::Null),
+            PlainValue::Node(n) => Some(NodeName::Source(n)),
             _ => None,
         }
     }

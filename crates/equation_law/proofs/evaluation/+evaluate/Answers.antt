@@ -1,15 +1,31 @@
 -- What the forms' parts that were evaluated give.
 use Rattle.std.proofs.Common.{sym, ◌∙◌}
-use Rattle.equation_law.proofs.Forms.{said, boxed, thrown, call_stops, call_goes, not_stops, not_goes, negate_stops, negate_goes, binary_stops, binary_stops_right, binary_goes, and_stops, and_ends, and_stops_right, and_goes, or_stops, or_ends, or_stops_right, or_goes, if_stops, if_then, if_otherwise}
+use Rattle.equation_law.proofs.Forms.{said, boxed, thrown, child_stops, child_goes, token_stops, token_goes, call_stops, call_goes, not_stops, not_goes, negate_stops, negate_goes, binary_stops, binary_stops_right, binary_goes, and_stops, and_ends, and_stops_right, and_goes, or_stops, or_ends, or_stops_right, or_goes, if_stops, if_then, if_otherwise}
 use Rattle.equation_law.proofs.evaluation.+evaluate.Goals as goal
 
-pub returns-in_err-receiver-in-Call : goal.returns-in_err-receiver-in-Call
-returns-in_err-receiver-in-Call t c =
-    thrown c.from_residual.ensures (said c.in-Call.is (call_stops (boxed c.deref.ensures c.in_err-receiver-in-Call.ensures)))
+pub returns-in_err-evaluate-in-Child : goal.returns-in_err-evaluate-in-Child
+returns-in_err-evaluate-in-Child t c =
+    thrown c.from_residual.ensures (said c.in-Child.is (child_stops (boxed c.deref.ensures c.in_err-evaluate-in-Child.ensures)))
 
-pub returns-in_ok-receiver-in-Call : goal.returns-in_ok-receiver-in-Call
-returns-in_ok-receiver-in-Call t c =
-    said c.in-Call.is (call_goes (boxed c.deref.ensures c.in_ok-receiver-in-Call.ensures) c.call.ensures)
+pub returns-in_ok-evaluate-in-Child : goal.returns-in_ok-evaluate-in-Child
+returns-in_ok-evaluate-in-Child t c =
+    said c.in-Child.is (child_goes (boxed c.deref.ensures c.in_ok-evaluate-in-Child.ensures) c.child_of.ensures)
+
+pub returns-in_err-evaluate-in-Token : goal.returns-in_err-evaluate-in-Token
+returns-in_err-evaluate-in-Token t c =
+    thrown c.from_residual-in_err-evaluate-in-Token.ensures (said c.in-Token.is (token_stops (boxed c.deref-in-Token.ensures c.in_err-evaluate-in-Token.ensures)))
+
+pub returns-in_ok-evaluate-in-Token : goal.returns-in_ok-evaluate-in-Token
+returns-in_ok-evaluate-in-Token t c =
+    said c.in-Token.is (token_goes (boxed c.deref-in-Token.ensures c.in_ok-evaluate-in-Token.ensures) c.token_of.ensures)
+
+pub returns-in_err-evaluate-in-Call : goal.returns-in_err-evaluate-in-Call
+returns-in_err-evaluate-in-Call t c =
+    thrown c.from_residual-in_err-evaluate-in-Call.ensures (said c.in-Call.is (call_stops (boxed c.deref-in-Call.ensures c.in_err-evaluate-in-Call.ensures)))
+
+pub returns-in_ok-evaluate-in-Call : goal.returns-in_ok-evaluate-in-Call
+returns-in_ok-evaluate-in-Call t c =
+    said c.in-Call.is (call_goes (boxed c.deref-in-Call.ensures c.in_ok-evaluate-in-Call.ensures) c.call.ensures)
 
 pub returns-in_err-value-in-Not : goal.returns-in_err-value-in-Not
 returns-in_err-value-in-Not t c =

@@ -1,6 +1,7 @@
 -- The attributes so far stand in the list.
 use Rattle.std.proofs.Common.{◌≡◌, ◌+◌, ◌*◌, ◌≤◌, ◌++◌, drop, length, map}
-use Rattle.equation_law.specs.Program.{attribute_instances, most_nodes}
+use Rattle.equation_law.specs.Preorder.{most_nodes}
+use Rattle.equation_law.specs.Program.{attribute_instances}
 use Rattle.equation_law.specs.Systems.{program_of}
 use Rattle.equation_law.specs.Named.{instance_of}
 use Rattle.equation_law.proofs.listing.push_attributes.Given as goal

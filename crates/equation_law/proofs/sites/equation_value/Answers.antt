@@ -8,8 +8,8 @@ returns-in-None c = equation_none (program_of c.args.system.now) _ (instance_of 
 
 pub returns-in-Err : goal.returns-in-Err
 returns-in-Err c =
-    equation_stuck (program_of c.args.system.now) _ (instance_of c.args.name) _ _ c.in-Some.ensures.1 c.in-Err.ensures
+    equation_stuck (program_of c.args.system.now) _ (instance_of c.args.name) _ _ c.in-Some.ensures c.in-Err.ensures
 
 pub returns-in-Ok : goal.returns-in-Ok
 returns-in-Ok c =
-    equation_done (program_of c.args.system.now) _ (instance_of c.args.name) _ _ _ c.in-Some.ensures.1 c.in-Ok.ensures c.read_as.ensures
+    equation_done (program_of c.args.system.now) _ (instance_of c.args.name) _ _ _ c.in-Some.ensures c.in-Ok.ensures c.read_as.ensures
