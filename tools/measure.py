@@ -40,6 +40,39 @@ def attributes(count):
     yield b"}\n"
 
 
+def chained(count):
+    yield b"aspect A {\n"
+    for number in range(count - 1):
+        yield b"syn int N.v%d() = v%d() + 1;\n" % (number, number + 1)
+    yield b"syn int N.v%d() = 1;\n}\n" % (count - 1)
+
+
+def halved():
+    """A root above a tree in which each node but a leaf has two children: 65,536 nodes in all."""
+    rules = [b"A0 ::= A1;\n"] + [b"A%d ::= x:A%d y:A%d;\n" % (k, k + 1, k + 1) for k in range(1, 16)]
+    tree = b"A16(1)"
+    for k in range(15, 0, -1):
+        tree = b"A%d(%s, %s)" % (k, tree, tree)
+    sums = [b"syn int A%d.s() = getx().s() + gety().s();\n" % k for k in range(1, 16)]
+    return {
+        "g.ast": rules + [b"A16 ::= <V:int>;\n"],
+        "a.jrag": [b"aspect A {\nsyn int A0.s() = getA1().s();\n"] + sums + [b"syn int A16.s() = getV();\n}\n"],
+        "t.tree": [b"A0(%s)" % tree],
+        "q.txt": [b"@0.s()\n"],
+    }
+
+
+def nested():
+    """As many levels as there may be classes, and a sum over all of them."""
+    levels = range(255)
+    return {
+        "g.ast": [b"C%d ::= c:C%d <V:int>;\n" % (k, k + 1) for k in levels] + [b"C255 ::= <V:int>;\n"],
+        "a.jrag": [b"aspect A {\n"] + [b"syn int C%d.s() = getc().s() + getV();\n" % k for k in levels] + [b"syn int C255.s() = getV();\n}\n"],
+        "t.tree": [b"C%d(" % k for k in levels] + [b"C255(1)"] + [b", 1)" for k in levels],
+        "q.txt": [b"@0.s()\n"],
+    }
+
+
 CASES = [
     ("the first example", {}),
     ("grammar: blanks", {"g.ast": filled(b" ")}),
@@ -50,8 +83,13 @@ CASES = [
     ("grammar: /*", {"g.ast": filled(b"/*")}),
     ("aspects: an expression of (", {"a.jrag": filled(b"(", ASPECT)}),
     ("aspects: an expression of -", {"a.jrag": filled(b"-", ASPECT)}),
+    ("aspects: an expression of v().", {"a.jrag": filled(b"v().", ASPECT)}),
     ("aspects: empty ones", {"a.jrag": filled(b"aspect A {}\n")}),
     ("tree: N(", {"t.tree": filled(b"N(")}),
+    ("tree: N( of a class with itself as its child", {"g.ast": [b"N ::= N;"], "t.tree": filled(b"N(")}),
+    ("tree: 65,536 nodes, the sum of 32,768 tokens", halved()),
+    ("tree: 256 levels, the sum of 256 tokens", nested()),
+    ("1,024 attributes, each calls the next", {"a.jrag": chained(1024), "q.txt": [b"@0.v0()"]}),
     ("queries: line feeds", {"q.txt": filled(b"\n")}),
     ("queries: 65,536", {"q.txt": repeated(b"@0.v()\n", 65536)}),
     ("1,024 attributes, 65,536 queries for the last", {"a.jrag": attributes(1024), "q.txt": repeated(b"@0.v1023()\n", 65536)}),

@@ -4,13 +4,9 @@ use Rattle.rag_io.specs.declared.token.TokenKind.TheVariants.{End}
 use Rattle.rag_io.specs.Tokens.{Lexed}
 use Rattle.query_runner.specs.Aspects as aspects
 use Rattle.query_runner.specs.Queries as queries
-use Rattle.query_runner.specs.Trees as trees
 
 pub aspects_end : (t : Lexed) → t.kind ≡ End → aspects.aspect_class t ≡ 0
 aspects_end t is = ap (λ k. aspects.class_of_parts k t.text) is
-
-pub tree_ends : (t : Lexed) → t.kind ≡ End → trees.tree_class t ≡ 0
-tree_ends t is = ap (λ k. trees.class_of_parts k t.text) is
 
 pub query_ends : (t : Lexed) → t.kind ≡ End → queries.query_class t ≡ 0
 query_ends t is = ap (λ k. queries.class_of_parts k t.text) is

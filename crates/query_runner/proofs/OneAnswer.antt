@@ -1,6 +1,6 @@
 -- For some words and the files that a shelf holds there is one answer.
-use Rattle.std.proofs.Common.{◌≡◌, ℕ, List, ◌++◌, length, Some, None, codes, refl, sym, ap, subst, ◌∙◌, arith}
-use Rattle.std.specs.Fmt.{signed_decimal}
+use Rattle.std.proofs.Common.{◌≡◌, ℕ, List, [], ◌∷◌, ◌++◌, length, Some, None, codes, refl, sym, ap, subst, ◌∙◌, arith}
+use Rattle.std.specs.Fmt.{decimal, signed_decimal}
 use Rattle.rag_io.specs.Tokens.{Lexed}
 use Rattle.rag_io.specs.Outside.{Named, IsLong, IsShort}
 use Rattle.rag_io.proofs.Readings.{one_list}
@@ -8,13 +8,13 @@ use Rattle.ast_grammar.specs.FirstForm.{SaysGrammar}
 use Rattle.ast_grammar.specs.Grammar.{Class}
 use Rattle.attr_types.specs.Expression.{Expression}
 use Rattle.attr_types.specs.Rules.{Item, RuleSet, rules_of}
-use Rattle.equation_law.specs.Names.{Query}
+use Rattle.equation_law.specs.Names.{Null, At, Source, Query}
 use Rattle.equation_law.specs.Program.{Node, Program}
-use Rattle.equation_law.specs.Values.{Value}
-use Rattle.equation_law.proofs.Solution.{one}
+use Rattle.equation_law.specs.Values.{Value, Truth, Int, Text, Node as AsNode, Texts, Nodes}
+use Rattle.equation_law.proofs.Solution.{loopless, one}
 use Rattle.query_runner.specs.Aspects.{SaysAspects}
 use Rattle.query_runner.specs.Files.{Contents, File, IsNotBuilt, ReadsGrammar, ReadsItems, ReadsTree, SaysProgram, no_grammar, no_items, no_tree, no_queries}
-use Rattle.query_runner.specs.Output.{Answers, AreReplies, HoldsAll, HoldsShort, IsFirstLong, IsRefused, IsReplyText, Output, truth_text, here, in_order, later, misused, none, not_built, of_int, of_truth, refused, replied, reply, too_long}
+use Rattle.query_runner.specs.Output.{Answers, AreReplies, HoldsAll, HoldsShort, IsFirstLong, IsRefused, IsReplyText, Output, truth_text, here, in_order, later, misused, looped, none, not_built, of_int, of_null, of_source, of_truth, refused, replied, reply, too_long}
 use Rattle.query_runner.specs.Queries.{SaysQueries}
 use Rattle.query_runner.specs.Trees.{SaysTree}
 use Rattle.query_runner.specs.Words.{FileNames, names_of}
@@ -47,9 +47,10 @@ module _ (held : Contents) {g h : List Class} (a : ReadsGrammar held.ast g) (b :
   both_trees : {s t : List Node} → ReadsTree g held.tree s → ReadsTree h held.tree t → s ≡ t
   both_trees r s = same_tree r (tree_there s)
 
--- queries under the same rules and the same tree
-queries_there : {bytes : List ℕ} {r q : RuleSet} {s t : List Node} {es : List Expression} → r ≡ q → s ≡ t → SaysQueries q t bytes es → SaysQueries r s bytes es
-queries_there {bytes} {r} {q} {s} {t} {es} e f h = subst (λ (x : RuleSet). SaysQueries x s bytes es) (sym e) (subst (λ (x : List Node). SaysQueries q x bytes es) (sym f) h)
+-- queries under the same grammar, the same rules and the same tree
+queries_there : {bytes : List ℕ} {g h : List Class} {r q : RuleSet} {s t : List Node} {es : List Expression} → g ≡ h → r ≡ q → s ≡ t → SaysQueries h q t bytes es → SaysQueries g r s bytes es
+queries_there {bytes} {g} {h} {r} {q} {s} {t} {es} d e f says =
+    subst (λ (x : List Class). SaysQueries x r s bytes es) (sym d) (subst (λ (x : RuleSet). SaysQueries h x s bytes es) (sym e) (subst (λ (x : List Node). SaysQueries h q x bytes es) (sym f) says))
 
 -- a program by its parts
 program : List Class → RuleSet → List Node → List (List ℕ) → List Expression → Program
@@ -66,21 +67,39 @@ same_program held p q a b =
     let rules : p.rules ≡ q.rules = a.rules ∙ ap rules_of items ∙ sym b.rules in
     let tree : p.tree ≡ q.tree = both_trees held a.grammar b.grammar a.tree b.tree in
     let texts : p.texts ≡ q.texts = a.texts ∙ sym b.texts in
-    let queries : p.queries ≡ q.queries = one_queries p.rules p.tree a.queries (queries_there rules tree b.queries) in
+    let queries : p.queries ≡ q.queries = one_queries p.grammar p.rules p.tree a.queries (queries_there grammar rules tree b.queries) in
     same_parts grammar rules tree texts queries
 
-one_text : {v w : Value} {t u : List ℕ} → v ≡ w → IsReplyText v t → IsReplyText w u → t ≡ u
-one_text e (of_truth a) (of_truth b) = ap truth_text cc
-one_text e (of_truth a) (of_int z) = absurd cc
-one_text e (of_int y) (of_truth b) = absurd cc
-one_text e (of_int y) (of_int z) = ap signed_decimal cc
+-- the text of a value in a reply
+reply_text : Value → List ℕ
+reply_text (Truth b) = truth_text b
+reply_text (Int z) = signed_decimal z
+reply_text (Text t) = []
+reply_text (AsNode Null) = codes "null"
+reply_text (AsNode (At (Source k))) = codes "@" ++ decimal k
+reply_text (Texts s) = []
+reply_text (Nodes s) = []
 
+is_text : {v : Value} {t : List ℕ} → IsReplyText v t → t ≡ reply_text v
+unfolding reply_text
+is_text (of_truth b) = refl
+is_text (of_int z) = refl
+is_text of_null = refl
+is_text (of_source k) = refl
+
+one_text : {v w : Value} {t u : List ℕ} → v ≡ w → IsReplyText v t → IsReplyText w u → t ≡ u
+one_text e a b = is_text a ∙ ap reply_text e ∙ sym (is_text b)
+
+-- a query has a value or a loop, and not both
 one_replies : (p : Program) {q : ℕ} {es : List Expression} {t u : List ℕ} → AreReplies p q es t → AreReplies p q es u → t ≡ u
 one_replies p none none = refl
 one_replies p (reply {q = q} {v = v} {text = text} {rest = rest} a is more) (reply {v = w} {text = other} {rest = behind} b says further) =
     let texts : text ≡ other = one_text (one p (Query q) v w a b) is says in
     let rests : rest ≡ behind = one_replies p more further in
     cc
+one_replies p (reply {q = q} {v = v} a is more) (looped loop further) = absurd (loopless p (Query q) v a loop)
+one_replies p (looped loop more) (reply {q = q} {v = v} a is further) = absurd (loopless p (Query q) v a loop)
+one_replies p (looped loop more) (looped again further) = ap (λ rest. codes "circular" ++ 10 ∷ rest) (one_replies p more further)
 
 -- a file is held once
 same_bytes : {files : List Named} {name a b : List ℕ} → HoldsShort files name a → HoldsShort files name b → a ≡ b
@@ -144,7 +163,7 @@ says_or_refuses held p a (no_grammar never) = never _ a.grammar
 says_or_refuses held p a (no_items g never) = never _ (items_there held g a.grammar a.aspects)
 says_or_refuses held p a (no_tree g i never) = never _ (tree_there held g a.grammar a.tree)
 says_or_refuses held p a (no_queries g i t never) =
-    never _ (queries_there (ap rules_of (both_items held g a.grammar i a.aspects) ∙ sym a.rules) (both_trees held g a.grammar t a.tree) a.queries)
+    never _ (queries_there (same_grammar g a.grammar) (ap rules_of (both_items held g a.grammar i a.aspects) ∙ sym a.rules) (both_trees held g a.grammar t a.tree) a.queries)
 
 same_names : (words : List (List ℕ)) {n m : FileNames} → names_of words ≡ Some n → names_of words ≡ Some m → n ≡ m
 same_names words {n = n} {m = m} a b = let e : Some n ≡ Some m = sym a ∙ b in cc

@@ -53,17 +53,17 @@ module _ (held : Contents) (unread : Unread) (refusal : Refusal) where
   ] answer is
 
   pub queries_refused : {g : List Class} {rules : RuleSet} {tree : List Node} → ReadsGrammar held.ast g → ReadsRules g held.jrag rules → ReadsTree g held.tree tree
-      → AnswersAsked rules tree held.queries (Err unread) → Refuses files.Queries unread refusal → IsRefusal held refusal
-  queries_refused {g} {rules} {tree} grammar reads source answer is = elim unread as (λ u. AnswersAsked rules tree held.queries (Err u) → Refuses files.Queries u refusal → IsRefusal held refusal) [
-    | NotBuilt ↦ λ a e. subst (IsRefusal held) (sym e) (no_queries grammar reads.reads source (λ es s. a es (subst (λ (r : RuleSet). SaysQueries r tree held.queries es) (sym reads.are) s)))
+      → AnswersAsked g rules tree held.queries (Err unread) → Refuses files.Queries unread refusal → IsRefusal held refusal
+  queries_refused {g} {rules} {tree} grammar reads source answer is = elim unread as (λ u. AnswersAsked g rules tree held.queries (Err u) → Refuses files.Queries u refusal → IsRefusal held refusal) [
+    | NotBuilt ↦ λ a e. subst (IsRefusal held) (sym e) (no_queries grammar reads.reads source (λ es s. a es (subst (λ (r : RuleSet). SaysQueries g r tree held.queries es) (sym reads.are) s)))
     | Memory ↦ λ a e. subst (IsRefusal held) (sym e) tt
   ] answer is
 
 -- no more queries than lines
-lines_most : {rules : RuleSet} {tree : List Node} {lines : List (List ℕ)} {es : List Expression} → SaysLines rules tree lines es → length es ≤ length lines
+lines_most : {g : List Class} {rules : RuleSet} {tree : List Node} {lines : List (List ℕ)} {es : List Expression} → SaysLines g rules tree lines es → length es ≤ length lines
 lines_most over = omega arith
 lines_most (silent e more) = let m = lines_most more in omega arith
 lines_most (query s scanned says more) = let m = lines_most more in omega arith
 
-pub few_queries : {rules : RuleSet} {tree : List Node} {bytes : List ℕ} {es : List Expression} → SaysQueries rules tree bytes es → length es ≤ most_replies
+pub few_queries : {g : List Class} {rules : RuleSet} {tree : List Node} {bytes : List ℕ} {es : List Expression} → SaysQueries g rules tree bytes es → length es ≤ most_replies
 few_queries s = let m = lines_most s.said in let f = s.few in omega arith

@@ -1,7 +1,7 @@
 -- The grammar `aspects`, from tools/aspects.grammar.
--- Tokens: 0 End, 1 Name, 2 Int, 3 'aspect', 4 'syn', 5 'boolean', 6 'int', 7 'true', 8 'false', 9 '{', 10 '}', 11 '.', 12 '(', 13 ')', 14 ';', 15 '=', 16 '?', 17 ':', 18 '||', 19 '&&', 20 '==', 21 '!=', 22 '<', 23 '<=', 24 '>', 25 '>=', 26 '+', 27 '-', 28 '*', 29 '!', 30 Other
--- Nonterminals: 0 file, 1 aspects, 2 aspect, 3 items, 4 item, 5 type, 6 expr, 7 choice, 8 or, 9 more_or, 10 and, 11 more_and, 12 equality, 13 more_equality, 14 relation, 15 more_relation, 16 sum, 17 more_sum, 18 product, 19 more_product, 20 unary, 21 primary
--- Actions: 1 truth_kind, 2 int_kind, 3 class, 4 name, 5 begin, 6 item, 7 if, 8 or, 9 and, 10 equal, 11 differ, 12 less, 13 at_most, 14 greater, 15 at_least, 16 add, 17 subtract, 18 multiply, 19 not, 20 negate, 21 yes, 22 no, 23 number
+-- Tokens: 0 End, 1 Name, 2 Int, 3 'aspect', 4 'syn', 5 'boolean', 6 'int', 7 'true', 8 'false', 9 '{', 10 '}', 11 '.', 12 '(', 13 ')', 14 ';', 15 '=', 16 '?', 17 ':', 18 '||', 19 '&&', 20 '==', 21 '!=', 22 '<', 23 '<=', 24 '>', 25 '>=', 26 '+', 27 '-', 28 '*', 29 '!', 30 Other, 31 'this'
+-- Nonterminals: 0 file, 1 aspects, 2 aspect, 3 items, 4 item, 5 type, 6 expr, 7 choice, 8 or, 9 more_or, 10 and, 11 more_and, 12 equality, 13 more_equality, 14 relation, 15 more_relation, 16 sum, 17 more_sum, 18 product, 19 more_product, 20 unary, 21 postfix, 22 more_postfix, 23 primary
+-- Actions: 1 truth_kind, 2 int_kind, 3 class, 4 name, 5 begin, 6 item, 7 if, 8 or, 9 and, 10 equal, 11 differ, 12 less, 13 at_most, 14 greater, 15 at_least, 16 add, 17 subtract, 18 multiply, 19 not, 20 negate, 21 yes, 22 no, 23 number, 24 this, 25 call, 26 call_this
 use Rattle.std.specs.Prelude.{List, [], ◌∷◌}
 use Rattle.ll_parser.specs.declared.symbols.Symbol.TheVariants.{Terminal, Nonterminal, Action}
 use Rattle.ll_parser.specs.Grammar.{Production}
@@ -82,14 +82,24 @@ aspects_grammar =
     record { of = 20; body = Terminal 29 ∷ Nonterminal 20 ∷ Action 19 ∷ [] } ∷
     -- 36. unary: '-' unary @negate
     record { of = 20; body = Terminal 27 ∷ Nonterminal 20 ∷ Action 20 ∷ [] } ∷
-    -- 37. unary: primary
+    -- 37. unary: postfix
     record { of = 20; body = Nonterminal 21 ∷ [] } ∷
-    -- 38. primary: 'true' @yes
-    record { of = 21; body = Terminal 7 ∷ Action 21 ∷ [] } ∷
-    -- 39. primary: 'false' @no
-    record { of = 21; body = Terminal 8 ∷ Action 22 ∷ [] } ∷
-    -- 40. primary: Int @number
-    record { of = 21; body = Terminal 2 ∷ Action 23 ∷ [] } ∷
-    -- 41. primary: '(' expr ')'
-    record { of = 21; body = Terminal 12 ∷ Nonterminal 6 ∷ Terminal 13 ∷ [] } ∷
+    -- 38. postfix: primary more_postfix
+    record { of = 21; body = Nonterminal 23 ∷ Nonterminal 22 ∷ [] } ∷
+    -- 39. more_postfix: '.' Name '(' ')' @call more_postfix
+    record { of = 22; body = Terminal 11 ∷ Terminal 1 ∷ Terminal 12 ∷ Terminal 13 ∷ Action 25 ∷ Nonterminal 22 ∷ [] } ∷
+    -- 40. more_postfix:
+    record { of = 22; body = [] } ∷
+    -- 41. primary: 'true' @yes
+    record { of = 23; body = Terminal 7 ∷ Action 21 ∷ [] } ∷
+    -- 42. primary: 'false' @no
+    record { of = 23; body = Terminal 8 ∷ Action 22 ∷ [] } ∷
+    -- 43. primary: 'this' @this
+    record { of = 23; body = Terminal 31 ∷ Action 24 ∷ [] } ∷
+    -- 44. primary: Int @number
+    record { of = 23; body = Terminal 2 ∷ Action 23 ∷ [] } ∷
+    -- 45. primary: '(' expr ')'
+    record { of = 23; body = Terminal 12 ∷ Nonterminal 6 ∷ Terminal 13 ∷ [] } ∷
+    -- 46. primary: Name '(' ')' @call_this
+    record { of = 23; body = Terminal 1 ∷ Terminal 12 ∷ Terminal 13 ∷ Action 26 ∷ [] } ∷
     []

@@ -50,10 +50,10 @@ AnswersSource g bytes (Err NotBuilt) = (tree : List Node) → ReadsTree g bytes 
 AnswersSource g bytes (Err Memory) = Unit {0}
 
 -- The queries that the bytes say; or they say none.
-abbrev pub AnswersAsked : RuleSet → List Node → List ℕ → Result KeptQueries Unread → Type 0
-AnswersAsked rules tree bytes (Ok queries) = SaysQueries rules tree bytes (queries_in queries)
-AnswersAsked rules tree bytes (Err NotBuilt) = (es : List Expression) → SaysQueries rules tree bytes es → ⊥
-AnswersAsked rules tree bytes (Err Memory) = Unit {0}
+abbrev pub AnswersAsked : List Class → RuleSet → List Node → List ℕ → Result KeptQueries Unread → Type 0
+AnswersAsked g rules tree bytes (Ok queries) = SaysQueries g rules tree bytes (queries_in queries)
+AnswersAsked g rules tree bytes (Err NotBuilt) = (es : List Expression) → SaysQueries g rules tree bytes es → ⊥
+AnswersAsked g rules tree bytes (Err Memory) = Unit {0}
 
 -- the refusal of a file
 abbrev pub Refuses : FileKind → Unread → Refusal → Type 0

@@ -43,7 +43,7 @@ pub record SaysProgram (held : Contents) (p : Program) : Type 0 where
   pub rules : p.rules ≡ rules_of items
   pub tree : ReadsTree p.grammar held.tree p.tree
   pub texts : p.texts ≡ [] ∷ []
-  pub queries : SaysQueries p.rules p.tree held.queries p.queries
+  pub queries : SaysQueries p.grammar p.rules p.tree held.queries p.queries
 
 -- one of the four files
 pub data File : Type 0 where
@@ -59,4 +59,4 @@ pub data IsNotBuilt (held : Contents) : File → Type 0 where
   no_tree : {g : List Class} {items : List Item} → ReadsGrammar held.ast g → ReadsItems g held.jrag items
       → ((tree : List Node) → ReadsTree g held.tree tree → ⊥) → IsNotBuilt held Tree
   no_queries : {g : List Class} {items : List Item} {tree : List Node} → ReadsGrammar held.ast g → ReadsItems g held.jrag items → ReadsTree g held.tree tree
-      → ((es : List Expression) → SaysQueries (rules_of items) tree held.queries es → ⊥) → IsNotBuilt held Queries
+      → ((es : List Expression) → SaysQueries g (rules_of items) tree held.queries es → ⊥) → IsNotBuilt held Queries

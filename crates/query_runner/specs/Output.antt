@@ -1,10 +1,11 @@
 -- What the program is to write.
 use Rattle.std.specs.Prelude.{◌≡◌, ℕ, suc, ◌≤◌, ℤ, Bool, true, false, List, [], ◌∷◌, ◌++◌, Some, None, codes, length}
-use Rattle.std.specs.Fmt.{signed_decimal}
+use Rattle.std.specs.Fmt.{decimal, signed_decimal}
 use Rattle.rag_io.specs.Outside.{Named, content_of, longest_file, IsLong, IsShort}
 use Rattle.attr_types.specs.Expression.{Expression}
-use Rattle.equation_law.specs.Names.{Query}
-use Rattle.equation_law.specs.Values.{Value, Truth, Int}
+use Rattle.equation_law.specs.Loops.{HasLoop}
+use Rattle.equation_law.specs.Names.{Null, At, Source, Query}
+use Rattle.equation_law.specs.Values.{Value, Truth, Int, Node}
 use Rattle.equation_law.specs.Program.{Program}
 use Rattle.equation_law.specs.Equations.{HasValue}
 use Rattle.query_runner.specs.Files.{Contents, SaysProgram, File, Ast, Jrag, Tree, Queries, IsNotBuilt}
@@ -14,16 +15,21 @@ abbrev pub truth_text : Bool → List ℕ
 truth_text true = codes "true"
 truth_text false = codes "false"
 
--- the text of a value in a reply
+-- the text of a value in a reply; a source node is `@` and its number
 pub data IsReplyText : Value → List ℕ → Type 0 where
   of_truth : (b : Bool) → IsReplyText (Truth b) (truth_text b)
   of_int : (z : ℤ) → IsReplyText (Int z) (signed_decimal z)
+  of_null : IsReplyText (Node Null) (codes "null")
+  of_source : (k : ℕ) → IsReplyText (Node (At (Source k))) (codes "@" ++ decimal k)
 
--- One line for each query from the q-th on: the text of its value in the solution, and a line feed.
+-- One line for each query from the q-th on: the text of its value in the solution, or `circular` where it has a
+-- loop, and a line feed.
 pub data AreReplies (p : Program) : ℕ → List Expression → List ℕ → Type 0 where
   none : {q : ℕ} → AreReplies p q [] []
   reply : {q : ℕ} {e : Expression} {es : List Expression} {v : Value} {text rest : List ℕ} → HasValue p (Query q) v → IsReplyText v text
       → AreReplies p (suc q) es rest → AreReplies p q (e ∷ es) (text ++ 10 ∷ rest)
+  looped : {q : ℕ} {e : Expression} {es : List Expression} {rest : List ℕ} → HasLoop p (Query q)
+      → AreReplies p (suc q) es rest → AreReplies p q (e ∷ es) (codes "circular" ++ 10 ∷ rest)
 
 -- The shelf holds these bytes under a name, and they aren't too many.
 pub record HoldsShort (files : List Named) (name bytes : List ℕ) : Type 0 where

@@ -1,4 +1,4 @@
--- The queries that are read so far: lines `@NUMBER.NAME()`.
+-- The queries that are read so far: lines `@NUMBER.NAME()`, where the name is an attribute's or an accessor's.
 use Rattle.std.specs.Prelude.{◌≡◌, ◌==◌, ℕ, ◌≤◌, List, [], ◌∷◌, ◌++◌, Bool, true, false, not, Option, Some, None, Result, Ok, Err, Vec, map, length, codes, if◌then◌else◌, slice_get}
 use Rattle.std.specs.List.{AllPass}
 use Rattle.std.specs.Option.{option_map}
@@ -11,8 +11,10 @@ use Rattle.rag_io.specs.declared.token.TokenKind.{TokenKind}
 use Rattle.rag_io.specs.declared.token.TokenKind.TheVariants as tokens
 use Rattle.ll_parser.specs.Grammar.{IsSentence}
 use Rattle.ast_grammar.specs.declared.grammar.ClassId.{ClassId}
+use Rattle.ast_grammar.specs.Grammar.{Class}
 use Rattle.attr_types.specs.declared.queries.QueryEq.{QueryEq}
-use Rattle.attr_types.specs.Expression.{Expression, Call, Source}
+use Rattle.attr_types.specs.Accessors.{named_on}
+use Rattle.attr_types.specs.Expression.{Expression, Source}
 use Rattle.attr_types.specs.Queries.{query_of}
 use Rattle.attr_types.specs.Rules.{RuleSet, attribute_named}
 use Rattle.equation_law.specs.Program.{Node}
@@ -35,15 +37,13 @@ class_of_parts tokens.End text = 0
 abbrev pub query_class : Lexed → ℕ
 query_class t = class_of_parts t.kind t.text
 
--- The tokens of a line say this query: the attribute of that name of the node's class, at the node.
-pub record SaysQuery (rules : RuleSet) (tree : List Node) (ts : List Lexed) (e : Expression) : Type 0 where
+-- The tokens of a line say this query: the accessor or the attribute of that name of the node's class, at the node.
+pub record SaysQuery (g : List Class) (rules : RuleSet) (tree : List Node) (ts : List Lexed) (e : Expression) : Type 0 where
   pub events : List ℕ
   pub sentence : IsSentence query_grammar 0 (map query_class ts) events
   pub class : ClassId
-  pub attribute : ℕ
   pub node : option_map (λ n. n.class) (slice_get tree (decimal (text_at ts 1))) ≡ Some class
-  pub named : attribute_named rules class (text_at ts 3) ≡ Some attribute
-  pub is : e ≡ Call attribute (Source (decimal (text_at ts 1)))
+  pub is : named_on g (attribute_named rules) class (text_at ts 3) (Source (decimal (text_at ts 1))) ≡ Some e
 
 -- no byte of a line is a line feed
 abbrev pub is_inside : ℕ → Bool
@@ -62,24 +62,24 @@ is_silent [] = true
 is_silent (b ∷ line) = if is_white b then is_silent line else b == 35
 
 -- The lines say these queries, one for each that isn't silent.
-pub data SaysLines (rules : RuleSet) (tree : List Node) : List (List ℕ) → List Expression → Type 0 where
-  over : SaysLines rules tree [] []
-  silent : {line : List ℕ} {lines : List (List ℕ)} {es : List Expression} → is_silent line ≡ true → SaysLines rules tree lines es → SaysLines rules tree (line ∷ lines) es
+pub data SaysLines (g : List Class) (rules : RuleSet) (tree : List Node) : List (List ℕ) → List Expression → Type 0 where
+  over : SaysLines g rules tree [] []
+  silent : {line : List ℕ} {lines : List (List ℕ)} {es : List Expression} → is_silent line ≡ true → SaysLines g rules tree lines es → SaysLines g rules tree (line ∷ lines) es
   query : {line : List ℕ} {lines : List (List ℕ)} {e : Expression} {es : List Expression} {ts : List Lexed} → is_silent line ≡ false
-      → IsTokens first_place line ts → SaysQuery rules tree ts e → SaysLines rules tree lines es → SaysLines rules tree (line ∷ lines) (e ∷ es)
+      → IsTokens first_place line ts → SaysQuery g rules tree ts e → SaysLines g rules tree lines es → SaysLines g rules tree (line ∷ lines) (e ∷ es)
 
 abbrev pub most_lines : ℕ
 most_lines = 65536
 
 -- The bytes of a query file say these queries.
-pub record SaysQueries (rules : RuleSet) (tree : List Node) (bytes : List ℕ) (es : List Expression) : Type 0 where
+pub record SaysQueries (g : List Class) (rules : RuleSet) (tree : List Node) (bytes : List ℕ) (es : List Expression) : Type 0 where
   pub lines : List (List ℕ)
   pub are_lines : AreLines bytes lines
   pub few : length lines ≤ most_lines
-  pub said : SaysLines rules tree lines es
+  pub said : SaysLines g rules tree lines es
 
 -- what reading the bytes of a query file answers
-abbrev pub AnswersQueries : RuleSet → List Node → List ℕ → Result (Option (Vec QueryEq Global)) Memory → Type 0
-AnswersQueries rules tree bytes (Ok (Some list)) = SaysQueries rules tree bytes (map query_of list.items)
-AnswersQueries rules tree bytes (Ok None) = (es : List Expression) → SaysQueries rules tree bytes es → ⊥
-AnswersQueries rules tree bytes (Err m) = Unit {0}
+abbrev pub AnswersQueries : List Class → RuleSet → List Node → List ℕ → Result (Option (Vec QueryEq Global)) Memory → Type 0
+AnswersQueries g rules tree bytes (Ok (Some list)) = SaysQueries g rules tree bytes (map query_of list.items)
+AnswersQueries g rules tree bytes (Ok None) = (es : List Expression) → SaysQueries g rules tree bytes es → ⊥
+AnswersQueries g rules tree bytes (Err m) = Unit {0}

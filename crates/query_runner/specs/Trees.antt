@@ -1,40 +1,146 @@
--- The trees that are read so far: one node, `NAME()`, of the first class.
-use Rattle.std.specs.Prelude.{◌≡◌, ℕ, List, [], ◌∷◌, Bool, true, false, Result, Ok, Err, map, codes, if◌then◌else◌}
+-- The trees that are read so far: nodes with integers and truth values as tokens.
+use Rattle.std.specs.Prelude.{◌≡◌, ◌==◌, ℕ, zero, suc, ◌+◌, ◌-◌, ◌^◌, ◌≤◌, nat_le, List, [], ◌∷◌, ◌++◌, Bool, true, false, Option, Some, None, codes, length, slice_get, if◌then◌else◌}
 use Rattle.std.specs.Str.{bytes_eq}
 use Rattle.rag_io.specs.Tokens.{Lexed}
-use Rattle.rag_io.specs.declared.Memory.{Memory}
 use Rattle.rag_io.specs.declared.token.TokenKind.{TokenKind}
 use Rattle.rag_io.specs.declared.token.TokenKind.TheVariants as tokens
-use Rattle.ll_parser.specs.Grammar.{IsSentence}
-use Rattle.ast_grammar.specs.Grammar.{Class}
-use Rattle.equation_law.specs.Program.{Node, lone}
-use Rattle.query_runner.specs.TreeGrammar.{tree_grammar}
-use Rattle.query_runner.specs.Tokens.{text_at}
+use Rattle.ast_grammar.specs.declared.grammar.ClassId.{ClassId}
+use Rattle.ast_grammar.specs.declared.grammar.Shape.{Shape}
+use Rattle.ast_grammar.specs.declared.grammar.Shape.TheVariants as shapes
+use Rattle.ast_grammar.specs.Grammar.{Class, Component, components_of}
+use Rattle.equation_law.specs.Preorder.{Open, Subtree, Token, Told, TellsNode, TellsToken, part_of, nodes_told, most_nodes}
+use Rattle.equation_law.specs.Program.{Node}
+use Rattle.query_runner.specs.declared.trees.Sign.{Sign}
+use Rattle.query_runner.specs.declared.trees.Sign.TheVariants as signs
+use Rattle.query_runner.specs.Tokens.{decimal, greatest}
 
-abbrev pub class_of_parts : TokenKind → List ℕ → ℕ
-class_of_parts tokens.Name text = 1
-class_of_parts tokens.Int text = 4
-class_of_parts tokens.Text text = 4
-class_of_parts tokens.Symbol text = if bytes_eq text (codes "(") then 2 else if bytes_eq text (codes ")") then 3 else 4
-class_of_parts tokens.End text = 0
+-- what the rest of a text has to write: a part of the tree, the digits of an integer whose `-` was read (with the
+-- node and the component whose token it is), a sign, or the end of the text
+pub data Wanted : Type 0 where
+  Part : Open → Wanted
+  Digits : ℕ → ℕ → Wanted
+  Marked : Sign → Wanted
+  Finish : Wanted
 
-abbrev pub tree_class : Lexed → ℕ
-tree_class t = class_of_parts t.kind t.text
+abbrev pub sign_text : Sign → List ℕ
+sign_text signs.Open = codes "("
+sign_text signs.Comma = codes ","
+sign_text signs.Close = codes ")"
 
--- the first class has this name
-abbrev pub is_first : List Class → List ℕ → Bool
-is_first [] name = false
-is_first (c ∷ classes) name = bytes_eq c.name name
+-- the components but the first stand behind a comma
+abbrev pub comma_before : ℕ → List Wanted → List Wanted
+comma_before zero wanted = wanted
+comma_before (suc k) wanted = Marked signs.Comma ∷ wanted
 
--- The tokens say this tree: a sentence that names the first class.
+-- the arguments of node n at its components, from the k-th on, and what follows them
+abbrev pub arguments_from : ℕ → ℕ → List Component → List Wanted → List Wanted
+arguments_from n k [] rest = Marked signs.Close ∷ rest
+arguments_from n k (x ∷ xs) rest = comma_before k (Part (part_of x.shape x.class n k) ∷ arguments_from n (suc k) xs rest)
+
+-- what is wanted of a whole text: a tree whose root is of the first class
+abbrev pub whole : List Wanted
+whole = Part (Subtree (record { 0 = 0 }) 0 0) ∷ Finish ∷ []
+
+-- the code of the integer with these digits behind a `-`, in the two's complement of 32 bits
+abbrev pub negated : ℕ → ℕ
+negated d = if d == 0 then 0 else 2 ^ 32 - d
+
+-- the token is of a kind and has this text
+abbrev pub is_name : TokenKind → List ℕ → List ℕ → Bool
+is_name tokens.Name text word = bytes_eq text word
+is_name tokens.Int text word = false
+is_name tokens.Text text word = false
+is_name tokens.Symbol text word = false
+is_name tokens.End text word = false
+
+abbrev pub is_symbol : TokenKind → List ℕ → List ℕ → Bool
+is_symbol tokens.Name text sign = false
+is_symbol tokens.Int text sign = false
+is_symbol tokens.Text text sign = false
+is_symbol tokens.Symbol text sign = bytes_eq text sign
+is_symbol tokens.End text sign = false
+
+abbrev pub is_number : TokenKind → List ℕ → ℕ → Bool
+is_number tokens.Name text most = false
+is_number tokens.Int text most = nat_le (decimal text) most
+is_number tokens.Text text most = false
+is_number tokens.Symbol text most = false
+is_number tokens.End text most = false
+
+abbrev pub is_end : TokenKind → Bool
+is_end tokens.Name = false
+is_end tokens.Int = false
+is_end tokens.Text = false
+is_end tokens.Symbol = false
+is_end tokens.End = true
+
+-- the name of a class
+abbrev pub has_name : Option Class → TokenKind → List ℕ → Bool
+has_name None kind text = false
+has_name (Some c) kind text = is_name kind text c.name
+
+-- what a token writes of what is wanted: what is then wanted in its place, and what it tells
+pub record Step : Type 0 where
+  pub wanted : List Wanted
+  pub told : List Told
+
+-- it tells nothing, or the code of a token
+abbrev pub silent : List Wanted → Option Step
+silent wanted = Some (record { wanted = wanted; told = [] })
+
+abbrev pub coded : ℕ → ℕ → ℕ → Option Step
+coded n k v = Some (record { wanted = []; told = TellsToken n k v ∷ [] })
+
+-- a node: the name of its class, and then its arguments in parentheses; the node gets the number `next`
+abbrev pub node_step : List Class → ClassId → ℕ → ℕ → ℕ → TokenKind → List ℕ → Option Step
+node_step g c parent k next kind text =
+    if has_name (slice_get g c.0) kind text
+    then Some (record { wanted = Marked signs.Open ∷ arguments_from next 0 (components_of g c.0) []; told = TellsNode c parent k ∷ [] }) else None
+
+-- an integer, perhaps with a `-` before its digits
+abbrev pub int_step : ℕ → ℕ → TokenKind → List ℕ → Option Step
+int_step n k kind text =
+    if is_number kind text greatest then coded n k (decimal text)
+    else if is_symbol kind text (codes "-") then silent (Digits n k ∷ []) else None
+
+abbrev pub digits_step : ℕ → ℕ → TokenKind → List ℕ → Option Step
+digits_step n k kind text = if is_number kind text (suc greatest) then coded n k (negated (decimal text)) else None
+
+abbrev pub truth_step : ℕ → ℕ → TokenKind → List ℕ → Option Step
+truth_step n k kind text =
+    if is_name kind text (codes "true") then coded n k 1 else if is_name kind text (codes "false") then coded n k 0 else None
+
+-- a token of this shape; lists, optional children and texts aren't read so far
+abbrev pub token_step : Shape → ℕ → ℕ → TokenKind → List ℕ → Option Step
+token_step shapes.Child n k kind text = None
+token_step shapes.List n k kind text = None
+token_step shapes.Optional n k kind text = None
+token_step shapes.Text n k kind text = None
+token_step shapes.Int n k kind text = int_step n k kind text
+token_step shapes.Truth n k kind text = truth_step n k kind text
+
+abbrev pub step : List Class → Wanted → ℕ → TokenKind → List ℕ → Option Step
+step g (Part (Subtree c parent k)) next kind text = node_step g c parent k next kind text
+step g (Part (Token s n k)) next kind text = token_step s n k kind text
+step g (Digits n k) next kind text = digits_step n k kind text
+step g (Marked sign) next kind text = if is_symbol kind text (sign_text sign) then silent [] else None
+step g Finish next kind text = if is_end kind then silent [] else None
+
+-- how many nodes are told
+abbrev pub nodes_in : List Told → ℕ
+nodes_in [] = 0
+nodes_in (TellsNode c parent k ∷ told) = suc (nodes_in told)
+nodes_in (TellsToken n k v ∷ told) = nodes_in told
+
+-- The tokens write what is wanted, one after the other, and tell this. The next node has the number n.
+pub data Writes (g : List Class) : List Wanted → ℕ → List Lexed → List Told → Type 0 where
+  over : {n : ℕ} → Writes g [] n [] []
+  token : {w : Wanted} {ws : List Wanted} {n : ℕ} {t : Lexed} {ts : List Lexed} {told : List Told} (s : Step) → step g w n t.kind t.text ≡ Some s
+      → Writes g (s.wanted ++ ws) (nodes_in s.told + n) ts told → Writes g (w ∷ ws) n (t ∷ ts) (s.told ++ told)
+
+-- The tokens say this tree of the grammar: they write it, and it hasn't too many nodes.
 pub record SaysTree (g : List Class) (ts : List Lexed) (tree : List Node) : Type 0 where
-  pub events : List ℕ
-  pub sentence : IsSentence tree_grammar 0 (map tree_class ts) events
-  pub root : is_first g (text_at ts 0) ≡ true
-  pub is : tree ≡ lone (record { 0 = 0 })
-
--- what reading some tokens answers: whether they say a tree
-abbrev pub AnswersTree : List Class → List Lexed → Result Bool Memory → Type 0
-AnswersTree g ts (Ok true) = SaysTree g ts (lone (record { 0 = 0 }))
-AnswersTree g ts (Ok false) = (tree : List Node) → SaysTree g ts tree → ⊥
-AnswersTree g ts (Err m) = Unit {0}
+  pub told : List Told
+  pub writes : Writes g whole 0 ts told
+  pub are : tree ≡ nodes_told g told 0 told
+  pub few : length tree ≤ most_nodes

@@ -1,11 +1,9 @@
 // The classes of the tokens of aspects, in the numbers of their grammar.
-ghost use Rattle.std.specs.Prelude.{◌≡◌, map, IfOk};
-ghost use Rattle.rag_io.specs.Tokens.{seen_token, seen_tokens};
-ghost use Rattle.query_runner.specs.Aspects.{word_class, bracket_class, choice_class, symbol_class, aspect_class};
+ghost use Rattle.std.specs.Prelude.{◌≡◌};
+ghost use Rattle.query_runner.specs.Aspects.{word_class, bracket_class, choice_class, symbol_class};
 
-use crate::sentences::is_name;
-use rag_io::{Memory, Token, TokenKind};
-use std::alloc::Global;
+use crate::sentences::{Words, is_name};
+use rag_io::{Token, TokenKind};
 
 fn word_class(text: &[u8]) -> u8
     ensures { result ≡ word_class text.now }
@@ -22,6 +20,8 @@ fn word_class(text: &[u8]) -> u8
         7
     } else if text == b"false".as_slice() {
         8
+    } else if text == b"this".as_slice() {
+        31
     } else if is_name(text) {
         1
     } else {
@@ -95,24 +95,21 @@ fn symbol_class(text: &[u8]) -> u8
     }
 }
 
-fn class_of(token: &Token<'_>) -> u8
-    ensures { result ≡ aspect_class (seen_token token.now) }
-{
-    match token.kind {
-        TokenKind::Name => word_class(token.text),
-        TokenKind::Int => 2,
-        TokenKind::Text => 30,
-        TokenKind::Symbol => symbol_class(token.text),
-        TokenKind::End => 0,
-    }
-}
+/// The words of aspects.
+pub(crate) struct AspectWords;
 
-pub(crate) fn classes_of(alloc: Global, tokens: &[Token<'_>]) -> Result<Vec<u8>, Memory>
-    ensures { IfOk result (λ v. v.items ≡ map aspect_class (seen_tokens tokens.now)) }
-{
-    let mut classes = Vec::new(alloc);
-    for token in tokens {
-        classes.push(class_of(token)).map_err(|_| Memory)?;
+impl Words for AspectWords {
+    ghost use Rattle.query_runner.specs.Aspects.{aspect_class};
+
+    ghost class = { aspect_class };
+
+    fn class_of(token: &Token<'_>) -> u8 {
+        match token.kind {
+            TokenKind::Name => word_class(token.text),
+            TokenKind::Int => 2,
+            TokenKind::Text => 30,
+            TokenKind::Symbol => symbol_class(token.text),
+            TokenKind::End => 0,
+        }
     }
-    Ok(classes)
 }

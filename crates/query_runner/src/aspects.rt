@@ -1,22 +1,26 @@
 // The reader of aspects in the first form.
-ghost use Rattle.std.specs.Prelude.{◌≡◌, ◌==◌, ◌<◌, ◌++◌, ◌∷◌, [], Some, IfOk, All, IsTrue, ◌↔◌, length, map, count_by};
-ghost use Rattle.rag_io.specs.Tokens.{AreTokens, seen_token, seen_tokens};
-ghost use Rattle.ast_grammar.specs.Grammar.{Class};
+ghost use Rattle.std.specs.Prelude.{◌≡◌, ◌==◌, ◌≤◌, ◌++◌, ◌∷◌, [], IfOk, length, map, count_by};
+ghost use Rattle.rag_io.specs.Tokens.{AreTokens, seen_tokens};
 ghost use Rattle.attr_types.specs.Items.{item_of};
-ghost use Rattle.attr_types.specs.Rules.{declares, items_differ};
-ghost use Rattle.attr_types.specs.Typing.{type_of, no_names};
+ghost use Rattle.attr_types.specs.Rules.{declares, items_differ, most_attributes};
 ghost use Rattle.query_runner.specs.Aspects.{aspect_class, are_short, is_small, are_small, AnswersAspects};
 ghost use Rattle.query_runner.specs.AspectsGrammar.{aspects_grammar};
-ghost use Rattle.query_runner.specs.AspectSteps.{IsModest, ReadsEvents, ResolvesItem, Resolves};
+ghost use Rattle.query_runner.specs.AspectSteps.{IsModest, ReadsEvents, FindsHead, FindsHeads, MakesEquation, ResolvesItem, Resolves};
 ghost use Rattle.query_runner.specs.Building.{written_of};
+ghost use Rattle.query_runner.specs.Heads.{seen_head};
+ghost use Rattle.query_runner.specs.NamingSteps.{seen_said};
 ghost use Rattle.query_runner.specs.Sentences.{Recognizes};
 
-use crate::aspect_tokens::classes_of;
+use crate::aspect_events as events;
+use crate::aspect_tokens::AspectWords;
 use crate::aspects_table::{ASPECTS_BODIES, ASPECTS_CHOICE, ASPECTS_OF, ASPECTS_STARTS};
-use crate::building::{Written, build};
-use crate::sentences::{GREATEST, capped, sentence, text_at};
+use crate::building::{WrittenItem, build};
+use crate::heads::{Head, Heads};
+use crate::members::accessed_by;
+use crate::naming::{Said, Site, resolve_names};
+use crate::sentences::{GREATEST, capped, classes_of, sentence, text_at};
 use ast_grammar::{ClassId, Grammar};
-use attr_types::{FirstEq, Kind, Name};
+use attr_types::{FirstEq, Name};
 use ll_parser::Table;
 use rag_io::{Memory, Token, TokenKind};
 use std::alloc::Global;
@@ -31,7 +35,7 @@ fn sentence_of(alloc: Global, tokens: &[Token<'_>]) -> Result<Option<Vec<u8>>, M
     requires { AreTokens (seen_tokens tokens.now) }
     ensures { Recognizes aspects_grammar (map aspect_class (seen_tokens tokens.now)) result }
 {
-    let classes = classes_of(alloc, tokens)?;
+    let classes = classes_of::<AspectWords>(alloc, tokens)?;
     let table = Table {
         of: &ASPECTS_OF,
         starts: &ASPECTS_STARTS,
@@ -42,16 +46,16 @@ fn sentence_of(alloc: Global, tokens: &[Token<'_>]) -> Result<Option<Vec<u8>>, M
 }
 
 // No expression has more tokens than one may have.
-fn are_short(events: &[u8]) -> bool
-    ensures { result ≡ are_short 0 0 events.now }
+fn are_short(sentence: &[u8]) -> bool
+    ensures { result ≡ are_short 0 0 sentence.now }
 {
     let mut at: usize = 0;
     let mut from: usize = 0;
-    for event in events {
+    for event in sentence {
         match *event {
-            255 => at += 1,
-            5 => from = at,
-            6 => {
+            events::TOKEN => at += 1,
+            events::BEGIN => from = at,
+            events::ITEM => {
                 if at.saturating_sub(1).saturating_sub(from) > MOST_TOKENS {
                     return false;
                 }
@@ -62,10 +66,13 @@ fn are_short(events: &[u8]) -> bool
     true
 }
 
-fn item_count(events: &[u8]) -> usize
-    ensures { result ≡ count_by (λ e. e == 6) events.now }
+fn item_count(sentence: &[u8]) -> usize
+    ensures { result ≡ count_by (λ e. e == 6) sentence.now }
 {
-    events.iter().filter(|event| **event == 6).count()
+    sentence
+        .iter()
+        .filter(|event| **event == events::ITEM)
+        .count()
 }
 
 // A literal is at most the greatest integer.
@@ -109,64 +116,115 @@ fn read_events(alloc: Global, tokens: &[Token<'_>]) -> Result<Option<Vec<u8>>, M
     }
 }
 
-// An item with the class that it names, if there is one.
+// The attribute that an item declares, if there is the class that it names.
+fn head_of<'a>(grammar: &Grammar, tokens: &[Token<'a>], item: &WrittenItem) -> Option<Head<'a>>
+    ensures { FindsHead grammar.now (seen_tokens tokens.now) (written_of item.now) result }
+{
+    let class = grammar.find_class(text_at(tokens, item.class))?;
+    Some(Head {
+        class,
+        name: text_at(tokens, item.name),
+        kind: item.kind,
+    })
+}
+
+// One more attribute.
+fn add_head<'a>(heads: &mut Vec<Head<'a>>, head: Head<'a>) -> Result<(), Memory>
+    ensures { IfOk result (λ u. map seen_head heads.new.items ≡ map seen_head heads.old.items ++ seen_head head.entry ∷ []) }
+{
+    heads.push(head).map_err(|_| Memory)
+}
+
+// The attributes that the items declare, if each names a class.
+fn heads_of<'a>(
+    alloc: Global,
+    grammar: &Grammar,
+    tokens: &[Token<'a>],
+    items: &[WrittenItem],
+) -> Result<Option<Vec<Head<'a>>>, Memory>
+    ensures { FindsHeads grammar.now (seen_tokens tokens.now) (map written_of items.now) result }
+{
+    let mut heads = Vec::new(alloc);
+    for item in items {
+        match head_of(grammar, tokens, item) {
+            Some(head) => add_head(&mut heads, head)?,
+            None => return Ok(None),
+        }
+    }
+    Ok(Some(heads))
+}
+
+// The equation of an attribute, where its body has the attribute's type and its name is no accessor's.
+fn equation(
+    alloc: Global,
+    grammar: &Grammar,
+    head: Head<'_>,
+    body: Said,
+) -> Result<Option<FirstEq>, Memory>
+    ensures { MakesEquation grammar.now (seen_head head.entry) (seen_said body) result }
+{
+    if body.kind != Some(head.kind) || accessed_by(grammar, head.class, head.name).is_some() {
+        return Ok(None);
+    }
+    let name = Vec::from_slice(alloc, head.name).map_err(|_| Memory)?;
+    Ok(Some(FirstEq {
+        class: head.class,
+        name: Name::of(name),
+        kind: head.kind,
+        body: body.expression,
+    }))
+}
+
+// The equation that an item says, among the attributes of the file.
 fn resolved(
     alloc: Global,
     grammar: &Grammar,
+    heads: &Heads<'_>,
     tokens: &[Token<'_>],
-    item: Written,
+    item: &WrittenItem,
 ) -> Result<Option<FirstEq>, Memory>
-    ensures { ResolvesItem grammar.now (seen_tokens tokens.now) (written_of item) result }
+    ensures { ResolvesItem grammar.now heads.now (seen_tokens tokens.now) (written_of item.now) result }
 {
-    match grammar.find_class(text_at(tokens, item.class)) {
-        Some(class) => {
-            let name = Vec::from_slice(alloc, text_at(tokens, item.name)).map_err(|_| Memory)?;
-            Ok(Some(FirstEq {
-                class,
-                name: Name::of(name),
-                kind: item.kind,
-                body: item.body,
-            }))
-        }
+    let Some(head) = head_of(grammar, tokens, item) else {
+        return Ok(None);
+    };
+    let site = Site {
+        grammar,
+        heads,
+        tokens,
+        class: head.class,
+    };
+    match resolve_names(alloc, &site, &item.body)? {
+        Some(body) => equation(alloc, grammar, head, body),
         None => Ok(None),
     }
 }
 
+// One more equation.
 fn add(list: &mut Vec<FirstEq>, equation: FirstEq) -> Result<(), Memory>
     ensures { IfOk result (λ u. map item_of list.new.items ≡ map item_of list.old.items ++ item_of equation ∷ []) }
 {
     list.push(equation).map_err(|_| Memory)
 }
 
+// The equations that the items say, among the attributes of the file.
 fn resolve(
     alloc: Global,
     grammar: &Grammar,
+    heads: &Heads<'_>,
     tokens: &[Token<'_>],
-    items: Vec<Written>,
+    items: &[WrittenItem],
 ) -> Result<Option<Vec<FirstEq>>, Memory>
-    ensures { Resolves grammar.now (seen_tokens tokens.now) (map written_of items.items) result }
+    ensures { Resolves grammar.now heads.now (seen_tokens tokens.now) (map written_of items.now) result }
 {
     let mut list = Vec::new(alloc);
     for item in items {
-        match resolved(alloc, grammar, tokens, item)? {
+        match resolved(alloc, grammar, heads, tokens, item)? {
             Some(equation) => add(&mut list, equation)?,
             None => return Ok(None),
         }
     }
     Ok(Some(list))
-}
-
-// The body of an item has its type.
-fn is_typed(item: &FirstEq) -> bool
-    ensures { IsTrue result ↔ (type_of no_names (item_of item.now).body ≡ Some item.now.kind) }
-{
-    item.body.constant_kind() == Some(item.kind)
-}
-
-fn are_typed(list: &[FirstEq]) -> bool
-    ensures { IsTrue result ↔ All (λ e. type_of no_names (item_of e).body ≡ Some (item_of e).kind) list.now }
-{
-    list.iter().all(|item| is_typed(item))
 }
 
 fn declares(list: &[FirstEq], class: ClassId, name: &[u8]) -> bool
@@ -196,26 +254,28 @@ fn read_items(
     alloc: Global,
     grammar: &Grammar,
     tokens: &[Token<'_>],
-    events: &[u8],
+    sentence: &[u8],
 ) -> Result<Option<Vec<FirstEq>>, Memory>
-    requires { IsModest (seen_tokens tokens.now) events.now }
+    requires { IsModest (seen_tokens tokens.now) sentence.now }
     ensures { AnswersAspects grammar.now (seen_tokens tokens.now) result }
 {
-    let items = build(alloc, tokens, events)?;
-    match resolve(alloc, grammar, tokens, items)? {
-        Some(list) => {
-            if are_typed(&list) && items_differ(&list) {
-                Ok(Some(list))
-            } else {
-                Ok(None)
-            }
-        }
-        None => Ok(None),
+    let items = build(alloc, tokens, sentence)?;
+    let Some(heads) = heads_of(alloc, grammar, tokens, &items)? else {
+        return Ok(None);
+    };
+    let heads = Heads::of_list(alloc, heads)?;
+    let Some(list) = resolve(alloc, grammar, &heads, tokens, &items)? else {
+        return Ok(None);
+    };
+    if items_differ(&list) {
+        Ok(Some(list))
+    } else {
+        Ok(None)
     }
 }
 
 /// The items that the tokens say over the grammar, or None exactly where they say none in the form that is
-/// read so far: `syn boolean` and `syn int` attributes without parameters over constant expressions.
+/// read so far: `syn boolean` and `syn int` attributes without parameters.
 pub(crate) fn read_aspects(
     alloc: Global,
     grammar: &Grammar,

@@ -2,7 +2,6 @@
 ghost use Rattle.std.specs.Prelude.{◌≡◌, ◌≤◌, length, IfOk, IfErr};
 ghost use Rattle.rag_io.specs.Outside.{longest_file};
 ghost use Rattle.attr_types.specs.Items.{rules_in};
-ghost use Rattle.equation_law.specs.Program.{lone};
 ghost use Rattle.equation_law.specs.Systems.{program_of};
 ghost use Rattle.query_runner.specs.declared.files.Unread.TheVariants.{Memory as OutOfMemory};
 ghost use Rattle.query_runner.specs.Built.{Scans, AnswersGrammar, AnswersRules, AnswersSource, AnswersAsked, Refuses, IsRefusal};
@@ -16,7 +15,7 @@ use crate::trees::read_tree;
 use crate::words::FileKind;
 use ast_grammar::{Grammar, read_first};
 use attr_types::Rules;
-use equation_law::{FirstNode, Queries, System, Tokens, Tree};
+use equation_law::{Queries, System, Tree};
 use rag_io::{Memory, Pool, ScanFault, Token, scan};
 use std::alloc::Global;
 
@@ -91,32 +90,15 @@ fn read_rules(alloc: Global, grammar: &Grammar, bytes: &[u8]) -> Result<Rules, U
     }
 }
 
-// The tree of one node of the first class.
-fn lone_tree(alloc: Global, grammar: &Grammar) -> Result<Tree, Memory>
-    ensures { IfOk result (λ tree. tree ≡ lone (record { 0 = 0 })) }
-{
-    let root = FirstNode {
-        class: grammar.first_class(),
-        parent: 0,
-        component: 0,
-        tokens: Tokens::of(Vec::new(alloc)),
-    };
-    let mut nodes = Vec::new(alloc);
-    match nodes.push(root) {
-        Ok(_) => Tree::of_nodes(alloc, nodes),
-        Err(_) => Err(Memory),
-    }
-}
-
 fn read_source(alloc: Global, grammar: &Grammar, bytes: &[u8]) -> Result<Tree, Unread>
     requires { length bytes.now ≤ longest_file }
     ensures { AnswersSource grammar.now bytes.now result }
 {
     let tokens = tokens_of(alloc, bytes)?;
-    if !read_tree(alloc, grammar, &tokens)? {
-        return Err(Unread::NotBuilt);
+    match read_tree(alloc, grammar, &tokens)? {
+        Some(nodes) => Ok(Tree::of_nodes(alloc, nodes)?),
+        None => Err(Unread::NotBuilt),
     }
-    Ok(lone_tree(alloc, grammar)?)
 }
 
 fn read_asked(
@@ -127,7 +109,7 @@ fn read_asked(
     bytes: &[u8],
 ) -> Result<Queries, Unread>
     requires { length bytes.now ≤ longest_file }
-    ensures { AnswersAsked (rules_in rules.now) tree.now bytes.now result }
+    ensures { AnswersAsked grammar.now (rules_in rules.now) tree.now bytes.now result }
 {
     match read_queries(alloc, grammar, rules, tree, bytes)? {
         Some(list) => Ok(Queries::new(list)),

@@ -2,13 +2,17 @@
 //! call.
 #![tactic(auto)]
 
+mod aspect_events;
 mod aspect_tokens;
 mod aspects;
 mod aspects_table;
 mod building;
 mod fetching;
 mod files;
+mod heads;
 mod laws;
+mod members;
+mod naming;
 mod putting;
 mod queries;
 mod query_table;
@@ -19,7 +23,6 @@ mod replies;
 mod run_tests;
 mod running;
 mod sentences;
-mod tree_table;
 mod trees;
 mod words;
 

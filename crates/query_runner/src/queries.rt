@@ -3,7 +3,7 @@ ghost use Rattle.std.specs.Prelude.{◌≡◌, ◌<◌, ◌≤◌, ◌++◌, ◌
 ghost use Rattle.std.specs.List.{take_while};
 ghost use Rattle.rag_io.specs.Lexemes.{is_white};
 ghost use Rattle.rag_io.specs.Outside.{longest_file};
-ghost use Rattle.rag_io.specs.Tokens.{AreTokens, seen_token, seen_tokens};
+ghost use Rattle.rag_io.specs.Tokens.{AreTokens, seen_tokens};
 ghost use Rattle.attr_types.specs.Items.{rules_in};
 ghost use Rattle.attr_types.specs.Queries.{query_of};
 ghost use Rattle.query_runner.specs.Queries.{symbol_class, query_class, is_inside, is_silent, AnswersQueries};
@@ -11,10 +11,11 @@ ghost use Rattle.query_runner.specs.QueryGrammar.{query_grammar};
 ghost use Rattle.query_runner.specs.QuerySteps.{FindsNode, AnswersCall, AnswersQuery, AnswersLine, IsFirstLine, ReadsLine};
 ghost use Rattle.query_runner.specs.Sentences.{Recognizes};
 
+use crate::members::member_named;
 use crate::query_table::{QUERY_BODIES, QUERY_CHOICE, QUERY_OF, QUERY_STARTS};
-use crate::sentences::{capped, is_name, sentence, text_at};
+use crate::sentences::{Words, capped, classes_of, is_name, sentence, text_at};
 use ast_grammar::Grammar;
-use attr_types::{QueryEq, Rules};
+use attr_types::{QueryEq, Rules, TExpr};
 use equation_law::Tree;
 use ll_parser::Table;
 use rag_io::{Memory, ScanFault, Token, TokenKind, scan};
@@ -39,33 +40,30 @@ fn symbol_class(text: &[u8]) -> u8
     }
 }
 
-fn class_of(token: &Token<'_>) -> u8
-    ensures { result ≡ query_class (seen_token token.now) }
-{
-    match token.kind {
-        TokenKind::Name => { if is_name(token.text) { 1 } else { 7 } }
-        TokenKind::Int => 2,
-        TokenKind::Text => 7,
-        TokenKind::Symbol => symbol_class(token.text),
-        TokenKind::End => 0,
-    }
-}
+// The words of queries.
+struct QueryWords;
 
-fn classes_of(alloc: Global, tokens: &[Token<'_>]) -> Result<Vec<u8>, Memory>
-    ensures { IfOk result (λ v. v.items ≡ map query_class (seen_tokens tokens.now)) }
-{
-    let mut classes = Vec::new(alloc);
-    for token in tokens {
-        classes.push(class_of(token)).map_err(|_| Memory)?;
+impl Words for QueryWords {
+    ghost use Rattle.query_runner.specs.Queries.{query_class};
+
+    ghost class = { query_class };
+
+    fn class_of(token: &Token<'_>) -> u8 {
+        match token.kind {
+            TokenKind::Name => { if is_name(token.text) { 1 } else { 7 } }
+            TokenKind::Int => 2,
+            TokenKind::Text => 7,
+            TokenKind::Symbol => symbol_class(token.text),
+            TokenKind::End => 0,
+        }
     }
-    Ok(classes)
 }
 
 fn sentence_of(alloc: Global, tokens: &[Token<'_>]) -> Result<Option<Vec<u8>>, Memory>
     requires { AreTokens (seen_tokens tokens.now) }
     ensures { Recognizes query_grammar (map query_class (seen_tokens tokens.now)) result }
 {
-    let classes = classes_of(alloc, tokens)?;
+    let classes = classes_of::<QueryWords>(alloc, tokens)?;
     let table = Table {
         of: &QUERY_OF,
         starts: &QUERY_STARTS,
@@ -83,7 +81,7 @@ fn find_node(tree: &Tree, digits: &[u8]) -> Option<u32>
     if node < tree.len() { Some(node) } else { None }
 }
 
-// The call of the attribute of this name at the node of the number that the digits write.
+// The accessor or the attribute of this name at the node of the number that the digits write.
 fn call(
     alloc: Global,
     grammar: &Grammar,
@@ -92,13 +90,14 @@ fn call(
     digits: &[u8],
     name: &[u8],
 ) -> Result<Option<QueryEq>, Memory>
-    ensures { AnswersCall (rules_in rules.now) tree.now digits.now name.now result }
+    ensures { AnswersCall grammar.now (rules_in rules.now) tree.now digits.now name.now result }
 {
-    match find_node(tree, digits) {
-        Some(node) => match rules.find(grammar, tree.class_of(node), name) {
-            Some(attribute) => Ok(Some(QueryEq::of_call(alloc, node, attribute)?)),
-            None => Ok(None),
-        },
+    let Some(node) = find_node(tree, digits) else {
+        return Ok(None);
+    };
+    let class = tree.class_of(node);
+    match member_named(grammar, class, name, rules.find(grammar, class, name)) {
+        Some(member) => Ok(Some(QueryEq::of(member.on(alloc, TExpr::Source(node))?))),
         None => Ok(None),
     }
 }
@@ -111,7 +110,7 @@ fn query_of_tokens(
     tokens: &[Token<'_>],
 ) -> Result<Option<QueryEq>, Memory>
     requires { AreTokens (seen_tokens tokens.now) }
-    ensures { AnswersQuery (rules_in rules.now) tree.now (seen_tokens tokens.now) result }
+    ensures { AnswersQuery grammar.now (rules_in rules.now) tree.now (seen_tokens tokens.now) result }
 {
     match sentence_of(alloc, tokens)? {
         Some(_) => call(
@@ -135,7 +134,7 @@ fn query_of_line(
     line: &[u8],
 ) -> Result<Option<QueryEq>, Memory>
     requires { length line.now ≤ longest_file }
-    ensures { AnswersLine (rules_in rules.now) tree.now line.now result }
+    ensures { AnswersLine grammar.now (rules_in rules.now) tree.now line.now result }
 {
     match scan(alloc, line) {
         Ok(tokens) => query_of_tokens(alloc, grammar, rules, tree, &tokens),
@@ -199,7 +198,7 @@ fn read_line(
     list: &mut Vec<QueryEq>,
 ) -> Result<bool, Memory>
     requires { length line.now ≤ longest_file }
-    ensures { ReadsLine (rules_in rules.now) tree.now line.now result (map query_of list.old.items) (map query_of list.new.items) }
+    ensures { ReadsLine grammar.now (rules_in rules.now) tree.now line.now result (map query_of list.old.items) (map query_of list.new.items) }
 {
     if is_silent(line) {
         return Ok(true);
@@ -214,7 +213,8 @@ fn read_line(
 }
 
 /// The queries that the bytes of a query file say, or None exactly where they say none in the form that is
-/// read so far: at most 65,536 lines, each of them white space, a `#` line, or `@NUMBER.NAME()`.
+/// read so far: at most 65,536 lines, each of them white space, a `#` line, or `@NUMBER.NAME()` with
+/// the name of an attribute or an accessor of the node's class.
 pub(crate) fn read_queries(
     alloc: Global,
     grammar: &Grammar,
@@ -223,7 +223,7 @@ pub(crate) fn read_queries(
     bytes: &[u8],
 ) -> Result<Option<Vec<QueryEq>>, Memory>
     requires { length bytes.now ≤ longest_file }
-    ensures { AnswersQueries (rules_in rules.now) tree.now bytes.now result }
+    ensures { AnswersQueries grammar.now (rules_in rules.now) tree.now bytes.now result }
 {
     let mut list = Vec::new(alloc);
     let mut rest = bytes;

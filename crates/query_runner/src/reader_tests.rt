@@ -28,7 +28,8 @@ fn items_said(
     Ok(read_aspects(alloc, grammar, &tokens)?.map(|list| list.len()))
 }
 
-// The expression that a body of this type says, written out, or an empty text where it says none.
+// The expression that a body of this type says at `N`, beside an attribute `w` of `M`, written out, or an empty
+// text where it says none.
 fn body_said(
     rt: &impl Abort,
     alloc: Global,
@@ -36,12 +37,12 @@ fn body_said(
     kind: &str,
     body: &str,
 ) -> Result<String, Fail> {
-    let text = format!(in alloc; "aspect A {{ syn {kind} N.v() = {body}; }}")?;
+    let text = format!(in alloc; "aspect A {{ syn int M.w() = 7; syn {kind} N.v() = {body}; }}")?;
     assert!(rt; text.len() <= LONGEST_FILE);
     let tokens = scan(alloc, text.as_bytes())?;
     let mut shown = String::new(alloc);
     if let Some(list) = read_aspects(alloc, grammar, &tokens)? {
-        for item in &list {
+        for item in list.last() {
             write!(shown, "{:?}", item.body)?;
         }
     }
@@ -69,8 +70,11 @@ fn many_items(alloc: Global, count: u32) -> Result<String, AllocError> {
     Ok(text)
 }
 
+// A grammar with accessors: of two children of `N`, and of its tokens.
+const ACCESSED: &str = "N ::= l:N r:M <V:int> <T:boolean>; M;";
+
 // A text, and how many items it says, if it says some.
-const ASPECTS: [(&str, Option<usize>); 16] = [
+const ASPECTS: [(&str, Option<usize>); 28] = [
     ("", Some(0)),
     ("aspect A { syn int N.v() = 5; }", Some(1)),
     ("aspect A {} aspect B { syn int M.v() = 1; }", Some(1)),
@@ -91,6 +95,24 @@ const ASPECTS: [(&str, Option<usize>); 16] = [
     ("aspect A { syn int N.int() = 5; }", None),
     ("aspect A { syn int N.class() = 5; }", None),
     ("aspect A { inh int N.v(); }", None),
+    ("aspect A { syn N N.v() = this; }", None),
+    ("aspect A { syn int N.getV() = 5; }", None),
+    ("aspect A { syn int N.getr() = 5; }", None),
+    ("aspect A { syn int M.getV() = 5; }", Some(1)),
+    ("aspect A { syn int N.get() = 5; }", Some(1)),
+    ("aspect A { syn int N.v() = v(); }", Some(1)),
+    (
+        "aspect A { syn int N.v() = getr().w(); } aspect B { syn int M.w() = 1; }",
+        Some(2),
+    ),
+    ("aspect A { syn int N.v() = w(); syn int M.w() = 1; }", None),
+    ("aspect A { syn int N.v() = w(); }", None),
+    (
+        "aspect A { syn int N.v() = w(); syn boolean N.w() = true; }",
+        None,
+    ),
+    ("aspect A { syn int N.size() = size(); }", None),
+    ("aspect A { syn int N.size() = this.size(); }", Some(1)),
     ("aspect A { syn int N.v() = 5; ", None),
     ("syn int N.v() = 5;", None),
 ];
@@ -98,7 +120,7 @@ const ASPECTS: [(&str, Option<usize>); 16] = [
 #[test]
 fn reads_aspects(rt: HostRuntime) -> Result<(), Fail> {
     let alloc = rt.alloc();
-    let grammar = grammar_said(&rt, alloc, "N; M;")?;
+    let grammar = grammar_said(&rt, alloc, ACCESSED)?;
     for (text, items) in &ASPECTS {
         assert_eq!(rt; items_said(&rt, alloc, &grammar, text)?, *items, "{text}");
     }
@@ -113,7 +135,7 @@ fn reads_aspects(rt: HostRuntime) -> Result<(), Fail> {
 }
 
 // A type, an expression, and how it is written out where it is said.
-const EXPRESSIONS: [(&str, &str, &str); 25] = [
+const EXPRESSIONS: [(&str, &str, &str); 24] = [
     ("int", "2147483647", "Int(2147483647)"),
     ("int", "002147483647", "Int(2147483647)"),
     ("int", "2147483648", ""),
@@ -161,7 +183,6 @@ const EXPRESSIONS: [(&str, &str, &str); 25] = [
     ("int", "-true", ""),
     ("boolean", "!1", ""),
     ("int", "this", ""),
-    ("int", "v()", ""),
     ("int", "v", ""),
     ("int", "1 / 2", ""),
     ("int", "(1", ""),
@@ -169,11 +190,57 @@ const EXPRESSIONS: [(&str, &str, &str); 25] = [
     ("int", "", ""),
 ];
 
+// The same, where names stand in the expression.
+const NAMES: [(&str, &str, &str); 26] = [
+    ("int", "v()", "Call(AttrId(1), This)"),
+    ("int", "this.v()", "Call(AttrId(1), This)"),
+    ("int", "(this).v()", "Call(AttrId(1), This)"),
+    ("int", "getV()", "Token(Int, 2, This)"),
+    ("boolean", "!getT()", "Not(Token(Truth, 3, This))"),
+    ("int", "getl().getV()", "Token(Int, 2, Child(0, This))"),
+    ("int", "getr().w()", "Call(AttrId(0), Child(1, This))"),
+    (
+        "int",
+        "getl().getl().getr().w()",
+        "Call(AttrId(0), Child(1, Child(0, Child(0, This))))",
+    ),
+    (
+        "int",
+        "getV() - this.getV() * 2",
+        "Binary(Subtract, Token(Int, 2, This), Binary(Multiply, Token(Int, 2, This), Int(2)))",
+    ),
+    (
+        "int",
+        "(getT() ? getl() : this).v()",
+        "Call(AttrId(1), If(Token(Truth, 3, This), Child(0, This), This))",
+    ),
+    ("int", "w()", ""),
+    ("int", "getr().v()", ""),
+    ("int", "getr().getV()", ""),
+    ("int", "getX()", ""),
+    ("int", "getl()", ""),
+    ("int", "getT()", ""),
+    ("int", "getV().v()", ""),
+    ("int", "true.v()", ""),
+    ("int", "(1 + 2).v()", ""),
+    ("int", "(getT() ? getl() : getr()).w()", ""),
+    ("boolean", "getl() == getl()", ""),
+    ("boolean", "getT() && getV()", ""),
+    ("int", "v(1)", ""),
+    ("int", "this.v", ""),
+    ("int", "this()", ""),
+    ("int", "getl().this", ""),
+];
+
 #[test]
 fn reads_expressions(rt: HostRuntime) -> Result<(), Fail> {
     let alloc = rt.alloc();
-    let grammar = grammar_said(&rt, alloc, "N;")?;
+    let grammar = grammar_said(&rt, alloc, ACCESSED)?;
     for (kind, body, shown) in &EXPRESSIONS {
+        let said = body_said(&rt, alloc, &grammar, kind, body)?;
+        assert_eq!(rt; said.as_str(), *shown, "{body}");
+    }
+    for (kind, body, shown) in &NAMES {
         let said = body_said(&rt, alloc, &grammar, kind, body)?;
         assert_eq!(rt; said.as_str(), *shown, "{body}");
     }
@@ -204,7 +271,11 @@ fn reads_trees(rt: HostRuntime) -> Result<(), Fail> {
     for (text, is_said) in &TREES {
         assert!(rt; text.len() <= LONGEST_FILE);
         let tokens = scan(alloc, text.as_bytes())?;
-        assert_eq!(rt; read_tree(alloc, &grammar, &tokens)?, *is_said, "{text}");
+        assert_eq!(rt;
+            read_tree(alloc, &grammar, &tokens)?.is_some(),
+            *is_said,
+            "{text}"
+        );
     }
     Ok(())
 }
@@ -223,16 +294,16 @@ fn rules_said(
     }
 }
 
-// The tree of one node of the first class.
+// The tree of one node of the first class, which has one token.
 fn lone_tree(alloc: Global, grammar: &Grammar) -> Result<Tree, Fail> {
+    let codes = vec![in alloc; 3]?;
     let root = FirstNode {
         class: grammar.first_class(),
         parent: 0,
         component: 0,
-        tokens: Tokens::of(Vec::new(alloc)),
+        tokens: Tokens::of(codes),
     };
-    let mut nodes = Vec::new(alloc);
-    nodes.push(root)?;
+    let nodes = vec![in alloc; root]?;
     Ok(Tree::of_nodes(alloc, nodes)?)
 }
 
@@ -269,7 +340,7 @@ fn late_query(alloc: Global, lines: usize) -> Result<String, AllocError> {
 }
 
 // A text, and its queries, each written out with a blank behind it, or `none`.
-const QUERIES: [(&str, &str); 19] = [
+const QUERIES: [(&str, &str); 24] = [
     ("", ""),
     ("@0.v()", "Call(AttrId(0), Source(0)) "),
     ("@0.v()\n", "Call(AttrId(0), Source(0)) "),
@@ -290,6 +361,11 @@ const QUERIES: [(&str, &str); 19] = [
     ("@4294967296.v()", "none"),
     ("@0.w()", "none"),
     ("@0.x()", "none"),
+    ("@0.getV()", "Token(Int, 0, Source(0)) "),
+    ("@0.getW()", "Call(AttrId(3), Source(0)) "),
+    ("@0.getX()", "none"),
+    ("@1.getV()", "none"),
+    ("@0.getV().v()", "none"),
     ("@0.v", "none"),
     ("@0.v()\n@0.v() @0.v()", "none"),
     ("@0.\nv()", "none"),
@@ -300,12 +376,12 @@ const QUERIES: [(&str, &str); 19] = [
 #[test]
 fn reads_queries(rt: HostRuntime) -> Result<(), Fail> {
     let alloc = rt.alloc();
-    let grammar = grammar_said(&rt, alloc, "N; M;")?;
+    let grammar = grammar_said(&rt, alloc, "N ::= <V:int>; M;")?;
     let rules = rules_said(
         &rt,
         alloc,
         &grammar,
-        "aspect A { syn int N.v() = 5; syn int N.u() = 6; syn int M.w() = 7; }",
+        "aspect A { syn int N.v() = 5; syn int N.u() = 6; syn int M.w() = 7; syn int N.getW() = 8; }",
     )?;
     let tree = lone_tree(alloc, &grammar)?;
     for (text, shown) in &QUERIES {

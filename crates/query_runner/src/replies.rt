@@ -1,27 +1,32 @@
 // The reply lines.
-ghost use Rattle.std.specs.Prelude.{◌≡◌, ◌++◌, ◌∷◌, [], IfOk, IfSome, IsSome, OnOk};
-ghost use Rattle.std.specs.Fmt.{signed_decimal};
-ghost use Rattle.equation_law.specs.Named.{value_in};
+ghost use Rattle.std.specs.Prelude.{◌≡◌, ◌++◌, ◌∷◌, [], IfOk, IfSome, IsSome, OnOk, MatchOption, codes};
+ghost use Rattle.std.specs.Fmt.{decimal, signed_decimal};
+ghost use Rattle.equation_law.specs.Checked.{IsProgram};
+ghost use Rattle.equation_law.specs.Named.{value_in, reference_named};
 ghost use Rattle.equation_law.specs.Systems.{program_of};
+ghost use Rattle.equation_law.specs.Values.{Node};
 ghost use Rattle.query_runner.specs.Output.{AreReplies, truth_text};
-ghost use Rattle.query_runner.specs.Ready.{IsReady};
 ghost use Rattle.query_runner.specs.Replies.{IsPlain, AddsReply};
 
-use equation_law::{NameList, NamedValue, System, plain_rounds};
+use equation_law::{NameList, NamedValue, NodeName, System, plain_rounds};
 use rag_io::{Gate, Memory};
 use std::alloc::Global;
+
+fn add_line(text: &mut Vec<u8>, line: &[u8]) -> Result<(), Memory>
+    ensures { OnOk result (text.new.items ≡ text.old.items ++ (line.now ++ 10 ∷ [])) }
+{
+    text.extend_from_slice(line).map_err(|_| Memory)?;
+    text.push(b'\n').map_err(|_| Memory)?;
+    Ok(())
+}
 
 fn add_truth(text: &mut Vec<u8>, truth: bool) -> Result<(), Memory>
     ensures { OnOk result (text.new.items ≡ text.old.items ++ (truth_text truth ++ 10 ∷ [])) }
 {
-    let added = if truth {
-        text.extend_from_slice(b"true\n")
+    if truth {
+        add_line(text, b"true".as_slice())
     } else {
-        text.extend_from_slice(b"false\n")
-    };
-    match added {
-        Ok(_) => Ok(()),
-        Err(_) => Err(Memory),
+        add_line(text, b"false".as_slice())
     }
 }
 
@@ -32,23 +37,55 @@ fn add_int(alloc: Global, text: &mut Vec<u8>, int: Option<i32>) -> Result<(), Me
     match int {
         Some(int) => {
             let digits = int.to_string(alloc).map_err(|_| Memory)?;
-            text.extend_from_slice(digits.as_bytes())
-                .map_err(|_| Memory)?;
-            text.push(b'\n').map_err(|_| Memory)?;
-            Ok(())
+            add_line(text, digits.as_bytes())
         }
         None => unreachable!(),
     }
 }
 
-// The line of a reply.
+fn add_source(alloc: Global, text: &mut Vec<u8>, node: u32) -> Result<(), Memory>
+    ensures { OnOk result (text.new.items ≡ text.old.items ++ ((codes "@" ++ decimal node) ++ 10 ∷ [])) }
+{
+    let digits = node.to_string(alloc).map_err(|_| Memory)?;
+    text.push(b'@').map_err(|_| Memory)?;
+    add_line(text, digits.as_bytes())
+}
+
+fn add_node(alloc: Global, text: &mut Vec<u8>, node: NodeName) -> Result<(), Memory>
+    ensures { OnOk result (AddsReply (Node (reference_named node)) text.old.items text.new.items) }
+{
+    match node {
+        NodeName::Null => add_line(text, b"null".as_slice()),
+        NodeName::Source(k) => add_source(alloc, text, k),
+    }
+}
+
+// The line of a value.
 fn add_reply(alloc: Global, text: &mut Vec<u8>, value: &NamedValue) -> Result<(), Memory>
     requires { IsPlain (value_in value.now) }
     ensures { OnOk result (AddsReply (value_in value.now) text.old.items text.new.items) }
 {
-    match value.truth() {
-        Some(truth) => add_truth(text, truth),
-        None => add_int(alloc, text, value.int()),
+    if let Some(truth) = value.truth() {
+        return add_truth(text, truth);
+    }
+    let int = value.int();
+    if int.is_some() {
+        return add_int(alloc, text, int);
+    }
+    match value.node() {
+        Some(node) => add_node(alloc, text, node),
+        None => unreachable!(),
+    }
+}
+
+// The line of a query: the text of its value, or `circular` where it has none.
+fn add_answer(alloc: Global, text: &mut Vec<u8>, found: Option<&NamedValue>) -> Result<(), Memory>
+    requires { MatchOption found (Unit {0}) (λ v. IsPlain (value_in v.now)) }
+    ensures { OnOk result (MatchOption found.entry (text.new.items ≡ text.old.items ++ (codes "circular" ++ 10 ∷ [])) (λ v. AddsReply (value_in v.now) text.old.items text.new.items)) }
+{
+    match found {
+        Some(value) => add_reply(alloc, text, value),
+        None => add_line(text, b"circular".as_slice()),
     }
 }
 
@@ -58,7 +95,7 @@ pub(crate) fn reply_lines<G: Gate>(
     gate: &G,
     system: &System,
 ) -> Result<Vec<u8>, Memory>
-    requires { IsReady (program_of system.now) }
+    requires { IsProgram (program_of system.now) }
     ensures { IfOk result (λ text. AreReplies (program_of system.now) 0 (program_of system.now).queries text.items) }
 {
     let names = NameList::of_source(alloc, system)?;
@@ -66,10 +103,7 @@ pub(crate) fn reply_lines<G: Gate>(
     let first = names.len() - system.replies();
     let mut text = Vec::new(alloc);
     'replies: for q in 0..system.replies() {
-        let Some(value) = table.value(first + q) else {
-            unreachable!()
-        };
-        add_reply(alloc, &mut text, value)?;
+        add_answer(alloc, &mut text, table.value(first + q))?;
         gate.reached(0, q);
     }
     Ok(text)

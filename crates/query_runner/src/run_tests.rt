@@ -1,6 +1,8 @@
 ghost use Rattle.std.specs.Prelude.{◌≡◌, IfOk};
 ghost use Rattle.std.specs.String.{string_bytes};
 
+mod programs;
+
 use crate::running::run;
 use rag_io::{Gate, LONGEST_FILE, MemoryShelf, MemorySink};
 use std::alloc::{AllocError, Global};
@@ -47,6 +49,22 @@ fn file(alloc: Global, name: &str, text: &str) -> Result<(String, Vec<u8>), Allo
     ))
 }
 
+fn shelf_of(
+    alloc: Global,
+    ast: &str,
+    aspects: &str,
+    tree: &str,
+    queries: &str,
+    fails: Vec<u32>,
+) -> Result<MemoryShelf, AllocError> {
+    let mut files = Vec::new(alloc);
+    files.push(file(alloc, "g.ast", ast)?)?;
+    files.push(file(alloc, "a.jrag", aspects)?)?;
+    files.push(file(alloc, "t.tree", tree)?)?;
+    files.push(file(alloc, "q.txt", queries)?)?;
+    Ok(MemoryShelf::new(files, fails))
+}
+
 // The files of the first case, with this aspect and these queries.
 fn shelf(
     alloc: Global,
@@ -54,12 +72,18 @@ fn shelf(
     queries: &str,
     fails: Vec<u32>,
 ) -> Result<MemoryShelf, AllocError> {
-    let mut files = Vec::new(alloc);
-    files.push(file(alloc, "g.ast", "N;")?)?;
-    files.push(file(alloc, "a.jrag", aspects)?)?;
-    files.push(file(alloc, "t.tree", "N()")?)?;
-    files.push(file(alloc, "q.txt", queries)?)?;
-    Ok(MemoryShelf::new(files, fails))
+    shelf_of(alloc, "N;", aspects, "N()", queries, fails)
+}
+
+// Four files that are fetched without a fault.
+fn four_files(
+    alloc: Global,
+    ast: &str,
+    aspects: &str,
+    tree: &str,
+    queries: &str,
+) -> Result<MemoryShelf, AllocError> {
+    shelf_of(alloc, ast, aspects, tree, queries, Vec::new(alloc))
 }
 
 // The words between blanks.
@@ -92,6 +116,15 @@ fn written<R: Threads + Sync>(
 }
 
 const RUN: &str = "run g.ast a.jrag t.tree q.txt";
+
+// The status, and what is written for the four files.
+fn written_by<R: Threads + Sync>(
+    rt: &R,
+    alloc: Global,
+    shelf: &mut MemoryShelf,
+) -> Result<(u8, Vec<u8>), Fail> {
+    written(rt, alloc, RUN, shelf, None)
+}
 
 // Aspects and queries, and the status and the text that they give.
 const CASES: [(&str, &str, u8, &str); 7] = [

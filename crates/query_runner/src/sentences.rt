@@ -1,8 +1,8 @@
 // Sentences, and what their tokens write.
-ghost use Rattle.std.specs.Prelude.{◌≡◌, ◌-◌, ◌<◌, ◌*◌, ◌+◌, ◌^◌, min, length, slice_index_or};
+ghost use Rattle.std.specs.Prelude.{◌≡◌, ◌-◌, ◌<◌, ◌*◌, ◌+◌, ◌^◌, ℕ, IfOk, map, min, length, slice_index_or};
 ghost use Rattle.ll_parser.specs.Stack.{Works, choice_of, rows_of};
 ghost use Rattle.ll_parser.specs.Table.{Claims};
-ghost use Rattle.rag_io.specs.Tokens.{seen_tokens};
+ghost use Rattle.rag_io.specs.Tokens.{Lexed, seen_token, seen_tokens};
 ghost use Rattle.query_runner.specs.Names.{is_name};
 ghost use Rattle.query_runner.specs.Sentences.{Recognizes};
 ghost use Rattle.query_runner.specs.Tokens.{text_at, decimal};
@@ -32,6 +32,25 @@ pub(crate) fn sentence(
         Err(ParseFault::At(_)) => Ok(None),
         Err(ParseFault::OutOfMemory) => Err(Memory),
     }
+}
+
+/// The words of a grammar: each token has a class.
+pub(crate) trait Words {
+    ghost class: { Lexed → ℕ };
+
+    fn class_of(token: &Token<'_>) -> u8
+        ensures { result ≡ class (seen_token token.now) };
+}
+
+/// The classes of tokens.
+pub(crate) fn classes_of<W: Words>(alloc: Global, tokens: &[Token<'_>]) -> Result<Vec<u8>, Memory>
+    ensures { IfOk result (λ v. v.items ≡ map W.class (seen_tokens tokens.now)) }
+{
+    let mut classes = Vec::new(alloc);
+    for token in tokens {
+        classes.push(W::class_of(token)).map_err(|_| Memory)?;
+    }
+    Ok(classes)
 }
 
 // The text of the token of this number.

@@ -1,35 +1,40 @@
-use Rattle.std.proofs.Common.{◌∙◌, List, map, All, ap, sym, subst}
+use Rattle.std.proofs.Common.{ap, map, sym, ◌∙◌, arith}
+use Rattle.std.proofs.lemmas.List.{length-map}
 use Rattle.rag_io.specs.Tokens.{seen_tokens}
-use Rattle.attr_types.specs.declared.rules.FirstEq.{FirstEq}
 use Rattle.attr_types.specs.Items.{item_of}
 use Rattle.attr_types.specs.Rules.{items_differ}
-use Rattle.query_runner.specs.Aspects.{all_resolved}
-use Rattle.query_runner.proofs.SayingAspects.{HasItsType, said, untyped, twice}
+use Rattle.query_runner.specs.Aspects.{heads_of}
+use Rattle.query_runner.specs.Building.{written_of}
+use Rattle.query_runner.specs.Heads.{seen_head}
+use Rattle.query_runner.proofs.Right.{right_there}
+use Rattle.query_runner.proofs.SayingAspects.{few_heads, not_right, said, twice}
 use Rattle.query_runner.proofs.aspects.read_items.Goals as goal
-use Rattle.query_runner.proofs.aspects.read_items.Goals.{else-are_typed-via-then-are_typed+else-items_differ, else-are_typed-via-else-are_typed}
 
-AreTyped : List FirstEq → Type 0
-AreTyped list = All (λ e. HasItsType (item_of e)) list
+pub of_list-requires : goal.of_list-requires
+of_list-requires c =
+    let declared = ap (heads_of c.args.grammar.now (seen_tokens c.args.tokens.now)) (sym (ap (map written_of) c.deref.ensures.value ∙ c.in_ok-items.ensures)) ∙ (rw c.in-Some.is at c.in_ok-heads.ensures) in
+    omega (arith, few_heads c.args.grammar.now c.requires declared, length-map c.in-Some.heads.items seen_head)
+
+pub returns-in_default-2 : goal.returns-in_default-2
+returns-in_default-2 c =
+    let g = c.args.grammar.now in
+    let declared = ap (heads_of g (seen_tokens c.args.tokens.now)) (sym (ap (map written_of) c.deref.ensures.value ∙ c.in_ok-items.ensures)) ∙ (rw c.in-Some.is at c.in_ok-heads.ensures) in
+    let written = ap (map written_of) c.deref-2.ensures.value ∙ c.in_ok-items.ensures in
+    let wrong = rw c.in_default-2.is at c.in_ok-list.ensures in
+    not_right g c.requires declared (λ items right. wrong items (right_there (sym c.in_ok-heads-2.ensures) (sym written) right))
 
 pub returns-then-items_differ : goal.returns-then-items_differ
-unfolding AreTyped
 returns-then-items_differ c =
     let g = c.args.grammar.now in
-    let ts = seen_tokens c.args.tokens.now in
-    let are = ap (all_resolved g ts) (sym c.in_ok-items.ensures) ∙ (rw c.in-Some.is at c.in_ok-list.ensures) in
-    let typed = subst AreTyped c.deref.ensures.value (c.are_typed.ensures.0 c.if-are_typed.true) in
-    let distinct = ap (λ list. items_differ (map item_of list)) (sym c.deref-then-are_typed.ensures.value) ∙ sym c.items_differ.ensures ∙ c.if-items_differ.true in
-    said c.requires c.in-Some.list.items are typed distinct
+    let declared = ap (heads_of g (seen_tokens c.args.tokens.now)) (sym (ap (map written_of) c.deref.ensures.value ∙ c.in_ok-items.ensures)) ∙ (rw c.in-Some.is at c.in_ok-heads.ensures) in
+    let right = right_there c.in_ok-heads-2.ensures (ap (map written_of) c.deref-2.ensures.value ∙ c.in_ok-items.ensures) (rw c.in-Some-2.is at c.in_ok-list.ensures) in
+    let distinct = ap (λ list. items_differ (map item_of list)) (sym c.deref-3.ensures.value) ∙ sym c.items_differ.ensures ∙ c.if-items_differ.true in
+    said g c.requires declared right distinct
 
-pub returns-else-are_typed : goal.returns-else-are_typed
-unfolding AreTyped
-returns-else-are_typed c =
+pub returns : goal.returns
+returns c =
     let g = c.args.grammar.now in
-    let ts = seen_tokens c.args.tokens.now in
-    let are = ap (all_resolved g ts) (sym c.in_ok-items.ensures) ∙ (rw c.in-Some.is at c.in_ok-list.ensures) in
-    elim c.else-are_typed.branch [
-      | else-are_typed-via-then-are_typed+else-items_differ w ↦
-          twice c.requires c.in-Some.list.items are (ap (λ list. items_differ (map item_of list)) (sym w.deref-then-are_typed.ensures.value) ∙ sym w.items_differ.ensures ∙ w.if-items_differ.false)
-      | else-are_typed-via-else-are_typed w ↦
-          untyped c.requires c.in-Some.list.items are (λ typed. let t = c.are_typed.ensures.1 (subst AreTyped (sym c.deref.ensures.value) typed) in let f = w.if-are_typed.false in cc)
-    ]
+    let declared = ap (heads_of g (seen_tokens c.args.tokens.now)) (sym (ap (map written_of) c.deref.ensures.value ∙ c.in_ok-items.ensures)) ∙ (rw c.in-Some.is at c.in_ok-heads.ensures) in
+    let right = right_there c.in_ok-heads-2.ensures (ap (map written_of) c.deref-2.ensures.value ∙ c.in_ok-items.ensures) (rw c.in-Some-2.is at c.in_ok-list.ensures) in
+    let same = ap (λ list. items_differ (map item_of list)) (sym c.deref-3.ensures.value) ∙ sym c.items_differ.ensures ∙ c.if-items_differ.false in
+    twice g c.requires declared right same

@@ -26,7 +26,7 @@ returns-in-Err-read_asked-clause-refused c = queries_refused (seen_contents c.ar
     (subst (λ (b : List ℕ). ReadsGrammar b c.in-Ok.grammar) c.deref.ensures.value c.in-Ok.ensures)
     (subst (λ (b : List ℕ). ReadsRules c.in-Ok.grammar b (rules_in c.in-Ok-read_rules.rules)) c.deref-2.ensures.value c.in-Ok-read_rules.ensures)
     (subst (λ (b : List ℕ). ReadsTree c.in-Ok.grammar b c.in-Ok-read_source.tree) c.deref-3.ensures.value c.in-Ok-read_source.ensures)
-    (subst (λ (b : List ℕ). AnswersAsked (rules_in c.in-Ok-read_rules.rules) c.in-Ok-read_source.tree b (Err c.in-Err-read_asked.unread)) c.deref-4.ensures.value c.in-Err-read_asked.ensures) c.refusal_of-in-Err-read_asked.ensures
+    (subst (λ (b : List ℕ). AnswersAsked c.in-Ok.grammar (rules_in c.in-Ok-read_rules.rules) c.in-Ok-read_source.tree b (Err c.in-Err-read_asked.unread)) c.deref-4.ensures.value c.in-Err-read_asked.ensures) c.refusal_of-in-Err-read_asked.ensures
 
 pub new-requires-in-Ok-new : goal.new-requires-in-Ok-new
 new-requires-in-Ok-new c = few_queries c.in-Ok-read_asked.ensures

@@ -10,7 +10,7 @@ pub returns-in-Ok : goal.returns-in-Ok
 returns-in-Ok c =
     let rules = rules_in c.args.rules.now in
     let tree = c.args.tree.now in
-    line_by rules tree c.query_of_tokens.result c.in-Ok.ensures (subst (λ (x : List Token). AnswersQuery rules tree (seen_tokens x) c.query_of_tokens.result) c.deref.ensures.value c.query_of_tokens.ensures)
+    line_by c.args.grammar.now rules tree c.query_of_tokens.result c.in-Ok.ensures (subst (λ (x : List Token). AnswersQuery c.args.grammar.now rules tree (seen_tokens x) c.query_of_tokens.result) c.deref.ensures.value c.query_of_tokens.ensures)
 
 pub returns-in-Err-Bad : goal.returns-in-Err-Bad
-returns-in-Err-Bad c = no_line (rules_in c.args.rules.now) c.args.tree.now (rw c.in-Err-Bad.field-0-is at c.in-Err-Bad.ensures)
+returns-in-Err-Bad c = no_line c.args.grammar.now (rules_in c.args.rules.now) c.args.tree.now (rw c.in-Err-Bad.field-0-is at c.in-Err-Bad.ensures)

@@ -17,9 +17,9 @@ returns c =
           let sentence = rw w.in-Some.is at c.in_ok-sentence_of.ensures in
           let digits = w.text_at.ensures in
           let name = w.text_at-in-Some.ensures in
-          let called = subst (λ (x : List ℕ). AnswersCall rules tree (text_at ts 1) x w.call.result) name (subst (λ (x : List ℕ). AnswersCall rules tree x w.text_at-in-Some.result.now w.call.result) digits w.call.ensures) in
-          subst (AnswersQuery rules tree ts) (sym w.result-is) (query_by rules tree ts w.call.result sentence called)
+          let called = subst (λ (x : List ℕ). AnswersCall c.args.grammar.now rules tree (text_at ts 1) x w.call.result) name (subst (λ (x : List ℕ). AnswersCall c.args.grammar.now rules tree x w.text_at-in-Some.result.now w.call.result) digits w.call.ensures) in
+          subst (AnswersQuery c.args.grammar.now rules tree ts) (sym w.result-is) (query_by c.args.grammar.now rules tree ts w.call.result sentence called)
       | in-None w ↦
           let none = rw w.in-None.is at c.in_ok-sentence_of.ensures in
-          subst (AnswersQuery rules tree ts) (sym w.result-is) (λ e says. none says.events says.sentence.runs)
+          subst (AnswersQuery c.args.grammar.now rules tree ts) (sym w.result-is) (λ e says. none says.events says.sentence.runs)
     ]

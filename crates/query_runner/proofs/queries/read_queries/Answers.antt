@@ -18,24 +18,24 @@ returns-then-lines-eq-MOST_LINES c =
     let some = some_bytes c.lines.rest.now c.is_empty.result c.is_empty.ensures c.lines-test.true in
     let i = c.if-lines-eq-MOST_LINES.true in
     let many : most_lines ≤ c.lines.lines = omega arith in
-    sofar_many (rules_in c.args.rules.now) c.args.tree.now c.lines.invariant.sofar some many
+    sofar_many c.args.grammar.now (rules_in c.args.rules.now) c.args.tree.now c.lines.invariant.sofar some many
 
 pub returns-then-not-branch : goal.returns-then-not-branch
 returns-then-not-branch c =
     let some = some_bytes c.lines.rest.now c.is_empty.result c.is_empty.ensures c.lines-test.true in
     let wrong = rw c.if-not-branch.true at c.in_ok-read_line.ensures in
-    sofar_wrong (rules_in c.args.rules.now) c.args.tree.now c.lines.invariant.sofar some c.first_line.ensures.line wrong
+    sofar_wrong c.args.grammar.now (rules_in c.args.rules.now) c.args.tree.now c.lines.invariant.sofar some c.first_line.ensures.line wrong
 
 pub lines-preserved : goal.lines-preserved
 lines-preserved c =
     let some = some_bytes c.lines.rest.now c.is_empty.result c.is_empty.ensures c.lines-test.true in
     let adds = rw c.if-not-branch.false at c.in_ok-read_line.ensures in
     record {
-      sofar = sofar_goes (rules_in c.args.rules.now) c.args.tree.now c.lines.invariant.sofar some c.first_line.ensures.line adds;
+      sofar = sofar_goes c.args.grammar.now (rules_in c.args.rules.now) c.args.tree.now c.lines.invariant.sofar some c.first_line.ensures.line adds;
       few = omega arith;
       within = omega arith;
     }
 
 pub returns : goal.returns
 returns c =
-    sofar_ends (rules_in c.args.rules.now) c.args.tree.now c.lines.invariant.sofar (no_bytes c.lines.rest.now c.is_empty.result c.is_empty.ensures c.lines-test.false) c.lines.invariant.few
+    sofar_ends c.args.grammar.now (rules_in c.args.rules.now) c.args.tree.now c.lines.invariant.sofar (no_bytes c.lines.rest.now c.is_empty.result c.is_empty.ensures c.lines-test.false) c.lines.invariant.few

@@ -10,7 +10,7 @@ decreases-lines l = length l.rest
 
 abbrev pub invariant-lines : goal.invariant-lines
 invariant-lines l = record {
-  sofar : IsSofar (rules_in l.rules) l.tree l.bytes l.lines l.rest (map query_of l.list.items);
+  sofar : IsSofar l.grammar (rules_in l.rules) l.tree l.bytes l.lines l.rest (map query_of l.list.items);
   few : l.lines ≤ most_lines;
   within : length l.rest ≤ length l.bytes;
 }

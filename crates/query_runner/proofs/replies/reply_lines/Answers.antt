@@ -1,12 +1,12 @@
--- Each query has a value in the table, and its line is added.
+-- Each query has a value in the table or a loop, and its line is added.
 use Rattle.std.proofs.Common.{◌≡◌, ℕ, ◌+◌, ◌-◌, ◌<◌, ◌≤◌, List, length, arith, ap, subst, ◌∙◌}
 use Rattle.std.proofs.Math.ListN.{drop_of_length-le}
-use Rattle.equation_law.specs.Named.{Solves, value_at, value_in}
+use Rattle.equation_law.specs.Named.{Solves, value_at}
 use Rattle.equation_law.specs.Names.{Instance}
 use Rattle.equation_law.specs.Systems.{program_of}
 use Rattle.query_runner.specs.Replies.{IsReply}
 use Rattle.query_runner.proofs.Answered.{answered, attributes_before, length-source}
-use Rattle.query_runner.proofs.ReplyLines.{reply_plain, reply_has, reply_there, next_reply, all_replies}
+use Rattle.query_runner.proofs.ReplyLines.{found_plain, next_reply, all_replies}
 use Rattle.query_runner.proofs.replies.reply_lines.Goals as goal
 
 pub overflow_sub-first : goal.overflow_sub-first
@@ -15,8 +15,8 @@ overflow_sub-first g c =
     let before : c.len.result ≡ attributes_before p + length p.queries = c.len.ensures ∙ ap length c.in_ok-names.ensures ∙ length-source p in
     omega (arith, before, c.replies-2.ensures)
 
-pub unreachable-requires : goal.unreachable-requires
-unreachable-requires g c =
+pub add_answer-requires : goal.add_answer-requires
+add_answer-requires g c =
     let p = program_of c.args.system.now in
     let table = c.in_ok-table.table in
     let before : c.len.result ≡ attributes_before p + length p.queries = c.len.ensures ∙ ap length c.in_ok-names.ensures ∙ length-source p in
@@ -24,18 +24,7 @@ unreachable-requires g c =
     let at : attributes_before p + c.replies.q ≡ c.len.result - c.replies-2.result + c.replies.q = omega (arith, before, c.replies-2.ensures) in
     let within : c.replies.q < length p.queries = omega (arith, c.replies-test.true, c.replies-q-end.ensures) in
     let found = subst (λ (k : ℕ). IsReply p c.replies.q (value_at table k)) at (answered p c.requires table solved c.replies.q within) in
-    reply_there p c.replies.q (value_at table (c.len.result - c.replies-2.result + c.replies.q)) found c.in_default.ensures
-
-pub add_reply-requires : goal.add_reply-requires
-add_reply-requires g c =
-    let p = program_of c.args.system.now in
-    let table = c.in_ok-table.table in
-    let before : c.len.result ≡ attributes_before p + length p.queries = c.len.ensures ∙ ap length c.in_ok-names.ensures ∙ length-source p in
-    let solved = subst (λ (names : List Instance). Solves p names table) c.in_ok-names.ensures c.in_ok-table.ensures in
-    let at : attributes_before p + c.replies.q ≡ c.len.result - c.replies-2.result + c.replies.q = omega (arith, before, c.replies-2.ensures) in
-    let within : c.replies.q < length p.queries = omega (arith, c.replies-test.true, c.replies-q-end.ensures) in
-    let found = subst (λ (k : ℕ). IsReply p c.replies.q (value_at table k)) at (answered p c.requires table solved c.replies.q within) in
-    reply_plain p c.replies.q (value_at table (c.len.result - c.replies-2.result + c.replies.q)) (value_in c.in-Some.value.now) found c.in-Some.ensures
+    found_plain p c.replies.q c.value.result (value_at table (c.len.result - c.replies-2.result + c.replies.q)) found c.value.ensures
 
 pub replies-preserved : goal.replies-preserved
 replies-preserved g c =
@@ -46,8 +35,7 @@ replies-preserved g c =
     let at : attributes_before p + c.replies.q ≡ c.len.result - c.replies-2.result + c.replies.q = omega (arith, before, c.replies-2.ensures) in
     let within : c.replies.q < length p.queries = omega (arith, c.replies-test.true, c.replies-q-end.ensures) in
     let found = subst (λ (k : ℕ). IsReply p c.replies.q (value_at table k)) at (answered p c.requires table solved c.replies.q within) in
-    let has = reply_has p c.replies.q (value_at table (c.len.result - c.replies-2.result + c.replies.q)) (value_in c.in-Some.value.now) found c.in-Some.ensures in
-    next_reply p c.replies.q (value_in c.in-Some.value.now) c.replies.text.items c.add_reply.new.text.items within has c.in_ok-add_reply.ensures c.replies.invariant
+    next_reply p c.replies.q c.replies.text.items c.add_answer.new.text.items within c.replies.invariant c.value.result (value_at table (c.len.result - c.replies-2.result + c.replies.q)) found c.value.ensures c.in_ok-add_answer.ensures
 
 pub returns : goal.returns
 returns g c =

@@ -6,7 +6,7 @@ use Rattle.query_runner.specs.Fetched.{seen_contents}
 use Rattle.query_runner.specs.Named.{seen_names, seen_file}
 use Rattle.query_runner.specs.Words.{text_of_word}
 use Rattle.query_runner.specs.declared.running.Answer.TheVariants.{Replies}
-use Rattle.query_runner.proofs.Answerable.{ready}
+use Rattle.query_runner.proofs.Answerable.{is_program}
 use Rattle.query_runner.proofs.Preparing.{usage_answer, long_answer, unbuilt_answer, reply_answer}
 use Rattle.query_runner.proofs.running.prepare.Goals as goal
 
@@ -19,7 +19,7 @@ returns-in-TooLong-clause-answer g c =
     long_answer (map text_of_word c.args.words.now) (g.S.Shelf.files c.args.shelf.now) (seen_names c.in-Some.names) c.in-TooLong.name.now c.refuse.result c.in-Some.ensures cause c.refuse.ensures.line
 
 pub reply_lines-requires-after_bounds : goal.reply_lines-requires-after_bounds
-reply_lines-requires-after_bounds g c = λ lifetimes among. ready (seen_contents c.in-Ok.contents) (program_of c.in-Ok-read_system.system) c.in-Ok-read_system.ensures.said
+reply_lines-requires-after_bounds g c = λ lifetimes among. is_program (seen_contents c.in-Ok.contents) (program_of c.in-Ok-read_system.system) c.in-Ok-read_system.ensures.said
 
 pub returns-in-Ok-reply_lines-clause-answer : goal.returns-in-Ok-reply_lines-clause-answer
 returns-in-Ok-reply_lines-clause-answer g c =
