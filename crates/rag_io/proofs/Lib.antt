@@ -2,9 +2,13 @@ pub mod Comments
 pub mod EndOfFile
 pub mod Ends
 pub mod Lexing
+pub mod Numbers
+pub mod Places
+pub mod Quoted
 pub mod Readings
 pub mod Runs
 pub mod Scanning
 pub mod Signs
 pub mod SymbolLengths
 pub mod Texts
+pub mod Unquotes
