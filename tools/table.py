@@ -1,11 +1,12 @@
 #!/usr/bin/env python3
 """From a grammar file to the tables that the parser reads, and to the grammar's definition.
 
-    python3 tools/table.py GRAMMAR-FILE CRATE
+    python3 tools/table.py [--printed] GRAMMAR-FILE CRATE
 
 writes crates/CRATE/src/NAME_table.rt (constants), crates/CRATE/specs/NameGrammar.antt (the productions, which
 contracts cite) and crates/CRATE/specs/NameClaims.antt (what is claimed of the table). Nothing here is trusted:
-the check of the crate computes that the table fits the productions.
+the check of the crate computes that the table fits the productions. With `--printed` it writes the productions
+alone: those of a grammar as people write it, which needn't be LL(1).
 
 A grammar file has lines `%token T ..` (classes of tokens, numbered from 1; 0 is the end), `%act A ..` (actions,
 numbered from 1), `%start N ..` (further start symbols), comments behind `#`, and productions
@@ -15,7 +16,7 @@ import os
 import re
 import sys
 
-WIDTH = 64  # classes of tokens in a row of choices
+WIDTH = 64  # classes of tokens in a row of choices; the last place is for what derives no tokens
 NO_PRODUCTION = 255
 
 
@@ -78,6 +79,9 @@ class Claims:
                 self.choice[head, t] = p
         if conflicts:
             sys.exit("\n".join(conflicts))
+        for p, (head, body) in enumerate(self.productions):
+            if self.vanishes(body):
+                self.choice[head, WIDTH - 1] = p
         self.weight = [1] * count
         for _ in range(count + 1):
             for head, body in self.productions:
@@ -190,12 +194,15 @@ def write_claims(grammar, claims, path):
 
 
 def main():
-    grammar = Grammar(sys.argv[1])
-    claims = Claims(grammar)
-    crate = f"crates/{sys.argv[2]}"
+    words = [word for word in sys.argv[1:] if word != "--printed"]
+    grammar = Grammar(words[0])
+    crate = f"crates/{words[1]}"
     title = "".join(part.capitalize() for part in grammar.name.split("_"))
-    write_constants(grammar, claims, f"{crate}/src/{grammar.name}_table.rt")
     write_grammar(grammar, f"{crate}/specs/{title}Grammar.antt")
+    if len(words) < len(sys.argv[1:]):
+        return
+    claims = Claims(grammar)
+    write_constants(grammar, claims, f"{crate}/src/{grammar.name}_table.rt")
     write_claims(grammar, claims, f"{crate}/specs/{title}Claims.antt")
 
 

@@ -1,4 +1,7 @@
+pub mod Including
 pub mod Members
+pub mod Returning
+pub mod Sentences
 pub mod Theory
 pub mod Steps
 pub mod Coding
