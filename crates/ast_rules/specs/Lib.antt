@@ -1,0 +1,11 @@
+pub mod AstClaims
+pub mod AstGrammar
+pub mod AstPrintedGrammar
+pub mod Building
+pub mod Members
+pub mod Naming
+pub mod Phases
+pub mod Reading
+pub mod Superclasses
+pub mod Tokens
+pub mod Written

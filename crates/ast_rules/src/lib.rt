@@ -1,0 +1,30 @@
+//! The rules of an abstract grammar, as an `.ast` file writes them: [`read_rules`] reads them, and [`check_rules`] checks them.
+#![tactic(auto)]
+
+mod ast_table;
+mod building;
+#[cfg(test)]
+mod file_tests;
+#[cfg(test)]
+mod loop_tests;
+mod loops;
+#[cfg(test)]
+mod member_tests;
+mod members;
+mod naming;
+#[cfg(test)]
+mod naming_tests;
+#[cfg(test)]
+mod phase_tests;
+mod phases;
+mod reading;
+#[cfg(test)]
+mod syntax_tests;
+#[cfg(test)]
+mod tests;
+mod written;
+
+pub use naming::type_of;
+pub use phases::{ClassNumbers, check_rules};
+pub use reading::read_rules;
+pub use written::{Form, Name, WrittenComponent, WrittenRule};
