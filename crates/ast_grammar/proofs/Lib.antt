@@ -1,7 +1,14 @@
 pub mod Allowed
-pub mod AstFits
-mod Checked
+pub mod Clean
+pub mod CleanMembers
+pub mod CleanNames
+pub mod CleanRules
+pub mod Inherited
+pub mod Keeping
 pub mod Kept
+pub mod Made
+pub mod OneGrammar
 pub mod Positions
-pub mod Sentences
-pub mod Written
+pub mod Read
+pub mod Table
+pub mod WrittenClasses

@@ -1,22 +1,52 @@
--- What is read of the classes, by the texts of its tokens.
-use Rattle.std.specs.Prelude.{◌≤◌, List, All, map, length}
-use Rattle.rag_io.specs.Tokens.{Lexed}
-use Rattle.ast_grammar.specs.Grammar.{most_classes, most_components}
-use Rattle.ast_grammar.specs.Written.{WrittenComponent, WrittenClass, Building, text_at}
-use Rattle.ast_grammar.specs.declared.building.ComponentTokens.{ComponentTokens}
-use Rattle.ast_grammar.specs.declared.building.ClassTokens.{ClassTokens}
-use Rattle.ast_grammar.specs.declared.building.Builder.{Builder}
+-- What is kept of the rules of a grammar: names and classes by their numbers.
+use Rattle.std.specs.Prelude.{◌≡◌, ℕ, ◌+◌, ◌<◌, ◌≤◌, List, [], All, Some, Vec, length, map, slice_get, slice_index_or}
+use Rattle.std.specs.Option.{option_map}
+use Rattle.std.specs.declared.alloc.Global.{Global}
+use Rattle.ast_rules.specs.Naming.{names_of}
+use Rattle.ast_rules.specs.Superclasses.{superclass_number}
+use Rattle.ast_rules.specs.Written.{WrittenComponent, WrittenRule}
+use Rattle.ast_grammar.specs.Grammar.{most_classes, most_components, nameless}
+use Rattle.ast_grammar.specs.Written.{class_id, component_written, inherited_first, name_table}
+use Rattle.ast_grammar.specs.declared.grammar.Component as memory
+use Rattle.ast_grammar.specs.declared.grammar.KeptClass.{KeptClass}
 
-abbrev pub seen_component : List Lexed → ComponentTokens → WrittenComponent
-seen_component ts w = record { name = text_at ts w.name; type = text_at ts w.class; shape = w.shape }
+-- Few rules, with few components each.
+pub record AreSmall (rules : List WrittenRule) : Type 0 where
+  pub few : length rules ≤ most_classes
+  pub short : All (λ (rule : WrittenRule). length rule.components ≤ most_components) rules
 
-abbrev pub seen_class : List Lexed → ClassTokens → WrittenClass
-seen_class ts w = record { name = text_at ts w.name; components = map (seen_component ts) w.components.items }
+-- Each class has a name that is not empty.
+pub record AreCalled (rules : List WrittenRule) : Type 0 where
+  pub called : All (λ (rule : WrittenRule). 0 < length rule.name.text) rules
 
-abbrev pub seen_builder : List Lexed → Builder → Building
-seen_builder ts b = record { at = b.at; name = b.name; components = map (seen_component ts) b.components.items; classes = map (seen_class ts) b.classes.items }
+-- These are the names of the rules: all that stand in the grammar's table, and those of the classes.
+pub record AreNames (rules : List WrittenRule) (names classes : List (List ℕ)) : Type 0 where
+  pub table : names ≡ name_table rules
+  pub of_classes : classes ≡ names_of rules
 
--- Few classes, with few components each.
-pub record AreSmall (classes : List ClassTokens) : Type 0 where
-  pub few : length classes ≤ most_classes
-  pub short : All (λ c. length c.components.items ≤ most_components) classes
+-- a component by the numbers of its name and its class
+abbrev pub component_numbered : List WrittenRule → WrittenComponent → memory.Component
+component_numbered rules c = nameless (component_written rules c)
+
+-- the components that a rule itself writes
+abbrev pub own_numbered : List WrittenRule → WrittenRule → List memory.Component
+own_numbered rules rule = map (component_numbered rules) rule.components
+
+abbrev pub items_of : Vec memory.Component Global → List memory.Component
+items_of v = v.items
+
+-- the components that the class of this number itself has
+abbrev pub own_at : List (List memory.Component) → ℕ → List memory.Component
+own_at own class = slice_index_or own class []
+
+-- This is what is kept of the class of a rule, by its number among the rules.
+pub record IsKeptOf (rules : List WrittenRule) (number : ℕ) (rule : WrittenRule) (c : KeptClass) : Type 0 where
+  pub abstract : c.is_abstract ≡ rule.abstract
+  pub name : c.name ≡ number + 1
+  pub superclass : c.superclass ≡ option_map class_id (superclass_number (names_of rules) rule)
+  pub components : c.components.items ≡ map (component_numbered rules) (inherited_first rules number)
+
+-- These are kept of the classes of the rules.
+pub record AreKeptOf (rules : List WrittenRule) (classes : List KeptClass) : Type 0 where
+  pub count : length classes ≡ length rules
+  pub each : (k : ℕ) (rule : WrittenRule) (c : KeptClass) → slice_get rules k ≡ Some rule → slice_get classes k ≡ Some c → IsKeptOf rules k rule c

@@ -1,118 +1,80 @@
--- The classes that a sentence writes, and the grammar that these are.
-use Rattle.std.specs.Prelude.{◌==◌, ℕ, ◌+◌, ◌-◌, List, [], ◌∷◌, ◌++◌, false, Option, Some, None, length, position, slice_get, unwrap_or, if◌then◌else◌}
+-- The grammar that some rules write, which break none.
+use Rattle.std.specs.Prelude.{ℕ, ◌+◌, List, [], ◌∷◌, ◌++◌, Option, Some, None, codes, map, position, reverse, unwrap_or, if◌then◌else◌}
+use Rattle.std.specs.List.{flat_map}
+use Rattle.std.specs.Option.{option_map}
 use Rattle.std.specs.Str.{bytes_eq}
-use Rattle.rag_io.specs.Tokens.{Lexed}
-use Rattle.ll_parser.specs.Grammar.{shift}
-use Rattle.ast_grammar.specs.Grammar.{Class, Component}
+use Rattle.names.specs.Among.{with_names}
+use Rattle.superclasses.specs.Superclasses.{upwards}
+use Rattle.ast_rules.specs.declared.written.Form.{Form}
+use Rattle.ast_rules.specs.declared.written.Form.TheVariants as forms
+use Rattle.ast_rules.specs.Members.{components_at, names_of_components}
+use Rattle.ast_rules.specs.Naming.{names_of, type_of}
+use Rattle.ast_rules.specs.Superclasses.{superclass_number, superclass_numbers}
+use Rattle.ast_rules.specs.Written.{Name, WrittenComponent, WrittenRule}
 use Rattle.ast_grammar.specs.declared.grammar.ClassId.{ClassId}
 use Rattle.ast_grammar.specs.declared.grammar.Shape.{Shape}
 use Rattle.ast_grammar.specs.declared.grammar.Shape.TheVariants as shapes
+use Rattle.ast_grammar.specs.Grammar.{Class, Component}
 
--- a component as it is written: its name, its type, and what it is
-pub record WrittenComponent : Type 0 where
-  pub name : List ℕ
-  pub type : List ℕ
-  pub shape : Shape
+-- the names of a grammar: the empty one, those of the classes, and those of the components, each once
+abbrev pub name_table : List WrittenRule → List (List ℕ)
+name_table rules = with_names ([] ∷ []) (names_of rules ++ flat_map (λ (r : WrittenRule). names_of_components r.components) rules)
 
--- a class as it is written: its name and its components
-pub record WrittenClass : Type 0 where
-  pub name : List ℕ
-  pub components : List WrittenComponent
+-- the number of a name in the table
+abbrev pub name_number : List WrittenRule → List ℕ → ℕ
+name_number rules name = unwrap_or (position (bytes_eq name) (name_table rules)) 0
 
--- what is built behind some events: how many tokens were read, of the class that is being read the number of the
--- token that names it and the components, and the classes before it
-pub record Building : Type 0 where
-  pub at : ℕ
-  pub name : ℕ
-  pub components : List WrittenComponent
-  pub classes : List WrittenClass
+-- a token without a type is a `String`
+abbrev pub token_shape : Option Name → Shape
+token_shape None = shapes.Text
+token_shape (Some type) =
+    if bytes_eq type.text (codes "int") then shapes.Int else if bytes_eq type.text (codes "boolean") then shapes.Truth else shapes.Text
 
-abbrev pub nothing : Building
-nothing = record { at = 0; name = 0; components = []; classes = [] }
+abbrev pub shape_of : Form → Option Name → Shape
+shape_of forms.Child type = shapes.Child
+shape_of forms.List type = shapes.List
+shape_of forms.Optional type = shapes.Optional
+shape_of forms.Token type = token_shape type
 
--- the acts of the grammar
-abbrev pub name_act : ℕ
-name_act = 1
+abbrev pub class_numbered : Option ℕ → ClassId
+class_numbered k = record { 0 = unwrap_or k 0 }
 
-abbrev pub child_act : ℕ
-child_act = 2
+-- the class of this name
+abbrev pub class_called : List WrittenRule → List ℕ → ClassId
+class_called rules name = class_numbered (position (bytes_eq name) (names_of rules))
 
-abbrev pub named_child_act : ℕ
-named_child_act = 3
+-- the class of a child, list or optional, by its type; a token has number 0, which says nothing
+abbrev pub class_for : List WrittenRule → Form → WrittenComponent → ClassId
+class_for rules forms.Child c = class_called rules (type_of c).text
+class_for rules forms.List c = class_called rules (type_of c).text
+class_for rules forms.Optional c = class_called rules (type_of c).text
+class_for rules forms.Token c = record { 0 = 0 }
 
-abbrev pub int_act : ℕ
-int_act = 4
+abbrev pub component_written : List WrittenRule → WrittenComponent → Component
+component_written rules c =
+    record { name = c.name.text; number = name_number rules c.name.text; shape = shape_of c.form c.type_name; class = class_for rules c.form c }
 
-abbrev pub truth_act : ℕ
-truth_act = 5
+-- what is written as the components of a class and of its superclasses, the farthest first
+abbrev pub inherited_first : List WrittenRule → ℕ → List WrittenComponent
+inherited_first rules i = flat_map (components_at rules) (reverse (upwards (superclass_numbers (names_of rules) rules) i))
 
-abbrev pub class_act : ℕ
-class_act = 6
+abbrev pub class_id : ℕ → ClassId
+class_id k = record { 0 = k }
 
-abbrev pub text_of_token : Option Lexed → List ℕ
-text_of_token None = []
-text_of_token (Some t) = t.text
+-- the class of this number, by its rule
+abbrev pub class_written : List WrittenRule → ℕ → WrittenRule → Class
+class_written rules i rule = record {
+  name = rule.name.text;
+  abstract = rule.abstract;
+  superclass = option_map class_id (superclass_number (names_of rules) rule);
+  components = map (component_written rules) (inherited_first rules i);
+}
 
--- the text of the token of this number
-abbrev pub text_at : List Lexed → ℕ → List ℕ
-text_at ts n = text_of_token (slice_get ts n)
+-- the classes of rules, which are numbered from i on, among all rules
+abbrev pub classes_from : List WrittenRule → ℕ → List WrittenRule → List Class
+classes_from rules i [] = []
+classes_from rules i (rule ∷ rest) = class_written rules i rule ∷ classes_from rules (i + 1) rest
 
--- a component more, whose name stands so many tokens back; its type is the last token
-abbrev pub component_added : List Lexed → Building → ℕ → Shape → Building
-component_added ts b back shape = record b { components = b.components ++ record { name = text_at ts (b.at - back); type = text_at ts (b.at - 1); shape = shape } ∷ [] }
-
--- the class that was read
-abbrev pub class_added : List Lexed → Building → Building
-class_added ts b = record b { components = []; classes = b.classes ++ record { name = text_at ts b.name; components = b.components } ∷ [] }
-
--- what an event builds; the last token is the one before `at`
-abbrev pub after : List Lexed → Building → ℕ → Building
-after ts b e =
-    if e == shift then record b { at = b.at + 1 }
-    else if e == name_act then record b { name = b.at - 1 }
-    else if e == child_act then component_added ts b 1 shapes.Child
-    else if e == named_child_act then component_added ts b 3 shapes.Child
-    else if e == int_act then component_added ts b 3 shapes.Int
-    else if e == truth_act then component_added ts b 3 shapes.Truth
-    else if e == class_act then class_added ts b
-    else b
-
-abbrev pub built : List Lexed → Building → List ℕ → Building
-built ts b [] = b
-built ts b (e ∷ events) = built ts (after ts b e) events
-
--- the classes that a sentence of these events writes
-abbrev pub written : List Lexed → List ℕ → List WrittenClass
-written ts events = (built ts nothing events).classes
-
--- the class of this name: its number, or where none has it, the number behind those of all classes
-abbrev pub class_called : List WrittenClass → List ℕ → ClassId
-class_called ws name = record { 0 = unwrap_or (position (λ w. bytes_eq w.name name) ws) (length ws) }
-
--- the class of a component, by its type
-abbrev pub class_for : List WrittenClass → Shape → List ℕ → ClassId
-class_for ws shapes.Child type = class_called ws type
-class_for ws shapes.List type = class_called ws type
-class_for ws shapes.Optional type = class_called ws type
-class_for ws shapes.Text type = record { 0 = 0 }
-class_for ws shapes.Int type = record { 0 = 0 }
-class_for ws shapes.Truth type = record { 0 = 0 }
-
--- the component that is written so, by its number
-abbrev pub component_for : List WrittenClass → ℕ → WrittenComponent → Component
-component_for ws n w = record { name = w.name; number = n; shape = w.shape; class = class_for ws w.shape w.type }
-
--- components, which are numbered from n on
-abbrev pub components_from : List WrittenClass → ℕ → List WrittenComponent → List Component
-components_from ws n [] = []
-components_from ws n (w ∷ rest) = component_for ws n w ∷ components_from ws (n + 1) rest
-
--- classes, whose components are numbered from n on
-abbrev pub classes_from : List WrittenClass → ℕ → List WrittenClass → List Class
-classes_from ws n [] = []
-classes_from ws n (w ∷ rest) =
-    record { name = w.name; abstract = false; superclass = None; components = components_from ws n w.components } ∷ classes_from ws (n + length w.components) rest
-
--- the grammar of the classes that are written
-abbrev pub grammar_written : List WrittenClass → List Class
-grammar_written ws = classes_from ws 0 ws
+-- the grammar of some rules: classes are numbered in their order
+abbrev pub grammar_written : List WrittenRule → List Class
+grammar_written rules = classes_from rules 0 rules

@@ -1,114 +1,96 @@
-// The classes that a sentence writes, from its events.
-ghost use Rattle.std.specs.Prelude.{◌≡◌, ◌<◌, ◌^◌, List, map, IfOk};
-ghost use Rattle.rag_io.specs.Tokens.{Lexed, seen_tokens};
-ghost use Rattle.ast_grammar.specs.Building.{seen_class, seen_builder};
-ghost use Rattle.ast_grammar.specs.Written.{after, component_added, class_added, text_at, written};
+// The grammar that some rules write.
+ghost use Rattle.std.specs.Prelude.{◌≡◌, ◌<◌, ◌≤◌, length, map, reverse, IfOk};
+ghost use Rattle.std.specs.List.{flat_map};
+ghost use Rattle.std.specs.Option.{option_map};
+ghost use Rattle.superclasses.specs.Superclasses.{AreWithin, superclass_of, upwards};
+ghost use Rattle.ast_rules.specs.Naming.{names_of};
+ghost use Rattle.ast_rules.specs.Superclasses.{superclass_numbers};
+ghost use Rattle.ast_rules.specs.Written.{seen_rules};
+ghost use Rattle.ast_grammar.specs.Building.{AreCalled, AreKeptOf, items_of, own_at, own_numbered};
+ghost use Rattle.ast_grammar.specs.Grammar.{IsGrammar, most_classes};
+ghost use Rattle.ast_grammar.specs.Written.{class_id, grammar_written};
 
-use crate::grammar::Shape;
-use rag_io::{Memory, Token};
+use crate::grammar::{ClassId, Component, Grammar, KeptClass};
+use crate::naming::name_table;
+use crate::numbering::number_components;
+use ast_rules::{ClassNumbers, WrittenRule};
+use rag_io::Memory;
 use std::alloc::Global;
-use std::mem;
+use superclasses::{Subclasses, line_of};
 
-// The event of a token, and those of the acts of the grammar.
-const TOKEN: u8 = 255;
-
-const NAME: u8 = 1;
-
-const CHILD: u8 = 2;
-
-const NAMED_CHILD: u8 = 3;
-
-const INT: u8 = 4;
-
-const TRUTH: u8 = 5;
-
-const CLASS: u8 = 6;
-
-// A component by the numbers of the tokens of its name and its type.
-#[derive(Clone, Copy)]
-pub(crate) struct ComponentTokens {
-    pub name: usize,
-    pub class: usize,
-    pub shape: Shape,
-}
-
-// A class by the number of the token of its name.
-#[derive(Drop)]
-pub(crate) struct ClassTokens {
-    pub name: usize,
-    pub components: Vec<ComponentTokens>,
-}
-
-// What is built behind some events: how many tokens were read, the class that is being read, and those before it.
-#[derive(Drop)]
-struct Builder {
-    at: usize,
-    name: usize,
-    components: Vec<ComponentTokens>,
-    classes: Vec<ClassTokens>,
-}
-
-// The text of the token of this number.
-pub(crate) fn text_at<'a>(tokens: &[Token<'a>], number: usize) -> &'a [u8]
-    ensures { result.now ≡ text_at (seen_tokens tokens.now) number }
+// The components of a class: those of its superclasses, the farthest first, and then its own.
+fn components_of(
+    alloc: Global,
+    own: &[Vec<Component>],
+    superclasses: &[Option<usize>],
+    class: usize,
+) -> Result<Vec<Component>, Memory>
+    ensures { IfOk result (λ v. v.items ≡ flat_map (own_at (map items_of own.now)) (reverse (upwards superclasses.now class))) }
 {
-    match tokens.get(number) {
-        Some(token) => token.text,
-        None => b"".as_slice(),
+    let mut line = line_of(alloc, superclasses, class)?;
+    line.reverse();
+    line.push(class).map_err(|_| Memory)?;
+    let mut components = Vec::new(alloc);
+    for number in &line {
+        if let Some(own) = own.get(*number) {
+            components.extend_from_slice(own).map_err(|_| Memory)?;
+        }
     }
+    Ok(components)
 }
 
-// Adds a component whose name stands so many tokens back.
-fn add_component(b: &mut Builder, back: usize, shape: Shape) -> Result<(), Memory>
-    ensures { (ts : List Lexed) → IfOk result (λ u. seen_builder ts b.new ≡ component_added ts (seen_builder ts b.old) back shape) }
+// The superclass of a class.
+fn superclass_at(superclasses: &[Option<usize>], class: usize) -> Option<ClassId>
+    requires known { class < length superclasses.now }
+    requires few { length superclasses.now ≤ most_classes }
+    requires within { AreWithin superclasses.now }
+    ensures { result ≡ option_map class_id (superclass_of superclasses.now class) }
 {
-    let component = ComponentTokens {
-        name: b.at.saturating_sub(back),
-        class: b.at.saturating_sub(1),
-        shape,
-    };
-    b.components.push(component).map_err(|_| Memory)
+    let above = superclasses[class]?;
+    Some(ClassId(above as u16))
 }
 
-fn add_class(alloc: Global, b: &mut Builder) -> Result<(), Memory>
-    ensures { (ts : List Lexed) → IfOk result (λ u. seen_builder ts b.new ≡ class_added ts (seen_builder ts b.old)) }
+// What is kept of the classes of some rules.
+fn kept_classes(
+    alloc: Global,
+    rules: &[WrittenRule<'_>],
+    superclasses: &[Option<usize>],
+    own: &[Vec<Component>],
+) -> Result<Vec<KeptClass>, Memory>
+    requires few { length rules.now ≤ most_classes }
+    requires superclasses { superclasses.now ≡ superclass_numbers (names_of (seen_rules rules.now)) (seen_rules rules.now) }
+    requires within { AreWithin superclasses.now }
+    requires own { map items_of own.now ≡ map (own_numbered (seen_rules rules.now)) (seen_rules rules.now) }
+    ensures { IfOk result (λ v. AreKeptOf (seen_rules rules.now) v.items) }
 {
-    let class = ClassTokens {
-        name: b.name,
-        components: mem::replace(&mut b.components, Vec::new(alloc)),
-    };
-    b.classes.push(class).map_err(|_| Memory)
-}
-
-fn act(alloc: Global, b: &mut Builder, event: u8) -> Result<(), Memory>
-    requires { b.old.at < 2 ^ 63 }
-    ensures { (ts : List Lexed) → IfOk result (λ u. seen_builder ts b.new ≡ after ts (seen_builder ts b.old) event) }
-{
-    match event {
-        TOKEN => b.at += 1,
-        NAME => b.name = b.at.saturating_sub(1),
-        CHILD => return add_component(b, 1, Shape::Child),
-        NAMED_CHILD => return add_component(b, 3, Shape::Child),
-        INT => return add_component(b, 3, Shape::Int),
-        TRUTH => return add_component(b, 3, Shape::Truth),
-        CLASS => return add_class(alloc, b),
-        _ => {}
+    let mut kept = Vec::new(alloc);
+    for (i, rule) in rules.iter().enumerate() {
+        let class = KeptClass {
+            is_abstract: rule.is_abstract,
+            name: i as u32 + 1,
+            superclass: superclass_at(superclasses, i),
+            components: components_of(alloc, own, superclasses, i)?,
+        };
+        kept.push(class).map_err(|_| Memory)?;
     }
-    Ok(())
+    Ok(kept)
 }
 
-// The classes that a sentence of these events writes.
-pub(crate) fn build(alloc: Global, events: &[u8]) -> Result<Vec<ClassTokens>, Memory>
-    ensures { (ts : List Lexed) → IfOk result (λ v. map (seen_class ts) v.items ≡ written ts events.now) }
+// The grammar of some rules, which break none.
+pub(crate) fn build(
+    alloc: Global,
+    rules: &[WrittenRule<'_>],
+    numbers: ClassNumbers<'_>,
+) -> Result<Grammar, Memory>
+    requires allowed { IsGrammar (grammar_written (seen_rules rules.now)) }
+    requires called { AreCalled (seen_rules rules.now) }
+    requires names { numbers.names ≡ names_of (seen_rules rules.now) }
+    requires superclasses { numbers.superclasses.items ≡ superclass_numbers (names_of (seen_rules rules.now)) (seen_rules rules.now) }
+    ensures { IfOk result (λ grammar. grammar ≡ grammar_written (seen_rules rules.now)) }
 {
-    let mut b = Builder {
-        at: 0,
-        name: 0,
-        components: Vec::new(alloc),
-        classes: Vec::new(alloc),
-    };
-    'acts: for (i, event) in events.iter().enumerate() {
-        act(alloc, &mut b, *event)?;
-    }
-    Ok(b.classes)
+    let names = name_table(alloc, rules)?;
+    let own = number_components(alloc, &names, &numbers.names, rules)?;
+    let classes = kept_classes(alloc, rules, &numbers.superclasses, &own)?;
+    let subclasses = Subclasses::of_superclasses(alloc, numbers.superclasses)?;
+    Ok(Grammar::of_parts(names, subclasses, classes))
 }

@@ -1,17 +1,14 @@
 // A grammar and its accessors.
-ghost use Rattle.std.specs.Prelude.{◌≡◌, ◌<◌, ◌≤◌, ◌↔◌, IsTrue, length, position, slice_get, Some};
+ghost use Rattle.std.specs.Prelude.{◌≡◌, ◌==◌, ◌<◌, ◌≤◌, ◌↔◌, IfSome, IsTrue, length, position, slice_get, Some};
 ghost use Rattle.std.specs.Option.{option_map};
-ghost use Rattle.std.specs.Str.{bytes_eq};
-ghost use Rattle.ast_grammar.specs.Grammar.{IsGrammar, IsSubclass, most_classes, most_components, number_of, name_of_class, name_of_component, nameless, abstract_in, superclass_of, components_of, component_at, component_named};
+ghost use Rattle.superclasses.specs.Superclasses.{nearest_common};
+ghost use Rattle.ast_grammar.specs.Grammar.{IsGrammar, IsSubclass, is_sub, most_classes, most_components, nameless, number_of};
+ghost use Rattle.ast_grammar.specs.Grammar.{abstract_in, class_named, name_of_class, superclass_of, superclasses_of};
+ghost use Rattle.ast_grammar.specs.Grammar.{component_at, component_named, components_of, name_of_component};
 
-use crate::named::{Named, place_of};
+use rag_io::Pool;
 use std::marker::Model;
-
-/// A grammar has at most so many classes.
-pub(crate) const MOST_CLASSES: usize = 256;
-
-/// A class has at most so many components.
-pub(crate) const MOST_COMPONENTS: usize = 16;
+use superclasses::Subclasses;
 
 /// The number of a class of a grammar: classes are numbered from 0 in the order of the file.
 #[derive(Clone, Copy, Debug, PartialEq, Eq)]
@@ -29,8 +26,8 @@ pub enum Shape {
     Truth,
 }
 
-/// A component of a class: the number of its name in the grammar, its shape, and the class of a child. Names
-/// are numbered from 0 in the order of the file. The class of a token is that of number 0, and says nothing.
+/// A component of a class: the number of its name in the grammar's own table of names, its shape, and the class of
+/// a child, of the children of a list, or of an optional child. The class of a token is that of number 0, and says nothing.
 #[derive(Clone, Copy, Debug, PartialEq, Eq)]
 pub struct Component {
     pub name: u32,
@@ -38,68 +35,59 @@ pub struct Component {
     pub class: ClassId,
 }
 
-// A component with its name.
-#[derive(Drop)]
-pub(crate) struct KeptComponent {
-    pub name: Vec<u8>,
-    pub component: Component,
-}
-
-// A class with its own components.
+// A class with all its components, inherited ones first. The name is a number in the grammar's table of names.
 #[derive(Drop)]
 pub(crate) struct KeptClass {
-    pub name: Vec<u8>,
-    pub components: Vec<KeptComponent>,
-}
-
-impl Named for KeptComponent {
-    ghost use Rattle.ast_grammar.specs.Kept.{name_of_kept_component};
-
-    ghost name_of = { name_of_kept_component };
-
-    fn name(&self) -> &[u8] {
-        self.name.as_slice()
-    }
-}
-
-impl Named for KeptClass {
-    ghost use Rattle.ast_grammar.specs.Kept.{name_of_kept_class};
-
-    ghost name_of = { name_of_kept_class };
-
-    fn name(&self) -> &[u8] {
-        self.name.as_slice()
-    }
+    pub is_abstract: bool,
+    pub name: u32,
+    pub superclass: Option<ClassId>,
+    pub components: Vec<Component>,
 }
 
 /// An abstract grammar: at least one class and at most 256, with different names, each with at most 16
-/// components of different names. The children of a class are of classes of the grammar.
+/// components of different names, those of its superclass first. No class is its own superclass, directly or through others.
 #[derive(Drop)]
 pub struct Grammar {
+    names: Pool,
+    subclasses: Subclasses,
     classes: Vec<KeptClass>,
 }
 
 impl Model for Grammar {
     ghost use Rattle.std.specs.Prelude.{List};
-    ghost use Rattle.ast_grammar.specs.Grammar.{Class, IsGrammar};
-    ghost use Rattle.ast_grammar.specs.Kept.{grammar_of};
+    ghost use Rattle.ast_grammar.specs.Grammar.{Class};
+    ghost use Rattle.ast_grammar.specs.Kept.{grammar_of, IsKept};
 
     ghost Value = { List Class };
 
-    ghost view = { λ kept. grammar_of kept.classes.items };
+    ghost view = { λ kept. grammar_of kept.names kept.classes.items };
 
-    ghost invariant = { λ kept. IsGrammar (grammar_of kept.classes.items) };
+    ghost invariant = { λ kept. IsKept kept.names kept.subclasses kept.classes.items };
+}
+
+// The place of the component whose name has this number.
+fn place_of(components: &[Component], number: u32) -> Option<usize>
+    ensures first { result ≡ position (λ p. p.name == number) components.now }
+    ensures within { IfSome result (λ k. k < length components.now) }
+{
+    components
+        .iter()
+        .position(|component| component.name == number)
 }
 
 impl Grammar {
-    ghost use Rattle.ast_grammar.specs.Kept.{grammar_of};
+    ghost use Rattle.ast_grammar.specs.Kept.{grammar_of, IsKept};
 
-    // The grammar of these classes.
-    pub(crate) fn of_classes(classes: Vec<KeptClass>) -> Grammar
-        requires { IsGrammar (grammar_of classes.items) }
-        ensures { result ≡ grammar_of classes.items }
+    // The grammar of these classes, with their names and superclasses.
+    pub(crate) fn of_parts(names: Pool, subclasses: Subclasses, classes: Vec<KeptClass>) -> Grammar
+        requires { IsKept names subclasses classes.items }
+        ensures { result ≡ grammar_of names classes.items }
     {
-        Grammar { classes }
+        Grammar {
+            names,
+            subclasses,
+            classes,
+        }
     }
 
     /// The number of classes.
@@ -111,58 +99,76 @@ impl Grammar {
         self.classes.len() as u32
     }
 
-    /// The class of the first rule, which is the class of the root of each tree.
+    /// The class of the first rule.
     pub fn first_class(&self) -> ClassId
         ensures { result.0 ≡ 0 }
     {
         ClassId(0)
     }
 
-    /// The name of a class, as its rule writes it.
+    /// The name of a class, as its rule writes it. This takes constant time.
     pub fn class_name(&self, class: ClassId) -> &[u8]
         requires { class.0 < length self.now }
         ensures { option_map name_of_class (slice_get self.now class.0) ≡ Some result.now }
     {
-        self.classes[class.0 as usize].name.as_slice()
+        self.names.get(self.classes[class.0 as usize].name)
     }
 
-    /// The class of this name, or None where no class of the grammar has it.
+    /// The class of this name, or None where no class of the grammar has it. The time is that of one look-up, however many classes there
+    /// are.
     pub fn find_class(&self, name: &[u8]) -> Option<ClassId>
-        ensures { option_map number_of result ≡ position (λ c. bytes_eq c.name name.now) self.now }
+        ensures number { option_map number_of result ≡ class_named self.now name.now }
+        ensures within { IfSome result (λ class. class.0 < length self.now) }
     {
-        let found = place_of(&self.classes, name)?;
-        Some(ClassId(found as u16))
+        let number = self.names.find(name)?;
+        if number == 0 || self.classes.len() < number as usize {
+            return None;
+        }
+        Some(ClassId((number - 1) as u16))
     }
 
-    /// Whether a class is declared `abstract`. None is in the form that is read so far.
+    /// Whether a class is declared `abstract`.
     pub fn is_abstract(&self, class: ClassId) -> bool
         requires { class.0 < length self.now }
         ensures { option_map abstract_in (slice_get self.now class.0) ≡ Some result }
     {
-        let _kept = &self.classes[class.0 as usize];
-        false
+        self.classes[class.0 as usize].is_abstract
     }
 
-    /// The superclass of a class, if it has one. None has in the form that is read so far.
+    /// The superclass of a class, if it has one.
     pub fn superclass(&self, class: ClassId) -> Option<ClassId>
         requires { class.0 < length self.now }
         ensures { result ≡ superclass_of self.now class.0 }
     {
-        let _kept = &self.classes[class.0 as usize];
-        None
+        self.classes[class.0 as usize].superclass
     }
 
-    /// Whether the first class is the second or a subclass of it, by one or more superclasses.
+    /// Whether the first class is the second or a subclass of it, by one or more superclasses. This takes constant time.
     pub fn is_sub(&self, class: ClassId, above: ClassId) -> bool
-        requires lower { class.0 < length self.now }
-        requires upper { above.0 < length self.now }
-        ensures { IsTrue result ↔ IsSubclass self.now class.0 above.0 }
+        ensures flag { result ≡ is_sub self.now class.0 above.0 }
+        ensures meaning { IsTrue result ↔ IsSubclass self.now class.0 above.0 }
     {
-        let _classes = &self.classes;
-        class == above
+        self.subclasses.is_sub(class.0 as usize, above.0 as usize)
     }
 
-    /// How many components a class has.
+    /// The nearest class from the first one upwards that the second is or is a subclass of.
+    pub fn nearest_common(&self, first: ClassId, second: ClassId) -> Option<ClassId>
+        ensures { option_map number_of result ≡ nearest_common (superclasses_of self.now) first.0 second.0 }
+    {
+        let found = self
+            .subclasses
+            .nearest_common(first.0 as usize, second.0 as usize)?;
+        Some(ClassId(found as u16))
+    }
+
+    /// Which classes are subclasses of which, by the numbers of the classes.
+    pub fn subclasses(&self) -> &Subclasses
+        ensures { result.now ≡ superclasses_of self.now }
+    {
+        &self.subclasses
+    }
+
+    /// How many components a class has, with those of its superclass.
     pub fn arity(&self, class: ClassId) -> u32
         requires { class.0 < length self.now }
         ensures number { result ≡ length (components_of self.now class.0) }
@@ -171,32 +177,34 @@ impl Grammar {
         self.classes[class.0 as usize].components.len() as u32
     }
 
-    /// A component of a class by its place, from 0 in the order of the rule.
+    /// A component of a class by its place, from 0: those of the superclass come first, and then those of the rule, in its order.
     pub fn component(&self, class: ClassId, k: u32) -> &Component
         requires known { class.0 < length self.now }
         requires within { k < length (components_of self.now class.0) }
         ensures { option_map nameless (component_at self.now class.0 k) ≡ Some result.now }
     {
         let kept = &self.classes[class.0 as usize];
-        &kept.components[k as usize].component
+        &kept.components[k as usize]
     }
 
-    /// The name of a component of a class: a child without a name of its own is called by its class.
+    /// The name of a component of a class: a child, a list or an optional without a name of its own is called by its class.
     pub fn component_name(&self, class: ClassId, k: u32) -> &[u8]
         requires known { class.0 < length self.now }
         requires within { k < length (components_of self.now class.0) }
         ensures { option_map name_of_component (component_at self.now class.0 k) ≡ Some result.now }
     {
         let kept = &self.classes[class.0 as usize];
-        kept.components[k as usize].name.as_slice()
+        self.names.get(kept.components[k as usize].name)
     }
 
-    /// The place of the component of this name in a class, or None where it has none.
+    /// The place of the component of this name in a class, or None where it has none. The name is looked up once, and is then compared by
+    /// its number.
     pub fn find_component(&self, class: ClassId, name: &[u8]) -> Option<u32>
         requires { class.0 < length self.now }
         ensures { result ≡ component_named self.now class.0 name.now }
     {
-        let found = place_of(&self.classes[class.0 as usize].components, name)?;
+        let number = self.names.find(name)?;
+        let found = place_of(&self.classes[class.0 as usize].components, number)?;
         Some(found as u32)
     }
 }

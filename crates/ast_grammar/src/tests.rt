@@ -1,223 +1,292 @@
+mod samples;
+
 use super::*;
-use rag_io::{LONGEST_FILE, scan};
-use std::alloc::{AllocError, Global};
+use broken_rules::{Broken, ReadFault, Rule};
+use rag_io::{LONGEST_FILE, Place, scan};
+use std::alloc::Global;
 use std::process::Abort;
 use std::test::Fail;
 
-// A text of so many rules, of different names.
-fn rules_text(alloc: Global, count: u32) -> Result<String, AllocError> {
-    let mut text = String::new(alloc);
-    for i in 0..count {
-        write!(text, "C{i};\n")?;
-    }
-    Ok(text)
-}
-
-// A text of one rule of so many components, of different names.
-fn components_text(alloc: Global, count: u32) -> Result<String, AllocError> {
-    let mut text = String::new(alloc);
-    text.push_str("A ::=")?;
-    for i in 0..count {
-        write!(text, " <T{i}:int>")?;
-    }
-    text.push(';')?;
-    Ok(text)
-}
-
-// How many classes the bytes say, or None where they say no grammar.
-fn classes_said(rt: &impl Abort, alloc: Global, text: &str) -> Result<Option<u32>, Fail> {
+// What reading a text answers.
+fn answer(rt: &impl Abort, alloc: Global, text: &str) -> Result<Result<Grammar, ReadFault>, Fail> {
     assert!(rt; text.len() <= LONGEST_FILE);
     let tokens = scan(alloc, text.as_bytes())?;
-    Ok(read_first(alloc, &tokens)?.map(|grammar| grammar.classes()))
+    Ok(read_ast(alloc, &tokens))
 }
 
-// A text, and how many classes it says, if it says a grammar.
-const TEXTS: [(&str, Option<u32>); 53] = [
-    ("N;", Some(1)),
-    ("A; B;", Some(2)),
-    ("A;\n// a comment\nB; /* and one */ C;", Some(3)),
-    ("Int; SYN; list; class;", Some(4)),
-    ("A;A;", None),
-    ("A; B; A;", None),
-    ("abstract A;", None),
-    ("abstract;", None),
-    ("int;", None),
-    ("List;", None),
-    ("A; Parent;", None),
-    ("A : B;", None),
+// The grammar that a text says.
+fn grammar_of(rt: &impl Abort, alloc: Global, text: &str) -> Result<Grammar, Fail> {
+    Ok(answer(rt, alloc, text)?.ok().ok_or("no grammar")?)
+}
+
+// Writes a component with its name, its shape and its type.
+fn write_component(
+    rt: &impl Abort,
+    grammar: &Grammar,
+    class: ClassId,
+    k: u32,
+    text: &mut Vec<u8>,
+) -> Result<(), Fail> {
+    assert!(rt; u32::from(class.0) < grammar.classes());
+    assert!(rt; k < grammar.arity(class));
+    let component = *grammar.component(class, k);
+    assert!(rt; u32::from(component.class.0) < grammar.classes());
+    let type_name = grammar.class_name(component.class);
+    let (open, type_name, close) = match component.shape {
+        Shape::Child => (b" ".as_slice(), type_name, b"".as_slice()),
+        Shape::List => (b" ".as_slice(), type_name, b"*".as_slice()),
+        Shape::Optional => (b" [".as_slice(), type_name, b"]".as_slice()),
+        Shape::Text => (b" <".as_slice(), b"String".as_slice(), b">".as_slice()),
+        Shape::Int => (b" <".as_slice(), b"int".as_slice(), b">".as_slice()),
+        Shape::Truth => (b" <".as_slice(), b"boolean".as_slice(), b">".as_slice()),
+    };
+    text.extend_from_slice(open)?;
+    text.extend_from_slice(grammar.component_name(class, k))?;
+    text.extend_from_slice(b":")?;
+    text.extend_from_slice(type_name)?;
+    text.extend_from_slice(close)?;
+    Ok(())
+}
+
+// Writes a class as a rule with all its components.
+fn write_class(
+    rt: &impl Abort,
+    grammar: &Grammar,
+    class: ClassId,
+    text: &mut Vec<u8>,
+) -> Result<(), Fail> {
+    assert!(rt; u32::from(class.0) < grammar.classes());
+    if grammar.is_abstract(class) {
+        text.extend_from_slice(b"abstract ")?;
+    }
+    text.extend_from_slice(grammar.class_name(class))?;
+    if let Some(above) = grammar.superclass(class) {
+        assert!(rt; u32::from(above.0) < grammar.classes());
+        text.extend_from_slice(b" : ")?;
+        text.extend_from_slice(grammar.class_name(above))?;
+    }
+    text.extend_from_slice(b" ::=")?;
+    for k in 0..grammar.arity(class) {
+        write_component(rt, grammar, class, k, text)?;
+    }
+    text.extend_from_slice(b";\n")?;
+    Ok(())
+}
+
+// Writes the grammar that a text says, as rules with all their components.
+fn expect_classes(
+    rt: &impl Abort,
+    alloc: Global,
+    text: &str,
+    classes: u32,
+    want: &str,
+) -> Result<(), Fail> {
+    let grammar = grammar_of(rt, alloc, text)?;
+    assert_eq!(rt; grammar.classes(), classes);
+    let mut written = Vec::new(alloc);
+    for number in 0..grammar.classes() {
+        write_class(rt, &grammar, ClassId(number as u16), &mut written)?;
+    }
+    assert_eq!(rt; written.as_slice(), want.as_bytes(), "{text}");
+    Ok(())
+}
+
+// A state machine: lists, an optional part, and tokens that refer to states by their labels.
+const MACHINE: &str = "
+    StateMachine ::= <Start> Declaration*;
+    abstract Declaration ::= <Label:String>;
+    State : Declaration ::= entry:Action* [exit:Action];
+    Transition : Declaration ::= <Source:String> <Target:String> Guard;
+    Action ::= <Command> <Cost:int>;
+    Guard ::= <Holds:boolean>;";
+
+const MACHINE_CLASSES: &str = "\
+StateMachine ::= <Start:String> Declaration:Declaration*;
+abstract Declaration ::= <Label:String>;
+State : Declaration ::= <Label:String> entry:Action* [exit:Action];
+Transition : Declaration ::= <Label:String> <Source:String> <Target:String> Guard:Guard;
+Action ::= <Command:String> <Cost:int>;
+Guard ::= <Holds:boolean>;
+";
+
+// Expressions: abstract classes, and subclasses that stand before their superclasses.
+const EXPRESSIONS: &str = "
+    Sum : Binary;
+    Product : Binary;
+    Shift : Sum ::= <Bits:int>;
+    abstract Binary : Expr ::= Left:Expr Right:Expr;
+    Number : Expr ::= <Value:int>;
+    Negation : Expr ::= Expr;
+    Binding : Expr ::= <Name> Bound:Expr Body:Expr;
+    abstract Expr ::= <Line:int>;
+    Program ::= Expr;";
+
+const EXPRESSIONS_CLASSES: &str = "\
+Sum : Binary ::= <Line:int> Left:Expr Right:Expr;
+Product : Binary ::= <Line:int> Left:Expr Right:Expr;
+Shift : Sum ::= <Line:int> Left:Expr Right:Expr <Bits:int>;
+abstract Binary : Expr ::= <Line:int> Left:Expr Right:Expr;
+Number : Expr ::= <Line:int> <Value:int>;
+Negation : Expr ::= <Line:int> Expr:Expr;
+Binding : Expr ::= <Line:int> <Name:String> Bound:Expr Body:Expr;
+abstract Expr ::= <Line:int>;
+Program ::= Expr:Expr;
+";
+
+// Blocks: declarations, and parts that may be missing.
+const BLOCKS: &str = "
+    Block ::= Statement*;
+    abstract Statement;
+    Declaration : Statement ::= <Name:String> [Initial:Use] <Mutable:boolean>;
+    Branch : Statement ::= Condition:Use Then:Block [Else:Block];
+    Nested : Statement ::= Block;
+    Use ::= <Name:String>;";
+
+const BLOCKS_CLASSES: &str = "\
+Block ::= Statement:Statement*;
+abstract Statement ::=;
+Declaration : Statement ::= <Name:String> [Initial:Use] <Mutable:boolean>;
+Branch : Statement ::= Condition:Use Then:Block [Else:Block];
+Nested : Statement ::= Block:Block;
+Use ::= <Name:String>;
+";
+
+#[test]
+fn reads_whole_grammars(rt: HostRuntime) -> Result<(), Fail> {
+    let alloc = rt.alloc();
+    expect_classes(&rt, alloc, MACHINE, 6, MACHINE_CLASSES)?;
+    expect_classes(&rt, alloc, EXPRESSIONS, 9, EXPRESSIONS_CLASSES)?;
+    expect_classes(&rt, alloc, BLOCKS, 6, BLOCKS_CLASSES)?;
+    // What is written is a grammar, and says itself.
+    expect_classes(&rt, alloc, BLOCKS_CLASSES, 6, BLOCKS_CLASSES)
+}
+
+// The classes of the expressions by their names.
+const NAMES: [(&str, Option<u16>); 13] = [
+    ("Sum", Some(0)),
+    ("Product", Some(1)),
+    ("Shift", Some(2)),
+    ("Binary", Some(3)),
+    ("Number", Some(4)),
+    ("Negation", Some(5)),
+    ("Binding", Some(6)),
+    ("Expr", Some(7)),
+    ("Program", Some(8)),
     ("", None),
-    ("A", None),
-    ("A;;", None),
-    ("; A", None),
-    ("1;", None),
-    // Components.
-    ("A ::= ;", Some(1)),
-    ("A ::= B; B;", Some(2)),
-    ("P ::= l:L r:L; L ::= <V:int>;", Some(2)),
-    ("A ::= B C <T:boolean>; B; C ::= B;", Some(3)),
-    ("A ::= A;", Some(1)),
-    ("A ::= next:A A;", Some(1)),
-    ("A ::= b:B; B ::= a:A;", Some(2)),
-    ("A ::= B:C C:B; B; C;", Some(3)),
-    ("A ::= <A:int>;", Some(1)),
-    ("A ::= x:A; B ::= x:A;", Some(2)),
-    // A type that has no rule.
-    ("A ::= B;", None),
-    ("A ::= b:B;", None),
-    ("A ::= B; C;", None),
-    ("A ::= <T:A>;", None),
-    ("A ::= t:int;", None),
-    // Two components of one name.
-    ("A ::= A A;", None),
-    ("A ::= x:A x:A;", None),
-    ("A ::= A A:B; B;", None),
-    ("A ::= <x:int> x:A;", None),
-    // Tokens of another type.
-    ("A ::= <x>;", None),
-    ("A ::= <x:long>;", None),
-    ("A ::= <x:String>;", None),
-    // Names that are reserved or kept.
-    ("A ::= List:A;", None),
-    ("A ::= <int:int>;", None),
-    ("A ::= <boolean:int>;", None),
-    ("A ::= syn:A;", None),
-    ("A ::= <Parent:boolean>;", None),
-    // Forms that are not read so far.
-    ("A ::= A*;", None),
-    ("A ::= as:A*;", None),
-    ("A ::= [A];", None),
-    ("A ::= [a:A];", None),
-    ("A; B : A ::= A;", None),
-    ("abstract A; B : A;", None),
-    ("A ::= /A/;", None),
-    ("A ::= A B:;", None),
-    ("A ::= <:int>;", None),
+    ("expr", None),
+    // These name components alone.
+    ("Line", None),
+    ("Body", None),
 ];
 
 #[test]
-fn reads_the_first_form(rt: HostRuntime) -> Result<(), Fail> {
-    let alloc = rt.alloc();
-    for (text, classes) in TEXTS {
-        assert_eq!(rt; classes_said(&rt, alloc, text)?, classes, "{text}");
-    }
-    Ok(())
-}
-
-#[test]
-fn reads_up_to_the_limits(rt: HostRuntime) -> Result<(), Fail> {
-    let alloc = rt.alloc();
-    for (count, classes) in [(256, Some(256)), (257, None)] {
-        let text = rules_text(alloc, count)?;
-        assert_eq!(rt;
-            classes_said(&rt, alloc, &text)?,
-            classes,
-            "{count} classes"
-        );
-    }
-    for (count, classes) in [(16, Some(1)), (17, None)] {
-        let text = components_text(alloc, count)?;
-        assert_eq!(rt;
-            classes_said(&rt, alloc, &text)?,
-            classes,
-            "{count} components"
-        );
-    }
-    Ok(())
-}
-
-const PAIRS: &str = "P ::= l:L r:L; L ::= <V:int> <B:boolean> P; E;";
-
-// The classes of this text, and how many components each has.
-const CLASSES: [(&str, u32); 3] = [("P", 2), ("L", 3), ("E", 0)];
-
-// Their components: the class, the place, the name, and what it is.
-const COMPONENTS: [(u16, u32, &str, Component); 5] = [
-    (
-        0,
-        0,
-        "l",
-        Component {
-            name: 0,
-            shape: Shape::Child,
-            class: ClassId(1),
-        },
-    ),
-    (
-        0,
-        1,
-        "r",
-        Component {
-            name: 1,
-            shape: Shape::Child,
-            class: ClassId(1),
-        },
-    ),
-    (
-        1,
-        0,
-        "V",
-        Component {
-            name: 2,
-            shape: Shape::Int,
-            class: ClassId(0),
-        },
-    ),
-    (
-        1,
-        1,
-        "B",
-        Component {
-            name: 3,
-            shape: Shape::Truth,
-            class: ClassId(0),
-        },
-    ),
-    (
-        1,
-        2,
-        "P",
-        Component {
-            name: 4,
-            shape: Shape::Child,
-            class: ClassId(0),
-        },
-    ),
-];
-
-#[test]
-fn hands_out_classes(rt: HostRuntime) -> Result<(), Fail> {
-    let alloc = rt.alloc();
-    let tokens = scan(alloc, PAIRS.as_bytes())?;
-    let grammar = read_first(alloc, &tokens)?.ok_or("no grammar")?;
-    assert_eq!(rt; grammar.classes(), 3);
+fn finds_classes_by_their_names(rt: HostRuntime) -> Result<(), Fail> {
+    let grammar = grammar_of(&rt, rt.alloc(), EXPRESSIONS)?;
     assert_eq!(rt; grammar.first_class(), ClassId(0));
-    assert_eq!(rt; grammar.find_class(b"V".as_slice()), None);
-    for (number, (name, arity)) in CLASSES.into_iter().enumerate() {
-        assert!(rt; number < 3);
-        let class = ClassId(number as u16);
-        assert_eq!(rt; grammar.class_name(class), name.as_bytes());
-        assert_eq!(rt; grammar.find_class(name.as_bytes()), Some(class));
-        assert_eq!(rt; grammar.arity(class), arity);
-        assert!(rt; !grammar.is_abstract(class));
-        assert_eq!(rt; grammar.superclass(class), None);
-        assert_eq!(rt; grammar.is_sub(class, ClassId(1)), number == 1);
+    for (name, class) in NAMES {
+        assert_eq!(rt;
+            grammar.find_class(name.as_bytes()),
+            class.map(ClassId),
+            "{name}"
+        );
     }
     Ok(())
 }
 
+// A class of the expressions, a name, and the place of the component of that name.
+const PLACES: [(u16, &str, Option<u32>); 13] = [
+    (2, "Line", Some(0)),
+    (2, "Left", Some(1)),
+    (2, "Right", Some(2)),
+    (2, "Bits", Some(3)),
+    (0, "Bits", None),
+    (5, "Expr", Some(1)),
+    (6, "Name", Some(1)),
+    (7, "Line", Some(0)),
+    (7, "Left", None),
+    (8, "Expr", Some(0)),
+    (8, "", None),
+    (8, "Program", None),
+    (8, "Nobody", None),
+];
+
 #[test]
-fn hands_out_components(rt: HostRuntime) -> Result<(), Fail> {
-    let alloc = rt.alloc();
-    let tokens = scan(alloc, PAIRS.as_bytes())?;
-    let grammar = read_first(alloc, &tokens)?.ok_or("no grammar")?;
-    for (class, k, name, component) in COMPONENTS {
-        let class = ClassId(class);
-        assert!(rt; u32::from(class.0) < grammar.classes());
-        assert!(rt; k < grammar.arity(class));
-        assert_eq!(rt; *grammar.component(class, k), component, "{name}");
-        assert_eq!(rt; grammar.component_name(class, k), name.as_bytes());
-        assert_eq!(rt; grammar.find_component(class, name.as_bytes()), Some(k));
-        assert_eq!(rt; grammar.find_component(class, b"L".as_slice()), None);
+fn finds_components_by_their_names(rt: HostRuntime) -> Result<(), Fail> {
+    let grammar = grammar_of(&rt, rt.alloc(), EXPRESSIONS)?;
+    for (class, name, place) in PLACES {
+        assert!(rt; u32::from(class) < grammar.classes());
+        let found = grammar.find_component(ClassId(class), name.as_bytes());
+        assert_eq!(rt; found, place, "{class} {name}");
+    }
+    Ok(())
+}
+
+// For each class of the expressions, those that it is or is below.
+const ABOVE: [&[u16]; 9] = [
+    &[0, 3, 7],
+    &[1, 3, 7],
+    &[2, 0, 3, 7],
+    &[3, 7],
+    &[4, 7],
+    &[5, 7],
+    &[6, 7],
+    &[7],
+    &[8],
+];
+
+#[test]
+fn tells_subclasses(rt: HostRuntime) -> Result<(), Fail> {
+    let grammar = grammar_of(&rt, rt.alloc(), EXPRESSIONS)?;
+    for (class, line) in (0u16..).zip(ABOVE) {
+        for above in 0u16..9 {
+            let is_sub = grammar.is_sub(ClassId(class), ClassId(above));
+            assert_eq!(rt; is_sub, line.contains(&above), "{class} {above}");
+        }
+    }
+    Ok(())
+}
+
+// Two classes, and the nearest one from the first upwards that the second is or is below.
+const COMMON: [(u16, u16, Option<u16>); 8] = [
+    (0, 1, Some(3)),
+    (2, 1, Some(3)),
+    (2, 0, Some(0)),
+    (0, 2, Some(0)),
+    (2, 4, Some(7)),
+    (7, 2, Some(7)),
+    (8, 8, Some(8)),
+    (2, 8, None),
+];
+
+#[test]
+fn finds_the_nearest_common_class(rt: HostRuntime) -> Result<(), Fail> {
+    let grammar = grammar_of(&rt, rt.alloc(), EXPRESSIONS)?;
+    for (first, second, common) in COMMON {
+        let found = grammar.nearest_common(ClassId(first), ClassId(second));
+        assert_eq!(rt; found, common.map(ClassId), "{first} {second}");
+    }
+    Ok(())
+}
+
+// A text, and the place and rule that it breaks first.
+const BROKEN: [(&str, u32, u32, Rule); 5] = [
+    ("", 1, 1, Rule::G1),
+    ("A ::= /B/;", 1, 7, Rule::G9),
+    ("A ::= B;\nB : C;", 2, 5, Rule::G3),
+    ("A : B;\nB : A;", 1, 1, Rule::G4),
+    ("B : A ::= <x>;\nA ::= <x>;", 1, 12, Rule::G6),
+];
+
+#[test]
+fn answers_the_first_broken_rule(rt: HostRuntime) -> Result<(), Fail> {
+    for (text, line, column, rule) in BROKEN {
+        let place = Place { line, column };
+        let fault = answer(&rt, rt.alloc(), text)?.err();
+        assert_eq!(rt;
+            fault,
+            Some(ReadFault::Broken(Broken { place, rule })),
+            "{text}"
+        );
     }
     Ok(())
 }
