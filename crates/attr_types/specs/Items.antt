@@ -9,4 +9,4 @@ abbrev pub item_of : FirstEq → Item
 item_of e = record { class = e.class; name = e.name; kind = e.kind; body = expression_of e.body }
 
 abbrev pub rules_in : Rules → RuleSet
-rules_in r = rules_of (map item_of r.items.items)
+rules_in r = rules_of r.subclasses (map item_of r.items.items)

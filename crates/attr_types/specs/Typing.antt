@@ -1,10 +1,11 @@
 -- Types of expressions.
-use Rattle.std.specs.Prelude.{ℕ, Option, Some, None, if◌then◌else◌, ◌==◌}
-use Rattle.std.specs.Option.{option_and_then}
+use Rattle.std.specs.Prelude.{ℕ, List, Option, Some, None, if◌then◌else◌}
+use Rattle.std.specs.Option.{option_and_then, option_map}
+use Rattle.superclasses.specs.Superclasses.{nearest_common}
 use Rattle.ast_grammar.specs.declared.grammar.ClassId.{ClassId}
 use Rattle.ast_grammar.specs.declared.grammar.Shape.{Shape}
 use Rattle.ast_grammar.specs.declared.grammar.Shape.TheVariants as shapes
-use Rattle.ast_grammar.specs.Grammar.{Component}
+use Rattle.ast_grammar.specs.Grammar.{Class, Component, component_at, is_sub, superclasses_of}
 use Rattle.attr_types.specs.declared.kinds.Kind.{Kind}
 use Rattle.attr_types.specs.declared.kinds.Kind.TheVariants as kinds
 use Rattle.attr_types.specs.declared.kinds.Attr.{Attr}
@@ -12,12 +13,12 @@ use Rattle.attr_types.specs.declared.expression.Operator.{Operator}
 use Rattle.attr_types.specs.declared.expression.Operator.TheVariants.{Add, Subtract, Multiply, Less, AtMost, Greater, AtLeast, Equal}
 use Rattle.attr_types.specs.Expression.{Expression, Truth, Int, This, Source, Child, Token, Call, Not, Negate, Binary, And, Or, If}
 
--- what an expression may name: attributes, source nodes, the components of a class by their numbers, and the
--- class of the node at which it is read
+-- what an expression may name: the grammar's classes with their components, attributes, source nodes, and the class of the node at which
+-- it is read
 pub record Names : Type 0 where
+  pub grammar : List Class
   pub attribute : ℕ → Option Attr
   pub node : ℕ → Option ClassId
-  pub component : ℕ → ℕ → Option Component
   pub this : Option ClassId
 
 -- the type k, where the part has the type that it needs
@@ -49,25 +50,28 @@ compared (Some (kinds.Node c)) right = None
 compared (Some kinds.Texts) right = None
 compared (Some (kinds.Nodes c)) right = None
 
--- two nodes have a common type where they are of one class, since no class has a superclass so far
-abbrev pub common_class : ClassId → Option Kind → Option Kind
-common_class c None = None
-common_class c (Some kinds.Truth) = None
-common_class c (Some kinds.Int) = None
-common_class c (Some kinds.Text) = None
-common_class c (Some (kinds.Node d)) = if c.0 == d.0 then Some (kinds.Node c) else None
-common_class c (Some kinds.Texts) = None
-common_class c (Some (kinds.Nodes d)) = None
+abbrev pub node_of_number : ℕ → Kind
+node_of_number k = kinds.Node (record { 0 = k })
 
--- both parts of a choice have one type: `boolean`, `int` or a class
-abbrev pub common : Option Kind → Option Kind → Option Kind
-common None right = None
-common (Some kinds.Truth) right = where_truth right (Some kinds.Truth)
-common (Some kinds.Int) right = where_int right (Some kinds.Int)
-common (Some kinds.Text) right = None
-common (Some (kinds.Node c)) right = common_class c right
-common (Some kinds.Texts) right = None
-common (Some (kinds.Nodes c)) right = None
+-- the common type of two nodes is their nearest common superclass
+abbrev pub common_class : List Class → ClassId → Option Kind → Option Kind
+common_class g c None = None
+common_class g c (Some kinds.Truth) = None
+common_class g c (Some kinds.Int) = None
+common_class g c (Some kinds.Text) = None
+common_class g c (Some (kinds.Node d)) = option_map node_of_number (nearest_common (superclasses_of g) c.0 d.0)
+common_class g c (Some kinds.Texts) = None
+common_class g c (Some (kinds.Nodes d)) = None
+
+-- both parts of a choice are of one type, `boolean` or `int`, or are nodes with a common superclass
+abbrev pub common : List Class → Option Kind → Option Kind → Option Kind
+common g None right = None
+common g (Some kinds.Truth) right = where_truth right (Some kinds.Truth)
+common g (Some kinds.Int) right = where_int right (Some kinds.Int)
+common g (Some kinds.Text) right = None
+common g (Some (kinds.Node c)) right = common_class g c right
+common g (Some kinds.Texts) right = None
+common g (Some (kinds.Nodes c)) right = None
 
 -- the type of an operator's result, by the types of its sides
 abbrev pub operated : Operator → Option Kind → Option Kind → Option Kind
@@ -85,29 +89,29 @@ abbrev pub node_type : Option ClassId → Option Kind
 node_type None = None
 node_type (Some c) = Some (kinds.Node c)
 
--- the type of an attribute, where the receiver is a node of the attribute's class
-abbrev pub called_on : ClassId → Option Attr → Option Kind
-called_on c None = None
-called_on c (Some a) = if c.0 == a.class.0 then Some a.kind else None
+-- the type of an attribute, where the receiver is a node of the attribute's class or of a subclass
+abbrev pub called_on : List Class → ClassId → Option Attr → Option Kind
+called_on g c None = None
+called_on g c (Some a) = if is_sub g c.0 a.class.0 then Some a.kind else None
 
-abbrev pub call_type : Option Kind → Option Attr → Option Kind
-call_type None a = None
-call_type (Some kinds.Truth) a = None
-call_type (Some kinds.Int) a = None
-call_type (Some kinds.Text) a = None
-call_type (Some (kinds.Node c)) a = called_on c a
-call_type (Some kinds.Texts) a = None
-call_type (Some (kinds.Nodes c)) a = None
+abbrev pub call_type : List Class → Option Kind → Option Attr → Option Kind
+call_type g None a = None
+call_type g (Some kinds.Truth) a = None
+call_type g (Some kinds.Int) a = None
+call_type g (Some kinds.Text) a = None
+call_type g (Some (kinds.Node c)) a = called_on g c a
+call_type g (Some kinds.Texts) a = None
+call_type g (Some (kinds.Nodes c)) a = None
 
 -- a component of a receiver that is a node
-abbrev pub component_on : (ℕ → ℕ → Option Component) → Option Kind → ℕ → Option Component
-component_on components None k = None
-component_on components (Some kinds.Truth) k = None
-component_on components (Some kinds.Int) k = None
-component_on components (Some kinds.Text) k = None
-component_on components (Some (kinds.Node c)) k = components c.0 k
-component_on components (Some kinds.Texts) k = None
-component_on components (Some (kinds.Nodes c)) k = None
+abbrev pub component_on : List Class → Option Kind → ℕ → Option Component
+component_on g None k = None
+component_on g (Some kinds.Truth) k = None
+component_on g (Some kinds.Int) k = None
+component_on g (Some kinds.Text) k = None
+component_on g (Some (kinds.Node c)) k = component_at g c.0 k
+component_on g (Some kinds.Texts) k = None
+component_on g (Some (kinds.Nodes c)) k = None
 
 -- the type of a child of this shape and class
 abbrev pub child_kind : Shape → ClassId → Option Kind
@@ -148,12 +152,12 @@ type_of N (Truth b) = Some kinds.Truth
 type_of N (Int z) = Some kinds.Int
 type_of N This = node_type N.this
 type_of N (Source k) = node_type (N.node k)
-type_of N (Child k e) = child_type (component_on N.component (type_of N e) k)
-type_of N (Token t k e) = token_type t (component_on N.component (type_of N e) k)
-type_of N (Call a e) = call_type (type_of N e) (N.attribute a)
+type_of N (Child k e) = child_type (component_on N.grammar (type_of N e) k)
+type_of N (Token t k e) = token_type t (component_on N.grammar (type_of N e) k)
+type_of N (Call a e) = call_type N.grammar (type_of N e) (N.attribute a)
 type_of N (Not e) = where_truth (type_of N e) (Some kinds.Truth)
 type_of N (Negate e) = where_int (type_of N e) (Some kinds.Int)
 type_of N (Binary o a b) = operated o (type_of N a) (type_of N b)
 type_of N (And a b) = where_truth (type_of N a) (where_truth (type_of N b) (Some kinds.Truth))
 type_of N (Or a b) = where_truth (type_of N a) (where_truth (type_of N b) (Some kinds.Truth))
-type_of N (If c a b) = where_truth (type_of N c) (common (type_of N a) (type_of N b))
+type_of N (If c a b) = where_truth (type_of N c) (common N.grammar (type_of N a) (type_of N b))

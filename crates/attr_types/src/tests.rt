@@ -1,10 +1,11 @@
-ghost use Rattle.std.specs.Prelude.{◌≡◌, codes, length, map, IfOk};
+ghost use Rattle.std.specs.Prelude.{◌≡◌, ◌≤◌, codes, length, map, IfOk};
+ghost use Rattle.rag_io.specs.Outside.{longest_file};
 ghost use Rattle.attr_types.specs.Rules.{AreItems};
 ghost use Rattle.attr_types.specs.Items.{item_of};
 ghost use Rattle.attr_types.specs.Expression.{expression_of};
 
 use super::*;
-use ast_grammar::{ClassId, Component, Grammar, Shape, read_first};
+use ast_grammar::{ClassId, Component, Grammar, Shape, read_ast};
 use rag_io::scan;
 use std::alloc::{AllocError, Global};
 use std::process::Abort;
@@ -16,10 +17,18 @@ const INT: Option<Kind> = Some(Kind::Int);
 
 const TEXT: Option<Kind> = Some(Kind::Text);
 
-// Nodes of two classes.
+// Nodes of the classes of a grammar, and its rules.
 const P: Option<Kind> = Some(Kind::Node(ClassId(0)));
 
 const L: Option<Kind> = Some(Kind::Node(ClassId(1)));
+
+const M: Option<Kind> = Some(Kind::Node(ClassId(2)));
+
+const N: Option<Kind> = Some(Kind::Node(ClassId(3)));
+
+const K: Option<Kind> = Some(Kind::Node(ClassId(4)));
+
+const RULES: &[u8] = b"P; L; M : L; N : L; K : M;";
 
 // The types of the sides of an operator, and of its result.
 const OPERATORS: [(Operator, Option<Kind>, Option<Kind>, Option<Kind>); 10] = [
@@ -36,19 +45,30 @@ const OPERATORS: [(Operator, Option<Kind>, Option<Kind>, Option<Kind>); 10] = [
 ];
 
 // The types of the parts of a choice, and of the choice.
-const CHOICES: [(Option<Kind>, Option<Kind>, Option<Kind>); 8] = [
+const CHOICES: [(Option<Kind>, Option<Kind>, Option<Kind>); 12] = [
     (INT, INT, INT),
     (TRUTH, TRUTH, TRUTH),
     (INT, TRUTH, None),
     (TRUTH, None, None),
     (L, L, L),
     (P, L, None),
+    (M, L, L),
+    (M, N, L),
+    (K, N, L),
+    (M, K, M),
     (L, INT, None),
     (TEXT, TEXT, None),
 ];
 
 // The types of a receiver and of the call of an `int` attribute of the class L.
-const CALLS: [(Option<Kind>, Option<Kind>); 4] = [(L, INT), (P, None), (INT, None), (None, None)];
+const CALLS: [(Option<Kind>, Option<Kind>); 6] = [
+    (L, INT),
+    (M, INT),
+    (K, INT),
+    (P, None),
+    (INT, None),
+    (None, None),
+];
 
 // A type at which a token is read, a component, and the token's type.
 const TOKENS: [(Kind, Shape, Option<Kind>); 7] = [
@@ -85,6 +105,13 @@ fn attribute() -> Option<Attr> {
     Some(Attr::plain(ClassId(1), Kind::Int))
 }
 
+fn grammar(alloc: Global, rules: &[u8]) -> Result<Grammar, Fail>
+    requires { length rules.now ≤ longest_file }
+{
+    let tokens = scan(alloc, rules)?;
+    Ok(read_ast(alloc, &tokens).ok().ok_or("no grammar")?)
+}
+
 #[test]
 fn operators_have_types(rt: HostRuntime) {
     for (operator, left, right, want) in OPERATORS {
@@ -94,17 +121,27 @@ fn operators_have_types(rt: HostRuntime) {
             "{left:?} {operator:?} {right:?}"
         );
     }
-    for (left, right, want) in CHOICES {
-        assert_eq!(rt; common(left, right), want, "{left:?} : {right:?}");
-    }
 }
 
 #[test]
-fn accessors_and_calls_have_types(rt: HostRuntime) {
-    for (receiver, want) in CALLS {
-        assert_eq!(rt; call_type(receiver, attribute()), want, "on {receiver:?}");
-        assert_eq!(rt; call_type(receiver, None), None);
+fn choices_and_calls_have_types(rt: HostRuntime) -> Result<(), Fail> {
+    let grammar = grammar(rt.alloc(), RULES)?;
+    for (left, right, want) in CHOICES {
+        assert_eq!(rt; common(&grammar, left, right), want, "{left:?} : {right:?}");
     }
+    for (receiver, want) in CALLS {
+        assert_eq!(rt;
+            call_type(&grammar, receiver, attribute()),
+            want,
+            "on {receiver:?}"
+        );
+        assert_eq!(rt; call_type(&grammar, receiver, None), None);
+    }
+    Ok(())
+}
+
+#[test]
+fn accessors_have_types(rt: HostRuntime) {
     for (shape, want) in CHILDREN {
         assert_eq!(rt; child_type(component(shape)), want, "{shape:?}");
     }
@@ -137,7 +174,7 @@ fn item(
     })
 }
 
-// One attribute of two classes.
+// Attributes of two classes.
 fn two_items(alloc: Global, grammar: &Grammar) -> Result<Vec<FirstEq>, Fail>
     requires { length grammar.now ≡ 2 }
     ensures { IfOk result (λ list. AreItems grammar.now (map item_of list.items)) }
@@ -145,26 +182,32 @@ fn two_items(alloc: Global, grammar: &Grammar) -> Result<Vec<FirstEq>, Fail>
     let _ = grammar;
     let mut list = Vec::new(alloc);
     list.push(item(alloc, 0, "v", Kind::Int, TExpr::Int(7))?)?;
-    list.push(item(alloc, 1, "v", Kind::Truth, TExpr::Truth(true))?)?;
+    list.push(item(alloc, 1, "w", Kind::Truth, TExpr::Truth(true))?)?;
     Ok(list)
 }
 
 #[test]
 fn rules_answer(rt: HostRuntime) -> Result<(), Fail> {
     let alloc = rt.alloc();
-    let tokens = scan(alloc, b"A; B;".as_slice())?;
-    let grammar = read_first(alloc, &tokens)?.ok_or("no grammar")?;
+    let grammar = grammar(alloc, b"A; B : A;")?;
     assert_eq!(rt; grammar.classes(), 2);
     let rules = Rules::of_equations(alloc, &grammar, two_items(alloc, &grammar)?)?;
     assert_eq!(rt; rules.attrs(), 2);
     assert_eq!(rt; rules.equations(), 2);
     assert_eq!(rt; rules.attr(AttrId(1)).kind, Kind::Truth);
     assert!(rt; matches!(rules.body(EqId(0)), TExpr::Int(7)));
-    assert_eq!(rt;
-        rules.find(&grammar, ClassId(1), b"v".as_slice()),
-        Some(AttrId(1))
-    );
-    assert_eq!(rt; rules.find(&grammar, ClassId(1), b"w".as_slice()), None);
+    let found = [
+        (ClassId(0), b"v", Some(AttrId(0))),
+        (ClassId(0), b"w", None),
+        (ClassId(1), b"v", Some(AttrId(0))),
+        (ClassId(1), b"w", Some(AttrId(1))),
+        (ClassId(1), b"x", None),
+    ];
+    for (class, name, want) in found {
+        assert_eq!(rt; rules.find(&grammar, class, name.as_slice()), want);
+    }
+    assert_eq!(rt; rules.syn_equation(ClassId(0), AttrId(0)), Some(EqId(0)));
+    assert_eq!(rt; rules.syn_equation(ClassId(1), AttrId(0)), Some(EqId(0)));
     assert_eq!(rt; rules.syn_equation(ClassId(1), AttrId(1)), Some(EqId(1)));
     assert_eq!(rt; rules.syn_equation(ClassId(0), AttrId(1)), None);
     let query = QueryEq::of_call(alloc, 3, AttrId(1))?;

@@ -1,7 +1,7 @@
 // Types of expressions, from the types of their parts.
 ghost use Rattle.std.specs.Prelude.{◌≡◌};
 ghost use Rattle.std.specs.Option.{option_and_then, option_map};
-ghost use Rattle.ast_grammar.specs.Grammar.{component_at, nameless};
+ghost use Rattle.ast_grammar.specs.Grammar.{nameless};
 ghost use Rattle.attr_types.specs.Typing as spec;
 
 use crate::expression::Operator;
@@ -40,23 +40,27 @@ fn compared(left: Option<Kind>, right: Option<Kind>) -> Option<Kind>
 }
 
 // The common type of a node of a class and a second part.
-fn common_class(class: ClassId, right: Option<Kind>) -> Option<Kind>
-    ensures { result ≡ spec.common_class class right }
+fn common_class(grammar: &Grammar, class: ClassId, right: Option<Kind>) -> Option<Kind>
+    ensures { result ≡ spec.common_class grammar.now class right }
 {
     match right {
-        Some(Kind::Node(other)) if class == other => Some(Kind::Node(class)),
+        Some(Kind::Node(other)) => {
+            let common = grammar.nearest_common(class, other)?;
+            Some(Kind::Node(common))
+        }
         _ => None,
     }
 }
 
-/// The type of a choice between two parts, which have to be of one type: `boolean`, `int` or a class.
-pub fn common(left: Option<Kind>, right: Option<Kind>) -> Option<Kind>
-    ensures { result ≡ spec.common left right }
+/// The type of a choice between two parts, which have to be of one type, `boolean` or `int`, or nodes with a common
+/// superclass, of which the nearest is the type.
+pub fn common(grammar: &Grammar, left: Option<Kind>, right: Option<Kind>) -> Option<Kind>
+    ensures { result ≡ spec.common grammar.now left right }
 {
     match left {
         Some(Kind::Truth) => where_truth(right, Some(Kind::Truth)),
         Some(Kind::Int) => where_int(right, Some(Kind::Int)),
-        Some(Kind::Node(class)) => common_class(class, right),
+        Some(Kind::Node(class)) => common_class(grammar, class, right),
         _ => None,
     }
 }
@@ -76,12 +80,12 @@ pub fn operated(operator: Operator, left: Option<Kind>, right: Option<Kind>) -> 
     }
 }
 
-/// The type of a call: that of the attribute, where the receiver is a node of the attribute's class.
-pub fn call_type(receiver: Option<Kind>, attribute: Option<Attr>) -> Option<Kind>
-    ensures { result ≡ spec.call_type receiver attribute }
+/// The type of a call: that of the attribute, where the receiver is a node of the attribute's class or of a subclass.
+pub fn call_type(grammar: &Grammar, receiver: Option<Kind>, attribute: Option<Attr>) -> Option<Kind>
+    ensures { result ≡ spec.call_type grammar.now receiver attribute }
 {
     match (receiver, attribute) {
-        (Some(Kind::Node(class)), Some(attribute)) if class == attribute.class => {
+        (Some(Kind::Node(class)), Some(attribute)) if grammar.is_sub(class, attribute.class) => {
             Some(attribute.kind)
         }
         _ => None,
@@ -90,7 +94,7 @@ pub fn call_type(receiver: Option<Kind>, attribute: Option<Attr>) -> Option<Kind
 
 /// The component of this number of a receiver of this type, where that is a class that has one.
 pub fn component_on(grammar: &Grammar, receiver: Option<Kind>, k: u32) -> Option<Component>
-    ensures { result ≡ option_map nameless (spec.component_on (component_at grammar.now) receiver k) }
+    ensures { result ≡ option_map nameless (spec.component_on grammar.now receiver k) }
 {
     match receiver {
         Some(Kind::Node(class))
