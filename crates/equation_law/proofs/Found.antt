@@ -1,11 +1,13 @@
 -- The equation of an instance, from where it is found.
-use Rattle.std.proofs.Common.{◌≡◌, ℕ, Option, Some, None, Ok, Err, refl, sym, ap, ◌∙◌, slice_get, subst}
-use Rattle.std.specs.Option.{option_map, option_and_then, unwrap_or}
+use Rattle.std.proofs.Common.{◌≡◌, ℕ, ◌<◌, false, eqb, ◌&&◌, List, [], ◌∷◌, length, Option, Some, None, Ok, Err, refl, sym, ap, ◌∙◌, slice_get, subst}
+use Rattle.std.specs.Option.{option_map, option_and_then, option_or, unwrap_or}
+use Rattle.std.proofs.lemmas.List.Quantifiers.{position-Some}
+use Rattle.superclasses.specs.Superclasses.{upwards}
 use Rattle.ast_grammar.specs.declared.grammar.ClassId.{ClassId}
 use Rattle.attr_types.specs.declared.kinds.Kind.{Kind}
 use Rattle.attr_types.specs.declared.kinds.Kind.TheVariants as kinds
-use Rattle.attr_types.specs.Expression.{Expression}
-use Rattle.attr_types.specs.Rules.{Equation, RuleSet, body_at, equation_number, expression_in}
+use Rattle.attr_types.specs.Expression.{Expression, Truth}
+use Rattle.attr_types.specs.Rules.{Equation, RuleSet, body_at, equation_number, expression_in, first_of_line, own_equation}
 use Rattle.attr_types.specs.Typing.{type_of}
 use Rattle.solutions.specs.Asking.{Done, Gives, Outcome, Stuck, run}
 use Rattle.solutions.specs.Rounds.{value_of as outcome_value}
@@ -20,6 +22,21 @@ use Rattle.equation_law.specs.Program.{Program, at_source, class_of, names_in}
 use Rattle.equation_law.specs.Values.{Node, Value, as_kind}
 use Rattle.equation_law.proofs.Answering.{answers_err, answers_ok}
 use Rattle.equation_law.proofs.Lists.{some_of}
+
+-- what the first class of a line has is within the bound of what each has
+first_within : (f : ℕ → Option ℕ) (n : ℕ) (line : List ℕ) → ((c k : ℕ) → f c ≡ Some k → k < n) → (k : ℕ) → first_of_line f line ≡ Some k → k < n
+first_within f n [] each k e = absurd (cc)
+first_within f n (c ∷ cs) each k e = elim (f c) as (λ o. f c ≡ o → option_or o (first_of_line f cs) ≡ Some k → k < n) [
+  | None ↦ λ none later. first_within f n cs each k later
+  | Some j ↦ λ some same. each c k (some ∙ same)
+] refl e
+
+-- the number of an equation that is found is one of an equation
+pub equation_within : (rules : RuleSet) (a e : ℕ) (c : ClassId) → Some e ≡ equation_number rules c a → e < length rules.equations
+equation_within rules a e c n =
+    first_within (own_equation rules.equations a) (length rules.equations) (upwards rules.superclasses c.0)
+    (λ b k there. (position-Some (λ (x : Equation). eqb x.class.0 b && eqb x.attribute a) rules.equations k (record { class = c; attribute = a; body = Truth false }) there).0)
+    e (sym n)
 
 -- the equation of an attribute, from the rules of the program
 rule_found : (p : Program) (a k e : ℕ) (c : ClassId) (body : Expression) (kind : Kind) → class_of p k ≡ Some c → equation_number p.rules c a ≡ Some e → body_at p.rules e ≡ Some body → kind ≡ attribute_kind p a → equation_of p (at_source a k) ≡ Some (record { body = body; kind = kind; place = record { this = At (Source k) } })

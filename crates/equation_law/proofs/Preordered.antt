@@ -1,4 +1,4 @@
--- In a tree of a grammar each child of a class is there, and of its class.
+-- In a tree of a grammar each child of a class is there, and of its class or of a subclass.
 use Rattle.std.proofs.Common.{◌≡◌, ℕ, zero, suc, ◌+◌, ◌<◌, ◌≤◌, Bool, true, false, eqb, ◌&&◌, ◌||◌, cond, List, [], ◌∷◌, ◌++◌, ◌⊎◌, inl, inr, Option, Some, length, slice_get, refl, sym, ap, subst, ◌∙◌, arith}
 use Rattle.std.specs.List.{position_from}
 use Rattle.std.specs.Option.{option_map}
@@ -7,7 +7,7 @@ use Rattle.std.proofs.lemmas.Iterator.Adapters.{position_from-zero}
 use Rattle.ast_grammar.specs.declared.grammar.ClassId.{ClassId}
 use Rattle.ast_grammar.specs.declared.grammar.Shape.{Shape}
 use Rattle.ast_grammar.specs.declared.grammar.Shape.TheVariants as shapes
-use Rattle.ast_grammar.specs.Grammar.{Class, Component, component_at, components_of}
+use Rattle.ast_grammar.specs.Grammar.{Class, Component, component_at, components_of, is_sub}
 use Rattle.attr_types.specs.declared.kinds.Kind.TheVariants as kinds
 use Rattle.attr_types.specs.Typing.{child_kind}
 use Rattle.equation_law.specs.Preorder.{IsTree, IsTreeOf, Open, Subtree, Token, Tells, over, node, token, Told, TellsNode, most_nodes, nodes_told, part_of, parts_from}
@@ -94,16 +94,22 @@ child_told all (node i t) (suc j) m k c d x l y e h = or_right _ _ (child_told a
 child_told all (token i t) j m k c d x l y e h = child_told all t j m k c d x l y e h
 
 module _ (g : List Class) (cls : ℕ → Option ClassId) where
-  -- a node of the class c that hangs at a component of a node is what the component says
-  pub record IsChild (c : ClassId) (n k : ℕ) : Type 0 where
+  -- a component of a node is a child of the class c
+  pub record Wants (c : ClassId) (n k : ℕ) : Type 0 where
     pub parent : ClassId
     pub component : Component
     pub of : cls n ≡ Some parent
     pub has : component_at g parent.0 k ≡ Some component
     pub child : child_kind component.shape component.class ≡ Some (kinds.Node c)
 
+  -- a node of the class c that hangs at a component of a node is of the component's class or of a subclass
+  pub record IsChild (c : ClassId) (n k : ℕ) : Type 0 where
+    pub wanted : ClassId
+    pub wants : Wants wanted n k
+    pub below : is_sub g c.0 wanted.0 ≡ true
+
   abbrev IsRight : Open → Type 0
-  IsRight (Subtree c n k) = IsChild c n k
+  IsRight (Subtree c n k) = Wants c n k
   IsRight (Token s n k) = Unit {0}
 
   abbrev AreRight : List Open → Type 0
@@ -137,7 +143,7 @@ module _ (g : List Class) (cls : ℕ → Option ClassId) where
       → AreRight parts → AllHang (nodes_told g all n told)
   told_hang all over s r = tt
   told_hang all (node {c = c} {n = n} {parts = parts} h t) s r = (
-    r.0,
+    record { wanted = _; wants = r.0; below = h.below },
     told_hang all t (λ j m d l y. s (suc j) m d (omega (arith, l)) y)
         (both_right (parts_from n 0 (components_of g c.0)) parts (parts_right c n 0 (components_of g c.0) (s 0 n c (omega arith) refl) (λ k j l. let same : j ≡ k = omega (arith, l) in ap (slice_get (components_of g c.0)) same)) r.1),
   )
@@ -170,9 +176,9 @@ child_behind {g} {r} all t root is zero k c d x y e h =
     open_told all t d 0 k (open_left (Subtree d 0 k) (parts_from 0 0 (components_of g r.0)) [] (child_open 0 0 k k (components_of g r.0) x d (omega arith) (subst (λ (z : ClassId). component_at g z.0 k ≡ Some x) same e) h))
 child_behind all t root is (suc j) k c d x y e h = child_told all t j (suc j) k c d x (omega arith) y e h
 
--- so that of each node is there, and of its class
-child_found : {g : List Class} {r : ClassId} {told : List Told} (all : List Told) → Tells g (Subtree r 0 0 ∷ []) 0 told → (n k : ℕ) (c d : ClassId) (x : Component) → class_in (nodes_told g all 0 told) n ≡ Some c → component_at g c.0 k ≡ Some x
-    → child_kind x.shape x.class ≡ Some (kinds.Node d) → (m : ℕ) × (child_in (nodes_told g all 0 told) n k ≡ Some m) × (class_in (nodes_told g all 0 told) m ≡ Some d)
+-- so that of each node is there, and of its class or of a subclass
+child_found : {g : List Class} {wanted : ClassId} {told : List Told} (all : List Told) → Tells g (Subtree wanted 0 0 ∷ []) 0 told → (n k : ℕ) (c d : ClassId) (x : Component) → class_in (nodes_told g all 0 told) n ≡ Some c → component_at g c.0 k ≡ Some x
+    → child_kind x.shape x.class ≡ Some (kinds.Node d) → (m : ℕ) × (child_in (nodes_told g all 0 told) n k ≡ Some m) × (b : ClassId) × (class_in (nodes_told g all 0 told) m ≡ Some b) × (is_sub g b.0 d.0 ≡ true)
 child_found {g} all (node {c = r} {told = told} i t) n k c d x y e h =
     let cls : ℕ → Option ClassId = class_in (nodes_told g all 0 (TellsNode r 0 0 ∷ told)) in
     let rest = nodes_told g all 1 told in
@@ -182,14 +188,20 @@ child_found {g} all (node {c = r} {told = told} i t) n k c d x y e h =
     let hang : AllHang g cls rest = told_hang g cls all t (λ j m b l z. let same : suc j ≡ m = omega (arith, l) in subst (λ (a : ℕ). cls a ≡ Some b) same z) right in
     let f = first_hangs g cls n k 0 rest hang (child_behind all t _ refl n k c d x y e h) in
     let same : f.1 ≡ f.0 = omega (arith, f.4) in
-    let parent : f.6.parent ≡ c = let o = f.6.of in cc in
-    let component : f.6.component ≡ x = let o = subst (λ (z : ClassId). component_at g z.0 k ≡ Some f.6.component) parent f.6.has in cc in
-    let class : f.2 ≡ d = let o = subst (λ (z : Component). child_kind z.shape z.class ≡ Some (kinds.Node f.2)) component f.6.child in cc in
-    (suc f.0, ap (option_map suc) (position_from-zero (hangs n k) rest ∙ f.3), subst (λ (a : ℕ). class_in rest a ≡ Some d) same (f.5 ∙ ap Some class))
+    let wants = f.6.wants in
+    let parent : wants.parent ≡ c = let o = wants.of in cc in
+    let component : wants.component ≡ x = let o = subst (λ (z : ClassId). component_at g z.0 k ≡ Some wants.component) parent wants.has in cc in
+    let wanted : f.6.wanted ≡ d = let o = subst (λ (z : Component). child_kind z.shape z.class ≡ Some (kinds.Node f.6.wanted)) component wants.child in cc in (
+      suc f.0,
+      ap (option_map suc) (position_from-zero (hangs n k) rest ∙ f.3),
+      f.2,
+      subst (λ (a : ℕ). class_in rest a ≡ Some f.2) same f.5,
+      subst (λ (z : ClassId). is_sub g f.2.0 z.0 ≡ true) wanted f.6.below,
+    )
 
--- The child of a node at a component that is the child of a class: it is there, and of that class.
+-- The child of a node at a component that is the child of a class: it is there, and of that class or of a subclass.
 pub child_there : (g : List Class) (nodes : List Node) → IsTreeOf g nodes → (n k : ℕ) (c d : ClassId) (x : Component) → class_in nodes n ≡ Some c → component_at g c.0 k ≡ Some x
-    → child_kind x.shape x.class ≡ Some (kinds.Node d) → (m : ℕ) × (child_in nodes n k ≡ Some m) × (class_in nodes m ≡ Some d)
+    → child_kind x.shape x.class ≡ Some (kinds.Node d) → (m : ℕ) × (child_in nodes n k ≡ Some m) × (b : ClassId) × (class_in nodes m ≡ Some b) × (is_sub g b.0 d.0 ≡ true)
 child_there g nodes t n k c d x y e h =
     let f = child_found t.told t.tells n k c d x (subst (λ (xs : List Node). class_in xs n ≡ Some c) t.are y) e h in
-    (f.0, ap (λ (xs : List Node). child_in xs n k) t.are ∙ f.1, ap (λ (xs : List Node). class_in xs f.0) t.are ∙ f.2)
+    (f.0, ap (λ (xs : List Node). child_in xs n k) t.are ∙ f.1, f.2, ap (λ (xs : List Node). class_in xs f.0) t.are ∙ f.3, f.4)

@@ -39,7 +39,7 @@ module _ (p : Program) where
         let read : Expression → Site = λ x. record { body = x; kind = query_kind p x; place = record { this = At (Source 0) } } in
         let there = subst (λ (s : Option Expression). Ends (HasValue p) (site_demands (world_of p) (option_map read s)) v ends.0) o ends.1 in
         let kind : query_kind p e ≡ typed.kind = ap kind_or_truth typed.typed in
-        let keeps = typed_keeps p good.tree (plain p good) _ 0 (names_of_query p good) e typed.kind typed.typed in (
+        let keeps = typed_keeps p good.grammar good.tree (plain p good) _ 0 (names_of_query p good) e typed.kind typed.typed in (
           typed.kind,
           ends_typed typed.kind (HasValue p) (meaning_of (world_of p) e (record { this = At (Source 0) })) keeps
               (subst (λ (k : Kind). Ends (HasValue p) (next (meaning_of (world_of p) e (record { this = At (Source 0) })) (λ w. Gives (as_kind k w))) v ends.0) kind there),

@@ -1,12 +1,15 @@
 -- A well typed expression demands instances of its program alone, and its value is of its type.
-use Rattle.std.proofs.Common.{◌≡◌, ℕ, ℤ, neg_ℤ, Bool, true, false, not, eqb, eqb-true, cond, Option, Some, None, refl, sym, ap, subst, ◌∙◌}
+use Rattle.std.proofs.Common.{◌≡◌, ℕ, ℤ, neg_ℤ, Bool, true, false, not, cond, List, Option, Some, None, refl, sym, ap, subst, ◌∙◌}
 use Rattle.std.specs.Int.{int_wrap}
 use Rattle.std.specs.Option.{option_and_then, option_map}
 use mir.Syntax.{w32}
 use Rattle.ast_grammar.specs.declared.grammar.ClassId.{ClassId}
 use Rattle.ast_grammar.specs.declared.grammar.Shape.{Shape}
 use Rattle.ast_grammar.specs.declared.grammar.Shape.TheVariants as shapes
-use Rattle.ast_grammar.specs.Grammar.{Component, component_at}
+use Rattle.superclasses.specs.Superclasses.{nearest_common}
+use Rattle.superclasses.proofs.Lines.{common_sub, sub_then}
+use Rattle.ast_grammar.specs.Grammar.{Class, Component, IsGrammar, component_at, is_sub, superclasses_of}
+use Rattle.ast_grammar.proofs.Inherited.{inherited_component}
 use Rattle.attr_types.specs.declared.expression.Operator.{Operator}
 use Rattle.attr_types.specs.declared.expression.Operator.TheVariants.{Add, Subtract, Multiply, Less, AtMost, Greater, AtLeast, Equal}
 use Rattle.attr_types.specs.declared.kinds.Attr.{Attr}
@@ -14,7 +17,7 @@ use Rattle.attr_types.specs.declared.kinds.Kind.{Kind}
 use Rattle.attr_types.specs.declared.kinds.Kind.TheVariants as kinds
 use Rattle.attr_types.specs.Expression.{Expression, Truth as TruthLiteral, Int as IntLiteral, This, Source as SourceNode, Child, Token, Call, Not, Negate, Binary, And, Or, If}
 use Rattle.attr_types.specs.Rules.{is_plain}
-use Rattle.attr_types.specs.Typing.{Names, call_type, called_on, child_kind, child_type, common, common_class, compared, component_on, node_type, operated, token_kind, token_read, token_type, type_of, where_int, where_truth}
+use Rattle.attr_types.specs.Typing.{Names, call_type, called_on, child_kind, child_type, common, common_class, compared, component_on, node_of_number, node_type, operated, token_kind, token_read, token_type, type_of, where_int, where_truth}
 use Rattle.solutions.specs.Asking.{Demands, Gives, Needs, next}
 use Rattle.equation_law.specs.Checked.{IsInstance, of_attribute}
 use Rattle.equation_law.specs.Equations.{decoded, kind_or_truth, source_or_null, world_of}
@@ -25,17 +28,19 @@ use Rattle.equation_law.specs.Program.{Program, class_of, declared_of, token_in}
 use Rattle.equation_law.specs.Values.{Value, Truth, Int, Node, as_kind, int, node, truth}
 use Rattle.equation_law.proofs.Preordered.{child_there}
 
--- two classes of one number are one
-pub same_class : (c d : ClassId) → eqb c.0 d.0 ≡ true → c ≡ d
-same_class c d e = let n = eqb-true c.0 d.0 e in let r : c ≡ d = ap (λ (x : ℕ). record { 0 = x }) n in r
-
 module _ (p : Program) where
-  -- the value is of the type; of a class, a source node of it
+  -- a source node is of the class or of a subclass
+  pub record IsAt (k : ℕ) (c : ClassId) : Type 0 where
+    pub class : ClassId
+    pub of : class_of p k ≡ Some class
+    pub below : is_sub p.grammar class.0 c.0 ≡ true
+
+  -- the value is of the type; of a class, a source node of it or of a subclass
   abbrev pub IsOf : Kind → Value → Type 0
   IsOf kinds.Truth v = (b : Bool) × (v ≡ Truth b)
   IsOf kinds.Int v = (z : ℤ) × (v ≡ Int z)
   IsOf kinds.Text v = ⊥
-  IsOf (kinds.Node c) v = (k : ℕ) × (v ≡ Node (At (Source k))) × (class_of p k ≡ Some c)
+  IsOf (kinds.Node c) v = (k : ℕ) × (v ≡ Node (At (Source k))) × IsAt k c
   IsOf kinds.Texts v = ⊥
   IsOf (kinds.Nodes c) v = ⊥
 
@@ -100,22 +105,35 @@ module _ (p : Program) where
   one_of k c d true m n = m
   one_of k c d false m n = n
 
+  -- a node of a class is one of each class above it
+  at_above : (k : ℕ) (c d : ClassId) → is_sub p.grammar c.0 d.0 ≡ true → IsAt k c → IsAt k d
+  at_above k c d s a = record { class = a.class; of = a.of; below = sub_then (superclasses_of p.grammar) a.class.0 c.0 d.0 a.below s }
+
+  node_above : (c d : ClassId) (m : Demands Instance Value) → is_sub p.grammar c.0 d.0 ≡ true → Keeps (kinds.Node c) m → Keeps (kinds.Node d) m
+  node_above c d (Gives v) s h = (h.0, h.1, at_above h.0 c d s h.2)
+  node_above c d (Needs i f) s h = (h.0, λ v. node_above c d (f v) s (h.1 v))
+
+  -- a choice between nodes of two classes with a nearest common class
+  either_common : (l o : ClassId) (n : Option ℕ) (c d : Demands Instance Value) (b : Bool) → nearest_common (superclasses_of p.grammar) l.0 o.0 ≡ n → Keeps (kinds.Node l) c → Keeps (kinds.Node o) d
+      → KeepsTo (option_map node_of_number n) (cond b c d)
+  either_common l o None c d b e m n = tt
+  either_common l o (Some a) c d b e m n =
+      let above : ClassId = record { 0 = a } in
+      let s = common_sub (superclasses_of p.grammar) l.0 o.0 a e in
+      one_of (kinds.Node above) c d b (node_above l above c s.0 m) (node_above o above d s.1 n)
+
   -- a choice between nodes
-  either_node : (l : ClassId) (u : Option Kind) (c d : Demands Instance Value) (b : Bool) → Keeps (kinds.Node l) c → KeepsTo u d → KeepsTo (common_class l u) (cond b c d)
+  either_node : (l : ClassId) (u : Option Kind) (c d : Demands Instance Value) (b : Bool) → Keeps (kinds.Node l) c → KeepsTo u d → KeepsTo (common_class p.grammar l u) (cond b c d)
   either_node l None c d b m n = tt
   either_node l (Some kinds.Truth) c d b m n = tt
   either_node l (Some kinds.Int) c d b m n = tt
   either_node l (Some kinds.Text) c d b m n = tt
-  either_node l (Some (kinds.Node o)) c d b m n =
-      elim (eqb l.0 o.0) as (λ x. eqb l.0 o.0 ≡ x → KeepsTo (cond x (Some (kinds.Node l)) None) (cond b c d)) [
-        | true ↦ λ e. one_of (kinds.Node l) c d b m (subst (λ (x : ClassId). Keeps (kinds.Node x) d) (sym (same_class l o e)) n)
-        | false ↦ λ e. tt
-      ] refl
+  either_node l (Some (kinds.Node o)) c d b m n = either_common l o (nearest_common (superclasses_of p.grammar) l.0 o.0) c d b refl m n
   either_node l (Some kinds.Texts) c d b m n = tt
   either_node l (Some (kinds.Nodes o)) c d b m n = tt
 
   -- a choice between two parts
-  either_part : (t u : Option Kind) (c d : Demands Instance Value) (b : Bool) → KeepsTo t c → KeepsTo u d → KeepsTo (common t u) (cond b c d)
+  either_part : (t u : Option Kind) (c d : Demands Instance Value) (b : Bool) → KeepsTo t c → KeepsTo u d → KeepsTo (common p.grammar t u) (cond b c d)
   either_part None u c d b m n = tt
   either_part (Some kinds.Truth) None c d b m n = tt
   either_part (Some kinds.Truth) (Some kinds.Truth) c d b m n = one_of kinds.Truth c d b m n
@@ -206,9 +224,9 @@ module _ (p : Program) where
   no_token kinds.Texts d = tt
   no_token (kinds.Nodes m) d = tt
 
-  token_part : (N : Names) (t : Kind) (e : Option Kind) (k : ℕ) (c : Demands Instance Value) → KeepsTo e c → KeepsTo (token_type t (component_on N.component e k)) (token_after t k c)
-  token_part N t None k c h = no_token t (token_after t k c)
-  token_part N t (Some l) k c h = token_keeps t l (option_and_then (λ (x : Component). token_kind x.shape) (component_on N.component (Some l) k)) k c h
+  token_part : (g : List Class) (t : Kind) (e : Option Kind) (k : ℕ) (c : Demands Instance Value) → KeepsTo e c → KeepsTo (token_type t (component_on g e k)) (token_after t k c)
+  token_part g t None k c h = no_token t (token_after t k c)
+  token_part g t (Some l) k c h = token_keeps t l (option_and_then (λ (x : Component). token_kind x.shape) (component_on g (Some l) k)) k c h
 
   -- a value of a plain type that is read at it
   plain_read : (k : Kind) (v : Value) → is_plain k ≡ true → IsOf k (as_kind k v)
@@ -221,14 +239,14 @@ module _ (p : Program) where
 
   -- The names of an expression that is read at a source node are those of the program.
   pub record AreNames (N : Names) (n : ℕ) : Type 0 where
+    pub grammar : N.grammar ≡ p.grammar
     pub attribute : (a : ℕ) (d : Attr) → N.attribute a ≡ Some d → declared_of p a ≡ Some d
-    pub node : (k : ℕ) (c : ClassId) → N.node k ≡ Some c → class_of p k ≡ Some c
-    pub component : (c k : ℕ) (x : Component) → N.component c k ≡ Some x → component_at p.grammar c k ≡ Some x
-    pub this : (c : ClassId) → N.this ≡ Some c → class_of p n ≡ Some c
+    pub node : (k : ℕ) (c : ClassId) → N.node k ≡ Some c → IsAt k c
+    pub this : (c : ClassId) → N.this ≡ Some c → IsAt n c
 
-  module _ (tree : IsTreeOf p.grammar p.tree) (plain : (a : ℕ) (d : Attr) → declared_of p a ≡ Some d → is_plain d.kind ≡ true) (N : Names) (n : ℕ) (names : AreNames N n) where
+  module _ (allowed : IsGrammar p.grammar) (tree : IsTreeOf p.grammar p.tree) (plain : (a : ℕ) (d : Attr) → declared_of p a ≡ Some d → is_plain d.kind ≡ true) (N : Names) (n : ℕ) (names : AreNames N n) where
     -- a source node
-    source_keeps : (k : ℕ) (o : Option ClassId) → ((c : ClassId) → o ≡ Some c → class_of p k ≡ Some c) → KeepsTo (node_type o) (Gives (Node (At (Source k))))
+    source_keeps : (k : ℕ) (o : Option ClassId) → ((c : ClassId) → o ≡ Some c → IsAt k c) → KeepsTo (node_type o) (Gives (Node (At (Source k))))
     source_keeps k None h = tt
     source_keeps k (Some c) h = (k, refl, h c refl)
 
@@ -236,12 +254,14 @@ module _ (p : Program) where
     child_after : ℕ → Demands Instance Value → Demands Instance Value
     child_after k c = next c (λ r. Gives (Node (child_at (world_of p) k (node r))))
 
-    child_keeps : (l : ClassId) (k : ℕ) (c : Demands Instance Value) → Keeps (kinds.Node l) c → (x : Component) → N.component l.0 k ≡ Some x → (s : Shape) → x.shape ≡ s → KeepsTo (child_kind s x.class) (child_after k c)
+    child_keeps : (l : ClassId) (k : ℕ) (c : Demands Instance Value) → Keeps (kinds.Node l) c → (x : Component) → component_at p.grammar l.0 k ≡ Some x → (s : Shape) → x.shape ≡ s → KeepsTo (child_kind s x.class) (child_after k c)
     unfolding child_after
     child_keeps l k c h x e shapes.Child s =
         behind (kinds.Node l) (kinds.Node x.class) c (λ r. Gives (Node (child_at (world_of p) k (node r)))) h (λ v o.
-        let f = child_there p.grammar p.tree tree o.0 k l x.class x o.2 (names.component l.0 k x e) (ap (λ (y : Shape). child_kind y x.class) s) in
-        (f.0, ap (λ (y : Value). Node (child_at (world_of p) k (node y))) o.1 ∙ ap (λ (y : Option ℕ). Node (source_or_null y)) f.1, f.2)
+        let at = o.2 in
+        let has = inherited_component p.grammar allowed at.class.0 l.0 k x at.below e in
+        let f = child_there p.grammar p.tree tree o.0 k at.class x.class x at.of has (ap (λ (y : Shape). child_kind y x.class) s) in
+        (f.0, ap (λ (y : Value). Node (child_at (world_of p) k (node y))) o.1 ∙ ap (λ (y : Option ℕ). Node (source_or_null y)) f.1, record { class = f.2; of = f.3; below = f.4 })
         )
     child_keeps l k c h x e shapes.List s = tt
     child_keeps l k c h x e shapes.Optional s = tt
@@ -249,39 +269,39 @@ module _ (p : Program) where
     child_keeps l k c h x e shapes.Int s = tt
     child_keeps l k c h x e shapes.Truth s = tt
 
-    child_of_class : (l : ClassId) (k : ℕ) (c : Demands Instance Value) → Keeps (kinds.Node l) c → (o : Option Component) → N.component l.0 k ≡ o → KeepsTo (child_type o) (child_after k c)
+    child_of_class : (l : ClassId) (k : ℕ) (c : Demands Instance Value) → Keeps (kinds.Node l) c → (o : Option Component) → component_at p.grammar l.0 k ≡ o → KeepsTo (child_type o) (child_after k c)
     child_of_class l k c h None e = tt
     child_of_class l k c h (Some x) e = child_keeps l k c h x e x.shape refl
 
-    child_part : (t : Option Kind) (k : ℕ) (c : Demands Instance Value) → KeepsTo t c → KeepsTo (child_type (component_on N.component t k)) (child_after k c)
+    child_part : (t : Option Kind) (k : ℕ) (c : Demands Instance Value) → KeepsTo t c → KeepsTo (child_type (component_on p.grammar t k)) (child_after k c)
     child_part None k c h = tt
     child_part (Some kinds.Truth) k c h = tt
     child_part (Some kinds.Int) k c h = tt
     child_part (Some kinds.Text) k c h = tt
-    child_part (Some (kinds.Node l)) k c h = child_of_class l k c h (N.component l.0 k) refl
+    child_part (Some (kinds.Node l)) k c h = child_of_class l k c h (component_at p.grammar l.0 k) refl
     child_part (Some kinds.Texts) k c h = tt
     child_part (Some (kinds.Nodes l)) k c h = tt
 
-    -- the call of an attribute on a node of its class
+    -- the call of an attribute on a node of its class or of a subclass
     call_after : ℕ → Demands Instance Value → Demands Instance Value
     call_after a c = next c (λ r. call_at (world_of p) a (node r))
 
-    -- the value of an attribute at a node of its class
-    attribute_keeps : (a k : ℕ) (d : Attr) → declared_of p a ≡ Some d → class_of p k ≡ Some d.class → Keeps d.kind (call_at (world_of p) a (At (Source k)))
-    attribute_keeps a k d e h = (of_attribute d e h, λ v. subst (λ (o : Option Attr). IsOf d.kind (as_kind (kind_or_truth (option_map (λ x. x.kind) o)) v)) (sym e) (plain_read d.kind v (plain a d e)))
+    -- the value of an attribute at such a node
+    attribute_keeps : (a k : ℕ) (d : Attr) → declared_of p a ≡ Some d → IsAt k d.class → Keeps d.kind (call_at (world_of p) a (At (Source k)))
+    attribute_keeps a k d e h = (of_attribute d h.class e h.of h.below, λ v. subst (λ (o : Option Attr). IsOf d.kind (as_kind (kind_or_truth (option_map (λ x. x.kind) o)) v)) (sym e) (plain_read d.kind v (plain a d e)))
 
-    called_keeps : (l : ClassId) (a : ℕ) (c : Demands Instance Value) → Keeps (kinds.Node l) c → (o : Option Attr) → N.attribute a ≡ o → KeepsTo (called_on l o) (call_after a c)
+    called_keeps : (l : ClassId) (a : ℕ) (c : Demands Instance Value) → Keeps (kinds.Node l) c → (o : Option Attr) → N.attribute a ≡ o → KeepsTo (called_on p.grammar l o) (call_after a c)
     unfolding call_after
     called_keeps l a c h None e = tt
     called_keeps l a c h (Some d) e =
-        elim (eqb l.0 d.class.0) as (λ x. eqb l.0 d.class.0 ≡ x → KeepsTo (cond x (Some d.kind) None) (next c (λ r. call_at (world_of p) a (node r)))) [
+        elim (is_sub p.grammar l.0 d.class.0) as (λ x. is_sub p.grammar l.0 d.class.0 ≡ x → KeepsTo (cond x (Some d.kind) None) (next c (λ r. call_at (world_of p) a (node r)))) [
           | true ↦ λ s. behind (kinds.Node l) d.kind c (λ r. call_at (world_of p) a (node r)) h (λ v o.
-              subst (λ (y : Value). Keeps d.kind (call_at (world_of p) a (node y))) (sym o.1) (attribute_keeps a o.0 d (names.attribute a d e) (o.2 ∙ ap Some (same_class l d.class s)))
+              subst (λ (y : Value). Keeps d.kind (call_at (world_of p) a (node y))) (sym o.1) (attribute_keeps a o.0 d (names.attribute a d e) (at_above o.0 l d.class s o.2))
               )
           | false ↦ λ s. tt
         ] refl
 
-    call_part : (t : Option Kind) (a : ℕ) (c : Demands Instance Value) → KeepsTo t c → KeepsTo (call_type t (N.attribute a)) (call_after a c)
+    call_part : (t : Option Kind) (a : ℕ) (c : Demands Instance Value) → KeepsTo t c → KeepsTo (call_type p.grammar t (N.attribute a)) (call_after a c)
     call_part None a c h = tt
     call_part (Some kinds.Truth) a c h = tt
     call_part (Some kinds.Int) a c h = tt
@@ -293,6 +313,10 @@ module _ (p : Program) where
     abbrev Meaning : Expression → Demands Instance Value
     Meaning e = meaning_of (world_of p) e (record { this = At (Source n) })
 
+    -- what holds by the grammar of the program holds by that of the names
+    of_names : (P : List Class → Type 0) → P p.grammar → P N.grammar
+    of_names P h = subst P (sym names.grammar) h
+
     -- an expression, form by form
     keeps : (e : Expression) → KeepsTo (type_of N e) (Meaning e)
     unfolding child_after call_after
@@ -300,9 +324,9 @@ module _ (p : Program) where
     keeps (IntLiteral z) = (z, refl)
     keeps This = source_keeps n N.this names.this
     keeps (SourceNode k) = source_keeps k (N.node k) (names.node k)
-    keeps (Child k e) = child_part (type_of N e) k (Meaning e) (keeps e)
-    keeps (Token t k e) = token_part N t (type_of N e) k (Meaning e) (keeps e)
-    keeps (Call a e) = call_part (type_of N e) a (Meaning e) (keeps e)
+    keeps (Child k e) = of_names (λ g. KeepsTo (child_type (component_on g (type_of N e) k)) (child_after k (Meaning e))) (child_part (type_of N e) k (Meaning e) (keeps e))
+    keeps (Token t k e) = token_part N.grammar t (type_of N e) k (Meaning e) (keeps e)
+    keeps (Call a e) = of_names (λ g. KeepsTo (call_type g (type_of N e) (N.attribute a)) (call_after a (Meaning e))) (call_part (type_of N e) a (Meaning e) (keeps e))
     keeps (Not e) = behind_truth (type_of N e) (Some kinds.Truth) (Meaning e) (λ v. Gives (Truth (not (truth v)))) (keeps e) (λ b. (not b, refl))
     keeps (Negate e) = behind_int (type_of N e) (Some kinds.Int) (Meaning e) (λ v. Gives (Int (int_wrap w32 (neg_ℤ (int v))))) (keeps e) (λ z. (_, refl))
     keeps (Binary o a b) = operated_keeps o (type_of N a) (type_of N b) (Meaning a) (Meaning b) (keeps a) (keeps b)
@@ -325,8 +349,9 @@ module _ (p : Program) where
         ]
         )
     keeps (If t a b) =
-        behind_truth (type_of N t) (common (type_of N a) (type_of N b)) (Meaning t) (λ v. cond (truth v) (Meaning a) (Meaning b)) (keeps t)
-        (λ x. either_part (type_of N a) (type_of N b) (Meaning a) (Meaning b) x (keeps a) (keeps b))
+        behind_truth (type_of N t) (common N.grammar (type_of N a) (type_of N b)) (Meaning t) (λ v. cond (truth v) (Meaning a) (Meaning b)) (keeps t) (λ x.
+        of_names (λ g. KeepsTo (common g (type_of N a) (type_of N b)) (cond x (Meaning a) (Meaning b))) (either_part (type_of N a) (type_of N b) (Meaning a) (Meaning b) x (keeps a) (keeps b))
+        )
 
     -- where there is a type
     pub typed_keeps : (e : Expression) (k : Kind) → type_of N e ≡ Some k → Keeps k (Meaning e)

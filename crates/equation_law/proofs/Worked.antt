@@ -3,7 +3,8 @@
 use Rattle.std.proofs.Common.{◌≡◌, pos, negsuc, arith, true, false, List, [], ◌∷◌, Some, None, codes, refl}
 use Rattle.std.specs.Int.{int_wrap}
 use Rattle.ast_grammar.specs.declared.grammar.Shape.TheVariants as shapes
-use Rattle.ast_grammar.specs.Grammar.{Class}
+use Rattle.superclasses.specs.Superclasses.{line_of}
+use Rattle.ast_grammar.specs.Grammar.{Class, superclasses_of}
 use Rattle.attr_types.specs.declared.expression.Operator.TheVariants.{Add, Subtract, Multiply, Less, AtMost, Greater, AtLeast, Equal}
 use Rattle.attr_types.specs.declared.kinds.Kind.TheVariants as kinds
 use Rattle.attr_types.specs.Expression.{Expression, Truth as TruthLiteral, Int as IntLiteral, This, Source as SourceNode, Child, Token, Call, Negate, Binary, And, Or, If}
@@ -55,7 +56,7 @@ two_nodes =
 abbrev small : Program
 small = record {
   grammar = classes;
-  rules = rules_of items;
+  rules = rules_of (superclasses_of classes) items;
   tree = two_nodes;
   texts = [];
   queries = v ∷ [];
@@ -65,7 +66,7 @@ small = record {
 is_tree : IsTreeOf classes two_nodes
 is_tree = record {
   told = TellsNode (record { 0 = 0 }) 0 0 ∷ TellsNode (record { 0 = 1 }) 0 0 ∷ TellsToken 1 0 4294967291 ∷ TellsToken 1 1 1 ∷ [];
-  tells = node (omega arith) (node (omega arith) (token (omega arith) (token (omega arith) over)));
+  tells = node (record { below = refl; concrete = refl }) (node (record { below = refl; concrete = refl }) (token (omega arith) (token (omega arith) over)));
   are = refl;
   few = omega arith;
 }
@@ -75,32 +76,32 @@ root = record { this = At (Source 0) }
 
 -- the instances at its source nodes
 instances : source_instances small ≡ at_source 0 0 ∷ at_source 1 1 ∷ Query 0 ∷ []
-unfolding source_instances rules_of
+unfolding source_instances rules_of superclasses_of line_of
 instances = refl
 
 -- the equation of its attribute at the root
 of_attribute : equation_of small (at_source 0 0) ≡ Some (record { body = IntLiteral (pos 5); kind = kinds.Int; place = root })
-unfolding rules_of
+unfolding rules_of superclasses_of line_of
 of_attribute = refl
 
 -- that of the query
 of_query : equation_of small (Query 0) ≡ Some (record { body = v; kind = kinds.Int; place = root })
-unfolding rules_of
+unfolding rules_of superclasses_of line_of
 of_query = refl
 
 -- the root is no M
 of_other_class : equation_of small (at_source 1 0) ≡ None
-unfolding rules_of
+unfolding rules_of superclasses_of line_of
 of_other_class = refl
 
 -- no third node
 of_no_node : equation_of small (at_source 0 2) ≡ None
-unfolding rules_of
+unfolding rules_of superclasses_of line_of
 of_no_node = refl
 
 -- no third attribute
 of_no_attribute : equation_of small (at_source 2 0) ≡ None
-unfolding rules_of
+unfolding rules_of superclasses_of line_of
 of_no_attribute = refl
 
 -- no second query
@@ -160,7 +161,7 @@ truth_values = (refl, refl, refl, refl)
 
 -- both sides are demanded, the left one first
 both_demanded : meaning_of (world_of small) (Binary Add v w) root ≡ Needs (at_source 0 0) (λ x. Needs (at_source 1 0) (λ y. Gives (operate Add (as_kind kinds.Int x) (as_kind kinds.Truth y))))
-unfolding rules_of
+unfolding rules_of superclasses_of line_of
 both_demanded = refl
 
 -- `false && w` demands nothing
@@ -173,17 +174,17 @@ or_short = refl
 
 -- `true && w` demands w
 and_long : meaning_of (world_of small) (And (TruthLiteral true) w) root ≡ Needs (at_source 1 0) (λ x. Gives (Truth (truth x)))
-unfolding rules_of
+unfolding rules_of superclasses_of line_of
 and_long = refl
 
 -- so does `false || w`
 or_long : meaning_of (world_of small) (Or (TruthLiteral false) w) root ≡ Needs (at_source 1 0) (λ x. Gives (Truth (truth x)))
-unfolding rules_of
+unfolding rules_of superclasses_of line_of
 or_long = refl
 
 -- `true ? v : 7` demands v, and `false ? v : 7` nothing
 chosen : (meaning_of (world_of small) (If (TruthLiteral true) v (IntLiteral (pos 7))) root ≡ Needs (at_source 0 0) (λ x. Gives (as_kind kinds.Int x))) × (meaning_of (world_of small) (If (TruthLiteral false) v (IntLiteral (pos 7))) root ≡ Gives (Int (pos 7)))
-unfolding rules_of
+unfolding rules_of superclasses_of line_of
 chosen = (refl, refl)
 
 -- `this`, `this.getm()`, and the same of that
@@ -197,15 +198,15 @@ tokens = (refl, refl)
 
 -- on null a token and a call are defaults, and demand nothing
 on_null : (meaning_of (world_of small) (Token kinds.Int 0 (Child 1 This)) root ≡ Gives (Int (pos 0))) × (meaning_of (world_of small) (Call 1 (Child 1 This)) root ≡ Gives (Truth false))
-unfolding rules_of
+unfolding rules_of superclasses_of line_of
 on_null = (refl, refl)
 
 -- a call on the child
 on_child : meaning_of (world_of small) (Call 1 (Child 0 This)) root ≡ Needs (at_source 1 1) (λ x. Gives (Truth (truth x)))
-unfolding rules_of
+unfolding rules_of superclasses_of line_of
 on_child = refl
 
 -- the rounds give the attribute its value in the first round, and the query in the second
 five : HasValue small (Query 0) (Int (pos 5))
-unfolding equations_of rules_of
+unfolding equations_of rules_of superclasses_of line_of
 five = record { list = at_source 0 0 ∷ Query 0 ∷ []; rounds = 0 ∷ 0 ∷ []; whole = ((tt, λ i. refl), λ i. refl); given = refl }

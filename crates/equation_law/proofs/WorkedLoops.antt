@@ -1,6 +1,8 @@
 -- Loops, worked through the definitions: a class N, a tree of one N, and at it `x() = y()`, `y() = x()`, `z() = 5`,
 -- `w() = x()`, `a() = false && b()` and `b() = a() || b()`. Each call is one at the root.
 use Rattle.std.proofs.Common.{◌≡◌, ℕ, pos, true, false, cond, ◌||◌, List, [], ◌∷◌, Option, None, codes, refl, sym, subst}
+use Rattle.superclasses.specs.Superclasses.{line_of}
+use Rattle.ast_grammar.specs.Grammar.{Class, superclasses_of}
 use Rattle.attr_types.specs.declared.kinds.Kind.TheVariants as kinds
 use Rattle.attr_types.specs.Expression.{Expression, Truth as TruthLiteral, Int as IntLiteral, This, Call, And, Or}
 use Rattle.attr_types.specs.Rules.{Item, rules_of}
@@ -31,11 +33,14 @@ items =
     record { class = record { 0 = 0 }; name = codes "b"; kind = kinds.Truth; body = Or (call 4) (call 5) } ∷
     []
 
+abbrev classes : List Class
+classes = record { name = codes "N"; abstract = false; superclass = None; components = [] } ∷ []
+
 -- the program
 abbrev looping : Program
 looping = record {
-  grammar = record { name = codes "N"; abstract = false; superclass = None; components = [] } ∷ [];
-  rules = rules_of items;
+  grammar = classes;
+  rules = rules_of (superclasses_of classes) items;
   tree = record { class = record { 0 = 0 }; parent = 0; component = 0; tokens = [] } ∷ [];
   texts = [];
   queries = [];
@@ -61,17 +66,17 @@ b = at_source 5 0
 
 -- z is 5, whatever the rest does
 five : HasValue looping z (Int (pos 5))
-unfolding equations_of rules_of
+unfolding equations_of rules_of superclasses_of line_of
 five = record { list = z ∷ []; rounds = 0 ∷ []; whole = (tt, λ i. refl); given = refl }
 
 -- x leads to y
 x_to_y : Leads looping x y
-unfolding equations_of rules_of
+unfolding equations_of rules_of superclasses_of line_of
 x_to_y = undeclared refl here
 
 -- and back
 y_to_x : Leads looping y x
-unfolding equations_of rules_of
+unfolding equations_of rules_of superclasses_of line_of
 y_to_x = undeclared refl here
 
 -- so x stands on a loop
@@ -85,12 +90,12 @@ x_has_none v h = loopless looping x v h x_loops
 
 -- w leads into that loop without standing on it
 w_loops : HasLoop looping w
-unfolding equations_of rules_of
+unfolding equations_of rules_of superclasses_of line_of
 w_loops = record { on = x; to = more (undeclared refl here) none; undeclared_on = refl; then = y; out = x_to_y; back = more y_to_x none }
 
 -- a is false and demands nothing
 a_false : HasValue looping a (Truth false)
-unfolding equations_of rules_of
+unfolding equations_of rules_of superclasses_of line_of
 a_false = record { list = a ∷ []; rounds = 0 ∷ []; whole = (tt, λ i. refl); given = refl }
 
 -- so it has no loop
@@ -99,12 +104,12 @@ a_loopless = loopless looping a (Truth false) a_false
 
 -- b demands a
 b_to_a : Leads looping b a
-unfolding equations_of rules_of
+unfolding equations_of rules_of superclasses_of line_of
 b_to_a = undeclared refl here
 
 -- and then itself
 b_to_b : Leads looping b b
-unfolding equations_of rules_of
+unfolding equations_of rules_of superclasses_of line_of
 b_to_b = undeclared refl (later a_false here)
 
 -- so b stands on a loop of one step
@@ -139,7 +144,7 @@ of_six P hx hy hz hw ha hb =
 
 -- a second round over the list adds nothing
 adds_none : (i : Instance) → outer_rounds (equations_of looping) names (0 ∷ 0 ∷ []) i ≡ left i
-unfolding equations_of rules_of
+unfolding equations_of rules_of superclasses_of line_of
 adds_none i = elim (is_in same_instance names i) as (λ c. is_in same_instance names i ≡ c → outer_rounds (equations_of looping) names (0 ∷ 0 ∷ []) i ≡ left i) [
   | true ↦ λ m. of_six (λ j. outer_rounds (equations_of looping) names (0 ∷ 0 ∷ []) j ≡ left j) refl refl refl refl refl refl i m
   | false ↦ λ m. rw m
@@ -147,7 +152,7 @@ adds_none i = elim (is_in same_instance names i) as (λ c. is_in same_instance n
 
 -- so the rounds end there
 ends : RoundsEnd (equations_of looping) names left
-unfolding equations_of rules_of
+unfolding equations_of rules_of superclasses_of line_of
 ends = record { rounds = 0 ∷ []; whole = (tt, λ i. refl); turns = 0; stable = λ i. refl; last = adds_none; is = λ i. refl }
 
 -- the one demand of an equation is of the list, and a value that isn't there leads no further
@@ -157,13 +162,13 @@ demands_one j n k m e (later q r) = absurd (cc)
 
 -- b demands a, which is false, and then itself
 demands_of_b : (n : Instance) → Meets (Graph left) ((equations_of looping).equation b) n → is_in same_instance names n ≡ true
-unfolding equations_of rules_of
+unfolding equations_of rules_of superclasses_of line_of
 demands_of_b n here = refl
 demands_of_b n (later {w = v} q r) = let p : Truth false ≡ v = cc in demands_one b n _ refl refl (meets_at (λ u. next (cond (truth (as_kind kinds.Truth u)) (Gives (Truth true)) (Needs b (λ t. Gives (Truth (truth (as_kind kinds.Truth t)))))) (λ t. Gives (as_kind kinds.Truth t))) (sym p) r)
 
 -- so the list has all demands
 has_demands : HasDemands (equations_of looping) names left
-unfolding equations_of rules_of
+unfolding equations_of rules_of superclasses_of line_of
 has_demands i j m =
     of_six (λ k. (n : Instance) → Meets (Graph left) ((equations_of looping).equation k) n → is_in same_instance names n ≡ true)
     (λ n. demands_one y n _ refl refl)
@@ -176,5 +181,5 @@ has_demands i j m =
 
 -- so what is left tells that y has a loop
 y_loops : HasLoop looping y
-unfolding equations_of rules_of
+unfolding equations_of rules_of superclasses_of line_of
 y_loops = left_has_loop looping names left ends has_demands y refl refl

@@ -1,6 +1,7 @@
 -- Programs that break no rule, and their instances.
-use Rattle.std.specs.Prelude.{◌≡◌, ℕ, List, Some, All, slice_get}
-use Rattle.ast_grammar.specs.Grammar.{IsGrammar}
+use Rattle.std.specs.Prelude.{◌≡◌, ℕ, true, List, Some, All, slice_get}
+use Rattle.ast_grammar.specs.declared.grammar.ClassId.{ClassId}
+use Rattle.ast_grammar.specs.Grammar.{IsGrammar, is_sub, superclasses_of}
 use Rattle.attr_types.specs.declared.kinds.Attr.{Attr}
 use Rattle.attr_types.specs.declared.kinds.Kind.{Kind}
 use Rattle.attr_types.specs.Expression.{Expression}
@@ -20,11 +21,11 @@ pub record IsProgram (p : Program) : Type 0 where
   pub items : List Item
   pub grammar : IsGrammar p.grammar
   pub allowed : AreItems p.grammar items
-  pub rules : p.rules ≡ rules_of items
+  pub rules : p.rules ≡ rules_of (superclasses_of p.grammar) items
   pub tree : IsTreeOf p.grammar p.tree
   pub queries : All (IsTyped p) p.queries
 
--- An instance of a program: an attribute of the class of a source node at that node, or a query.
+-- An instance of a program: an attribute at a source node, which is of the attribute's class or of a subclass, or a query.
 pub data IsInstance (p : Program) : Instance → Type 0 where
-  of_attribute : {a k : ℕ} (d : Attr) → declared_of p a ≡ Some d → class_of p k ≡ Some d.class → IsInstance p (Attribute a (At (Source k)) NoArguments)
+  of_attribute : {a k : ℕ} (d : Attr) (c : ClassId) → declared_of p a ≡ Some d → class_of p k ≡ Some c → is_sub p.grammar c.0 d.class.0 ≡ true → IsInstance p (Attribute a (At (Source k)) NoArguments)
   of_query : {q : ℕ} (e : Expression) → slice_get p.queries q ≡ Some e → IsInstance p (Query q)

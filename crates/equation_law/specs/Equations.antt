@@ -62,7 +62,7 @@ abbrev pub kind_in : Program → Instance → Kind
 kind_in p (Attribute a n xs) = attribute_kind p a
 kind_in p (Query q) = kind_or_truth (option_map (query_kind p) (slice_get p.queries q))
 
--- the equation of an attribute at nodes of a class
+-- the equation of an attribute at nodes of a class: that of the nearest class, from this one upwards
 abbrev pub equation_for : Program → ℕ → ClassId → Option Equation
 equation_for p a c = option_and_then (slice_get p.rules.equations) (equation_number p.rules c a)
 

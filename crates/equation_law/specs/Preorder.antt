@@ -1,13 +1,14 @@
 -- Trees of a grammar, told in preorder.
-use Rattle.std.specs.Prelude.{◌≡◌, ℕ, suc, ◌<◌, ◌≤◌, ◌^◌, ◌==◌, ◌&&◌, List, [], ◌∷◌, ◌++◌, Option, Some, None, length, if◌then◌else◌}
+use Rattle.std.specs.Prelude.{◌≡◌, ℕ, suc, ◌<◌, ◌≤◌, ◌^◌, ◌==◌, ◌&&◌, List, [], ◌∷◌, ◌++◌, true, false, Option, Some, None, length, slice_get, if◌then◌else◌}
+use Rattle.std.specs.Option.{option_map}
 use Rattle.ast_grammar.specs.declared.grammar.ClassId.{ClassId}
 use Rattle.ast_grammar.specs.declared.grammar.Shape.{Shape}
 use Rattle.ast_grammar.specs.declared.grammar.Shape.TheVariants as shapes
-use Rattle.ast_grammar.specs.Grammar.{Class, Component, components_of}
+use Rattle.ast_grammar.specs.Grammar.{Class, Component, abstract_in, components_of, is_sub}
 use Rattle.solutions.specs.Rounds.{or_else}
 use Rattle.equation_law.specs.Program.{Node}
 
--- a part of a tree that is still to be told: a subtree whose root is of a class, or a token; with the node and the
+-- a part of a tree that is still to be told: a subtree whose root is of a class or of a subclass, or a token; with the node and the
 -- component at which it hangs
 pub data Open : Type 0 where
   Subtree : ClassId → ℕ → ℕ → Open
@@ -42,12 +43,17 @@ IsCode shapes.Text v = ⊥
 IsCode shapes.Int v = v < 2 ^ 32
 IsCode shapes.Truth v = v ≤ 1
 
+-- A node of the second class may stand where one of the first is wanted: it is of that class or of a subclass, and not abstract.
+pub record Fits (g : List Class) (wanted class : ClassId) : Type 0 where
+  pub below : is_sub g class.0 wanted.0 ≡ true
+  pub concrete : option_map abstract_in (slice_get g class.0) ≡ Some false
+
 -- What is told of the open parts in preorder: a node before its parts, these in the order of the components. The
 -- next node has the number n.
 pub data Tells (g : List Class) : List Open → ℕ → List Told → Type 0 where
   over : {n : ℕ} → Tells g [] n []
-  node : {c : ClassId} {parent k n : ℕ} {parts : List Open} {told : List Told} → c.0 < length g
-      → Tells g (parts_from n 0 (components_of g c.0) ++ parts) (suc n) told → Tells g (Subtree c parent k ∷ parts) n (TellsNode c parent k ∷ told)
+  node : {wanted c : ClassId} {parent k n : ℕ} {parts : List Open} {told : List Told} → Fits g wanted c
+      → Tells g (parts_from n 0 (components_of g c.0) ++ parts) (suc n) told → Tells g (Subtree wanted parent k ∷ parts) n (TellsNode c parent k ∷ told)
   token : {s : Shape} {m k n v : ℕ} {parts : List Open} {told : List Told} → IsCode s v
       → Tells g parts n told → Tells g (Token s m k ∷ parts) n (TellsToken m k v ∷ told)
 
@@ -78,7 +84,7 @@ nodes_told g all n (TellsToken m k v ∷ told) = nodes_told g all n told
 abbrev pub most_nodes : ℕ
 most_nodes = 65536
 
--- the whole tree: its root is of the first class
+-- the whole tree: its root is of the first class or of a subclass
 abbrev pub root_part : List Open
 root_part = Subtree (record { 0 = 0 }) 0 0 ∷ []
 

@@ -2,7 +2,8 @@
 use Rattle.std.specs.Prelude.{ℕ, suc, List, [], ◌∷◌, ◌++◌, Option, None, map, position, slice_get, if◌then◌else◌, ◌==◌, ◌&&◌}
 use Rattle.std.specs.Option.{option_and_then, option_map}
 use Rattle.ast_grammar.specs.declared.grammar.ClassId.{ClassId}
-use Rattle.ast_grammar.specs.Grammar.{Class, component_at}
+use Rattle.superclasses.specs.Superclasses.{is_sub}
+use Rattle.ast_grammar.specs.Grammar.{Class, superclasses_of}
 use Rattle.attr_types.specs.declared.kinds.Attr.{Attr}
 use Rattle.attr_types.specs.Expression.{Expression}
 use Rattle.attr_types.specs.Rules.{Attribute as DeclaredAttribute, RuleSet}
@@ -44,20 +45,20 @@ class_of p k = option_map (λ n. n.class) (slice_get p.tree k)
 
 -- what queries may name
 abbrev pub names_in : Program → Names
-names_in p = record { attribute = declared_of p; node = class_of p; component = component_at p.grammar; this = class_of p 0 }
+names_in p = record { grammar = p.grammar; attribute = declared_of p; node = class_of p; this = class_of p 0 }
 
--- the nodes of a class, by their numbers, from the k-th on
-abbrev pub nodes_of : List Node → ClassId → ℕ → List ℕ
-nodes_of [] c k = []
-nodes_of (n ∷ nodes) c k = if n.class.0 == c.0 then k ∷ nodes_of nodes c (suc k) else nodes_of nodes c (suc k)
+-- the nodes of a class and of its subclasses, by their numbers, from the k-th on
+abbrev pub nodes_of : List (Option ℕ) → List Node → ClassId → ℕ → List ℕ
+nodes_of superclasses [] c k = []
+nodes_of superclasses (n ∷ nodes) c k = if is_sub superclasses n.class.0 c.0 then k ∷ nodes_of superclasses nodes c (suc k) else nodes_of superclasses nodes c (suc k)
 
 abbrev pub at_source : ℕ → ℕ → Instance
 at_source a k = Attribute a (At (Source k)) NoArguments
 
 -- attribute by attribute, from the a-th on, and in each by node
-abbrev pub attribute_instances : List DeclaredAttribute → ℕ → List Node → List Instance
-attribute_instances [] a tree = []
-attribute_instances (x ∷ attributes) a tree = map (at_source a) (nodes_of tree x.declared.class 0) ++ attribute_instances attributes (suc a) tree
+abbrev pub attribute_instances : List (Option ℕ) → List DeclaredAttribute → ℕ → List Node → List Instance
+attribute_instances superclasses [] a tree = []
+attribute_instances superclasses (x ∷ attributes) a tree = map (at_source a) (nodes_of superclasses tree x.declared.class 0) ++ attribute_instances superclasses attributes (suc a) tree
 
 -- the queries, from the q-th on
 abbrev pub query_instances : List Expression → ℕ → List Instance
@@ -66,7 +67,7 @@ query_instances (e ∷ queries) q = Query q ∷ query_instances queries (suc q)
 
 -- the instances of a program at its source nodes, and its queries
 unfoldable pub source_instances : Program → List Instance
-source_instances p = attribute_instances p.rules.attributes 0 p.tree ++ query_instances p.queries 0
+source_instances p = attribute_instances (superclasses_of p.grammar) p.rules.attributes 0 p.tree ++ query_instances p.queries 0
 
 abbrev pub most_replies : ℕ
 most_replies = 262144

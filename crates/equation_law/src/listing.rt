@@ -1,5 +1,7 @@
 // The instances of a program, listed.
-ghost use Rattle.std.specs.Prelude.{◌≡◌, ◌≤◌, ◌+◌, ◌*◌, ◌++◌, OnOk, length, map};
+ghost use Rattle.std.specs.Prelude.{◌≡◌, ◌<◌, ◌≤◌, ◌+◌, ◌*◌, ◌++◌, OnOk, Some, length, map, slice_get};
+ghost use Rattle.std.specs.Option.{option_map};
+ghost use Rattle.ast_grammar.specs.Grammar.{is_sub, superclasses_of};
 ghost use Rattle.attr_types.specs.Rules.{most_attributes};
 ghost use Rattle.equation_law.specs.Program.{attribute_instances, query_instances, nodes_of, at_source, most_replies};
 ghost use Rattle.equation_law.specs.Preorder.{most_nodes};
@@ -10,22 +12,31 @@ use crate::growing::push;
 use crate::instances::NamedInstance;
 use crate::system::System;
 use crate::tree::Tree;
-use ast_grammar::ClassId;
+use ast_grammar::{ClassId, Grammar};
 use attr_types::AttrId;
 use rag_io::Memory;
 
-/// The instances of an attribute, at the nodes of its class.
+/// Whether a node is of a class or of a subclass.
+fn is_of(grammar: &Grammar, tree: &Tree, node: u32, class: ClassId) -> bool
+    requires { node < length tree.now }
+    ensures { option_map (λ n. is_sub grammar.now n.class.0 class.0) (slice_get tree.now node) ≡ Some result }
+{
+    grammar.is_sub(tree.class_of(node), class)
+}
+
+/// The instances of an attribute, at the nodes of its class and of subclasses.
 fn push_nodes(
     names: &mut Vec<NamedInstance>,
+    grammar: &Grammar,
     tree: &Tree,
     attribute: AttrId,
     class: ClassId,
 ) -> Result<(), Memory>
-    ensures names { OnOk result (map instance_of names.new.items ≡ map instance_of names.old.items ++ map (at_source attribute.0) (nodes_of tree.now class 0)) }
+    ensures names { OnOk result (map instance_of names.new.items ≡ map instance_of names.old.items ++ map (at_source attribute.0) (nodes_of (superclasses_of grammar.now) tree.now class 0)) }
     ensures few { length names.new.items ≤ length names.old.items + most_nodes }
 {
     for node in 0..tree.len() {
-        if tree.class_of(node) == class {
+        if is_of(grammar, tree, node, class) {
             push(names, NamedInstance::Attribute(attribute, node))?;
         }
     }
@@ -34,13 +45,14 @@ fn push_nodes(
 
 /// The instances of all attributes.
 pub(crate) fn push_attributes(names: &mut Vec<NamedInstance>, system: &System) -> Result<(), Memory>
-    ensures names { OnOk result (map instance_of names.new.items ≡ map instance_of names.old.items ++ attribute_instances (program_of system.now).rules.attributes 0 (program_of system.now).tree) }
+    ensures names { OnOk result (map instance_of names.new.items ≡ map instance_of names.old.items ++ attribute_instances (superclasses_of (program_of system.now).grammar) (program_of system.now).rules.attributes 0 (program_of system.now).tree) }
     ensures few { length names.new.items ≤ length names.old.items + most_attributes * most_nodes }
 {
     let rules = system.rules();
     for number in 0..rules.attrs() {
         let attribute = AttrId(number as u16);
-        push_nodes(names, system.tree(), attribute, rules.attr(attribute).class)?;
+        let class = rules.attr(attribute).class;
+        push_nodes(names, system.grammar(), system.tree(), attribute, class)?;
     }
     Ok(())
 }

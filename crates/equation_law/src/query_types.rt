@@ -66,6 +66,7 @@ pub(crate) fn expression_kind(system: &System, expression: &TExpr) -> Option<Kin
             component_on(system.grammar(), expression_kind(system, receiver), *k),
         ),
         TExpr::Call(attribute, receiver) => call_type(
+            system.grammar(),
             expression_kind(system, receiver),
             declared(system, *attribute),
         ),
@@ -83,6 +84,7 @@ pub(crate) fn expression_kind(system: &System, expression: &TExpr) -> Option<Kin
         TExpr::If(condition, then, otherwise) => where_truth(
             expression_kind(system, condition),
             common(
+                system.grammar(),
                 expression_kind(system, then),
                 expression_kind(system, otherwise),
             ),

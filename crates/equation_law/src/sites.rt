@@ -27,7 +27,7 @@ struct Site<'a> {
     this: u32,
 }
 
-/// The equation of an attribute at a node: that of the node's class, read at the node.
+/// The equation of an attribute at a node: that of the nearest class, from the node's class upwards, read at the node.
 fn attribute_site(system: &System, attribute: AttrId, node: u32) -> Option<Site<'_>>
     ensures { IsSite (equation_of (program_of system.now) (at_source attribute.0 node)) result }
 {

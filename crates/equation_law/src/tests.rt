@@ -1,17 +1,20 @@
 ghost use Rattle.std.specs.Prelude.{◌≡◌, ◌≤◌, ◌+◌, [], ◌∷◌, ◌++◌, length, map, IfOk, OnOk};
-ghost use Rattle.attr_types.specs.Expression.{Call, This, expression_of};
+ghost use Rattle.rag_io.specs.Outside.{longest_file};
+ghost use Rattle.attr_types.specs.Expression.{Call, This, Token, expression_of};
 ghost use Rattle.attr_types.specs.Items.{item_of};
 ghost use Rattle.attr_types.specs.Rules.{AreItems};
 ghost use Rattle.equation_law.specs.Preorder.{IsTree};
 ghost use Rattle.equation_law.specs.Program.{most_replies};
 ghost use Rattle.equation_law.specs.Trees.{node_of};
 
+mod subclasses;
+
 use super::*;
 use crate::evaluation::{Context, evaluate};
 use crate::instances::NamedInstance;
 use crate::places::Places;
 use crate::values::PlainValue;
-use ast_grammar::{ClassId, Grammar, read_first};
+use ast_grammar::{ClassId, Grammar, read_ast};
 use attr_types::{AttrId, FirstEq, Kind, Name, Operator, QueryEq, Rules, TExpr};
 use rag_io::{Pool, scan};
 use std::alloc::{AllocFailed, Global};
@@ -61,7 +64,9 @@ fn child(alloc: Global, k: u32, receiver: TExpr) -> Result<TExpr, Failed> {
     Ok(TExpr::Child(k, Box::new(alloc, receiver)?))
 }
 
-fn token(alloc: Global, kind: Kind, k: u32, receiver: TExpr) -> Result<TExpr, Failed> {
+fn token(alloc: Global, kind: Kind, k: u32, receiver: TExpr) -> Result<TExpr, Failed>
+    ensures { IfOk result (λ e. expression_of e ≡ Token kind k (expression_of receiver)) }
+{
     Ok(TExpr::Token(kind, k, Box::new(alloc, receiver)?))
 }
 
@@ -163,22 +168,61 @@ fn nodes(alloc: Global) -> Result<Vec<FirstNode>, Fail>
     Ok(list)
 }
 
+// The grammar of these rules.
+fn grammar(alloc: Global, rules: &[u8]) -> Result<Grammar, Fail>
+    requires { length rules.now ≤ longest_file }
+{
+    let tokens = scan(alloc, rules)?;
+    Ok(read_ast(alloc, &tokens)?)
+}
+
+// The program of these parts.
+fn program(
+    alloc: Global,
+    grammar: Grammar,
+    items: Vec<FirstEq>,
+    nodes: Vec<FirstNode>,
+    queries: Vec<QueryEq>,
+) -> Result<System, Fail>
+    requires items { AreItems grammar (map item_of items.items) }
+    requires nodes { IsTree (map node_of nodes.items) }
+    requires queries { length queries.items ≤ most_replies }
+{
+    let rules = Rules::of_equations(alloc, &grammar, items)?;
+    let tree = Tree::of_nodes(alloc, nodes)?;
+    let pool = Pool::new(alloc)?;
+    Ok(System::new(grammar, rules, tree, pool, Queries::new(queries)))
+}
+
 // The small program with these queries.
 fn system(alloc: Global, queries: Vec<QueryEq>) -> Result<System, Fail>
     requires { length queries.items ≤ most_replies }
 {
-    let tokens = scan(
+    let grammar = grammar(
         alloc,
         b"P ::= l:L r:L; L ::= <V:int> <B:boolean>;".as_slice(),
     )?;
-    let grammar = read_first(alloc, &tokens)?.ok_or("no grammar")?;
     if grammar.classes() != 2 {
         return Err("another grammar".into());
     }
-    let rules = Rules::of_equations(alloc, &grammar, items(alloc, &grammar)?)?;
-    let tree = Tree::of_nodes(alloc, nodes(alloc)?)?;
-    let pool = Pool::new(alloc)?;
-    Ok(System::new(grammar, rules, tree, pool, Queries::new(queries)))
+    let items = items(alloc, &grammar)?;
+    program(alloc, grammar, items, nodes(alloc)?, queries)
+}
+
+// What an expression comes to at the root, where no instance has a value yet.
+fn value_at_root(
+    alloc: Global,
+    system: &System,
+    expression: &TExpr,
+) -> Result<Result<PlainValue, NamedInstance>, Fail> {
+    let places = Places::of_names(alloc, [].as_slice())?;
+    let context = Context {
+        system,
+        places: &places,
+        values: [].as_slice(),
+        this: 0,
+    };
+    Ok(evaluate(&context, expression))
 }
 
 // The sides of an operator, and its value.
@@ -234,47 +278,63 @@ const TOKENS: [(u32, Kind, u32, PlainValue); 7] = [
 ];
 
 #[test]
-fn operators_have_values(rt: HostRuntime) -> Result<(), Fail> {
+fn integers_have_values(rt: HostRuntime) -> Result<(), Fail> {
     let alloc = rt.alloc();
     let system = system(alloc, Vec::new(alloc))?;
-    let places = Places::of_names(alloc, [].as_slice())?;
-    let context = Context {
-        system: &system,
-        places: &places,
-        values: [].as_slice(),
-        this: 0,
-    };
     for (a, operator, b, want) in INTEGERS {
         let e = binary(alloc, int(a), operator, int(b))?;
-        assert_eq!(rt; evaluate(&context, &e), Ok(PlainValue::Int(want)), "{e:?}");
+        let value = value_at_root(alloc, &system, &e)?;
+        assert_eq!(rt; value, Ok(PlainValue::Int(want)), "{e:?}");
     }
-    for (a, operator, b, want) in COMPARISONS {
-        let e = binary(alloc, int(a), operator, int(b))?;
-        assert_eq!(rt;
-            evaluate(&context, &e),
-            Ok(PlainValue::Truth(want)),
-            "{e:?}"
-        );
-    }
+    Ok(())
+}
+
+#[test]
+fn opposites_have_values(rt: HostRuntime) -> Result<(), Fail> {
+    let alloc = rt.alloc();
+    let system = system(alloc, Vec::new(alloc))?;
     for (a, want) in [(5, -5), (i32::MIN, i32::MIN)] {
         let e = negate(alloc, int(a))?;
-        assert_eq!(rt; evaluate(&context, &e), Ok(PlainValue::Int(want)), "{e:?}");
+        let value = value_at_root(alloc, &system, &e)?;
+        assert_eq!(rt; value, Ok(PlainValue::Int(want)), "{e:?}");
     }
-    for (a, b, both, either, same) in TRUTHS {
-        for (e, want) in [
-            (and(alloc, truth(a), truth(b))?, both),
-            (or(alloc, truth(a), truth(b))?, either),
-            (binary(alloc, truth(a), Operator::Equal, truth(b))?, same),
-            (not(alloc, truth(a))?, !a),
-            (choice(alloc, truth(a), truth(b), truth(!b))?, same),
-        ]
-        .iter()
-        {
-            assert_eq!(rt;
-                evaluate(&context, e),
-                Ok(PlainValue::Truth(*want)),
-                "{e:?}"
-            );
+    Ok(())
+}
+
+#[test]
+fn comparisons_have_values(rt: HostRuntime) -> Result<(), Fail> {
+    let alloc = rt.alloc();
+    let system = system(alloc, Vec::new(alloc))?;
+    for (a, operator, b, want) in COMPARISONS {
+        let e = binary(alloc, int(a), operator, int(b))?;
+        let value = value_at_root(alloc, &system, &e)?;
+        assert_eq!(rt; value, Ok(PlainValue::Truth(want)), "{e:?}");
+    }
+    Ok(())
+}
+
+// The operators on two truth values, and their values.
+fn of_truths(
+    alloc: Global,
+    (a, b, both, either, same): (bool, bool, bool, bool, bool),
+) -> Result<[(TExpr, bool); 5], Failed> {
+    Ok([
+        (and(alloc, truth(a), truth(b))?, both),
+        (or(alloc, truth(a), truth(b))?, either),
+        (binary(alloc, truth(a), Operator::Equal, truth(b))?, same),
+        (not(alloc, truth(a))?, !a),
+        (choice(alloc, truth(a), truth(b), truth(!b))?, same),
+    ])
+}
+
+#[test]
+fn truth_values_have_values(rt: HostRuntime) -> Result<(), Fail> {
+    let alloc = rt.alloc();
+    let system = system(alloc, Vec::new(alloc))?;
+    for row in TRUTHS {
+        for (e, want) in of_truths(alloc, row)?.iter() {
+            let value = value_at_root(alloc, &system, e)?;
+            assert_eq!(rt; value, Ok(PlainValue::Truth(*want)), "{e:?}");
         }
     }
     Ok(())
@@ -339,15 +399,9 @@ fn stuck(alloc: Global) -> Result<[(TExpr, Result<PlainValue, NamedInstance>); 1
 fn the_first_demand_without_a_value(rt: HostRuntime) -> Result<(), Fail> {
     let alloc = rt.alloc();
     let system = system(alloc, Vec::new(alloc))?;
-    let places = Places::of_names(alloc, [].as_slice())?;
-    let context = Context {
-        system: &system,
-        places: &places,
-        values: [].as_slice(),
-        this: 0,
-    };
     for (e, want) in stuck(alloc)?.iter() {
-        assert_eq!(rt; evaluate(&context, e), *want, "{e:?}");
+        let value = value_at_root(alloc, &system, e)?;
+        assert_eq!(rt; value, *want, "{e:?}");
     }
     Ok(())
 }

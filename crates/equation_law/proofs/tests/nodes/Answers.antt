@@ -1,10 +1,11 @@
-use Rattle.std.proofs.Common.{◌≡◌, List, [], ◌∷◌, ◌++◌, None, false, arith, map, codes, refl, sym, ap, subst, ◌∙◌}
+use Rattle.std.proofs.Common.{List, [], ◌∷◌, None, false, arith, map, codes, refl, sym, ap, subst}
 use Rattle.ast_grammar.specs.declared.grammar.Shape.TheVariants as shapes
 use Rattle.ast_grammar.specs.Grammar.{Class}
 use Rattle.equation_law.specs.declared.tree.FirstNode.{FirstNode}
-use Rattle.equation_law.specs.Preorder.{IsTree, TellsNode, TellsToken, Told, Tells, node, over, token}
+use Rattle.equation_law.specs.Preorder.{IsTree, TellsNode, TellsToken, Told, node, over, token}
 use Rattle.equation_law.specs.Program.{Node}
 use Rattle.equation_law.specs.Trees.{node_of}
+use Rattle.equation_law.proofs.Lists.{added}
 use Rattle.equation_law.proofs.tests.nodes.Goals as goal
 
 -- `P ::= l:L r:L; L ::= <V:int> <B:boolean>;`
@@ -48,15 +49,11 @@ three_nodes = record {
   grammar = pairs;
   tree = record {
     told = told;
-    tells = node (omega arith) (node (omega arith) (token (omega arith) (token (omega arith) (node (omega arith) (token (omega arith) (token (omega arith) over))))));
+    tells = node (record { below = refl; concrete = refl }) (node (record { below = refl; concrete = refl }) (token (omega arith) (token (omega arith) (node (record { below = refl; concrete = refl }) (token (omega arith) (token (omega arith) over))))));
     are = refl;
     few = omega arith;
   };
 }
-
--- three additions to a list
-added : {none one two all : List Node} (x y z : Node) → none ≡ [] → one ≡ none ++ x ∷ [] → two ≡ one ++ y ∷ [] → all ≡ two ++ z ∷ [] → all ≡ x ∷ y ∷ z ∷ []
-added x y z n e f g = g ∙ ap (λ (xs : List Node). xs ++ z ∷ []) (f ∙ ap (λ (xs : List Node). xs ++ y ∷ []) (e ∙ ap (λ (xs : List Node). xs ++ x ∷ []) n))
 
 pub returns : goal.returns
 returns c = subst IsTree (sym (added _ _ _ (ap (λ (xs : List FirstNode). map node_of xs) c.new-list.ensures.items) c.in_ok-add_node.ensures c.in_ok-add_node-2.ensures c.in_ok-add_node-3.ensures)) three_nodes

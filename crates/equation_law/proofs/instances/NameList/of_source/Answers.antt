@@ -1,4 +1,5 @@
 use Rattle.std.proofs.Common.{List, ◌++◌, ap, map, ◌∙◌}
+use Rattle.ast_grammar.specs.Grammar.{superclasses_of}
 use Rattle.equation_law.specs.declared.instances.NamedInstance.{NamedInstance}
 use Rattle.equation_law.specs.Named.{instance_of}
 use Rattle.equation_law.specs.Names.{Instance}
@@ -10,6 +11,6 @@ pub returns : goal.returns
 unfolding source_instances
 returns c =
     let p = program_of c.args.system.now in
-    let attributes = attribute_instances p.rules.attributes 0 p.tree in
+    let attributes = attribute_instances (superclasses_of p.grammar) p.rules.attributes 0 p.tree in
     let queries = query_instances p.queries 0 in
     c.in_ok-push_queries.ensures.names ∙ ap (λ (xs : List Instance). xs ++ queries) (c.in_ok-push_attributes.ensures.names ∙ ap (λ (xs : List NamedInstance). map instance_of xs ++ attributes) c.new-names.ensures.items)
