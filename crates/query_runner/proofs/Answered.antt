@@ -1,5 +1,6 @@
 -- What the table of a program that was read has for each query.
 use Rattle.std.proofs.Common.{length-append, ◌≡◌, ℕ, zero, suc, ◌+◌, ◌<◌, List, [], ◌∷◌, ◌++◌, length, Option, Some, None, refl, sym, ap, subst, ◌∙◌, arith, slice_get}
+use Rattle.ast_grammar.specs.Grammar.{superclasses_of}
 use Rattle.attr_types.specs.declared.kinds.Kind.{Kind}
 use Rattle.attr_types.specs.declared.kinds.Kind.TheVariants as kinds
 use Rattle.attr_types.specs.Expression.{Expression}
@@ -28,7 +29,7 @@ slice_get-behind (x ∷ xs) ys k = let e : length (x ∷ xs) + k ≡ suc (length
 
 -- how many instances stand before the queries
 abbrev pub attributes_before : Program → ℕ
-attributes_before p = length (attribute_instances p.rules.attributes 0 p.tree)
+attributes_before p = length (attribute_instances (superclasses_of p.grammar) p.rules.attributes 0 p.tree)
 
 length-queries : (n : ℕ) (es : List Expression) → length (query_instances es n) ≡ length es
 length-queries n [] = refl
@@ -36,11 +37,11 @@ length-queries n (e ∷ es) = let r = length-queries (suc n) es in omega arith
 
 pub length-source : (p : Program) → length (source_instances p) ≡ attributes_before p + length p.queries
 unfolding source_instances
-length-source p = omega (arith, length-append (attribute_instances p.rules.attributes 0 p.tree) (query_instances p.queries 0), length-queries 0 p.queries)
+length-source p = omega (arith, length-append (attribute_instances (superclasses_of p.grammar) p.rules.attributes 0 p.tree) (query_instances p.queries 0), length-queries 0 p.queries)
 
 query_listed : (p : Program) (q : ℕ) → q < length p.queries → slice_get (source_instances p) (attributes_before p + q) ≡ Some (Query q)
 unfolding source_instances
-query_listed p q h = slice_get-behind (attribute_instances p.rules.attributes 0 p.tree) (query_instances p.queries 0) q ∙ query_at 0 q p.queries h ∙ (let z : 0 + q ≡ q = omega arith in ap (λ j. Some (Query j)) z)
+query_listed p q h = slice_get-behind (attribute_instances (superclasses_of p.grammar) p.rules.attributes 0 p.tree) (query_instances p.queries 0) q ∙ query_at 0 q p.queries h ∙ (let z : 0 + q ≡ q = omega arith in ap (λ j. Some (Query j)) z)
 
 -- the element at a place
 there_is : {A : Type 0} (xs : List A) (k : ℕ) → k < length xs → (x : A) × (slice_get xs k ≡ Some x)

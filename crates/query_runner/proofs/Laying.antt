@@ -1,5 +1,7 @@
 -- What tokens write of a tree is told in preorder.
-use Rattle.std.proofs.Common.{◌≡◌, ◌≢◌, ◌≤◌, ◌<◌, ◌+◌, ◌-◌, ◌^◌, ◌==◌, ℕ, zero, suc, Bool, true, false, List, [], ◌∷◌, ◌++◌, Option, Some, None, codes, if◌then◌else◌, length, slice_get, refl, sym, ap, subst, ◌∙◌, arith}
+use Rattle.std.proofs.Common.{◌≡◌, ◌≢◌, ◌≤◌, ◌<◌, ◌+◌, ◌-◌, ◌^◌, ◌==◌, ℕ, zero, suc, Bool, true, false, not, List, [], ◌∷◌, ◌++◌, Option, Some, None, codes, if◌then◌else◌, slice_get, refl, sym, ap, subst, ◌∙◌, arith}
+use Rattle.std.specs.Option.{option_map}
+use Rattle.std.proofs.Math.Bool.{not-not}
 use Rattle.std.proofs.lemmas.Bool.{eqb-false, leb-true}
 use Rattle.rag_io.specs.declared.token.TokenKind.{TokenKind}
 use Rattle.rag_io.specs.declared.token.TokenKind.TheVariants as tokens
@@ -7,12 +9,14 @@ use Rattle.rag_io.specs.Tokens.{Lexed}
 use Rattle.ast_grammar.specs.declared.grammar.ClassId.{ClassId}
 use Rattle.ast_grammar.specs.declared.grammar.Shape.{Shape}
 use Rattle.ast_grammar.specs.declared.grammar.Shape.TheVariants as shapes
-use Rattle.ast_grammar.specs.Grammar.{Class, Component, components_of}
-use Rattle.equation_law.specs.Preorder.{Open, Subtree, Token, Told, TellsToken, Tells, over as told_over, node as told_node, token as told_token, IsCode, IsTreeOf, parts_from, part_of}
+use Rattle.ast_grammar.specs.Grammar.{Class, Component, abstract_in, components_of, is_sub}
+use Rattle.equation_law.specs.Preorder.{Fits, Open, Subtree, Token, Told, TellsToken, Tells, over as told_over, node as told_node, token as told_token, IsCode, IsTreeOf, parts_from, part_of}
+use Rattle.ast_grammar.specs.Written.{class_id}
+use Rattle.solutions.proofs.Runs.{and_true}
 use Rattle.equation_law.specs.Program.{Node}
 use Rattle.query_runner.specs.Tokens.{decimal, greatest}
-use Rattle.query_runner.specs.Trees.{Wanted, Part, Digits, Marked, Finish, Step, step, coded, silent, negated, has_name, is_name, is_symbol, is_number, is_end, sign_text, arguments_from, comma_before, token_step, int_step, digits_step, truth_step, nodes_in, SaysTree, Writes, over, token}
-use Rattle.query_runner.proofs.Telling.{class_within, node_begins}
+use Rattle.query_runner.specs.Trees.{Wanted, Part, Digits, Marked, Finish, Step, step, coded, silent, negated, class_by, fits, is_concrete, node_of_class, is_name, is_symbol, is_number, is_end, sign_text, arguments_from, comma_before, token_step, int_step, digits_step, truth_step, nodes_in, SaysTree, Writes, over, token}
+use Rattle.query_runner.specs.TreeSteps.{node_begins}
 
 -- the parts of the tree among what is wanted
 abbrev left : List Wanted → List Open
@@ -56,10 +60,10 @@ module _ (g : List Class) where
       let none : 0 + n ≡ n = omega arith in
       subst (λ (os : List Open). Tells g (os ++ parts) n told) e (subst (λ (j : ℕ). Tells g (left wanted ++ parts) j told) none t)
 
-  lays_node : (c : ClassId) (parent k n : ℕ) → c.0 < length g → Lays (Subtree c parent k ∷ []) n (node_begins g c parent k n)
-  lays_node c parent k n h parts told t =
+  lays_node : (w c : ClassId) (parent k n : ℕ) → Fits g w c → Lays (Subtree w parent k ∷ []) n (node_begins g parent k n c)
+  lays_node w c parent k n fit parts told t =
       let one : 1 + n ≡ suc n = omega arith in
-      told_node h (subst (λ (os : List Open). Tells g (os ++ parts) (suc n) told) (left_arguments n 0 (components_of g c.0)) (subst (λ (j : ℕ). Tells g (left (arguments_from n 0 (components_of g c.0) []) ++ parts) j told) one t))
+      told_node fit (subst (λ (os : List Open). Tells g (os ++ parts) (suc n) told) (left_arguments n 0 (components_of g c.0)) (subst (λ (j : ℕ). Tells g (left (arguments_from n 0 (components_of g c.0) []) ++ parts) j told) one t))
 
   -- a test that was passed, or was not
   passed : (b : Bool) (o p : Option Step) (s : Step) (P : Type 0) → (if b then o else p) ≡ Some s → (b ≡ true → o ≡ Some s → P) → (b ≡ false → p ≡ Some s → P) → P
@@ -68,6 +72,22 @@ module _ (g : List Class) where
 
   no_step : (s : Step) (P : Type 0) → None ≡ Some s → P
   no_step s P e = let f : ⊥ = cc in absurd f
+
+  concrete_there : (o : Option Class) → is_concrete o ≡ true → option_map abstract_in o ≡ Some false
+  concrete_there None e = let f : ⊥ = cc in absurd f
+  concrete_there (Some x) e = ap Some (sym (not-not x.abstract) ∙ ap not e)
+
+  fits_there : (w : ClassId) (c : ℕ) → fits g w c ≡ true → Fits g w (class_id c)
+  fits_there w c e =
+      let both = and_true (is_sub g c w.0) (is_concrete (slice_get g c)) e in
+      record { below = both.0; concrete = concrete_there (slice_get g c) both.1 }
+
+  lays_class : (w : ClassId) (parent k n : ℕ) (o : Option ℕ) (s : Step) → node_of_class g w parent k n o ≡ Some s → Lays (Subtree w parent k ∷ []) n s
+  lays_class w parent k n None s e = no_step s (Lays (Subtree w parent k ∷ []) n s) e
+  lays_class w parent k n (Some c) s e =
+      passed (fits g w c) (Some (node_begins g parent k n (class_id c))) None s (Lays (Subtree w parent k ∷ []) n s) e
+      (λ test f. by_step (Subtree w parent k ∷ []) n (Some (node_begins g parent k n (class_id c))) (node_begins g parent k n (class_id c)) s refl f (lays_node w (class_id c) parent k n (fits_there w c test)))
+      (λ test f. no_step s (Lays (Subtree w parent k ∷ []) n s) f)
 
   number_most : (kind : TokenKind) (text : List ℕ) (most : ℕ) → is_number kind text most ≡ true → decimal text ≤ most
   number_most tokens.Name text most e = let f : ⊥ = cc in absurd f
@@ -120,10 +140,7 @@ module _ (g : List Class) where
       (λ no f. no_step s (Lays (left (w ∷ [])) n s) f)
 
   lays : (w : Wanted) (n : ℕ) (kind : TokenKind) (text : List ℕ) (s : Step) → step g w n kind text ≡ Some s → Lays (left (w ∷ [])) n s
-  lays (Part (Subtree c parent k)) n kind text s e =
-      passed (has_name (slice_get g c.0) kind text) (Some (node_begins g c parent k n)) None s (Lays (Subtree c parent k ∷ []) n s) e
-      (λ test f. by_step (Subtree c parent k ∷ []) n (Some (node_begins g c parent k n)) (node_begins g c parent k n) s refl f (lays_node c parent k n (class_within g c.0 kind text test)))
-      (λ test f. no_step s (Lays (Subtree c parent k ∷ []) n s) f)
+  lays (Part (Subtree w parent k)) n kind text s e = lays_class w parent k n (class_by g kind text) s e
   lays (Part (Token shape m k)) n kind text s e = lays_token shape m k n kind text s e
   lays (Digits m k) n kind text s e = lays_digits m k n kind text s e
   lays (Marked sign) n kind text s e = lays_quiet (Marked sign) n (is_symbol kind text (sign_text sign)) s refl e

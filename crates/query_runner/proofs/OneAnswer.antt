@@ -3,9 +3,14 @@ use Rattle.std.proofs.Common.{◌≡◌, ℕ, List, [], ◌∷◌, ◌++◌, len
 use Rattle.std.specs.Fmt.{decimal, signed_decimal}
 use Rattle.rag_io.specs.Tokens.{Lexed}
 use Rattle.rag_io.specs.Outside.{Named, IsLong, IsShort}
-use Rattle.rag_io.proofs.Readings.{one_list}
-use Rattle.ast_grammar.specs.FirstForm.{SaysGrammar}
-use Rattle.ast_grammar.specs.Grammar.{Class}
+use Rattle.rag_io.proofs.Readings.{not_both, one_place, one_list}
+use Rattle.rag_io.specs.declared.token.Place.{Place}
+use Rattle.broken_rules.specs.declared.broken.Broken.{Broken}
+use Rattle.broken_rules.specs.declared.rule.Rule.TheVariants.{G1}
+use Rattle.broken_rules.specs.Notes.{at}
+use Rattle.ast_grammar.specs.Grammar.{Class, superclasses_of}
+use Rattle.ast_grammar.specs.Reading.{IsFirstBroken, SaysGrammar}
+use Rattle.ast_grammar.proofs.OneGrammar.{one_broken, one_said_grammar, said_or_broken}
 use Rattle.attr_types.specs.Expression.{Expression}
 use Rattle.attr_types.specs.Rules.{Item, RuleSet, rules_of}
 use Rattle.equation_law.specs.Names.{Null, At, Source, Query}
@@ -13,19 +18,31 @@ use Rattle.equation_law.specs.Program.{Node, Program}
 use Rattle.equation_law.specs.Values.{Value, Truth, Int, Text, Node as AsNode, Texts, Nodes}
 use Rattle.equation_law.proofs.Solution.{loopless, one}
 use Rattle.query_runner.specs.Aspects.{SaysAspects}
-use Rattle.query_runner.specs.Files.{Contents, File, IsNotBuilt, ReadsGrammar, ReadsItems, ReadsTree, SaysProgram, no_grammar, no_items, no_tree, no_queries}
-use Rattle.query_runner.specs.Output.{Answers, AreReplies, HoldsAll, HoldsShort, IsFirstLong, IsRefused, IsReplyText, Output, truth_text, here, in_order, later, misused, looped, none, not_built, of_int, of_null, of_source, of_truth, refused, replied, reply, too_long}
+use Rattle.query_runner.specs.Files.{BreaksRule, Contents, File, IsNotBuilt, ReadsGrammar, ReadsItems, ReadsTree, SaysProgram, bad_place, by_tokens, no_items, no_tree, no_queries}
+use Rattle.query_runner.specs.Output.{Answers, AreReplies, HoldsAll, HoldsShort, IsFirstLong, IsRefused, IsReplyText, Output, truth_text, broken, broken_line, here, in_order, later, misused, looped, none, not_built, of_int, of_null, of_source, of_truth, refused, replied, reply, too_long}
 use Rattle.query_runner.specs.Queries.{SaysQueries}
 use Rattle.query_runner.specs.Trees.{SaysTree}
 use Rattle.query_runner.specs.Words.{FileNames, names_of}
 use Rattle.query_runner.proofs.SayingQueries.{one_queries}
 use Rattle.query_runner.proofs.SayingTrees.{one_tree}
-use Rattle.query_runner.proofs.Uniqueness.{one_grammar, one_items}
+use Rattle.query_runner.proofs.Uniqueness.{one_items}
 
 -- what is read from some bytes is one
 module _ {bytes : List ℕ} where
   same_grammar : {g h : List Class} → ReadsGrammar bytes g → ReadsGrammar bytes h → g ≡ h
-  same_grammar {h = h} a b = one_grammar a.says (subst (λ (ts : List Lexed). SaysGrammar ts h) (one_list b.scanned a.scanned) b.says)
+  same_grammar {g} {h} a b = one_said_grammar a.tokens g h a.says (subst (λ (ts : List Lexed). SaysGrammar ts h) (one_list b.scanned a.scanned) b.says)
+
+  -- the broken rule too
+  same_broken : {b c : Broken} → BreaksRule bytes b → BreaksRule bytes c → b ≡ c
+  same_broken (bad_place a) (bad_place b) = ap (λ (p : Place). at p G1) (one_place a b)
+  same_broken (bad_place a) (by_tokens s b) = absurd (not_both s a)
+  same_broken (by_tokens s a) (bad_place b) = absurd (not_both s b)
+  same_broken (by_tokens {tokens = ts} {b = b} s a) (by_tokens {b = c} t d) = one_broken ts b c a (subst (λ (us : List Lexed). IsFirstBroken us c) (one_list t s) d)
+
+  -- and not both
+  says_or_breaks : {g : List Class} {b : Broken} → ReadsGrammar bytes g → BreaksRule bytes b → ⊥
+  says_or_breaks a (bad_place b) = not_both a.scanned b
+  says_or_breaks {g} a (by_tokens {b = b} s breaks) = said_or_broken a.tokens g b a.says (subst (λ (ts : List Lexed). IsFirstBroken ts b) (one_list s a.scanned) breaks)
 
   same_items : {g : List Class} {i j : List Item} → ReadsItems g bytes i → ReadsItems g bytes j → i ≡ j
   same_items {g} {j = j} a b = one_items a.says (subst (λ (ts : List Lexed). SaysAspects g ts j) (one_list b.scanned a.scanned) b.says)
@@ -43,6 +60,9 @@ module _ (held : Contents) {g h : List Class} (a : ReadsGrammar held.ast g) (b :
 
   both_items : {i j : List Item} → ReadsItems g held.jrag i → ReadsItems h held.jrag j → i ≡ j
   both_items r s = same_items r (items_there s)
+
+  both_rules : {i j : List Item} → ReadsItems g held.jrag i → ReadsItems h held.jrag j → rules_of (superclasses_of g) i ≡ rules_of (superclasses_of h) j
+  both_rules {i} r s = ap (λ (x : List Class). rules_of (superclasses_of x) i) (same_grammar a b) ∙ ap (rules_of (superclasses_of h)) (both_items r s)
 
   both_trees : {s t : List Node} → ReadsTree g held.tree s → ReadsTree h held.tree t → s ≡ t
   both_trees r s = same_tree r (tree_there s)
@@ -63,8 +83,7 @@ same_program : (held : Contents) (p q : Program) → SaysProgram held p → Says
 unfolding program
 same_program held p q a b =
     let grammar : p.grammar ≡ q.grammar = same_grammar a.grammar b.grammar in
-    let items = both_items held a.grammar b.grammar a.aspects b.aspects in
-    let rules : p.rules ≡ q.rules = a.rules ∙ ap rules_of items ∙ sym b.rules in
+    let rules : p.rules ≡ q.rules = a.rules ∙ both_rules held a.grammar b.grammar a.aspects b.aspects ∙ sym b.rules in
     let tree : p.tree ≡ q.tree = both_trees held a.grammar b.grammar a.tree b.tree in
     let texts : p.texts ≡ q.texts = a.texts ∙ sym b.texts in
     let queries : p.queries ≡ q.queries = one_queries p.grammar p.rules p.tree a.queries (queries_there grammar rules tree b.queries) in
@@ -141,29 +160,26 @@ not_long h (later s (later t (later u (later v l)))) = elim l [ ]
 
 -- a file that isn't built says nothing, and no other file is refused before it
 one_file : (held : Contents) {f g : File} → IsNotBuilt held f → IsNotBuilt held g → f ≡ g
-one_file held (no_grammar a) (no_grammar b) = refl
-one_file held (no_grammar a) (no_items g b) = absurd (a _ g)
-one_file held (no_grammar a) (no_tree g i b) = absurd (a _ g)
-one_file held (no_grammar a) (no_queries g i t b) = absurd (a _ g)
-one_file held (no_items g a) (no_grammar b) = absurd (b _ g)
 one_file held (no_items g a) (no_items h b) = refl
 one_file held (no_items g a) (no_tree h i b) = absurd (a _ (items_there held g h i))
 one_file held (no_items g a) (no_queries h i t b) = absurd (a _ (items_there held g h i))
-one_file held (no_tree g i a) (no_grammar b) = absurd (b _ g)
 one_file held (no_tree g i a) (no_items h b) = absurd (b _ (items_there held h g i))
 one_file held (no_tree g i a) (no_tree h j b) = refl
 one_file held (no_tree g i a) (no_queries h j t b) = absurd (a _ (tree_there held g h t))
-one_file held (no_queries g i t a) (no_grammar b) = absurd (b _ g)
 one_file held (no_queries g i t a) (no_items h b) = absurd (b _ (items_there held h g i))
 one_file held (no_queries g i t a) (no_tree h j b) = absurd (b _ (tree_there held h g t))
 one_file held (no_queries g i t a) (no_queries h j s b) = refl
 
+breaks_or_refuses : (held : Contents) {b : Broken} {f : File} → BreaksRule held.ast b → IsNotBuilt held f → ⊥
+breaks_or_refuses held b (no_items g never) = says_or_breaks g b
+breaks_or_refuses held b (no_tree g i never) = says_or_breaks g b
+breaks_or_refuses held b (no_queries g i t never) = says_or_breaks g b
+
 says_or_refuses : (held : Contents) (p : Program) {f : File} → SaysProgram held p → IsNotBuilt held f → ⊥
-says_or_refuses held p a (no_grammar never) = never _ a.grammar
 says_or_refuses held p a (no_items g never) = never _ (items_there held g a.grammar a.aspects)
 says_or_refuses held p a (no_tree g i never) = never _ (tree_there held g a.grammar a.tree)
 says_or_refuses held p a (no_queries g i t never) =
-    never _ (queries_there (same_grammar g a.grammar) (ap rules_of (both_items held g a.grammar i a.aspects) ∙ sym a.rules) (both_trees held g a.grammar t a.tree) a.queries)
+    never _ (queries_there (same_grammar g a.grammar) (both_rules held g a.grammar i a.aspects ∙ sym a.rules) (both_trees held g a.grammar t a.tree) a.queries)
 
 same_names : (words : List (List ℕ)) {n m : FileNames} → names_of words ≡ Some n → names_of words ≡ Some m → n ≡ m
 same_names words {n = n} {m = m} a b = let e : Some n ≡ Some m = sym a ∙ b in cc
@@ -181,6 +197,15 @@ one_line : (words : List (List ℕ)) (files : List Named) {t u : List ℕ} → I
 one_line words files (too_long {name = n} r l) (too_long {name = m} s k) =
     ap (λ (x : List ℕ). x ++ codes ": too long\n") (one_long l (subst (λ (x : FileNames). IsFirstLong files (in_order x) m) (same_names words s r) k))
 one_line words files (too_long {name = n} r l) (not_built s h b) = absurd (not_long (holds_there words r s h) l)
+one_line words files (too_long {name = n} r l) (broken s h b) = absurd (not_long (holds_there words r s h) l)
+one_line words files (broken r h a) (too_long {name = m} s l) = absurd (not_long (holds_there words s r h) l)
+one_line words files (broken {names = n} {contents = c} {b = x} r h a) (broken {names = m} {b = y} s k b) =
+    let rule : x ≡ y = same_broken a (subst (λ (z : Contents). BreaksRule z.ast y) (same_contents (holds_there words r s k) h) b) in
+    ap (λ (z : FileNames). broken_line z.ast x) (same_names words r s) ∙ ap (broken_line m.ast) rule
+one_line words files (broken {contents = c} r h a) (not_built {file = f} s k b) =
+    absurd (breaks_or_refuses c a (subst (λ (z : Contents). IsNotBuilt z f) (same_contents (holds_there words r s k) h) b))
+one_line words files (not_built {file = f} r h a) (broken {contents = d} s k b) =
+    absurd (breaks_or_refuses d b (subst (λ (z : Contents). IsNotBuilt z f) (same_contents (holds_there words s r h) k) a))
 one_line words files (not_built r h a) (too_long {name = m} s l) = absurd (not_long (holds_there words s r h) l)
 one_line words files (not_built {names = n} {contents = c} {file = f} r h a) (not_built {names = m} {contents = d} {file = g} s k b) =
     let names : n ≡ m = same_names words r s in
@@ -190,6 +215,8 @@ one_line words files (not_built {names = n} {contents = c} {file = f} r h a) (no
 
 output_or_line : (words : List (List ℕ)) (files : List Named) (t : List ℕ) {u : List ℕ} → Output words files t → IsRefused words files u → ⊥
 output_or_line words files t a (too_long r l) = not_long (holds_there words r a.read a.held) l
+output_or_line words files t a (broken {b = b} r h breaks) =
+    says_or_breaks a.said.grammar (subst (λ (x : Contents). BreaksRule x.ast b) (same_contents (holds_there words a.read r h) a.held) breaks)
 output_or_line words files t a (not_built {file = f} r h b) =
     says_or_refuses a.contents a.program a.said (subst (λ (x : Contents). IsNotBuilt x f) (same_contents (holds_there words a.read r h) a.held) b)
 
@@ -199,6 +226,7 @@ given words {n = n} a b = let e : Some n ≡ None = sym a ∙ b in cc
 
 names_refused : (words : List (List ℕ)) {files : List Named} {t : List ℕ} → IsRefused words files t → names_of words ≡ None → ⊥
 names_refused words (too_long r l) e = given words r e
+names_refused words (broken r h b) e = given words r e
 names_refused words (not_built r h b) e = given words r e
 
 pub one_answer : (words : List (List ℕ)) (files : List Named) (s r : ℕ) (t u : List ℕ) → Answers words files s t → Answers words files r u → (s ≡ r) × (t ≡ u)

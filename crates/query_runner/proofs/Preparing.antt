@@ -1,13 +1,14 @@
 -- What is to be written, from what was fetched and read.
 use Rattle.std.proofs.Common.{◌≡◌, ℕ, List, ◌++◌, Option, Some, None, Result, Ok, Err, IfOk, codes, sym, subst}
 use Rattle.rag_io.specs.Outside.{Named}
+use Rattle.broken_rules.specs.declared.broken.Broken.{Broken}
 use Rattle.query_runner.specs.declared.running.Answer.{Answer}
 use Rattle.query_runner.specs.declared.running.Answer.TheVariants as answers
 use Rattle.query_runner.specs.declared.running.Failure.{Failure}
 use Rattle.query_runner.specs.Answered.{AnswersWhereTold, status_of, text_of}
 use Rattle.query_runner.specs.Fetched.{FirstLongWhereTold, HoldsFetched}
-use Rattle.query_runner.specs.Files.{Contents, File, IsNotBuilt, SaysProgram}
-use Rattle.query_runner.specs.Output.{Answers, AreReplies, misused, refused, replied, too_long, not_built, name_of}
+use Rattle.query_runner.specs.Files.{BreaksRule, Contents, File, IsNotBuilt, SaysProgram}
+use Rattle.query_runner.specs.Output.{Answers, AreReplies, broken, broken_line, misused, refused, replied, too_long, not_built, name_of}
 use Rattle.query_runner.specs.Words.{FileNames, names_of}
 use Rattle.equation_law.specs.Program.{Program}
 
@@ -30,6 +31,12 @@ pub unbuilt_answer : (words : List (List ℕ)) (files : Option (List Named)) (na
 unbuilt_answer words None names held file (Ok a) read holds cause e = tt
 unbuilt_answer words (Some files) names held file (Ok a) read holds cause e = line_answer words files (name_of names file ++ codes ": not built\n") a (refused (not_built read holds cause)) e
 unbuilt_answer words files names held file (Err f) read holds cause e = tt
+
+pub broken_answer : (words : List (List ℕ)) (files : Option (List Named)) (names : FileNames) (held : Contents) (b : Broken) (r : Result Answer Failure) → names_of words ≡ Some names → HoldsFetched files names held → BreaksRule held.ast b
+    → IfOk r (λ a. (status_of a ≡ 1) × (text_of a ≡ broken_line names.ast b)) → IfOk r (λ a. AnswersWhereTold words files a)
+broken_answer words None names held b (Ok a) read holds cause e = tt
+broken_answer words (Some files) names held b (Ok a) read holds cause e = line_answer words files (broken_line names.ast b) a (refused (broken read holds cause)) e
+broken_answer words files names held b (Err f) read holds cause e = tt
 
 pub reply_answer : (words : List (List ℕ)) (files : Option (List Named)) (names : FileNames) (held : Contents) (p : Program) (text : List ℕ) → names_of words ≡ Some names → HoldsFetched files names held → SaysProgram held p
     → AreReplies p 0 p.queries text → (a : Answer) → status_of a ≡ 0 → text_of a ≡ text → AnswersWhereTold words files a

@@ -6,11 +6,10 @@ use Rattle.std.proofs.lemmas.Option.{slice_get-map}
 use Rattle.rag_io.specs.Tokens.{Lexed}
 use Rattle.rag_io.specs.declared.Memory.{Memory}
 use Rattle.ast_grammar.specs.declared.grammar.ClassId.{ClassId}
-use Rattle.ast_grammar.specs.Grammar.{Class, component_at}
+use Rattle.ast_grammar.specs.Grammar.{Class}
 use Rattle.attr_types.specs.declared.rules.FirstEq.{FirstEq}
-use Rattle.attr_types.specs.Accessors.{accessed_by}
 use Rattle.attr_types.specs.Expression.{Expression}
-use Rattle.attr_types.specs.Rules.{IsItem, Item, is_plain, names_for, plain_attribute}
+use Rattle.attr_types.specs.Rules.{IsFree, IsItem, Item, is_plain, names_for, plain_attribute}
 use Rattle.attr_types.specs.Typing.{Names, type_of}
 use Rattle.query_runner.specs.Aspects.{SayItems, WrittenItem, head_in, head_of, none as said_none, more as said_more}
 use Rattle.query_runner.specs.AspectSteps.{AreRight, IsEquation, IsRight, MakesEquation, ResolvesItem, none, more}
@@ -28,7 +27,7 @@ declared_twice (Some i) = refl
 pub names_same : (g : List Class) (items : List Item) (c : ClassId) → names_by g (map head_in items) c ≡ names_for g items c
 names_same g items c =
     let each : (a : ℕ) → option_map declared_by (slice_get (map head_in items) a) ≡ option_map (λ i. plain_attribute i.class i.kind) (slice_get items a) = λ a. ap (option_map declared_by) (slice_get-map head_in items a) ∙ declared_twice (slice_get items a) in
-    λ t. record { attribute = λ a. each a t; node = λ k. None; component = component_at g; this = Some c }
+    λ t. record { grammar = g; attribute = λ a. each a t; node = λ k. None; this = Some c }
 
 module _ {g : List Class} {heads : List Head} {ts : List Lexed} where
   -- one more item
@@ -94,7 +93,7 @@ module _ (g : List Class) (heads : List Head) (ts : List Lexed) (w : WrittenItem
   equation_right {i} e = record {
     says = record { head = found ∙ ap Some (sym e.head); body = ap (λ (k : Head). says_at g ts heads w k.class) e.head ∙ its_body.is ∙ ap Some (sym e.body) };
     typed = ap (λ (k : Head). type_of (names_by g heads k.class) i.body) e.head ∙ ap (type_of (names_by g heads h.class)) e.body ∙ sym its_body.kind ∙ e.typed ∙ ap (λ (k : Head). Some k.kind) (sym e.head);
-    free = ap (λ (k : Head). accessed_by g k.class.0 k.name) e.head ∙ e.free;
+    free = subst (λ (k : Head). IsFree g k.class k.name) (sym e.head) e.free;
   }
 
   -- what is right is that equation
@@ -107,7 +106,7 @@ module _ (g : List Class) (heads : List Head) (ts : List Lexed) (w : WrittenItem
         head = head;
         body = body;
         typed = its_body.kind ∙ ap (type_of (names_by g heads h.class)) (sym body) ∙ ap (λ (k : Head). type_of (names_by g heads k.class) i.body) (sym head) ∙ r.typed ∙ ap (λ (k : Head). Some k.kind) head;
-        free = ap (λ (k : Head). accessed_by g k.class.0 k.name) (sym head) ∙ r.free;
+        free = subst (λ (k : Head). IsFree g k.class k.name) head r.free;
       }
 
   pub resolves_by : (r : Result (Option FirstEq) Memory) → MakesEquation g h t r → ResolvesItem g heads ts w r

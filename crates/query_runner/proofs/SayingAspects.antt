@@ -7,7 +7,7 @@ use Rattle.std.proofs.lemmas.List.Elements.{All-push}
 use Rattle.std.proofs.lemmas.List.Sums.{sum_by-cons}
 use Rattle.rag_io.specs.Tokens.{Lexed}
 use Rattle.ll_parser.specs.Grammar.{IsSentence}
-use Rattle.ast_grammar.specs.Grammar.{Class}
+use Rattle.ast_grammar.specs.Grammar.{Class, superclasses_of}
 use Rattle.attr_types.specs.Rules.{Item, is_plain, items_differ, most_attributes}
 use Rattle.query_runner.specs.Aspects.{aspect_class, are_short, are_small, Building, WrittenItem, item_added, nothing, after, built, head_in, heads_of, SayItems, SaysAspects, top}
 use Rattle.query_runner.specs.AspectsGrammar.{aspects_grammar}
@@ -105,7 +105,7 @@ module _ (g : List Class) {ts : List Lexed} {events : List ℕ} (modest : IsMode
     not_right wrong items says = wrong items (say_right items (heads_are (said_here says)) (said_here says) says.allowed.each)
 
     -- what is said
-    pub said : {items : List Item} → AreRight g heads ts (built ts nothing events).items items → items_differ items ≡ true → SaysAspects g ts items
+    pub said : {items : List Item} → AreRight g heads ts (built ts nothing events).items items → items_differ (superclasses_of g) items ≡ true → SaysAspects g ts items
     said {items} right distinct = record {
       events = events;
       sentence = modest.sentence;
@@ -122,8 +122,8 @@ module _ (g : List Class) {ts : List Lexed} {events : List ℕ} (modest : IsMode
     }
 
     -- an attribute twice
-    pub twice : {list : List Item} → AreRight g heads ts (built ts nothing events).items list → items_differ list ≡ false → (items : List Item) → SaysAspects g ts items → ⊥
+    pub twice : {list : List Item} → AreRight g heads ts (built ts nothing events).items list → items_differ (superclasses_of g) list ≡ false → (items : List Item) → SaysAspects g ts items → ⊥
     twice {list} right same items says =
-        let e = ap items_differ (one_list g ts heads (right_say right) (said_here says)) in
+        let e = ap (items_differ (superclasses_of g)) (one_list g ts heads (right_say right) (said_here says)) in
         let d = says.allowed.distinct in
         cc

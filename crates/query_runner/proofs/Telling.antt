@@ -14,11 +14,11 @@ use Rattle.query_runner.specs.declared.trees.Wanted as memory
 use Rattle.query_runner.specs.declared.trees.Laid.{Laid}
 use Rattle.query_runner.specs.declared.trees.Reading.{Reading}
 use Rattle.query_runner.specs.declared.trees.Sign.TheVariants as signs
-use Rattle.equation_law.specs.Preorder.{Subtree, TellsNode, TellsToken, part_of, most_nodes}
+use Rattle.equation_law.specs.Preorder.{Subtree, TellsToken, part_of, most_nodes}
 use Rattle.equation_law.specs.Slots.{kept}
 use Rattle.query_runner.specs.Tokens.{decimal, greatest}
-use Rattle.query_runner.specs.Trees.{Wanted, Part, Digits, Marked, Step, step, has_name, coded, silent, negated, is_number, is_name, is_symbol, int_step, digits_step, truth_step, comma_before, arguments_from}
-use Rattle.query_runner.specs.TreeSteps.{tops_wanted, seen_laid, Makes, Fails, unfit, crowded, TakesBy}
+use Rattle.query_runner.specs.Trees.{Wanted, Part, Digits, Marked, Step, step, coded, silent, negated, is_number, is_name, is_symbol, int_step, digits_step, truth_step, comma_before, arguments_from}
+use Rattle.query_runner.specs.TreeSteps.{tops_wanted, seen_laid, node_begins, Makes, Fails, unfit, crowded, TakesBy}
 use Rattle.equation_law.proofs.Firsts.{or_none}
 
 -- the code of a token is kept
@@ -102,46 +102,29 @@ arguments_then n k (x ∷ xs) rest = ap (λ ws. comma_before k (Part (part_of x.
     before zero ws = refl
     before (suc k) ws = refl
 
--- a class with a name is one of the grammar
-pub class_within : (g : List Class) (c : ℕ) (kind : TokenKind) (text : List ℕ) → has_name (slice_get g c) kind text ≡ true → c < length g
-class_within g c kind text e = found (slice_get g c) refl e
-  where
-    found : (o : Option Class) → slice_get g c ≡ o → has_name o kind text ≡ true → c < length g
-    found None f e = cc
-    found (Some x) f e = slice_get_within g c x f
+-- a node of a class is kept, where one of the wanted class is, and its arguments are wanted
+module _ (g : List Class) (w : ClassId) (x : Laid) (t : Lexed) (old : Reading)
+    (named : step g (Part (Subtree w x.parent x.component)) (length old.nodes.items) t.kind t.text ≡ Some (node_begins g x.parent x.component (length old.nodes.items) x.class)) where
+  pub node_kept : (wanted : Vec memory.Wanted Global) (nodes : Vec Laid Global) (n : ℕ) → n ≡ length old.nodes.items → length old.nodes.items < most_nodes
+      → tops_wanted wanted.items ≡ Marked signs.Open ∷ arguments_from n 0 (components_of g x.class.0) (tops_wanted old.wanted.items)
+      → map seen_laid nodes.items ≡ map seen_laid old.nodes.items ++ seen_laid x ∷ []
+      → Makes (step g (Part (Subtree w x.parent x.component)) (length old.nodes.items)) t old (record { wanted = wanted; nodes = nodes; codes = old.codes })
+  node_kept wanted nodes n e room wants lays = record {
+    step = node_begins g x.parent x.component (length old.nodes.items) x.class;
+    is = named;
+    after = record {
+      wanted = wants ∙ ap (λ ws. Marked signs.Open ∷ ws) (ap (λ (m : ℕ). arguments_from m 0 (components_of g x.class.0) (tops_wanted old.wanted.items)) e ∙ arguments_then (length old.nodes.items) 0 (components_of g x.class.0) (tops_wanted old.wanted.items));
+      nodes = lays;
+      codes = λ a b. or_none (kept old.codes a b);
+    };
+    few = λ few.
+        let count : length nodes.items ≡ length old.nodes.items + 1 = sym (length-map nodes.items seen_laid) ∙ ap length lays ∙ length-append (map seen_laid old.nodes.items) (seen_laid x ∷ []) ∙ ap (λ (m : ℕ). m + 1) (length-map old.nodes.items seen_laid) in
+        omega (arith, count, room);
+  }
 
--- what the name of a class writes
-abbrev pub node_begins : List Class → ClassId → ℕ → ℕ → ℕ → Step
-node_begins g c parent k next = record { wanted = Marked signs.Open ∷ arguments_from next 0 (components_of g c.0) []; told = TellsNode c parent k ∷ [] }
-
-pub node_named : (g : List Class) (c : ClassId) (parent k next : ℕ) (kind : TokenKind) (text : List ℕ) → has_name (slice_get g c.0) kind text ≡ true
-    → step g (Part (Subtree c parent k)) next kind text ≡ Some (node_begins g c parent k next)
-node_named g c parent k next kind text e = ap (λ b. if b then Some (node_begins g c parent k next) else None) e
-
--- the node is kept, and its arguments are wanted
-pub node_kept : (g : List Class) (x : Laid) (t : Lexed) (old : Reading) (wanted : Vec memory.Wanted Global) (nodes : Vec Laid Global) (n : ℕ) → n ≡ length old.nodes.items → length old.nodes.items < most_nodes
-    → has_name (slice_get g x.class.0) t.kind t.text ≡ true
-    → tops_wanted wanted.items ≡ Marked signs.Open ∷ arguments_from n 0 (components_of g x.class.0) (tops_wanted old.wanted.items)
-    → map seen_laid nodes.items ≡ map seen_laid old.nodes.items ++ seen_laid x ∷ []
-    → Makes (step g (Part (Subtree x.class x.parent x.component)) (length old.nodes.items)) t old (record { wanted = wanted; nodes = nodes; codes = old.codes })
-node_kept g x t old wanted nodes n e room named wants lays = record {
-  step = node_begins g x.class x.parent x.component (length old.nodes.items);
-  is = node_named g x.class x.parent x.component (length old.nodes.items) t.kind t.text named;
-  after = record {
-    wanted = wants ∙ ap (λ ws. Marked signs.Open ∷ ws) (ap (λ (m : ℕ). arguments_from m 0 (components_of g x.class.0) (tops_wanted old.wanted.items)) e ∙ arguments_then (length old.nodes.items) 0 (components_of g x.class.0) (tops_wanted old.wanted.items));
-    nodes = lays;
-    codes = λ a b. or_none (kept old.codes a b);
-  };
-  few = λ few.
-      let count : length nodes.items ≡ length old.nodes.items + 1 = sym (length-map nodes.items seen_laid) ∙ ap length lays ∙ length-append (map seen_laid old.nodes.items) (seen_laid x ∷ []) ∙ ap (λ (m : ℕ). m + 1) (length-map old.nodes.items seen_laid) in
-      omega (arith, count, room);
-}
-
--- there is no room for it
-pub node_crowded : (g : List Class) (x : Laid) (t : Lexed) (old : Reading) → has_name (slice_get g x.class.0) t.kind t.text ≡ true → most_nodes ≤ length old.nodes.items
-    → Fails (step g (Part (Subtree x.class x.parent x.component)) (length old.nodes.items)) t old
-node_crowded g x t old named full =
-    crowded (node_begins g x.class x.parent x.component (length old.nodes.items)) (node_named g x.class x.parent x.component (length old.nodes.items) t.kind t.text named) (omega arith)
+  -- there is no room for it
+  pub node_crowded : most_nodes ≤ length old.nodes.items → Fails (step g (Part (Subtree w x.parent x.component)) (length old.nodes.items)) t old
+  node_crowded full = crowded (node_begins g x.parent x.component (length old.nodes.items) x.class) named (omega arith)
 
 -- a token that is no part of the tree
 pub quiet_taken : (by : TokenKind → List ℕ → Option Step) (t : kept_token.Token) (old : Reading) (b test : Bool) → b ≡ test → by t.kind t.text.now ≡ (if test then silent [] else None) → TakesBy by t old old (Ok b)

@@ -3,6 +3,7 @@ use Rattle.std.proofs.Common.{◌≡◌, ℕ, false, cond, List, Option, Some, N
 use Rattle.std.specs.Option.{option_map, option_and_then}
 use Rattle.rag_io.specs.Words.{is_one_of}
 use Rattle.rag_io.specs.declared.Memory.{Memory}
+use Rattle.ast_grammar.specs.Grammar.{Class, superclasses_of}
 use Rattle.attr_types.specs.declared.kinds.Kind.{Kind}
 use Rattle.attr_types.specs.declared.kinds.Kind.TheVariants as kinds
 use Rattle.attr_types.specs.Accessors.{named_on_type}
@@ -30,13 +31,13 @@ module _ (s : Site) (e : Expression) where
   where_member None = refl
   where_member (Some m) = ap Some (by_member m)
 
-  by_type : (t : Option Kind) (name : List ℕ) → option_map (member_of s (typed_by (names_at s) e)) (member_on s t name) ≡ option_map (typed_by (names_at s)) (named_on_type s.grammar (head_named s.heads) t name e)
+  by_type : (t : Option Kind) (name : List ℕ) → option_map (member_of s (typed_by (names_at s) e)) (member_on s t name) ≡ option_map (typed_by (names_at s)) (named_on_type s.grammar (head_named (superclasses_of s.grammar) s.heads) t name e)
   by_type None name = refl
   by_type (Some kinds.Truth) name = refl
   by_type (Some kinds.Int) name = refl
   by_type (Some kinds.Text) name = refl
   by_type (Some (kinds.Node c)) name =
-      where_member (member_named s.grammar c name (head_named s.heads c name)) ∙ ap (option_map (typed_by (names_at s))) (named_by_member s.grammar e (head_named s.heads) c name)
+      where_member (member_named s.grammar c name (head_named (superclasses_of s.grammar) s.heads c name)) ∙ ap (option_map (typed_by (names_at s))) (named_by_member s.grammar e (head_named (superclasses_of s.grammar) s.heads) c name)
   by_type (Some kinds.Texts) name = refl
   by_type (Some (kinds.Nodes c)) name = refl
 
@@ -59,9 +60,9 @@ two_typed N f h e None y = refl
 two_typed N f h e (Some a) None = refl
 two_typed N f h e (Some a) (Some b) = ap Some (e a b)
 
-pub three_typed : (N : Names) (z x y : Option Expression) → of_three (option_map (typed_by N) z) (option_map (typed_by N) x) (option_map (typed_by N) y) ≡ option_map (typed_by N) (join_three z x y)
+pub three_typed : (N : Names) (z x y : Option Expression) → of_three N.grammar (option_map (typed_by N) z) (option_map (typed_by N) x) (option_map (typed_by N) y) ≡ option_map (typed_by N) (join_three z x y)
 three_typed N None x y = refl
-three_typed N (Some c) x y = two_typed N (If c) (chosen (typed_by N c)) (λ a b. refl) x y
+three_typed N (Some c) x y = two_typed N (If c) (chosen N.grammar (typed_by N c)) (λ a b. refl) x y
 
 -- what a written expression says, with its type
 abbrev pub resolved : Site → Written → Option Typed
@@ -71,8 +72,8 @@ resolved s w = option_map (typed_by (names_at s)) (said s (written_in w))
 pub same_two : (h : Typed → Typed → Typed) {x u y v : Option Typed} → x ≡ u → y ≡ v → of_two h x y ≡ of_two h u v
 same_two h {x} {u} {y} {v} a b = ap (λ z. of_two h z y) a ∙ ap (of_two h u) b
 
-pub same_three : {x u y v z w : Option Typed} → x ≡ u → y ≡ v → z ≡ w → of_three x y z ≡ of_three u v w
-same_three {x} {u} {y} {v} {z} {w} a b c = ap (λ t. of_three t y z) a ∙ ap (λ t. of_three u t z) b ∙ ap (of_three u v) c
+pub same_three : (g : List Class) {x u y v z w : Option Typed} → x ≡ u → y ≡ v → z ≡ w → of_three g x y z ≡ of_three g u v w
+same_three g {x} {u} {y} {v} {z} {w} a b c = ap (λ t. of_three g t y z) a ∙ ap (λ t. of_three g u t z) b ∙ ap (of_three g u v) c
 
 -- what is said, by another name
 pub said_so : (r : Result (Option Said) Memory) {x y : Option Typed} → x ≡ y → IfOk r (λ o. option_map seen_said o ≡ x) → IfOk r (λ o. option_map seen_said o ≡ y)

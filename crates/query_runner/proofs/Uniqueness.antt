@@ -1,17 +1,12 @@
--- Tokens say at most one grammar, and at most one list of items.
-use Rattle.std.proofs.Common.{◌≡◌, ℕ, List, Some, sym, ap, subst, ◌∙◌}
+-- Tokens say at most one list of items.
+use Rattle.std.proofs.Common.{◌≡◌, List, Some, sym, subst, ◌∙◌}
 use Rattle.rag_io.specs.Tokens.{Lexed}
-use Rattle.ast_grammar.specs.FirstForm.{SaysGrammar}
 use Rattle.ast_grammar.specs.Grammar.{Class}
-use Rattle.ast_grammar.specs.Written.{grammar_written, written}
 use Rattle.attr_types.specs.Rules.{Item}
 use Rattle.query_runner.specs.Aspects.{SayItems, SaysAspects, built, nothing}
 use Rattle.query_runner.specs.Naming.{Head}
 use Rattle.query_runner.proofs.Resolving.{one_list}
 use Rattle.query_runner.proofs.SayingAspects.{are_declared, are_said}
-
-pub one_grammar : {ts : List Lexed} {g h : List Class} → SaysGrammar ts g → SaysGrammar ts h → g ≡ h
-one_grammar {ts} a b = a.classes ∙ ap (λ (es : List ℕ). grammar_written (written ts es)) (b.sentence.only a.events a.sentence.runs) ∙ sym b.classes
 
 pub one_items : {g : List Class} {ts : List Lexed} {i j : List Item} → SaysAspects g ts i → SaysAspects g ts j → i ≡ j
 one_items {g} {ts} {i} {j} a b =

@@ -1,11 +1,13 @@
--- What isn't said by the tokens of a file isn't said by its bytes; and which file is refused.
-use Rattle.std.proofs.Common.{◌≡◌, ℕ, ◌≤◌, List, length, Result, Err, sym, ap, subst, arith, ◌∙◌}
+-- What the tokens of a file say or don't, its bytes do or don't; and which file is refused.
+use Rattle.std.proofs.Common.{◌≡◌, ℕ, ◌≤◌, List, length, Result, Ok, Err, sym, ap, subst, arith, ◌∙◌}
 use Rattle.std.specs.Result.{IsErr, IsErrAnd}
 use Rattle.std.proofs.lemmas.Result.{err_from_is_err_and}
 use Rattle.rag_io.specs.Tokens.{Lexed, IsTokens, first_place}
 use Rattle.rag_io.proofs.Readings.{one_list}
-use Rattle.ast_grammar.specs.FirstForm.{SaysGrammar}
+use Rattle.broken_rules.specs.declared.broken.ReadFault.{ReadFault}
+use Rattle.broken_rules.specs.declared.broken.ReadFault.TheVariants as faults
 use Rattle.ast_grammar.specs.Grammar.{Class}
+use Rattle.ast_grammar.specs.Reading.{ReadsAst}
 use Rattle.attr_types.specs.Expression.{Expression}
 use Rattle.attr_types.specs.Rules.{Item, RuleSet}
 use Rattle.equation_law.specs.Program.{Node, most_replies}
@@ -15,7 +17,7 @@ use Rattle.query_runner.specs.declared.files.Unread.TheVariants.{NotBuilt, Memor
 use Rattle.query_runner.specs.declared.words.FileKind.TheVariants as files
 use Rattle.query_runner.specs.Aspects.{SaysAspects}
 use Rattle.query_runner.specs.Built.{AnswersGrammar, AnswersRules, AnswersSource, AnswersAsked, ReadsRules, Refuses, IsRefusal}
-use Rattle.query_runner.specs.Files.{Contents, ReadsGrammar, ReadsItems, ReadsTree, no_grammar, no_items, no_tree, no_queries}
+use Rattle.query_runner.specs.Files.{Contents, ReadsGrammar, ReadsItems, ReadsTree, by_tokens, no_items, no_tree, no_queries}
 use Rattle.query_runner.specs.Queries.{SaysLines, over, silent, query, SaysQueries}
 use Rattle.query_runner.specs.Trees.{SaysTree}
 
@@ -24,8 +26,10 @@ pub out_of_memory : {T : Type 0} (P : Result T Unread → Type 0) (r : Result T 
 out_of_memory P r h p = let q = err_from_is_err_and r h.1 in subst P (sym (q.1 ∙ ap Err q.2)) p
 
 module _ {bytes : List ℕ} {ts : List Lexed} (scanned : IsTokens first_place bytes ts) where
-  pub says_no_grammar : ((g : List Class) → SaysGrammar ts g → ⊥) → (g : List Class) → ReadsGrammar bytes g → ⊥
-  says_no_grammar none g r = none g (subst (λ (us : List Lexed). SaysGrammar us g) (one_list r.scanned scanned) r.says)
+  pub answers_grammar : (r : Result (List Class) ReadFault) → ReadsAst ts r → AnswersGrammar bytes r
+  answers_grammar (Ok g) says = record { tokens = ts; scanned = scanned; says = says }
+  answers_grammar (Err (faults.Broken b)) broken = by_tokens scanned broken
+  answers_grammar (Err faults.Memory) none = tt
 
   pub says_no_items : (g : List Class) → ((items : List Item) → SaysAspects g ts items → ⊥) → (items : List Item) → ReadsItems g bytes items → ⊥
   says_no_items g none items r = none items (subst (λ (us : List Lexed). SaysAspects g us items) (one_list r.scanned scanned) r.says)
@@ -34,12 +38,6 @@ module _ {bytes : List ℕ} {ts : List Lexed} (scanned : IsTokens first_place by
   says_no_tree g none tree r = none tree (subst (λ (us : List Lexed). SaysTree g us tree) (one_list r.scanned scanned) r.says)
 
 module _ (held : Contents) (unread : Unread) (refusal : Refusal) where
-  pub ast_refused : AnswersGrammar held.ast (Err unread) → Refuses files.Ast unread refusal → IsRefusal held refusal
-  ast_refused answer is = elim unread as (λ u. AnswersGrammar held.ast (Err u) → Refuses files.Ast u refusal → IsRefusal held refusal) [
-    | NotBuilt ↦ λ a e. subst (IsRefusal held) (sym e) (no_grammar a)
-    | Memory ↦ λ a e. subst (IsRefusal held) (sym e) tt
-  ] answer is
-
   pub jrag_refused : {g : List Class} → ReadsGrammar held.ast g → AnswersRules g held.jrag (Err unread) → Refuses files.Jrag unread refusal → IsRefusal held refusal
   jrag_refused {g} grammar answer is = elim unread as (λ u. AnswersRules g held.jrag (Err u) → Refuses files.Jrag u refusal → IsRefusal held refusal) [
     | NotBuilt ↦ λ a e. subst (IsRefusal held) (sym e) (no_items grammar a)

@@ -8,8 +8,7 @@ use Rattle.ll_parser.specs.Grammar.{IsSentence}
 use Rattle.ast_grammar.specs.Grammar.{Class}
 use Rattle.attr_types.specs.declared.rules.FirstEq.{FirstEq}
 use Rattle.attr_types.specs.Items.{item_of}
-use Rattle.attr_types.specs.Accessors.{accessed_by}
-use Rattle.attr_types.specs.Rules.{Item, most_attributes}
+use Rattle.attr_types.specs.Rules.{IsFree, Item, most_attributes}
 use Rattle.attr_types.specs.Typing.{type_of}
 use Rattle.query_runner.specs.Aspects.{aspect_class, are_short, are_small, WrittenItem, head_in, head_of, heads_of, SaysItem, SaysAspects}
 use Rattle.query_runner.specs.AspectsGrammar.{aspects_grammar}
@@ -45,14 +44,14 @@ FindsHeads g ts written (Err m) = Unit {0}
 pub record IsRight (g : List Class) (heads : List Head) (ts : List Lexed) (w : WrittenItem) (i : Item) : Type 0 where
   pub says : SaysItem g heads ts w i
   pub typed : type_of (names_by g heads i.class) i.body ≡ Some i.kind
-  pub free : accessed_by g i.class.0 i.name ≡ None
+  pub free : IsFree g i.class i.name
 
 -- the equation of an attribute by its body, where that has the attribute's type and the name is no accessor's
 pub record IsEquation (g : List Class) (h : Head) (given : Typed) (i : Item) : Type 0 where
   pub head : head_in i ≡ h
   pub body : i.body ≡ given.expression
   pub typed : given.kind ≡ Some h.kind
-  pub free : accessed_by g h.class.0 h.name ≡ None
+  pub free : IsFree g h.class h.name
 
 abbrev pub MakesEquation : List Class → Head → Typed → Result (Option FirstEq) Memory → Type 0
 MakesEquation g h body (Ok (Some e)) = IsEquation g h body (item_of e)

@@ -3,7 +3,9 @@ use Rattle.std.specs.Prelude.{◌≡◌, ℕ, List, Result, Ok, Err, Vec}
 use Rattle.std.specs.declared.alloc.Global.{Global}
 use Rattle.rag_io.specs.declared.token.Token as memory
 use Rattle.rag_io.specs.Tokens.{Lexed, IsTokens, first_place, seen_tokens}
-use Rattle.ast_grammar.specs.Grammar.{Class}
+use Rattle.broken_rules.specs.declared.broken.ReadFault.{ReadFault}
+use Rattle.broken_rules.specs.declared.broken.ReadFault.TheVariants as faults
+use Rattle.ast_grammar.specs.Grammar.{Class, superclasses_of}
 use Rattle.attr_types.specs.declared.rules.Rules.{Rules}
 use Rattle.attr_types.specs.Expression.{Expression}
 use Rattle.attr_types.specs.Items.{rules_in}
@@ -16,7 +18,7 @@ use Rattle.query_runner.specs.declared.files.Refusal.TheVariants as refusals
 use Rattle.query_runner.specs.declared.files.Unread.{Unread}
 use Rattle.query_runner.specs.declared.files.Unread.TheVariants.{NotBuilt, Memory}
 use Rattle.query_runner.specs.declared.words.FileKind.{FileKind}
-use Rattle.query_runner.specs.Files.{Contents, IsNotBuilt, ReadsGrammar, ReadsItems, ReadsTree}
+use Rattle.query_runner.specs.Files.{BreaksRule, Contents, IsNotBuilt, ReadsGrammar, ReadsItems, ReadsTree}
 use Rattle.query_runner.specs.Named.{seen_file}
 use Rattle.query_runner.specs.Queries.{SaysQueries}
 
@@ -26,17 +28,17 @@ Scans bytes (Ok tokens) = IsTokens first_place bytes (seen_tokens tokens.items)
 Scans bytes (Err NotBuilt) = (ts : List Lexed) → IsTokens first_place bytes ts → ⊥
 Scans bytes (Err Memory) = Unit {0}
 
--- The grammar that the bytes say; or they say none.
-abbrev pub AnswersGrammar : List ℕ → Result (List Class) Unread → Type 0
+-- The grammar that the bytes say, or the first rule that they break.
+abbrev pub AnswersGrammar : List ℕ → Result (List Class) ReadFault → Type 0
 AnswersGrammar bytes (Ok g) = ReadsGrammar bytes g
-AnswersGrammar bytes (Err NotBuilt) = (g : List Class) → ReadsGrammar bytes g → ⊥
-AnswersGrammar bytes (Err Memory) = Unit {0}
+AnswersGrammar bytes (Err (faults.Broken b)) = BreaksRule bytes b
+AnswersGrammar bytes (Err faults.Memory) = Unit {0}
 
 -- The bytes say items, and these are their rules.
 pub record ReadsRules (g : List Class) (bytes : List ℕ) (rules : RuleSet) : Type 0 where
   pub items : List Item
   pub reads : ReadsItems g bytes items
-  pub are : rules ≡ rules_of items
+  pub are : rules ≡ rules_of (superclasses_of g) items
 
 abbrev pub AnswersRules : List Class → List ℕ → Result Rules Unread → Type 0
 AnswersRules g bytes (Ok rules) = ReadsRules g bytes (rules_in rules)
@@ -62,5 +64,6 @@ Refuses file Memory refusal = refusal ≡ refusals.Memory
 
 -- why the four files say no program
 abbrev pub IsRefusal : Contents → Refusal → Type 0
+IsRefusal held (refusals.Broken b) = BreaksRule held.ast b
 IsRefusal held (refusals.NotBuilt file) = IsNotBuilt held (seen_file file)
 IsRefusal held refusals.Memory = Unit {0}

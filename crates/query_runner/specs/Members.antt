@@ -44,6 +44,6 @@ on_receiver (members.Attribute a) e = Call a.0 e
 
 -- the type of a member on a receiver of this type
 abbrev pub member_type : Names → Option Kind → Member → Option Kind
-member_type N t (members.Child k) = child_type (component_on N.component t k)
-member_type N t (members.Token u k) = token_type u (component_on N.component t k)
-member_type N t (members.Attribute a) = call_type t (N.attribute a.0)
+member_type N t (members.Child k) = child_type (component_on N.grammar t k)
+member_type N t (members.Token u k) = token_type u (component_on N.grammar t k)
+member_type N t (members.Attribute a) = call_type N.grammar t (N.attribute a.0)

@@ -2,7 +2,7 @@
 use Rattle.query_runner.specs.declared.words.FileKind.{FileKind}
 use Rattle.query_runner.specs.declared.words.FileKind.TheVariants as kinds
 use Rattle.query_runner.specs.declared.words.Names as kept
-use Rattle.query_runner.specs.Files.{File, Ast, Jrag, Tree, Queries}
+use Rattle.query_runner.specs.Files.{File, Jrag, Tree, Queries}
 use Rattle.query_runner.specs.Output as output
 use Rattle.query_runner.specs.Words.{FileNames}
 use Rattle.std.specs.Prelude.{ℕ, List}
@@ -11,7 +11,6 @@ abbrev pub seen_names : kept.Names → FileNames
 seen_names n = record { ast = n.ast.now; jrag = n.jrag.now; tree = n.tree.now; queries = n.queries.now }
 
 abbrev pub seen_file : FileKind → File
-seen_file kinds.Ast = Ast
 seen_file kinds.Jrag = Jrag
 seen_file kinds.Tree = Tree
 seen_file kinds.Queries = Queries

@@ -1,11 +1,12 @@
 -- What the names in an expression mean, at a node of a class.
-use Rattle.std.specs.Prelude.{ℕ, List, [], ◌∷◌, ◌&&◌, ◌==◌, Option, Some, None, codes, if◌then◌else◌, position, slice_get}
+use Rattle.std.specs.Prelude.{ℕ, List, [], ◌∷◌, ◌&&◌, Option, Some, None, codes, if◌then◌else◌, position, slice_get}
 use Rattle.std.specs.Option.{option_and_then, option_map}
 use Rattle.std.specs.Str.{bytes_eq}
 use Rattle.rag_io.specs.Tokens.{Lexed}
 use Rattle.rag_io.specs.Words.{is_one_of}
 use Rattle.ast_grammar.specs.declared.grammar.ClassId.{ClassId}
-use Rattle.ast_grammar.specs.Grammar.{Class, component_at}
+use Rattle.superclasses.specs.Superclasses.{is_sub}
+use Rattle.ast_grammar.specs.Grammar.{Class, superclasses_of}
 use Rattle.attr_types.specs.declared.kinds.Attr.{Attr}
 use Rattle.attr_types.specs.declared.kinds.Kind.{Kind}
 use Rattle.attr_types.specs.Accessors.{named_on_type}
@@ -22,9 +23,9 @@ pub record Head : Type 0 where
   pub name : List ℕ
   pub kind : Kind
 
--- the number of the attribute of a class by its name
-abbrev pub head_named : List Head → ClassId → List ℕ → Option ℕ
-head_named heads class name = position (λ h. (h.class.0 == class.0) && bytes_eq h.name name) heads
+-- the number of the attribute of this name that is declared for the class or a superclass
+abbrev pub head_named : List (Option ℕ) → List Head → ClassId → List ℕ → Option ℕ
+head_named superclasses heads class name = position (λ h. is_sub superclasses class.0 h.class.0 && bytes_eq h.name name) heads
 
 abbrev pub declared_by : Head → Attr
 declared_by h = plain_attribute h.class h.kind
@@ -38,7 +39,7 @@ pub record Site : Type 0 where
 
 -- what may be named at a node of a class
 abbrev pub names_by : List Class → List Head → ClassId → Names
-names_by g heads c = record { attribute = λ a. option_map declared_by (slice_get heads a); node = λ k. None; component = component_at g; this = Some c }
+names_by g heads c = record { grammar = g; attribute = λ a. option_map declared_by (slice_get heads a); node = λ k. None; this = Some c }
 
 abbrev pub names_at : Site → Names
 names_at s = names_by s.grammar s.heads s.class
@@ -49,7 +50,7 @@ form_names = codes "union" ∷ codes "inter" ∷ codes "minus" ∷ codes "single
 
 -- the call of the name that is the token of this number
 abbrev pub called : Site → ℕ → Expression → Option Expression
-called s name e = named_on_type s.grammar (head_named s.heads) (type_of (names_at s) e) (text_at s.tokens name) e
+called s name e = named_on_type s.grammar (head_named (superclasses_of s.grammar) s.heads) (type_of (names_at s) e) (text_at s.tokens name) e
 
 -- the same without receiver, which is `this` then
 abbrev pub called_alone : Site → ℕ → Option Expression

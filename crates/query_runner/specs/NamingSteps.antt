@@ -2,6 +2,7 @@
 use Rattle.std.specs.Prelude.{ℕ, List, Option, Some, None}
 use Rattle.std.specs.Option.{option_map}
 use Rattle.rag_io.specs.Tokens.{seen_tokens}
+use Rattle.ast_grammar.specs.Grammar.{Class, superclasses_of}
 use Rattle.attr_types.specs.declared.expression.Operator.{Operator}
 use Rattle.attr_types.specs.declared.kinds.Kind.{Kind}
 use Rattle.attr_types.specs.declared.kinds.Kind.TheVariants as kinds
@@ -47,17 +48,17 @@ both a b = record { expression = And a.expression b.expression; kind = both_trut
 abbrev pub either : Typed → Typed → Typed
 either a b = record { expression = Or a.expression b.expression; kind = both_truth a.kind b.kind }
 
-abbrev pub chosen : Typed → Typed → Typed → Typed
-chosen c a b = record { expression = If c.expression a.expression b.expression; kind = where_truth c.kind (common a.kind b.kind) }
+abbrev pub chosen : List Class → Typed → Typed → Typed → Typed
+chosen g c a b = record { expression = If c.expression a.expression b.expression; kind = where_truth c.kind (common g a.kind b.kind) }
 
 -- two parts that are both there
 abbrev pub of_two : (Typed → Typed → Typed) → Option Typed → Option Typed → Option Typed
 of_two f None b = None
 of_two f (Some a) b = option_map (f a) b
 
-abbrev pub of_three : Option Typed → Option Typed → Option Typed → Option Typed
-of_three None a b = None
-of_three (Some c) a b = of_two (chosen c) a b
+abbrev pub of_three : List Class → Option Typed → Option Typed → Option Typed → Option Typed
+of_three g None a b = None
+of_three g (Some c) a b = of_two (chosen g c) a b
 
 -- what a name means behind a receiver of this type
 abbrev pub member_on : Site → Option Kind → List ℕ → Option Member
@@ -65,7 +66,7 @@ member_on s None name = None
 member_on s (Some kinds.Truth) name = None
 member_on s (Some kinds.Int) name = None
 member_on s (Some kinds.Text) name = None
-member_on s (Some (kinds.Node c)) name = member_named s.grammar c name (head_named s.heads c name)
+member_on s (Some (kinds.Node c)) name = member_named s.grammar c name (head_named (superclasses_of s.grammar) s.heads c name)
 member_on s (Some kinds.Texts) name = None
 member_on s (Some (kinds.Nodes c)) name = None
 

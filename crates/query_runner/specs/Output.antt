@@ -2,13 +2,15 @@
 use Rattle.std.specs.Prelude.{◌≡◌, ℕ, suc, ◌≤◌, ℤ, Bool, true, false, List, [], ◌∷◌, ◌++◌, Some, None, codes, length}
 use Rattle.std.specs.Fmt.{decimal, signed_decimal}
 use Rattle.rag_io.specs.Outside.{Named, content_of, longest_file, IsLong, IsShort}
+use Rattle.broken_rules.specs.Codes.{code_of}
+use Rattle.broken_rules.specs.declared.broken.Broken.{Broken}
 use Rattle.attr_types.specs.Expression.{Expression}
 use Rattle.equation_law.specs.Loops.{HasLoop}
 use Rattle.equation_law.specs.Names.{Null, At, Source, Query}
 use Rattle.equation_law.specs.Values.{Value, Truth, Int, Node}
 use Rattle.equation_law.specs.Program.{Program}
 use Rattle.equation_law.specs.Equations.{HasValue}
-use Rattle.query_runner.specs.Files.{Contents, SaysProgram, File, Ast, Jrag, Tree, Queries, IsNotBuilt}
+use Rattle.query_runner.specs.Files.{BreaksRule, Contents, SaysProgram, File, Ast, Jrag, Tree, Queries, IsNotBuilt}
 use Rattle.query_runner.specs.Words.{FileNames, names_of}
 
 abbrev pub truth_text : Bool → List ℕ
@@ -68,9 +70,15 @@ pub data IsFirstLong (files : List Named) : List (List ℕ) → List ℕ → Typ
   here : {name : List ℕ} {names : List (List ℕ)} → IsLong files name → IsFirstLong files (name ∷ names) name
   later : {name found : List ℕ} {names : List (List ℕ)} → IsShort files name → IsFirstLong files names found → IsFirstLong files (name ∷ names) found
 
+-- the line of a broken rule
+abbrev pub broken_line : List ℕ → Broken → List ℕ
+broken_line name b = name ++ codes ":" ++ decimal b.place.line ++ codes ":" ++ decimal b.place.column ++ codes ": " ++ code_of b.rule ++ codes "\n"
+
 -- The line of a file that is refused.
 pub data IsRefused (words : List (List ℕ)) (files : List Named) : List ℕ → Type 0 where
   too_long : {names : FileNames} {name : List ℕ} → names_of words ≡ Some names → IsFirstLong files (in_order names) name → IsRefused words files (name ++ codes ": too long\n")
+  broken : {names : FileNames} {contents : Contents} {b : Broken} → names_of words ≡ Some names → HoldsAll files names contents → BreaksRule contents.ast b
+      → IsRefused words files (broken_line names.ast b)
   not_built : {names : FileNames} {contents : Contents} {file : File} → names_of words ≡ Some names → HoldsAll files names contents → IsNotBuilt contents file
       → IsRefused words files (name_of names file ++ codes ": not built\n")
 

@@ -17,7 +17,8 @@ use Rattle.query_runner.specs.declared.trees.Wanted as memory
 use Rattle.query_runner.specs.declared.trees.Wanted.TheVariants as variants
 use Rattle.query_runner.specs.declared.trees.Laid as laid
 use Rattle.query_runner.specs.declared.trees.Reading.{Reading}
-use Rattle.query_runner.specs.Trees.{Wanted, Part, Digits, Marked, Finish, Step, step, comma_before, nodes_in, whole, SaysTree, Writes, is_number}
+use Rattle.query_runner.specs.declared.trees.Sign.TheVariants as signs
+use Rattle.query_runner.specs.Trees.{Wanted, Part, Digits, Marked, Finish, Step, step, arguments_from, comma_before, nodes_in, whole, SaysTree, Writes, is_number}
 use Rattle.query_runner.specs.Tokens.{decimal}
 
 abbrev pub wanted_of : memory.Wanted → Wanted
@@ -50,6 +51,10 @@ abbrev pub places_told : List Told → List Place
 places_told [] = []
 places_told (TellsNode c parent k ∷ told) = record { class = c; parent = parent; component = k } ∷ places_told told
 places_told (TellsToken n k v ∷ told) = places_told told
+
+-- what the name of a class writes, where a node of it may stand
+abbrev pub node_begins : List Class → ℕ → ℕ → ℕ → ClassId → Step
+node_begins g parent k next c = record { wanted = Marked signs.Open ∷ arguments_from next 0 (components_of g c.0) []; told = TellsNode c parent k ∷ [] }
 
 -- the part at a component is wanted, behind a comma where it isn't the first
 pub record WantsComponent (g : List Class) (c n k : ℕ) (old new : List Wanted) : Type 0 where

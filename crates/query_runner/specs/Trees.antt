@@ -1,5 +1,5 @@
 -- The trees that are read so far: nodes with integers and truth values as tokens.
-use Rattle.std.specs.Prelude.{◌≡◌, ◌==◌, ℕ, zero, suc, ◌+◌, ◌-◌, ◌^◌, ◌≤◌, nat_le, List, [], ◌∷◌, ◌++◌, Bool, true, false, Option, Some, None, codes, length, slice_get, if◌then◌else◌}
+use Rattle.std.specs.Prelude.{◌≡◌, ◌==◌, ℕ, zero, suc, ◌+◌, ◌-◌, ◌^◌, ◌≤◌, nat_le, List, [], ◌∷◌, ◌++◌, Bool, true, false, not, ◌&&◌, Option, Some, None, codes, length, slice_get, if◌then◌else◌}
 use Rattle.std.specs.Str.{bytes_eq}
 use Rattle.rag_io.specs.Tokens.{Lexed}
 use Rattle.rag_io.specs.declared.token.TokenKind.{TokenKind}
@@ -7,7 +7,7 @@ use Rattle.rag_io.specs.declared.token.TokenKind.TheVariants as tokens
 use Rattle.ast_grammar.specs.declared.grammar.ClassId.{ClassId}
 use Rattle.ast_grammar.specs.declared.grammar.Shape.{Shape}
 use Rattle.ast_grammar.specs.declared.grammar.Shape.TheVariants as shapes
-use Rattle.ast_grammar.specs.Grammar.{Class, Component, components_of}
+use Rattle.ast_grammar.specs.Grammar.{Class, Component, class_named, components_of, is_sub}
 use Rattle.equation_law.specs.Preorder.{Open, Subtree, Token, Told, TellsNode, TellsToken, part_of, nodes_told, most_nodes}
 use Rattle.equation_law.specs.Program.{Node}
 use Rattle.query_runner.specs.declared.trees.Sign.{Sign}
@@ -37,7 +37,7 @@ abbrev pub arguments_from : ℕ → ℕ → List Component → List Wanted → L
 arguments_from n k [] rest = Marked signs.Close ∷ rest
 arguments_from n k (x ∷ xs) rest = comma_before k (Part (part_of x.shape x.class n k) ∷ arguments_from n (suc k) xs rest)
 
--- what is wanted of a whole text: a tree whose root is of the first class
+-- what is wanted of a whole text: a tree whose root is of the first class or of a subclass
 abbrev pub whole : List Wanted
 whole = Part (Subtree (record { 0 = 0 }) 0 0) ∷ Finish ∷ []
 
@@ -74,10 +74,21 @@ is_end tokens.Text = false
 is_end tokens.Symbol = false
 is_end tokens.End = true
 
--- the name of a class
-abbrev pub has_name : Option Class → TokenKind → List ℕ → Bool
-has_name None kind text = false
-has_name (Some c) kind text = is_name kind text c.name
+-- the class that a name names
+abbrev pub class_by : List Class → TokenKind → List ℕ → Option ℕ
+class_by g tokens.Name text = class_named g text
+class_by g tokens.Int text = None
+class_by g tokens.Text text = None
+class_by g tokens.Symbol text = None
+class_by g tokens.End text = None
+
+abbrev pub is_concrete : Option Class → Bool
+is_concrete None = false
+is_concrete (Some c) = not c.abstract
+
+-- a node of the class of this number may stand where one of the wanted class is
+abbrev pub fits : List Class → ClassId → ℕ → Bool
+fits g wanted c = is_sub g c wanted.0 && is_concrete (slice_get g c)
 
 -- what a token writes of what is wanted: what is then wanted in its place, and what it tells
 pub record Step : Type 0 where
@@ -91,11 +102,16 @@ silent wanted = Some (record { wanted = wanted; told = [] })
 abbrev pub coded : ℕ → ℕ → ℕ → Option Step
 coded n k v = Some (record { wanted = []; told = TellsToken n k v ∷ [] })
 
--- a node: the name of its class, and then its arguments in parentheses; the node gets the number `next`
+-- a node of the class of this number, with its arguments in parentheses; the node gets the number `next`
+abbrev pub node_of_class : List Class → ClassId → ℕ → ℕ → ℕ → Option ℕ → Option Step
+node_of_class g wanted parent k next None = None
+node_of_class g wanted parent k next (Some c) =
+    if fits g wanted c
+    then Some (record { wanted = Marked signs.Open ∷ arguments_from next 0 (components_of g c) []; told = TellsNode (record { 0 = c }) parent k ∷ [] }) else None
+
+-- a node begins with the name of its class
 abbrev pub node_step : List Class → ClassId → ℕ → ℕ → ℕ → TokenKind → List ℕ → Option Step
-node_step g c parent k next kind text =
-    if has_name (slice_get g c.0) kind text
-    then Some (record { wanted = Marked signs.Open ∷ arguments_from next 0 (components_of g c.0) []; told = TellsNode c parent k ∷ [] }) else None
+node_step g wanted parent k next kind text = node_of_class g wanted parent k next (class_by g kind text)
 
 -- an integer, perhaps with a `-` before its digits
 abbrev pub int_step : ℕ → ℕ → TokenKind → List ℕ → Option Step

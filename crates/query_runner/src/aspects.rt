@@ -1,8 +1,9 @@
 // The reader of aspects in the first form.
-ghost use Rattle.std.specs.Prelude.{◌≡◌, ◌==◌, ◌≤◌, ◌++◌, ◌∷◌, [], IfOk, length, map, count_by};
+ghost use Rattle.std.specs.Prelude.{◌≡◌, ◌==◌, ◌≤◌, ◌↔◌, ◌++◌, ◌∷◌, [], IfOk, IsTrue, length, map, count_by};
 ghost use Rattle.rag_io.specs.Tokens.{AreTokens, seen_tokens};
+ghost use Rattle.ast_grammar.specs.Grammar.{superclasses_of};
 ghost use Rattle.attr_types.specs.Items.{item_of};
-ghost use Rattle.attr_types.specs.Rules.{declares, items_differ, most_attributes};
+ghost use Rattle.attr_types.specs.Rules.{IsFree, are_related, declares, items_differ, most_attributes};
 ghost use Rattle.query_runner.specs.Aspects.{aspect_class, are_short, is_small, are_small, AnswersAspects};
 ghost use Rattle.query_runner.specs.AspectsGrammar.{aspects_grammar};
 ghost use Rattle.query_runner.specs.AspectSteps.{IsModest, ReadsEvents, FindsHead, FindsHeads, MakesEquation, ResolvesItem, Resolves};
@@ -154,6 +155,19 @@ fn heads_of<'a>(
     Ok(Some(heads))
 }
 
+// The name is that of no accessor of the class or of a subclass.
+fn is_free(grammar: &Grammar, class: ClassId, name: &[u8]) -> bool
+    ensures { IsTrue result ↔ IsFree grammar.now class name.now }
+{
+    for number in 0..grammar.classes() {
+        let below = ClassId(number as u16);
+        if grammar.is_sub(below, class) && accessed_by(grammar, below, name).is_some() {
+            return false;
+        }
+    }
+    true
+}
+
 // The equation of an attribute, where its body has the attribute's type and its name is no accessor's.
 fn equation(
     alloc: Global,
@@ -163,7 +177,7 @@ fn equation(
 ) -> Result<Option<FirstEq>, Memory>
     ensures { MakesEquation grammar.now (seen_head head.entry) (seen_said body) result }
 {
-    if body.kind != Some(head.kind) || accessed_by(grammar, head.class, head.name).is_some() {
+    if body.kind != Some(head.kind) || !is_free(grammar, head.class, head.name) {
         return Ok(None);
     }
     let name = Vec::from_slice(alloc, head.name).map_err(|_| Memory)?;
@@ -227,22 +241,31 @@ fn resolve(
     Ok(Some(list))
 }
 
-fn declares(list: &[FirstEq], class: ClassId, name: &[u8]) -> bool
-    ensures { result ≡ declares (map item_of list.now) class name.now }
+// One of the two classes is the other or a subclass of it.
+fn are_related(grammar: &Grammar, first: ClassId, second: ClassId) -> bool
+    ensures { result ≡ are_related (superclasses_of grammar.now) first.0 second.0 }
+{
+    grammar.is_sub(first, second) || grammar.is_sub(second, first)
+}
+
+// An item declares an attribute of this name for the class, a superclass or a subclass.
+fn declares(grammar: &Grammar, list: &[FirstEq], class: ClassId, name: &[u8]) -> bool
+    ensures { result ≡ declares (superclasses_of grammar.now) (map item_of list.now) class name.now }
 {
     for item in list {
-        if item.class.0 == class.0 && item.name.list() == name {
+        if are_related(grammar, item.class, class) && item.name.list() == name {
             return true;
         }
     }
     false
 }
 
-fn items_differ(list: &[FirstEq]) -> bool
-    ensures { result ≡ items_differ (map item_of list.now) }
+// No attribute is declared twice for one class, or for a class and a subclass of it.
+fn items_differ(grammar: &Grammar, list: &[FirstEq]) -> bool
+    ensures { result ≡ items_differ (superclasses_of grammar.now) (map item_of list.now) }
 {
     for (i, item) in list.iter().enumerate() {
-        if declares(&list[i + 1..], item.class, item.name.list()) {
+        if declares(grammar, &list[i + 1..], item.class, item.name.list()) {
             return false;
         }
     }
@@ -267,7 +290,7 @@ fn read_items(
     let Some(list) = resolve(alloc, grammar, &heads, tokens, &items)? else {
         return Ok(None);
     };
-    if items_differ(&list) {
+    if items_differ(grammar, &list) {
         Ok(Some(list))
     } else {
         Ok(None)

@@ -13,8 +13,9 @@ use crate::fetching::Contents;
 use crate::queries::read_queries;
 use crate::trees::read_tree;
 use crate::words::FileKind;
-use ast_grammar::{Grammar, read_first};
+use ast_grammar::{Grammar, read_ast};
 use attr_types::Rules;
+use broken_rules::{Broken, ReadFault, Rule};
 use equation_law::{Queries, System, Tree};
 use rag_io::{Memory, Pool, ScanFault, Token, scan};
 use std::alloc::Global;
@@ -39,7 +40,9 @@ impl From<Memory> for Unread {
 /// Why there is no system.
 #[derive(Clone, Copy, Debug, PartialEq, Eq)]
 pub(crate) enum Refusal {
-    /// The first file that isn't in the form that is read so far.
+    /// The first rule that the grammar breaks.
+    Broken(Broken),
+    /// The grammar breaks none, and this is the first file that isn't in the form that is read so far.
     NotBuilt(FileKind),
     /// Want of memory.
     Memory,
@@ -68,14 +71,18 @@ fn tokens_of(alloc: Global, bytes: &[u8]) -> Result<Vec<Token<'_>>, Unread>
     }
 }
 
-fn read_grammar(alloc: Global, bytes: &[u8]) -> Result<Grammar, Unread>
+// The grammar that the bytes say, or the first rule that they break: G1 at a place where no token begins.
+fn read_grammar(alloc: Global, bytes: &[u8]) -> Result<Grammar, ReadFault>
     requires { length bytes.now ≤ longest_file }
     ensures { AnswersGrammar bytes.now result }
 {
-    let tokens = tokens_of(alloc, bytes)?;
-    match read_first(alloc, &tokens)? {
-        Some(grammar) => Ok(grammar),
-        None => Err(Unread::NotBuilt),
+    match scan(alloc, bytes) {
+        Ok(tokens) => read_ast(alloc, &tokens),
+        Err(ScanFault::Bad(place)) => Err(ReadFault::Broken(Broken {
+            place,
+            rule: Rule::G1,
+        })),
+        Err(ScanFault::Memory) => Err(ReadFault::Memory),
     }
 }
 
@@ -125,7 +132,8 @@ pub(crate) fn read_system(alloc: Global, contents: &Contents) -> Result<System, 
 {
     let grammar = match read_grammar(alloc, &contents.ast) {
         Ok(grammar) => grammar,
-        Err(unread) => return Err(refusal_of(FileKind::Ast, unread)),
+        Err(ReadFault::Broken(broken)) => return Err(Refusal::Broken(broken)),
+        Err(ReadFault::Memory) => return Err(Refusal::Memory),
     };
     let rules = match read_rules(alloc, &grammar, &contents.jrag) {
         Ok(rules) => rules,

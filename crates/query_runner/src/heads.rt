@@ -2,12 +2,12 @@
 ghost use Rattle.std.specs.Prelude.{◌≡◌, ◌==◌, ◌&&◌, ◌≤◌, Some, IfOk, List, ℕ, cond, length, map};
 ghost use Rattle.std.specs.Option.{option_map};
 ghost use Rattle.std.specs.Str.{bytes_eq};
-ghost use Rattle.ast_grammar.specs.declared.grammar.ClassId.{ClassId as Class};
+ghost use Rattle.ast_grammar.specs.Grammar.{superclasses_of};
 ghost use Rattle.attr_types.specs.Rules.{most_attributes, number_of_attribute};
-ghost use Rattle.query_runner.specs.Heads.{kept_head, seen_head};
+ghost use Rattle.query_runner.specs.Heads.{earlier, kept_head, own_head, seen_head};
 ghost use Rattle.query_runner.specs.Naming.{head_named};
 
-use ast_grammar::ClassId;
+use ast_grammar::{ClassId, Grammar};
 use attr_types::{AttrId, Kind};
 use rag_io::Memory;
 use std::alloc::Global;
@@ -25,7 +25,7 @@ pub(crate) struct Head<'a> {
 // The number of a class, and a name.
 #[derive(Clone, Copy, Debug, PartialEq, Eq, Hash)]
 struct HeadName<'a> {
-    class: u16,
+    class: usize,
     name: &'a [u8],
 }
 
@@ -38,15 +38,14 @@ pub(crate) struct Heads<'a> {
 
 impl<'a> Model for Heads<'a> {
     ghost use Rattle.std.specs.Prelude.{◌≡◌, ℕ, List, map};
-    ghost use Rattle.ast_grammar.specs.declared.grammar.ClassId.{ClassId};
-    ghost use Rattle.query_runner.specs.Heads.{kept_head, seen_head};
-    ghost use Rattle.query_runner.specs.Naming.{Head, head_named};
+    ghost use Rattle.query_runner.specs.Heads.{kept_head, own_head, seen_head};
+    ghost use Rattle.query_runner.specs.Naming.{Head};
 
     ghost Value = { List Head };
 
     ghost view = { λ h. map seen_head h.list.items };
 
-    ghost invariant = { λ h. (class : ClassId) (name : List ℕ) → kept_head h.places class.0 name ≡ head_named (map seen_head h.list.items) class name };
+    ghost invariant = { λ h. (class : ℕ) (name : List ℕ) → kept_head h.places class name ≡ own_head (map seen_head h.list.items) name class };
 }
 
 // Keeps the place of an attribute, in place of a later one's of its class and name.
@@ -55,15 +54,25 @@ fn keep<'a>(
     head: &Head<'a>,
     place: u16,
 ) -> Result<(), Memory>
-    ensures { IfOk result (λ _. (class : Class) (name : List ℕ) → kept_head places.new class.0 name ≡ cond ((head.now.class.0 == class.0) && bytes_eq head.now.name.now name) (Some place) (kept_head places.old class.0 name)) }
+    ensures { IfOk result (λ _. (class : ℕ) (name : List ℕ) → kept_head places.new class name ≡ cond ((head.now.class.0 == class) && bytes_eq head.now.name.now name) (Some place) (kept_head places.old class name)) }
 {
     let name = HeadName {
-        class: head.class.0,
+        class: head.class.0 as usize,
         name: head.name,
     };
     match places.insert(name, place) {
         Ok(_) => Ok(()),
         Err(_) => Err(Memory),
+    }
+}
+
+// The less of two places, where each may be there or not.
+fn earlier(first: Option<u16>, second: Option<u16>) -> Option<u16>
+    ensures { result ≡ earlier first second }
+{
+    match (first, second) {
+        (Some(first), Some(second)) => Some(first.min(second)),
+        _ => first.or(second),
     }
 }
 
@@ -89,14 +98,25 @@ impl<'a> Heads<'a> {
         self.list.as_slice()
     }
 
-    /// The attribute of a class by its name.
-    pub(crate) fn find(&self, class: ClassId, name: &[u8]) -> Option<AttrId>
-        ensures { option_map number_of_attribute result ≡ head_named self.now class name.now }
+    // The place of the first attribute of this name that is declared for exactly this class.
+    fn own(&self, name: &[u8], class: usize) -> Option<u16>
+        ensures { result ≡ own_head self.now name.now class }
     {
-        let place = self.places.get(&HeadName {
-            class: class.0,
-            name,
-        })?;
-        Some(AttrId(*place))
+        self.places.get(&HeadName { class, name }).copied()
+    }
+
+    /// The first attribute of this name that is declared for the class or a superclass. It takes a look-up for each of these.
+    pub(crate) fn find(&self, grammar: &Grammar, class: ClassId, name: &[u8]) -> Option<AttrId>
+        ensures { option_map number_of_attribute result ≡ head_named (superclasses_of grammar.now) self.now class name.now }
+    {
+        let subclasses = grammar.subclasses();
+        let mut first = self.own(name, class.0 as usize);
+        let mut above = subclasses.superclass(class.0 as usize);
+        for i in 0..grammar.classes() {
+            let Some(number) = above else { break };
+            first = earlier(first, self.own(name, number));
+            above = subclasses.superclass(number);
+        }
+        Some(AttrId(first?))
     }
 }

@@ -58,7 +58,7 @@ fn member_type(site: &Site<'_>, receiver: Option<Kind>, member: Member) -> Optio
     match member {
         Member::Child(k) => child_type(component_on(site.grammar, receiver, k)),
         Member::Token(kind, k) => token_type(kind, component_on(site.grammar, receiver, k)),
-        Member::Attribute(a) => call_type(receiver, attribute_at(site.heads, a)),
+        Member::Attribute(a) => call_type(site.grammar, receiver, attribute_at(site.heads, a)),
     }
 }
 
@@ -68,7 +68,7 @@ fn member_on(site: &Site<'_>, receiver: Option<Kind>, name: &[u8]) -> Option<Mem
 {
     match receiver {
         Some(Kind::Node(class)) => {
-            let attribute = site.heads.find(class, name);
+            let attribute = site.heads.find(site.grammar, class, name);
             member_named(site.grammar, class, name, attribute)
         }
         _ => None,
@@ -226,10 +226,16 @@ fn either(alloc: Global, left: Option<Said>, right: Option<Said>) -> Result<Opti
 }
 
 // A choice between two parts that say something.
-fn chosen_of(alloc: Global, condition: Said, then: Said, otherwise: Said) -> Result<Said, Memory>
-    ensures { IfOk result (λ o. seen_said o ≡ spec.chosen (seen_said condition) (seen_said then) (seen_said otherwise)) }
+fn chosen_of(
+    alloc: Global,
+    grammar: &Grammar,
+    condition: Said,
+    then: Said,
+    otherwise: Said,
+) -> Result<Said, Memory>
+    ensures { IfOk result (λ o. seen_said o ≡ spec.chosen grammar.now (seen_said condition) (seen_said then) (seen_said otherwise)) }
 {
-    let kind = where_truth(condition.kind, common(then.kind, otherwise.kind));
+    let kind = where_truth(condition.kind, common(grammar, then.kind, otherwise.kind));
     let c = boxed(alloc, condition.expression)?;
     let a = boxed(alloc, then.expression)?;
     let b = boxed(alloc, otherwise.expression)?;
@@ -242,15 +248,17 @@ fn chosen_of(alloc: Global, condition: Said, then: Said, otherwise: Said) -> Res
 // A choice between two parts that say something or not.
 fn chosen(
     alloc: Global,
+    grammar: &Grammar,
     condition: Option<Said>,
     then: Option<Said>,
     otherwise: Option<Said>,
 ) -> Result<Option<Said>, Memory>
-    ensures { IfOk result (λ o. option_map seen_said o ≡ of_three (option_map seen_said condition) (option_map seen_said then) (option_map seen_said otherwise)) }
+    ensures { IfOk result (λ o. option_map seen_said o ≡ of_three grammar.now (option_map seen_said condition) (option_map seen_said then) (option_map seen_said otherwise)) }
 {
     match (condition, then, otherwise) {
         (Some(condition), Some(then), Some(otherwise)) => {
-            Ok(Some(chosen_of(alloc, condition, then, otherwise)?))
+            let choice = chosen_of(alloc, grammar, condition, then, otherwise)?;
+            Ok(Some(choice))
         }
         _ => Ok(None),
     }
@@ -297,12 +305,8 @@ pub(crate) fn resolve_names(
         Written::If(condition, then, otherwise) => {
             let condition = resolve_names(alloc, site, condition)?;
             let then = resolve_names(alloc, site, then)?;
-            chosen(
-                alloc,
-                condition,
-                then,
-                resolve_names(alloc, site, otherwise)?,
-            )
+            let otherwise = resolve_names(alloc, site, otherwise)?;
+            chosen(alloc, site.grammar, condition, then, otherwise)
         }
     }
 }

@@ -1,7 +1,7 @@
 use crate::aspects::read_aspects;
 use crate::queries::read_queries;
 use crate::trees::read_tree;
-use ast_grammar::{Grammar, read_first};
+use ast_grammar::{Grammar, read_ast};
 use attr_types::{FirstEq, Rules};
 use equation_law::{FirstNode, Tokens, Tree};
 use rag_io::{LONGEST_FILE, scan};
@@ -13,7 +13,7 @@ use std::test::Fail;
 fn grammar_said(rt: &impl Abort, alloc: Global, text: &str) -> Result<Grammar, Fail> {
     assert!(rt; text.len() <= LONGEST_FILE);
     let tokens = scan(alloc, text.as_bytes())?;
-    Ok(read_first(alloc, &tokens)?.ok_or("no grammar")?)
+    Ok(read_ast(alloc, &tokens)?)
 }
 
 // How many items the text says, or None where it says none.
@@ -264,18 +264,31 @@ const TREES: [(&str, bool); 8] = [
     ("", false),
 ];
 
+// The same, where a node may be of a subclass.
+const SUBCLASSES: [(&str, bool); 9] = [
+    ("N(A())", true),
+    ("N(B())", true),
+    ("N(C())", true),
+    ("M(C(), C())", true),
+    ("M(A(), A())", false),
+    ("M(A())", false),
+    ("T(A())", false),
+    ("A()", false),
+    ("N(N(A()))", false),
+];
+
 #[test]
 fn reads_trees(rt: HostRuntime) -> Result<(), Fail> {
     let alloc = rt.alloc();
-    let grammar = grammar_said(&rt, alloc, "N; M;")?;
-    for (text, is_said) in &TREES {
-        assert!(rt; text.len() <= LONGEST_FILE);
-        let tokens = scan(alloc, text.as_bytes())?;
-        assert_eq!(rt;
-            read_tree(alloc, &grammar, &tokens)?.is_some(),
-            *is_said,
-            "{text}"
-        );
+    let family = "abstract T ::= a:A; N : T; M : T ::= b:B; A; B : A; C : B;";
+    for (ast, trees) in [("N; M;", TREES.as_slice()), (family, SUBCLASSES.as_slice())] {
+        let grammar = grammar_said(&rt, alloc, ast)?;
+        for (text, is_said) in trees {
+            assert!(rt; text.len() <= LONGEST_FILE);
+            let tokens = scan(alloc, text.as_bytes())?;
+            let tree = read_tree(alloc, &grammar, &tokens)?;
+            assert_eq!(rt; tree.is_some(), *is_said, "{text}");
+        }
     }
     Ok(())
 }

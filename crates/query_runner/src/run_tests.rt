@@ -1,7 +1,9 @@
 ghost use Rattle.std.specs.Prelude.{◌≡◌, IfOk};
 ghost use Rattle.std.specs.String.{string_bytes};
 
+mod grammars;
 mod programs;
+mod subclasses;
 
 use crate::running::run;
 use rag_io::{Gate, LONGEST_FILE, MemoryShelf, MemorySink};
@@ -216,7 +218,7 @@ fn refuses_words_and_files(rt: HostRuntime) -> Result<(), Fail> {
         assert_eq!(rt; taken.as_slice(), USAGE, "{line}");
     }
     for (line, text) in [
-        ("run q.txt a.jrag t.tree g.ast", "q.txt: not built\n"),
+        ("run q.txt a.jrag t.tree g.ast", "q.txt:1:1: G1\n"),
         ("run g.ast g.ast t.tree q.txt", "g.ast: not built\n"),
         ("run g.ast a.jrag q.txt t.tree", "q.txt: not built\n"),
         ("run g.ast a.jrag t.tree t.tree", "t.tree: not built\n"),

@@ -3,7 +3,7 @@ ghost use Rattle.std.specs.Prelude.{◌≡◌, ◌⊎◌, ◌≤◌, ◌++◌, N
 ghost use Rattle.rag_io.specs.Outside.{Rose};
 ghost use Rattle.query_runner.specs.Answered.{AnswersWhereTold, status_of, text_of};
 ghost use Rattle.query_runner.specs.Run.{Took, TookSome, WritesAnswer, WritesPart};
-ghost use Rattle.query_runner.specs.Output.{usage};
+ghost use Rattle.query_runner.specs.Output.{broken_line, usage};
 ghost use Rattle.query_runner.specs.Words.{text_of_word, names_of};
 
 use crate::fetching::{Stop, fetch_all};
@@ -11,6 +11,7 @@ use crate::files::{Refusal, read_system};
 use crate::putting::put_all;
 use crate::replies::reply_lines;
 use crate::words::{name_of, names_of};
+use broken_rules::Broken;
 use rag_io::{Gate, Shelf, Sink};
 use std::alloc::Global;
 use std::thread::Threads;
@@ -75,6 +76,18 @@ fn refuse(alloc: Global, name: &str, why: &str) -> Result<Answer, Failure>
     }
 }
 
+// The line of a broken rule of the grammar.
+fn refuse_broken(alloc: Global, name: &str, broken: Broken) -> Result<Answer, Failure>
+    ensures line { IfOk result (λ a. (status_of a ≡ 1) × (text_of a ≡ broken_line name.now broken)) }
+    ensures memory { IfErr result (λ f. f ≡ Failure.Memory) }
+{
+    let Broken { place, rule } = broken;
+    match format!(in alloc; "{name}:{}:{}: {rule}\n", place.line, place.column) {
+        Ok(line) => Ok(Answer::Refusal(line.into_bytes())),
+        Err(_) => Err(Failure::Memory),
+    }
+}
+
 // All that is done before the first put.
 fn prepare<S: Shelf, G: Gate>(
     alloc: Global,
@@ -105,6 +118,7 @@ fn prepare<S: Shelf, G: Gate>(
         },
         Err(refusal) => match refusal {
             Refusal::Memory => Err(Failure::Memory),
+            Refusal::Broken(broken) => refuse_broken(alloc, names.ast, broken),
             Refusal::NotBuilt(file) => refuse(alloc, name_of(names, file), ": not built\n"),
         },
     }
@@ -119,7 +133,9 @@ fn prepare<S: Shelf, G: Gate>(
 /// | Status | Comes | Written |
 /// |---|---|---|
 /// | 0 | where the whole output was put | the output: one line for each query |
-/// | 1 | where a file is too long or isn't in the form that is read so far | `NAME: too long` or `NAME: not built` |
+/// | 1 | where a file is too long | `NAME: too long` |
+/// | 1 | where the grammar breaks a rule | `NAME:LINE:COLUMN: RULE`, of the first broken one |
+/// | 1 | where another file isn't in the form that is read so far | `NAME: not built` |
 /// | 2 | where the words aren't `run` and four file names | the usage text |
 /// | 3 | for want of memory | nothing |
 /// | 5 | where the shelf's count of faults rose | nothing |

@@ -1,14 +1,15 @@
 // The reader of trees in the first form.
-ghost use Rattle.std.specs.Prelude.{◌≡◌, ◌∷◌, ◌++◌, [], ◌-◌, ◌^◌, ◌<◌, ◌≤◌, map, length, slice_get, suc, IfOk};
+ghost use Rattle.std.specs.Prelude.{◌≡◌, ℕ, ◌∷◌, ◌++◌, [], ◌-◌, ◌^◌, ◌<◌, ◌≤◌, map, length, suc, IfOk, IfSome};
+ghost use Rattle.std.specs.Option.{option_map};
 ghost use Rattle.rag_io.specs.Tokens.{AreTokens, seen_token, seen_tokens};
-ghost use Rattle.ast_grammar.specs.Grammar.{components_of};
+ghost use Rattle.ast_grammar.specs.Grammar.{components_of, number_of};
 ghost use Rattle.equation_law.specs.Preorder.{Subtree, most_nodes};
 ghost use Rattle.equation_law.specs.Slots.{kept};
 ghost use Rattle.equation_law.specs.Trees.{node_of};
 ghost use Rattle.query_runner.specs.Tokens.{decimal, greatest};
-ghost use Rattle.query_runner.specs.Trees.{sign_text, is_name, is_symbol, is_end, has_name, arguments_from, negated, Part, Marked, int_step, digits_step, truth_step, token_step};
+ghost use Rattle.query_runner.specs.Trees.{sign_text, is_name, is_symbol, is_end, class_by, fits, node_step, arguments_from, negated, Part, Marked, int_step, digits_step, truth_step, token_step};
 ghost use Rattle.query_runner.specs.declared.trees.Sign.TheVariants as signs;
-ghost use Rattle.query_runner.specs.TreeSteps.{wanted_of, tops_wanted, seen_laid, codes_kept, rows, Pops, WantsComponent, IsNumber, IsStart, Takes, TakesBy, ReadsAll, AnswersTree};
+ghost use Rattle.query_runner.specs.TreeSteps.{wanted_of, tops_wanted, seen_laid, codes_kept, rows, node_begins, Pops, WantsComponent, IsNumber, IsStart, Takes, TakesBy, ReadsAll, AnswersTree};
 
 use crate::sentences::{GREATEST, capped};
 use ast_grammar::{ClassId, Grammar, Shape};
@@ -42,7 +43,7 @@ impl Sign {
 /// What the rest of a text has to write.
 #[derive(Clone, Copy, Debug, PartialEq, Eq)]
 pub(crate) enum Wanted {
-    /// A node of this class, with the number of its parent and the component by which it hangs there.
+    /// A node of this class or of a subclass, with the number of its parent and the component by which it hangs there.
     Node(ClassId, u32, u32),
     /// A token of this shape, at a component of a node.
     Token(Shape, u32, u32),
@@ -122,14 +123,38 @@ fn number(token: &Token<'_>, most: u64) -> Option<u64>
     }
 }
 
-// The token is the name of this class.
-fn names_class(grammar: &Grammar, class: ClassId, token: &Token<'_>) -> bool
-    ensures { result ≡ has_name (slice_get grammar.now class.0) token.now.kind token.now.text.now }
+// The class that the token names.
+fn class_by(grammar: &Grammar, token: &Token<'_>) -> Option<ClassId>
+    ensures number { option_map number_of result ≡ class_by grammar.now token.now.kind token.now.text.now }
+    ensures within { IfSome result (λ class. class.0 < length grammar.now) }
 {
-    if u32::from(class.0) < grammar.classes() {
-        is_name(token, grammar.class_name(class))
+    match token.kind {
+        TokenKind::Name => grammar.find_class(token.text),
+        TokenKind::Int => None,
+        TokenKind::Text => None,
+        TokenKind::Symbol => None,
+        TokenKind::End => None,
+    }
+}
+
+// A node of the class may stand where one of the wanted class is.
+fn fits(grammar: &Grammar, wanted: ClassId, class: ClassId) -> bool
+    requires { class.0 < length grammar.now }
+    ensures { result ≡ fits grammar.now wanted class.0 }
+{
+    grammar.is_sub(class, wanted) && !grammar.is_abstract(class)
+}
+
+// The class of the node that the token begins where one of the wanted class is.
+fn class_begun(grammar: &Grammar, wanted: ClassId, token: &Token<'_>) -> Option<ClassId>
+    ensures step { (parent k next : ℕ) → node_step grammar.now wanted parent k next token.now.kind token.now.text.now ≡ option_map (node_begins grammar.now parent k next) result }
+    ensures within { IfSome result (λ class. class.0 < length grammar.now) }
+{
+    let class = class_by(grammar, token)?;
+    if fits(grammar, wanted, class) {
+        Some(class)
     } else {
-        false
+        None
     }
 }
 
@@ -192,24 +217,31 @@ fn want_arguments(
     want(wanted, Wanted::Sign(Sign::Open))
 }
 
-// Begins a node, where the token names its class.
+// Begins a node where one of the wanted class is, if the token names a class that fits there.
 fn begin_node(
     grammar: &Grammar,
     reading: &mut Reading,
-    laid: Laid,
+    wanted: ClassId,
+    parent: u32,
+    component: u32,
     token: &Token<'_>,
 ) -> Result<bool, Memory>
-    ensures { Takes grammar.now (Part (Subtree laid.class laid.parent laid.component)) token.now reading.old reading.new result }
+    ensures { Takes grammar.now (Part (Subtree wanted parent component)) token.now reading.old reading.new result }
 {
-    if !names_class(grammar, laid.class, token) {
+    let Some(class) = class_begun(grammar, wanted, token) else {
         return Ok(false);
-    }
+    };
     if reading.nodes.len() >= MOST_NODES {
         return Ok(false);
     }
     let node = reading.nodes.len() as u32;
+    let laid = Laid {
+        class,
+        parent,
+        component,
+    };
     lay(&mut reading.nodes, laid)?;
-    want_arguments(grammar, &mut reading.wanted, node, laid.class)?;
+    want_arguments(grammar, &mut reading.wanted, node, class)?;
     Ok(true)
 }
 
@@ -310,12 +342,7 @@ fn take(
 {
     match wanted {
         Wanted::Node(class, parent, component) => {
-            let laid = Laid {
-                class,
-                parent,
-                component,
-            };
-            begin_node(grammar, reading, laid, token)
+            begin_node(grammar, reading, class, parent, component, token)
         }
         Wanted::Token(shape, node, component) => {
             take_token(reading, shape, node, component, token)

@@ -3,10 +3,9 @@ ghost use Rattle.std.specs.Prelude.{◌≡◌, map, MatchOption, None, Some};
 ghost use Rattle.query_runner.specs.Words.{text_of_word, may_name_file, names_of};
 ghost use Rattle.query_runner.specs.Named.{seen_names, seen_file, name_of};
 
-/// One of the four files.
+/// One of the files behind the grammar.
 #[derive(Clone, Copy, Debug, PartialEq, Eq)]
 pub(crate) enum FileKind {
-    Ast,
     Jrag,
     Tree,
     Queries,
@@ -54,12 +53,11 @@ pub(crate) fn names_of(words: &[String]) -> Option<Names<'_>>
     }
 }
 
-/// The name of a file.
+/// The name of a file behind the grammar.
 pub(crate) fn name_of<'a>(names: Names<'a>, file: FileKind) -> &'a str
     ensures { result.now ≡ name_of (seen_names names.entry) (seen_file file) }
 {
     match file {
-        FileKind::Ast => names.ast,
         FileKind::Jrag => names.jrag,
         FileKind::Tree => names.tree,
         FileKind::Queries => names.queries,

@@ -1,6 +1,7 @@
 use Rattle.std.proofs.Common.{ap, map, sym, ◌∙◌, arith}
 use Rattle.std.proofs.lemmas.List.{length-map}
 use Rattle.rag_io.specs.Tokens.{seen_tokens}
+use Rattle.ast_grammar.specs.Grammar.{superclasses_of}
 use Rattle.attr_types.specs.Items.{item_of}
 use Rattle.attr_types.specs.Rules.{items_differ}
 use Rattle.query_runner.specs.Aspects.{heads_of}
@@ -28,7 +29,7 @@ returns-then-items_differ c =
     let g = c.args.grammar.now in
     let declared = ap (heads_of g (seen_tokens c.args.tokens.now)) (sym (ap (map written_of) c.deref.ensures.value ∙ c.in_ok-items.ensures)) ∙ (rw c.in-Some.is at c.in_ok-heads.ensures) in
     let right = right_there c.in_ok-heads-2.ensures (ap (map written_of) c.deref-2.ensures.value ∙ c.in_ok-items.ensures) (rw c.in-Some-2.is at c.in_ok-list.ensures) in
-    let distinct = ap (λ list. items_differ (map item_of list)) (sym c.deref-3.ensures.value) ∙ sym c.items_differ.ensures ∙ c.if-items_differ.true in
+    let distinct = ap (λ list. items_differ (superclasses_of g) (map item_of list)) (sym c.deref-3.ensures.value) ∙ sym c.items_differ.ensures ∙ c.if-items_differ.true in
     said g c.requires declared right distinct
 
 pub returns : goal.returns
@@ -36,5 +37,5 @@ returns c =
     let g = c.args.grammar.now in
     let declared = ap (heads_of g (seen_tokens c.args.tokens.now)) (sym (ap (map written_of) c.deref.ensures.value ∙ c.in_ok-items.ensures)) ∙ (rw c.in-Some.is at c.in_ok-heads.ensures) in
     let right = right_there c.in_ok-heads-2.ensures (ap (map written_of) c.deref-2.ensures.value ∙ c.in_ok-items.ensures) (rw c.in-Some-2.is at c.in_ok-list.ensures) in
-    let same = ap (λ list. items_differ (map item_of list)) (sym c.deref-3.ensures.value) ∙ sym c.items_differ.ensures ∙ c.if-items_differ.false in
+    let same = ap (λ list. items_differ (superclasses_of g) (map item_of list)) (sym c.deref-3.ensures.value) ∙ sym c.items_differ.ensures ∙ c.if-items_differ.false in
     twice g c.requires declared right same

@@ -1,15 +1,19 @@
 use Rattle.std.proofs.Common.{List, sym, subst}
 use Rattle.rag_io.specs.declared.token.Token as memory
 use Rattle.rag_io.specs.Tokens.{IsTokens, first_place, seen_tokens}
-use Rattle.query_runner.specs.Built.{AnswersGrammar}
-use Rattle.query_runner.proofs.Unread.{out_of_memory, says_no_grammar}
+use Rattle.rag_io.specs.declared.token.Place.{Place}
+use Rattle.broken_rules.specs.declared.rule.Rule.TheVariants.{G1}
+use Rattle.broken_rules.specs.Notes.{at}
+use Rattle.query_runner.specs.Files.{BreaksRule, bad_place}
+use Rattle.query_runner.proofs.Unread.{answers_grammar}
 use Rattle.query_runner.proofs.files.read_grammar.Goals as goal
 
-pub returns-in_err-grammar : goal.returns-in_err-grammar
-returns-in_err-grammar c = out_of_memory (AnswersGrammar c.args.bytes.now) c.from_residual-in_err-grammar.result c.from_residual-in_err-grammar.ensures tt
+pub returns-in-Ok : goal.returns-in-Ok
+returns-in-Ok c =
+    let scanned = subst (λ (ts : List memory.Token). IsTokens first_place c.args.bytes.now (seen_tokens ts)) (sym c.deref.ensures.value) c.in-Ok.ensures in
+    answers_grammar scanned c.read_ast.result c.read_ast.ensures
 
-pub returns : goal.returns
-returns c =
-    let scanned = subst (λ (ts : List memory.Token). IsTokens first_place c.args.bytes.now (seen_tokens ts)) (sym c.deref.ensures.value) c.in_ok-tokens.ensures in
-    let none = rw c.in-None.is at c.in_ok-grammar.ensures in
-    says_no_grammar scanned none
+pub returns-in-Err-Bad : goal.returns-in-Err-Bad
+returns-in-Err-Bad c =
+    let bad = rw c.in-Err-Bad.field-0-is at c.in-Err-Bad.ensures in
+    subst (λ (p : Place). BreaksRule c.args.bytes.now (at p G1)) (sym c.in-Err-Bad.place-is) (bad_place bad)

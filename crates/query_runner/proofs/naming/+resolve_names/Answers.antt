@@ -34,12 +34,12 @@ returns-in_ok-resolve_names-in-Or n c =
     (same_two either left right ∙ two_typed (names_at site) Or either (λ a b. refl) (said site (written_in c.in-Or.left.value)) (said site (written_in c.in-Or.right.value)) ∙ ap (resolved site) (sym c.in-Or.is))
     c.either.ensures
 
-pub returns-in_ok-resolve_names-in-If : goal.returns-in_ok-resolve_names-in-If
-returns-in_ok-resolve_names-in-If n c =
+pub returns-in_ok-otherwise-in-If : goal.returns-in_ok-otherwise-in-If
+returns-in_ok-otherwise-in-If n c =
     let site = seen_site c.args.site.now in
     let condition = c.in_ok-condition-in-If.ensures ∙ ap (resolved site) c.deref-in-If.ensures in
     let then = c.in_ok-then-in-If.ensures ∙ ap (resolved site) c.deref-in-If-2.ensures in
-    let otherwise = c.in_ok-resolve_names-in-If.ensures ∙ ap (resolved site) c.deref-in-If-3.ensures in
+    let otherwise = c.in_ok-otherwise-in-If.ensures ∙ ap (resolved site) c.deref-in-If-3.ensures in
     said_so c.chosen.result
-    (same_three condition then otherwise ∙ three_typed (names_at site) (said site (written_in c.in-If.condition.value)) (said site (written_in c.in-If.then.value)) (said site (written_in c.in-If.otherwise.value)) ∙ ap (resolved site) (sym c.in-If.is))
+    (same_three site.grammar condition then otherwise ∙ three_typed (names_at site) (said site (written_in c.in-If.condition.value)) (said site (written_in c.in-If.then.value)) (said site (written_in c.in-If.otherwise.value)) ∙ ap (resolved site) (sym c.in-If.is))
     c.chosen.ensures

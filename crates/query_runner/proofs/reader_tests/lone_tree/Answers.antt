@@ -21,7 +21,7 @@ one = record { class = first; parent = 0; component = 0; tokens = 3 ∷ [] } ∷
 is_tree : IsTree one
 is_tree = record {
   grammar = numbered;
-  tree = record { told = TellsNode first 0 0 ∷ TellsToken 0 0 3 ∷ []; tells = node (omega arith) (token (omega arith) over); are = refl; few = omega arith };
+  tree = record { told = TellsNode first 0 0 ∷ TellsToken 0 0 3 ∷ []; tells = node (record { below = refl; concrete = refl }) (token (omega arith) over); are = refl; few = omega arith };
 }
 
 pub of_nodes-requires : goal.of_nodes-requires

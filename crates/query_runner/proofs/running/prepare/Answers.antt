@@ -7,7 +7,7 @@ use Rattle.query_runner.specs.Named.{seen_names, seen_file}
 use Rattle.query_runner.specs.Words.{text_of_word}
 use Rattle.query_runner.specs.declared.running.Answer.TheVariants.{Replies}
 use Rattle.query_runner.proofs.Answerable.{is_program}
-use Rattle.query_runner.proofs.Preparing.{usage_answer, long_answer, unbuilt_answer, reply_answer}
+use Rattle.query_runner.proofs.Preparing.{broken_answer, usage_answer, long_answer, unbuilt_answer, reply_answer}
 use Rattle.query_runner.proofs.running.prepare.Goals as goal
 
 pub returns-in_default-clause-answer : goal.returns-in_default-clause-answer
@@ -25,6 +25,12 @@ pub returns-in-Ok-reply_lines-clause-answer : goal.returns-in-Ok-reply_lines-cla
 returns-in-Ok-reply_lines-clause-answer g c =
     reply_answer (map text_of_word c.args.words.now) (g.S.Shelf.files c.args.shelf.now) (seen_names c.in-Some.names) (seen_contents c.in-Ok.contents) (program_of c.in-Ok-read_system.system) c.in-Ok-reply_lines.text.items
     c.in-Some.ensures c.in-Ok.ensures.held c.in-Ok-read_system.ensures.said c.in-Ok-reply_lines.ensures (Replies c.in-Ok-reply_lines.text) refl refl
+
+pub returns-in-Broken-clause-answer : goal.returns-in-Broken-clause-answer
+returns-in-Broken-clause-answer g c =
+    let cause = rw c.in-Broken.is at c.in-Err-read_system.ensures.refused in
+    broken_answer (map text_of_word c.args.words.now) (g.S.Shelf.files c.args.shelf.now) (seen_names c.in-Some.names) (seen_contents c.in-Ok.contents) c.in-Broken.broken c.refuse_broken.result
+    c.in-Some.ensures c.in-Ok.ensures.held cause c.refuse_broken.ensures.line
 
 pub returns-clause-answer : goal.returns-clause-answer
 returns-clause-answer g c =

@@ -1,8 +1,14 @@
-use Rattle.ast_grammar.proofs.Sentences.{faulty}
+use Rattle.std.proofs.Common.{ℕ, ◌+◌, List, drop, sym, subst}
+use Rattle.std.proofs.lemmas.List.{take-append-drop}
+use Rattle.ll_parser.specs.Grammar.{Production, Derives, start, IsFault}
 use Rattle.query_runner.proofs.sentences.sentence.Goals as goal
 
 pub parse-requires : goal.parse-requires
 parse-requires g c = (c.requires.0, (c.requires.1.0, (c.requires.1.1, c.new-events.ensures.items)))
+
+-- tokens with a fault are no sentence
+faulty : {P : List Production} {n : ℕ} {ts : List ℕ} {i : ℕ} {es : List ℕ} → IsFault P n ts i → Derives P (start n) ts es → ⊥
+faulty {P} {n} {ts} {i} {es} fault runs = fault.here (drop (i + 1) ts) es (subst (λ (us : List ℕ). Derives P (start n) us es) (sym (take-append-drop (i + 1) ts)) runs)
 
 pub returns-in-Err-At : goal.returns-in-Err-At
 returns-in-Err-At g c = λ events runs. faulty (rw c.in-Err-At.field-0-is at c.in-Err-At.ensures).0 runs

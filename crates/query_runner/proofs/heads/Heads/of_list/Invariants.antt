@@ -2,7 +2,6 @@
 use Rattle.std.proofs.Common.{◌≡◌, ◌≤◌, ℕ, List, ◌&&◌, ◌==◌, drop, length, map}
 use Rattle.std.specs.List.{position_from}
 use Rattle.std.specs.Str.{bytes_eq}
-use Rattle.ast_grammar.specs.declared.grammar.ClassId.{ClassId}
 use Rattle.query_runner.specs.Heads.{kept_head, seen_head}
 use Rattle.query_runner.proofs.heads.Heads.of_list.Given as goal
 
@@ -11,6 +10,6 @@ decreases-places l = l.place
 
 abbrev pub invariant-places : goal.invariant-places
 invariant-places l = record {
-  kept : (class : ClassId) (name : List ℕ) → kept_head l.places class.0 name ≡ position_from (λ h. (h.class.0 == class.0) && bytes_eq h.name name) l.place (map seen_head (drop l.place l.list.items));
+  kept : (class : ℕ) (name : List ℕ) → kept_head l.places class name ≡ position_from (λ h. (h.class.0 == class) && bytes_eq h.name name) l.place (map seen_head (drop l.place l.list.items));
   within : l.place ≤ length l.list.items;
 }
