@@ -73,6 +73,26 @@ def nested():
     }
 
 
+def chain(count, end=b""):
+    """So many classes, each of which has the next as its superclass; the last has what `end` says."""
+    yield b"".join(b"C%d:C%d;" % (number, number + 1) for number in range(count - 1))
+    yield b"C%d%s;" % (count - 1, end)
+
+
+def few_classes():
+    """256 classes among blanks and comments."""
+    blank = b" " * 32000 + b"/*" + b"*" * 32000 + b"*/\n"
+    for number in range(256):
+        yield b"C%d ::= a:C0 [b:C1] c:C2* <d:int>;" % number
+        yield blank
+
+
+def components(count):
+    yield b"A::="
+    yield b"".join(b"c%d:A " % number for number in range(count))
+    yield b";"
+
+
 CASES = [
     ("the first example", {}),
     ("grammar: blanks", {"g.ast": filled(b" ")}),
@@ -81,6 +101,13 @@ CASES = [
     ("grammar: :x", {"g.ast": filled(b":x")}),
     ("grammar: abcdefg;", {"g.ast": filled(b"abcdefg;")}),
     ("grammar: /*", {"g.ast": filled(b"/*")}),
+    ("grammar: 256 classes, blanks and comments", {"g.ast": few_classes()}),
+    ("grammar: a chain of 256 superclasses", {"g.ast": chain(256)}),
+    ("grammar: a chain of 900,000 superclasses", {"g.ast": chain(900000)}),
+    ("grammar: a loop of 900,000 superclasses", {"g.ast": chain(900000, b":C0")}),
+    ("grammar: A; all over", {"g.ast": filled(b"A;")}),
+    ("grammar: a name of 16 MiB", {"g.ast": [b"A" * (LONGEST - 1), b";"]}),
+    ("grammar: 1,400,000 components of a class", {"g.ast": components(1400000)}),
     ("aspects: an expression of (", {"a.jrag": filled(b"(", ASPECT)}),
     ("aspects: an expression of -", {"a.jrag": filled(b"-", ASPECT)}),
     ("aspects: an expression of v().", {"a.jrag": filled(b"v().", ASPECT)}),
