@@ -44,8 +44,8 @@ pub(crate) struct KeptClass {
     pub components: Vec<Component>,
 }
 
-/// An abstract grammar: at least one class and at most 256, with different names, each with at most 16
-/// components of different names, those of its superclass first. No class is its own superclass, directly or through others.
+/// An abstract grammar: at least one class and at most 256, with different names, each with at most 16 components of different names,
+/// those of its superclass first. No class is its own superclass, directly or through others. What it is asked takes no memory.
 #[derive(Drop)]
 pub struct Grammar {
     names: Pool,

@@ -1,6 +1,12 @@
 // Whole files through the scanner, the reader and the checks. The tests of each subject have rows: a text, and `accepted` or the
 // place and the rule that the text breaks.
-use super::*;
+mod loops;
+mod members;
+mod naming;
+mod order;
+mod syntax;
+
+use crate::{check_rules, read_rules};
 use broken_rules::{Broken, ReadFault, Rule};
 use rag_io::{LONGEST_FILE, ScanFault, scan};
 use std::alloc::Global;
@@ -37,16 +43,12 @@ fn said_of(rt: &impl Abort, alloc: Global, text: &str) -> Result<String, Fail> {
     Ok(said)
 }
 
-pub(crate) fn expect(rt: &impl Abort, alloc: Global, text: &str, want: &str) -> Result<(), Fail> {
+fn expect(rt: &impl Abort, alloc: Global, text: &str, want: &str) -> Result<(), Fail> {
     assert_eq!(rt; said_of(rt, alloc, text)?.as_str(), want, "{text}");
     Ok(())
 }
 
-pub(crate) fn expect_rows(
-    rt: &impl Abort,
-    alloc: Global,
-    rows: &[(&str, &str)],
-) -> Result<(), Fail> {
+fn expect_rows(rt: &impl Abort, alloc: Global, rows: &[(&str, &str)]) -> Result<(), Fail> {
     for (text, want) in rows {
         expect(rt, alloc, text, want)?;
     }

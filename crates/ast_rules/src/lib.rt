@@ -5,21 +5,11 @@ mod ast_table;
 mod building;
 #[cfg(test)]
 mod file_tests;
-#[cfg(test)]
-mod loop_tests;
 mod loops;
-#[cfg(test)]
-mod member_tests;
 mod members;
 mod naming;
-#[cfg(test)]
-mod naming_tests;
-#[cfg(test)]
-mod phase_tests;
 mod phases;
 mod reading;
-#[cfg(test)]
-mod syntax_tests;
 #[cfg(test)]
 mod tests;
 mod written;

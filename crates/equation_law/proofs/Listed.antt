@@ -57,23 +57,23 @@ at_place (x ∷ xs) (suc k) i e = or_right (same_instance i x) _ (at_place xs k 
 
 module _ (p : Program) where
   -- the superclasses of its grammar
-  abbrev sups : List (Option ℕ)
-  sups = superclasses_of p.grammar
+  abbrev superclasses : List (Option ℕ)
+  superclasses = superclasses_of p.grammar
 
   -- the nodes of a class, from one on
-  nodes_are : (a : ℕ) (d : Attr) → declared_of p a ≡ Some d → (nodes : List Node) (n : ℕ) → ((k m : ℕ) (x : Node) → n + k ≡ m → slice_get nodes k ≡ Some x → class_of p m ≡ Some x.class) → AllAre (IsInstance p) (map (at_source a) (nodes_of sups nodes d.class n))
+  nodes_are : (a : ℕ) (d : Attr) → declared_of p a ≡ Some d → (nodes : List Node) (n : ℕ) → ((k m : ℕ) (x : Node) → n + k ≡ m → slice_get nodes k ≡ Some x → class_of p m ≡ Some x.class) → AllAre (IsInstance p) (map (at_source a) (nodes_of superclasses nodes d.class n))
   nodes_are a d e [] n h = tt
   nodes_are a d e (x ∷ nodes) n h =
       let rest = nodes_are a d e nodes (suc n) (λ k m y l s. h (suc k) m y (omega (arith, l)) s) in
-      elim (is_sub sups x.class.0 d.class.0) as (λ b. is_sub sups x.class.0 d.class.0 ≡ b → AllAre (IsInstance p) (map (at_source a) (cond b (n ∷ nodes_of sups nodes d.class (suc n)) (nodes_of sups nodes d.class (suc n))))) [
+      elim (is_sub superclasses x.class.0 d.class.0) as (λ b. is_sub superclasses x.class.0 d.class.0 ≡ b → AllAre (IsInstance p) (map (at_source a) (cond b (n ∷ nodes_of superclasses nodes d.class (suc n)) (nodes_of superclasses nodes d.class (suc n))))) [
         | true ↦ λ s. (of_attribute d x.class e (h 0 n x (omega arith) refl) s, rest)
         | false ↦ λ s. rest
       ] refl
 
-  attributes_are : (attributes : List DeclaredAttribute) (a : ℕ) → ((k m : ℕ) (x : DeclaredAttribute) → a + k ≡ m → slice_get attributes k ≡ Some x → declared_of p m ≡ Some x.declared) → AllAre (IsInstance p) (attribute_instances sups attributes a p.tree)
+  attributes_are : (attributes : List DeclaredAttribute) (a : ℕ) → ((k m : ℕ) (x : DeclaredAttribute) → a + k ≡ m → slice_get attributes k ≡ Some x → declared_of p m ≡ Some x.declared) → AllAre (IsInstance p) (attribute_instances superclasses attributes a p.tree)
   attributes_are [] a h = tt
   attributes_are (x ∷ attributes) a h =
-      both_are (IsInstance p) (map (at_source a) (nodes_of sups p.tree x.declared.class 0)) (attribute_instances sups attributes (suc a) p.tree)
+      both_are (IsInstance p) (map (at_source a) (nodes_of superclasses p.tree x.declared.class 0)) (attribute_instances superclasses attributes (suc a) p.tree)
       (nodes_are a x.declared (h 0 a x (omega arith) refl) p.tree 0 (λ k m y l s. let same : k ≡ m = omega (arith, l) in ap (λ (j : ℕ). class_of p j) (sym same) ∙ ap (option_map (λ (z : Node). z.class)) s))
       (attributes_are attributes (suc a) (λ k m y l s. h (suc k) m y (omega (arith, l)) s))
 
@@ -86,39 +86,39 @@ module _ (p : Program) where
   unfolding source_instances
   listed_is i h =
       found_is (IsInstance p) (source_instances p) i
-      (both_are (IsInstance p) (attribute_instances sups p.rules.attributes 0 p.tree) (query_instances p.queries 0)
+      (both_are (IsInstance p) (attribute_instances superclasses p.rules.attributes 0 p.tree) (query_instances p.queries 0)
       (attributes_are p.rules.attributes 0 (λ k m x l s. let same : k ≡ m = omega (arith, l) in ap (λ (j : ℕ). declared_of p j) (sym same) ∙ ap (option_map (λ (z : DeclaredAttribute). z.declared)) s))
       (queries_are p.queries 0 (λ k m e l s. let same : k ≡ m = omega (arith, l) in ap (slice_get p.queries) (sym same) ∙ s)))
       h
 
   -- a node of the class or of a subclass is listed
-  node_in : (a : ℕ) (nodes : List Node) (n k m : ℕ) (x : Node) (c : ClassId) → n + k ≡ m → slice_get nodes k ≡ Some x → is_sub sups x.class.0 c.0 ≡ true → among (map (at_source a) (nodes_of sups nodes c n)) (at_source a m) ≡ true
+  node_in : (a : ℕ) (nodes : List Node) (n k m : ℕ) (x : Node) (c : ClassId) → n + k ≡ m → slice_get nodes k ≡ Some x → is_sub superclasses x.class.0 c.0 ≡ true → among (map (at_source a) (nodes_of superclasses nodes c n)) (at_source a m) ≡ true
   node_in a [] n k m x c l s e = cc
   node_in a (y ∷ nodes) n zero m x c l s e =
       let same : y ≡ x = cc in
       let at : n ≡ m = omega (arith, l) in
-      let first : is_sub sups y.class.0 c.0 ≡ true = subst (λ (z : Node). is_sub sups z.class.0 c.0 ≡ true) (sym same) e in
-      ap (λ b. among (map (at_source a) (cond b (n ∷ nodes_of sups nodes c (suc n)) (nodes_of sups nodes c (suc n)))) (at_source a m)) first
-      ∙ ap (λ (j : ℕ). same_instance (at_source a m) (at_source a j) || among (map (at_source a) (nodes_of sups nodes c (suc n))) (at_source a m)) at
-      ∙ ap (λ b. b || among (map (at_source a) (nodes_of sups nodes c (suc n))) (at_source a m)) (same_instance_self (at_source a m))
+      let first : is_sub superclasses y.class.0 c.0 ≡ true = subst (λ (z : Node). is_sub superclasses z.class.0 c.0 ≡ true) (sym same) e in
+      ap (λ b. among (map (at_source a) (cond b (n ∷ nodes_of superclasses nodes c (suc n)) (nodes_of superclasses nodes c (suc n)))) (at_source a m)) first
+      ∙ ap (λ (j : ℕ). same_instance (at_source a m) (at_source a j) || among (map (at_source a) (nodes_of superclasses nodes c (suc n))) (at_source a m)) at
+      ∙ ap (λ b. b || among (map (at_source a) (nodes_of superclasses nodes c (suc n))) (at_source a m)) (same_instance_self (at_source a m))
   node_in a (y ∷ nodes) n (suc k) m x c l s e =
       let rest = node_in a nodes (suc n) k m x c (omega (arith, l)) s e in
-      elim (is_sub sups y.class.0 c.0) as (λ b. among (map (at_source a) (cond b (n ∷ nodes_of sups nodes c (suc n)) (nodes_of sups nodes c (suc n)))) (at_source a m) ≡ true) [
+      elim (is_sub superclasses y.class.0 c.0) as (λ b. among (map (at_source a) (cond b (n ∷ nodes_of superclasses nodes c (suc n)) (nodes_of superclasses nodes c (suc n)))) (at_source a m) ≡ true) [
         | true ↦ or_right (same_instance (at_source a m) (at_source a n)) _ rest
         | false ↦ rest
       ]
 
-  attribute_in : (attributes : List DeclaredAttribute) (a k m n : ℕ) (x : DeclaredAttribute) → a + k ≡ m → slice_get attributes k ≡ Some x → among (map (at_source m) (nodes_of sups p.tree x.declared.class 0)) (at_source m n) ≡ true
-      → among (attribute_instances sups attributes a p.tree) (at_source m n) ≡ true
+  attribute_in : (attributes : List DeclaredAttribute) (a k m n : ℕ) (x : DeclaredAttribute) → a + k ≡ m → slice_get attributes k ≡ Some x → among (map (at_source m) (nodes_of superclasses p.tree x.declared.class 0)) (at_source m n) ≡ true
+      → among (attribute_instances superclasses attributes a p.tree) (at_source m n) ≡ true
   attribute_in [] a k m n x l s h = cc
   attribute_in (y ∷ attributes) a zero m n x l s h =
       let same : y ≡ x = cc in
       let at : a ≡ m = omega (arith, l) in
-      in_left (map (at_source a) (nodes_of sups p.tree y.declared.class 0)) (attribute_instances sups attributes (suc a) p.tree) (at_source m n)
-      (subst (λ (j : ℕ). among (map (at_source j) (nodes_of sups p.tree y.declared.class 0)) (at_source m n) ≡ true) (sym at)
-      (subst (λ (z : DeclaredAttribute). among (map (at_source m) (nodes_of sups p.tree z.declared.class 0)) (at_source m n) ≡ true) (sym same) h))
+      in_left (map (at_source a) (nodes_of superclasses p.tree y.declared.class 0)) (attribute_instances superclasses attributes (suc a) p.tree) (at_source m n)
+      (subst (λ (j : ℕ). among (map (at_source j) (nodes_of superclasses p.tree y.declared.class 0)) (at_source m n) ≡ true) (sym at)
+      (subst (λ (z : DeclaredAttribute). among (map (at_source m) (nodes_of superclasses p.tree z.declared.class 0)) (at_source m n) ≡ true) (sym same) h))
   attribute_in (y ∷ attributes) a (suc k) m n x l s h =
-      in_right (map (at_source a) (nodes_of sups p.tree y.declared.class 0)) (attribute_instances sups attributes (suc a) p.tree) (at_source m n) (attribute_in attributes (suc a) k m n x (omega (arith, l)) s h)
+      in_right (map (at_source a) (nodes_of superclasses p.tree y.declared.class 0)) (attribute_instances superclasses attributes (suc a) p.tree) (at_source m n) (attribute_in attributes (suc a) k m n x (omega (arith, l)) s h)
 
   query_in : (queries : List Expression) (q k m : ℕ) (e : Expression) → q + k ≡ m → slice_get queries k ≡ Some e → among (query_instances queries q) (Query m) ≡ true
   query_in [] q k m e l s = cc
@@ -133,6 +133,6 @@ module _ (p : Program) where
   is_listed i (of_attribute {a = a} {k = k} d c e f b) =
       let s = some_of (λ (x : DeclaredAttribute). x.declared) (slice_get p.rules.attributes a) d e in
       let y = some_of (λ (x : Node). x.class) (slice_get p.tree k) c f in
-      in_left (attribute_instances sups p.rules.attributes 0 p.tree) (query_instances p.queries 0) (at_source a k)
-      (attribute_in p.rules.attributes 0 a a k s.0 (omega arith) s.1 (node_in a p.tree 0 k k y.0 s.0.declared.class (omega arith) y.1 (subst (λ (x : Attr). is_sub sups y.0.class.0 x.class.0 ≡ true) (sym s.2) (subst (λ (x : ClassId). is_sub sups x.0 d.class.0 ≡ true) (sym y.2) b))))
-  is_listed i (of_query {q = q} e o) = in_right (attribute_instances sups p.rules.attributes 0 p.tree) (query_instances p.queries 0) (Query q) (query_in p.queries 0 q q e (omega arith) o)
+      in_left (attribute_instances superclasses p.rules.attributes 0 p.tree) (query_instances p.queries 0) (at_source a k)
+      (attribute_in p.rules.attributes 0 a a k s.0 (omega arith) s.1 (node_in a p.tree 0 k k y.0 s.0.declared.class (omega arith) y.1 (subst (λ (x : Attr). is_sub superclasses y.0.class.0 x.class.0 ≡ true) (sym s.2) (subst (λ (x : ClassId). is_sub superclasses x.0 d.class.0 ≡ true) (sym y.2) b))))
+  is_listed i (of_query {q = q} e o) = in_right (attribute_instances superclasses p.rules.attributes 0 p.tree) (query_instances p.queries 0) (Query q) (query_in p.queries 0 q q e (omega arith) o)

@@ -54,9 +54,8 @@ pub record SaysProgram (held : Contents) (p : Program) : Type 0 where
   pub texts : p.texts ≡ [] ∷ []
   pub queries : SaysQueries p.grammar p.rules p.tree held.queries p.queries
 
--- one of the four files
+-- one of the files that are read over a grammar
 pub data File : Type 0 where
-  Ast : File
   Jrag : File
   Tree : File
   Queries : File

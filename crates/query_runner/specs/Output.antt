@@ -10,7 +10,7 @@ use Rattle.equation_law.specs.Names.{Null, At, Source, Query}
 use Rattle.equation_law.specs.Values.{Value, Truth, Int, Node}
 use Rattle.equation_law.specs.Program.{Program}
 use Rattle.equation_law.specs.Equations.{HasValue}
-use Rattle.query_runner.specs.Files.{BreaksRule, Contents, SaysProgram, File, Ast, Jrag, Tree, Queries, IsNotBuilt}
+use Rattle.query_runner.specs.Files.{BreaksRule, Contents, SaysProgram, File, Jrag, Tree, Queries, IsNotBuilt}
 use Rattle.query_runner.specs.Words.{FileNames, names_of}
 
 abbrev pub truth_text : Bool → List ℕ
@@ -56,7 +56,6 @@ pub record Output (words : List (List ℕ)) (files : List Named) (text : List �
   pub replies : AreReplies program 0 program.queries text
 
 abbrev pub name_of : FileNames → File → List ℕ
-name_of names Ast = names.ast
 name_of names Jrag = names.jrag
 name_of names Tree = names.tree
 name_of names Queries = names.queries

@@ -1,4 +1,4 @@
-use crate::file_tests::{expect, expect_rows};
+use super::{expect, expect_rows};
 use std::alloc::Global;
 use std::fmt::Write;
 use std::test::Fail;

@@ -1,4 +1,4 @@
-use crate::file_tests::expect_rows;
+use super::expect_rows;
 use std::test::Fail;
 
 const OUTSIDE: [(&str, &str); 22] = [

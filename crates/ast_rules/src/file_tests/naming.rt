@@ -1,5 +1,5 @@
-use super::*;
-use crate::file_tests::{expect, expect_rows};
+use super::{expect, expect_rows};
+use crate::*;
 use rag_io::scan;
 use std::alloc::Global;
 use std::process::Abort;

@@ -1,4 +1,4 @@
-use crate::file_tests::expect_rows;
+use super::expect_rows;
 use std::test::Fail;
 
 // What an earlier phase finds counts, even where it stands behind what a later one would find.
