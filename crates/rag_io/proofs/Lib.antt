@@ -2,6 +2,7 @@ pub mod Comments
 pub mod EndOfFile
 pub mod Ends
 pub mod Lexing
+pub mod Meant
 pub mod Numbers
 pub mod Places
 pub mod Quoted
@@ -12,3 +13,4 @@ pub mod Signs
 pub mod SymbolLengths
 pub mod Texts
 pub mod Unquotes
+pub mod WordTokens

@@ -21,3 +21,14 @@ pub data BodyStandsFor : List ℕ → List ℕ → Type 0 where
 -- What a text stands for, with its opening quote.
 pub data StandsFor : List ℕ → List ℕ → Type 0 where
   unquoted : {body bytes : List ℕ} → BodyStandsFor body bytes → StandsFor (quote ∷ body) bytes
+
+-- what a text stands for behind its opening quote, computed
+abbrev pub body_meant : List ℕ → List ℕ
+body_meant [] = []
+body_meant (b ∷ []) = []
+body_meant (b ∷ (c ∷ body)) = if b == backslash then unescaped c ∷ body_meant body else (b ∷ body_meant (c ∷ body))
+
+-- and with its opening quote
+abbrev pub meant : List ℕ → List ℕ
+meant [] = []
+meant (b ∷ body) = body_meant body

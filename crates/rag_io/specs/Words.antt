@@ -1,6 +1,8 @@
--- The words that aspects reserve, and those of JastAdd2's notation that this profile leaves out.
-use Rattle.std.specs.Prelude.{ℕ, List, [], ◌∷◌, Bool, false, ◌||◌, codes}
+-- Words: what one is, those that aspects reserve, and those of JastAdd2's notation that this profile leaves out.
+use Rattle.std.specs.Prelude.{◌≡◌, ℕ, List, [], ◌∷◌, Bool, false, ◌||◌, codes, IsTrue}
+use Rattle.std.specs.List.{AllPass}
 use Rattle.std.specs.Str.{bytes_eq}
+use Rattle.rag_io.specs.Lexemes.{begins_name, goes_on_name}
 
 -- the text is one of the words
 abbrev pub is_one_of : List (List ℕ) → List ℕ → Bool
@@ -30,3 +32,11 @@ modifiers = codes "public" ∷ codes "private" ∷ codes "protected" ∷ codes "
 
 unfoldable pub is_left_out : List ℕ → Bool
 is_left_out text = is_one_of left_out_items text || is_one_of modifiers text
+
+-- a text that a name token may have: a letter or an underscore, and then letters, digits and underscores
+pub record IsWord (text : List ℕ) : Type 0 where
+  pub first : ℕ
+  pub more : List ℕ
+  pub are : text ≡ first ∷ more
+  pub begins : IsTrue (begins_name first)
+  pub goes_on : AllPass goes_on_name more
