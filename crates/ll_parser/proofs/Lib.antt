@@ -1,5 +1,6 @@
 pub mod Including
 pub mod Members
+pub mod OneFault
 pub mod Returning
 pub mod Sentences
 pub mod Theory
