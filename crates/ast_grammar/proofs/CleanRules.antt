@@ -1,4 +1,4 @@
--- Rules that break nothing write a grammar.
+-- Rules that break nothing write a grammar, where the names of their classes are words.
 use Rattle.std.proofs.Common.{◌≡◌, ℕ, zero, suc, ◌<◌, ◌≤◌, ◌==◌, List, [], ◌∷◌, ◌++◌, false, All, length, map, slice_get, Option, Some, None, ap, sym, ◌∙◌, subst, arith, inl, inr}
 use Rattle.std.proofs.lemmas.Bool.{cases_order}
 use Rattle.std.proofs.lemmas.List.{length-map, map-append}
@@ -7,6 +7,7 @@ use Rattle.std.proofs.lemmas.Simd.{map-map}
 use Rattle.std.proofs.lemmas.Option.{get_or_from_slice_get}
 use Rattle.std.specs.Str.{bytes_eq}
 use Rattle.rag_io.specs.Distinct.{are_distinct}
+use Rattle.rag_io.specs.Words.{IsWord}
 use Rattle.broken_rules.specs.Answers.{Answers}
 use Rattle.broken_rules.specs.Notes.{at, broken_if}
 use Rattle.broken_rules.specs.declared.rule.Rule.TheVariants.{G10}
@@ -16,10 +17,12 @@ use Rattle.superclasses.proofs.Steps.{listed}
 use Rattle.ast_rules.specs.Members.{components_at, inherited_names}
 use Rattle.ast_rules.specs.Naming.{names_of}
 use Rattle.ast_rules.specs.Phases.{grammar_phases}
+use Rattle.ast_rules.specs.Reading.{AreNamed}
 use Rattle.ast_rules.specs.Superclasses.{number_among, superclass_number, superclass_numbers}
 use Rattle.ast_rules.specs.Written.{Name, WrittenRule}
 use Rattle.ast_grammar.specs.Grammar.{Begins, IsClass, IsGrammar, components_of, most_classes, most_components, name_of_component}
 use Rattle.ast_grammar.specs.Written.{class_written, component_written, grammar_written, inherited_first}
+use Rattle.ast_grammar.proofs.Allowed.{all_at}
 use Rattle.ast_grammar.proofs.WrittenClasses.{class_count, class_is, class_names, components_are, rule_at, superclasses_are}
 use Rattle.ast_grammar.proofs.Clean.{AreClean, are_clean, superclasses_in}
 use Rattle.ast_grammar.proofs.CleanMembers.{broken_behind, few_components, own_behind}
@@ -35,7 +38,7 @@ numbers_below names [] a b e = cc
 numbers_below names (rule ∷ rules) zero b e = among_below names rule.superclass b e
 numbers_below names (rule ∷ rules) (suc a) b e = numbers_below names rules a b e
 
-module _ (rules : List WrittenRule) (clean : AreClean rules) where
+module _ (rules : List WrittenRule) (named : AreNamed rules) (clean : AreClean rules) where
   all_few : length rules ≤ most_classes
   all_few = elim (cases_order most_classes (length rules)) [
     | inl same ↦ omega arith
@@ -53,6 +56,7 @@ module _ (rules : List WrittenRule) (clean : AreClean rules) where
   class_fits i rule e =
       let few = few_components rules clean i in
       record {
+        spelled = all_at (λ (r : WrittenRule). IsWord r.name.text) rules i rule named.words e;
         named = rule_may_stand rules clean i rule e;
         short = subst (λ n. n ≤ most_components) (sym (length-map (inherited_first rules i) (component_written rules))) few.short;
         distinct = ap (are_distinct bytes_eq) (map-map name_of_component (component_written rules) (inherited_first rules i)) ∙ few.distinct;
@@ -95,5 +99,5 @@ module _ (rules : List WrittenRule) (clean : AreClean rules) where
   }
 
 -- so the classes that they write are a grammar
-pub clean_grammar : (rules : List WrittenRule) → 0 < length rules → Answers (grammar_phases rules) None → IsGrammar (grammar_written rules)
-clean_grammar rules some answer = grammar_of_clean rules (are_clean rules answer) some
+pub clean_grammar : (rules : List WrittenRule) → AreNamed rules → 0 < length rules → Answers (grammar_phases rules) None → IsGrammar (grammar_written rules)
+clean_grammar rules named some answer = grammar_of_clean rules named (are_clean rules answer) some

@@ -18,6 +18,16 @@ slice_get-front [] rest k x e = absurd (cc)
 slice_get-front (p ∷ first) rest zero x e = e
 slice_get-front (p ∷ first) rest (suc k) x e = slice_get-front first rest k x e
 
+-- the class of a component that has one
+shaped_child : (classes : ℕ) (x : Component) → HasShape classes x.shape x.class → x.shape ≡ shapes.Child → x.class.0 < classes
+shaped_child classes x has child = subst (λ (s : Shape). HasShape classes s x.class) child has
+
+shaped_list : (classes : ℕ) (x : Component) → HasShape classes x.shape x.class → x.shape ≡ shapes.List → x.class.0 < classes
+shaped_list classes x has list = subst (λ (s : Shape). HasShape classes s x.class) list has
+
+shaped_optional : (classes : ℕ) (x : Component) → HasShape classes x.shape x.class → x.shape ≡ shapes.Optional → x.class.0 < classes
+shaped_optional classes x has optional = subst (λ (s : Shape). HasShape classes s x.class) optional has
+
 module _ (g : List Class) (allowed : IsGrammar g) where
   -- a component of the superclass
   from_superclass : (a b k : ℕ) (x : Component) → above_of (superclasses_of g) a ≡ Some b → component_at g b k ≡ Some x → component_at g a k ≡ Some x
@@ -53,15 +63,6 @@ module _ (g : List Class) (allowed : IsGrammar g) where
     | inl same ↦ inl same
     | inr above ↦ inr (above_within a c above)
   ]
-
-  shaped_child : (classes : ℕ) (x : Component) → HasShape classes x.shape x.class → x.shape ≡ shapes.Child → x.class.0 < classes
-  shaped_child classes x has child = subst (λ (s : Shape). HasShape classes s x.class) child has
-
-  shaped_list : (classes : ℕ) (x : Component) → HasShape classes x.shape x.class → x.shape ≡ shapes.List → x.class.0 < classes
-  shaped_list classes x has list = subst (λ (s : Shape). HasShape classes s x.class) list has
-
-  shaped_optional : (classes : ℕ) (x : Component) → HasShape classes x.shape x.class → x.shape ≡ shapes.Optional → x.class.0 < classes
-  shaped_optional classes x has optional = subst (λ (s : Shape). HasShape classes s x.class) optional has
 
   -- the class of a child is a class of the grammar
   pub child_within : (a k : ℕ) (x : Component) → component_at g a k ≡ Some x → x.shape ≡ shapes.Child → x.class.0 < length g

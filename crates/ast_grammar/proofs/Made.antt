@@ -16,12 +16,14 @@ use Rattle.names.proofs.Once.{among_once, once_distinct}
 use Rattle.names.specs.Among.{is_among, with_name, with_names}
 use Rattle.rag_io.proofs.Numbers.{text_at}
 use Rattle.rag_io.specs.Distinct.{are_distinct}
+use Rattle.rag_io.specs.Words.{IsWord}
 use Rattle.superclasses.specs.Superclasses.{line_of, upwards}
 use Rattle.ast_rules.specs.Members.{components_at, components_in, names_of_components}
 use Rattle.ast_rules.specs.Naming.{names_of}
+use Rattle.ast_rules.specs.Reading.{AreNamed as AreWords}
 use Rattle.ast_rules.specs.Superclasses.{superclass_numbers}
 use Rattle.ast_rules.specs.Written.{WrittenComponent, WrittenRule}
-use Rattle.ast_grammar.specs.Building.{AreCalled, AreKeptOf, AreSmall, IsKeptOf, component_numbered}
+use Rattle.ast_grammar.specs.Building.{AreKeptOf, AreSmall, IsKeptOf, component_numbered}
 use Rattle.ast_grammar.specs.Grammar.{IsGrammar, components_of, most_components, superclasses_of}
 use Rattle.ast_grammar.specs.Kept.{AreNamed, IsKept, class_of, component_of, grammar_of, name_in}
 use Rattle.ast_grammar.specs.Written.{class_written, classes_from, component_written, grammar_written, inherited_first, name_number, name_table}
@@ -49,15 +51,11 @@ extends ks (n ∷ ns) =
     record { extra = one.0 ++ more.extra; is = more.is ∙ ap (λ xs. xs ++ more.extra) one.1 ∙ append_assoc ks one.0 more.extra }
 
 -- the empty name is none of a class
-none_empty : (rules : List WrittenRule) → All (λ (rule : WrittenRule). 0 < length rule.name.text) rules → is_among (names_of rules) [] ≡ false
-none_empty [] called = refl
-none_empty (rule ∷ rules) called =
-    let P : WrittenRule → Type 0 = λ (r : WrittenRule). 0 < length r.name.text in
-    (λ j. unequal rule.name.text (All-head P rule rules called) j || none_empty rules (All-tail P rule rules called) j)
-  where
-    unequal : (name : List ℕ) → 0 < length name → bytes_eq [] name ≡ false
-    unequal [] h = absurd (omega arith)
-    unequal (b ∷ name) h = refl
+none_empty : (rules : List WrittenRule) → All (λ (rule : WrittenRule). IsWord rule.name.text) rules → is_among (names_of rules) [] ≡ false
+none_empty [] words = refl
+none_empty (rule ∷ rules) words =
+    let P : WrittenRule → Type 0 = λ (r : WrittenRule). IsWord r.name.text in
+    (λ j. ap (bytes_eq []) (All-head P rule rules words).are j || none_empty rules (All-tail P rule rules words) j)
 
 -- a name of a component is one of its rule's, and so of all
 among_components : (cs : List WrittenComponent) (k : ℕ) (c : WrittenComponent) → slice_get cs k ≡ Some c → is_among (names_of_components cs) c.name.text ≡ true
@@ -100,9 +98,9 @@ module _ (rules : List WrittenRule) where
   table = name_table rules
 
   -- the names of the classes stand in the table behind the empty one
-  table_begins : are_distinct bytes_eq (names_of rules) ≡ true → AreCalled rules → Extends ([] ∷ names_of rules) table
-  table_begins distinct called =
-      let all : are_distinct bytes_eq ([] ∷ names_of rules) ≡ true = (λ j. not (none_empty rules called.called j) && distinct j) in
+  table_begins : are_distinct bytes_eq (names_of rules) ≡ true → AreWords rules → Extends ([] ∷ names_of rules) table
+  table_begins distinct named =
+      let all : are_distinct bytes_eq ([] ∷ names_of rules) ≡ true = (λ j. not (none_empty rules named.words j) && distinct j) in
       let classes : with_names ([] ∷ []) (names_of rules) ≡ [] ∷ names_of rules = once_distinct ([] ∷ names_of rules) all in
       let more = extends ([] ∷ names_of rules) (flat_map named_in rules) in
       record { extra = more.extra; is = with_names-append ([] ∷ []) (names_of rules) (flat_map named_in rules) ∙ ap (λ ks. with_names ks (flat_map named_in rules)) classes ∙ more.is }
@@ -177,9 +175,9 @@ small_rules rules allowed = record {
 pub distinct_rules : (rules : List WrittenRule) → IsGrammar (grammar_written rules) → are_distinct bytes_eq (names_of rules) ≡ true
 distinct_rules rules allowed = ap (are_distinct bytes_eq) (sym (class_names rules)) ∙ allowed.distinct
 
-module _ (rules : List WrittenRule) (allowed : IsGrammar (grammar_written rules)) (called : AreCalled rules) (classes : List KeptClass) (kept : AreKeptOf rules classes) where
+module _ (rules : List WrittenRule) (allowed : IsGrammar (grammar_written rules)) (named : AreWords rules) (classes : List KeptClass) (kept : AreKeptOf rules classes) where
   begins : Extends ([] ∷ names_of rules) (name_table rules)
-  begins = table_begins rules (distinct_rules rules allowed) called
+  begins = table_begins rules (distinct_rules rules allowed) named
 
   -- what is kept is the grammar that the rules write
   pub made : grammar_of (name_table rules) classes ≡ grammar_written rules

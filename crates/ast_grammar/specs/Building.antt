@@ -1,5 +1,5 @@
 -- What is kept of the rules of a grammar: names and classes by their numbers.
-use Rattle.std.specs.Prelude.{◌≡◌, ℕ, ◌+◌, ◌<◌, ◌≤◌, List, [], All, Some, Vec, length, map, slice_get, slice_index_or}
+use Rattle.std.specs.Prelude.{◌≡◌, ℕ, ◌+◌, ◌≤◌, List, [], All, Some, Vec, length, map, slice_get, slice_index_or}
 use Rattle.std.specs.Option.{option_map}
 use Rattle.std.specs.declared.alloc.Global.{Global}
 use Rattle.ast_rules.specs.Naming.{names_of}
@@ -14,10 +14,6 @@ use Rattle.ast_grammar.specs.declared.grammar.KeptClass.{KeptClass}
 pub record AreSmall (rules : List WrittenRule) : Type 0 where
   pub few : length rules ≤ most_classes
   pub short : All (λ (rule : WrittenRule). length rule.components ≤ most_components) rules
-
--- Each class has a name that is not empty.
-pub record AreCalled (rules : List WrittenRule) : Type 0 where
-  pub called : All (λ (rule : WrittenRule). 0 < length rule.name.text) rules
 
 -- These are the names of the rules: all that stand in the grammar's table, and those of the classes.
 pub record AreNames (rules : List WrittenRule) (names classes : List (List ℕ)) : Type 0 where

@@ -3,7 +3,7 @@ use Rattle.std.specs.Prelude.{◌≡◌, ℕ, ◌<◌, ◌≤◌, ◌⊎◌, Lis
 use Rattle.std.specs.Option.{option_and_then, option_map}
 use Rattle.std.specs.Str.{bytes_eq}
 use Rattle.rag_io.specs.Distinct.{are_distinct}
-use Rattle.rag_io.specs.Words.{is_one_of, is_reserved}
+use Rattle.rag_io.specs.Words.{IsWord, is_one_of, is_reserved}
 use Rattle.superclasses.specs.Superclasses.{AreWithin, IsAbove, is_sub as is_below, superclass_of as above_of}
 use Rattle.ast_rules.specs.Naming.{kept_words}
 use Rattle.ast_grammar.specs.declared.grammar.ClassId.{ClassId}
@@ -106,8 +106,9 @@ pub record IsComponent (classes : ℕ) (p : Component) : Type 0 where
   pub named : may_name p.name ≡ true
   pub shaped : HasShape classes p.shape p.class
 
--- A class of a grammar of so many classes.
+-- A class of a grammar of so many classes. Its name can be written and read again.
 pub record IsClass (classes : ℕ) (c : Class) : Type 0 where
+  pub spelled : IsWord c.name
   pub named : may_name c.name ≡ true
   pub short : length c.components ≤ most_components
   pub distinct : are_distinct bytes_eq (map name_of_component c.components) ≡ true

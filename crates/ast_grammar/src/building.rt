@@ -4,9 +4,10 @@ ghost use Rattle.std.specs.List.{flat_map};
 ghost use Rattle.std.specs.Option.{option_map};
 ghost use Rattle.superclasses.specs.Superclasses.{AreWithin, superclass_of, upwards};
 ghost use Rattle.ast_rules.specs.Naming.{names_of};
+ghost use Rattle.ast_rules.specs.Reading.{AreNamed};
 ghost use Rattle.ast_rules.specs.Superclasses.{superclass_numbers};
 ghost use Rattle.ast_rules.specs.Written.{seen_rules};
-ghost use Rattle.ast_grammar.specs.Building.{AreCalled, AreKeptOf, items_of, own_at, own_numbered};
+ghost use Rattle.ast_grammar.specs.Building.{AreKeptOf, items_of, own_at, own_numbered};
 ghost use Rattle.ast_grammar.specs.Grammar.{IsGrammar, most_classes};
 ghost use Rattle.ast_grammar.specs.Written.{class_id, grammar_written};
 
@@ -83,7 +84,7 @@ pub(crate) fn build(
     numbers: ClassNumbers<'_>,
 ) -> Result<Grammar, Memory>
     requires allowed { IsGrammar (grammar_written (seen_rules rules.now)) }
-    requires called { AreCalled (seen_rules rules.now) }
+    requires words { AreNamed (seen_rules rules.now) }
     requires names { numbers.names ≡ names_of (seen_rules rules.now) }
     requires superclasses { numbers.superclasses.items ≡ superclass_numbers (names_of (seen_rules rules.now)) (seen_rules rules.now) }
     ensures { IfOk result (λ grammar. grammar ≡ grammar_written (seen_rules rules.now)) }

@@ -1,13 +1,14 @@
 pub mod AstFits
 pub mod AstSentences
-pub mod Called
 pub mod Components
 pub mod Inheriting
 pub mod Known
 pub mod Levels
+pub mod Named
 pub mod OneReading
 pub mod Rising
 pub mod Said
 pub mod Seen
 pub mod Sentences
+pub mod SomeRule
 pub mod Stopping

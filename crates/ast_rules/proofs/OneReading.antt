@@ -1,40 +1,14 @@
 -- Some tokens say one list of rules or break one rule of the syntax, and not both.
-use Rattle.std.proofs.Common.{◌≡◌, ℕ, ◌+◌, ◌≤◌, List, ◌++◌, take, drop, map, inl, inr, refl, ap, sym, ◌∙◌, subst, arith, append_assoc}
-use Rattle.std.proofs.lemmas.Bool.{cases_order}
-use Rattle.std.proofs.lemmas.List.{take-append-drop, take-take}
+use Rattle.std.proofs.Common.{◌≡◌, ℕ, List, map, refl, ap, sym, ◌∙◌, subst}
 use Rattle.broken_rules.specs.declared.broken.Broken.{Broken}
 use Rattle.broken_rules.specs.declared.rule.Rule.{Rule}
-use Rattle.ll_parser.specs.Grammar.{Production}
-use Rattle.ll_parser.specs.Sentences.{BeginsSentence, FirstFault, Sentence}
+use Rattle.ll_parser.proofs.OneFault.{no_fault, one_first}
 use Rattle.rag_io.specs.Tokens.{Lexed}
 use Rattle.ast_rules.specs.AstPrintedGrammar.{ast_printed_grammar}
 use Rattle.ast_rules.specs.Building.{name_at, written}
 use Rattle.ast_rules.specs.Reading.{IsSyntaxFault, SaysRules, SyntaxRule, left_out, outside}
 use Rattle.ast_rules.specs.Tokens.{token_class}
 use Rattle.ast_rules.specs.Written.{WrittenRule}
-
-module _ (P : List Production) (n : ℕ) (cs : List ℕ) where
-  -- the front of what begins a sentence begins it too
-  begins_front : (i j : ℕ) → i ≤ j → BeginsSentence P n (take j cs) → BeginsSentence P n (take i cs)
-  begins_front i j le begins =
-      let front : take i (take j cs) ≡ take i cs = take-take i j cs le in
-      let whole : take i cs ++ (drop i (take j cs) ++ begins.rest) ≡ take j cs ++ begins.rest =
-      sym (append_assoc (take i cs) (drop i (take j cs)) begins.rest) ∙ ap (λ us. us ++ begins.rest) (ap (λ us. us ++ drop i (take j cs)) (sym front) ∙ take-append-drop i (take j cs)) in
-      record { rest = drop i (take j cs) ++ begins.rest; sentence = subst (Sentence P n) (sym whole) begins.sentence }
-
-  -- a sentence has no fault
-  no_fault : (i : ℕ) → Sentence P n cs → FirstFault P n cs i → ⊥
-  no_fault i sentence fault = fault.here (record { rest = drop (i + 1) cs; sentence = subst (Sentence P n) (sym (take-append-drop (i + 1) cs)) sentence })
-
-  -- and other tokens have one first fault
-  one_first : (i j : ℕ) → FirstFault P n cs i → FirstFault P n cs j → i ≡ j
-  one_first i j fault other = elim (cases_order i j) [
-    | inl same ↦ same
-    | inr apart ↦ elim apart [
-      | inl earlier ↦ absurd (fault.here (begins_front (i + 1) j (omega arith) other.before))
-      | inr later ↦ absurd (other.here (begins_front (j + 1) i (omega arith) fault.before))
-    ]
-  ]
 
 one_rule : (ts : List Lexed) (i : ℕ) (r q : Rule) → SyntaxRule ts i r → SyntaxRule ts i q → r ≡ q
 one_rule ts i r q (left_out slash begins) (left_out other_slash other) = refl

@@ -1,5 +1,5 @@
 -- What reading the rules of an `.ast` file answers.
-use Rattle.std.specs.Prelude.{◌≡◌, ℕ, List, [], ◌∷◌, ◌++◌, Vec, map, take, true, codes, Result, Ok, Err}
+use Rattle.std.specs.Prelude.{◌≡◌, ℕ, List, [], ◌∷◌, ◌++◌, All, Vec, map, take, true, codes, Result, Ok, Err}
 use Rattle.std.specs.Str.{bytes_eq}
 use Rattle.std.specs.declared.alloc.Global.{Global}
 use Rattle.broken_rules.specs.declared.broken.Broken.{Broken}
@@ -10,6 +10,7 @@ use Rattle.broken_rules.specs.declared.rule.Rule.TheVariants.{G1, G9}
 use Rattle.ll_parser.specs.Grammar.{IsSentence}
 use Rattle.ll_parser.specs.Sentences.{Sentence, BeginsSentence, FirstFault}
 use Rattle.rag_io.specs.Tokens.{Lexed}
+use Rattle.rag_io.specs.Words.{IsWord}
 use Rattle.ast_rules.specs.AstGrammar.{ast_grammar}
 use Rattle.ast_rules.specs.AstPrintedGrammar.{ast_printed_grammar}
 use Rattle.ast_rules.specs.Building.{name_at, written}
@@ -23,6 +24,10 @@ pub record SaysRules (ts : List Lexed) (said : List WrittenRule) : Type 0 where
   pub events : List ℕ
   pub reading : IsSentence ast_grammar 0 (map token_class ts) events
   pub rules : said ≡ written ts events
+
+-- The name of each rule's class is a word.
+pub record AreNamed (rules : List WrittenRule) : Type 0 where
+  pub words : All (λ (rule : WrittenRule). IsWord rule.name.text) rules
 
 -- the class of `[`, with which an optional begins
 abbrev pub optional_sign : ℕ

@@ -1,7 +1,8 @@
 // The rules that a sentence writes, from its events.
 ghost use Rattle.std.specs.Prelude.{◌≡◌, ◌<◌, ◌^◌, IfOk};
 ghost use Rattle.rag_io.specs.Tokens.{seen_tokens};
-ghost use Rattle.ast_rules.specs.Building.{after, component_added, component_after, head_after, last_name, name_at, rule_added, seen_builder, written};
+ghost use Rattle.ast_rules.specs.Building.{after, component_added, component_after, head_after, rule_added};
+ghost use Rattle.ast_rules.specs.Building.{last_name, name_at, seen_builder, written};
 ghost use Rattle.ast_rules.specs.Written.{seen_name, seen_rules};
 
 use crate::written::{Form, Name, WrittenComponent, WrittenRule};

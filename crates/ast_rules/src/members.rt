@@ -52,7 +52,8 @@ fn inherit_from<'a>(
     rules: &[WrittenRule<'a>],
     number: usize,
 ) -> Result<(), Memory>
-    ensures { (line : List ℕ) → Inherits (seen_rules rules.now) line inherited.old.names inherited.old.count → OnOk result (Inherits (seen_rules rules.now) (line ++ number ∷ []) inherited.new.names inherited.new.count) }
+    ensures { (line : List ℕ) → Inherits (seen_rules rules.now) line inherited.old.names inherited.old.count
+        → OnOk result (Inherits (seen_rules rules.now) (line ++ number ∷ []) inherited.new.names inherited.new.count) }
 {
     let Some(rule) = rules.get(number) else {
         return Ok(());
@@ -90,7 +91,8 @@ fn check_own<'a>(
     components: &[WrittenComponent<'a>],
     earliest: &mut Earliest,
 ) -> Result<(), Memory>
-    ensures { OnOk result (Notes (each_after (member_broken (is_among names.old) count) [] (map seen_component components.now)) earliest.old earliest.new) }
+    ensures { let broken = each_after (member_broken (is_among names.old) count) [] (map seen_component components.now) in
+        OnOk result (Notes broken earliest.old earliest.new) }
 {
     for (i, component) in components.iter().enumerate() {
         let is_new = insert_name(names, component)?;
@@ -110,7 +112,8 @@ fn check_class<'a>(
     rule: &WrittenRule<'a>,
     earliest: &mut Earliest,
 ) -> Result<(), Memory>
-    ensures { OnOk result (Notes (class_broken (seen_rules rules.now) superclasses.now number (seen_rule rule.now)) earliest.old earliest.new) }
+    ensures { let broken = class_broken (seen_rules rules.now) superclasses.now number (seen_rule rule.now) in
+        OnOk result (Notes broken earliest.old earliest.new) }
 {
     earliest.note_if(number == CLASSES, Rule::G10, rule.name.place);
     let mut inherited = inherit(alloc, rules, superclasses, number)?;

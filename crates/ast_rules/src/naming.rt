@@ -5,7 +5,8 @@ ghost use Rattle.broken_rules.specs.Notes.{Notes, each_after};
 ghost use Rattle.names.specs.Among.{is_among};
 ghost use Rattle.names.specs.Known.{Knows, Numbers};
 ghost use Rattle.rag_io.specs.Words.{is_one_of};
-ghost use Rattle.ast_rules.specs.Naming.{again_broken, component_broken, form_broken, is_class, kept_words, names_of, naming_broken, reserved_broken, rule_broken, superclass_broken, token_broken, token_types, type_broken, type_of};
+ghost use Rattle.ast_rules.specs.Naming.{again_broken, component_broken, form_broken, naming_broken, reserved_broken, rule_broken};
+ghost use Rattle.ast_rules.specs.Naming.{is_class, kept_words, names_of, superclass_broken, token_broken, token_types, type_broken, type_of};
 ghost use Rattle.ast_rules.specs.Written.{seen_component, seen_name, seen_rule, seen_rules};
 
 use crate::written::{Form, Name, WrittenComponent, WrittenRule};
@@ -76,7 +77,8 @@ fn check_token(component: &WrittenComponent<'_>, faults: &mut Earliest)
 
 // G5 or G7.
 fn check_form(names: &Names<'_>, component: &WrittenComponent<'_>, faults: &mut Earliest)
-    ensures { Notes (form_broken (is_among names.now) (seen_component component.now).form (seen_component component.now)) faults.old faults.new }
+    ensures { let c = seen_component component.now in
+        Notes (form_broken (is_among names.now) c.form c) faults.old faults.new }
 {
     match component.form {
         Form::Child | Form::List | Form::Optional => {

@@ -7,7 +7,7 @@ ghost use Rattle.ast_rules.specs.AstGrammar.{ast_grammar};
 ghost use Rattle.ast_rules.specs.AstPrintedGrammar.{ast_printed_grammar};
 ghost use Rattle.ast_rules.specs.Building.{name_at};
 ghost use Rattle.ast_rules.specs.Members.{Rises};
-ghost use Rattle.ast_rules.specs.Reading.{BeginsComponent, IsSyntaxFault, ReadsRules, SyntaxRule, optional_behind};
+ghost use Rattle.ast_rules.specs.Reading.{AreNamed, BeginsComponent, IsSyntaxFault, ReadsRules, SyntaxRule, optional_behind};
 ghost use Rattle.ast_rules.specs.Tokens.{sign_class, token_class, word_class};
 ghost use Rattle.ast_rules.specs.Written.{seen_name, seen_rules};
 
@@ -122,7 +122,8 @@ fn begins_component(alloc: Global, classes: &[u8]) -> Result<bool, Memory>
 
 // The rule that a syntax fault breaks at this token, behind tokens of these classes.
 fn syntax_rule(alloc: Global, token: &Name<'_>, before: &[u8]) -> Result<Rule, Memory>
-    ensures { (ts : List Lexed) (i : ℕ) → seen_name token.now ≡ name_at ts i → before.now ≡ take i (map token_class ts) → IfOk result (λ rule. SyntaxRule ts i rule) }
+    ensures { (ts : List Lexed) (i : ℕ) → seen_name token.now ≡ name_at ts i → before.now ≡ take i (map token_class ts)
+        → IfOk result (λ rule. SyntaxRule ts i rule) }
 {
     if token.text != b"/".as_slice() {
         return Ok(Rule::G1);
@@ -153,9 +154,9 @@ fn syntax_fault(
     })
 }
 
-/// The rules that the tokens say, whose places rise, or the broken rule where they aren't in the form of an `.ast` file: G1 or G9 at the first token such
-/// that the tokens up to it begin no sentence. G9 stands at a `/` where a component may begin, since `/X/` is a form of the JastAdd2
-/// manual that this profile leaves out.
+/// The rules that the tokens say, whose places rise, or the broken rule where they aren't in the form of an `.ast` file: G1 or G9 at the
+/// first token such that the tokens up to it begin no sentence. G9 stands at a `/` where a component may begin, since `/X/` is a form of
+/// the JastAdd2 manual that this profile leaves out.
 pub fn read_rules<'a>(
     alloc: Global,
     tokens: &[Token<'a>],
@@ -163,6 +164,7 @@ pub fn read_rules<'a>(
     requires { AreTokens (seen_tokens tokens.now) }
     ensures says { ReadsRules (seen_tokens tokens.now) result }
     ensures rises { IfOk result (λ rules. Rises (seen_rules rules.items)) }
+    ensures words { IfOk result (λ rules. AreNamed (seen_rules rules.items)) }
 {
     let classes = classes_of(alloc, tokens)?;
     let mut events = Vec::new(alloc);

@@ -2,7 +2,11 @@ use super::expect_rows;
 use std::test::Fail;
 
 // What an earlier phase finds counts, even where it stands behind what a later one would find.
-const PHASES: [(&str, &str); 13] = [
+const PHASES: [(&str, &str); 16] = [
+    // Bad places, and the form of the file.
+    ("A A /* b", "1:5 G1"),
+    ("; #", "1:3 G1"),
+    ("A ::= /B/; \"", "1:12 G1"),
     // The form of the file, and names.
     ("int; /*", "1:6 G1"),
     ("A; A; B", "1:8 G1"),

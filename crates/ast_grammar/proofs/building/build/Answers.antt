@@ -27,7 +27,7 @@ pub of_parts-requires : goal.of_parts-requires
 of_parts-requires c =
     let rules = seen_rules c.args.rules.now in
     let classes = c.in_ok-classes.classes.items in
-    let kept = is_kept rules c.requires.allowed c.requires.called classes c.in_ok-classes.ensures c.in_ok-subclasses.subclasses (c.in_ok-subclasses.ensures ∙ c.requires.superclasses) in
+    let kept = is_kept rules c.requires.allowed c.requires.words classes c.in_ok-classes.ensures c.in_ok-subclasses.subclasses (c.in_ok-subclasses.ensures ∙ c.requires.superclasses) in
     subst (λ names. IsKept names c.in_ok-subclasses.subclasses classes) (sym c.in_ok-names.ensures) kept
 
 pub returns : goal.returns
@@ -35,4 +35,4 @@ returns c =
     let rules = seen_rules c.args.rules.now in
     let classes = c.in_ok-classes.classes.items in
     c.of_parts.ensures ∙ ap (λ names. grammar_of names classes) c.in_ok-names.ensures
-    ∙ made rules c.requires.allowed c.requires.called classes c.in_ok-classes.ensures
+    ∙ made rules c.requires.allowed c.requires.words classes c.in_ok-classes.ensures

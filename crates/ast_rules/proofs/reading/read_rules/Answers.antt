@@ -3,6 +3,7 @@ use Rattle.rag_io.specs.Tokens.{seen_tokens}
 use Rattle.ast_rules.specs.Building.{written}
 use Rattle.rag_io.proofs.EndOfFile.{ends_file, some_tokens, ends_at}
 use Rattle.ast_rules.specs.Tokens.{token_class}
+use Rattle.ast_rules.proofs.Named.{named_rules}
 use Rattle.ast_rules.proofs.Rising.{rises}
 use Rattle.ast_rules.proofs.Sentences.{zero_at_end}
 use Rattle.ast_rules.proofs.Said.{printed_fault, says_rules}
@@ -19,6 +20,9 @@ returns-in-Ok-clause-says c = says_rules c.deref.result.now (c.deref.ensures.val
 
 pub returns-in-Ok-clause-rises : goal.returns-in-Ok-clause-rises
 returns-in-Ok-clause-rises c = rises (seen_tokens c.args.tokens.now) _ c.requires (returns-in-Ok-clause-says c)
+
+pub returns-in-Ok-clause-words : goal.returns-in-Ok-clause-words
+returns-in-Ok-clause-words c = named_rules (seen_tokens c.args.tokens.now) _ c.requires (returns-in-Ok-clause-says c)
 
 pub syntax_fault-requires-clause-fault : goal.syntax_fault-requires-clause-fault
 syntax_fault-requires-clause-fault c = printed_fault (c.deref.ensures.value ∙ sym c.deref-in-Err-At.ensures.value) (rw c.in-Err-At.field-0-is at c.in-Err-At.ensures).0
