@@ -186,31 +186,60 @@ fn two_items(alloc: Global, grammar: &Grammar) -> Result<Vec<FirstEq>, Fail>
     Ok(list)
 }
 
+// The rules of two attributes, of which the second is one of the subclass B.
+fn rules(alloc: Global, grammar: &Grammar) -> Result<Rules, Fail>
+    requires { length grammar.now ≡ 2 }
+{
+    let items = two_items(alloc, grammar)?;
+    Ok(Rules::of_equations(alloc, grammar, items)?)
+}
+
+// A class, a name, and the attribute of that name that the class has.
+const FOUND: [(u16, &str, Option<u16>); 5] = [
+    (0, "v", Some(0)),
+    (0, "w", None),
+    (1, "v", Some(0)),
+    (1, "w", Some(1)),
+    (1, "x", None),
+];
+
+// A class, an attribute, and the equation of the attribute at nodes of the class.
+const EQUATIONS: [(u16, u16, Option<u32>); 5] = [
+    (0, 0, Some(0)),
+    (1, 0, Some(0)),
+    (1, 1, Some(1)),
+    (0, 1, None),
+    (1, 2, None),
+];
+
+fn check_rules(rt: &impl Abort, grammar: &Grammar, rules: &Rules) {
+    assert_eq!(rt; rules.attrs(), 2);
+    assert_eq!(rt; rules.equations(), 2);
+    assert_eq!(rt; rules.attr(AttrId(1)).kind, Kind::Truth);
+    assert!(rt; matches!(rules.body(EqId(0)), TExpr::Int(7)));
+    for (class, name, want) in FOUND {
+        let found = rules.find(grammar, ClassId(class), name.as_bytes());
+        assert_eq!(rt; found, want.map(AttrId), "{class} {name}");
+    }
+    for (class, attribute, want) in EQUATIONS {
+        let found = rules.syn_equation(ClassId(class), AttrId(attribute));
+        assert_eq!(rt; found, want.map(EqId), "{class} {attribute}");
+    }
+}
+
 #[test]
 fn rules_answer(rt: HostRuntime) -> Result<(), Fail> {
     let alloc = rt.alloc();
     let grammar = grammar(alloc, b"A; B : A;")?;
     assert_eq!(rt; grammar.classes(), 2);
-    let rules = Rules::of_equations(alloc, &grammar, two_items(alloc, &grammar)?)?;
-    assert_eq!(rt; rules.attrs(), 2);
-    assert_eq!(rt; rules.equations(), 2);
-    assert_eq!(rt; rules.attr(AttrId(1)).kind, Kind::Truth);
-    assert!(rt; matches!(rules.body(EqId(0)), TExpr::Int(7)));
-    let found = [
-        (ClassId(0), b"v", Some(AttrId(0))),
-        (ClassId(0), b"w", None),
-        (ClassId(1), b"v", Some(AttrId(0))),
-        (ClassId(1), b"w", Some(AttrId(1))),
-        (ClassId(1), b"x", None),
-    ];
-    for (class, name, want) in found {
-        assert_eq!(rt; rules.find(&grammar, class, name.as_slice()), want);
-    }
-    assert_eq!(rt; rules.syn_equation(ClassId(0), AttrId(0)), Some(EqId(0)));
-    assert_eq!(rt; rules.syn_equation(ClassId(1), AttrId(0)), Some(EqId(0)));
-    assert_eq!(rt; rules.syn_equation(ClassId(1), AttrId(1)), Some(EqId(1)));
-    assert_eq!(rt; rules.syn_equation(ClassId(0), AttrId(1)), None);
-    let query = QueryEq::of_call(alloc, 3, AttrId(1))?;
+    let rules = rules(alloc, &grammar)?;
+    check_rules(&rt, &grammar, &rules);
+    Ok(())
+}
+
+#[test]
+fn queries_hold_expressions(rt: HostRuntime) -> Result<(), Fail> {
+    let query = QueryEq::of_call(rt.alloc(), 3, AttrId(1))?;
     assert!(rt; matches!(query.expression(), TExpr::Call(AttrId(1), _)));
     let query = QueryEq::of(TExpr::This);
     assert!(rt; matches!(query.expression(), TExpr::This));
