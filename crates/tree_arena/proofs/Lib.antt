@@ -1,0 +1,13 @@
+pub mod AccessorsLaws
+pub mod AccessorsLists
+pub mod AccessorsOnce
+pub mod AccessorsPreorder
+pub mod AccessorsTrees
+pub mod Answered
+pub mod Arena
+pub mod Counted
+pub mod Grown
+pub mod Hanging
+pub mod Numbered
+pub mod Seen
+pub mod Subtrees
