@@ -1,0 +1,16 @@
+pub mod Accepted
+pub mod BracketsReaching
+pub mod Clean
+pub mod Coding
+pub mod Growing
+pub mod NodeReaching
+pub mod OneTree
+pub mod Pooling
+pub mod Reaching
+pub mod Read
+pub mod Running
+pub mod Said
+pub mod Sizes
+pub mod Spelled
+pub mod Telling
+pub mod Wanting

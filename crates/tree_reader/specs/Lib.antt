@@ -1,0 +1,6 @@
+pub mod Breaking
+pub mod Grown
+pub mod Laying
+pub mod Reading
+pub mod Steps
+pub mod Wants
