@@ -1,0 +1,11 @@
+//! The canonical text of source trees.
+#![tactic(auto)]
+
+mod laws;
+mod parts;
+#[cfg(test)]
+mod tests;
+mod writing;
+
+pub use laws::written_again;
+pub use writing::write_tree;
