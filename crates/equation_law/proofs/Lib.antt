@@ -5,7 +5,6 @@ pub mod Ended
 pub mod Firsts
 pub mod Forms
 pub mod Found
-pub mod Hanging
 pub mod Heights
 pub mod Keys
 pub mod Listed
@@ -16,7 +15,6 @@ pub mod Preordered
 pub mod QueryValues
 pub mod Reading
 pub mod Sets
-pub mod Slotted
 pub mod Solution
 pub mod Solving
 pub mod Typed

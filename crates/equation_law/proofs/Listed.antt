@@ -11,7 +11,8 @@ use Rattle.attr_types.specs.Rules.{Attribute as DeclaredAttribute}
 use Rattle.solutions.specs.Rounds.{is_in}
 use Rattle.equation_law.specs.Checked.{IsInstance, of_attribute, of_query}
 use Rattle.equation_law.specs.Names.{Instance, Query, same_instance}
-use Rattle.equation_law.specs.Program.{Node, Program, at_source, attribute_instances, class_of, declared_of, nodes_of, query_instances, source_instances}
+use Rattle.tree_arena.specs.Nodes.{Node}
+use Rattle.equation_law.specs.Program.{Program, at_source, attribute_instances, class_of, declared_of, nodes_of, query_instances, source_instances}
 use Rattle.equation_law.proofs.Lists.{some_of}
 use Rattle.equation_law.proofs.Names.{same_instance_is, same_instance_self}
 

@@ -12,7 +12,8 @@ use Rattle.equation_law.specs.declared.instances.NamedInstance.{NamedInstance}
 use Rattle.equation_law.specs.declared.instances.NamedInstance.TheVariants as named
 use Rattle.equation_law.specs.Names.{Instance, Query}
 use Rattle.equation_law.specs.Named.{instance_of}
-use Rattle.equation_law.specs.Program.{Node, at_source, attribute_instances, nodes_of, query_instances}
+use Rattle.tree_arena.specs.Nodes.{Node}
+use Rattle.equation_law.specs.Program.{at_source, attribute_instances, nodes_of, query_instances}
 
 -- the rest of a list from an element on
 drop_at : {A : Type 0} (xs : List A) (k : ℕ) (x : A) → slice_get xs k ≡ Some x → drop k xs ≡ x ∷ drop (k + 1) xs

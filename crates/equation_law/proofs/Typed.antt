@@ -1,5 +1,5 @@
 -- A well typed expression demands instances of its program alone, and its value is of its type.
-use Rattle.std.proofs.Common.{◌≡◌, ℕ, ℤ, neg_ℤ, Bool, true, false, not, cond, List, Option, Some, None, refl, sym, ap, subst, ◌∙◌}
+use Rattle.std.proofs.Common.{◌≡◌, ℕ, ℤ, neg_ℤ, Bool, true, false, not, cond, List, Option, Some, None, length, refl, sym, ap, subst, ◌∙◌}
 use Rattle.std.specs.Int.{int_wrap}
 use Rattle.std.specs.Option.{option_and_then, option_map}
 use mir.Syntax.{w32}
@@ -19,12 +19,13 @@ use Rattle.attr_types.specs.Expression.{Expression, Truth as TruthLiteral, Int a
 use Rattle.attr_types.specs.Rules.{is_plain}
 use Rattle.attr_types.specs.Typing.{Names, call_type, called_on, child_kind, child_type, common, common_class, compared, component_on, node_of_number, node_type, operated, token_kind, token_read, token_type, type_of, where_int, where_truth}
 use Rattle.solutions.specs.Asking.{Demands, Gives, Needs, next}
+use Rattle.tree_arena.specs.Nodes.{token_in}
+use Rattle.tree_arena.specs.Terms.{IsTreeOf}
 use Rattle.equation_law.specs.Checked.{IsInstance, of_attribute}
 use Rattle.equation_law.specs.Equations.{decoded, kind_or_truth, source_or_null, world_of}
 use Rattle.equation_law.specs.Meaning.{call_at, child_at, meaning_of, operate, token_at}
 use Rattle.equation_law.specs.Names.{At, Instance, Null, Reference, Source}
-use Rattle.equation_law.specs.Preorder.{IsTreeOf}
-use Rattle.equation_law.specs.Program.{Program, class_of, declared_of, token_in}
+use Rattle.equation_law.specs.Program.{Program, class_of, declared_of}
 use Rattle.equation_law.specs.Values.{Value, Truth, Int, Node, as_kind, int, node, truth}
 use Rattle.equation_law.proofs.Preordered.{child_there}
 
@@ -244,7 +245,7 @@ module _ (p : Program) where
     pub node : (k : ℕ) (c : ClassId) → N.node k ≡ Some c → IsAt k c
     pub this : (c : ClassId) → N.this ≡ Some c → IsAt n c
 
-  module _ (allowed : IsGrammar p.grammar) (tree : IsTreeOf p.grammar p.tree) (plain : (a : ℕ) (d : Attr) → declared_of p a ≡ Some d → is_plain d.kind ≡ true) (N : Names) (n : ℕ) (names : AreNames N n) where
+  module _ (allowed : IsGrammar p.grammar) (tree : IsTreeOf p.grammar (length p.texts) p.tree) (plain : (a : ℕ) (d : Attr) → declared_of p a ≡ Some d → is_plain d.kind ≡ true) (N : Names) (n : ℕ) (names : AreNames N n) where
     -- a source node
     source_keeps : (k : ℕ) (o : Option ClassId) → ((c : ClassId) → o ≡ Some c → IsAt k c) → KeepsTo (node_type o) (Gives (Node (At (Source k))))
     source_keeps k None h = tt
@@ -260,7 +261,7 @@ module _ (p : Program) where
         behind (kinds.Node l) (kinds.Node x.class) c (λ r. Gives (Node (child_at (world_of p) k (node r)))) h (λ v o.
         let at = o.2 in
         let has = inherited_component p.grammar allowed at.class.0 l.0 k x at.below e in
-        let f = child_there p.grammar p.tree tree o.0 k at.class x.class x at.of has (ap (λ (y : Shape). child_kind y x.class) s) in
+        let f = child_there p.grammar (length p.texts) p.tree tree o.0 k at.class x.class x at.of has (ap (λ (y : Shape). child_kind y x.class) s) in
         (f.0, ap (λ (y : Value). Node (child_at (world_of p) k (node y))) o.1 ∙ ap (λ (y : Option ℕ). Node (source_or_null y)) f.1, record { class = f.2; of = f.3; below = f.4 })
         )
     child_keeps l k c h x e shapes.List s = tt

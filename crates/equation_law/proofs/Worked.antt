@@ -10,11 +10,12 @@ use Rattle.attr_types.specs.declared.kinds.Kind.TheVariants as kinds
 use Rattle.attr_types.specs.Expression.{Expression, Truth as TruthLiteral, Int as IntLiteral, This, Source as SourceNode, Child, Token, Call, Negate, Binary, And, Or, If}
 use Rattle.attr_types.specs.Rules.{Item, rules_of}
 use Rattle.solutions.specs.Asking.{Gives, Needs}
+use Rattle.tree_arena.specs.Nodes.{Node as TreeNode}
+use Rattle.tree_arena.specs.Terms.{Empty, IsTreeOf, Tree, one, over, root as whole, token}
 use Rattle.equation_law.specs.Names.{At, Attribute, NoArguments, Null, Query, Source}
 use Rattle.equation_law.specs.Values.{Int, Node, Truth, as_kind, truth}
 use Rattle.equation_law.specs.Meaning.{Place, meaning_of, operate}
-use Rattle.equation_law.specs.Preorder.{IsTreeOf, TellsNode, TellsToken, node, over, token}
-use Rattle.equation_law.specs.Program.{Node as TreeNode, Program, at_source, source_instances}
+use Rattle.equation_law.specs.Program.{Program, at_source, source_instances}
 use Rattle.equation_law.specs.Equations.{HasValue, equation_of, equations_of, world_of}
 
 abbrev items : List Item
@@ -63,10 +64,10 @@ small = record {
 }
 
 -- they are a tree of the grammar
-is_tree : IsTreeOf classes two_nodes
+is_tree : IsTreeOf classes 0 two_nodes
 is_tree = record {
-  told = TellsNode (record { 0 = 0 }) 0 0 ∷ TellsNode (record { 0 = 1 }) 0 0 ∷ TellsToken 1 0 4294967291 ∷ TellsToken 1 1 1 ∷ [];
-  tells = node (record { below = refl; concrete = refl }) (node (record { below = refl; concrete = refl }) (token (omega arith) (token (omega arith) over)));
+  term = Tree (record { 0 = 0 }) 0 (0 ∷ []) (Tree (record { 0 = 1 }) 0 (4294967291 ∷ 1 ∷ []) Empty Empty) Empty;
+  grown = whole (record { below = refl; concrete = refl }) (one tt (record { below = refl; concrete = refl }) (token (omega arith) (token (omega arith) over)) over);
   are = refl;
   few = omega arith;
 }

@@ -1,5 +1,5 @@
 -- Programs that break no rule, and their instances.
-use Rattle.std.specs.Prelude.{◌≡◌, ℕ, true, List, Some, All, slice_get}
+use Rattle.std.specs.Prelude.{◌≡◌, ℕ, true, List, Some, All, length, slice_get}
 use Rattle.ast_grammar.specs.declared.grammar.ClassId.{ClassId}
 use Rattle.ast_grammar.specs.Grammar.{IsGrammar, is_sub, superclasses_of}
 use Rattle.attr_types.specs.declared.kinds.Attr.{Attr}
@@ -7,8 +7,8 @@ use Rattle.attr_types.specs.declared.kinds.Kind.{Kind}
 use Rattle.attr_types.specs.Expression.{Expression}
 use Rattle.attr_types.specs.Rules.{Item, AreItems, rules_of}
 use Rattle.attr_types.specs.Typing.{type_of}
+use Rattle.tree_arena.specs.Terms.{IsTreeOf}
 use Rattle.equation_law.specs.Names.{Source, At, Instance, Attribute, Query, NoArguments}
-use Rattle.equation_law.specs.Preorder.{IsTreeOf}
 use Rattle.equation_law.specs.Program.{Program, class_of, declared_of, names_in}
 
 -- a query is well typed: what it asks is an attribute or an accessor of the node's class
@@ -22,7 +22,7 @@ pub record IsProgram (p : Program) : Type 0 where
   pub grammar : IsGrammar p.grammar
   pub allowed : AreItems p.grammar items
   pub rules : p.rules ≡ rules_of (superclasses_of p.grammar) items
-  pub tree : IsTreeOf p.grammar p.tree
+  pub tree : IsTreeOf p.grammar (length p.texts) p.tree
   pub queries : All (IsTyped p) p.queries
 
 -- An instance of a program: an attribute at a source node, which is of the attribute's class or of a subclass, or a query.

@@ -11,9 +11,10 @@ use Rattle.attr_types.specs.Rules.{Equation, equation_number}
 use Rattle.attr_types.specs.Typing.{type_of}
 use Rattle.solutions.specs.Asking.{Demands, Gives, next}
 use Rattle.solutions.specs.Rounds.{Equations, HasValue as HasValueOf}
+use Rattle.tree_arena.specs.Nodes.{child_in, token_in}
 use Rattle.equation_law.specs.Names.{NodeName, Source, Reference, Null, At, NoArguments, Instance, Attribute, Query, same_instance}
 use Rattle.equation_law.specs.Values.{Value, Truth, Int, Node, as_kind, default_of}
-use Rattle.equation_law.specs.Program.{Program, declared_of, class_of, child_in, token_in, names_in}
+use Rattle.equation_law.specs.Program.{Program, declared_of, class_of, names_in}
 use Rattle.equation_law.specs.Meaning.{World, Place, meaning_of}
 
 -- an equation as it is read: an expression of a type, with the node at which it is read
@@ -35,7 +36,7 @@ source_or_null None = Null
 source_or_null (Some k) = At (Source k)
 
 abbrev pub child_of : Program → NodeName → ℕ → Reference
-child_of p (Source n) k = source_or_null (child_in p.tree n k)
+child_of p (Source n) k = source_or_null (child_in p.tree n k 0)
 
 -- the value that a code stands for; a missing one is the type's default. Texts aren't read so far
 abbrev pub decoded : Kind → Option ℕ → Value

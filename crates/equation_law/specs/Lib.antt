@@ -8,12 +8,9 @@ pub mod Named
 pub mod Names
 pub mod Orders
 pub mod Places
-pub mod Preorder
 pub mod Program
 pub mod Sets
 pub mod Sites
-pub mod Slots
 pub mod Steps
 pub mod Systems
-pub mod Trees
 pub mod Values

@@ -1,6 +1,6 @@
 -- A program: a grammar with its rules, a source tree, and queries.
-use Rattle.std.specs.Prelude.{ℕ, suc, List, [], ◌∷◌, ◌++◌, Option, None, map, position, slice_get, if◌then◌else◌, ◌==◌, ◌&&◌}
-use Rattle.std.specs.Option.{option_and_then, option_map}
+use Rattle.std.specs.Prelude.{ℕ, suc, List, [], ◌∷◌, ◌++◌, Option, map, slice_get, if◌then◌else◌}
+use Rattle.std.specs.Option.{option_map}
 use Rattle.ast_grammar.specs.declared.grammar.ClassId.{ClassId}
 use Rattle.superclasses.specs.Superclasses.{is_sub}
 use Rattle.ast_grammar.specs.Grammar.{Class, superclasses_of}
@@ -8,26 +8,8 @@ use Rattle.attr_types.specs.declared.kinds.Attr.{Attr}
 use Rattle.attr_types.specs.Expression.{Expression}
 use Rattle.attr_types.specs.Rules.{Attribute as DeclaredAttribute, RuleSet}
 use Rattle.attr_types.specs.Typing.{Names}
+use Rattle.tree_arena.specs.Nodes.{Node}
 use Rattle.equation_law.specs.Names.{Instance, Attribute, Query, At, Source, NoArguments}
-
--- a source node: its class, its parent and the component of the parent by which it hangs, and its tokens
-pub record Node : Type 0 where
-  pub class : ClassId
-  pub parent : ℕ
-  pub component : ℕ
-  pub tokens : List ℕ
-
--- the child of a node at a component: the node that hangs there
-abbrev pub child_in : List Node → ℕ → ℕ → Option ℕ
-child_in [] n k = None
-child_in (root ∷ nodes) n k = option_map suc (position (λ x. (x.parent == n) && (x.component == k)) nodes)
-
-abbrev pub tokens_of : Node → List ℕ
-tokens_of n = n.tokens
-
--- the code of the token of a node at a component
-abbrev pub token_in : List Node → ℕ → ℕ → Option ℕ
-token_in nodes n k = option_and_then (λ x. slice_get (tokens_of x) k) (slice_get nodes n)
 
 pub record Program : Type 0 where
   pub grammar : List Class

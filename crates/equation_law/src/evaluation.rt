@@ -3,6 +3,7 @@ ghost use Rattle.std.specs.Prelude.{◌≡◌, neg_ℤ, pos};
 ghost use Rattle.std.specs.Int.{int_wrap};
 ghost use mir.Syntax.{w32};
 ghost use Rattle.attr_types.specs.Expression.{expression_of};
+ghost use Rattle.tree_arena.specs.Nodes.{child_in, token_in};
 ghost use Rattle.equation_law.specs.Values.{Int, Node, int, node};
 ghost use Rattle.equation_law.specs.Meaning.{child_at, equal as same_value, operate as operated_by, token_at};
 ghost use Rattle.equation_law.specs.Equations.{attribute_kind as kind_in};
@@ -17,6 +18,7 @@ use crate::places::Places;
 use crate::system::System;
 use crate::values::{NamedValue, PlainValue};
 use attr_types::{AttrId, Kind, Operator, TExpr};
+use tree_arena::Tree;
 
 /// The type of an attribute; of one that isn't declared, `boolean`.
 pub(crate) fn attribute_kind(system: &System, attribute: AttrId) -> Kind
@@ -94,13 +96,36 @@ fn call(
     }
 }
 
+/// The child of a node at a component: the node that hangs there, or the first of a list, or None where there is none.
+#[tactic(auto, using(crate::proofs::Preordered::none_past))]
+fn child_at(tree: &Tree, n: u32, k: u32) -> Option<u32>
+    ensures { result ≡ child_in tree.now n k 0 }
+{
+    if n < tree.len() {
+        tree.child(n, k, 0)
+    } else {
+        None
+    }
+}
+
+/// The code of the token of a node at a component, 0 where the component is no token, or None where there is no such node or component.
+#[tactic(auto, using(crate::proofs::Preordered::no_code_past, crate::proofs::Preordered::no_code_behind))]
+fn code_at(tree: &Tree, n: u32, k: u32) -> Option<u32>
+    ensures { result ≡ token_in tree.now n k }
+{
+    if n >= tree.len() || k >= tree.components(n) {
+        return None;
+    }
+    Some(tree.token(n, k))
+}
+
 /// The child of a receiver at a component; null where there is none, and on null.
 fn child_of(context: &Context<'_>, k: u32, receiver: PlainValue) -> PlainValue
     ensures { value_of result ≡ Node (child_at (world_in context.now) k (node (value_of receiver))) }
 {
     match receiver.node() {
         None => PlainValue::Null,
-        Some(node) => match context.system.tree().child(node, k) {
+        Some(node) => match child_at(context.system.tree(), node, k) {
             Some(child) => PlainValue::Node(child),
             None => PlainValue::Null,
         },
@@ -131,7 +156,7 @@ fn token_of(context: &Context<'_>, kind: Kind, k: u32, receiver: PlainValue) -> 
 {
     match receiver.node() {
         None => PlainValue::default_of(kind),
-        Some(node) => decoded(kind, context.system.tree().token(node, k)),
+        Some(node) => decoded(kind, code_at(context.system.tree(), node, k)),
     }
 }
 

@@ -11,11 +11,9 @@ mod places;
 mod query_types;
 mod rounds;
 mod sites;
-mod slots;
 mod system;
 #[cfg(test)]
 mod tests;
-mod tree;
 mod values;
 
 pub use instances::NameList;
@@ -24,7 +22,5 @@ pub use laws::{
     one_solution, reach_is_demanded, stuck_has_none, value_or_loop,
 };
 pub use rounds::{Table, plain_rounds};
-pub use slots::Slots;
 pub use system::{Queries, System};
-pub use tree::{FirstNode, Tokens, Tree};
 pub use values::{NamedValue, NodeName};

@@ -4,17 +4,17 @@ ghost use Rattle.std.specs.Option.{option_map};
 ghost use Rattle.ast_grammar.specs.Grammar.{is_sub, superclasses_of};
 ghost use Rattle.attr_types.specs.Rules.{most_attributes};
 ghost use Rattle.equation_law.specs.Program.{attribute_instances, query_instances, nodes_of, at_source, most_replies};
-ghost use Rattle.equation_law.specs.Preorder.{most_nodes};
+ghost use Rattle.tree_arena.specs.Nodes.{most_nodes};
 ghost use Rattle.equation_law.specs.Systems.{program_of};
 ghost use Rattle.equation_law.specs.Named.{instance_of};
 
 use crate::growing::push;
 use crate::instances::NamedInstance;
 use crate::system::System;
-use crate::tree::Tree;
 use ast_grammar::{ClassId, Grammar};
 use attr_types::AttrId;
 use rag_io::Memory;
+use tree_arena::Tree;
 
 /// Whether a node is of a class or of a subclass.
 fn is_of(grammar: &Grammar, tree: &Tree, node: u32, class: ClassId) -> bool

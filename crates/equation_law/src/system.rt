@@ -4,10 +4,10 @@ ghost use Rattle.attr_types.specs.Items.{rules_in};
 ghost use Rattle.attr_types.specs.Queries.{query_of};
 ghost use Rattle.equation_law.specs.Program.{most_replies};
 
-use crate::tree::Tree;
 use ast_grammar::Grammar;
 use attr_types::{QueryEq, Rules};
 use rag_io::Pool;
+use tree_arena::Tree;
 
 /// Queries in order.
 #[derive(Drop)]

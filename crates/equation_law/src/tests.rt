@@ -3,9 +3,9 @@ ghost use Rattle.rag_io.specs.Outside.{longest_file};
 ghost use Rattle.attr_types.specs.Expression.{Call, This, Token, expression_of};
 ghost use Rattle.attr_types.specs.Items.{item_of};
 ghost use Rattle.attr_types.specs.Rules.{AreItems};
-ghost use Rattle.equation_law.specs.Preorder.{IsTree};
+ghost use Rattle.tree_arena.specs.Kept.{node_of};
+ghost use Rattle.tree_arena.specs.Terms.{IsTree};
 ghost use Rattle.equation_law.specs.Program.{most_replies};
-ghost use Rattle.equation_law.specs.Trees.{node_of};
 
 mod subclasses;
 
@@ -20,6 +20,7 @@ use rag_io::{Pool, scan};
 use std::alloc::{AllocFailed, Global};
 use std::process::Abort;
 use std::test::Fail;
+use tree_arena::{FirstNode, Tokens, Tree};
 
 type Failed = AllocFailed<TExpr>;
 
@@ -176,20 +177,31 @@ fn grammar(alloc: Global, rules: &[u8]) -> Result<Grammar, Fail>
     Ok(read_ast(alloc, &tokens)?)
 }
 
+// The rules of the small program.
+fn rules(alloc: Global, grammar: &Grammar) -> Result<Rules, Fail> {
+    if grammar.classes() != 2 {
+        return Err("another grammar".into());
+    }
+    let items = items(alloc, grammar)?;
+    Ok(Rules::of_equations(alloc, grammar, items)?)
+}
+
+// Its tree.
+fn tree(alloc: Global) -> Result<Tree, Fail> {
+    let nodes = nodes(alloc)?;
+    Ok(Tree::of_nodes(alloc, nodes)?)
+}
+
 // The program of these parts.
 fn program(
     alloc: Global,
     grammar: Grammar,
-    items: Vec<FirstEq>,
-    nodes: Vec<FirstNode>,
+    rules: Rules,
+    tree: Tree,
     queries: Vec<QueryEq>,
 ) -> Result<System, Fail>
-    requires items { AreItems grammar (map item_of items.items) }
-    requires nodes { IsTree (map node_of nodes.items) }
-    requires queries { length queries.items ≤ most_replies }
+    requires { length queries.items ≤ most_replies }
 {
-    let rules = Rules::of_equations(alloc, &grammar, items)?;
-    let tree = Tree::of_nodes(alloc, nodes)?;
     let pool = Pool::new(alloc)?;
     Ok(System::new(grammar, rules, tree, pool, Queries::new(queries)))
 }
@@ -202,27 +214,39 @@ fn system(alloc: Global, queries: Vec<QueryEq>) -> Result<System, Fail>
         alloc,
         b"P ::= l:L r:L; L ::= <V:int> <B:boolean>;".as_slice(),
     )?;
-    if grammar.classes() != 2 {
-        return Err("another grammar".into());
-    }
-    let items = items(alloc, &grammar)?;
-    program(alloc, grammar, items, nodes(alloc)?, queries)
+    let rules = rules(alloc, &grammar)?;
+    program(alloc, grammar, rules, tree(alloc)?, queries)
 }
 
-// What an expression comes to at the root, where no instance has a value yet.
-fn value_at_root(
+// Checks what an expression comes to at a node, where no instance has a value yet.
+fn check_at(
+    rt: &impl Abort,
     alloc: Global,
     system: &System,
-    expression: &TExpr,
-) -> Result<Result<PlainValue, NamedInstance>, Fail> {
+    this: u32,
+    expression: TExpr,
+    want: Result<PlainValue, NamedInstance>,
+) -> Result<(), Fail> {
     let places = Places::of_names(alloc, [].as_slice())?;
     let context = Context {
         system,
         places: &places,
         values: [].as_slice(),
-        this: 0,
+        this,
     };
-    Ok(evaluate(&context, expression))
+    assert_eq!(rt; evaluate(&context, &expression), want, "{expression:?}");
+    Ok(())
+}
+
+// The same at the root.
+fn check(
+    rt: &impl Abort,
+    alloc: Global,
+    system: &System,
+    expression: TExpr,
+    want: Result<PlainValue, NamedInstance>,
+) -> Result<(), Fail> {
+    check_at(rt, alloc, system, 0, expression, want)
 }
 
 // The sides of an operator, and its value.
@@ -277,133 +301,126 @@ const TOKENS: [(u32, Kind, u32, PlainValue); 7] = [
     (3, Kind::Truth, 0, PlainValue::Truth(false)),
 ];
 
-#[test]
-fn integers_have_values(rt: HostRuntime) -> Result<(), Fail> {
-    let alloc = rt.alloc();
-    let system = system(alloc, Vec::new(alloc))?;
+fn check_integers(rt: &impl Abort, alloc: Global, system: &System) -> Result<(), Fail> {
     for (a, operator, b, want) in INTEGERS {
         let e = binary(alloc, int(a), operator, int(b))?;
-        let value = value_at_root(alloc, &system, &e)?;
-        assert_eq!(rt; value, Ok(PlainValue::Int(want)), "{e:?}");
+        check(rt, alloc, system, e, Ok(PlainValue::Int(want)))?;
     }
-    Ok(())
-}
-
-#[test]
-fn opposites_have_values(rt: HostRuntime) -> Result<(), Fail> {
-    let alloc = rt.alloc();
-    let system = system(alloc, Vec::new(alloc))?;
     for (a, want) in [(5, -5), (i32::MIN, i32::MIN)] {
         let e = negate(alloc, int(a))?;
-        let value = value_at_root(alloc, &system, &e)?;
-        assert_eq!(rt; value, Ok(PlainValue::Int(want)), "{e:?}");
+        check(rt, alloc, system, e, Ok(PlainValue::Int(want)))?;
     }
     Ok(())
 }
 
-#[test]
-fn comparisons_have_values(rt: HostRuntime) -> Result<(), Fail> {
-    let alloc = rt.alloc();
-    let system = system(alloc, Vec::new(alloc))?;
+fn check_truth(
+    rt: &impl Abort,
+    alloc: Global,
+    system: &System,
+    expression: TExpr,
+    want: bool,
+) -> Result<(), Fail> {
+    check(rt, alloc, system, expression, Ok(PlainValue::Truth(want)))
+}
+
+// Checks the operators on two truth values.
+fn check_operators(
+    rt: &impl Abort,
+    alloc: Global,
+    system: &System,
+    (a, b, both, either, same): (bool, bool, bool, bool, bool),
+) -> Result<(), Fail> {
+    let e = and(alloc, truth(a), truth(b))?;
+    check_truth(rt, alloc, system, e, both)?;
+    let e = or(alloc, truth(a), truth(b))?;
+    check_truth(rt, alloc, system, e, either)?;
+    let e = binary(alloc, truth(a), Operator::Equal, truth(b))?;
+    check_truth(rt, alloc, system, e, same)?;
+    let e = not(alloc, truth(a))?;
+    check_truth(rt, alloc, system, e, !a)?;
+    let e = choice(alloc, truth(a), truth(b), truth(!b))?;
+    check_truth(rt, alloc, system, e, same)
+}
+
+fn check_truths(rt: &impl Abort, alloc: Global, system: &System) -> Result<(), Fail> {
     for (a, operator, b, want) in COMPARISONS {
         let e = binary(alloc, int(a), operator, int(b))?;
-        let value = value_at_root(alloc, &system, &e)?;
-        assert_eq!(rt; value, Ok(PlainValue::Truth(want)), "{e:?}");
+        check_truth(rt, alloc, system, e, want)?;
     }
-    Ok(())
-}
-
-// The operators on two truth values, and their values.
-fn of_truths(
-    alloc: Global,
-    (a, b, both, either, same): (bool, bool, bool, bool, bool),
-) -> Result<[(TExpr, bool); 5], Failed> {
-    Ok([
-        (and(alloc, truth(a), truth(b))?, both),
-        (or(alloc, truth(a), truth(b))?, either),
-        (binary(alloc, truth(a), Operator::Equal, truth(b))?, same),
-        (not(alloc, truth(a))?, !a),
-        (choice(alloc, truth(a), truth(b), truth(!b))?, same),
-    ])
-}
-
-#[test]
-fn truth_values_have_values(rt: HostRuntime) -> Result<(), Fail> {
-    let alloc = rt.alloc();
-    let system = system(alloc, Vec::new(alloc))?;
     for row in TRUTHS {
-        for (e, want) in of_truths(alloc, row)?.iter() {
-            let value = value_at_root(alloc, &system, e)?;
-            assert_eq!(rt; value, Ok(PlainValue::Truth(*want)), "{e:?}");
-        }
+        check_operators(rt, alloc, system, row)?;
     }
     Ok(())
 }
 
-#[test]
-fn accessors_have_values(rt: HostRuntime) -> Result<(), Fail> {
-    let alloc = rt.alloc();
-    let system = system(alloc, Vec::new(alloc))?;
-    let places = Places::of_names(alloc, [].as_slice())?;
+// Checks the accessors in an equation that is read at a node.
+fn check_accessors(rt: &impl Abort, alloc: Global, system: &System, this: u32) -> Result<(), Fail> {
+    let here = Ok(PlainValue::Node(this));
+    check_at(rt, alloc, system, this, TExpr::This, here)?;
+    for (n, k, want) in CHILDREN {
+        let e = child(alloc, k, TExpr::Source(n))?;
+        check_at(rt, alloc, system, this, e, Ok(want))?;
+    }
+    for (n, kind, k, want) in TOKENS {
+        let e = token(alloc, kind, k, TExpr::Source(n))?;
+        check_at(rt, alloc, system, this, e, Ok(want))?;
+    }
+    Ok(())
+}
+
+// `@0.x()`, which has no value yet.
+fn x(alloc: Global) -> Result<TExpr, Failed> {
+    call(alloc, X, TExpr::Source(0))
+}
+
+const X_FIRST: Result<PlainValue, NamedInstance> = Err(NamedInstance::Attribute(X, 0));
+
+// A call, and operators over calls: a demand where the part that decides is stuck, and else a value.
+fn check_stuck_operators(rt: &impl Abort, alloc: Global, system: &System) -> Result<(), Fail> {
+    check(rt, alloc, system, x(alloc)?, X_FIRST)?;
+    let y = call(alloc, Y, TExpr::Source(0))?;
+    let e = binary(alloc, x(alloc)?, Operator::Equal, y)?;
+    check(rt, alloc, system, e, X_FIRST)?;
+    let e = and(alloc, truth(false), x(alloc)?)?;
+    check_truth(rt, alloc, system, e, false)?;
+    let e = and(alloc, truth(true), x(alloc)?)?;
+    check(rt, alloc, system, e, X_FIRST)?;
+    let e = and(alloc, x(alloc)?, truth(false))?;
+    check(rt, alloc, system, e, X_FIRST)?;
+    let e = or(alloc, truth(true), x(alloc)?)?;
+    check_truth(rt, alloc, system, e, true)?;
+    let e = or(alloc, x(alloc)?, truth(true))?;
+    check(rt, alloc, system, e, X_FIRST)
+}
+
+// A choice whose other part is stuck, and a call and a child on null.
+fn check_stuck_parts(rt: &impl Abort, alloc: Global, system: &System) -> Result<(), Fail> {
+    let e = choice(alloc, truth(false), x(alloc)?, int(3))?;
+    check(rt, alloc, system, e, Ok(PlainValue::Int(3)))?;
+    let null = child(alloc, 2, TExpr::Source(0))?;
+    let e = call(alloc, S, null)?;
+    check(rt, alloc, system, e, Ok(PlainValue::Int(0)))?;
+    let null = child(alloc, 2, TExpr::Source(0))?;
+    let e = child(alloc, 0, null)?;
+    check(rt, alloc, system, e, Ok(PlainValue::Null))
+}
+
+fn check_expressions(rt: &impl Abort, alloc: Global, system: &System) -> Result<(), Fail> {
+    check_integers(rt, alloc, system)?;
+    check_truths(rt, alloc, system)?;
     for this in 0..3 {
-        let context = Context {
-            system: &system,
-            places: &places,
-            values: [].as_slice(),
-            this,
-        };
-        assert_eq!(rt;
-            evaluate(&context, &TExpr::This),
-            Ok(PlainValue::Node(this))
-        );
-        for (n, k, want) in CHILDREN {
-            let e = child(alloc, k, TExpr::Source(n))?;
-            assert_eq!(rt; evaluate(&context, &e), Ok(want), "{e:?}");
-        }
-        for (n, kind, k, want) in TOKENS {
-            let e = token(alloc, kind, k, TExpr::Source(n))?;
-            assert_eq!(rt; evaluate(&context, &e), Ok(want), "{e:?}");
-        }
+        check_accessors(rt, alloc, system, this)?;
     }
-    Ok(())
+    check_stuck_operators(rt, alloc, system)?;
+    check_stuck_parts(rt, alloc, system)
 }
 
-// Expressions over calls that have no value yet, and what they come to: a demand where the part that decides is
-// stuck, and else a value.
-fn stuck(alloc: Global) -> Result<[(TExpr, Result<PlainValue, NamedInstance>); 10], Failed> {
-    let x = || call(alloc, X, TExpr::Source(0));
-    let y = || call(alloc, Y, TExpr::Source(0));
-    let null = || child(alloc, 2, TExpr::Source(0));
-    let x_first = Err(NamedInstance::Attribute(X, 0));
-    Ok([
-        (x()?, x_first),
-        (binary(alloc, x()?, Operator::Equal, y()?)?, x_first),
-        (
-            and(alloc, truth(false), x()?)?,
-            Ok(PlainValue::Truth(false)),
-        ),
-        (and(alloc, truth(true), x()?)?, x_first),
-        (and(alloc, x()?, truth(false))?, x_first),
-        (or(alloc, truth(true), x()?)?, Ok(PlainValue::Truth(true))),
-        (or(alloc, x()?, truth(true))?, x_first),
-        (
-            choice(alloc, truth(false), x()?, int(3))?,
-            Ok(PlainValue::Int(3)),
-        ),
-        (call(alloc, S, null()?)?, Ok(PlainValue::Int(0))),
-        (child(alloc, 0, null()?)?, Ok(PlainValue::Null)),
-    ])
-}
-
+// One test, since each that owns a system takes a while to prove.
 #[test]
-fn the_first_demand_without_a_value(rt: HostRuntime) -> Result<(), Fail> {
+fn expressions_have_values(rt: HostRuntime) -> Result<(), Fail> {
     let alloc = rt.alloc();
     let system = system(alloc, Vec::new(alloc))?;
-    for (e, want) in stuck(alloc)?.iter() {
-        let value = value_at_root(alloc, &system, e)?;
-        assert_eq!(rt; value, *want, "{e:?}");
-    }
-    Ok(())
+    check_expressions(&rt, alloc, &system)
 }
 
 fn query(list: &mut Vec<QueryEq>, expression: TExpr) -> Result<(), Fail>
@@ -413,28 +430,36 @@ fn query(list: &mut Vec<QueryEq>, expression: TExpr) -> Result<(), Fail>
     Ok(())
 }
 
-// `this`, `@2.s()`, `@0.getl().s()`, `-@1.getV() + @2.getV()`, `true || @0.x()`, `false && @0.x()`,
-// `false || @0.x()`, `@0.x() || true` and `@0.y()`.
+// `this`, `@2.s()`, `@0.getl().s()` and `-@1.getV() + @2.getV()`.
+fn push_first(alloc: Global, list: &mut Vec<QueryEq>) -> Result<(), Fail>
+    ensures { length list.new.items ≤ length list.old.items + 4 }
+{
+    query(list, TExpr::This)?;
+    query(list, call(alloc, S, TExpr::Source(2))?)?;
+    let left = child(alloc, 0, TExpr::Source(0))?;
+    query(list, call(alloc, S, left)?)?;
+    let first = negate(alloc, token(alloc, Kind::Int, 0, TExpr::Source(1))?)?;
+    let second = token(alloc, Kind::Int, 0, TExpr::Source(2))?;
+    query(list, binary(alloc, first, Operator::Add, second)?)
+}
+
+// `true || @0.x()`, `false && @0.x()`, `false || @0.x()`, `@0.x() || true` and `@0.y()`.
+fn push_last(alloc: Global, list: &mut Vec<QueryEq>) -> Result<(), Fail>
+    ensures { length list.new.items ≤ length list.old.items + 5 }
+{
+    query(list, or(alloc, truth(true), x(alloc)?)?)?;
+    query(list, and(alloc, truth(false), x(alloc)?)?)?;
+    query(list, or(alloc, truth(false), x(alloc)?)?)?;
+    query(list, or(alloc, x(alloc)?, truth(true))?)?;
+    query(list, call(alloc, Y, TExpr::Source(0))?)
+}
+
 fn queries(alloc: Global) -> Result<Vec<QueryEq>, Fail>
     ensures { IfOk result (λ list. length list.items ≤ 9) }
 {
     let mut list = Vec::new(alloc);
-    query(&mut list, TExpr::This)?;
-    query(&mut list, call(alloc, S, TExpr::Source(2))?)?;
-    let left = child(alloc, 0, TExpr::Source(0))?;
-    query(&mut list, call(alloc, S, left)?)?;
-    let first = negate(alloc, token(alloc, Kind::Int, 0, TExpr::Source(1))?)?;
-    let second = token(alloc, Kind::Int, 0, TExpr::Source(2))?;
-    query(&mut list, binary(alloc, first, Operator::Add, second)?)?;
-    let x = call(alloc, X, TExpr::Source(0))?;
-    query(&mut list, or(alloc, truth(true), x)?)?;
-    let x = call(alloc, X, TExpr::Source(0))?;
-    query(&mut list, and(alloc, truth(false), x)?)?;
-    let x = call(alloc, X, TExpr::Source(0))?;
-    query(&mut list, or(alloc, truth(false), x)?)?;
-    let x = call(alloc, X, TExpr::Source(0))?;
-    query(&mut list, or(alloc, x, truth(true))?)?;
-    query(&mut list, call(alloc, Y, TExpr::Source(0))?)?;
+    push_first(alloc, &mut list)?;
+    push_last(alloc, &mut list)?;
     Ok(list)
 }
 
@@ -457,19 +482,27 @@ const VALUES: [Option<PlainValue>; 15] = [
     None,
 ];
 
-#[test]
-fn rounds_give_values(rt: HostRuntime) -> Result<(), Fail> {
-    let alloc = rt.alloc();
-    let system = system(alloc, queries(alloc)?)?;
-    let names = NameList::of_source(alloc, &system)?;
-    assert_eq!(rt; names.len(), 15);
-    let table = plain_rounds(alloc, &system, &names)?;
+fn check_table(rt: &impl Abort, table: &Table) {
     for (k, want) in VALUES.iter().enumerate() {
         let value = table.value(k as u32);
         assert_eq!(rt; value.map(|v| v.value), *want, "name {k}");
     }
     assert!(rt; table.value(15).is_none());
+}
+
+fn check_rounds(rt: &impl Abort, alloc: Global, system: &System) -> Result<(), Fail> {
+    let names = NameList::of_source(alloc, system)?;
+    assert_eq!(rt; names.len(), 15);
+    let table = plain_rounds(alloc, system, &names)?;
+    check_table(rt, &table);
     Ok(())
+}
+
+#[test]
+fn rounds_give_values(rt: HostRuntime) -> Result<(), Fail> {
+    let alloc = rt.alloc();
+    let system = system(alloc, queries(alloc)?)?;
+    check_rounds(&rt, alloc, &system)
 }
 
 #[test]

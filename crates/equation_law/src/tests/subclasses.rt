@@ -1,13 +1,13 @@
 // A program with an abstract superclass of two classes.
-ghost use Rattle.std.specs.Prelude.{◌≡◌, ◌≤◌, Some, true, length, map, IfOk};
+ghost use Rattle.std.specs.Prelude.{◌≡◌, ◌≤◌, ◌+◌, Some, true, length, map, IfOk};
 ghost use Rattle.std.specs.Option.{option_map};
 ghost use Rattle.ast_grammar.specs.Grammar.{component_at, is_sub};
 ghost use Rattle.ast_grammar.specs.declared.grammar.Shape.TheVariants as shapes;
 ghost use Rattle.attr_types.specs.Items.{item_of};
 ghost use Rattle.attr_types.specs.Rules.{AreItems};
-ghost use Rattle.equation_law.specs.Preorder.{IsTree};
+ghost use Rattle.tree_arena.specs.Kept.{node_of};
+ghost use Rattle.tree_arena.specs.Terms.{IsTree};
 ghost use Rattle.equation_law.specs.Program.{most_replies};
-ghost use Rattle.equation_law.specs.Trees.{node_of};
 
 use super::*;
 use crate::query_types::expression_kind;
@@ -44,13 +44,7 @@ fn nodes(alloc: Global) -> Result<Vec<FirstNode>, Fail>
     Ok(list)
 }
 
-fn system(alloc: Global, queries: Vec<QueryEq>) -> Result<System, Fail>
-    requires { length queries.items ≤ most_replies }
-{
-    let grammar = grammar(
-        alloc,
-        b"R ::= l:E r:E; abstract E ::= <V:int>; A : E ::= <B:boolean>; C : E ::= <D:boolean>;".as_slice(),
-    )?;
+fn rules(alloc: Global, grammar: &Grammar) -> Result<Rules, Fail> {
     if grammar.classes() != 4 || grammar.arity(ClassId(1)) != 1 {
         return Err("other classes".into());
     }
@@ -60,8 +54,24 @@ fn system(alloc: Global, queries: Vec<QueryEq>) -> Result<System, Fail>
     if !grammar.is_sub(ClassId(2), ClassId(1)) {
         return Err("another superclass".into());
     }
-    let items = items(alloc, &grammar)?;
-    program(alloc, grammar, items, nodes(alloc)?, queries)
+    let items = items(alloc, grammar)?;
+    Ok(Rules::of_equations(alloc, grammar, items)?)
+}
+
+fn tree(alloc: Global) -> Result<Tree, Fail> {
+    let nodes = nodes(alloc)?;
+    Ok(Tree::of_nodes(alloc, nodes)?)
+}
+
+fn system(alloc: Global, queries: Vec<QueryEq>) -> Result<System, Fail>
+    requires { length queries.items ≤ most_replies }
+{
+    let grammar = grammar(
+        alloc,
+        b"R ::= l:E r:E; abstract E ::= <V:int>; A : E ::= <B:boolean>; C : E ::= <D:boolean>;".as_slice(),
+    )?;
+    let rules = rules(alloc, &grammar)?;
+    program(alloc, grammar, rules, tree(alloc)?, queries)
 }
 
 // `CONDITION ? @1 : @2`.
@@ -70,18 +80,24 @@ fn chosen(alloc: Global, condition: TExpr) -> Result<TExpr, Failed> {
 }
 
 // `@1.v()`, `@0.getr().v()`, `@1.w()`, `(@1.getB() ? @1 : @2).v()` and `(@2.getD() ? @1 : @2).v()`.
+fn push_all(alloc: Global, list: &mut Vec<QueryEq>) -> Result<(), Fail>
+    ensures { length list.new.items ≤ length list.old.items + 5 }
+{
+    query(list, call(alloc, V, TExpr::Source(1))?)?;
+    let right = child(alloc, 1, TExpr::Source(0))?;
+    query(list, call(alloc, V, right)?)?;
+    query(list, call(alloc, W, TExpr::Source(1))?)?;
+    let first = token(alloc, Kind::Truth, 1, TExpr::Source(1))?;
+    query(list, call(alloc, V, chosen(alloc, first)?)?)?;
+    let second = token(alloc, Kind::Truth, 1, TExpr::Source(2))?;
+    query(list, call(alloc, V, chosen(alloc, second)?)?)
+}
+
 fn queries(alloc: Global) -> Result<Vec<QueryEq>, Fail>
     ensures { IfOk result (λ list. length list.items ≤ 5) }
 {
     let mut list = Vec::new(alloc);
-    query(&mut list, call(alloc, V, TExpr::Source(1))?)?;
-    let right = child(alloc, 1, TExpr::Source(0))?;
-    query(&mut list, call(alloc, V, right)?)?;
-    query(&mut list, call(alloc, W, TExpr::Source(1))?)?;
-    let first = token(alloc, Kind::Truth, 1, TExpr::Source(1))?;
-    query(&mut list, call(alloc, V, chosen(alloc, first)?)?)?;
-    let second = token(alloc, Kind::Truth, 1, TExpr::Source(2))?;
-    query(&mut list, call(alloc, V, chosen(alloc, second)?)?)?;
+    push_all(alloc, &mut list)?;
     Ok(list)
 }
 
@@ -97,45 +113,75 @@ const INSTANCES: [(NamedInstance, PlainValue); 8] = [
     (NamedInstance::Query(4), PlainValue::Int(7)),
 ];
 
-#[test]
-fn attributes_of_superclasses_have_values(rt: HostRuntime) -> Result<(), Fail> {
-    let alloc = rt.alloc();
-    let system = system(alloc, queries(alloc)?)?;
-    let names = NameList::of_source(alloc, &system)?;
-    assert_eq!(rt; names.len(), 8);
-    let table = plain_rounds(alloc, &system, &names)?;
+fn check_table(rt: &impl Abort, names: &NameList, table: &Table) {
     for (k, (name, want)) in INSTANCES.iter().enumerate() {
         assert_eq!(rt; names.list().get(k).copied(), Some(*name), "place {k}");
         let value = table.value(k as u32);
         assert_eq!(rt; value.map(|v| v.value), Some(*want), "{name:?}");
     }
+}
+
+fn check_rounds(rt: &impl Abort, alloc: Global, system: &System) -> Result<(), Fail> {
+    let names = NameList::of_source(alloc, system)?;
+    assert_eq!(rt; names.len(), 8);
+    let table = plain_rounds(alloc, system, &names)?;
+    check_table(rt, &names, &table);
     Ok(())
 }
 
-// Expressions and their types.
-fn typed(alloc: Global) -> Result<[(TExpr, Option<Kind>); 8], Failed> {
-    let node = |class| Some(Kind::Node(ClassId(class)));
-    let left = || child(alloc, 0, TExpr::Source(0));
-    let first = || TExpr::Source(1);
-    let either = || chosen(alloc, truth(true));
-    Ok([
-        (left()?, node(1)),
-        (first(), node(2)),
-        (either()?, node(1)),
-        (choice(alloc, truth(true), first(), left()?)?, node(1)),
-        (choice(alloc, truth(true), first(), TExpr::Source(0))?, None),
-        (call(alloc, V, either()?)?, Some(Kind::Int)),
-        (call(alloc, W, first())?, Some(Kind::Int)),
-        (call(alloc, W, either()?)?, None),
-    ])
+#[test]
+fn attributes_of_superclasses_have_values(rt: HostRuntime) -> Result<(), Fail> {
+    let alloc = rt.alloc();
+    let system = system(alloc, queries(alloc)?)?;
+    check_rounds(&rt, alloc, &system)
+}
+
+// Checks the type of an expression.
+fn check_type(rt: &impl Abort, system: &System, expression: TExpr, want: Option<Kind>) {
+    assert_eq!(rt;
+        expression_kind(system, &expression),
+        want,
+        "{expression:?}"
+    );
+}
+
+// `true ? @1 : @2`.
+fn either(alloc: Global) -> Result<TExpr, Failed> {
+    chosen(alloc, truth(true))
+}
+
+fn check_nodes(rt: &impl Abort, alloc: Global, system: &System) -> Result<(), Fail> {
+    let inner = Some(Kind::Node(ClassId(1)));
+    check_type(rt, system, child(alloc, 0, TExpr::Source(0))?, inner);
+    let first = Some(Kind::Node(ClassId(2)));
+    check_type(rt, system, TExpr::Source(1), first);
+    check_type(rt, system, either(alloc)?, inner);
+    let left = child(alloc, 0, TExpr::Source(0))?;
+    let e = choice(alloc, truth(true), TExpr::Source(1), left)?;
+    check_type(rt, system, e, inner);
+    let e = choice(alloc, truth(true), TExpr::Source(1), TExpr::Source(0))?;
+    check_type(rt, system, e, None);
+    Ok(())
+}
+
+fn check_calls(rt: &impl Abort, alloc: Global, system: &System) -> Result<(), Fail> {
+    let e = call(alloc, V, either(alloc)?)?;
+    check_type(rt, system, e, Some(Kind::Int));
+    let e = call(alloc, W, TExpr::Source(1))?;
+    check_type(rt, system, e, Some(Kind::Int));
+    let e = call(alloc, W, either(alloc)?)?;
+    check_type(rt, system, e, None);
+    Ok(())
+}
+
+fn check_types(rt: &impl Abort, alloc: Global, system: &System) -> Result<(), Fail> {
+    check_nodes(rt, alloc, system)?;
+    check_calls(rt, alloc, system)
 }
 
 #[test]
 fn nodes_of_subclasses_have_types(rt: HostRuntime) -> Result<(), Fail> {
     let alloc = rt.alloc();
     let system = system(alloc, Vec::new(alloc))?;
-    for (e, want) in typed(alloc)?.iter() {
-        assert_eq!(rt; expression_kind(&system, e), *want, "{e:?}");
-    }
-    Ok(())
+    check_types(&rt, alloc, &system)
 }

@@ -2,9 +2,10 @@ use Rattle.std.proofs.Common.{◌≡◌, arith, map, Some, slice_get, List, ◌+
 use Rattle.std.specs.Option.{option_map}
 use Rattle.ast_grammar.specs.Grammar.{Class, superclasses_of}
 use Rattle.attr_types.specs.Rules.{RuleSet, Attribute}
+use Rattle.tree_arena.specs.Nodes.{Node}
 use Rattle.equation_law.specs.Named.{instance_of}
 use Rattle.equation_law.specs.Names.{Instance}
-use Rattle.equation_law.specs.Program.{Node, at_source, nodes_of}
+use Rattle.equation_law.specs.Program.{at_source, nodes_of}
 use Rattle.equation_law.specs.Systems.{program_of}
 use Rattle.equation_law.proofs.Lists.{attribute_listed}
 use Rattle.equation_law.proofs.listing.push_attributes.Goals as goal

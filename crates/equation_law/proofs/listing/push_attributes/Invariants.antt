@@ -1,7 +1,7 @@
 -- The attributes so far stand in the list.
 use Rattle.std.proofs.Common.{◌≡◌, ◌+◌, ◌*◌, ◌≤◌, ◌++◌, drop, length, map}
 use Rattle.ast_grammar.specs.Grammar.{superclasses_of}
-use Rattle.equation_law.specs.Preorder.{most_nodes}
+use Rattle.tree_arena.specs.Nodes.{most_nodes}
 use Rattle.equation_law.specs.Program.{attribute_instances}
 use Rattle.equation_law.specs.Systems.{program_of}
 use Rattle.equation_law.specs.Named.{instance_of}

@@ -1,10 +1,11 @@
 use Rattle.std.proofs.Common.{List, [], ◌∷◌, None, false, arith, map, codes, refl, sym, ap, subst}
 use Rattle.ast_grammar.specs.declared.grammar.Shape.TheVariants as shapes
 use Rattle.ast_grammar.specs.Grammar.{Class}
-use Rattle.equation_law.specs.declared.tree.FirstNode.{FirstNode}
-use Rattle.equation_law.specs.Preorder.{IsTree, TellsNode, TellsToken, Told, node, over, token}
-use Rattle.equation_law.specs.Program.{Node}
-use Rattle.equation_law.specs.Trees.{node_of}
+use Rattle.tree_arena.specs.declared.tree.FirstNode.{FirstNode}
+use Rattle.tree_arena.specs.Kept.{node_of}
+use Rattle.tree_arena.specs.Nodes.{Node}
+use Rattle.tree_arena.specs.Terms.{Empty, Forest, IsTree, Tree, one, over, root, token}
+use Rattle.tree_arena.proofs.Counted.{few_tested}
 use Rattle.equation_law.proofs.Lists.{added}
 use Rattle.equation_law.proofs.tests.nodes.Goals as goal
 
@@ -25,16 +26,11 @@ pairs =
     } ∷
     []
 
-abbrev told : List Told
-told =
-    TellsNode (record { 0 = 0 }) 0 0 ∷
-    TellsNode (record { 0 = 1 }) 0 0 ∷
-    TellsToken 1 0 4294967291 ∷
-    TellsToken 1 1 1 ∷
-    TellsNode (record { 0 = 1 }) 0 1 ∷
-    TellsToken 2 0 7 ∷
-    TellsToken 2 1 0 ∷
-    []
+abbrev term : Forest
+term =
+    Tree (record { 0 = 0 }) 0 (0 ∷ 0 ∷ [])
+    (Tree (record { 0 = 1 }) 0 (4294967291 ∷ 1 ∷ []) Empty (Tree (record { 0 = 1 }) 1 (7 ∷ 0 ∷ []) Empty Empty))
+    Empty
 
 abbrev three : List Node
 three =
@@ -47,9 +43,11 @@ three =
 three_nodes : IsTree three
 three_nodes = record {
   grammar = pairs;
+  short = few_tested pairs refl;
+  texts = 0;
   tree = record {
-    told = told;
-    tells = node (record { below = refl; concrete = refl }) (node (record { below = refl; concrete = refl }) (token (omega arith) (token (omega arith) (node (record { below = refl; concrete = refl }) (token (omega arith) (token (omega arith) over))))));
+    term = term;
+    grown = root (record { below = refl; concrete = refl }) (one tt (record { below = refl; concrete = refl }) (token (omega arith) (token (omega arith) over)) (one tt (record { below = refl; concrete = refl }) (token (omega arith) (token (omega arith) over)) over));
     are = refl;
     few = omega arith;
   };

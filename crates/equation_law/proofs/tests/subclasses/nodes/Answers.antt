@@ -2,10 +2,11 @@ use Rattle.std.proofs.Common.{List, [], ◌∷◌, Some, None, true, false, arit
 use Rattle.superclasses.specs.Superclasses.{line_of}
 use Rattle.ast_grammar.specs.declared.grammar.Shape.TheVariants as shapes
 use Rattle.ast_grammar.specs.Grammar.{Class, Component, superclasses_of}
-use Rattle.equation_law.specs.declared.tree.FirstNode.{FirstNode}
-use Rattle.equation_law.specs.Preorder.{Fits, IsTree, TellsNode, TellsToken, Told, node, over, token}
-use Rattle.equation_law.specs.Program.{Node}
-use Rattle.equation_law.specs.Trees.{node_of}
+use Rattle.tree_arena.specs.declared.tree.FirstNode.{FirstNode}
+use Rattle.tree_arena.specs.Kept.{node_of}
+use Rattle.tree_arena.specs.Nodes.{Node}
+use Rattle.tree_arena.specs.Terms.{Empty, Fits, Forest, IsTree, Tree, one, over, root, token}
+use Rattle.tree_arena.proofs.Counted.{few_tested}
 use Rattle.equation_law.proofs.Lists.{added}
 use Rattle.equation_law.proofs.tests.subclasses.nodes.Goals as goal
 
@@ -36,16 +37,11 @@ classes =
     } ∷
     []
 
-abbrev told : List Told
-told =
-    TellsNode (record { 0 = 0 }) 0 0 ∷
-    TellsNode (record { 0 = 2 }) 0 0 ∷
-    TellsToken 1 0 4294967291 ∷
-    TellsToken 1 1 1 ∷
-    TellsNode (record { 0 = 3 }) 0 1 ∷
-    TellsToken 2 0 7 ∷
-    TellsToken 2 1 0 ∷
-    []
+abbrev term : Forest
+term =
+    Tree (record { 0 = 0 }) 0 (0 ∷ 0 ∷ [])
+    (Tree (record { 0 = 2 }) 0 (4294967291 ∷ 1 ∷ []) Empty (Tree (record { 0 = 3 }) 1 (7 ∷ 0 ∷ []) Empty Empty))
+    Empty
 
 abbrev three : List Node
 three =
@@ -71,9 +67,11 @@ right_fits = record { below = refl; concrete = refl }
 three_nodes : IsTree three
 three_nodes = record {
   grammar = classes;
+  short = few_tested classes refl;
+  texts = 0;
   tree = record {
-    told = told;
-    tells = node first_fits (node left_fits (token (omega arith) (token (omega arith) (node right_fits (token (omega arith) (token (omega arith) over))))));
+    term = term;
+    grown = root first_fits (one tt left_fits (token (omega arith) (token (omega arith) over)) (one tt right_fits (token (omega arith) (token (omega arith) over)) over));
     are = refl;
     few = omega arith;
   };
