@@ -1,5 +1,5 @@
 -- What a query asks is well typed, and what the four files say breaks no rule.
-use Rattle.std.proofs.Common.{◌≡◌, ℕ, ◌<◌, Bool, true, cond, ◌&&◌, List, [], ◌∷◌, Option, Some, None, All, get_or, length, refl, sym, ap, subst, ◌∙◌, arith}
+use Rattle.std.proofs.Common.{◌≡◌, ℕ, Bool, true, cond, ◌&&◌, List, [], Option, Some, None, All, get_or, length, refl, sym, ap, subst, ◌∙◌, arith}
 use Rattle.std.specs.Option.{option_and_then, option_map}
 use Rattle.std.specs.Str.{bytes_eq}
 use Rattle.std.proofs.lemmas.List.Elements.{All-cons}
@@ -11,8 +11,7 @@ use Rattle.ast_grammar.specs.declared.grammar.Shape.{Shape}
 use Rattle.ast_grammar.specs.declared.grammar.Shape.TheVariants as shapes
 use Rattle.superclasses.specs.Superclasses.{is_sub as is_below}
 use Rattle.ast_grammar.specs.Grammar.{Class, Component, IsGrammar, component_at, is_sub, superclasses_of}
-use Rattle.ast_grammar.proofs.CleanRules.{clean_grammar}
-use Rattle.ast_grammar.proofs.WrittenClasses.{class_count}
+use Rattle.ast_grammar.proofs.Read.{said_allowed}
 use Rattle.attr_types.specs.declared.kinds.Kind.TheVariants as kinds
 use Rattle.attr_types.specs.Accessors.{access, accessed_by, attribute_call, named_component, named_on, named_or}
 use Rattle.attr_types.specs.Expression.{Expression, Source}
@@ -20,12 +19,14 @@ use Rattle.attr_types.specs.Rules.{Attribute, Item, RuleSet, attribute_named, pl
 use Rattle.attr_types.specs.Typing.{called_on, call_type, child_kind, child_type, component_on, node_type, token_kind, token_read, token_type}
 use Rattle.solutions.proofs.Runs.{and_true}
 use Rattle.equation_law.specs.Checked.{IsProgram, IsTyped}
-use Rattle.equation_law.specs.Preorder.{IsTreeOf, Open, Subtree, Tells, Told, node}
+use Rattle.tree_arena.specs.Nodes.{Node}
+use Rattle.tree_arena.specs.Terms.{IsTreeOf}
+use Rattle.tree_reader.proofs.Said.{said_tree}
 use Rattle.equation_law.specs.Program.{Program, class_of, declared_of}
-use Rattle.query_runner.specs.Files.{Contents, ReadsGrammar, SaysProgram}
+use Rattle.query_runner.specs.Files.{Contents, ReadsGrammar, ReadsTree, SaysProgram}
 use Rattle.query_runner.specs.Queries.{SaysLines, over, silent, query, SaysQuery, SaysQueries}
-use Rattle.query_runner.specs.Tokens.{text_at, decimal}
-use Rattle.query_runner.proofs.Laying.{says_tree}
+use Rattle.rag_io.specs.Decimal.{decimal}
+use Rattle.query_runner.specs.Tokens.{text_at}
 
 -- an attribute, where none is found
 some_attribute : Attribute
@@ -98,26 +99,22 @@ superclasses_in : (rules : RuleSet) (s : List (Option ℕ)) (items : List Item) 
 unfolding rules_of
 superclasses_in rules s items are = ap (λ (r : RuleSet). r.superclasses) are
 
--- a grammar has a class, where it has a tree
-some_class : (g : List Class) {wanted : ClassId} {parent k n : ℕ} {parts : List Open} {told : List Told} → Tells g (Subtree wanted parent k ∷ parts) n told → 0 < length g
-some_class [] (node fit t) = let none = fit.concrete in absurd cc
-some_class (c ∷ g) t = omega arith
+-- what the bytes of a grammar file say breaks no rule
+pub grammar_allowed : {g : List Class} {bytes : List ℕ} → ReadsGrammar bytes g → IsGrammar g
+grammar_allowed {bytes = bytes} s = said_allowed (record { bytes = bytes; scanned = s.scanned }) s.says
 
--- rules that are said and break nothing write an abstract grammar, where they write a class
-grammar_allowed : {g : List Class} {bytes : List ℕ} → ReadsGrammar bytes g → 0 < length g → IsGrammar g
-grammar_allowed {g} s some =
-    let count = ap length s.says.classes ∙ class_count s.says.rules in
-    subst IsGrammar (sym s.says.classes) (clean_grammar s.says.rules (omega (arith, some, count)) s.says.clean)
+-- and what the bytes of a tree file say is a tree of the grammar
+pub tree_allowed : {g : List Class} {bytes : List ℕ} {tree : List Node} {texts : List (List ℕ)} → ReadsTree g bytes tree texts → IsTreeOf g (length texts) tree
+tree_allowed {g} {tree = tree} s = subst (λ (x : List (List ℕ)). IsTreeOf g (length x) tree) (sym s.pooled) (said_tree s.says)
 
 -- the four files say a program that breaks no rule
 pub is_program : (held : Contents) (p : Program) → SaysProgram held p → IsProgram p
 is_program held p s =
-    let tree : IsTreeOf p.grammar p.tree = says_tree p.grammar s.tree.tokens p.tree s.tree.says in
     record {
       items = s.items;
-      grammar = grammar_allowed s.grammar (some_class p.grammar tree.tells);
+      grammar = grammar_allowed s.grammar;
       allowed = s.aspects.says.allowed;
       rules = s.rules;
-      tree = tree;
+      tree = tree_allowed s.tree;
       queries = queries_typed p (superclasses_in p.rules (superclasses_of p.grammar) s.items s.rules) s.queries;
     }

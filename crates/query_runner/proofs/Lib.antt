@@ -1,13 +1,13 @@
 pub mod Answerable
 pub mod Answered
-pub mod Assembling
 pub mod Ends
 pub mod Fits
 pub mod KeptHeads
-pub mod Laying
 pub mod Lines
 pub mod Membership
 pub mod OneAnswer
+pub mod OneReading
+pub mod OneReply
 pub mod Pieces
 pub mod Preparing
 pub mod ReplyLines
@@ -15,10 +15,7 @@ pub mod Resolving
 pub mod Right
 pub mod SayingAspects
 pub mod SayingQueries
-pub mod SayingTrees
-pub mod Sofar
 pub mod Stopping
-pub mod Telling
 pub mod TypedNames
 pub mod Uniqueness
 pub mod Unread

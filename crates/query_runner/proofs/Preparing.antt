@@ -1,18 +1,21 @@
 -- What is to be written, from what was fetched and read.
-use Rattle.std.proofs.Common.{◌≡◌, ℕ, List, ◌++◌, Option, Some, None, Result, Ok, Err, IfOk, codes, sym, subst}
-use Rattle.rag_io.specs.Outside.{Named}
+use Rattle.std.proofs.Common.{◌≡◌, ◌≤◌, ℕ, List, ◌++◌, Option, Some, None, Result, Ok, Err, IfOk, codes, sym, subst, ◌∙◌, arith}
+use Rattle.rag_io.specs.Outside.{Named, Rose}
 use Rattle.broken_rules.specs.declared.broken.Broken.{Broken}
 use Rattle.query_runner.specs.declared.running.Answer.{Answer}
 use Rattle.query_runner.specs.declared.running.Answer.TheVariants as answers
 use Rattle.query_runner.specs.declared.running.Failure.{Failure}
-use Rattle.query_runner.specs.Answered.{AnswersWhereTold, status_of, text_of}
-use Rattle.query_runner.specs.Fetched.{FirstLongWhereTold, HoldsFetched}
-use Rattle.query_runner.specs.Files.{BreaksRule, Contents, File, IsNotBuilt, SaysProgram}
-use Rattle.query_runner.specs.Output.{Answers, AreReplies, broken, broken_line, misused, refused, replied, too_long, not_built, name_of}
-use Rattle.query_runner.specs.Words.{FileNames, names_of}
+use Rattle.query_runner.specs.declared.fetching.Stop.{Stop}
+use Rattle.query_runner.specs.declared.fetching.Stop.TheVariants as stops
+use Rattle.query_runner.specs.declared.running.Failure.TheVariants as failures
+use Rattle.query_runner.specs.Answered.{AnswersWhereTold, Stopped, status_of, text_of}
+use Rattle.query_runner.specs.Fetched.{FirstLongWhereTold, HoldsFetched, HoldsTreeFetched, StopsAll}
+use Rattle.query_runner.specs.Files.{Contents, File, IsBroken, IsNotBuilt, IsTreeBroken, SaysProgram, SaysText, TreeContents}
+use Rattle.query_runner.specs.Output.{Answers, AreReplies, broken, broken_line, broken_tree, files_of, misused, printed, refused, replied, too_long, tree_name_of, not_built, name_of}
+use Rattle.query_runner.specs.Words.{Command, FileNames, PrintTree, Run, TreeNames, command_of}
 use Rattle.equation_law.specs.Program.{Program}
 
-pub usage_answer : (words : List (List ℕ)) (files : Option (List Named)) → names_of words ≡ None → AnswersWhereTold words files answers.Usage
+pub usage_answer : (words : List (List ℕ)) (files : Option (List Named)) → command_of words ≡ None → AnswersWhereTold words files answers.Usage
 usage_answer words None e = tt
 usage_answer words (Some files) e = misused e
 
@@ -20,25 +23,61 @@ usage_answer words (Some files) e = misused e
 line_answer : (words : List (List ℕ)) (files : List Named) (line : List ℕ) (a : Answer) → Answers words files 1 line → (status_of a ≡ 1) × (text_of a ≡ line) → Answers words files (status_of a) (text_of a)
 line_answer words files line a is e = subst (λ (s : ℕ). Answers words files s (text_of a)) (sym e.0) (subst (λ (t : List ℕ). Answers words files 1 t) (sym e.1) is)
 
-pub long_answer : (words : List (List ℕ)) (files : Option (List Named)) (names : FileNames) (name : List ℕ) (r : Result Answer Failure) → names_of words ≡ Some names → FirstLongWhereTold files names name
+pub long_answer : (words : List (List ℕ)) (files : Option (List Named)) (command : Command) (name : List ℕ) (r : Result Answer Failure) → command_of words ≡ Some command → FirstLongWhereTold files (files_of command) name
     → IfOk r (λ a. (status_of a ≡ 1) × (text_of a ≡ name ++ codes ": too long\n")) → IfOk r (λ a. AnswersWhereTold words files a)
-long_answer words None names name (Ok a) read long e = tt
-long_answer words (Some files) names name (Ok a) read long e = line_answer words files (name ++ codes ": too long\n") a (refused (too_long read long)) e
-long_answer words files names name (Err f) read long e = tt
+long_answer words None command name (Ok a) read long e = tt
+long_answer words (Some files) command name (Ok a) read long e = line_answer words files (name ++ codes ": too long\n") a (refused (too_long read long)) e
+long_answer words files command name (Err f) read long e = tt
 
-pub unbuilt_answer : (words : List (List ℕ)) (files : Option (List Named)) (names : FileNames) (held : Contents) (file : File) (r : Result Answer Failure) → names_of words ≡ Some names → HoldsFetched files names held → IsNotBuilt held file
+-- fetching the files of a command stopped
+pub stop_answer : (words : List (List ℕ)) (files : Option (List Named)) (command : Command) (before now : ℕ) (stop : Stop) (r : Result Answer Failure) → command_of words ≡ Some command → StopsAll files (files_of command) before now stop
+    → Stopped stop r → IfOk r (λ a. AnswersWhereTold words files a)
+stop_answer words files command before now stops.Failed r read cause is = subst (λ x. IfOk x (λ a. AnswersWhereTold words files a)) (sym is) tt
+stop_answer words files command before now stops.Memory r read cause is = subst (λ x. IfOk x (λ a. AnswersWhereTold words files a)) (sym is) tt
+stop_answer words files command before now (stops.TooLong name) r read cause is = long_answer words files command name.now r read cause is.0
+
+-- it gives a line, or nothing; nothing for a fault of the shelf only where the shelf's count rose
+pub stop_status : (stop : Stop) (r : Result Answer Failure) → Stopped stop r → IfOk r (λ a. status_of a ≤ 1)
+stop_status stops.Failed r is = subst (λ x. IfOk x (λ a. status_of a ≤ 1)) (sym is) tt
+stop_status stops.Memory r is = subst (λ x. IfOk x (λ a. status_of a ≤ 1)) (sym is) tt
+stop_status (stops.TooLong name) (Ok a) is = omega (arith, is.0.0)
+stop_status (stops.TooLong name) (Err f) is = tt
+
+pub stop_fetch : (files : Option (List Named)) (names : List (List ℕ)) (before now : ℕ) (stop : Stop) (r : Result Answer Failure) → StopsAll files names before now stop → Stopped stop r → r ≡ Err failures.Fetch → Rose before now
+stop_fetch files names before now stops.Failed r cause is fails = cause
+stop_fetch files names before now stops.Memory r cause is fails = let both = sym is ∙ fails in cc
+stop_fetch files names before now (stops.TooLong name) r cause is fails = absurd (is.1 fails)
+
+pub unbuilt_answer : (words : List (List ℕ)) (files : Option (List Named)) (names : FileNames) (held : Contents) (file : File) (r : Result Answer Failure) → command_of words ≡ Some (Run names) → HoldsFetched files names held → IsNotBuilt held file
     → IfOk r (λ a. (status_of a ≡ 1) × (text_of a ≡ name_of names file ++ codes ": not built\n")) → IfOk r (λ a. AnswersWhereTold words files a)
 unbuilt_answer words None names held file (Ok a) read holds cause e = tt
 unbuilt_answer words (Some files) names held file (Ok a) read holds cause e = line_answer words files (name_of names file ++ codes ": not built\n") a (refused (not_built read holds cause)) e
 unbuilt_answer words files names held file (Err f) read holds cause e = tt
 
-pub broken_answer : (words : List (List ℕ)) (files : Option (List Named)) (names : FileNames) (held : Contents) (b : Broken) (r : Result Answer Failure) → names_of words ≡ Some names → HoldsFetched files names held → BreaksRule held.ast b
-    → IfOk r (λ a. (status_of a ≡ 1) × (text_of a ≡ broken_line names.ast b)) → IfOk r (λ a. AnswersWhereTold words files a)
-broken_answer words None names held b (Ok a) read holds cause e = tt
-broken_answer words (Some files) names held b (Ok a) read holds cause e = line_answer words files (broken_line names.ast b) a (refused (broken read holds cause)) e
-broken_answer words files names held b (Err f) read holds cause e = tt
+pub broken_answer : (words : List (List ℕ)) (files : Option (List Named)) (names : FileNames) (held : Contents) (file : File) (b : Broken) (r : Result Answer Failure) → command_of words ≡ Some (Run names) → HoldsFetched files names held → IsBroken held file b
+    → IfOk r (λ a. (status_of a ≡ 1) × (text_of a ≡ broken_line (name_of names file) b)) → IfOk r (λ a. AnswersWhereTold words files a)
+broken_answer words None names held file b (Ok a) read holds cause e = tt
+broken_answer words (Some files) names held file b (Ok a) read holds cause e = line_answer words files (broken_line (name_of names file) b) a (refused (broken read holds cause)) e
+broken_answer words files names held file b (Err f) read holds cause e = tt
 
-pub reply_answer : (words : List (List ℕ)) (files : Option (List Named)) (names : FileNames) (held : Contents) (p : Program) (text : List ℕ) → names_of words ≡ Some names → HoldsFetched files names held → SaysProgram held p
+pub broken_tree_answer : (words : List (List ℕ)) (files : Option (List Named)) (names : TreeNames) (held : TreeContents) (file : File) (b : Broken) (r : Result Answer Failure) → command_of words ≡ Some (PrintTree names)
+    → HoldsTreeFetched files names held → IsTreeBroken held file b → IfOk r (λ a. (status_of a ≡ 1) × (text_of a ≡ broken_line (tree_name_of names file) b)) → IfOk r (λ a. AnswersWhereTold words files a)
+broken_tree_answer words None names held file b (Ok a) read holds cause e = tt
+broken_tree_answer words (Some files) names held file b (Ok a) read holds cause e = line_answer words files (broken_line (tree_name_of names file) b) a (refused (broken_tree read holds cause)) e
+broken_tree_answer words files names held file b (Err f) read holds cause e = tt
+
+-- a line has status 1
+pub line_status : (line : List ℕ) (r : Result Answer Failure) → IfOk r (λ a. (status_of a ≡ 1) × (text_of a ≡ line)) → IfOk r (λ a. status_of a ≤ 1)
+line_status line (Ok a) e = omega (arith, e.0)
+line_status line (Err f) e = tt
+
+pub tree_answer : (words : List (List ℕ)) (files : Option (List Named)) (names : TreeNames) (held : TreeContents) (text : List ℕ) → command_of words ≡ Some (PrintTree names) → HoldsTreeFetched files names held → SaysText held text
+    → (a : Answer) → status_of a ≡ 0 → text_of a ≡ text → AnswersWhereTold words files a
+tree_answer words None names held text read holds said a s t = tt
+tree_answer words (Some files) names held text read holds said a s t =
+    subst (λ (k : ℕ). Answers words files k (text_of a)) (sym s) (subst (λ (x : List ℕ). Answers words files 0 x) (sym t) (printed (record { names = names; contents = held; read = read; held = holds; said = said })))
+
+pub reply_answer : (words : List (List ℕ)) (files : Option (List Named)) (names : FileNames) (held : Contents) (p : Program) (text : List ℕ) → command_of words ≡ Some (Run names) → HoldsFetched files names held → SaysProgram held p
     → AreReplies p 0 p.queries text → (a : Answer) → status_of a ≡ 0 → text_of a ≡ text → AnswersWhereTold words files a
 reply_answer words None names held p text read holds said replies a s t = tt
 reply_answer words (Some files) names held p text read holds said replies a s t =

@@ -10,11 +10,12 @@ use Rattle.attr_types.specs.declared.queries.QueryEq.{QueryEq}
 use Rattle.attr_types.specs.Accessors.{named_on}
 use Rattle.attr_types.specs.Expression.{Expression, Source}
 use Rattle.attr_types.specs.Rules.{RuleSet, attribute_named}
-use Rattle.equation_law.specs.Program.{Node}
+use Rattle.tree_arena.specs.Nodes.{Node}
 use Rattle.query_runner.specs.Queries.{query_class, SaysQuery, SaysLines, over, silent, query, SaysQueries, AreLines, none, most_lines}
 use Rattle.query_runner.specs.QueryGrammar.{query_grammar}
 use Rattle.query_runner.specs.QuerySteps.{IsCall, AnswersCall, AnswersQuery, AnswersLine, SaysLine, IsFirstLine, Adds, nothing, one, IsWrong, SaysBehind, IsSofar}
-use Rattle.query_runner.specs.Tokens.{text_at, decimal}
+use Rattle.rag_io.specs.Decimal.{decimal}
+use Rattle.query_runner.specs.Tokens.{text_at}
 use Rattle.query_runner.proofs.Lines.{parted, joined, some_line, one_lines}
 
 module _ (g : List Class) (rules : RuleSet) (tree : List Node) where

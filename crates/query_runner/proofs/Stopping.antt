@@ -1,5 +1,5 @@
--- Why fetching the four files stops, from why fetching one of them stops.
-use Rattle.std.proofs.Common.{◌≡◌, ℕ, ◌≤◌, List, Option, Some, None, Result, Err, IfErr, sym, ap, subst, arith, ◌∙◌}
+-- Why fetching some files stops, from why fetching one of them stops.
+use Rattle.std.proofs.Common.{◌≡◌, ℕ, ◌≤◌, List, ◌∷◌, Option, Some, None, Result, Err, IfErr, sym, ap, subst, arith, ◌∙◌}
 use Rattle.std.specs.Result.{IsErr, IsErrAnd}
 use Rattle.std.proofs.lemmas.Result.{err_from_is_err_and}
 use Rattle.rag_io.specs.Outside.{Named, IsShort, Rose}
@@ -7,7 +7,6 @@ use Rattle.query_runner.specs.declared.fetching.Stop.{Stop}
 use Rattle.query_runner.specs.declared.fetching.Stop.TheVariants as stops
 use Rattle.query_runner.specs.Fetched.{Holds, LongWhereTold, FirstLongWhereTold, StopsOne, StopsAll}
 use Rattle.query_runner.specs.Output.{here, later as behind}
-use Rattle.query_runner.specs.Words.{FileNames}
 
 -- an error that `?` hands on
 pub handed_on : {T E : Type 0} (r : Result T E) {e : E} (P : E → Type 0) → IsErr r × IsErrAnd r (λ m. m ≡ e) → P e → IfErr r P
@@ -16,7 +15,7 @@ handed_on r P h p = let q = err_from_is_err_and r h.1 in subst (λ x. IfErr x P)
 rose_from : (before mid now : ℕ) → before ≤ mid → Rose mid now → Rose before now
 rose_from before mid now le rose = omega arith
 
-pub stops_all : (files : Option (List Named)) (names : FileNames) (name : List ℕ) (before mid now : ℕ) (stop : Stop) → before ≤ mid
+pub stops_all : (files : Option (List Named)) (names : List (List ℕ)) (name : List ℕ) (before mid now : ℕ) (stop : Stop) → before ≤ mid
     → (LongWhereTold files name → FirstLongWhereTold files names name) → StopsOne files name mid now stop → StopsAll files names before now stop
 stops_all files names name before mid now stops.Failed le first cause = rose_from before mid now le cause
 stops_all files names name before mid now (stops.TooLong found) le first cause = subst (λ (n : List ℕ). FirstLongWhereTold files names n) (sym cause.1) (first cause.0)
@@ -33,23 +32,12 @@ holds_same files later name bytes e held = subst (λ (f : Option (List Named)). 
 short : (files : List Named) (name bytes : List ℕ) → Holds (Some files) name bytes → IsShort files name
 short files name bytes h = record { bytes = bytes; held = h.held; fits = h.fits }
 
-pub first_is_long : (files : Option (List Named)) (names : FileNames) → LongWhereTold files names.ast → FirstLongWhereTold files names names.ast
-first_is_long None names long = tt
-first_is_long (Some files) names long = here long
+-- the first file is too long
+pub first_is_long : (files : Option (List Named)) (name : List ℕ) (more : List (List ℕ)) → LongWhereTold files name → FirstLongWhereTold files (name ∷ more) name
+first_is_long None name more long = tt
+first_is_long (Some files) name more long = here long
 
-module _ (names : FileNames) (ast : List ℕ) where
-  pub second_is_long : (files : Option (List Named)) → Holds files names.ast ast → LongWhereTold files names.jrag → FirstLongWhereTold files names names.jrag
-  second_is_long None a long = tt
-  second_is_long (Some files) a long = behind (short files names.ast ast a) (here long)
-
-  module _ (jrag : List ℕ) where
-    pub third_is_long : (files : Option (List Named)) → Holds files names.ast ast → Holds files names.jrag jrag → LongWhereTold files names.tree → FirstLongWhereTold files names names.tree
-    third_is_long None a b long = tt
-    third_is_long (Some files) a b long = behind (short files names.ast ast a) (behind (short files names.jrag jrag b) (here long))
-
-    module _ (tree : List ℕ) where
-      pub fourth_is_long : (files : Option (List Named)) → Holds files names.ast ast → Holds files names.jrag jrag → Holds files names.tree tree
-          → LongWhereTold files names.queries → FirstLongWhereTold files names names.queries
-      fourth_is_long None a b c long = tt
-      fourth_is_long (Some files) a b c long =
-          behind (short files names.ast ast a) (behind (short files names.jrag jrag b) (behind (short files names.tree tree c) (here long)))
+-- the first was fetched, and of the others one is the first that is too long
+pub later_is_long : (files : Option (List Named)) (name bytes : List ℕ) (more : List (List ℕ)) (found : List ℕ) → Holds files name bytes → FirstLongWhereTold files more found → FirstLongWhereTold files (name ∷ more) found
+later_is_long None name bytes more found held long = tt
+later_is_long (Some files) name bytes more found held long = behind (short files name bytes held) long

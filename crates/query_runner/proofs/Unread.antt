@@ -1,5 +1,5 @@
 -- What the tokens of a file say or don't, its bytes do or don't; and which file is refused.
-use Rattle.std.proofs.Common.{◌≡◌, ℕ, ◌≤◌, List, length, Result, Ok, Err, sym, ap, subst, arith, ◌∙◌}
+use Rattle.std.proofs.Common.{◌≡◌, ℕ, ◌≤◌, List, length, Result, Ok, Err, IfOk, sym, ap, subst, arith, ◌∙◌}
 use Rattle.std.specs.Result.{IsErr, IsErrAnd}
 use Rattle.std.proofs.lemmas.Result.{err_from_is_err_and}
 use Rattle.rag_io.specs.Tokens.{Lexed, IsTokens, first_place}
@@ -10,16 +10,21 @@ use Rattle.ast_grammar.specs.Grammar.{Class}
 use Rattle.ast_grammar.specs.Reading.{ReadsAst}
 use Rattle.attr_types.specs.Expression.{Expression}
 use Rattle.attr_types.specs.Rules.{Item, RuleSet}
-use Rattle.equation_law.specs.Program.{Node, most_replies}
+use Rattle.tree_arena.specs.Nodes.{Node}
+use Rattle.tree_arena.specs.Terms.{Forest, IsTerm, IsTreeOf, nodes_of}
+use Rattle.tree_writer.specs.Canonical.{canonical}
+use Rattle.equation_law.specs.Program.{most_replies}
 use Rattle.query_runner.specs.declared.files.Refusal.{Refusal}
 use Rattle.query_runner.specs.declared.files.Unread.{Unread}
 use Rattle.query_runner.specs.declared.files.Unread.TheVariants.{NotBuilt, Memory}
 use Rattle.query_runner.specs.declared.words.FileKind.TheVariants as files
 use Rattle.query_runner.specs.Aspects.{SaysAspects}
-use Rattle.query_runner.specs.Built.{AnswersGrammar, AnswersRules, AnswersSource, AnswersAsked, ReadsRules, Refuses, IsRefusal}
-use Rattle.query_runner.specs.Files.{Contents, ReadsGrammar, ReadsItems, ReadsTree, by_tokens, no_items, no_tree, no_queries}
+use Rattle.query_runner.specs.Built.{AnswersAsked, AnswersGrammar, AnswersRules, AnswersSource, BreaksFile, IsRefusal, IsTreeRefusal, ReadsRules, Refuses}
+use Rattle.tree_reader.specs.Breaking.{pooled_texts}
+use Rattle.tree_reader.specs.Reading.{ReadsTree as TreeRead}
+use Rattle.query_runner.specs.Files as held
+use Rattle.query_runner.specs.Files.{Contents, ReadsGrammar, ReadsItems, ReadsTree, SaysText, TreeContents, no_texts, no_items, no_queries}
 use Rattle.query_runner.specs.Queries.{SaysLines, over, silent, query, SaysQueries}
-use Rattle.query_runner.specs.Trees.{SaysTree}
 
 -- where `?` hands on want of memory
 pub out_of_memory : {T : Type 0} (P : Result T Unread → Type 0) (r : Result T Unread) → IsErr r × IsErrAnd r (λ u. u ≡ Memory) → P (Err Memory) → P r
@@ -28,33 +33,64 @@ out_of_memory P r h p = let q = err_from_is_err_and r h.1 in subst P (sym (q.1 �
 module _ {bytes : List ℕ} {ts : List Lexed} (scanned : IsTokens first_place bytes ts) where
   pub answers_grammar : (r : Result (List Class) ReadFault) → ReadsAst ts r → AnswersGrammar bytes r
   answers_grammar (Ok g) says = record { tokens = ts; scanned = scanned; says = says }
-  answers_grammar (Err (faults.Broken b)) broken = by_tokens scanned broken
+  answers_grammar (Err (faults.Broken b)) broken = held.BreaksGrammar.by_tokens scanned broken
   answers_grammar (Err faults.Memory) none = tt
 
   pub says_no_items : (g : List Class) → ((items : List Item) → SaysAspects g ts items → ⊥) → (items : List Item) → ReadsItems g bytes items → ⊥
   says_no_items g none items r = none items (subst (λ (us : List Lexed). SaysAspects g us items) (one_list r.scanned scanned) r.says)
 
-  pub says_no_tree : (g : List Class) → ((tree : List Node) → SaysTree g ts tree → ⊥) → (tree : List Node) → ReadsTree g bytes tree → ⊥
-  says_no_tree g none tree r = none tree (subst (λ (us : List Lexed). SaysTree g us tree) (one_list r.scanned scanned) r.says)
+  pub answers_source : (g : List Class) (r : Result (List Node) ReadFault) (texts : List (List ℕ)) → TreeRead g no_texts ts r → IfOk r (λ _. texts ≡ pooled_texts no_texts ts) → AnswersSource g bytes texts r
+  answers_source g (Ok tree) texts says pooled = record { tokens = ts; scanned = scanned; says = says; pooled = pooled }
+  answers_source g (Err (faults.Broken b)) texts broken pooled = held.BreaksTree.by_tokens scanned broken
+  answers_source g (Err faults.Memory) texts none pooled = tt
 
-module _ (held : Contents) (unread : Unread) (refusal : Refusal) where
-  pub jrag_refused : {g : List Class} → ReadsGrammar held.ast g → AnswersRules g held.jrag (Err unread) → Refuses files.Jrag unread refusal → IsRefusal held refusal
-  jrag_refused {g} grammar answer is = elim unread as (λ u. AnswersRules g held.jrag (Err u) → Refuses files.Jrag u refusal → IsRefusal held refusal) [
-    | NotBuilt ↦ λ a e. subst (IsRefusal held) (sym e) (no_items grammar a)
-    | Memory ↦ λ a e. subst (IsRefusal held) (sym e) tt
+-- a grammar that is refused, and a tree
+module _ (contents : Contents) (fault : ReadFault) (refusal : Refusal) where
+  pub grammar_refused : AnswersGrammar contents.ast (Err fault) → BreaksFile files.Ast fault refusal → IsRefusal contents refusal
+  grammar_refused answer is = elim fault as (λ f. AnswersGrammar contents.ast (Err f) → BreaksFile files.Ast f refusal → IsRefusal contents refusal) [
+    | faults.Broken b ↦ λ a e. subst (IsRefusal contents) (sym e) (held.IsBroken.grammar a)
+    | faults.Memory ↦ λ a e. subst (IsRefusal contents) (sym e) tt
   ] answer is
 
-  pub tree_refused : {g : List Class} {rules : RuleSet} → ReadsGrammar held.ast g → ReadsRules g held.jrag rules → AnswersSource g held.tree (Err unread) → Refuses files.Tree unread refusal → IsRefusal held refusal
-  tree_refused {g} grammar rules answer is = elim unread as (λ u. AnswersSource g held.tree (Err u) → Refuses files.Tree u refusal → IsRefusal held refusal) [
-    | NotBuilt ↦ λ a e. subst (IsRefusal held) (sym e) (no_tree grammar rules.reads a)
-    | Memory ↦ λ a e. subst (IsRefusal held) (sym e) tt
+  pub tree_refused : {g : List Class} {rules : RuleSet} (texts : List (List ℕ)) → ReadsGrammar contents.ast g → ReadsRules g contents.jrag rules → AnswersSource g contents.tree texts (Err fault)
+      → BreaksFile files.Tree fault refusal → IsRefusal contents refusal
+  tree_refused {g} texts grammar rules answer is = elim fault as (λ f. AnswersSource g contents.tree texts (Err f) → BreaksFile files.Tree f refusal → IsRefusal contents refusal) [
+    | faults.Broken b ↦ λ a e. subst (IsRefusal contents) (sym e) (held.IsBroken.tree grammar rules.reads a)
+    | faults.Memory ↦ λ a e. subst (IsRefusal contents) (sym e) tt
   ] answer is
 
-  pub queries_refused : {g : List Class} {rules : RuleSet} {tree : List Node} → ReadsGrammar held.ast g → ReadsRules g held.jrag rules → ReadsTree g held.tree tree
-      → AnswersAsked g rules tree held.queries (Err unread) → Refuses files.Queries unread refusal → IsRefusal held refusal
-  queries_refused {g} {rules} {tree} grammar reads source answer is = elim unread as (λ u. AnswersAsked g rules tree held.queries (Err u) → Refuses files.Queries u refusal → IsRefusal held refusal) [
-    | NotBuilt ↦ λ a e. subst (IsRefusal held) (sym e) (no_queries grammar reads.reads source (λ es s. a es (subst (λ (r : RuleSet). SaysQueries g r tree held.queries es) (sym reads.are) s)))
-    | Memory ↦ λ a e. subst (IsRefusal held) (sym e) tt
+module _ (contents : TreeContents) (fault : ReadFault) (refusal : Refusal) where
+  pub lone_grammar_refused : AnswersGrammar contents.ast (Err fault) → BreaksFile files.Ast fault refusal → IsTreeRefusal contents refusal
+  lone_grammar_refused answer is = elim fault as (λ f. AnswersGrammar contents.ast (Err f) → BreaksFile files.Ast f refusal → IsTreeRefusal contents refusal) [
+    | faults.Broken b ↦ λ a e. subst (IsTreeRefusal contents) (sym e) (held.IsTreeBroken.grammar a)
+    | faults.Memory ↦ λ a e. subst (IsTreeRefusal contents) (sym e) tt
+  ] answer is
+
+  pub lone_tree_refused : {g : List Class} (texts : List (List ℕ)) → ReadsGrammar contents.ast g → AnswersSource g contents.tree texts (Err fault) → BreaksFile files.Tree fault refusal → IsTreeRefusal contents refusal
+  lone_tree_refused {g} texts grammar answer is = elim fault as (λ f. AnswersSource g contents.tree texts (Err f) → BreaksFile files.Tree f refusal → IsTreeRefusal contents refusal) [
+    | faults.Broken b ↦ λ a e. subst (IsTreeRefusal contents) (sym e) (held.IsTreeBroken.tree grammar a)
+    | faults.Memory ↦ λ a e. subst (IsTreeRefusal contents) (sym e) tt
+  ] answer is
+
+-- the text of the tree that is read
+pub says_text : (contents : TreeContents) {g : List Class} {nodes : List Node} {texts : List (List ℕ)} (text : List ℕ) → ReadsGrammar contents.ast g → ReadsTree g contents.tree nodes texts → IsTreeOf g (length texts) nodes
+    → ((term : Forest) → IsTerm g (length texts) term → nodes ≡ nodes_of term → text ≡ canonical g texts term) → SaysText contents text
+says_text contents {g} {nodes} {texts} text grammar tree is wrote =
+    record { classes = g; grammar = grammar; nodes = nodes; texts = texts; tree = tree; term = is.term; grown = is.grown; are = is.are; written = wrote is.term is.grown is.are }
+
+-- aspects and queries that aren't in the form that is read so far
+module _ (contents : Contents) (unread : Unread) (refusal : Refusal) where
+  pub jrag_refused : {g : List Class} → ReadsGrammar contents.ast g → AnswersRules g contents.jrag (Err unread) → Refuses files.Jrag unread refusal → IsRefusal contents refusal
+  jrag_refused {g} grammar answer is = elim unread as (λ u. AnswersRules g contents.jrag (Err u) → Refuses files.Jrag u refusal → IsRefusal contents refusal) [
+    | NotBuilt ↦ λ a e. subst (IsRefusal contents) (sym e) (no_items grammar a)
+    | Memory ↦ λ a e. subst (IsRefusal contents) (sym e) tt
+  ] answer is
+
+  pub queries_refused : {g : List Class} {rules : RuleSet} {tree : List Node} {texts : List (List ℕ)} → ReadsGrammar contents.ast g → ReadsRules g contents.jrag rules → ReadsTree g contents.tree tree texts
+      → AnswersAsked g rules tree contents.queries (Err unread) → Refuses files.Queries unread refusal → IsRefusal contents refusal
+  queries_refused {g} {rules} {tree} grammar reads source answer is = elim unread as (λ u. AnswersAsked g rules tree contents.queries (Err u) → Refuses files.Queries u refusal → IsRefusal contents refusal) [
+    | NotBuilt ↦ λ a e. subst (IsRefusal contents) (sym e) (no_queries grammar reads.reads source (λ es s. a es (subst (λ (r : RuleSet). SaysQueries g r tree contents.queries es) (sym reads.are) s)))
+    | Memory ↦ λ a e. subst (IsRefusal contents) (sym e) tt
   ] answer is
 
 -- no more queries than lines

@@ -1,19 +1,29 @@
 -- What is to be written, as the code keeps it.
-use Rattle.std.specs.Prelude.{ℕ, List, Option, Some, None}
+use Rattle.std.specs.Prelude.{◌≡◌, ℕ, List, ◌++◌, Option, Some, None, Result, Err, IfOk, codes}
 use Rattle.rag_io.specs.Outside.{Named}
+use Rattle.query_runner.specs.declared.fetching.Stop.{Stop}
+use Rattle.query_runner.specs.declared.fetching.Stop.TheVariants as stops
 use Rattle.query_runner.specs.declared.running.Answer.{Answer}
-use Rattle.query_runner.specs.declared.running.Answer.TheVariants.{Replies, Refusal, Usage}
+use Rattle.query_runner.specs.declared.running.Failure.{Failure}
+use Rattle.query_runner.specs.declared.running.Failure.TheVariants as failures
+use Rattle.query_runner.specs.declared.running.Answer.TheVariants.{Output, Refusal, Usage}
 use Rattle.query_runner.specs.Output.{Answers, usage}
 
 abbrev pub status_of : Answer → ℕ
-status_of (Replies text) = 0
+status_of (Output text) = 0
 status_of (Refusal text) = 1
 status_of Usage = 2
 
 abbrev pub text_of : Answer → List ℕ
-text_of (Replies text) = text.items
+text_of (Output text) = text.items
 text_of (Refusal text) = text.items
 text_of Usage = usage
+
+-- what is written where fetching stopped: the line of a file that is too long, or nothing
+abbrev pub Stopped : Stop → Result Answer Failure → Type 0
+Stopped stops.Failed result = result ≡ Err failures.Fetch
+Stopped stops.Memory result = result ≡ Err failures.Memory
+Stopped (stops.TooLong name) result = IfOk result (λ a. (status_of a ≡ 1) × (text_of a ≡ name.now ++ codes ": too long\n")) × (result ≡ Err failures.Fetch → ⊥)
 
 -- where the shelf tells its files, it is the answer for these words
 abbrev pub AnswersWhereTold : List (List ℕ) → Option (List Named) → Answer → Type 0

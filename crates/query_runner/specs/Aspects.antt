@@ -20,7 +20,8 @@ use Rattle.attr_types.specs.Rules.{Item, AreItems}
 use Rattle.query_runner.specs.AspectsGrammar.{aspects_grammar}
 use Rattle.query_runner.specs.Names.{is_name}
 use Rattle.query_runner.specs.Naming.{Head, said}
-use Rattle.query_runner.specs.Tokens.{text_at, decimal, greatest}
+use Rattle.rag_io.specs.Decimal.{decimal}
+use Rattle.query_runner.specs.Tokens.{text_at, greatest}
 use Rattle.query_runner.specs.Written.{Written, Truth, Int, This, Call, Alone, Not, Negate, Binary, And, Or, If}
 
 -- the class of a word, in the numbers of the grammar

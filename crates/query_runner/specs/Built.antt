@@ -1,4 +1,4 @@
--- What reading the four files answers.
+-- What reading the files answers.
 use Rattle.std.specs.Prelude.{◌≡◌, ℕ, List, Result, Ok, Err, Vec}
 use Rattle.std.specs.declared.alloc.Global.{Global}
 use Rattle.rag_io.specs.declared.token.Token as memory
@@ -11,14 +11,14 @@ use Rattle.attr_types.specs.Expression.{Expression}
 use Rattle.attr_types.specs.Items.{rules_in}
 use Rattle.attr_types.specs.Rules.{Item, RuleSet, rules_of}
 use Rattle.equation_law.specs.declared.system.Queries.{Queries as KeptQueries}
-use Rattle.equation_law.specs.Program.{Node}
+use Rattle.tree_arena.specs.Nodes.{Node}
 use Rattle.equation_law.specs.Systems.{queries_in}
 use Rattle.query_runner.specs.declared.files.Refusal.{Refusal}
 use Rattle.query_runner.specs.declared.files.Refusal.TheVariants as refusals
 use Rattle.query_runner.specs.declared.files.Unread.{Unread}
 use Rattle.query_runner.specs.declared.files.Unread.TheVariants.{NotBuilt, Memory}
 use Rattle.query_runner.specs.declared.words.FileKind.{FileKind}
-use Rattle.query_runner.specs.Files.{BreaksRule, Contents, IsNotBuilt, ReadsGrammar, ReadsItems, ReadsTree}
+use Rattle.query_runner.specs.Files.{BreaksGrammar, BreaksTree, Contents, IsBroken, IsNotBuilt, IsTreeBroken, ReadsGrammar, ReadsItems, ReadsTree, TreeContents}
 use Rattle.query_runner.specs.Named.{seen_file}
 use Rattle.query_runner.specs.Queries.{SaysQueries}
 
@@ -31,7 +31,7 @@ Scans bytes (Err Memory) = Unit {0}
 -- The grammar that the bytes say, or the first rule that they break.
 abbrev pub AnswersGrammar : List ℕ → Result (List Class) ReadFault → Type 0
 AnswersGrammar bytes (Ok g) = ReadsGrammar bytes g
-AnswersGrammar bytes (Err (faults.Broken b)) = BreaksRule bytes b
+AnswersGrammar bytes (Err (faults.Broken b)) = BreaksGrammar bytes b
 AnswersGrammar bytes (Err faults.Memory) = Unit {0}
 
 -- The bytes say items, and these are their rules.
@@ -45,11 +45,11 @@ AnswersRules g bytes (Ok rules) = ReadsRules g bytes (rules_in rules)
 AnswersRules g bytes (Err NotBuilt) = (items : List Item) → ReadsItems g bytes items → ⊥
 AnswersRules g bytes (Err Memory) = Unit {0}
 
--- The tree that the bytes say; or they say none.
-abbrev pub AnswersSource : List Class → List ℕ → Result (List Node) Unread → Type 0
-AnswersSource g bytes (Ok tree) = ReadsTree g bytes tree
-AnswersSource g bytes (Err NotBuilt) = (tree : List Node) → ReadsTree g bytes tree → ⊥
-AnswersSource g bytes (Err Memory) = Unit {0}
+-- The tree that the bytes say, with the texts that the pool then holds, or the first rule that they break.
+abbrev pub AnswersSource : List Class → List ℕ → List (List ℕ) → Result (List Node) ReadFault → Type 0
+AnswersSource g bytes texts (Ok tree) = ReadsTree g bytes tree texts
+AnswersSource g bytes texts (Err (faults.Broken b)) = BreaksTree g bytes b
+AnswersSource g bytes texts (Err faults.Memory) = Unit {0}
 
 -- The queries that the bytes say; or they say none.
 abbrev pub AnswersAsked : List Class → RuleSet → List Node → List ℕ → Result KeptQueries Unread → Type 0
@@ -62,8 +62,19 @@ abbrev pub Refuses : FileKind → Unread → Refusal → Type 0
 Refuses file NotBuilt refusal = refusal ≡ refusals.NotBuilt file
 Refuses file Memory refusal = refusal ≡ refusals.Memory
 
+-- the refusal of a file that breaks a rule
+abbrev pub BreaksFile : FileKind → ReadFault → Refusal → Type 0
+BreaksFile file (faults.Broken b) refusal = refusal ≡ refusals.Broken file b
+BreaksFile file faults.Memory refusal = refusal ≡ refusals.Memory
+
 -- why the four files say no program
 abbrev pub IsRefusal : Contents → Refusal → Type 0
-IsRefusal held (refusals.Broken b) = BreaksRule held.ast b
+IsRefusal held (refusals.Broken file b) = IsBroken held (seen_file file) b
 IsRefusal held (refusals.NotBuilt file) = IsNotBuilt held (seen_file file)
 IsRefusal held refusals.Memory = Unit {0}
+
+-- why two files say no tree
+abbrev pub IsTreeRefusal : TreeContents → Refusal → Type 0
+IsTreeRefusal held (refusals.Broken file b) = IsTreeBroken held (seen_file file) b
+IsTreeRefusal held (refusals.NotBuilt file) = ⊥
+IsTreeRefusal held refusals.Memory = Unit {0}

@@ -1,15 +1,19 @@
--- What fetching the four files gives.
+-- What fetching the files of a command gives.
 use Rattle.std.specs.Prelude.{◌≡◌, ℕ, ◌≤◌, List, Option, Some, None, length}
 use Rattle.rag_io.specs.Outside.{Named, longest_file, IsLong, Rose}
 use Rattle.query_runner.specs.declared.fetching.Contents as kept
+use Rattle.query_runner.specs.declared.fetching.TreeContents as kept_tree
 use Rattle.query_runner.specs.declared.fetching.Stop.{Stop}
 use Rattle.query_runner.specs.declared.fetching.Stop.TheVariants as stops
-use Rattle.query_runner.specs.Files.{Contents}
-use Rattle.query_runner.specs.Output.{HoldsAll, HoldsShort, IsFirstLong, in_order}
-use Rattle.query_runner.specs.Words.{FileNames}
+use Rattle.query_runner.specs.Files.{Contents, TreeContents}
+use Rattle.query_runner.specs.Output.{HoldsAll, HoldsShort, HoldsTree, IsFirstLong}
+use Rattle.query_runner.specs.Words.{FileNames, TreeNames}
 
 abbrev pub seen_contents : kept.Contents → Contents
 seen_contents c = record { ast = c.ast.items; jrag = c.jrag.items; tree = c.tree.items; queries = c.queries.items }
+
+abbrev pub seen_tree_contents : kept_tree.TreeContents → TreeContents
+seen_tree_contents c = record { ast = c.ast.items; tree = c.tree.items }
 
 -- none of the files is too long
 pub record AreShort (c : Contents) : Type 0 where
@@ -17,6 +21,10 @@ pub record AreShort (c : Contents) : Type 0 where
   pub jrag : length c.jrag ≤ longest_file
   pub tree : length c.tree ≤ longest_file
   pub queries : length c.queries ≤ longest_file
+
+pub record AreBothShort (c : TreeContents) : Type 0 where
+  pub ast : length c.ast ≤ longest_file
+  pub tree : length c.tree ≤ longest_file
 
 -- where the shelf tells its files, this one has these bytes, and they aren't too many
 abbrev pub Holds : Option (List Named) → List ℕ → List ℕ → Type 0
@@ -27,15 +35,19 @@ abbrev pub HoldsFetched : Option (List Named) → FileNames → Contents → Typ
 HoldsFetched None names held = Unit {0}
 HoldsFetched (Some files) names held = HoldsAll files names held
 
+abbrev pub HoldsTreeFetched : Option (List Named) → TreeNames → TreeContents → Type 0
+HoldsTreeFetched None names held = Unit {0}
+HoldsTreeFetched (Some files) names held = HoldsTree files names held
+
 -- where the shelf tells its files, this one is too long
 abbrev pub LongWhereTold : Option (List Named) → List ℕ → Type 0
 LongWhereTold None name = Unit {0}
 LongWhereTold (Some files) name = IsLong files name
 
--- and the first of the four that is too long
-abbrev pub FirstLongWhereTold : Option (List Named) → FileNames → List ℕ → Type 0
+-- and the first of some files that is too long
+abbrev pub FirstLongWhereTold : Option (List Named) → List (List ℕ) → List ℕ → Type 0
 FirstLongWhereTold None names name = Unit {0}
-FirstLongWhereTold (Some files) names name = IsFirstLong files (in_order names) name
+FirstLongWhereTold (Some files) names name = IsFirstLong files names name
 
 -- why fetching a file stops: the shelf's count of faults rose, or the file is too long, or memory is wanting
 abbrev pub StopsOne : Option (List Named) → List ℕ → ℕ → ℕ → Stop → Type 0
@@ -43,8 +55,8 @@ StopsOne files name before now stops.Failed = Rose before now
 StopsOne files name before now (stops.TooLong found) = LongWhereTold files name × (found.now ≡ name)
 StopsOne files name before now stops.Memory = Unit {0}
 
--- why fetching the four files stops
-abbrev pub StopsAll : Option (List Named) → FileNames → ℕ → ℕ → Stop → Type 0
+-- why fetching some files in their order stops
+abbrev pub StopsAll : Option (List Named) → List (List ℕ) → ℕ → ℕ → Stop → Type 0
 StopsAll files names before now stops.Failed = Rose before now
 StopsAll files names before now (stops.TooLong found) = FirstLongWhereTold files names found.now
 StopsAll files names before now stops.Memory = Unit {0}

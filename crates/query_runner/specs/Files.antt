@@ -1,25 +1,34 @@
--- What the four files say together.
-use Rattle.std.specs.Prelude.{◌≡◌, ℕ, List, [], ◌∷◌}
+-- What the files of a command say together.
+use Rattle.std.specs.Prelude.{◌≡◌, ℕ, List, [], ◌∷◌, length}
 use Rattle.rag_io.specs.Tokens.{Lexed, IsFirstBad, IsTokens, first_place}
 use Rattle.rag_io.specs.declared.token.Place.{Place}
 use Rattle.broken_rules.specs.declared.broken.Broken.{Broken}
-use Rattle.broken_rules.specs.declared.rule.Rule.TheVariants.{G1}
+use Rattle.broken_rules.specs.declared.rule.Rule.TheVariants.{G1, N1}
 use Rattle.broken_rules.specs.Notes.{at}
 use Rattle.ast_grammar.specs.Grammar.{Class, superclasses_of}
 use Rattle.ast_grammar.specs.Reading.{IsFirstBroken, SaysGrammar}
 use Rattle.attr_types.specs.Expression.{Expression}
 use Rattle.attr_types.specs.Rules.{Item, rules_of}
-use Rattle.equation_law.specs.Program.{Node, Program}
+use Rattle.tree_arena.specs.Nodes.{Node}
+use Rattle.tree_arena.specs.Terms.{Forest, IsTerm, nodes_of}
+use Rattle.tree_reader.specs.Breaking.{pooled_texts}
+use Rattle.tree_reader.specs.Reading.{IsFirstBroken as TreeBreaks, SaysTree}
+use Rattle.tree_writer.specs.Canonical.{canonical}
+use Rattle.equation_law.specs.Program.{Program}
 use Rattle.query_runner.specs.Aspects.{SaysAspects}
 use Rattle.query_runner.specs.Queries.{SaysQueries}
-use Rattle.query_runner.specs.Trees.{SaysTree}
 
--- the bytes of the four files
+-- the bytes of the four files of `run`
 pub record Contents : Type 0 where
   pub ast : List ℕ
   pub jrag : List ℕ
   pub tree : List ℕ
   pub queries : List ℕ
+
+-- the bytes of the two files of `tree`
+pub record TreeContents : Type 0 where
+  pub ast : List ℕ
+  pub tree : List ℕ
 
 -- The bytes of an `.ast` file say this grammar.
 pub record ReadsGrammar (bytes : List ℕ) (g : List Class) : Type 0 where
@@ -28,9 +37,9 @@ pub record ReadsGrammar (bytes : List ℕ) (g : List Class) : Type 0 where
   pub says : SaysGrammar tokens g
 
 -- This is the first rule that the bytes of an `.ast` file break, with its place: G1 at a bad place, or else what the tokens break.
-pub data BreaksRule (bytes : List ℕ) : Broken → Type 0 where
-  bad_place : {p : Place} → IsFirstBad first_place bytes p → BreaksRule bytes (at p G1)
-  by_tokens : {tokens : List Lexed} {b : Broken} → IsTokens first_place bytes tokens → IsFirstBroken tokens b → BreaksRule bytes b
+pub data BreaksGrammar (bytes : List ℕ) : Broken → Type 0 where
+  bad_place : {p : Place} → IsFirstBad first_place bytes p → BreaksGrammar bytes (at p G1)
+  by_tokens : {tokens : List Lexed} {b : Broken} → IsTokens first_place bytes tokens → IsFirstBroken tokens b → BreaksGrammar bytes b
 
 -- The bytes of a `.jrag` file say these items over a grammar.
 pub record ReadsItems (g : List Class) (bytes : List ℕ) (items : List Item) : Type 0 where
@@ -38,32 +47,63 @@ pub record ReadsItems (g : List Class) (bytes : List ℕ) (items : List Item) : 
   pub scanned : IsTokens first_place bytes tokens
   pub says : SaysAspects g tokens items
 
--- The bytes of a tree file say this tree of a grammar.
-pub record ReadsTree (g : List Class) (bytes : List ℕ) (tree : List Node) : Type 0 where
+-- the texts before a tree is read: the empty one alone
+abbrev pub no_texts : List (List ℕ)
+no_texts = [] ∷ []
+
+-- The bytes of a tree file say this tree of a grammar, with these texts.
+pub record ReadsTree (g : List Class) (bytes : List ℕ) (tree : List Node) (texts : List (List ℕ)) : Type 0 where
   pub tokens : List Lexed
   pub scanned : IsTokens first_place bytes tokens
-  pub says : SaysTree g tokens tree
+  pub says : SaysTree g no_texts tokens tree
+  pub pooled : texts ≡ pooled_texts no_texts tokens
 
--- The four files say this program. Its only text is the empty one.
+-- This is the first rule that the bytes of a tree file break over a grammar: N1 at a bad place, or else what the tokens break.
+pub data BreaksTree (g : List Class) (bytes : List ℕ) : Broken → Type 0 where
+  bad_place : {p : Place} → IsFirstBad first_place bytes p → BreaksTree g bytes (at p N1)
+  by_tokens : {tokens : List Lexed} {b : Broken} → IsTokens first_place bytes tokens → TreeBreaks g no_texts tokens b → BreaksTree g bytes b
+
+-- The four files say this program.
 pub record SaysProgram (held : Contents) (p : Program) : Type 0 where
   pub items : List Item
   pub grammar : ReadsGrammar held.ast p.grammar
   pub aspects : ReadsItems p.grammar held.jrag items
   pub rules : p.rules ≡ rules_of (superclasses_of p.grammar) items
-  pub tree : ReadsTree p.grammar held.tree p.tree
-  pub texts : p.texts ≡ [] ∷ []
+  pub tree : ReadsTree p.grammar held.tree p.tree p.texts
   pub queries : SaysQueries p.grammar p.rules p.tree held.queries p.queries
 
--- one of the files that are read over a grammar
+-- one of the files of a command
 pub data File : Type 0 where
+  Ast : File
   Jrag : File
   Tree : File
   Queries : File
 
--- The grammar breaks no rule, and this file is the first, in the order of the command, that isn't in the form that is read so far.
+-- Of the four files this one is the first, in the order of the command, that breaks a rule, and this is the first rule that it breaks.
+-- Those before it break none, and are in the form that is read so far.
+pub data IsBroken (held : Contents) : File → Broken → Type 0 where
+  grammar : {b : Broken} → BreaksGrammar held.ast b → IsBroken held Ast b
+  tree : {g : List Class} {items : List Item} {b : Broken} → ReadsGrammar held.ast g → ReadsItems g held.jrag items → BreaksTree g held.tree b → IsBroken held Tree b
+
+-- Those before this file break no rule, and it is the first that isn't in the form that is read so far.
 pub data IsNotBuilt (held : Contents) : File → Type 0 where
   no_items : {g : List Class} → ReadsGrammar held.ast g → ((items : List Item) → ReadsItems g held.jrag items → ⊥) → IsNotBuilt held Jrag
-  no_tree : {g : List Class} {items : List Item} → ReadsGrammar held.ast g → ReadsItems g held.jrag items
-      → ((tree : List Node) → ReadsTree g held.tree tree → ⊥) → IsNotBuilt held Tree
-  no_queries : {g : List Class} {items : List Item} {tree : List Node} → ReadsGrammar held.ast g → ReadsItems g held.jrag items → ReadsTree g held.tree tree
+  no_queries : {g : List Class} {items : List Item} {tree : List Node} {texts : List (List ℕ)} → ReadsGrammar held.ast g → ReadsItems g held.jrag items → ReadsTree g held.tree tree texts
       → ((es : List Expression) → SaysQueries g (rules_of (superclasses_of g) items) tree held.queries es → ⊥) → IsNotBuilt held Queries
+
+-- The two files say a tree, and this is its canonical text.
+pub record SaysText (held : TreeContents) (text : List ℕ) : Type 0 where
+  pub classes : List Class
+  pub grammar : ReadsGrammar held.ast classes
+  pub nodes : List Node
+  pub texts : List (List ℕ)
+  pub tree : ReadsTree classes held.tree nodes texts
+  pub term : Forest
+  pub grown : IsTerm classes (length texts) term
+  pub are : nodes ≡ nodes_of term
+  pub written : text ≡ canonical classes texts term
+
+-- Of the two files this one is the first that breaks a rule, and this is the first rule that it breaks.
+pub data IsTreeBroken (held : TreeContents) : File → Broken → Type 0 where
+  grammar : {b : Broken} → BreaksGrammar held.ast b → IsTreeBroken held Ast b
+  tree : {g : List Class} {b : Broken} → ReadsGrammar held.ast g → BreaksTree g held.tree b → IsTreeBroken held Tree b

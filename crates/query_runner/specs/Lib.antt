@@ -22,7 +22,5 @@ pub mod Replies
 pub mod Run
 pub mod Sentences
 pub mod Tokens
-pub mod TreeSteps
-pub mod Trees
 pub mod Words
 pub mod Written

@@ -10,8 +10,8 @@ use Rattle.equation_law.specs.Names.{Null, At, Source, Query}
 use Rattle.equation_law.specs.Values.{Value, Truth, Int, Node}
 use Rattle.equation_law.specs.Program.{Program}
 use Rattle.equation_law.specs.Equations.{HasValue}
-use Rattle.query_runner.specs.Files.{BreaksRule, Contents, SaysProgram, File, Jrag, Tree, Queries, IsNotBuilt}
-use Rattle.query_runner.specs.Words.{FileNames, names_of}
+use Rattle.query_runner.specs.Files.{Contents, TreeContents, SaysProgram, SaysText, File, Ast, Jrag, Tree, Queries, IsBroken, IsNotBuilt, IsTreeBroken}
+use Rattle.query_runner.specs.Words.{Command, FileNames, PrintTree, Run, TreeNames, command_of}
 
 abbrev pub truth_text : Bool → List ℕ
 truth_text true = codes "true"
@@ -45,24 +45,52 @@ pub record HoldsAll (files : List Named) (names : FileNames) (held : Contents) :
   pub tree : HoldsShort files names.tree held.tree
   pub queries : HoldsShort files names.queries held.queries
 
+-- It holds these bytes under the two names.
+pub record HoldsTree (files : List Named) (names : TreeNames) (held : TreeContents) : Type 0 where
+  pub ast : HoldsShort files names.ast held.ast
+  pub tree : HoldsShort files names.tree held.tree
+
 -- The output for some words, over the files that a shelf holds: the replies of the program that they say.
 pub record Output (words : List (List ℕ)) (files : List Named) (text : List ℕ) : Type 0 where
   pub names : FileNames
   pub contents : Contents
   pub program : Program
-  pub read : names_of words ≡ Some names
+  pub read : command_of words ≡ Some (Run names)
   pub held : HoldsAll files names contents
   pub said : SaysProgram contents program
   pub replies : AreReplies program 0 program.queries text
 
+-- The same where the words ask for the text of a tree.
+pub record TreeOutput (words : List (List ℕ)) (files : List Named) (text : List ℕ) : Type 0 where
+  pub names : TreeNames
+  pub contents : TreeContents
+  pub read : command_of words ≡ Some (PrintTree names)
+  pub held : HoldsTree files names contents
+  pub said : SaysText contents text
+
 abbrev pub name_of : FileNames → File → List ℕ
+name_of names Ast = names.ast
 name_of names Jrag = names.jrag
 name_of names Tree = names.tree
 name_of names Queries = names.queries
 
+-- `tree` has no aspects and no queries
+abbrev pub tree_name_of : TreeNames → File → List ℕ
+tree_name_of names Ast = names.ast
+tree_name_of names Jrag = names.tree
+tree_name_of names Tree = names.tree
+tree_name_of names Queries = names.tree
+
 -- the files in the order of the command
 abbrev pub in_order : FileNames → List (List ℕ)
 in_order names = names.ast ∷ names.jrag ∷ names.tree ∷ names.queries ∷ []
+
+abbrev pub tree_in_order : TreeNames → List (List ℕ)
+tree_in_order names = names.ast ∷ names.tree ∷ []
+
+abbrev pub files_of : Command → List (List ℕ)
+files_of (Run names) = in_order names
+files_of (PrintTree names) = tree_in_order names
 
 -- the first of some files that is too long, those before it being held and short enough
 pub data IsFirstLong (files : List Named) : List (List ℕ) → List ℕ → Type 0 where
@@ -75,19 +103,22 @@ broken_line name b = name ++ codes ":" ++ decimal b.place.line ++ codes ":" ++ d
 
 -- The line of a file that is refused.
 pub data IsRefused (words : List (List ℕ)) (files : List Named) : List ℕ → Type 0 where
-  too_long : {names : FileNames} {name : List ℕ} → names_of words ≡ Some names → IsFirstLong files (in_order names) name → IsRefused words files (name ++ codes ": too long\n")
-  broken : {names : FileNames} {contents : Contents} {b : Broken} → names_of words ≡ Some names → HoldsAll files names contents → BreaksRule contents.ast b
-      → IsRefused words files (broken_line names.ast b)
-  not_built : {names : FileNames} {contents : Contents} {file : File} → names_of words ≡ Some names → HoldsAll files names contents → IsNotBuilt contents file
+  too_long : {command : Command} {name : List ℕ} → command_of words ≡ Some command → IsFirstLong files (files_of command) name → IsRefused words files (name ++ codes ": too long\n")
+  broken : {names : FileNames} {contents : Contents} {file : File} {b : Broken} → command_of words ≡ Some (Run names) → HoldsAll files names contents → IsBroken contents file b
+      → IsRefused words files (broken_line (name_of names file) b)
+  not_built : {names : FileNames} {contents : Contents} {file : File} → command_of words ≡ Some (Run names) → HoldsAll files names contents → IsNotBuilt contents file
       → IsRefused words files (name_of names file ++ codes ": not built\n")
+  broken_tree : {names : TreeNames} {contents : TreeContents} {file : File} {b : Broken} → command_of words ≡ Some (PrintTree names) → HoldsTree files names contents → IsTreeBroken contents file b
+      → IsRefused words files (broken_line (tree_name_of names file) b)
 
 -- the usage text
 abbrev pub usage : List ℕ
 usage = codes "usage: rag run [--callers N] [--cells N] [--count] AST JRAG TREE QUERIES\n       rag check AST JRAG\n       rag tree AST TREE\n       rag bulk N [--callers N]\n"
 
--- What is to be written for some words, and the status that goes with it: the replies with 0, the line of a file
+-- What is to be written for some words, and the status that goes with it: the replies or the text of the tree with 0, the line of a file
 -- that is refused with 1, the usage text with 2.
 pub data Answers (words : List (List ℕ)) (files : List Named) : ℕ → List ℕ → Type 0 where
   replied : {text : List ℕ} → Output words files text → Answers words files 0 text
+  printed : {text : List ℕ} → TreeOutput words files text → Answers words files 0 text
   refused : {line : List ℕ} → IsRefused words files line → Answers words files 1 line
-  misused : names_of words ≡ None → Answers words files 2 usage
+  misused : command_of words ≡ None → Answers words files 2 usage

@@ -17,10 +17,11 @@ use Rattle.attr_types.specs.Accessors.{named_on}
 use Rattle.attr_types.specs.Expression.{Expression, Source}
 use Rattle.attr_types.specs.Queries.{query_of}
 use Rattle.attr_types.specs.Rules.{RuleSet, attribute_named}
-use Rattle.equation_law.specs.Program.{Node}
+use Rattle.tree_arena.specs.Nodes.{Node}
 use Rattle.query_runner.specs.QueryGrammar.{query_grammar}
 use Rattle.query_runner.specs.Names.{is_name}
-use Rattle.query_runner.specs.Tokens.{text_at, decimal}
+use Rattle.rag_io.specs.Decimal.{decimal}
+use Rattle.query_runner.specs.Tokens.{text_at}
 
 abbrev pub symbol_class : List ℕ → ℕ
 symbol_class text =

@@ -11,9 +11,9 @@ use Rattle.attr_types.specs.Accessors.{named_on}
 use Rattle.attr_types.specs.Expression.{Expression, Source}
 use Rattle.attr_types.specs.Queries.{query_of}
 use Rattle.attr_types.specs.Rules.{RuleSet, attribute_named}
-use Rattle.equation_law.specs.Program.{Node}
+use Rattle.tree_arena.specs.Nodes.{Node}
 use Rattle.query_runner.specs.Queries.{SaysQuery, SaysLines, SaysQueries, AreLines, is_inside, is_silent, most_lines}
-use Rattle.query_runner.specs.Tokens.{decimal}
+use Rattle.rag_io.specs.Decimal.{decimal}
 
 -- what looking for the node of a number answers
 abbrev pub FindsNode : List Node → List ℕ → Option ℕ → Type 0

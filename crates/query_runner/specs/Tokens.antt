@@ -1,5 +1,5 @@
--- Tokens by their number in a file, and the numbers that they write.
-use Rattle.std.specs.Prelude.{ℕ, ◌+◌, ◌-◌, ◌*◌, List, [], Option, Some, None, fold, slice_get}
+-- Tokens by their number in a file.
+use Rattle.std.specs.Prelude.{ℕ, List, [], Option, Some, None, slice_get}
 use Rattle.rag_io.specs.Tokens.{Lexed}
 
 abbrev pub text_in : Option Lexed → List ℕ
@@ -9,10 +9,6 @@ text_in (Some t) = t.text
 -- the text of the token of this number
 abbrev pub text_at : List Lexed → ℕ → List ℕ
 text_at ts k = text_in (slice_get ts k)
-
--- the number that decimal digits write
-abbrev pub decimal : List ℕ → ℕ
-decimal digits = fold (λ n digit. n * 10 + (digit - 48)) 0 digits
 
 -- the largest integer literal
 abbrev pub greatest : ℕ

@@ -7,18 +7,28 @@ use Rattle.std.specs.declared.alloc.Global.{Global}
 abbrev pub text_of_word : String Global → List ℕ
 text_of_word w = string_bytes w
 
--- the names of the four files
+-- the names of the four files of `run`
 pub record FileNames : Type 0 where
   pub ast : List ℕ
   pub jrag : List ℕ
   pub tree : List ℕ
   pub queries : List ℕ
 
+-- the names of the two files of `tree`
+pub record TreeNames : Type 0 where
+  pub ast : List ℕ
+  pub tree : List ℕ
+
+-- what the words ask for
+pub data Command : Type 0 where
+  Run : FileNames → Command
+  PrintTree : TreeNames → Command
+
 -- a word that may name a file: it doesn't begin with `-`, or is that byte alone
 abbrev pub may_name_file : List ℕ → Bool
 may_name_file w = not (nat_lt 1 (length w) && (slice_index w 0 == 45))
 
--- `run` and four names of files; every other list of words is refused
+-- `run` and four names of files
 abbrev pub names_of : List (List ℕ) → Option FileNames
 names_of [] = None
 names_of (w ∷ []) = None
@@ -28,3 +38,21 @@ names_of (w ∷ a ∷ b ∷ c ∷ []) = None
 names_of (w ∷ a ∷ b ∷ c ∷ d ∷ []) = if bytes_eq w (codes "run") && (may_name_file a && (may_name_file b && (may_name_file c && may_name_file d)))
     then Some (record { ast = a; jrag = b; tree = c; queries = d }) else None
 names_of (w ∷ a ∷ b ∷ c ∷ d ∷ e ∷ words) = None
+
+-- `tree` and two names of files
+abbrev pub tree_names_of : List (List ℕ) → Option TreeNames
+tree_names_of [] = None
+tree_names_of (w ∷ []) = None
+tree_names_of (w ∷ a ∷ []) = None
+tree_names_of (w ∷ a ∷ b ∷ []) = if bytes_eq w (codes "tree") && (may_name_file a && may_name_file b) then Some (record { ast = a; tree = b }) else None
+tree_names_of (w ∷ a ∷ b ∷ c ∷ words) = None
+
+-- the first of two commands that the words give
+abbrev pub either : Option FileNames → Option TreeNames → Option Command
+either None None = None
+either None (Some names) = Some (PrintTree names)
+either (Some names) tree = Some (Run names)
+
+-- what the words ask for; every other list of words is refused
+abbrev pub command_of : List (List ℕ) → Option Command
+command_of words = either (names_of words) (tree_names_of words)

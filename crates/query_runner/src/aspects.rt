@@ -19,11 +19,11 @@ use crate::building::{WrittenItem, build};
 use crate::heads::{Head, Heads};
 use crate::members::accessed_by;
 use crate::naming::{Said, Site, resolve_names};
-use crate::sentences::{GREATEST, capped, classes_of, sentence, text_at};
+use crate::sentences::{GREATEST, classes_of, sentence, text_at};
 use ast_grammar::{ClassId, Grammar};
 use attr_types::{FirstEq, Name};
 use ll_parser::Table;
-use rag_io::{Memory, Token, TokenKind};
+use rag_io::{Memory, Token, TokenKind, capped};
 use std::alloc::Global;
 
 /// Each expression has at most so many tokens.

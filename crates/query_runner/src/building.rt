@@ -3,13 +3,14 @@ ghost use Rattle.std.specs.Prelude.{◌≡◌, ◌∷◌, ◌+◌, ◌-◌, ◌<
 ghost use Rattle.rag_io.specs.Tokens.{seen_tokens};
 ghost use Rattle.query_runner.specs.Aspects.{after, built, nothing, binary, ternary, unary, operator_for, leaf_on, form_on, stack_after, item_added, top};
 ghost use Rattle.query_runner.specs.Building.{tops, seen_builder, written_of, TakesTwo};
-ghost use Rattle.query_runner.specs.Tokens.{decimal, greatest};
+ghost use Rattle.rag_io.specs.Decimal.{decimal};
+ghost use Rattle.query_runner.specs.Tokens.{greatest};
 ghost use Rattle.query_runner.specs.Written.{written_in, Call as Called, Not as Denied, Negate as Negated, Binary as Operated, And as Both, Or as Either};
 
 use crate::aspect_events as events;
-use crate::sentences::{GREATEST, capped, text_at};
+use crate::sentences::{GREATEST, text_at};
 use attr_types::{Kind, Operator};
-use rag_io::{Memory, Token};
+use rag_io::{Memory, Token, capped};
 use std::alloc::Global;
 
 /// An expression as it is written. Names stand by the numbers of their tokens.

@@ -1,10 +1,11 @@
-// Fetches the four files, in order.
+// Fetches the files of a command, in their order.
 ghost use Rattle.std.specs.Prelude.{◌≡◌, ◌≤◌, length, IfOk, IfErr};
 ghost use Rattle.rag_io.specs.Outside.{longest_file};
-ghost use Rattle.query_runner.specs.Fetched.{seen_contents, AreShort, StopsOne, StopsAll, Holds, HoldsFetched};
-ghost use Rattle.query_runner.specs.Named.{seen_names};
+ghost use Rattle.query_runner.specs.Fetched.{seen_contents, seen_tree_contents, AreShort, AreBothShort, StopsOne, StopsAll, Holds, HoldsFetched, HoldsTreeFetched};
+ghost use Rattle.query_runner.specs.Named.{seen_names, seen_tree_names};
+ghost use Rattle.query_runner.specs.Output.{in_order, tree_in_order};
 
-use crate::words::Names;
+use crate::words::{Names, TreeNames};
 use rag_io::{FetchFault, Shelf};
 use std::alloc::Global;
 
@@ -15,6 +16,13 @@ pub(crate) struct Contents {
     pub jrag: Vec<u8>,
     pub tree: Vec<u8>,
     pub queries: Vec<u8>,
+}
+
+/// The bytes of a grammar and a tree.
+#[derive(Drop)]
+pub(crate) struct TreeContents {
+    pub ast: Vec<u8>,
+    pub tree: Vec<u8>,
 }
 
 /// Why fetching stopped.
@@ -44,7 +52,7 @@ fn fetch<'a, S: Shelf>(alloc: Global, shelf: &mut S, name: &'a str) -> Result<Ve
     }
 }
 
-/// Fetches the files in the order of the command, up to the first that is refused.
+/// Fetches the four files of `run`, up to the first that is refused.
 pub(crate) fn fetch_all<'a, S: Shelf>(
     alloc: Global,
     shelf: &mut S,
@@ -52,7 +60,7 @@ pub(crate) fn fetch_all<'a, S: Shelf>(
 ) -> Result<Contents, Stop<'a>>
     ensures held { IfOk result (λ c. HoldsFetched (S.files shelf.old) (seen_names names.entry) (seen_contents c)) }
     ensures fits { IfOk result (λ c. AreShort (seen_contents c)) }
-    ensures cause { IfErr result (λ stop. StopsAll (S.files shelf.old) (seen_names names.entry) (S.faults shelf.old) (S.faults shelf.new) stop) }
+    ensures cause { IfErr result (λ stop. StopsAll (S.files shelf.old) (in_order (seen_names names.entry)) (S.faults shelf.old) (S.faults shelf.new) stop) }
     ensures later { S.faults shelf.old ≤ S.faults shelf.new }
 {
     let ast = fetch(alloc, shelf, names.ast)?;
@@ -65,4 +73,20 @@ pub(crate) fn fetch_all<'a, S: Shelf>(
         tree,
         queries,
     })
+}
+
+/// Fetches the two files of `tree`, up to the first that is refused.
+pub(crate) fn fetch_tree<'a, S: Shelf>(
+    alloc: Global,
+    shelf: &mut S,
+    names: TreeNames<'a>,
+) -> Result<TreeContents, Stop<'a>>
+    ensures held { IfOk result (λ c. HoldsTreeFetched (S.files shelf.old) (seen_tree_names names.entry) (seen_tree_contents c)) }
+    ensures fits { IfOk result (λ c. AreBothShort (seen_tree_contents c)) }
+    ensures cause { IfErr result (λ stop. StopsAll (S.files shelf.old) (tree_in_order (seen_tree_names names.entry)) (S.faults shelf.old) (S.faults shelf.new) stop) }
+    ensures later { S.faults shelf.old ≤ S.faults shelf.new }
+{
+    let ast = fetch(alloc, shelf, names.ast)?;
+    let tree = fetch(alloc, shelf, names.tree)?;
+    Ok(TreeContents { ast, tree })
 }

@@ -1,24 +1,27 @@
-// From the bytes of the four files to the system that they say.
+// From the bytes of the files to what they say.
 ghost use Rattle.std.specs.Prelude.{◌≡◌, ◌≤◌, length, IfOk, IfErr};
 ghost use Rattle.rag_io.specs.Outside.{longest_file};
 ghost use Rattle.attr_types.specs.Items.{rules_in};
 ghost use Rattle.equation_law.specs.Systems.{program_of};
+ghost use Rattle.query_runner.specs.declared.files.Refusal.TheVariants.{Memory as NoMemory};
 ghost use Rattle.query_runner.specs.declared.files.Unread.TheVariants.{Memory as OutOfMemory};
-ghost use Rattle.query_runner.specs.Built.{Scans, AnswersGrammar, AnswersRules, AnswersSource, AnswersAsked, Refuses, IsRefusal};
-ghost use Rattle.query_runner.specs.Fetched.{seen_contents, AreShort};
-ghost use Rattle.query_runner.specs.Files.{SaysProgram};
+ghost use Rattle.query_runner.specs.Built.{Scans, AnswersGrammar, AnswersRules, AnswersSource, AnswersAsked, BreaksFile, Refuses, IsRefusal, IsTreeRefusal};
+ghost use Rattle.query_runner.specs.Fetched.{seen_contents, seen_tree_contents, AreShort, AreBothShort};
+ghost use Rattle.query_runner.specs.Files.{SaysProgram, SaysText, no_texts};
 
 use crate::aspects::read_aspects;
-use crate::fetching::Contents;
+use crate::fetching::{Contents, TreeContents};
 use crate::queries::read_queries;
-use crate::trees::read_tree;
 use crate::words::FileKind;
 use ast_grammar::{Grammar, read_ast};
 use attr_types::Rules;
 use broken_rules::{Broken, ReadFault, Rule};
-use equation_law::{Queries, System, Tree};
+use equation_law::{Queries, System};
 use rag_io::{Memory, Pool, ScanFault, Token, scan};
 use std::alloc::Global;
+use tree_arena::Tree;
+use tree_reader::read_tree;
+use tree_writer::write_tree;
 
 /// Why a file was not read.
 #[derive(Clone, Copy, Debug, PartialEq, Eq)]
@@ -37,15 +40,23 @@ impl From<Memory> for Unread {
     }
 }
 
-/// Why there is no system.
+/// Why nothing is said: the first file in the order of the command that is refused.
 #[derive(Clone, Copy, Debug, PartialEq, Eq)]
 pub(crate) enum Refusal {
-    /// The first rule that the grammar breaks.
-    Broken(Broken),
-    /// The grammar breaks none, and this is the first file that isn't in the form that is read so far.
+    /// It breaks a rule, and this is the first one.
+    Broken(FileKind, Broken),
+    /// It isn't in the form that is read so far.
     NotBuilt(FileKind),
     /// Want of memory.
     Memory,
+}
+
+impl From<Memory> for Refusal {
+    ghost from_gives = { λ _ refusal. refusal ≡ NoMemory };
+
+    fn from(_: Memory) -> Refusal {
+        Refusal::Memory
+    }
 }
 
 fn refusal_of(file: FileKind, unread: Unread) -> Refusal
@@ -97,14 +108,24 @@ fn read_rules(alloc: Global, grammar: &Grammar, bytes: &[u8]) -> Result<Rules, U
     }
 }
 
-fn read_source(alloc: Global, grammar: &Grammar, bytes: &[u8]) -> Result<Tree, Unread>
-    requires { length bytes.now ≤ longest_file }
-    ensures { AnswersSource grammar.now bytes.now result }
+// The tree that the bytes say, whose texts go into the pool, or the first rule that they break: N1 at a place where no token begins.
+fn read_source(
+    alloc: Global,
+    grammar: &Grammar,
+    bytes: &[u8],
+    pool: &mut Pool,
+) -> Result<Tree, ReadFault>
+    requires short { length bytes.now ≤ longest_file }
+    requires texts { pool.old ≡ no_texts }
+    ensures { AnswersSource grammar.now bytes.now pool.new result }
 {
-    let tokens = tokens_of(alloc, bytes)?;
-    match read_tree(alloc, grammar, &tokens)? {
-        Some(nodes) => Ok(Tree::of_nodes(alloc, nodes)?),
-        None => Err(Unread::NotBuilt),
+    match scan(alloc, bytes) {
+        Ok(tokens) => read_tree(alloc, grammar, &tokens, pool),
+        Err(ScanFault::Bad(place)) => Err(ReadFault::Broken(Broken {
+            place,
+            rule: Rule::N1,
+        })),
+        Err(ScanFault::Memory) => Err(ReadFault::Memory),
     }
 }
 
@@ -124,31 +145,63 @@ fn read_asked(
     }
 }
 
-/// The system that the files say, tested in the order of the command.
+// The pool before a tree is read.
+fn no_texts(alloc: Global) -> Result<Pool, Refusal>
+    ensures said { IfOk result (λ pool. pool ≡ no_texts) }
+    ensures refused { IfErr result (λ refusal. refusal ≡ Refusal.Memory) }
+{
+    Ok(Pool::new(alloc)?)
+}
+
+// The refusal of a file that breaks a rule, or of none for want of memory.
+fn broken_file(file: FileKind, fault: ReadFault) -> Refusal
+    ensures { BreaksFile file fault result }
+{
+    match fault {
+        ReadFault::Broken(broken) => Refusal::Broken(file, broken),
+        ReadFault::Memory => Refusal::Memory,
+    }
+}
+
+/// The system that the four files say, tested in the order of the command.
 pub(crate) fn read_system(alloc: Global, contents: &Contents) -> Result<System, Refusal>
     requires { AreShort (seen_contents contents.now) }
     ensures said { IfOk result (λ system. SaysProgram (seen_contents contents.now) (program_of system)) }
     ensures refused { IfErr result (λ refusal. IsRefusal (seen_contents contents.now) refusal) }
 {
+    let mut pool = no_texts(alloc)?;
     let grammar = match read_grammar(alloc, &contents.ast) {
         Ok(grammar) => grammar,
-        Err(ReadFault::Broken(broken)) => return Err(Refusal::Broken(broken)),
-        Err(ReadFault::Memory) => return Err(Refusal::Memory),
+        Err(fault) => return Err(broken_file(FileKind::Ast, fault)),
     };
     let rules = match read_rules(alloc, &grammar, &contents.jrag) {
         Ok(rules) => rules,
         Err(unread) => return Err(refusal_of(FileKind::Jrag, unread)),
     };
-    let tree = match read_source(alloc, &grammar, &contents.tree) {
+    let tree = match read_source(alloc, &grammar, &contents.tree, &mut pool) {
         Ok(tree) => tree,
-        Err(unread) => return Err(refusal_of(FileKind::Tree, unread)),
+        Err(fault) => return Err(broken_file(FileKind::Tree, fault)),
     };
-    let queries = match read_asked(alloc, &grammar, &rules, &tree, &contents.queries) {
-        Ok(queries) => queries,
-        Err(unread) => return Err(refusal_of(FileKind::Queries, unread)),
-    };
-    match Pool::new(alloc) {
-        Ok(pool) => Ok(System::new(grammar, rules, tree, pool, queries)),
-        Err(_) => Err(Refusal::Memory),
+    match read_asked(alloc, &grammar, &rules, &tree, &contents.queries) {
+        Ok(queries) => Ok(System::new(grammar, rules, tree, pool, queries)),
+        Err(unread) => Err(refusal_of(FileKind::Queries, unread)),
     }
+}
+
+/// The canonical text of the tree that a grammar and a tree file say, tested in this order.
+pub(crate) fn tree_text(alloc: Global, contents: &TreeContents) -> Result<Vec<u8>, Refusal>
+    requires { AreBothShort (seen_tree_contents contents.now) }
+    ensures said { IfOk result (λ text. SaysText (seen_tree_contents contents.now) text.items) }
+    ensures refused { IfErr result (λ refusal. IsTreeRefusal (seen_tree_contents contents.now) refusal) }
+{
+    let mut pool = no_texts(alloc)?;
+    let grammar = match read_grammar(alloc, &contents.ast) {
+        Ok(grammar) => grammar,
+        Err(fault) => return Err(broken_file(FileKind::Ast, fault)),
+    };
+    let tree = match read_source(alloc, &grammar, &contents.tree, &mut pool) {
+        Ok(tree) => tree,
+        Err(fault) => return Err(broken_file(FileKind::Tree, fault)),
+    };
+    Ok(write_tree(alloc, &grammar, &tree, &pool)?)
 }

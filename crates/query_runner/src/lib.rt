@@ -23,7 +23,6 @@ mod replies;
 mod run_tests;
 mod running;
 mod sentences;
-mod trees;
 mod words;
 
 pub use laws::one_answer;

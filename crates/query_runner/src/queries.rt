@@ -13,13 +13,13 @@ ghost use Rattle.query_runner.specs.Sentences.{Recognizes};
 
 use crate::members::member_named;
 use crate::query_table::{QUERY_BODIES, QUERY_CHOICE, QUERY_OF, QUERY_STARTS};
-use crate::sentences::{Words, capped, classes_of, is_name, sentence, text_at};
+use crate::sentences::{Words, classes_of, is_name, sentence, text_at};
 use ast_grammar::Grammar;
 use attr_types::{QueryEq, Rules, TExpr};
-use equation_law::Tree;
 use ll_parser::Table;
-use rag_io::{Memory, ScanFault, Token, TokenKind, scan};
+use rag_io::{Memory, ScanFault, Token, TokenKind, capped, scan};
 use std::alloc::Global;
+use tree_arena::Tree;
 
 /// A query file has at most so many lines.
 const MOST_LINES: usize = 65_536;

@@ -1,14 +1,14 @@
 use crate::aspects::read_aspects;
 use crate::queries::read_queries;
-use crate::trees::read_tree;
 use ast_grammar::{Grammar, read_ast};
 use attr_types::{FirstEq, Rules};
-use equation_law::{FirstNode, Tokens, Tree};
-use rag_io::{LONGEST_FILE, scan};
+use rag_io::{LONGEST_FILE, Pool, scan};
 use std::alloc::{AllocError, Global};
 use std::fmt::Write;
 use std::process::Abort;
 use std::test::Fail;
+use tree_arena::Tree;
+use tree_reader::read_tree;
 
 fn grammar_said(rt: &impl Abort, alloc: Global, text: &str) -> Result<Grammar, Fail> {
     assert!(rt; text.len() <= LONGEST_FILE);
@@ -252,47 +252,6 @@ fn reads_expressions(rt: HostRuntime) -> Result<(), Fail> {
     Ok(())
 }
 
-// A text, and whether it says a tree.
-const TREES: [(&str, bool); 8] = [
-    ("N()", true),
-    (" N ( ) // the root", true),
-    ("M()", false),
-    ("X()", false),
-    ("N", false),
-    ("N(N())", false),
-    ("N() N()", false),
-    ("", false),
-];
-
-// The same, where a node may be of a subclass.
-const SUBCLASSES: [(&str, bool); 9] = [
-    ("N(A())", true),
-    ("N(B())", true),
-    ("N(C())", true),
-    ("M(C(), C())", true),
-    ("M(A(), A())", false),
-    ("M(A())", false),
-    ("T(A())", false),
-    ("A()", false),
-    ("N(N(A()))", false),
-];
-
-#[test]
-fn reads_trees(rt: HostRuntime) -> Result<(), Fail> {
-    let alloc = rt.alloc();
-    let family = "abstract T ::= a:A; N : T; M : T ::= b:B; A; B : A; C : B;";
-    for (ast, trees) in [("N; M;", TREES.as_slice()), (family, SUBCLASSES.as_slice())] {
-        let grammar = grammar_said(&rt, alloc, ast)?;
-        for (text, is_said) in trees {
-            assert!(rt; text.len() <= LONGEST_FILE);
-            let tokens = scan(alloc, text.as_bytes())?;
-            let tree = read_tree(alloc, &grammar, &tokens)?;
-            assert_eq!(rt; tree.is_some(), *is_said, "{text}");
-        }
-    }
-    Ok(())
-}
-
 fn rules_said(
     rt: &impl Abort,
     alloc: Global,
@@ -307,17 +266,11 @@ fn rules_said(
     }
 }
 
-// The tree of one node of the first class, which has one token.
-fn lone_tree(alloc: Global, grammar: &Grammar) -> Result<Tree, Fail> {
-    let codes = vec![in alloc; 3]?;
-    let root = FirstNode {
-        class: grammar.first_class(),
-        parent: 0,
-        component: 0,
-        tokens: Tokens::of(codes),
-    };
-    let nodes = vec![in alloc; root]?;
-    Ok(Tree::of_nodes(alloc, nodes)?)
+fn tree_said(rt: &impl Abort, alloc: Global, grammar: &Grammar, text: &str) -> Result<Tree, Fail> {
+    assert!(rt; text.len() <= LONGEST_FILE);
+    let tokens = scan(alloc, text.as_bytes())?;
+    let mut pool = Pool::new(alloc)?;
+    Ok(read_tree(alloc, grammar, &tokens, &mut pool)?)
 }
 
 // The queries that the text says, written out with a blank behind each, or `none`.
@@ -396,7 +349,7 @@ fn reads_queries(rt: HostRuntime) -> Result<(), Fail> {
         &grammar,
         "aspect A { syn int N.v() = 5; syn int N.u() = 6; syn int M.w() = 7; syn int N.getW() = 8; }",
     )?;
-    let tree = lone_tree(alloc, &grammar)?;
+    let tree = tree_said(&rt, alloc, &grammar, "N(3)")?;
     for (text, shown) in &QUERIES {
         let said = queries_said(&rt, alloc, &grammar, &rules, &tree, text)?;
         assert_eq!(rt; said.as_str(), *shown, "{text}");

@@ -4,6 +4,7 @@ ghost use Rattle.std.specs.String.{string_bytes};
 mod grammars;
 mod programs;
 mod subclasses;
+mod texts;
 
 use crate::running::run;
 use rag_io::{Gate, LONGEST_FILE, MemoryShelf, MemorySink};
@@ -209,6 +210,12 @@ fn refuses_words_and_files(rt: HostRuntime) -> Result<(), Fail> {
         "run a b c",
         "run a b c d e",
         "run -x b c d",
+        "tree a",
+        "tree a b c",
+        "tree a -b",
+        "tree --ast b",
+        "tree",
+        "trees a b",
         "ran g.ast a.jrag t.tree q.txt",
         "--help",
     ] {
@@ -220,7 +227,7 @@ fn refuses_words_and_files(rt: HostRuntime) -> Result<(), Fail> {
     for (line, text) in [
         ("run q.txt a.jrag t.tree g.ast", "q.txt:1:1: G1\n"),
         ("run g.ast g.ast t.tree q.txt", "g.ast: not built\n"),
-        ("run g.ast a.jrag q.txt t.tree", "q.txt: not built\n"),
+        ("run g.ast a.jrag q.txt t.tree", "q.txt:1:1: N1\n"),
         ("run g.ast a.jrag t.tree t.tree", "t.tree: not built\n"),
     ] {
         let mut shelf = shelf(alloc, FIRST, "@0.v()", Vec::new(alloc))?;

@@ -1,16 +1,17 @@
 // The top call.
-ghost use Rattle.std.specs.Prelude.{◌≡◌, ◌⊎◌, ◌≤◌, ◌++◌, None, Ok, Err, map, IfOk, IfErr};
+ghost use Rattle.std.specs.Prelude.{◌≡◌, ◌⊎◌, ◌≤◌, ◌++◌, ℕ, List, None, Some, Ok, Err, map, IfOk, IfErr};
 ghost use Rattle.rag_io.specs.Outside.{Rose};
-ghost use Rattle.query_runner.specs.Answered.{AnswersWhereTold, status_of, text_of};
+ghost use Rattle.query_runner.specs.Answered.{AnswersWhereTold, Stopped, status_of, text_of};
 ghost use Rattle.query_runner.specs.Run.{Took, TookSome, WritesAnswer, WritesPart};
 ghost use Rattle.query_runner.specs.Output.{broken_line, usage};
-ghost use Rattle.query_runner.specs.Words.{text_of_word, names_of};
+ghost use Rattle.query_runner.specs.Words.{PrintTree, Run as AsksRun, command_of, text_of_word};
+ghost use Rattle.query_runner.specs.Named.{seen_names, seen_tree_names};
 
-use crate::fetching::{Stop, fetch_all};
-use crate::files::{Refusal, read_system};
+use crate::fetching::{Stop, fetch_all, fetch_tree};
+use crate::files::{Refusal, read_system, tree_text};
 use crate::putting::put_all;
 use crate::replies::reply_lines;
-use crate::words::{name_of, names_of};
+use crate::words::{Command, Names, TreeNames, command_of, name_of, tree_name_of};
 use broken_rules::Broken;
 use rag_io::{Gate, Shelf, Sink};
 use std::alloc::Global;
@@ -22,8 +23,8 @@ const USAGE: &[u8] =
 /// What is to be written.
 #[derive(Drop)]
 pub(crate) enum Answer {
-    /// The reply lines.
-    Replies(Vec<u8>),
+    /// The reply lines, or the text of a tree.
+    Output(Vec<u8>),
     /// The line of a file that is refused.
     Refusal(Vec<u8>),
     /// The usage text.
@@ -45,7 +46,7 @@ impl Answer {
         ensures { result ≡ status_of self.now }
     {
         match self {
-            Answer::Replies(_) => 0,
+            Answer::Output(_) => 0,
             Answer::Refusal(_) => 1,
             Answer::Usage => 2,
         }
@@ -56,7 +57,7 @@ impl Answer {
         ensures { result.now ≡ text_of self.now }
     {
         match self {
-            Answer::Replies(text) | Answer::Refusal(text) => text.as_slice(),
+            Answer::Output(text) | Answer::Refusal(text) => text.as_slice(),
             Answer::Usage => USAGE,
         }
     }
@@ -88,6 +89,67 @@ fn refuse_broken(alloc: Global, name: &str, broken: Broken) -> Result<Answer, Fa
     }
 }
 
+// What is written where fetching stopped.
+fn refuse_stop(alloc: Global, stop: Stop<'_>) -> Result<Answer, Failure>
+    ensures { Stopped stop.entry result }
+{
+    match stop {
+        Stop::Failed => Err(Failure::Fetch),
+        Stop::Memory => Err(Failure::Memory),
+        Stop::TooLong(name) => refuse(alloc, name, ": too long\n"),
+    }
+}
+
+// The replies to the queries of four files, or the line of the first that is refused.
+fn answer_run<S: Shelf, G: Gate>(
+    alloc: Global,
+    names: Names<'_>,
+    shelf: &mut S,
+    gate: &G,
+) -> Result<Answer, Failure>
+    ensures answer { (words : List (List ℕ)) → command_of words ≡ Some (AsksRun (seen_names names.entry)) → IfOk result (λ a. AnswersWhereTold words (S.files shelf.old) a) }
+    ensures status { IfOk result (λ a. status_of a ≤ 1) }
+    ensures fetch { result ≡ Err Failure.Fetch → Rose (S.faults shelf.old) (S.faults shelf.new) }
+{
+    let contents = match fetch_all(alloc, shelf, names) {
+        Ok(contents) => contents,
+        Err(stop) => return refuse_stop(alloc, stop),
+    };
+    match read_system(alloc, &contents) {
+        Ok(system) => match reply_lines(alloc, gate, &system) {
+            Ok(text) => Ok(Answer::Output(text)),
+            Err(_) => Err(Failure::Memory),
+        },
+        Err(Refusal::Memory) => Err(Failure::Memory),
+        Err(Refusal::Broken(file, broken)) => refuse_broken(alloc, name_of(names, file), broken),
+        Err(Refusal::NotBuilt(file)) => refuse(alloc, name_of(names, file), ": not built\n"),
+    }
+}
+
+// The canonical text of a tree, or the line of the first of its two files that is refused.
+fn answer_tree<S: Shelf>(
+    alloc: Global,
+    names: TreeNames<'_>,
+    shelf: &mut S,
+) -> Result<Answer, Failure>
+    ensures answer { (words : List (List ℕ)) → command_of words ≡ Some (PrintTree (seen_tree_names names.entry)) → IfOk result (λ a. AnswersWhereTold words (S.files shelf.old) a) }
+    ensures status { IfOk result (λ a. status_of a ≤ 1) }
+    ensures fetch { result ≡ Err Failure.Fetch → Rose (S.faults shelf.old) (S.faults shelf.new) }
+{
+    let contents = match fetch_tree(alloc, shelf, names) {
+        Ok(contents) => contents,
+        Err(stop) => return refuse_stop(alloc, stop),
+    };
+    match tree_text(alloc, &contents) {
+        Ok(text) => Ok(Answer::Output(text)),
+        Err(Refusal::Memory) => Err(Failure::Memory),
+        Err(Refusal::Broken(file, broken)) => {
+            refuse_broken(alloc, tree_name_of(names, file), broken)
+        }
+        Err(Refusal::NotBuilt(_)) => unreachable!(),
+    }
+}
+
 // All that is done before the first put.
 fn prepare<S: Shelf, G: Gate>(
     alloc: Global,
@@ -96,47 +158,31 @@ fn prepare<S: Shelf, G: Gate>(
     gate: &G,
 ) -> Result<Answer, Failure>
     ensures answer { IfOk result (λ a. AnswersWhereTold (map text_of_word words.now) (S.files shelf.old) a) }
-    ensures misused { names_of (map text_of_word words.now) ≡ None → result ≡ Ok Answer.Usage }
-    ensures usage { result ≡ Ok Answer.Usage → names_of (map text_of_word words.now) ≡ None }
+    ensures misused { command_of (map text_of_word words.now) ≡ None → result ≡ Ok Answer.Usage }
+    ensures usage { result ≡ Ok Answer.Usage → command_of (map text_of_word words.now) ≡ None }
     ensures fetch { result ≡ Err Failure.Fetch → Rose (S.faults shelf.old) (S.faults shelf.new) }
 {
-    let Some(names) = names_of(words) else {
-        return Ok(Answer::Usage);
-    };
-    let contents = match fetch_all(alloc, shelf, names) {
-        Ok(contents) => contents,
-        Err(stop) => match stop {
-            Stop::Failed => return Err(Failure::Fetch),
-            Stop::Memory => return Err(Failure::Memory),
-            Stop::TooLong(name) => return refuse(alloc, name, ": too long\n"),
-        },
-    };
-    match read_system(alloc, &contents) {
-        Ok(system) => match reply_lines(alloc, gate, &system) {
-            Ok(text) => Ok(Answer::Replies(text)),
-            Err(_) => Err(Failure::Memory),
-        },
-        Err(refusal) => match refusal {
-            Refusal::Memory => Err(Failure::Memory),
-            Refusal::Broken(broken) => refuse_broken(alloc, names.ast, broken),
-            Refusal::NotBuilt(file) => refuse(alloc, name_of(names, file), ": not built\n"),
-        },
+    match command_of(words) {
+        None => Ok(Answer::Usage),
+        Some(Command::Run(names)) => answer_run(alloc, names, shelf, gate),
+        Some(Command::Tree(names)) => answer_tree(alloc, names, shelf),
     }
 }
 
 /// Does all that the program does, and answers the status that it ends with.
 ///
-/// The order is: the words are read; the four files are fetched, up to the first fetch that is refused; each is
-/// tested in turn; the replies are made, and `gate.reached(0, r)` is called after reply r; the text is put in
-/// pieces of 65,536 bytes. So nothing is put before all of it is made.
+/// The words are `run` and the names of a grammar, aspects, a tree and queries, or `tree` and the names of a grammar and a tree. The order
+/// is: the words are read; the files are fetched, up to the first fetch that is refused; each is tested in turn; the replies are made, and
+/// `gate.reached(0, r)` is called after reply r, or the text of the tree is; it is put in pieces of 65,536 bytes. So nothing is put before
+/// all of it is made.
 ///
 /// | Status | Comes | Written |
 /// |---|---|---|
-/// | 0 | where the whole output was put | the output: one line for each query |
+/// | 0 | where the whole output was put | the output: one line for each query, or the canonical text of the tree |
 /// | 1 | where a file is too long | `NAME: too long` |
-/// | 1 | where the grammar breaks a rule | `NAME:LINE:COLUMN: RULE`, of the first broken one |
+/// | 1 | where the grammar or the tree breaks a rule | `NAME:LINE:COLUMN: RULE`, of the first broken one |
 /// | 1 | where another file isn't in the form that is read so far | `NAME: not built` |
-/// | 2 | where the words aren't `run` and four file names | the usage text |
+/// | 2 | where the words are neither `run` and four file names nor `tree` and two | the usage text |
 /// | 3 | for want of memory | nothing |
 /// | 5 | where the shelf's count of faults rose | nothing |
 /// | 6 | where the sink's count of faults rose | a front of what was to be put |
@@ -149,8 +195,8 @@ pub fn run<R: Threads + Sync, S: Shelf, K: Sink, G: Gate>(
     gate: &G,
 ) -> u8
     ensures answer { result ≤ 2 → WritesAnswer (map text_of_word words.now) (S.files shelf.old) (K.taken sink.old) (K.taken sink.new) result }
-    ensures misused { names_of (map text_of_word words.now) ≡ None → (result ≡ 2) ⊎ (result ≡ 6) }
-    ensures usage { result ≡ 2 → (names_of (map text_of_word words.now) ≡ None) × Took (K.taken sink.old) usage (K.taken sink.new) }
+    ensures misused { command_of (map text_of_word words.now) ≡ None → (result ≡ 2) ⊎ (result ≡ 6) }
+    ensures usage { result ≡ 2 → (command_of (map text_of_word words.now) ≡ None) × Took (K.taken sink.old) usage (K.taken sink.new) }
     ensures memory { result ≡ 3 → K.taken sink.new ≡ K.taken sink.old }
     ensures fetch { result ≡ 5 → Rose (S.faults shelf.old) (S.faults shelf.new) × (K.taken sink.new ≡ K.taken sink.old) }
     ensures put { result ≡ 6 → Rose (K.faults sink.old) (K.faults sink.new) × WritesPart (map text_of_word words.now) (S.files shelf.old) (K.taken sink.old) (K.taken sink.new) }

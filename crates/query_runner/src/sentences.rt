@@ -1,11 +1,11 @@
 // Sentences, and what their tokens write.
-ghost use Rattle.std.specs.Prelude.{◌≡◌, ◌-◌, ◌<◌, ◌*◌, ◌+◌, ◌^◌, ℕ, IfOk, map, min, length, slice_index_or};
+ghost use Rattle.std.specs.Prelude.{◌≡◌, ◌-◌, ◌<◌, ℕ, IfOk, map, length, slice_index_or};
 ghost use Rattle.ll_parser.specs.Stack.{Works, choice_of, rows_of};
 ghost use Rattle.ll_parser.specs.Table.{Claims};
 ghost use Rattle.rag_io.specs.Tokens.{Lexed, seen_token, seen_tokens};
 ghost use Rattle.query_runner.specs.Names.{is_name};
 ghost use Rattle.query_runner.specs.Sentences.{Recognizes};
-ghost use Rattle.query_runner.specs.Tokens.{text_at, decimal};
+ghost use Rattle.query_runner.specs.Tokens.{text_at};
 
 use ll_parser::{ParseFault, Table, parse};
 use rag_io::{Memory, Token, is_left_out, is_reserved};
@@ -68,16 +68,4 @@ pub(crate) fn is_name(text: &[u8]) -> bool
     ensures { result ≡ is_name text.now }
 {
     !(is_reserved(text) || is_left_out(text))
-}
-
-// The number that decimal digits write, or the limit where it is larger.
-pub(crate) fn capped(digits: &[u8], limit: u64) -> u64
-    requires { limit < 2 ^ 32 }
-    ensures { result ≡ min (decimal digits.now) limit }
-{
-    let mut number = 0;
-    for digit in digits {
-        number = (number * 10 + u64::from(digit.saturating_sub(b'0'))).min(limit);
-    }
-    number
 }

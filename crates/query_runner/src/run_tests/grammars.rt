@@ -47,29 +47,29 @@ const TREES: [(&str, &str, &str, u8, &str); 13] = [
         0,
         "false\n4\n@2\n",
     ),
-    (FAMILY, "P(E(3), B(4, true))", "", 1, "t.tree: not built\n"),
-    (FAMILY, "P(A(3), A(4))", "", 1, "t.tree: not built\n"),
-    (FAMILY, "P(A(3), C(4))", "", 1, "t.tree: not built\n"),
+    (FAMILY, "P(E(3), B(4, true))", "", 1, "t.tree:1:3: N2\n"),
+    (FAMILY, "P(A(3), A(4))", "", 1, "t.tree:1:9: N4\n"),
+    (FAMILY, "P(A(3), C(4))", "", 1, "t.tree:1:9: N3\n"),
     (
         FAMILY,
         "P(A(3, true), C(4, true))",
         "",
         1,
-        "t.tree: not built\n",
+        "t.tree:1:3: N3\n",
     ),
     (
         FAMILY,
         "P(P(A(3), C(4, true)), C(4, true))",
         "",
         1,
-        "t.tree: not built\n",
+        "t.tree:1:3: N4\n",
     ),
-    (FAMILY, "A(3)", "", 1, "t.tree: not built\n"),
+    (FAMILY, "A(3)", "", 1, "t.tree:1:1: N6\n"),
     (ROOTS, "S(5)", "@0.getV()", 0, "5\n"),
     (ROOTS, "T(5, -6)", "@0.getV()\n@0.getW()", 0, "5\n-6\n"),
-    (ROOTS, "R(5)", "", 1, "t.tree: not built\n"),
-    ("A ::= B*; B;", "A()", "", 1, "t.tree: not built\n"),
-    ("A ::= <V>;", "A(1)", "", 1, "t.tree: not built\n"),
+    (ROOTS, "R(5)", "", 1, "t.tree:1:1: N2\n"),
+    ("A ::= B*; B;", "A()", "", 1, "t.tree:1:1: N3\n"),
+    ("A ::= <V>;", "A(1)", "", 1, "t.tree:1:3: N5\n"),
 ];
 
 // A grammar that breaks a rule is refused before all that lies behind it.
@@ -97,7 +97,7 @@ fn many_classes(alloc: Global, count: u32) -> Result<String, AllocError> {
 #[test]
 fn the_largest_grammar(rt: HostRuntime) -> Result<(), Fail> {
     let alloc = rt.alloc();
-    for (count, text) in [(256, "t.tree: not built\n"), (257, "g.ast:257:1: G10\n")] {
+    for (count, text) in [(256, "t.tree:1:1: N6\n"), (257, "g.ast:257:1: G10\n")] {
         let ast = many_classes(alloc, count)?;
         let mut shelf = four_files(alloc, ast.as_str(), "", "C1()", "")?;
         let (ended, taken) = written_by(&rt, alloc, &mut shelf)?;

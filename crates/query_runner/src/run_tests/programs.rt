@@ -72,16 +72,16 @@ const TREES: [Case; 16] = [
         1,
         "q.txt: not built\n",
     ),
-    (PAIR, "", "P(L(3), P(), true)", "", 1, "t.tree: not built\n"),
-    (PAIR, "", "P(L(3), L(-4))", "", 1, "t.tree: not built\n"),
-    (PAIR, "", "P(L(3), L(-4), 1)", "", 1, "t.tree: not built\n"),
+    (PAIR, "", "P(L(3), P(), true)", "", 1, "t.tree:1:9: N3\n"),
+    (PAIR, "", "P(L(3), L(-4))", "", 1, "t.tree:1:1: N3\n"),
+    (PAIR, "", "P(L(3), L(-4), 1)", "", 1, "t.tree:1:16: N5\n"),
     (
         PAIR,
         "",
         "P(L(true), L(-4), true)",
         "",
         1,
-        "t.tree: not built\n",
+        "t.tree:1:5: N5\n",
     ),
     (
         PAIR,
@@ -89,7 +89,7 @@ const TREES: [Case; 16] = [
         "P(L(2147483648), L(-4), true)",
         "",
         1,
-        "t.tree: not built\n",
+        "t.tree:1:5: N5\n",
     ),
     (
         PAIR,
@@ -97,7 +97,7 @@ const TREES: [Case; 16] = [
         "P(L(1), L(-2147483649), true)",
         "",
         1,
-        "t.tree: not built\n",
+        "t.tree:1:11: N5\n",
     ),
     (
         PAIR,
@@ -105,9 +105,9 @@ const TREES: [Case; 16] = [
         "P(L(3), L(-4), true) L(1)",
         "",
         1,
-        "t.tree: not built\n",
+        "t.tree:1:22: N1\n",
     ),
-    (PAIR, "", "L(3)", "", 1, "t.tree: not built\n"),
+    (PAIR, "", "L(3)", "", 1, "t.tree:1:1: N6\n"),
     (
         PAIR,
         "aspect A { syn int P.v() = getl().getW(); }",
@@ -320,7 +320,7 @@ fn the_deepest_tree(rt: HostRuntime) -> Result<(), Fail> {
     Ok(())
 }
 
-// A text that nests 20,000 nodes is none of a tree, since each child is there.
+// A text that nests 20,000 nodes, and isn't closed.
 #[test]
 fn deep_texts_are_refused(rt: HostRuntime) -> Result<(), Fail> {
     let alloc = rt.alloc();
@@ -329,7 +329,7 @@ fn deep_texts_are_refused(rt: HostRuntime) -> Result<(), Fail> {
     let mut shelf = four_files(alloc, "N ::= N;", "", &tree, "")?;
     let (ended, taken) = written_by(&rt, alloc, &mut shelf)?;
     assert_eq!(rt; ended, 1);
-    assert_eq!(rt; taken.as_slice(), b"t.tree: not built\n".as_slice());
+    assert_eq!(rt; taken.as_slice(), b"t.tree:1:40001: N1\n".as_slice());
     Ok(())
 }
 
@@ -351,16 +351,17 @@ fn doubled(alloc: Global) -> Result<(String, String), AllocError> {
 fn the_largest_tree(rt: HostRuntime) -> Result<(), Fail> {
     let alloc = rt.alloc();
     let (classes, half) = doubled(alloc)?;
-    for (root, more, status, text) in [
-        ("A0 ::= A1;\n", "", 0, "1\n2\n"),
-        ("A0 ::= A1 L; L;\n", ", L()", 1, "t.tree: not built\n"),
-    ] {
+    let aspects = "aspect A { syn int A15.s() = getx().getV() + gety().getV(); }";
+    let queries = "@65535.getV()\n@65533.s()";
+    for (root, more, status) in [("A0 ::= A1;\n", "", 0), ("A0 ::= A1 L; L;\n", ", L()", 1)] {
         let mut ast = String::from_str(alloc, root)?;
         ast.push_str(classes.as_str())?;
         let mut tree = String::new(alloc);
         write!(tree, "A0({}{more})", half.as_str())?;
-        let aspects = "aspect A { syn int A15.s() = getx().getV() + gety().getV(); }";
-        let queries = "@65535.getV()\n@65533.s()";
+        let mut text = String::from_str(alloc, "1\n2\n")?;
+        if status == 1 {
+            text = format!(in alloc; "t.tree:1:{}: N7\n", tree.len().saturating_sub(3))?;
+        }
         let mut shelf = four_files(alloc, &ast, aspects, &tree, queries)?;
         let (ended, taken) = written_by(&rt, alloc, &mut shelf)?;
         assert_eq!(rt; ended, status, "{root}");

@@ -4,7 +4,8 @@ use Rattle.rag_io.specs.Tokens.{IsTokens, first_place, seen_tokens}
 use Rattle.rag_io.specs.declared.token.Place.{Place}
 use Rattle.broken_rules.specs.declared.rule.Rule.TheVariants.{G1}
 use Rattle.broken_rules.specs.Notes.{at}
-use Rattle.query_runner.specs.Files.{BreaksRule, bad_place}
+use Rattle.query_runner.specs.Files as held
+use Rattle.query_runner.specs.Files.{BreaksGrammar}
 use Rattle.query_runner.proofs.Unread.{answers_grammar}
 use Rattle.query_runner.proofs.files.read_grammar.Goals as goal
 
@@ -16,4 +17,4 @@ returns-in-Ok c =
 pub returns-in-Err-Bad : goal.returns-in-Err-Bad
 returns-in-Err-Bad c =
     let bad = rw c.in-Err-Bad.field-0-is at c.in-Err-Bad.ensures in
-    subst (λ (p : Place). BreaksRule c.args.bytes.now (at p G1)) (sym c.in-Err-Bad.place-is) (bad_place bad)
+    subst (λ (p : Place). BreaksGrammar c.args.bytes.now (at p G1)) (sym c.in-Err-Bad.place-is) (held.BreaksGrammar.bad_place bad)

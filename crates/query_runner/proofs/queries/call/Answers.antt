@@ -4,7 +4,7 @@ use Rattle.attr_types.specs.Expression.{Source}
 use Rattle.attr_types.specs.Items.{rules_in}
 use Rattle.attr_types.specs.Rules.{attribute_named}
 use Rattle.query_runner.specs.Members.{member_named, on_receiver}
-use Rattle.query_runner.specs.Tokens.{decimal}
+use Rattle.rag_io.specs.Decimal.{decimal}
 use Rattle.query_runner.proofs.Membership.{named_by_member}
 use Rattle.query_runner.proofs.queries.call.Goals as goal
 
