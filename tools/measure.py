@@ -93,6 +93,36 @@ def components(count):
     yield b";"
 
 
+def flat(count):
+    """A tree of so many nodes, of which all but the root stand in one list."""
+    return {"g.ast": [b"R ::= N*;\nN ::= <V:int>;\n"], "t.tree": [b"R([" + b", ".join(b"N(%d)" % k for k in range(count - 1)) + b"])\n"]}
+
+
+def deep(count):
+    """A tree of so many nodes, each but the last with the next below it."""
+    return {"g.ast": [b"L ::= [L];\n"], "t.tree": [b"L([" * (count - 1) + b"L([])" + b"])" * (count - 1) + b"\n"]}
+
+
+def texts(count):
+    """A tree of so many nodes, each with a text of its own."""
+    return {"g.ast": [b"R ::= N*;\nN ::= <S>;\n"], "t.tree": [b"R([" + b", ".join(b'N("text %d")' % k for k in range(count - 1)) + b"])\n"]}
+
+
+def lists():
+    """16 MiB of nodes in a list that is never closed."""
+    return {"g.ast": [b"R ::= N*;\nN;\n"], "t.tree": filled(b"N(),", b"R([")}
+
+
+# What `rag tree` is timed on.
+TREES = [(f"{name} tree of {count:,} nodes", make(count)) for name, make in [("flat", flat), ("nested", deep), ("texts in a", texts)] for count in [1000, 8000, 65536]]
+TREES += [
+    ("tree: N( all over", {"t.tree": filled(b"N(")}),
+    ("tree: 16 MiB of nodes in a list", lists()),
+    ("tree: a text of 16 MiB", {"g.ast": [b"R ::= <S>;"], "t.tree": [b'R("' + b"a" * (LONGEST - 5) + b'")']}),
+    ("tree: an integer of 16 MiB", {"g.ast": [b"R ::= <I:int>;"], "t.tree": [b"R(" + b"7" * (LONGEST - 3) + b")"]}),
+    ("tree: 65,537 nested nodes", {"g.ast": [b"L ::= [L];\n"], "t.tree": [b"L([" * 65537 + b"])" * 65537]}),
+]
+
 CASES = [
     ("the first example", {}),
     ("grammar: blanks", {"g.ast": filled(b" ")}),
@@ -123,25 +153,27 @@ CASES = [
 ]
 
 
-def measure(folder, name, files):
+def measure(folder, name, files, words):
     for file, content in FIRST.items():
         with open(os.path.join(folder, file), "wb") as out:
             out.writelines(files.get(file, [content]))
     start = time.monotonic()
     with tempfile.TemporaryFile() as answer:
-        child = subprocess.Popen([PROGRAM, "run", *FIRST], cwd=folder, stdout=answer)
+        child = subprocess.Popen([PROGRAM, *words], cwd=folder, stdout=answer)
         _, status, usage = os.wait4(child.pid, 0)
         seconds = time.monotonic() - start
         child.returncode = os.waitstatus_to_exitcode(status)
         answer.seek(0)
-        first = answer.readline().decode().strip()
+        first = answer.readline(60).decode(errors="replace").strip()
     print(f"{name:48} {seconds:7.2f} s {usage.ru_maxrss // 1024:6} MB  {child.returncode} {first}")
 
 
 def main():
     with tempfile.TemporaryDirectory() as folder:
         for name, files in CASES:
-            measure(folder, name, files)
+            measure(folder, name, files, ["run", *FIRST])
+        for name, files in TREES:
+            measure(folder, name, files, ["tree", "g.ast", "t.tree"])
 
 
 if __name__ == "__main__":
