@@ -20,7 +20,7 @@ use Rattle.tree_syntax.specs.Written.{Leaf, WritesText, WritesInt, WritesTruth, 
 use Rattle.tree_reader.specs.Breaking.{arguments_broken, brackets_at_shape, count, is_apart, is_concrete, is_concrete_class, miscounts, most_of, node_at_shape, root_broken, value_at_shape}
 use Rattle.tree_reader.specs.Grown.{beside_each, class_or_first, code_of, codes_of, grown, int_code, or_zero, small_code, tree_written, truth_code}
 use Rattle.tree_reader.specs.Wants.{Wants, Components, Elements, Perhaps, NoMore, Unknown, arguments_of, inside, inside_shape, next_of, wanted_by}
-use Rattle.tree_reader.proofs.Pooling.{IsThere}
+use Rattle.tree_reader.proofs.Pooled.{IsThere}
 use Rattle.tree_reader.proofs.Sizes.{length_nodes, size_grown}
 use Rattle.tree_reader.proofs.Clean.{CleanNode, CleanBrackets, CleanValue, clean_brackets, clean_node, clean_value, few_nodes, not_not}
 
@@ -55,9 +55,11 @@ code_fits true n small = go (n == 0) refl
         some : 0 < n → 4294967296 - n < 4294967296
         some lt = omega (arith, lt)
 
+-- and that of any, which is 0 where the integer is too large
 int_within : (negative : Bool) (n : ℕ) → nat_le n (most_of negative) ≡ true → small_code negative n < 4294967296
 int_within negative n small = subst (λ b. (if b then int_code negative n else 0) < 4294967296) (sym small) (code_fits negative n small)
 
+-- the code of a truth value
 truth_within : (b : Bool) → truth_code b ≤ 1
 truth_within true = omega arith
 truth_within false = omega arith
@@ -93,6 +95,7 @@ module _ (g : List Class) (pool : List (List ℕ)) where
   fits None wanted concrete near = cc
   fits (Some c) wanted concrete near = record { below = not_not (is_sub g c wanted.0) near; concrete = is_plain (slice_get g c) concrete }
 
+  -- some trees and codes at some components
   abbrev Hung : List Component → ℕ → Forest → List ℕ → Type 0
   Hung = Hangs g (length pool)
 

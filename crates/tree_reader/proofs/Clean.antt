@@ -25,6 +25,7 @@ pub not_not : (b : Bool) → not b ≡ false → b ≡ true
 not_not true h = refl
 not_not false h = cc
 
+-- the parts of a node
 pub clean_node : (g : List Class) (wants : Wants) (n : ℕ) (name : List ℕ) (p : Place) (arguments behind : Written) → arguments_broken g wants n (Node name p arguments behind) ≡ []
     → CleanNode g wants n (class_named g name) p arguments behind
 clean_node g wants n name p arguments behind clean =
@@ -52,6 +53,7 @@ pub record CleanBrackets (g : List Class) (wants : Wants) (n : ℕ) (p : Place) 
   pub inner : arguments_broken g (inside (wanted_by wants)) n nodes ≡ []
   pub rest : arguments_broken g (next_of wants) (n + nodes_in nodes) behind ≡ []
 
+-- the parts of brackets
 pub clean_brackets : (g : List Class) (wants : Wants) (n : ℕ) (p : Place) (nodes behind : Written) → arguments_broken g wants n (Brackets p nodes behind) ≡ [] → CleanBrackets g wants n p nodes behind
 clean_brackets g wants n p nodes behind clean =
     let inner = arguments_broken g (inside (wanted_by wants)) n nodes in
@@ -65,6 +67,7 @@ pub record CleanValue (g : List Class) (wants : Wants) (n : ℕ) (leaf : Leaf) (
   pub placed : value_misplaced (wanted_by wants) leaf p ≡ []
   pub rest : arguments_broken g (next_of wants) n behind ≡ []
 
+-- the parts of a value
 pub clean_value : (g : List Class) (wants : Wants) (n : ℕ) (leaf : Leaf) (p : Place) (behind : Written) → arguments_broken g wants n (Valued leaf p behind) ≡ [] → CleanValue g wants n leaf p behind
 clean_value g wants n leaf p behind clean =
     let parts = append_none (value_misplaced (wanted_by wants) leaf p) (arguments_broken g (next_of wants) n behind) clean in

@@ -5,9 +5,11 @@ pub mod Coding
 pub mod Growing
 pub mod NodeReaching
 pub mod OneTree
+pub mod Pooled
 pub mod Pooling
 pub mod Reaching
 pub mod Read
+pub mod Root
 pub mod Running
 pub mod Said
 pub mod Sizes

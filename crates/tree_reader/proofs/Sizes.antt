@@ -10,11 +10,13 @@ use Rattle.tree_syntax.specs.Written.{Written, Nothing, Node, Brackets, Valued}
 use Rattle.tree_reader.specs.Breaking.{nodes_in}
 use Rattle.tree_reader.specs.Grown.{beside_each, grown}
 
+-- a forest has as many nodes as its size
 pub length_nodes : (parent n : ℕ) (trees : Forest) → length (nodes_from parent n trees) ≡ size trees
 length_nodes parent n Empty = refl
 length_nodes parent n (Tree c k tokens below beside) =
     omega (arith, length-append (nodes_from n (suc n) below) (nodes_from parent (suc n + size below) beside), length_nodes n (suc n) below, length_nodes parent (suc n + size below) beside)
 
+-- the sizes of trees side by side add up
 size_beside : (trees others : Forest) → size (beside_each trees others) ≡ size trees + size others
 size_beside Empty others = omega arith
 size_beside (Tree c k tokens below beside) others = omega (arith, size_beside beside others)

@@ -1,20 +1,18 @@
 -- The texts that tokens write are those of the tokens.
-use Rattle.std.proofs.Common.{◌≡◌, ℕ, List, [], ◌∷◌, ap}
+use Rattle.std.proofs.Common.{◌≡◌, ℕ, List, [], ◌∷◌}
 use Rattle.broken_rules.proofs.Clean.{append_none, not_broken}
-use Rattle.broken_rules.specs.Notes.{at, broken_if}
-use Rattle.broken_rules.specs.declared.rule.Rule.TheVariants.{N6, N7}
+use Rattle.broken_rules.specs.Notes.{at}
+use Rattle.broken_rules.specs.declared.rule.Rule.TheVariants.{N7}
 use Rattle.rag_io.specs.Tokens.{Lexed}
 use Rattle.rag_io.specs.Unquoted.{meant}
 use Rattle.rag_io.specs.declared.token.Place.{Place}
 use Rattle.rag_io.specs.declared.token.TokenKind.{TokenKind}
 use Rattle.rag_io.specs.declared.token.TokenKind.TheVariants as kinds
-use Rattle.ast_grammar.specs.Grammar.{Class, class_named}
-use Rattle.tree_arena.specs.Terms.{first_class}
-use Rattle.tree_syntax.specs.Written.{Written, IsNode, Mode, Argument, Spells, none, some, over, comma, node, brackets, text, int, negative, truth, Writes}
-use Rattle.tree_reader.specs.Breaking.{is_apart, is_past, pooled_by_kind, pooled_texts, root_broken, text_broken, texts_broken}
+use Rattle.tree_syntax.specs.Written.{Written, Mode, Spells, none, some, over, comma, node, brackets, text, int, negative, truth, Writes}
+use Rattle.tree_reader.specs.Breaking.{is_past, pooled_by_kind, pooled_texts, text_broken, texts_broken}
 use Rattle.tree_reader.proofs.Accepted as there
 use Rattle.tree_reader.proofs.Accepted.{AreThere}
-use Rattle.tree_reader.proofs.Pooling.{IsThere, there_later, there_pooled}
+use Rattle.tree_reader.proofs.Pooled.{IsThere, there_later, there_pooled}
 
 -- the texts of some tokens are in the pool
 abbrev pub TokensThere : List (List ℕ) → List Lexed → Type 0
@@ -42,6 +40,7 @@ record Spelled (pool : List (List ℕ)) (w : Written) (left : List Lexed) : Type
   written : AreThere pool w
   rest : TokensThere pool left
 
+-- the texts of what is spelled, and those of the tokens that are left
 spelled : (pool : List (List ℕ)) {mode : Mode} {w : Written} {ts rest : List Lexed} → Spells mode w ts rest → TokensThere pool ts → Spelled pool w rest
 spelled pool none tokens = record { written = there.nothing; rest = tokens }
 spelled pool (some s) tokens = spelled pool s tokens
@@ -71,32 +70,3 @@ spelled pool (truth kind word behind) tokens =
 -- the texts of what tokens write are in the pool, where those of the tokens are
 pub written_there : {pool : List (List ℕ)} {ts : List Lexed} {w : Written} → Writes ts w → TokensThere pool ts → AreThere pool w
 written_there {pool} writes tokens = (spelled pool writes.spells tokens).written
-
--- no tree is written with no token
-nothing_spelled : {w : Written} {ts rest : List Lexed} → Spells Argument w ts rest → ts ≡ [] → ⊥
-nothing_spelled (node kind opens inner closes behind) is = cc
-nothing_spelled (brackets opens are inner closes behind) is = cc
-nothing_spelled (text kind behind) is = cc
-nothing_spelled (int kind behind) is = cc
-nothing_spelled (negative sign kind behind) is = cc
-nothing_spelled (truth kind word behind) is = cc
-
-pub some_token : {w : Written} {ts : List Lexed} → Writes ts w → ts ≡ [] → ⊥
-some_token writes is = nothing_spelled writes.spells is
-
--- a node begins with its name
-begins_with : {w : Written} {ts rest : List Lexed} → Spells Argument w ts rest → IsNode w → (g : List Class) (t : Lexed) (more : List Lexed) → ts ≡ t ∷ more
-    → broken_if (is_apart g (class_named g t.text) first_class) (at t.place N6) ≡ root_broken g w
-begins_with (node {t = u} kind opens inner closes behind) is g t more begins =
-    let same : t ≡ u = cc in
-    ap (λ (x : Lexed). broken_if (is_apart g (class_named g x.text) first_class) (at x.place N6)) same
-begins_with (brackets opens are inner closes behind) is g t more begins = absurd is
-begins_with (text kind behind) is g t more begins = absurd is
-begins_with (int kind behind) is g t more begins = absurd is
-begins_with (negative sign kind behind) is g t more begins = absurd is
-begins_with (truth kind word behind) is g t more begins = absurd is
-
--- what the root breaks, by the first token
-pub root_first : {w : Written} {ts : List Lexed} → Writes ts w → (g : List Class) (t : Lexed) (more : List Lexed) → ts ≡ t ∷ more
-    → broken_if (is_apart g (class_named g t.text) first_class) (at t.place N6) ≡ root_broken g w
-root_first writes g t more begins = begins_with writes.spells writes.node g t more begins

@@ -4,6 +4,7 @@ use rag_io::{MOST_TEXTS, Pool};
 use std::alloc::{AllocError, Global};
 use std::process::Abort;
 use std::test::Fail;
+use tree_arena::Tree;
 
 // A list of lists, to any depth.
 const LISTS: &str = "R ::= r:R*;";
@@ -23,19 +24,67 @@ fn wide(alloc: Global, nodes: usize, last: &str) -> Result<String, AllocError> {
     format!(in alloc; "R([\n{lines}{last}")
 }
 
+// A chain of so many nodes.
+fn deep(alloc: Global, nodes: usize) -> Result<String, AllocError> {
+    let open = repeated(alloc, "R([", nodes)?;
+    let close = repeated(alloc, "])", nodes)?;
+    format!(in alloc; "{open}{close}")
+}
+
+// The tree that a text says.
+fn tree_of(rt: &impl Abort, alloc: Global, text: &str) -> Result<Tree, Fail> {
+    let grammar = grammar_of(rt, alloc, LISTS)?;
+    let mut pool = new_pool(alloc)?;
+    let read = answer(rt, alloc, &grammar, text, &mut pool)?;
+    Ok(read.ok().ok_or("no tree")?)
+}
+
+// Whether all nodes hang at the root.
+fn is_star(tree: &Tree) -> bool {
+    for n in 1..tree.len() {
+        if tree.parent(n) != Some(0) {
+            return false;
+        }
+    }
+    true
+}
+
+// Whether each node hangs at the one before it.
+fn is_chain(tree: &Tree) -> bool {
+    for n in 1..tree.len() {
+        if tree.parent(n) != Some(n - 1) {
+            return false;
+        }
+    }
+    true
+}
+
 #[test]
 fn reads_wide_trees(rt: HostRuntime) -> Result<(), Fail> {
     let alloc = rt.alloc();
-    let grammar = grammar_of(&rt, alloc, LISTS)?;
-    let mut pool = new_pool(alloc)?;
     let text = wide(alloc, 65_534, "R([])])")?;
-    let tree = answer(&rt, alloc, &grammar, text.as_str(), &mut pool)?
-        .ok()
-        .ok_or("no tree")?;
+    let tree = tree_of(&rt, alloc, text.as_str())?;
     assert_eq!(rt; tree.len(), 65_536);
-    for n in 1..tree.len() {
-        assert_eq!(rt; tree.parent(n), Some(0));
-    }
+    assert!(rt; is_star(&tree));
+    Ok(())
+}
+
+#[test]
+fn reads_deep_trees(rt: HostRuntime) -> Result<(), Fail> {
+    let alloc = rt.alloc();
+    let text = deep(alloc, 65_536)?;
+    let tree = tree_of(&rt, alloc, text.as_str())?;
+    assert_eq!(rt; tree.len(), 65_536);
+    assert!(rt; is_chain(&tree));
+    Ok(())
+}
+
+// What a text breaks, which is too long to be shown.
+fn expect_broken(rt: &impl Abort, alloc: Global, text: &str, want: &str) -> Result<(), Fail> {
+    let grammar = grammar_of(rt, alloc, LISTS)?;
+    let mut pool = new_pool(alloc)?;
+    let said = said_of(rt, alloc, &grammar, text, &mut pool)?;
+    assert_eq!(rt; said.as_slice(), want.as_bytes());
     Ok(())
 }
 
@@ -50,40 +99,12 @@ const TOO_MANY: [(&str, &str); 3] = [
 #[test]
 fn tells_too_many_nodes(rt: HostRuntime) -> Result<(), Fail> {
     let alloc = rt.alloc();
-    let grammar = grammar_of(&rt, alloc, LISTS)?;
-    let mut pool = new_pool(alloc)?;
     for (last, want) in TOO_MANY {
         let text = wide(alloc, 65_535, last)?;
-        let said = said_of(&rt, alloc, &grammar, text.as_str(), &mut pool)?;
-        assert_eq!(rt; said.as_slice(), want.as_bytes(), "{last}");
-    }
-    Ok(())
-}
-
-// A chain of so many nodes.
-fn deep(alloc: Global, nodes: usize) -> Result<String, AllocError> {
-    let open = repeated(alloc, "R([", nodes)?;
-    let close = repeated(alloc, "])", nodes)?;
-    format!(in alloc; "{open}{close}")
-}
-
-#[test]
-fn reads_deep_trees(rt: HostRuntime) -> Result<(), Fail> {
-    let alloc = rt.alloc();
-    let grammar = grammar_of(&rt, alloc, LISTS)?;
-    let mut pool = new_pool(alloc)?;
-    let text = deep(alloc, 65_536)?;
-    let tree = answer(&rt, alloc, &grammar, text.as_str(), &mut pool)?
-        .ok()
-        .ok_or("no tree")?;
-    assert_eq!(rt; tree.len(), 65_536);
-    for n in 1..tree.len() {
-        assert_eq!(rt; tree.parent(n), Some(n - 1));
+        expect_broken(&rt, alloc, text.as_str(), want)?;
     }
     let text = deep(alloc, 65_537)?;
-    let said = said_of(&rt, alloc, &grammar, text.as_str(), &mut pool)?;
-    assert_eq!(rt; said.as_slice(), b"1:196609 N7".as_slice());
-    Ok(())
+    expect_broken(&rt, alloc, text.as_str(), "1:196609 N7")
 }
 
 // A pool of so many texts: the empty one, and the numbers from 1 on.

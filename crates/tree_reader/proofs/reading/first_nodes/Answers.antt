@@ -16,11 +16,13 @@ at_node P xs i x all lt is =
 pub first_node-requires-clause-parent : goal.first_node-requires-clause-parent
 first_node-requires-clause-parent c =
     let gives = c.into_iter-node-iterator.ensures.into_iter_gives in
-    let at = YieldsList-turn (YieldsList-from_vec c.args.laid.items gives.0 (gives.1 ∙ c.args.laid.ok.0)) c.loop-node.yielded c.loop-node.node-iterator c.loop-node.yielded_by _ c.next.new.self c.in-Some.node c.in-Some.is c.next.ensures.steps in
+    let all = YieldsList-from_vec c.args.laid.items gives.0 (gives.1 ∙ c.args.laid.ok.0) in
+    let at = YieldsList-turn all c.loop-node.yielded c.loop-node.node-iterator c.loop-node.yielded_by _ c.next.new.self c.in-Some.node c.in-Some.is c.next.ensures.steps in
     at_node (λ (x : Node). x.parent < 2 ^ 32) c.args.laid.items (length c.loop-node.yielded) c.in-Some.node c.requires.parents at.0 at.1
 
 pub first_node-requires-clause-component : goal.first_node-requires-clause-component
 first_node-requires-clause-component c =
     let gives = c.into_iter-node-iterator.ensures.into_iter_gives in
-    let at = YieldsList-turn (YieldsList-from_vec c.args.laid.items gives.0 (gives.1 ∙ c.args.laid.ok.0)) c.loop-node.yielded c.loop-node.node-iterator c.loop-node.yielded_by _ c.next.new.self c.in-Some.node c.in-Some.is c.next.ensures.steps in
+    let all = YieldsList-from_vec c.args.laid.items gives.0 (gives.1 ∙ c.args.laid.ok.0) in
+    let at = YieldsList-turn all c.loop-node.yielded c.loop-node.node-iterator c.loop-node.yielded_by _ c.next.new.self c.in-Some.node c.in-Some.is c.next.ensures.steps in
     at_node (λ (x : Node). x.component < 2 ^ 32) c.args.laid.items (length c.loop-node.yielded) c.in-Some.node c.requires.components at.0 at.1

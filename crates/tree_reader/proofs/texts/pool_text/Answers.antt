@@ -6,7 +6,7 @@ use Rattle.rag_io.proofs.Meant.{stands_meant}
 use Rattle.rag_io.specs.Pool.{number_of, with_text}
 use Rattle.rag_io.specs.Tokens.{seen_token}
 use Rattle.rag_io.specs.Unquoted.{meant}
-use Rattle.tree_reader.proofs.Pooling.{code_found, code_full, is_full, not_past, pooled_added, pooled_full}
+use Rattle.tree_reader.proofs.Pooled.{code_found, code_full, is_full, not_past, pooled_added, pooled_full}
 use Rattle.tree_reader.proofs.texts.pool_text.Goals as goal
 
 pub returns-in-Ok-clause-code : goal.returns-in-Ok-clause-code
