@@ -1,7 +1,7 @@
 use crate::aspects::read_aspects;
 use crate::queries::read_queries;
 use ast_grammar::{Grammar, read_ast};
-use attr_types::{FirstEq, Rules};
+use attr_types::{FirstEq, QueryEq, Rules};
 use rag_io::{LONGEST_FILE, Pool, scan};
 use std::alloc::{AllocError, Global};
 use std::fmt::Write;
@@ -16,20 +16,43 @@ fn grammar_said(rt: &impl Abort, alloc: Global, text: &str) -> Result<Grammar, F
     Ok(read_ast(alloc, &tokens)?)
 }
 
-// How many items the text says, or None where it says none.
+// The items that the text says, or None where it says none.
+fn aspects_said(
+    rt: &impl Abort,
+    alloc: Global,
+    grammar: &Grammar,
+    text: &str,
+) -> Result<Option<Vec<FirstEq>>, Fail> {
+    assert!(rt; text.len() <= LONGEST_FILE);
+    let tokens = scan(alloc, text.as_bytes())?;
+    Ok(read_aspects(alloc, grammar, &tokens)?)
+}
+
+// How many there are.
 fn items_said(
     rt: &impl Abort,
     alloc: Global,
     grammar: &Grammar,
     text: &str,
 ) -> Result<Option<usize>, Fail> {
-    assert!(rt; text.len() <= LONGEST_FILE);
-    let tokens = scan(alloc, text.as_bytes())?;
-    Ok(read_aspects(alloc, grammar, &tokens)?.map(|list| list.len()))
+    Ok(aspects_said(rt, alloc, grammar, text)?.map(|list| list.len()))
 }
 
-// The expression that a body of this type says at `N`, beside an attribute `w` of `M`, written out, or an empty
-// text where it says none.
+// An aspect with a body of this type at `N`, beside an attribute `w` of `M`.
+fn with_body(alloc: Global, kind: &str, body: &str) -> Result<String, AllocError> {
+    format!(in alloc; "aspect A {{ syn int M.w() = 7; syn {kind} N.v() = {body}; }}")
+}
+
+// The last expression, written out, or an empty text.
+fn last_body(alloc: Global, list: &[FirstEq]) -> Result<String, AllocError> {
+    let mut shown = String::new(alloc);
+    if let Some(item) = list.last() {
+        write!(shown, "{:?}", item.body)?;
+    }
+    Ok(shown)
+}
+
+// The expression that a body of this type says, written out, or an empty text where it says none.
 fn body_said(
     rt: &impl Abort,
     alloc: Global,
@@ -37,16 +60,15 @@ fn body_said(
     kind: &str,
     body: &str,
 ) -> Result<String, Fail> {
-    let text = format!(in alloc; "aspect A {{ syn int M.w() = 7; syn {kind} N.v() = {body}; }}")?;
-    assert!(rt; text.len() <= LONGEST_FILE);
-    let tokens = scan(alloc, text.as_bytes())?;
-    let mut shown = String::new(alloc);
-    if let Some(list) = read_aspects(alloc, grammar, &tokens)? {
-        for item in list.last() {
-            write!(shown, "{:?}", item.body)?;
-        }
+    let text = with_body(alloc, kind, body)?;
+    match aspects_said(rt, alloc, grammar, text.as_str())? {
+        Some(list) => Ok(last_body(alloc, &list)?),
+        None => Ok(String::new(alloc)),
     }
-    Ok(shown)
+}
+
+fn compare(rt: &impl Abort, said: &str, text: &str, told: &str) {
+    assert_eq!(rt; said, text, "{told}");
 }
 
 // An expression of so many tokens: signs, and a digit.
@@ -117,21 +139,42 @@ const ASPECTS: [(&str, Option<usize>); 28] = [
     ("syn int N.v() = 5;", None),
 ];
 
+fn expect_items(
+    rt: &impl Abort,
+    alloc: Global,
+    grammar: &Grammar,
+    text: &str,
+    items: Option<usize>,
+) -> Result<(), Fail> {
+    let said = items_said(rt, alloc, grammar, text)?;
+    assert_eq!(rt; said, items, "{text}");
+    Ok(())
+}
+
+fn expect_many(
+    rt: &impl Abort,
+    alloc: Global,
+    grammar: &Grammar,
+    count: u32,
+    items: Option<usize>,
+) -> Result<(), Fail> {
+    let text = many_items(alloc, count)?;
+    expect_items(rt, alloc, grammar, text.as_str(), items)
+}
+
+fn expect_aspects(rt: &impl Abort, alloc: Global, grammar: &Grammar) -> Result<(), Fail> {
+    for (text, items) in ASPECTS {
+        expect_items(rt, alloc, grammar, text, items)?;
+    }
+    expect_many(rt, alloc, grammar, 1024, Some(1024))?;
+    expect_many(rt, alloc, grammar, 1025, None)
+}
+
 #[test]
 fn reads_aspects(rt: HostRuntime) -> Result<(), Fail> {
     let alloc = rt.alloc();
     let grammar = grammar_said(&rt, alloc, ACCESSED)?;
-    for (text, items) in &ASPECTS {
-        assert_eq!(rt; items_said(&rt, alloc, &grammar, text)?, *items, "{text}");
-    }
-    let most = many_items(alloc, 1024)?;
-    assert_eq!(rt;
-        items_said(&rt, alloc, &grammar, most.as_str())?,
-        Some(1024)
-    );
-    let more = many_items(alloc, 1025)?;
-    assert_eq!(rt; items_said(&rt, alloc, &grammar, more.as_str())?, None);
-    Ok(())
+    expect_aspects(&rt, alloc, &grammar)
 }
 
 // A type, an expression, and how it is written out where it is said.
@@ -232,24 +275,52 @@ const NAMES: [(&str, &str, &str); 26] = [
     ("int", "getl().this", ""),
 ];
 
+fn expect_body(
+    rt: &impl Abort,
+    alloc: Global,
+    grammar: &Grammar,
+    kind: &str,
+    body: &str,
+    shown: &str,
+) -> Result<(), Fail> {
+    let said = body_said(rt, alloc, grammar, kind, body)?;
+    compare(rt, said.as_str(), shown, body);
+    Ok(())
+}
+
+fn expect_rows(
+    rt: &impl Abort,
+    alloc: Global,
+    grammar: &Grammar,
+    rows: &[(&str, &str, &str)],
+) -> Result<(), Fail> {
+    for (kind, body, shown) in rows {
+        expect_body(rt, alloc, grammar, kind, body, shown)?;
+    }
+    Ok(())
+}
+
+// Whether an integer of so many tokens is said.
+fn is_said(rt: &impl Abort, alloc: Global, grammar: &Grammar, tokens: usize) -> Result<bool, Fail> {
+    let body = signs(alloc, tokens)?;
+    let said = body_said(rt, alloc, grammar, "int", body.as_str())?;
+    Ok(!said.is_empty())
+}
+
+fn expect_bodies(rt: &impl Abort, alloc: Global, grammar: &Grammar) -> Result<(), Fail> {
+    expect_rows(rt, alloc, grammar, &EXPRESSIONS)?;
+    expect_rows(rt, alloc, grammar, &NAMES)?;
+    for (tokens, wanted) in [(400, true), (401, false)] {
+        assert_eq!(rt; is_said(rt, alloc, grammar, tokens)?, wanted, "{tokens}");
+    }
+    Ok(())
+}
+
 #[test]
 fn reads_expressions(rt: HostRuntime) -> Result<(), Fail> {
     let alloc = rt.alloc();
     let grammar = grammar_said(&rt, alloc, ACCESSED)?;
-    for (kind, body, shown) in &EXPRESSIONS {
-        let said = body_said(&rt, alloc, &grammar, kind, body)?;
-        assert_eq!(rt; said.as_str(), *shown, "{body}");
-    }
-    for (kind, body, shown) in &NAMES {
-        let said = body_said(&rt, alloc, &grammar, kind, body)?;
-        assert_eq!(rt; said.as_str(), *shown, "{body}");
-    }
-    for (tokens, is_said) in [(400, true), (401, false)] {
-        let body = signs(alloc, tokens)?;
-        let said = body_said(&rt, alloc, &grammar, "int", body.as_str())?;
-        assert_eq!(rt; !said.is_empty(), is_said, "{tokens}");
-    }
-    Ok(())
+    expect_bodies(&rt, alloc, &grammar)
 }
 
 fn rules_said(
@@ -273,7 +344,15 @@ fn tree_said(rt: &impl Abort, alloc: Global, grammar: &Grammar, text: &str) -> R
     Ok(read_tree(alloc, grammar, &tokens, &mut pool)?)
 }
 
-// The queries that the text says, written out with a blank behind each, or `none`.
+// The queries, written out with a blank behind each.
+fn write_queries(list: &[QueryEq], shown: &mut String) -> Result<(), Fail> {
+    for query in list {
+        write!(shown, "{:?} ", query.expression())?;
+    }
+    Ok(())
+}
+
+// The queries that the text says, written out, or `none`.
 fn queries_said(
     rt: &impl Abort,
     alloc: Global,
@@ -281,18 +360,13 @@ fn queries_said(
     rules: &Rules,
     tree: &Tree,
     text: &str,
-) -> Result<String, Fail> {
+    shown: &mut String,
+) -> Result<(), Fail> {
     assert!(rt; text.len() <= LONGEST_FILE);
-    let mut shown = String::new(alloc);
     match read_queries(alloc, grammar, rules, tree, text.as_bytes())? {
-        Some(list) => {
-            for query in &list {
-                write!(shown, "{:?} ", query.expression())?;
-            }
-        }
-        None => shown.push_str("none")?,
+        Some(list) => write_queries(&list, shown),
+        None => Ok(shown.push_str("none")?),
     }
-    Ok(shown)
 }
 
 // So many line feeds, and a query.
@@ -339,25 +413,66 @@ const QUERIES: [(&str, &str); 24] = [
     ("v()", "none"),
 ];
 
+// Checks a text over a grammar, rules and a tree.
+fn expect_query(
+    rt: &impl Abort,
+    alloc: Global,
+    (grammar, rules, tree): (&Grammar, &Rules, &Tree),
+    text: &str,
+    wanted: &str,
+    told: &str,
+) -> Result<(), Fail> {
+    let mut shown = String::new(alloc);
+    queries_said(rt, alloc, grammar, rules, tree, text, &mut shown)?;
+    compare(rt, shown.as_str(), wanted, told);
+    Ok(())
+}
+
+// The lines before a query, what is said, and the lines in words.
+const LATE: [(usize, &str, &str); 2] = [
+    (65_535, "Call(AttrId(0), Source(0)) ", "on the last line"),
+    (65_536, "none", "past the last line"),
+];
+
+// Checks a query behind so many lines.
+fn expect_late(
+    rt: &impl Abort,
+    alloc: Global,
+    over: (&Grammar, &Rules, &Tree),
+    (lines, wanted, told): (usize, &str, &str),
+) -> Result<(), Fail> {
+    let text = late_query(alloc, lines)?;
+    expect_query(rt, alloc, over, text.as_str(), wanted, told)
+}
+
+fn expect_queries(
+    rt: &impl Abort,
+    alloc: Global,
+    over: (&Grammar, &Rules, &Tree),
+) -> Result<(), Fail> {
+    for (text, shown) in &QUERIES {
+        expect_query(rt, alloc, over, text, shown, text)?;
+    }
+    let [last, past] = LATE;
+    expect_late(rt, alloc, over, last)?;
+    expect_late(rt, alloc, over, past)
+}
+
+// The same, over the grammar of the test.
+fn expect_over(rt: &impl Abort, alloc: Global, grammar: &Grammar) -> Result<(), Fail> {
+    let rules = rules_said(
+        rt,
+        alloc,
+        grammar,
+        "aspect A { syn int N.v() = 5; syn int N.u() = 6; syn int M.w() = 7; syn int N.getW() = 8; }",
+    )?;
+    let tree = tree_said(rt, alloc, grammar, "N(3)")?;
+    expect_queries(rt, alloc, (grammar, &rules, &tree))
+}
+
 #[test]
 fn reads_queries(rt: HostRuntime) -> Result<(), Fail> {
     let alloc = rt.alloc();
     let grammar = grammar_said(&rt, alloc, "N ::= <V:int>; M;")?;
-    let rules = rules_said(
-        &rt,
-        alloc,
-        &grammar,
-        "aspect A { syn int N.v() = 5; syn int N.u() = 6; syn int M.w() = 7; syn int N.getW() = 8; }",
-    )?;
-    let tree = tree_said(&rt, alloc, &grammar, "N(3)")?;
-    for (text, shown) in &QUERIES {
-        let said = queries_said(&rt, alloc, &grammar, &rules, &tree, text)?;
-        assert_eq!(rt; said.as_str(), *shown, "{text}");
-    }
-    for (lines, shown) in [(65_535, "Call(AttrId(0), Source(0)) "), (65_536, "none")] {
-        let text = late_query(alloc, lines)?;
-        let said = queries_said(&rt, alloc, &grammar, &rules, &tree, text.as_str())?;
-        assert_eq!(rt; said.as_str(), shown, "{lines}");
-    }
-    Ok(())
+    expect_over(&rt, alloc, &grammar)
 }

@@ -1,6 +1,8 @@
-use super::{four_files, written_by};
+use super::{RUN, expect, faultless};
 use std::alloc::{AllocError, Global};
+use std::process::Abort;
 use std::test::Fail;
+use std::thread::Threads;
 
 // A grammar that breaks a rule, and the line of the first broken one.
 const BROKEN: [(&str, &str); 21] = [
@@ -76,11 +78,10 @@ const TREES: [(&str, &str, &str, u8, &str); 13] = [
 #[test]
 fn broken_grammars(rt: HostRuntime) -> Result<(), Fail> {
     let alloc = rt.alloc();
-    for (ast, line) in BROKEN {
-        let mut shelf = four_files(alloc, ast, "no aspect", "no tree", "no query")?;
-        let (ended, taken) = written_by(&rt, alloc, &mut shelf)?;
-        assert_eq!(rt; ended, 1, "{ast}");
-        assert_eq!(rt; taken.as_slice(), line.as_bytes(), "{ast}");
+    for (ast, line) in &BROKEN {
+        let told = [*ast];
+        let asked = faultless(RUN, (ast, "no aspect", "no tree", "no query"), &told);
+        expect(&rt, alloc, &asked, 1, line)?;
     }
     Ok(())
 }
@@ -94,27 +95,32 @@ fn many_classes(alloc: Global, count: u32) -> Result<String, AllocError> {
     Ok(ast)
 }
 
+// Checks what so many classes give, with a tree of the second.
+fn expect_classes<R: Threads + Sync + Abort>(
+    rt: &R,
+    alloc: Global,
+    count: u32,
+    text: &str,
+) -> Result<(), Fail> {
+    let ast = many_classes(alloc, count)?;
+    let told = [text];
+    let asked = faultless(RUN, (ast.as_str(), "", "C1()", ""), &told);
+    expect(rt, alloc, &asked, 1, text)
+}
+
 #[test]
 fn the_largest_grammar(rt: HostRuntime) -> Result<(), Fail> {
-    let alloc = rt.alloc();
-    for (count, text) in [(256, "t.tree:1:1: N6\n"), (257, "g.ast:257:1: G10\n")] {
-        let ast = many_classes(alloc, count)?;
-        let mut shelf = four_files(alloc, ast.as_str(), "", "C1()", "")?;
-        let (ended, taken) = written_by(&rt, alloc, &mut shelf)?;
-        assert_eq!(rt; ended, 1, "{count}");
-        assert_eq!(rt; taken.as_slice(), text.as_bytes(), "{count}");
-    }
-    Ok(())
+    expect_classes(&rt, rt.alloc(), 256, "t.tree:1:1: N6\n")?;
+    expect_classes(&rt, rt.alloc(), 257, "g.ast:257:1: G10\n")
 }
 
 #[test]
 fn trees_of_subclasses(rt: HostRuntime) -> Result<(), Fail> {
     let alloc = rt.alloc();
-    for (ast, tree, queries, status, text) in TREES {
-        let mut shelf = four_files(alloc, ast, "", tree, queries)?;
-        let (ended, taken) = written_by(&rt, alloc, &mut shelf)?;
-        assert_eq!(rt; ended, status, "{tree} {queries}");
-        assert_eq!(rt; taken.as_slice(), text.as_bytes(), "{tree} {queries}");
+    for (ast, tree, queries, status, text) in &TREES {
+        let told = [*tree, *queries];
+        let asked = faultless(RUN, (ast, "", tree, queries), &told);
+        expect(&rt, alloc, &asked, *status, text)?;
     }
     Ok(())
 }

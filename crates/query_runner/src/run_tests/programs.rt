@@ -1,6 +1,8 @@
-use super::{four_files, repeated, written_by};
+use super::{RUN, expect, faultless, repeated};
 use std::alloc::{AllocError, Global};
+use std::process::Abort;
 use std::test::Fail;
+use std::thread::Threads;
 
 // A grammar, aspects, a tree and queries, and the status and the text that they give.
 type Case = (
@@ -262,110 +264,154 @@ const SYSTEMS: [Case; 16] = [
     ),
 ];
 
-#[test]
-fn trees_and_accessors(rt: HostRuntime) -> Result<(), Fail> {
-    let alloc = rt.alloc();
-    for (ast, aspects, tree, queries, status, text) in TREES {
-        let mut shelf = four_files(alloc, ast, aspects, tree, queries)?;
-        let (ended, taken) = written_by(&rt, alloc, &mut shelf)?;
-        assert_eq!(rt; ended, status, "{aspects} {tree} {queries}");
-        assert_eq!(rt;
-            taken.as_slice(),
-            text.as_bytes(),
-            "{aspects} {tree} {queries}"
-        );
+fn expect_cases<R: Threads + Sync + Abort>(
+    rt: &R,
+    alloc: Global,
+    cases: &[Case],
+) -> Result<(), Fail> {
+    for (ast, aspects, tree, queries, status, text) in cases {
+        let told = [*aspects, *tree, *queries];
+        let asked = faultless(RUN, (ast, aspects, tree, queries), &told);
+        expect(rt, alloc, &asked, *status, text)?;
     }
     Ok(())
+}
+
+#[test]
+fn trees_and_accessors(rt: HostRuntime) -> Result<(), Fail> {
+    expect_cases(&rt, rt.alloc(), &TREES)
 }
 
 #[test]
 fn solutions_and_loops(rt: HostRuntime) -> Result<(), Fail> {
-    let alloc = rt.alloc();
-    for (ast, aspects, tree, queries, status, text) in SYSTEMS {
-        let mut shelf = four_files(alloc, ast, aspects, tree, queries)?;
-        let (ended, taken) = written_by(&rt, alloc, &mut shelf)?;
-        assert_eq!(rt; ended, status, "{aspects} {queries}");
-        assert_eq!(rt; taken.as_slice(), text.as_bytes(), "{aspects} {queries}");
-    }
-    Ok(())
+    expect_cases(&rt, rt.alloc(), &SYSTEMS)
 }
 
-// Classes of which each has the next as its child, as many as a grammar may have; each adds its token to what
-// comes from below.
-fn nested(alloc: Global) -> Result<(String, String, String), AllocError> {
+// Classes of which each has the next as its child, as many as a grammar may have.
+fn nested_classes(alloc: Global) -> Result<String, AllocError> {
     let mut ast = String::new(alloc);
-    let mut aspects = String::from_str(alloc, "aspect A {\n")?;
-    let mut tree = String::new(alloc);
     for i in 0..255 {
         write!(ast, "C{i} ::= c:C{} <V:int>;\n", i + 1)?;
-        write!(aspects, "syn int C{i}.s() = getc().s() + getV();\n")?;
-        write!(tree, "C{i}(")?;
     }
     ast.push_str("C255 ::= <V:int>;\n")?;
+    Ok(ast)
+}
+
+// Each adds its token to what comes from below.
+fn nested_aspects(alloc: Global) -> Result<String, AllocError> {
+    let mut aspects = String::from_str(alloc, "aspect A {\n")?;
+    for i in 0..255 {
+        write!(aspects, "syn int C{i}.s() = getc().s() + getV();\n")?;
+    }
     aspects.push_str("syn int C255.s() = getV();\n}\n")?;
+    Ok(aspects)
+}
+
+// Their tree, up to the token of the deepest node.
+fn nested_front(alloc: Global) -> Result<String, AllocError> {
+    let mut tree = String::new(alloc);
+    for i in 0..255 {
+        write!(tree, "C{i}(")?;
+    }
     tree.push_str("C255(1000)")?;
-    tree.push_str(repeated(alloc, ", 1)", 255)?.as_str())?;
-    Ok((ast, aspects, tree))
+    Ok(tree)
+}
+
+fn nested_tree(alloc: Global) -> Result<String, AllocError> {
+    let front = nested_front(alloc)?;
+    let back = repeated(alloc, ", 1)", 255)?;
+    format!(in alloc; "{front}{back}")
 }
 
 #[test]
 fn the_deepest_tree(rt: HostRuntime) -> Result<(), Fail> {
     let alloc = rt.alloc();
-    let (ast, aspects, tree) = nested(alloc)?;
+    let ast = nested_classes(alloc)?;
+    let aspects = nested_aspects(alloc)?;
+    let tree = nested_tree(alloc)?;
     let queries = "@255.getV()\n@255.s()\n@0.s()";
-    let mut shelf = four_files(alloc, &ast, &aspects, &tree, queries)?;
-    let (ended, taken) = written_by(&rt, alloc, &mut shelf)?;
-    assert_eq!(rt; ended, 0);
-    assert_eq!(rt; taken.as_slice(), b"1000\n1000\n1255\n".as_slice());
-    Ok(())
+    let told = [queries];
+    let asked = faultless(RUN, (&ast, &aspects, &tree, queries), &told);
+    expect(&rt, alloc, &asked, 0, "1000\n1000\n1255\n")
 }
 
 // A text that nests 20,000 nodes, and isn't closed.
 #[test]
 fn deep_texts_are_refused(rt: HostRuntime) -> Result<(), Fail> {
     let alloc = rt.alloc();
-    let page = repeated(alloc, "N(", 100)?;
-    let tree = repeated(alloc, page.as_str(), 200)?;
-    let mut shelf = four_files(alloc, "N ::= N;", "", &tree, "")?;
-    let (ended, taken) = written_by(&rt, alloc, &mut shelf)?;
-    assert_eq!(rt; ended, 1);
-    assert_eq!(rt; taken.as_slice(), b"t.tree:1:40001: N1\n".as_slice());
-    Ok(())
+    let tree = repeated(alloc, "N(", 20_000)?;
+    let told = ["20,000 nodes"];
+    let asked = faultless(RUN, ("N ::= N;", "", &tree, ""), &told);
+    expect(&rt, alloc, &asked, 1, "t.tree:1:40001: N1\n")
 }
 
-// The text of a tree in which each node but a leaf has two children: 65,535 nodes.
-fn doubled(alloc: Global) -> Result<(String, String), AllocError> {
+// The classes of a tree in which each node but a leaf has two children.
+fn doubled_classes(alloc: Global) -> Result<String, AllocError> {
     let mut ast = String::from_str(alloc, "A16 ::= <V:int>;\n")?;
-    let mut tree = String::from_str(alloc, "A16(1)")?;
     for class in (1..16u32).rev() {
         let below = class + 1;
         write!(ast, "A{class} ::= x:A{below} y:A{below};\n")?;
-        let mut next = String::new(alloc);
-        write!(next, "A{class}({}, {})", tree.as_str(), tree.as_str())?;
-        tree = next;
     }
-    Ok((ast, tree))
+    Ok(ast)
+}
+
+// The text of such a tree: 65,535 nodes.
+fn doubled_tree(alloc: Global) -> Result<String, AllocError> {
+    let mut tree = String::from_str(alloc, "A16(1)")?;
+    for class in (1..16u32).rev() {
+        tree = format!(in alloc; "A{class}({tree}, {tree})")?;
+    }
+    Ok(tree)
+}
+
+// The root's rule, what hangs beside the tree, and the status.
+const ROOTS: [(&str, &str, u8); 2] = [("A0 ::= A1;\n", "", 0), ("A0 ::= A1 L; L;\n", ", L()", 1)];
+
+// What is written: the replies, or where the node beside the tree stands.
+fn doubled_text(alloc: Global, tree: &str, status: u8) -> Result<String, AllocError> {
+    if status == 0 {
+        return String::from_str(alloc, "1\n2\n");
+    }
+    format!(in alloc; "t.tree:1:{}: N7\n", tree.len().saturating_sub(3))
+}
+
+// Checks a grammar and a tree under a root.
+fn expect_doubled<R: Threads + Sync + Abort>(
+    rt: &R,
+    alloc: Global,
+    ast: &str,
+    tree: &str,
+    (root, _, status): (&str, &str, u8),
+) -> Result<(), Fail> {
+    let aspects = "aspect A { syn int A15.s() = getx().getV() + gety().getV(); }";
+    let queries = "@65535.getV()\n@65533.s()";
+    let text = doubled_text(alloc, tree, status)?;
+    let told = [root];
+    let asked = faultless(RUN, (ast, aspects, tree, queries), &told);
+    expect(rt, alloc, &asked, status, text.as_str())
+}
+
+// The same, from what is below the root.
+fn expect_root<R: Threads + Sync + Abort>(
+    rt: &R,
+    alloc: Global,
+    classes: &str,
+    half: &str,
+    row: (&str, &str, u8),
+) -> Result<(), Fail> {
+    let (root, more, _) = row;
+    let ast = format!(in alloc; "{root}{classes}")?;
+    let tree = format!(in alloc; "A0({half}{more})")?;
+    expect_doubled(rt, alloc, ast.as_str(), tree.as_str(), row)
 }
 
 #[test]
 fn the_largest_tree(rt: HostRuntime) -> Result<(), Fail> {
     let alloc = rt.alloc();
-    let (classes, half) = doubled(alloc)?;
-    let aspects = "aspect A { syn int A15.s() = getx().getV() + gety().getV(); }";
-    let queries = "@65535.getV()\n@65533.s()";
-    for (root, more, status) in [("A0 ::= A1;\n", "", 0), ("A0 ::= A1 L; L;\n", ", L()", 1)] {
-        let mut ast = String::from_str(alloc, root)?;
-        ast.push_str(classes.as_str())?;
-        let mut tree = String::new(alloc);
-        write!(tree, "A0({}{more})", half.as_str())?;
-        let mut text = String::from_str(alloc, "1\n2\n")?;
-        if status == 1 {
-            text = format!(in alloc; "t.tree:1:{}: N7\n", tree.len().saturating_sub(3))?;
-        }
-        let mut shelf = four_files(alloc, &ast, aspects, &tree, queries)?;
-        let (ended, taken) = written_by(&rt, alloc, &mut shelf)?;
-        assert_eq!(rt; ended, status, "{root}");
-        assert_eq!(rt; taken.as_slice(), text.as_bytes(), "{root}");
+    let classes = doubled_classes(alloc)?;
+    let half = doubled_tree(alloc)?;
+    for row in ROOTS {
+        expect_root(&rt, alloc, classes.as_str(), half.as_str(), row)?;
     }
     Ok(())
 }

@@ -1,4 +1,4 @@
-use super::{four_files, written_by};
+use super::{Row, expect_rows};
 use std::test::Fail;
 
 const FAMILY: &str =
@@ -8,7 +8,7 @@ const FAMILY: &str =
 const TREE: &str = "P(A(3), C(4, true), B(5, false))";
 
 // Aspects and queries, and the status and the text that they give.
-const INHERITED: [(&str, &str, u8, &str); 7] = [
+const INHERITED: [Row; 7] = [
     (
         "aspect A { syn int E.v() = getV() * 2; syn int P.s() = geta().v() + getc().v() + gete().v(); }",
         "@0.s()\n@1.v()\n@2.v()\n@3.v()",
@@ -54,7 +54,7 @@ const INHERITED: [(&str, &str, u8, &str); 7] = [
 ];
 
 // Aspects and queries that say nothing over the family, and the file that is refused.
-const REFUSED: [(&str, &str, u8, &str); 9] = [
+const REFUSED: [Row; 9] = [
     (
         "aspect A { syn int E.v() = 1; syn int C.v() = 2; }",
         "",
@@ -113,12 +113,6 @@ const REFUSED: [(&str, &str, u8, &str); 9] = [
 
 #[test]
 fn attributes_of_superclasses(rt: HostRuntime) -> Result<(), Fail> {
-    let alloc = rt.alloc();
-    for (aspects, queries, status, text) in INHERITED.iter().chain(&REFUSED).copied() {
-        let mut shelf = four_files(alloc, FAMILY, aspects, TREE, queries)?;
-        let (ended, taken) = written_by(&rt, alloc, &mut shelf)?;
-        assert_eq!(rt; ended, status, "{aspects} {queries}");
-        assert_eq!(rt; taken.as_slice(), text.as_bytes(), "{aspects} {queries}");
-    }
-    Ok(())
+    expect_rows(&rt, rt.alloc(), FAMILY, TREE, &INHERITED)?;
+    expect_rows(&rt, rt.alloc(), FAMILY, TREE, &REFUSED)
 }

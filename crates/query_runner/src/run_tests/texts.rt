@@ -1,4 +1,4 @@
-use super::{four_files, shelf_of, written, written_by};
+use super::{RUN, Row, expect, faultless};
 use std::test::Fail;
 
 const TREE: &str = "tree g.ast t.tree";
@@ -6,7 +6,7 @@ const TREE: &str = "tree g.ast t.tree";
 const ROW: &str = "P ::= <S> <I:int>;";
 
 // A grammar and a tree, and the status and the text that `tree` gives.
-const TEXTS: [(&str, &str, u8, &str); 15] = [
+const TEXTS: [Row; 15] = [
     (ROW, "P ( \"a\\tb\" , -0 )", 0, "P(\"a\\tb\", 0)\n"),
     (ROW, "P(\"a", 1, "t.tree:1:3: N1\n"),
     (ROW, "P(\"a\"", 1, "t.tree:1:6: N1\n"),
@@ -47,11 +47,10 @@ const TEXTS: [(&str, &str, u8, &str); 15] = [
 #[test]
 fn writes_trees(rt: HostRuntime) -> Result<(), Fail> {
     let alloc = rt.alloc();
-    for (ast, tree, status, text) in TEXTS {
-        let mut shelf = four_files(alloc, ast, "no aspect", tree, "no query")?;
-        let (ended, taken) = written(&rt, alloc, TREE, &mut shelf, None)?;
-        assert_eq!(rt; ended, status, "{tree}");
-        assert_eq!(rt; taken.as_slice(), text.as_bytes(), "{tree}");
+    for (ast, tree, status, text) in &TEXTS {
+        let told = [*tree];
+        let asked = faultless(TREE, (ast, "no aspect", tree, "no query"), &told);
+        expect(&rt, alloc, &asked, *status, text)?;
     }
     Ok(())
 }
@@ -60,34 +59,32 @@ fn writes_trees(rt: HostRuntime) -> Result<(), Fail> {
 #[test]
 fn runs_over_trees(rt: HostRuntime) -> Result<(), Fail> {
     let alloc = rt.alloc();
-    for (ast, tree, status, text) in TEXTS {
-        let mut shelf = four_files(alloc, ast, "", tree, "")?;
-        let (ended, taken) = written_by(&rt, alloc, &mut shelf)?;
-        assert_eq!(rt; ended, status, "{tree}");
-        let told = if status == 0 { "" } else { text };
-        assert_eq!(rt; taken.as_slice(), told.as_bytes(), "{tree}");
+    for (ast, tree, status, text) in &TEXTS {
+        let told = [*tree];
+        let asked = faultless(RUN, (ast, "", tree, ""), &told);
+        let text = if *status == 0 { "" } else { text };
+        expect(&rt, alloc, &asked, *status, text)?;
     }
     Ok(())
 }
+
+// A fetch that fails, a put that does, and the status and the text that they give.
+const FAULTS: [(Option<u32>, Option<(u32, u32)>, u8, &str); 4] = [
+    (Some(0), None, 5, ""),
+    (Some(1), None, 5, ""),
+    (Some(2), None, 0, "P(\"\", 1)\n"),
+    (None, Some((0, 4)), 6, "P(\"\""),
+];
 
 // The two files alone are fetched, and a fault ends the run.
 #[test]
 fn fetches_two_files(rt: HostRuntime) -> Result<(), Fail> {
     let alloc = rt.alloc();
-    for call in 0..3u32 {
-        let mut shelf = shelf_of(alloc, ROW, "", "P(\"\", 1)", "", vec![in alloc; call]?)?;
-        let (ended, taken) = written(&rt, alloc, TREE, &mut shelf, None)?;
-        let (status, text) = if call < 2 {
-            (5, "")
-        } else {
-            (0, "P(\"\", 1)\n")
-        };
-        assert_eq!(rt; ended, status, "{call}");
-        assert_eq!(rt; taken.as_slice(), text.as_bytes(), "{call}");
+    for (fetch, put, status, text) in FAULTS {
+        let mut failing = faultless(TREE, (ROW, "", "P(\"\", 1)", ""), &[]);
+        failing.fetch = fetch;
+        failing.put = put;
+        expect(&rt, alloc, &failing, status, text)?;
     }
-    let mut shelf = four_files(alloc, ROW, "", "P(\"\", 1)", "")?;
-    let (ended, taken) = written(&rt, alloc, TREE, &mut shelf, Some((0, 4)))?;
-    assert_eq!(rt; ended, 6);
-    assert_eq!(rt; taken.as_slice(), b"P(\"\"".as_slice());
     Ok(())
 }
