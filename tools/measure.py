@@ -95,32 +95,47 @@ def components(count):
 
 def flat(count):
     """A tree of so many nodes, of which all but the root stand in one list."""
-    return {"g.ast": [b"R ::= N*;\nN ::= <V:int>;\n"], "t.tree": [b"R([" + b", ".join(b"N(%d)" % k for k in range(count - 1)) + b"])\n"]}
+    yield b"R([N(0)"
+    for number in range(1, count - 1):
+        yield b", N(%d)" % number
+    yield b"])\n"
 
 
 def deep(count):
     """A tree of so many nodes, each but the last with the next below it."""
-    return {"g.ast": [b"L ::= [L];\n"], "t.tree": [b"L([" * (count - 1) + b"L([])" + b"])" * (count - 1) + b"\n"]}
+    yield from repeated(b"L([", count - 1)
+    yield b"L([])"
+    yield from repeated(b"])", count - 1)
 
 
 def texts(count):
-    """A tree of so many nodes, each with a text of its own."""
-    return {"g.ast": [b"R ::= N*;\nN ::= <S>;\n"], "t.tree": [b"R([" + b", ".join(b'N("text %d")' % k for k in range(count - 1)) + b"])\n"]}
+    """A tree of so many nodes, each but the root with a text of its own."""
+    yield b'R([N("text 0")'
+    for number in range(1, count - 1):
+        yield b', N("text %d")' % number
+    yield b"])\n"
 
 
-def lists():
-    """16 MiB of nodes in a list that is never closed."""
-    return {"g.ast": [b"R ::= N*;\nN;\n"], "t.tree": filled(b"N(),", b"R([")}
+def enclosed(front, part, end):
+    """A file of 16 MiB, or a little less: the part over and over between the front and the end."""
+    yield from repeated(part, (LONGEST - len(front) - len(end)) // len(part), front)
+    yield end
 
+
+FORMS = [
+    ("flat", b"R ::= N*; N ::= <V:int>;", flat),
+    ("nested", b"L ::= [L];", deep),
+    ("with texts", b"R ::= N*; N ::= <S>;", texts),
+]
 
 # What `rag tree` is timed on.
-TREES = [(f"{name} tree of {count:,} nodes", make(count)) for name, make in [("flat", flat), ("nested", deep), ("texts in a", texts)] for count in [1000, 8000, 65536]]
+TREES = [(f"tree, {name}: {count:,} nodes", {"g.ast": [grammar], "t.tree": make(count)}) for name, grammar, make in FORMS for count in [1000, 8000, 65536]]
 TREES += [
     ("tree: N( all over", {"t.tree": filled(b"N(")}),
-    ("tree: 16 MiB of nodes in a list", lists()),
-    ("tree: a text of 16 MiB", {"g.ast": [b"R ::= <S>;"], "t.tree": [b'R("' + b"a" * (LONGEST - 5) + b'")']}),
-    ("tree: an integer of 16 MiB", {"g.ast": [b"R ::= <I:int>;"], "t.tree": [b"R(" + b"7" * (LONGEST - 3) + b")"]}),
-    ("tree: 65,537 nested nodes", {"g.ast": [b"L ::= [L];\n"], "t.tree": [b"L([" * 65537 + b"])" * 65537]}),
+    ("tree: 16 MiB of nodes in a list", {"g.ast": [b"R ::= N*; N;"], "t.tree": enclosed(b"R([", b"N(),", b"N()])")}),
+    ("tree: a text of 16 MiB", {"g.ast": [b"R ::= <S>;"], "t.tree": enclosed(b'R("', b"a", b'")')}),
+    ("tree: an integer of 16 MiB", {"g.ast": [b"R ::= <I:int>;"], "t.tree": enclosed(b"R(", b"7", b")")}),
+    ("tree: 65,537 nested nodes", {"g.ast": [b"L ::= [L];"], "t.tree": deep(65537)}),
 ]
 
 CASES = [
