@@ -1,0 +1,4 @@
+pub mod JragFits
+pub mod JragSentences
+pub mod OneReading
+pub mod Read

@@ -1,0 +1,5 @@
+pub mod JragClaims
+pub mod JragGrammar
+pub mod JragPrintedGrammar
+pub mod Reading
+pub mod Tokens
