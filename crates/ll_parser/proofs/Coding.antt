@@ -1,6 +1,7 @@
 -- Lemmas in the words of the code.
-use Rattle.std.proofs.Common.{◌≡◌, ℕ, zero, suc, ◌+◌, ◌-◌, ◌<◌, ◌≤◌, List, [], ◌∷◌, ◌++◌, length, take, reverse, get_or, append_assoc, append-nil, Some, None, Result, Ok, refl, sym, ap, subst, ◌∙◌, arith}
-use Rattle.std.proofs.lemmas.List.{reverse-append, take_more}
+use Rattle.std.proofs.Common.{sum_by, ◌==◌, cond, count_by, ◌≡◌, ℕ, zero, suc, ◌+◌, ◌-◌, ◌<◌, ◌≤◌, List, [], ◌∷◌, ◌++◌, length, take, reverse, get_or, append_assoc, append-nil, Some, None, Result, Ok, refl, sym, ap, subst, ◌∙◌, arith}
+use Rattle.std.proofs.lemmas.List.{length-take-le, reverse-append, take_more}
+use Rattle.std.proofs.lemmas.List.Sums.{sum_by-append}
 use Rattle.ll_parser.specs.Table.{Claims, made}
 use Rattle.ll_parser.proofs.Theory.{stack_lives, is_table}
 use Rattle.ll_parser.proofs.Steps.{sofar_next, sofar_ends, sofar_begins, sofar_stuck, sofar_leading}
@@ -10,7 +11,7 @@ use Rattle.ll_parser.specs.declared.symbols.Step.TheVariants.{Goes, Shifts, Stop
 use Rattle.ll_parser.specs.declared.symbols.Memory.{Memory}
 use Rattle.ll_parser.specs.declared.symbols.Step.{Step}
 use Rattle.ll_parser.specs.Grammar.{Production, nth, shift, Derives, start, IsFault, IsSentence, Leading}
-use Rattle.ll_parser.specs.Stack.{Moves, shifts, acts, goes, wrong, none, spent, body_at, listed, Chosen, Works, Sofar, Shifted, Stuck, Ready, Kept}
+use Rattle.ll_parser.specs.Stack.{Adds, Moves, shifts, acts, goes, wrong, none, spent, body_at, listed, Chosen, Works, Sofar, Shifted, Stuck, Ready, Kept}
 
 module _ (starts : List ℕ) (bodies : List Symbol) where
   abbrev pub row_at : ℕ → ℕ → Production
@@ -118,10 +119,29 @@ kept_moves k (goes r h e) = k
 kept_moves k (wrong d) = k
 kept_moves k (none d) = k
 
-pub leading_at : (P : List Production) (n : ℕ) (us es es' new : List ℕ) (s : List Symbol) → Sofar P n us s es → Kept es es' → new ≡ take (length es) es' → Leading P n us new
-leading_at P n us es es' new s a k e =
+-- the last step of a token
+pub adds_shifts : {P : List Production} {ch : ℕ → ℕ → ℕ} {t : ℕ} {s s' : List Symbol} {es0 es es' : List ℕ} → Kept es0 es
+    → Moves P ch t s es (Ok Shifts) s' es' → Adds es0 es'
+adds_shifts {es0 = es0} k (shifts {es = es}) =
+    record { more = k.more; is = ap (λ z. z ++ shift ∷ []) k.is ∙ append_assoc es0 k.more (shift ∷ []) }
+
+-- Each of some tokens has an event of its own.
+abbrev pub AreRead : List ℕ → List ℕ → Type 0
+AreRead us es = length us ≤ count_by (λ e. e == shift) es
+
+-- so does one more
+pub read_more : (ts : List ℕ) (i : ℕ) (es es' : List ℕ) → AreRead (take i ts) es → Adds es es' → i < length ts → AreRead (take (i + 1) ts) es'
+read_more ts i es es' read a within =
+    let is_shift : ℕ → ℕ = λ e. cond (e == shift) 1 0 in
+    let count = ap (sum_by is_shift) a.is ∙ sum_by-append is_shift es (a.more ++ shift ∷ []) in
+    let last = sum_by-append is_shift a.more (shift ∷ []) in
+    omega (arith, read, count, last, length-take-le i ts (omega arith), length-take-le (i + 1) ts (omega arith))
+
+pub leading_at : (P : List Production) (n : ℕ) (us es es' new : List ℕ) (s : List Symbol) → Sofar P n us s es → AreRead us es → Kept es es'
+    → new ≡ take (length es) es' → Leading P n us new
+leading_at P n us es es' new s a read k e =
     let f : es ≡ new = sym (e ∙ ap (take (length es)) k.is ∙ front es k.more) in
-    subst (λ z. Leading P n us z) f (sofar_leading a)
+    subst (λ z. Leading P n us z) f (sofar_leading a read)
   where
     front : (xs ys : List ℕ) → take (length xs) (xs ++ ys) ≡ xs
     front [] ys = refl

@@ -1,7 +1,10 @@
+pub mod Carrying
 pub mod Including
 pub mod Members
 pub mod OneFault
+pub mod Parting
 pub mod Returning
+pub mod Searching
 pub mod Sentences
 pub mod Theory
 pub mod Steps

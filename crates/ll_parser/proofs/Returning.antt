@@ -1,11 +1,12 @@
 -- What a factored grammar derives, a plain grammar derives: each factored nonterminal stands for what completes some plain symbols.
-use Rattle.std.proofs.Common.{◌≡◌, ℕ, zero, suc, ◌==◌, Bool, true, false, List, [], ◌∷◌, ◌++◌, append_assoc, append-nil, Option, Some, None, refl, sym, ap, subst, ◌∙◌}
-use Rattle.std.proofs.lemmas.Bool.{eqb-true}
+use Rattle.std.proofs.Common.{◌≡◌, ℕ, zero, suc, Bool, true, false, List, [], ◌∷◌, ◌++◌, append_assoc, append-nil, Option, Some, None, refl, sym, ap, subst, ◌∙◌}
 use Rattle.ll_parser.specs.declared.symbols.Symbol.{Symbol}
 use Rattle.ll_parser.specs.declared.symbols.Symbol.TheVariants.{Terminal, Nonterminal, Action}
 use Rattle.ll_parser.specs.Grammar.{Production, nth, shift, Derives, done, token, act, rule}
 use Rattle.ll_parser.specs.Sentences.{Makes}
-use Rattle.ll_parser.proofs.Including.{parted, both, Includes, Maybe, expand, same_head, row_right}
+use Rattle.ll_parser.proofs.Including.{Includes, laws, ways}
+use Rattle.ll_parser.proofs.Parting.{parted, both}
+use Rattle.ll_parser.proofs.Searching.{Each, try_each, Search, chosen, search}
 
 -- derivations by parts
 pub data Big (Q : List Production) : List Symbol → List ℕ → Type 0 where
@@ -35,42 +36,17 @@ runs_big (token d) = big_token (runs_big d)
 runs_big (act d) = big_act (runs_big d)
 runs_big (rule {s = s} p r h e d) = let q = big_parted r.body s (runs_big d) in big_rule p r h e q.first q.second q.is
 
--- the search in a grammar that has no table
+-- the search in a grammar that has no table: each production in turn
 module _ (P : List Production) where
-  abbrev pub seek : (k p m : ℕ) (a b : List Symbol) → ((a b : List Symbol) → Maybe P a b) → Maybe P a (Nonterminal m ∷ b)
-  seek zero p m a b rec = None
-  seek (suc k) p m a b rec = elim (nth P p) as (λ o. nth P p ≡ o → Maybe P a (Nonterminal m ∷ b)) [
-    | None ↦ λ h. None
-    | (Some r) ↦ λ h. elim (r.of == m) as (λ t. (r.of == m) ≡ t → Maybe P a (Nonterminal m ∷ b)) [
-      | true ↦ λ e. elim (rec a (r.body ++ b)) [ None ↦ seek k (suc p) m a b rec | (Some i) ↦ Some (row_right p m r h (eqb-true r.of m e) i) ]
-      | false ↦ λ e. seek k (suc p) m a b rec
-    ] refl
-  ] refl
+  abbrev pub seek : (k p : ℕ) → Search P (Includes P) → (m : ℕ) (a b : List Symbol) → Option (Includes P a (Nonterminal m ∷ b))
+  seek zero p rec m a b = None
+  seek (suc k) p rec m a b = elim (nth P p) [
+    | None ↦ None
+    | (Some r) ↦ elim (chosen P (Includes P) (laws P) rec p m a b) [ None ↦ seek k (suc p) rec m a b | (Some i) ↦ Some i ]
+  ]
 
-  abbrev pub try_step : ((a b : List Symbol) → Maybe P a b) → (a b : List Symbol) → Maybe P a b
-  try_step rec (Action k ∷ a) b = None
-  try_step rec [] [] = Some (λ ts m. m)
-  try_step rec [] (Terminal c ∷ b) = None
-  try_step rec [] (Action k ∷ b) = None
-  try_step rec [] (Nonterminal m ∷ b) = seek 200 0 m [] b rec
-  try_step rec (Terminal t ∷ a) [] = None
-  try_step rec (Terminal t ∷ a) (Terminal d ∷ b) = elim (t == d) as (λ u. (t == d) ≡ u → Maybe P (Terminal t ∷ a) (Terminal d ∷ b)) [
-    | true ↦ λ e. elim (rec a b) [ None ↦ None | (Some i) ↦ Some (subst (λ z. Includes P (Terminal t ∷ a) (Terminal z ∷ b)) (eqb-true t d e) (same_head (Terminal t) i)) ]
-    | false ↦ λ e. None
-  ] refl
-  try_step rec (Terminal t ∷ a) (Action k ∷ b) = None
-  try_step rec (Terminal t ∷ a) (Nonterminal m ∷ b) = seek 200 0 m (Terminal t ∷ a) b rec
-  try_step rec (Nonterminal n ∷ a) [] = expand P (λ x y. 0) n a [] rec
-  try_step rec (Nonterminal n ∷ a) (Terminal d ∷ b) = expand P (λ x y. 0) n a (Terminal d ∷ b) rec
-  try_step rec (Nonterminal n ∷ a) (Action k ∷ b) = None
-  try_step rec (Nonterminal n ∷ a) (Nonterminal m ∷ b) = elim (n == m) as (λ u. (n == m) ≡ u → Maybe P (Nonterminal n ∷ a) (Nonterminal m ∷ b)) [
-    | true ↦ λ e. elim (rec a b) [ None ↦ None | (Some i) ↦ Some (subst (λ z. Includes P (Nonterminal n ∷ a) (Nonterminal z ∷ b)) (eqb-true n m e) (same_head (Nonterminal n) i)) ]
-    | false ↦ λ e. expand P (λ x y. 0) n a (Nonterminal m ∷ b) rec
-  ] refl
-
-  abbrev pub try_include : ℕ → (a b : List Symbol) → Maybe P a b
-  try_include zero a b = None
-  try_include (suc k) a b = try_step (λ x y. try_include k x y) a b
+  abbrev pub try_include : ℕ → Search P (Includes P)
+  try_include k a b = search P (Includes P) (laws P) (ways P (seek 200 0)) k a b
 
 abbrev pub as_long : (a b : List Symbol) → Bool
 as_long [] [] = true
@@ -110,14 +86,7 @@ module _ (Q P : List Production) (before whole : ℕ → List Symbol) where
     pub within : Includes P comes (whole r.of)
 
   abbrev pub Returning : List Production → Type 0
-  Returning rs = (p : ℕ) (r : Production) → nth rs p ≡ Some r → Returns r
-
-  pub returns_none : Returning []
-  returns_none p r h = absurd (cc)
-
-  pub returns_more : (x : Production) (rs : List Production) → Returns x → Returning rs → Returning (x ∷ rs)
-  returns_more x rs i f zero r h = let k : x ≡ r = cc in subst Returns k i
-  returns_more x rs i f (suc p) r h = f p r h
+  Returning rs = Each Returns rs
 
   one_token : (c : ℕ) → Makes P (Terminal c ∷ []) (c ∷ [])
   one_token c = record { events = shift ∷ []; runs = token done }
@@ -142,12 +111,9 @@ module _ (Q P : List Production) (before whole : ℕ → List Symbol) where
       ] e
 
 module _ (Q P : List Production) (before whole : ℕ → List Symbol) where
+  abbrev pub returned : ℕ → (r : Production) (o : Option (List Symbol)) → walk Q P before whole (before r.of) r.body ≡ o → Option (Returns Q P before whole r)
+  returned k r None h = None
+  returned k r (Some c) h = elim (try_include P k c (whole r.of)) [ None ↦ None | (Some i) ↦ Some (record { comes = c; walks = h; within = i }) ]
+
   abbrev pub returning : ℕ → (rs : List Production) → Option (Returning Q P before whole rs)
-  returning k [] = Some (returns_none Q P before whole)
-  returning k (x ∷ rs) = elim (walk Q P before whole (before x.of) x.body) as (λ o. walk Q P before whole (before x.of) x.body ≡ o → Option (Returning Q P before whole (x ∷ rs))) [
-    | None ↦ λ h. None
-    | (Some c) ↦ λ h. elim (try_include P k c (whole x.of)) [
-      | None ↦ None
-      | (Some i) ↦ elim (returning k rs) [ None ↦ None | (Some f) ↦ Some (returns_more Q P before whole x rs (record { comes = c; walks = h; within = i }) f) ]
-    ]
-  ] refl
+  returning k rs = try_each (Returns Q P before whole) (λ r. returned k r (walk Q P before whole (before r.of) r.body) refl) rs

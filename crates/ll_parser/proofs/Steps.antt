@@ -1,5 +1,5 @@
 -- Steps of a reader, whole tokens, and whole lists.
-use Rattle.std.proofs.Common.{◌≡◌, ℕ, ◌<◌, ◌==◌, false, List, [], ◌∷◌, ◌++◌, append_assoc, append-nil, Some, Ok, refl, sym, ap, subst, ◌∙◌, arith}
+use Rattle.std.proofs.Common.{count_by, ◌≤◌, length, ◌≡◌, ℕ, ◌<◌, ◌==◌, false, List, [], ◌∷◌, ◌++◌, append_assoc, append-nil, Some, Ok, refl, sym, ap, subst, ◌∙◌, arith}
 use Rattle.ll_parser.specs.declared.symbols.Symbol.{Symbol}
 use Rattle.ll_parser.specs.declared.symbols.Symbol.TheVariants.{Terminal, Nonterminal, Action}
 use Rattle.ll_parser.specs.declared.symbols.Step.TheVariants.{Goes, Shifts, Stops}
@@ -149,8 +149,9 @@ sofar_begins {es = es} a l =
     let g = a.forth l.tokens (es ++ l.events) (record { later = l.events; runs = l.runs; total = refl }) in
     record { rest = l.tokens; events = g.later; runs = g.runs }
 
-pub sofar_leading : {P : List Production} {n : ℕ} {us es : List ℕ} {s : List Symbol} → Sofar P n us s es → Leading P n us es
-sofar_leading a = record { each = λ w fs r. let g = a.back w fs (record { later = fs; runs = r; total = refl }) in (g.later, g.total) }
+pub sofar_leading : {P : List Production} {n : ℕ} {us es : List ℕ} {s : List Symbol} → Sofar P n us s es → length us ≤ count_by (λ e. e == shift) es
+    → Leading P n us es
+sofar_leading {s = s} a read = record { read = read; stack = s; each = λ w fs r. let g = a.back w fs (record { later = fs; runs = r; total = refl }) in (g.later, g.runs, g.total) }
 
 pub sofar_stuck : {P : List Production} {n : ℕ} {us es : List ℕ} {s : List Symbol} {t : ℕ} → Sofar P n us s es → Stuck P t s → (w fs : List ℕ) → Derives P (start n) ((us ++ t ∷ []) ++ w) fs → ⊥
 sofar_stuck {P} {n} {us} {t = t} a b w fs r =

@@ -1,5 +1,5 @@
 -- Grammars as lists of productions, their sentences, and where a fault stands.
-use Rattle.std.specs.Prelude.{◌≡◌, ℕ, zero, suc, ◌+◌, ◌≤◌, List, [], ◌∷◌, ◌++◌, take, length, Option, Some, None}
+use Rattle.std.specs.Prelude.{◌≡◌, ℕ, zero, suc, ◌+◌, ◌≤◌, ◌==◌, count_by, List, [], ◌∷◌, ◌++◌, take, length, Option, Some, None}
 use Rattle.ll_parser.specs.declared.symbols.Symbol.{Symbol}
 use Rattle.ll_parser.specs.declared.symbols.Symbol.TheVariants.{Terminal, Nonterminal, Action}
 
@@ -44,6 +44,9 @@ pub record IsSentence (P : List Production) (n : ℕ) (ts es : List ℕ) : Type 
   pub runs : Derives P (start n) ts es
   pub only : (fs : List ℕ) → Derives P (start n) ts fs → fs ≡ es
 
--- The events of each sentence that begins with some tokens begin so.
+-- The events of each sentence that begins with some tokens begin so, with one of each of these tokens, and those that follow are of the
+-- other tokens, which these symbols derive.
 pub record Leading (P : List Production) (n : ℕ) (us es : List ℕ) : Type 0 where
-  pub each : (w fs : List ℕ) → Derives P (start n) (us ++ w) fs → (later : List ℕ) × (fs ≡ es ++ later)
+  pub read : length us ≤ count_by (λ e. e == shift) es
+  pub stack : List Symbol
+  pub each : (w fs : List ℕ) → Derives P (start n) (us ++ w) fs → (later : List ℕ) × Derives P stack w later × (fs ≡ es ++ later)

@@ -105,9 +105,14 @@ pub record Kept (es es' : List ℕ) : Type 0 where
   pub more : List ℕ
   pub is : es' ≡ es ++ more
 
+-- Further events, and that of a token.
+pub record Adds (es es' : List ℕ) : Type 0 where
+  pub more : List ℕ
+  pub is : es' ≡ es ++ (more ++ shift ∷ [])
+
 -- what a whole token does
 abbrev pub Advances : List Production → Claims → ℕ → List Symbol → List ℕ → Result Bool Memory → List Symbol → List ℕ → Type 0
-Advances P F t s es (Ok true) s' es' = Shifted P t s es s' es' × Ready P F s' × (t ≡ 0 → s' ≡ [])
+Advances P F t s es (Ok true) s' es' = Shifted P t s es s' es' × Ready P F s' × (t ≡ 0 → s' ≡ []) × Adds es es'
 Advances P F t s es (Ok false) s' es' = Stuck P t s × Kept es es'
 Advances P F t s es (Err m) s' es' = Unit {0}
 

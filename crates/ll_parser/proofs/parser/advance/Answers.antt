@@ -1,5 +1,5 @@
 use Rattle.std.proofs.Common.{reverse, Ok, ap, subst, arith}
-use Rattle.ll_parser.proofs.Coding.{moved, empty_of, kept_moves}
+use Rattle.ll_parser.proofs.Coding.{adds_shifts, moved, empty_of, kept_moves}
 use Rattle.ll_parser.proofs.Steps.{leads_goes, ready_goes, cost_less, leads_shifts, ready_shifts, over_shifts, leads_stops, leads_empty}
 use Rattle.ll_parser.specs.Stack.{rows_of, choice_of, Leads}
 use Rattle.ll_parser.proofs.parser.advance.Goals as goal
@@ -26,6 +26,7 @@ returns-in-Ok-Shifts g c =
       leads_shifts (rows_of c.args.table.now) c.args.n (choice_of c.args.table.now.choice.now) g.facts c.requires.0 i.leads m,
       ready_shifts (rows_of c.args.table.now) c.args.n (choice_of c.args.table.now.choice.now) g.facts c.requires.0 i.ready m,
       over_shifts (rows_of c.args.table.now) c.args.n (choice_of c.args.table.now.choice.now) g.facts c.requires.0 i.ready m,
+      adds_shifts i.kept m,
     )
 
 pub returns-in-Ok-Stops : goal.returns-in-Ok-Stops
