@@ -151,14 +151,18 @@ def write_constants(grammar, claims, path):
     for _, body in grammar.productions:
         starts.append(starts[-1] + len(body))
     choices = [claims.choice.get((h, t), NO_PRODUCTION) for h in range(len(grammar.heads)) for t in range(WIDTH)]
-    bodies = [f"{kind}({value})" for _, body in grammar.productions for kind, value in reversed(body)]
+    bodies = [
+        f"    {kind}({value}), // {p}. {shown}: {word}\n"
+        for p, ((_, body), (shown, words)) in enumerate(zip(grammar.productions, grammar.written))
+        for (kind, value), word in reversed(list(zip(body, words)))
+    ]
     used = sorted({kind for _, body in grammar.productions for kind, _ in body})
     with open(path, "w", encoding="utf-8") as file:
         file.write(f"// The table of the grammar `{grammar.name}`, written by tools/table.py. A proof shows that it fits.\n")
         file.write(f"use ll_parser::Symbol;\nuse ll_parser::Symbol::{{{', '.join(used)}}};\n\n")
         file.write(f"pub const {name}_OF: [u8; {len(grammar.productions)}] = [{', '.join(str(h) for h, _ in grammar.productions)}];\n\n")
         file.write(f"pub const {name}_STARTS: [u16; {len(starts)}] = [{', '.join(map(str, starts))}];\n\n")
-        file.write(f"pub const {name}_BODIES: [Symbol; {len(bodies)}] = [{', '.join(bodies)}];\n\n")
+        file.write(f"pub const {name}_BODIES: [Symbol; {len(bodies)}] = [\n{''.join(bodies)}];\n\n")
         file.write(f"pub const {name}_CHOICE: [u8; {len(choices)}] = [{', '.join(map(str, choices))}];\n")
 
 

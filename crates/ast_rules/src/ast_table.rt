@@ -11,60 +11,60 @@ pub const AST_STARTS: [u16; 24] = [
 ];
 
 pub const AST_BODIES: [Symbol; 54] = [
-    Nonterminal(1),
-    Nonterminal(2),
-    Nonterminal(1),
-    Nonterminal(2),
-    Action(11),
-    Terminal(5),
-    Nonterminal(5),
-    Nonterminal(4),
-    Action(3),
-    Terminal(1),
-    Nonterminal(3),
-    Action(1),
-    Terminal(2),
-    Action(2),
-    Action(4),
-    Terminal(1),
-    Terminal(3),
-    Nonterminal(6),
-    Terminal(4),
-    Nonterminal(6),
-    Nonterminal(7),
-    Nonterminal(8),
-    Action(5),
-    Terminal(1),
-    Nonterminal(10),
-    Action(5),
-    Terminal(1),
-    Terminal(7),
-    Nonterminal(11),
-    Action(5),
-    Terminal(1),
-    Terminal(9),
-    Nonterminal(9),
-    Action(6),
-    Terminal(1),
-    Terminal(3),
-    Nonterminal(9),
-    Action(8),
-    Terminal(6),
-    Action(7),
-    Action(9),
-    Terminal(8),
-    Action(6),
-    Terminal(1),
-    Terminal(3),
-    Action(9),
-    Terminal(8),
-    Action(10),
-    Terminal(10),
-    Action(6),
-    Terminal(1),
-    Terminal(3),
-    Action(10),
-    Terminal(10),
+    Nonterminal(1), // 0. grammar: rules
+    Nonterminal(2), // 0. grammar: rule
+    Nonterminal(1), // 1. rules: rules
+    Nonterminal(2), // 1. rules: rule
+    Action(11), // 3. rule: @class
+    Terminal(5), // 3. rule: ';'
+    Nonterminal(5), // 3. rule: body
+    Nonterminal(4), // 3. rule: super
+    Action(3), // 3. rule: @name
+    Terminal(1), // 3. rule: Name
+    Nonterminal(3), // 3. rule: abstract
+    Action(1), // 4. abstract: @abstract
+    Terminal(2), // 4. abstract: 'abstract'
+    Action(2), // 5. abstract: @concrete
+    Action(4), // 6. super: @superclass
+    Terminal(1), // 6. super: Name
+    Terminal(3), // 6. super: ':'
+    Nonterminal(6), // 8. body: components
+    Terminal(4), // 8. body: '::='
+    Nonterminal(6), // 10. components: components
+    Nonterminal(7), // 10. components: component
+    Nonterminal(8), // 12. component: behind_name
+    Action(5), // 12. component: @word
+    Terminal(1), // 12. component: Name
+    Nonterminal(10), // 13. component: behind_optional
+    Action(5), // 13. component: @word
+    Terminal(1), // 13. component: Name
+    Terminal(7), // 13. component: '['
+    Nonterminal(11), // 14. component: behind_token
+    Action(5), // 14. component: @word
+    Terminal(1), // 14. component: Name
+    Terminal(9), // 14. component: '<'
+    Nonterminal(9), // 15. behind_name: star
+    Action(6), // 15. behind_name: @type
+    Terminal(1), // 15. behind_name: Name
+    Terminal(3), // 15. behind_name: ':'
+    Nonterminal(9), // 16. behind_name: star
+    Action(8), // 17. star: @list
+    Terminal(6), // 17. star: '*'
+    Action(7), // 18. star: @child
+    Action(9), // 19. behind_optional: @optional
+    Terminal(8), // 19. behind_optional: ']'
+    Action(6), // 19. behind_optional: @type
+    Terminal(1), // 19. behind_optional: Name
+    Terminal(3), // 19. behind_optional: ':'
+    Action(9), // 20. behind_optional: @optional
+    Terminal(8), // 20. behind_optional: ']'
+    Action(10), // 21. behind_token: @token
+    Terminal(10), // 21. behind_token: '>'
+    Action(6), // 21. behind_token: @type
+    Terminal(1), // 21. behind_token: Name
+    Terminal(3), // 21. behind_token: ':'
+    Action(10), // 22. behind_token: @token
+    Terminal(10), // 22. behind_token: '>'
 ];
 
 pub const AST_CHOICE: [u8; 768] = [

@@ -11,45 +11,45 @@ pub const TREE_STARTS: [u16; 25] = [
 ];
 
 pub const TREE_BODIES: [Symbol; 39] = [
-    Nonterminal(1),
-    Terminal(7),
-    Nonterminal(3),
-    Terminal(6),
-    Nonterminal(2),
-    Terminal(1),
-    Terminal(2),
-    Terminal(3),
-    Nonterminal(4),
-    Nonterminal(5),
-    Nonterminal(4),
-    Nonterminal(5),
-    Terminal(10),
-    Terminal(7),
-    Nonterminal(3),
-    Terminal(6),
-    Terminal(1),
-    Nonterminal(6),
-    Terminal(2),
-    Nonterminal(7),
-    Terminal(3),
-    Terminal(9),
-    Nonterminal(8),
-    Terminal(8),
-    Terminal(4),
-    Terminal(5),
-    Terminal(5),
-    Terminal(11),
-    Terminal(7),
-    Nonterminal(3),
-    Terminal(6),
-    Terminal(7),
-    Nonterminal(3),
-    Terminal(6),
-    Nonterminal(9),
-    Nonterminal(1),
-    Nonterminal(9),
-    Nonterminal(1),
-    Terminal(10),
+    Nonterminal(1), // 0. tree: node
+    Terminal(7), // 1. node: ')'
+    Nonterminal(3), // 1. node: arguments
+    Terminal(6), // 1. node: '('
+    Nonterminal(2), // 1. node: name
+    Terminal(1), // 2. name: Name
+    Terminal(2), // 3. name: 'true'
+    Terminal(3), // 4. name: 'false'
+    Nonterminal(4), // 5. arguments: more
+    Nonterminal(5), // 5. arguments: argument
+    Nonterminal(4), // 7. more: more
+    Nonterminal(5), // 7. more: argument
+    Terminal(10), // 7. more: ','
+    Terminal(7), // 9. argument: ')'
+    Nonterminal(3), // 9. argument: arguments
+    Terminal(6), // 9. argument: '('
+    Terminal(1), // 9. argument: Name
+    Nonterminal(6), // 10. argument: behind_true
+    Terminal(2), // 10. argument: 'true'
+    Nonterminal(7), // 11. argument: behind_false
+    Terminal(3), // 11. argument: 'false'
+    Terminal(9), // 12. argument: ']'
+    Nonterminal(8), // 12. argument: nodes
+    Terminal(8), // 12. argument: '['
+    Terminal(4), // 13. argument: Text
+    Terminal(5), // 14. argument: Int
+    Terminal(5), // 15. argument: Int
+    Terminal(11), // 15. argument: '-'
+    Terminal(7), // 16. behind_true: ')'
+    Nonterminal(3), // 16. behind_true: arguments
+    Terminal(6), // 16. behind_true: '('
+    Terminal(7), // 18. behind_false: ')'
+    Nonterminal(3), // 18. behind_false: arguments
+    Terminal(6), // 18. behind_false: '('
+    Nonterminal(9), // 20. nodes: more_nodes
+    Nonterminal(1), // 20. nodes: node
+    Nonterminal(9), // 22. more_nodes: more_nodes
+    Nonterminal(1), // 22. more_nodes: node
+    Terminal(10), // 22. more_nodes: ','
 ];
 
 pub const TREE_CHOICE: [u8; 640] = [
