@@ -8,5 +8,5 @@ mod reading;
 #[cfg(test)]
 mod tests;
 
-pub use classes::Start;
+pub use classes::{Start, class_of};
 pub use reading::{events_of, push_events};

@@ -81,7 +81,7 @@ const BROKEN_FILES: [(&str, &str); 24] = [
     ("aspect A { N contributes 1 to N.v(); }", "1:36 J1"),
 ];
 
-const EXPRESSIONS: [&str; 23] = [
+const EXPRESSIONS: [&str; 24] = [
     "1",
     "@1",
     "@1.v(@2) == @3",
@@ -93,7 +93,8 @@ const EXPRESSIONS: [&str; 23] = [
     "(C) (x)",
     "(C) (D) \"text\"",
     "(C) true",
-    "(C) @1",
+    "(C) (@5)",
+    "@5.v()",
     "(C) all(x : r | b)",
     "(x) - 1",
     "(x).v()",
@@ -107,7 +108,7 @@ const EXPRESSIONS: [&str; 23] = [
     "(- x) + (each + 1)",
 ];
 
-const BROKEN_EXPRESSIONS: [(&str, &str); 18] = [
+const BROKEN_EXPRESSIONS: [(&str, &str); 20] = [
     ("", "1:1 J1"),
     ("1 2", "1:3 J1"),
     ("@", "1:2 J1"),
@@ -115,6 +116,8 @@ const BROKEN_EXPRESSIONS: [(&str, &str); 18] = [
     ("(C) when", "1:5 J1"),
     ("(C) instanceof", "1:15 J1"),
     ("(C) !x", "1:5 J1"),
+    ("(C) @5", "1:5 J1"),
+    ("(C) @5.v()", "1:5 J1"),
     ("(C.v()) x", "1:9 J1"),
     ("((C)) x", "1:7 J1"),
     ("any(x : r)", "1:10 J1"),
@@ -186,24 +189,24 @@ fn events_said(events: &[u8], alloc: Global) -> Result<String, Fail> {
 const EVENTS: [(&str, &str); 5] = [
     (
         "aspect A { syn lazy Set<N> N.v(int i) circular [empty] = w(i); }",
-        "....1 .6 ...9 ..10 ..11 ..8 .12 ..13 .25 .53 26 14 ..25 .43 ..43 45 .44 26 16 .24 ..",
+        "26 ..3 .27 ..36 38 ....41 .3 ..3 ..40 .3 43 ...1 .4 2 .45 .1 .3 ..3 8 .10 2 47 .30 28 .29 .",
     ),
     (
         "aspect A { eq N.getM(int i).v() = this; }",
-        "....3 .10 ..11 ..8 .12 ...15 ...25 .49 26 16 .24 ..",
+        "26 ..3 .27 ..3 ..3 ..40 .3 43 ...3 .42 .49 .1 .4 2 .32 28 .29 .",
     ),
     (
         "aspect A { coll int N.v() [0] with add root P; }",
-        "....4 .8 .10 ..11 ...25 .54 26 17 ...18 ..19 .24 ..",
+        "26 ..3 .27 ..40 .3 ..3 ...1 .4 2 ...3 51 ..3 53 .33 28 .29 .",
     ),
     (
         "aspect A { N contributes 1 when true to M.v() for x; }",
-        "....5 .25 .54 26 20 .25 .50 26 21 .22 .10 ..11 ...25 .43 26 23 .24 ..",
+        "26 ..3 .27 .3 .1 .4 2 .1 .4 2 55 ..3 ..3 ...1 .3 2 .34 28 .29 .",
     ),
     // The text breaks off: what was said before.
     (
         "aspect A { syn int N.v() = 1 + ; }",
-        "....1 .8 .10 ..11 ...25 .54 .",
+        "26 ..3 .27 .37 .40 .3 ..3 .42 .46 .1 .4 .",
     ),
 ];
 
