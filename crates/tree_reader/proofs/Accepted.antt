@@ -18,9 +18,10 @@ use Rattle.ast_grammar.specs.Grammar.{Class, Component, abstract_in, class_named
 use Rattle.tree_arena.specs.Terms.{Forest, Tree, Fits, Hangs, over, token, one, none, element, IsCode, IsTerm, IsTreeOf, MayHaveNone, MayHaveOne, nodes_of, root, first_class}
 use Rattle.tree_syntax.specs.Written.{Leaf, WritesText, WritesInt, WritesTruth, Written, Nothing, Node, Brackets, Valued, AreNodes, IsNode}
 use Rattle.tree_reader.specs.Breaking.{arguments_broken, brackets_at_shape, count, is_apart, is_concrete, is_concrete_class, miscounts, most_of, node_at_shape, root_broken, value_at_shape}
-use Rattle.tree_reader.specs.Grown.{beside_each, class_or_first, code_of, codes_of, grown, int_code, or_zero, small_code, tree_written, truth_code}
+use Rattle.tree_reader.specs.Grown.{beside_each, class_or_first, code_of, codes_of, grown, int_code, small_code, tree_written, truth_code}
 use Rattle.tree_reader.specs.Wants.{Wants, Components, Elements, Perhaps, NoMore, Unknown, arguments_of, inside, inside_shape, next_of, wanted_by}
-use Rattle.tree_reader.proofs.Pooled.{IsThere}
+use Rattle.token_texts.specs.Texts.{or_zero}
+use Rattle.token_texts.proofs.Pooled.{IsThere}
 use Rattle.tree_reader.proofs.Sizes.{length_nodes, size_grown}
 use Rattle.tree_reader.proofs.Clean.{CleanNode, CleanBrackets, CleanValue, clean_brackets, clean_node, clean_value, few_nodes, not_not}
 

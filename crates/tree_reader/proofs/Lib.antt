@@ -5,8 +5,6 @@ pub mod Coding
 pub mod Growing
 pub mod NodeReaching
 pub mod OneTree
-pub mod Pooled
-pub mod Pooling
 pub mod Reaching
 pub mod Read
 pub mod Root

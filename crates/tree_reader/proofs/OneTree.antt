@@ -10,7 +10,8 @@ use Rattle.tree_arena.specs.Terms.{nodes_of}
 use Rattle.tree_syntax.proofs.OneFault.{one_syntax_fault, writes_or_fault}
 use Rattle.tree_syntax.proofs.OneWritten.{one_written}
 use Rattle.tree_syntax.specs.Written.{Written, Writes}
-use Rattle.tree_reader.specs.Breaking.{pooled_texts, tree_broken}
+use Rattle.token_texts.specs.Texts.{pooled_texts}
+use Rattle.tree_reader.specs.Breaking.{tree_broken}
 use Rattle.tree_reader.specs.Grown.{tree_written}
 use Rattle.tree_reader.specs.Reading.{IsFirstBroken, SaysTree, checked, syntax}
 

@@ -11,6 +11,7 @@ use Rattle.broken_rules.specs.Notes.{Notes}
 use Rattle.broken_rules.specs.declared.broken.Broken.{Broken}
 use Rattle.broken_rules.specs.declared.broken.ReadFault.{ReadFault}
 use Rattle.broken_rules.specs.declared.broken.ReadFault.TheVariants as faults
+use Rattle.broken_rules.specs.declared.rule.Rule.TheVariants.{N7}
 use Rattle.rag_io.specs.Tokens.{Lexed}
 use Rattle.ast_grammar.specs.Grammar.{Class, IsClass, IsGrammar, most_components}
 use Rattle.tree_arena.specs.Nodes as arena
@@ -18,9 +19,10 @@ use Rattle.tree_arena.specs.Nodes.{most_nodes}
 use Rattle.tree_arena.specs.Terms.{HasFew, IsTree, IsTreeOf, nodes_of}
 use Rattle.tree_syntax.specs.Reading.{IsText}
 use Rattle.tree_syntax.specs.Written.{Written, Writes}
-use Rattle.tree_reader.specs.Breaking.{pooled_texts, root_broken, texts_broken, tree_broken}
+use Rattle.token_texts.specs.Texts.{pooled_texts, text_code, texts_broken}
+use Rattle.tree_reader.specs.Breaking.{root_broken, tree_broken}
 use Rattle.tree_reader.specs.Grown.{tree_written}
-use Rattle.tree_reader.specs.Laying.{IsLaid, seen_laid, text_code}
+use Rattle.tree_reader.specs.Laying.{IsLaid, seen_laid}
 use Rattle.tree_reader.specs.Reading.{ReadsTree, SaysTree, checked}
 use Rattle.tree_reader.specs.declared.laying.Laid.{Laid}
 use Rattle.tree_reader.proofs.Said.{clean_tree}
@@ -34,7 +36,7 @@ pub record IsRead (g : List Class) (pool : List (List ℕ)) (ts : List Lexed) (w
 
 -- it was, after the steps of the reader
 pub is_read : {g : List Class} {pool new : List (List ℕ)} {ts : List Lexed} {codes : List ℕ} {first texts root broken : Option Broken} {nodes : List Laid} (text : IsText ts) → first ≡ None
-    → codes ≡ map (text_code new) ts → new ≡ pooled_texts pool ts → Notes (texts_broken pool ts) first texts → ((w : Written) → Writes ts w → Notes (root_broken g w) texts root)
+    → codes ≡ map (text_code new) ts → new ≡ pooled_texts pool ts → Notes (texts_broken N7 pool ts) first texts → ((w : Written) → Writes ts w → Notes (root_broken g w) texts root)
     → ((p : List (List ℕ)) (w : Written) → codes ≡ map (text_code p) ts → Writes ts w → IsLaid g p w root broken nodes) → IsRead g pool ts text.written broken nodes
 is_read {g} {pool} {new} {ts} {codes} {first} {texts} {root} {broken} {nodes} text fresh coding pooling of_texts of_root laying =
     let laid = laying new text.written coding text.writes in

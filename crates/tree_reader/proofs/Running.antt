@@ -13,7 +13,7 @@ use Rattle.tree_arena.specs.Terms.{nodes_from}
 use Rattle.tree_syntax.specs.Written.{Written, IsSign, truth_word}
 use Rattle.tree_reader.specs.Breaking.{arguments_broken}
 use Rattle.tree_reader.specs.Grown.{codes_of, grown}
-use Rattle.tree_reader.specs.Laying.{code_by_kind}
+use Rattle.token_texts.specs.Texts.{code_by_kind}
 use Rattle.tree_reader.specs.Steps.{Open, Opened, State, is_sign_by, is_true, noted, opens, run, sign_taken, taken, word_taken}
 use Rattle.tree_reader.specs.Wants.{Wants}
 use Rattle.tree_reader.proofs.Coding.{IsPlaced, coded_all, is_bracketed}

@@ -9,10 +9,10 @@ use Rattle.rag_io.specs.declared.token.Place.{Place}
 use Rattle.rag_io.specs.declared.token.TokenKind.{TokenKind}
 use Rattle.rag_io.specs.declared.token.TokenKind.TheVariants as kinds
 use Rattle.tree_syntax.specs.Written.{Written, Mode, Spells, none, some, over, comma, node, brackets, text, int, negative, truth, Writes}
-use Rattle.tree_reader.specs.Breaking.{is_past, pooled_by_kind, pooled_texts, text_broken, texts_broken}
+use Rattle.token_texts.specs.Texts.{is_past, pooled_by_kind, pooled_texts, text_broken, texts_broken}
 use Rattle.tree_reader.proofs.Accepted as there
 use Rattle.tree_reader.proofs.Accepted.{AreThere}
-use Rattle.tree_reader.proofs.Pooled.{IsThere, there_later, there_pooled}
+use Rattle.token_texts.proofs.Pooled.{IsThere, there_later, there_pooled}
 
 -- the texts of some tokens are in the pool
 abbrev pub TokensThere : List (List ℕ) → List Lexed → Type 0
@@ -20,7 +20,7 @@ TokensThere pool [] = Unit {0}
 TokensThere pool (t ∷ ts) = (t.kind ≡ kinds.Text → IsThere pool (meant t.text)) × TokensThere pool ts
 
 -- the text of one token, where there was room for it
-there_kind : (pool : List (List ℕ)) (kind : TokenKind) (quoted : List ℕ) (p : Place) → text_broken pool kind quoted p ≡ [] → kind ≡ kinds.Text → IsThere (pooled_by_kind pool kind quoted) (meant quoted)
+there_kind : (pool : List (List ℕ)) (kind : TokenKind) (quoted : List ℕ) (p : Place) → text_broken N7 pool kind quoted p ≡ [] → kind ≡ kinds.Text → IsThere (pooled_by_kind pool kind quoted) (meant quoted)
 there_kind pool kinds.Name quoted p clean is = cc
 there_kind pool kinds.Int quoted p clean is = cc
 there_kind pool kinds.Text quoted p clean is = there_pooled pool (meant quoted) (not_broken (is_past pool (meant quoted)) (at p N7) clean)
@@ -28,11 +28,11 @@ there_kind pool kinds.Symbol quoted p clean is = cc
 there_kind pool kinds.End quoted p clean is = cc
 
 -- where there was room for the texts of all tokens, they are in the pool
-pub texts_there : (ts : List Lexed) (pool : List (List ℕ)) → texts_broken pool ts ≡ [] → TokensThere (pooled_texts pool ts) ts
+pub texts_there : (ts : List Lexed) (pool : List (List ℕ)) → texts_broken N7 pool ts ≡ [] → TokensThere (pooled_texts pool ts) ts
 texts_there [] pool clean = tt
 texts_there (t ∷ ts) pool clean =
     let next = pooled_by_kind pool t.kind t.text in
-    let parts = append_none (text_broken pool t.kind t.text t.place) (texts_broken next ts) clean in
+    let parts = append_none (text_broken N7 pool t.kind t.text t.place) (texts_broken N7 next ts) clean in
     ((λ is. there_later ts next (meant t.text) (there_kind pool t.kind t.text t.place parts.0 is)), texts_there ts next parts.1)
 
 -- Some arguments whose texts are in the pool, and tokens left over whose texts are too.

@@ -14,7 +14,8 @@ use Rattle.tree_arena.specs.Terms.{nodes_from, nodes_of}
 use Rattle.tree_syntax.specs.Written.{IsNode, Written, Writes, Nothing, Node, Brackets, Valued, WritesInt, WritesTruth}
 use Rattle.tree_reader.specs.Breaking.{name_broken, node_misplaced}
 use Rattle.tree_reader.specs.Grown.{class_or_first, codes_of, grown, small_code, tree_written, truth_code}
-use Rattle.tree_reader.specs.Laying.{IsLaid, text_code}
+use Rattle.token_texts.specs.Texts.{text_code}
+use Rattle.tree_reader.specs.Laying.{IsLaid}
 use Rattle.tree_reader.specs.Steps.{Arguments, Brackets as InBrackets, State, coded_by, component_by, int_added, is_sign_by, is_true, next_open, node_opened, noted, opens, run, seen_state, started, taken, value_added, word_taken}
 use Rattle.tree_reader.specs.Wants.{Unknown, Wants, arguments_of, wanted_by}
 use Rattle.tree_reader.specs.declared.laying.Laying.{Laying}

@@ -1,21 +1,18 @@
 -- The rules N2 to N7: what the text of a tree breaks.
-use Rattle.std.specs.Prelude.{ℕ, suc, ◌+◌, List, [], ◌∷◌, ◌++◌, Bool, true, false, not, ◌&&◌, nat_le, ◌==◌, Option, Some, None, is_none, length, slice_get, if◌then◌else◌}
+use Rattle.std.specs.Prelude.{ℕ, suc, ◌+◌, List, [], ◌∷◌, ◌++◌, Bool, true, false, not, nat_le, ◌==◌, Option, Some, None, length, slice_get}
 use Rattle.broken_rules.specs.declared.broken.Broken.{Broken}
 use Rattle.broken_rules.specs.declared.rule.Rule.TheVariants.{N2, N3, N4, N5, N6, N7}
 use Rattle.broken_rules.specs.Notes.{at, broken_if}
 use Rattle.rag_io.specs.declared.token.Place.{Place}
-use Rattle.rag_io.specs.declared.token.TokenKind.{TokenKind}
-use Rattle.rag_io.specs.declared.token.TokenKind.TheVariants as kinds
 use Rattle.rag_io.specs.Decimal.{decimal}
-use Rattle.rag_io.specs.Pool.{most_texts, number_of, with_text}
 use Rattle.rag_io.specs.Tokens.{Lexed}
-use Rattle.rag_io.specs.Unquoted.{meant}
 use Rattle.ast_grammar.specs.declared.grammar.ClassId.{ClassId}
 use Rattle.ast_grammar.specs.declared.grammar.Shape.{Shape}
 use Rattle.ast_grammar.specs.declared.grammar.Shape.TheVariants as shapes
 use Rattle.ast_grammar.specs.Grammar.{Class, class_named, components_of, is_sub}
 use Rattle.tree_arena.specs.Nodes.{most_nodes}
 use Rattle.tree_arena.specs.Terms.{first_class}
+use Rattle.token_texts.specs.Texts.{texts_broken}
 use Rattle.tree_syntax.specs.Written.{Leaf, WritesText, WritesInt, WritesTruth, Written, Nothing, Node, Brackets, Valued}
 use Rattle.tree_reader.specs.Wants.{Wants, Unknown, Wanted, At, Element, NoNode, Anything, next_of, wanted_by, inside, arguments_of}
 
@@ -144,39 +141,6 @@ root_broken g (Node name p arguments behind) = broken_if (is_apart g (class_name
 root_broken g (Brackets p nodes behind) = []
 root_broken g (Valued leaf p behind) = []
 
--- the text is new, and the pool is full
-abbrev pub is_past : List (List ℕ) → List ℕ → Bool
-is_past pool text = is_none (number_of pool text) && nat_le most_texts (length pool)
-
--- the pool with one more text, if there is room
-abbrev pub pooled : List (List ℕ) → List ℕ → List (List ℕ)
-pooled pool text = if is_past pool text then pool else with_text pool text
-
--- the pool with the text that a token writes, if it is one
-abbrev pub pooled_by_kind : List (List ℕ) → TokenKind → List ℕ → List (List ℕ)
-pooled_by_kind pool kinds.Name text = pool
-pooled_by_kind pool kinds.Int text = pool
-pooled_by_kind pool kinds.Text text = pooled pool (meant text)
-pooled_by_kind pool kinds.Symbol text = pool
-pooled_by_kind pool kinds.End text = pool
-
--- and with those of some tokens
-abbrev pub pooled_texts : List (List ℕ) → List Lexed → List (List ℕ)
-pooled_texts pool [] = pool
-pooled_texts pool (t ∷ ts) = pooled_texts (pooled_by_kind pool t.kind t.text) ts
-
--- N7: a token writes a text that would be the 65,537th
-abbrev pub text_broken : List (List ℕ) → TokenKind → List ℕ → Place → List Broken
-text_broken pool kinds.Name text p = []
-text_broken pool kinds.Int text p = []
-text_broken pool kinds.Text text p = broken_if (is_past pool (meant text)) (at p N7)
-text_broken pool kinds.Symbol text p = []
-text_broken pool kinds.End text p = []
-
-abbrev pub texts_broken : List (List ℕ) → List Lexed → List Broken
-texts_broken pool [] = []
-texts_broken pool (t ∷ ts) = text_broken pool t.kind t.text t.place ++ texts_broken (pooled_by_kind pool t.kind t.text) ts
-
 -- all that the tokens of a tree break, which write this, where the pool holds some texts
 abbrev pub tree_broken : List Class → List (List ℕ) → List Lexed → Written → List Broken
-tree_broken g pool ts w = texts_broken pool ts ++ (root_broken g w ++ arguments_broken g Unknown 0 w)
+tree_broken g pool ts w = texts_broken N7 pool ts ++ (root_broken g w ++ arguments_broken g Unknown 0 w)

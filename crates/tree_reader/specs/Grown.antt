@@ -1,17 +1,14 @@
 -- The tree that a text writes.
-use Rattle.std.specs.Prelude.{ℕ, suc, ◌-◌, ◌^◌, List, [], ◌∷◌, Bool, true, false, ◌==◌, nat_le, Option, Some, None, if◌then◌else◌}
+use Rattle.std.specs.Prelude.{ℕ, suc, ◌-◌, ◌^◌, List, [], ◌∷◌, Bool, true, false, ◌==◌, nat_le, Option, if◌then◌else◌}
 use Rattle.rag_io.specs.Decimal.{decimal}
 use Rattle.rag_io.specs.Pool.{number_of}
 use Rattle.rag_io.specs.Unquoted.{meant}
 use Rattle.ast_grammar.specs.declared.grammar.ClassId.{ClassId}
 use Rattle.ast_grammar.specs.Grammar.{Class, class_named}
 use Rattle.tree_arena.specs.Terms.{Forest, Empty, Tree}
+use Rattle.token_texts.specs.Texts.{or_zero}
 use Rattle.tree_reader.specs.Breaking.{most_of}
 use Rattle.tree_syntax.specs.Written.{Leaf, WritesText, WritesInt, WritesTruth, Written, Nothing, Node, Brackets, Valued}
-
-abbrev pub or_zero : Option ℕ → ℕ
-or_zero None = 0
-or_zero (Some n) = n
 
 -- the class of this number, where there is one
 abbrev pub class_or_first : Option ℕ → ClassId

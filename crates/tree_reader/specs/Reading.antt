@@ -1,5 +1,5 @@
 -- What reading the text of a tree answers.
-use Rattle.std.specs.Prelude.{◌≡◌, ℕ, List, [], ◌∷◌, ◌++◌, Some, None, Result, Ok, Err}
+use Rattle.std.specs.Prelude.{◌≡◌, ℕ, List, [], ◌∷◌, Some, None, Result, Ok, Err}
 use Rattle.broken_rules.specs.Answers.{Answers}
 use Rattle.broken_rules.specs.declared.broken.Broken.{Broken}
 use Rattle.broken_rules.specs.declared.broken.ReadFault.{ReadFault}
@@ -8,9 +8,10 @@ use Rattle.rag_io.specs.Tokens.{Lexed}
 use Rattle.ast_grammar.specs.Grammar.{Class}
 use Rattle.tree_arena.specs.Nodes.{Node}
 use Rattle.tree_arena.specs.Terms.{nodes_of}
+use Rattle.token_texts.specs.Texts.{pooled_texts}
 use Rattle.tree_syntax.specs.Reading.{IsSyntaxFault}
 use Rattle.tree_syntax.specs.Written.{Written, Writes}
-use Rattle.tree_reader.specs.Breaking.{pooled_texts, tree_broken}
+use Rattle.tree_reader.specs.Breaking.{tree_broken}
 use Rattle.tree_reader.specs.Grown.{tree_written}
 
 -- The tokens say the tree of these nodes, with the texts of a pool: they write it, and break nothing.
@@ -30,8 +31,3 @@ abbrev pub ReadsTree : List Class → List (List ℕ) → List Lexed → Result 
 ReadsTree g pool ts (Ok nodes) = SaysTree g pool ts nodes
 ReadsTree g pool ts (Err (faults.Broken b)) = IsFirstBroken g pool ts b
 ReadsTree g pool ts (Err faults.Memory) = Unit {0}
-
--- The pool holds what it held, and perhaps further texts last.
-pub record Extends (old new : List (List ℕ)) : Type 0 where
-  pub more : List (List ℕ)
-  pub are : new ≡ old ++ more

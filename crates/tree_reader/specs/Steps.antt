@@ -13,10 +13,11 @@ use Rattle.rag_io.specs.declared.token.TokenKind.TheVariants as kinds
 use Rattle.rag_io.specs.Tokens.{Lexed}
 use Rattle.ast_grammar.specs.Grammar.{Class, class_named, components_of, number_of}
 use Rattle.tree_arena.specs.Nodes.{Node, tokens_at}
+use Rattle.token_texts.specs.Texts.{text_code}
 use Rattle.tree_syntax.specs.Written.{Leaf, WritesText, WritesInt, WritesTruth}
 use Rattle.tree_reader.specs.Breaking.{name_broken, node_misplaced, brackets_misplaced, value_misplaced}
 use Rattle.tree_reader.specs.Grown.{class_or_first, small_code, truth_code}
-use Rattle.tree_reader.specs.Laying.{seen_laid, text_code}
+use Rattle.tree_reader.specs.Laying.{seen_laid}
 use Rattle.tree_reader.specs.Wants.{Wants, Components, Elements, Perhaps, NoMore, Unknown, Wanted, At, Element, NoNode, Anything, next_of, wanted_by, inside, arguments_of}
 use Rattle.tree_reader.specs.declared.frames.Frame.{Frame}
 use Rattle.tree_reader.specs.declared.frames.Opened as opened_memory

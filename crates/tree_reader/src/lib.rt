@@ -13,7 +13,6 @@ mod reading;
 mod steps;
 #[cfg(test)]
 mod tests;
-mod texts;
 mod values;
 mod wants;
 

@@ -2,21 +2,22 @@
 ghost use Rattle.std.specs.Prelude.{◌≡◌, ◌<◌, ◌^◌, All, IfOk, map};
 ghost use Rattle.broken_rules.specs.Notes.{Notes};
 ghost use Rattle.rag_io.specs.Tokens.{AreTokens, seen_tokens};
+ghost use Rattle.token_texts.specs.Texts.{Extends, pooled_texts};
 ghost use Rattle.tree_arena.specs.Kept.{node_of};
 ghost use Rattle.tree_arena.specs.Nodes.{Node};
 ghost use Rattle.tree_syntax.specs.Written.{Written, Writes};
-ghost use Rattle.tree_reader.specs.Breaking.{pooled_texts, root_broken};
+ghost use Rattle.tree_reader.specs.Breaking.{root_broken};
 ghost use Rattle.tree_reader.specs.Laying.{seen_laid};
-ghost use Rattle.tree_reader.specs.Reading.{Extends, ReadsTree};
+ghost use Rattle.tree_reader.specs.Reading.{ReadsTree};
 
 use crate::laying::Laid;
 use crate::misplaced::is_apart;
 use crate::steps::lay_tree;
-use crate::texts::{place_of, pool_texts};
 use ast_grammar::Grammar;
 use broken_rules::{Earliest, ReadFault, Rule};
 use rag_io::{Memory, Pool, Token};
 use std::alloc::Global;
+use token_texts::{place_of, pool_texts};
 use tree_arena::{FirstNode, Tokens, Tree};
 use tree_syntax::check_syntax;
 
@@ -93,7 +94,7 @@ pub fn read_tree(
 {
     check_syntax(alloc, tokens)?;
     let mut broken = Earliest::new();
-    let texts = pool_texts(alloc, tokens, pool, &mut broken)?;
+    let texts = pool_texts(alloc, tokens, pool, Rule::N7, &mut broken)?;
     note_root(grammar, tokens, &mut broken);
     let laying = lay_tree(alloc, grammar, tokens, &texts, broken)?;
     laying.broken.answer()?;

@@ -1,17 +1,18 @@
 // What the tokens of a tree do, in their order.
 ghost use Rattle.std.specs.Prelude.{◌≡◌, ℕ, List, IfOk, codes, drop, map};
 ghost use Rattle.rag_io.specs.Tokens.{seen_token, seen_tokens};
+ghost use Rattle.token_texts.specs.Texts.{text_code};
 ghost use Rattle.tree_syntax.specs.Written.{Written, Writes};
-ghost use Rattle.tree_reader.specs.Laying.{IsLaid, text_code};
+ghost use Rattle.tree_reader.specs.Laying.{IsLaid};
 ghost use Rattle.tree_reader.specs.Steps.{is_sign_by, opens, run, seen_state, sign_taken, taken, word_taken};
 
 use crate::laying::Laying;
-use crate::texts::place_of;
 use crate::values::Value;
 use ast_grammar::Grammar;
 use broken_rules::Earliest;
 use rag_io::{Memory, Place, Token, TokenKind};
 use std::alloc::Global;
+use token_texts::place_of;
 
 // Whether the token is this sign.
 fn is_sign(token: &Token<'_>, sign: &[u8]) -> bool

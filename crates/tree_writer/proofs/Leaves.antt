@@ -17,7 +17,8 @@ use Rattle.ast_grammar.specs.declared.grammar.Shape.TheVariants as shapes
 use Rattle.tree_arena.specs.Terms.{IsCode}
 use Rattle.tree_syntax.specs.Written.{Leaf, WritesText, WritesInt, WritesTruth, Written, Valued, Argument, Behind}
 use Rattle.tree_reader.specs.Breaking.{value_at_shape}
-use Rattle.tree_reader.specs.Grown.{code_of, int_code, or_zero}
+use Rattle.token_texts.specs.Texts.{or_zero}
+use Rattle.tree_reader.specs.Grown.{code_of, int_code}
 use Rattle.tree_writer.specs.Again.{IsWritable}
 use Rattle.tree_writer.specs.Canonical.{argument_text, further, text_or_empty}
 use Rattle.tree_writer.proofs.Integers.{WritesNumber, decimal_writes, small_text, large_text}

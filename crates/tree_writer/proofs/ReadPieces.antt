@@ -12,7 +12,7 @@ use Rattle.rag_io.specs.Tokens.{Lexed, moved}
 use Rattle.rag_io.specs.Unquoted.{meant}
 use Rattle.tree_syntax.specs.Written.{Mode, Start, Argument, Behind, Written, Nothing, Node, Brackets, Valued, WritesText, WritesInt, WritesTruth, AreNodes, Spells, truth_word}
 use Rattle.tree_syntax.specs.Written as written
-use Rattle.tree_reader.specs.Breaking.{pooled, pooled_texts, is_past, texts_broken}
+use Rattle.token_texts.specs.Texts.{pooled, pooled_texts, is_past, texts_broken}
 use Rattle.rag_io.specs.Words.{IsWord}
 use Rattle.tree_writer.specs.Again.{IsWritable}
 use Rattle.tree_writer.specs.Canonical.{further}
@@ -27,7 +27,7 @@ pub record Reads (pool : List (List ℕ)) (m : Mode) (p : Place) (text : List �
   pub scanned : Scan p text tokens
   pub spells : (rest : List Lexed) → Spells m w (tokens rest) rest
   pub pooled : (more : List Lexed) → pooled_texts pool (tokens more) ≡ pooled_texts pool more
-  pub clean : (more : List Lexed) → texts_broken pool (tokens more) ≡ texts_broken pool more
+  pub clean : (more : List Lexed) → texts_broken N7 pool (tokens more) ≡ texts_broken N7 pool more
 
 -- a node and what stands behind it, piece by piece
 regroup_node : (name inner outer : List ℕ) → (name ++ (codes "(" ++ (inner ++ codes ")"))) ++ outer ≡ name ++ (codes "(" ++ (inner ++ (codes ")" ++ outer)))
@@ -131,7 +131,7 @@ module _ (pool : List (List ℕ)) where
       spells = λ rest. written.text refl (r.spells rest);
       pooled = λ more. ap (λ (texts : List (List ℕ)). pooled_texts texts (r.tokens more)) (same_pool bytes number is there) ∙ r.pooled more;
       clean = λ more.
-          (λ i. broken_if (not_past bytes number is there i) (at p N7) ++ texts_broken (same_pool bytes number is there i) (r.tokens more)) ∙ r.clean more;
+          (λ i. broken_if (not_past bytes number is there i) (at p N7) ++ texts_broken N7 (same_pool bytes number is there i) (r.tokens more)) ∙ r.clean more;
     }
 
     -- a node: its name, its arguments in parentheses, and what stands behind it

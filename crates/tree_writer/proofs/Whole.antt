@@ -1,7 +1,7 @@
 -- The canonical text of a whole tree is read again to the same tree.
 use Rattle.std.proofs.Common.{◌≡◌, ℕ, ◌≤◌, List, [], ◌∷◌, ◌++◌, Bool, true, false, not, All, Option, None, length, slice_get, refl, sym, ap, subst, ◌∙◌, arith}
 use Rattle.broken_rules.specs.declared.broken.Broken.{Broken}
-use Rattle.broken_rules.specs.declared.rule.Rule.TheVariants.{N6}
+use Rattle.broken_rules.specs.declared.rule.Rule.TheVariants.{N6, N7}
 use Rattle.broken_rules.specs.Answers.{Answers, clean, passes}
 use Rattle.broken_rules.specs.Notes.{at, broken_if}
 use Rattle.rag_io.specs.declared.token.TokenKind.TheVariants.{End}
@@ -14,7 +14,8 @@ use Rattle.tree_arena.proofs.AccessorsPreorder.{length_nodes}
 use Rattle.tree_arena.specs.Nodes.{most_nodes}
 use Rattle.tree_arena.specs.Terms.{Forest, Empty, Tree, IsTerm, root, first_class, nodes_of}
 use Rattle.tree_syntax.specs.Written.{Written, Nothing, Node}
-use Rattle.tree_reader.specs.Breaking.{arguments_broken, is_apart, root_broken, texts_broken, tree_broken}
+use Rattle.token_texts.specs.Texts.{texts_broken}
+use Rattle.tree_reader.specs.Breaking.{arguments_broken, is_apart, root_broken, tree_broken}
 use Rattle.tree_reader.specs.Grown.{tree_written}
 use Rattle.tree_reader.specs.Wants.{Unknown}
 use Rattle.rag_io.specs.Words.{IsWord}
@@ -45,7 +46,7 @@ module _ (g : List Class) (pool : List (List ℕ)) (c : ClassId) (tokens : List 
   -- they break nothing
   nothing_broken : IsFound g c → is_sub g c.0 0 ≡ true → length (nodes_of whole) ≤ most_nodes → tree_broken g pool all_tokens whole_written ≡ []
   nothing_broken found fits few =
-      let texts : texts_broken pool all_tokens ≡ [] = n.reads.clean (last_token ∷ []) in
+      let texts : texts_broken N7 pool all_tokens ≡ [] = n.reads.clean (last_token ∷ []) in
       let at_root : root_broken g whole_written ≡ [] =
       ap (λ (class : Option ℕ). broken_if (is_apart g class first_class) (at first_place N6)) found.named
       ∙ ap (λ (t : Bool). broken_if (not t) (at first_place N6)) fits in

@@ -4,7 +4,7 @@ use Rattle.rag_io.specs.Tokens.{Lexed, IsTokens, first_place}
 use Rattle.rag_io.specs.Unquoted.{StandsFor}
 use Rattle.ast_grammar.specs.Grammar.{Class}
 use Rattle.tree_arena.specs.Terms.{Forest, nodes_of}
-use Rattle.tree_reader.specs.Breaking.{pooled_texts}
+use Rattle.token_texts.specs.Texts.{pooled_texts}
 use Rattle.tree_reader.specs.Reading.{SaysTree}
 use Rattle.tree_writer.specs.Canonical.{canonical}
 

@@ -1,6 +1,10 @@
 use Rattle.std.proofs.Common.{◌∙◌}
+use Rattle.token_texts.proofs.Quoted.{quoted_tokens}
 use Rattle.tree_reader.proofs.Read.{is_read, read_clean, read_components, read_is_tree, read_parents, read_refused, read_says}
 use Rattle.tree_reader.proofs.reading.read_tree.Goals as goal
+
+pub pool_texts-requires : goal.pool_texts-requires
+pool_texts-requires c = quoted_tokens c.requires
 
 pub returns-in_err-answer-clause-says : goal.returns-in_err-answer-clause-says
 returns-in_err-answer-clause-says c =

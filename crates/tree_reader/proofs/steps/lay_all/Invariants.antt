@@ -1,6 +1,6 @@
 use Rattle.std.proofs.Common.{◌≡◌, ℕ, List, drop, map}
 use Rattle.rag_io.specs.Tokens.{seen_tokens}
-use Rattle.tree_reader.specs.Laying.{text_code}
+use Rattle.token_texts.specs.Texts.{text_code}
 use Rattle.tree_reader.specs.Steps.{run, seen_state}
 use Rattle.tree_reader.proofs.steps.lay_all.Given as goal
 

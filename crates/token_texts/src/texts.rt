@@ -1,21 +1,18 @@
-// The texts of a tree go into the pool: N7 of texts.
+// The texts of tokens go into a pool.
 ghost use Rattle.std.specs.Prelude.{◌≡◌, IfOk, map};
 ghost use Rattle.broken_rules.specs.Notes.{Notes, at, broken_if};
-ghost use Rattle.broken_rules.specs.declared.rule.Rule.TheVariants.{N7};
 ghost use Rattle.rag_io.specs.declared.token.TokenKind.TheVariants.{Text as WrittenText};
 ghost use Rattle.rag_io.specs.Pool.{number_of};
-ghost use Rattle.rag_io.specs.Tokens.{AreTokens, seen_token, seen_tokens};
+ghost use Rattle.rag_io.specs.Tokens.{seen_token, seen_tokens};
 ghost use Rattle.rag_io.specs.Unquoted.{IsQuoted, meant};
-ghost use Rattle.tree_reader.specs.Breaking.{is_past, pooled, pooled_by_kind, pooled_texts, text_broken, texts_broken};
-ghost use Rattle.tree_reader.specs.Grown.{or_zero};
-ghost use Rattle.tree_reader.specs.Laying.{text_code};
-ghost use Rattle.tree_reader.specs.Reading.{Extends};
+ghost use Rattle.token_texts.specs.Texts.{AllQuoted, Extends, is_past, or_zero, pooled, pooled_by_kind, pooled_texts, text_broken, text_code, texts_broken};
 
 use broken_rules::{Earliest, Rule};
 use rag_io::{Memory, Place, Pool, PoolFault, Token, TokenKind, unquote};
 use std::alloc::Global;
 
-pub(crate) fn place_of(token: &Token<'_>) -> Place
+/// Where a token begins.
+pub fn place_of(token: &Token<'_>) -> Place
     ensures { result ≡ (seen_token token.now).place }
 {
     Place {
@@ -24,24 +21,26 @@ pub(crate) fn place_of(token: &Token<'_>) -> Place
     }
 }
 
-// Adds the text that a text token writes, and answers its number; where the pool is full and has no such text, it is 0, and N7 is noted.
+// Adds the text that a text token writes, and answers its number; where the pool is full and has no such text, it is 0, and the rule is
+// noted.
 fn pool_text(
     alloc: Global,
     token: &Token<'_>,
     pool: &mut Pool,
+    rule: Rule,
     broken: &mut Earliest,
 ) -> Result<u32, Memory>
     requires { IsQuoted token.now.text.now }
     ensures code { IfOk result (λ code. code ≡ or_zero (number_of pool.new (meant token.now.text.now))) }
     ensures pooled { IfOk result (λ _. pool.new ≡ pooled pool.old (meant token.now.text.now)) }
-    ensures noted { IfOk result (λ _. Notes (broken_if (is_past pool.old (meant token.now.text.now)) (at (seen_token token.now).place N7)) broken.old broken.new) }
+    ensures noted { IfOk result (λ _. Notes (broken_if (is_past pool.old (meant token.now.text.now)) (at (seen_token token.now).place rule)) broken.old broken.new) }
     ensures extends { Extends pool.old pool.new }
 {
     let text = unquote(alloc, token.text)?;
     match pool.add(&text) {
         Ok(number) => Ok(number),
         Err(PoolFault::Full) => {
-            broken.note(Rule::N7, place_of(token));
+            broken.note(rule, place_of(token));
             Ok(0)
         }
         Err(PoolFault::Memory) => Err(Memory),
@@ -53,36 +52,41 @@ fn pool_token(
     alloc: Global,
     token: &Token<'_>,
     pool: &mut Pool,
+    rule: Rule,
     broken: &mut Earliest,
 ) -> Result<u32, Memory>
     requires { token.now.kind ≡ WrittenText → IsQuoted token.now.text.now }
     ensures code { IfOk result (λ code. code ≡ text_code pool.new (seen_token token.now)) }
     ensures pooled { IfOk result (λ _. pool.new ≡ pooled_by_kind pool.old token.now.kind token.now.text.now) }
-    ensures noted { IfOk result (λ _. Notes (text_broken pool.old token.now.kind token.now.text.now (seen_token token.now).place) broken.old broken.new) }
+    ensures noted { IfOk result (λ _. Notes (text_broken rule pool.old token.now.kind token.now.text.now (seen_token token.now).place) broken.old broken.new) }
     ensures extends { Extends pool.old pool.new }
 {
     match token.kind {
-        TokenKind::Text => pool_text(alloc, token, pool, broken),
+        TokenKind::Text => pool_text(alloc, token, pool, rule, broken),
         TokenKind::Name | TokenKind::Int | TokenKind::Symbol | TokenKind::End => Ok(0),
     }
 }
 
-/// Adds the texts of all tokens to the pool, and answers for each token the number of its text, 0 for the other tokens.
-pub(crate) fn pool_texts(
+/// Adds the texts of all tokens to the pool, and answers for each token the number of its text, 0 for the other tokens. Where the pool is
+/// full, a text that it doesn't have is left out and has 0 too, and the rule is noted at its place.
+///
+/// The pool holds what it held, and perhaps further texts last, where there is no memory too. The tokens may be the first of a file alone.
+pub fn pool_texts(
     alloc: Global,
     tokens: &[Token<'_>],
     pool: &mut Pool,
+    rule: Rule,
     broken: &mut Earliest,
 ) -> Result<Vec<u32>, Memory>
-    requires { AreTokens (seen_tokens tokens.now) }
+    requires { AllQuoted (seen_tokens tokens.now) }
     ensures codes { IfOk result (λ v. v.items ≡ map (text_code pool.new) (seen_tokens tokens.now)) }
     ensures pooled { IfOk result (λ _. pool.new ≡ pooled_texts pool.old (seen_tokens tokens.now)) }
-    ensures noted { IfOk result (λ _. Notes (texts_broken pool.old (seen_tokens tokens.now)) broken.old broken.new) }
+    ensures noted { IfOk result (λ _. Notes (texts_broken rule pool.old (seen_tokens tokens.now)) broken.old broken.new) }
     ensures extends { Extends pool.old pool.new }
 {
     let mut codes = Vec::new(alloc);
     for token in tokens {
-        let code = pool_token(alloc, token, pool, broken)?;
+        let code = pool_token(alloc, token, pool, rule, broken)?;
         codes.push(code).map_err(|_| Memory)?;
     }
     Ok(codes)

@@ -1,17 +1,17 @@
 use Rattle.std.proofs.Common.{◌∙◌, [], ◌∷◌, ap, sym, subst, Err}
 use Rattle.broken_rules.proofs.Noting.{notes_if, notes_none}
 use Rattle.broken_rules.specs.Notes.{Notes, at}
-use Rattle.broken_rules.specs.declared.rule.Rule.TheVariants.{N7}
 use Rattle.rag_io.proofs.Meant.{stands_meant}
 use Rattle.rag_io.specs.Pool.{number_of, with_text}
 use Rattle.rag_io.specs.Tokens.{seen_token}
 use Rattle.rag_io.specs.Unquoted.{meant}
-use Rattle.tree_reader.proofs.Pooled.{code_found, code_full, is_full, not_past, pooled_added, pooled_full}
-use Rattle.tree_reader.proofs.texts.pool_text.Goals as goal
+use Rattle.token_texts.proofs.Pooled.{code_found, code_full, is_full, not_past, pooled_added, pooled_full}
+use Rattle.token_texts.proofs.texts.pool_text.Goals as goal
 
 pub returns-in-Ok-clause-code : goal.returns-in-Ok-clause-code
 returns-in-Ok-clause-code c =
-    code_found c.add.new.self c.deref.result.now (meant c.args.token.now.text.now) c.in-Ok.number c.in-Ok.ensures.number (c.deref.ensures.value ∙ stands_meant c.in_ok-text.ensures)
+    code_found c.add.new.self c.deref.result.now (meant c.args.token.now.text.now) c.in-Ok.number c.in-Ok.ensures.number
+    (c.deref.ensures.value ∙ stands_meant c.in_ok-text.ensures)
 
 pub returns-in-Ok-clause-pooled : goal.returns-in-Ok-clause-pooled
 returns-in-Ok-clause-pooled c =
@@ -22,12 +22,13 @@ pub returns-in-Ok-clause-noted : goal.returns-in-Ok-clause-noted
 returns-in-Ok-clause-noted c =
     let added = c.in-Ok.ensures.added ∙ ap (with_text c.args.pool.now) (c.deref.ensures.value ∙ stands_meant c.in_ok-text.ensures) in
     let no = not_past c.args.pool.now c.add.new.self (meant c.args.token.now.text.now) added c.add.ensures.pool.few in
-    notes_if _ _ (at (seen_token c.args.token.now).place N7) (sym no) notes_none
+    notes_if _ _ (at (seen_token c.args.token.now).place c.args.rule) (sym no) notes_none
 
 pub returns-in-Err-Full-clause-code : goal.returns-in-Err-Full-clause-code
 returns-in-Err-Full-clause-code c =
     let full = c.add.ensures.full.0 (c.in-Err-Full.is ∙ ap Err c.in-Err-Full.field-0-is) in
-    code_full c.args.pool.now c.add.new.self c.deref.result.now (meant c.args.token.now.text.now) full.0 c.in-Err-Full.ensures.refused (c.deref.ensures.value ∙ stands_meant c.in_ok-text.ensures)
+    code_full c.args.pool.now c.add.new.self c.deref.result.now (meant c.args.token.now.text.now) full.0 c.in-Err-Full.ensures.refused
+    (c.deref.ensures.value ∙ stands_meant c.in_ok-text.ensures)
 
 pub returns-in-Err-Full-clause-pooled : goal.returns-in-Err-Full-clause-pooled
 returns-in-Err-Full-clause-pooled c =
@@ -40,4 +41,5 @@ returns-in-Err-Full-clause-noted c =
     let full = c.add.ensures.full.0 (c.in-Err-Full.is ∙ ap Err c.in-Err-Full.field-0-is) in
     let none = ap (number_of c.args.pool.now) (sym (c.deref.ensures.value ∙ stands_meant c.in_ok-text.ensures)) ∙ full.0 in
     let yes = is_full c.args.pool.now (meant c.args.token.now.text.now) none full.1 in
-    notes_if _ _ (at (seen_token c.args.token.now).place N7) (sym yes) (subst (λ p. Notes (at p N7 ∷ []) c.args.broken.now c.note.new.self) c.place_of.ensures c.note.ensures)
+    notes_if _ _ (at (seen_token c.args.token.now).place c.args.rule) (sym yes)
+    (subst (λ p. Notes (at p c.args.rule ∷ []) c.args.broken.now c.note.new.self) c.place_of.ensures c.note.ensures)

@@ -1,38 +1,48 @@
 -- A text goes into a pool: which numbers stay, and what adding it answers.
-use Rattle.std.proofs.Common.{◌≡◌, ℕ, ◌+◌, ◌≤◌, List, [], ◌∷◌, ◌++◌, Bool, true, false, ◌&&◌, nat_le, length, Option, Some, None, is_none, is_some, if◌then◌else◌, refl, sym, ap, subst, ◌∙◌, append_assoc, arith, length-append}
+use Rattle.std.proofs.Common.{◌≡◌, ℕ, ◌+◌, ◌<◌, ◌≤◌, List, [], ◌∷◌, ◌++◌, Bool, true, false, ◌&&◌, nat_le, nat_lt, length, get_or, Option, Some, None, is_none, is_some, if◌then◌else◌, refl, sym, ap, subst, ◌∙◌, append_assoc, arith, length-append}
 use Rattle.std.proofs.lemmas.List.{append-nil, get_or_append_left, get_or_default}
 use Rattle.std.proofs.lemmas.List.Folds.{list_any_at}
 use Rattle.std.proofs.lemmas.List.Quantifiers.{position-Some}
-use Rattle.std.proofs.lemmas.Bool.{both_ways, false_from_ne_true}
+use Rattle.std.proofs.lemmas.List.Sums.{position_or_len_is}
+use Rattle.std.specs.List.{position_or_len}
+use Rattle.std.proofs.lemmas.Bool.{both_ways, cond-true, false_from_ne_true, lt-ltb}
 use Rattle.std.proofs.lemmas.Bool.Decides.{nat_tests}
 use Rattle.std.proofs.lemmas.Slice.Eq.{bytes_eq-Decides}
 use Rattle.std.proofs.Math.Seq.{get_or-append_seam}
 use Rattle.std.specs.Str.{bytes_eq}
-use Rattle.ast_grammar.proofs.Positions.{position_here}
 use Rattle.rag_io.proofs.Numbers.{absent}
 use Rattle.rag_io.specs.Pool.{most_texts, number_of, with_text}
 use Rattle.rag_io.specs.Tokens.{Lexed}
 use Rattle.rag_io.specs.Unquoted.{meant}
 use Rattle.rag_io.specs.declared.token.TokenKind.{TokenKind}
 use Rattle.rag_io.specs.declared.token.TokenKind.TheVariants as kinds
-use Rattle.tree_reader.specs.Breaking.{is_past, pooled, pooled_by_kind, pooled_texts}
-use Rattle.tree_reader.specs.Grown.{or_zero}
-use Rattle.tree_reader.specs.Laying.{code_by_kind}
-use Rattle.tree_reader.specs.Reading.{Extends}
+use Rattle.token_texts.specs.Texts.{Extends, code_by_kind, is_past, or_zero, pooled, pooled_by_kind, pooled_texts}
+
+-- a text has the number of the first place at which it stands
+number_here : (pool : List (List ℕ)) (text : List ℕ) (n : ℕ) → n < length pool → ((k : ℕ) (d : List ℕ) → k < n → bytes_eq text (get_or pool k d) ≡ false)
+    → ((d : List ℕ) → bytes_eq text (get_or pool n d) ≡ true) → number_of pool text ≡ Some n
+number_here pool text n within before here =
+    let is : position_or_len (bytes_eq text) pool ≡ n =
+    position_or_len_is (bytes_eq text) pool n [] (omega (arith, within)) (λ k. before k []) (λ h. here []) in
+    let there : nat_lt (position_or_len (bytes_eq text) pool) (length pool) ≡ true =
+    lt-ltb (position_or_len (bytes_eq text) pool) (length pool) (omega (arith, is, within)) in
+    cond-true _ _ _ there ∙ ap Some is
 
 -- the number of a text that is there stays where texts follow behind
 number_stays : (pool more : List (List ℕ)) (text : List ℕ) (n : ℕ) → number_of pool text ≡ Some n → number_of (pool ++ more) text ≡ Some n
 number_stays pool more text n is =
     let found = position-Some (bytes_eq text) pool n [] is in
-    position_here (bytes_eq text) (pool ++ more) n (omega (arith, found.0, length-append pool more))
-    (λ k d lt. ap (bytes_eq text) (get_or_append_left pool more d k (omega (arith, found.0, lt)) ∙ get_or_default pool k d [] (omega (arith, found.0, lt))) ∙ found.2 k lt)
+    number_here (pool ++ more) text n (omega (arith, found.0, length-append pool more))
+    (λ k d lt. ap (bytes_eq text) (get_or_append_left pool more d k (omega (arith, found.0, lt))
+    ∙ get_or_default pool k d [] (omega (arith, found.0, lt))) ∙ found.2 k lt)
     (λ d. ap (bytes_eq text) (get_or_append_left pool more d n found.0 ∙ get_or_default pool n d [] found.0) ∙ found.1)
 
 -- a text that wasn't there has the number of the place at which it was put
 number_last : (pool : List (List ℕ)) (text : List ℕ) → number_of pool text ≡ None → number_of (pool ++ text ∷ []) text ≡ Some (length pool)
 number_last pool text none =
-    position_here (bytes_eq text) (pool ++ text ∷ []) (length pool) (omega (arith, length-append pool (text ∷ [])))
-    (λ k d lt. ap (bytes_eq text) (get_or_append_left pool (text ∷ []) d k lt) ∙ false_from_ne_true _ (λ same. both_ways _ (absent text pool none) (list_any_at (bytes_eq text) pool k d lt same)))
+    number_here (pool ++ text ∷ []) text (length pool) (omega (arith, length-append pool (text ∷ [])))
+    (λ k d lt. ap (bytes_eq text) (get_or_append_left pool (text ∷ []) d k lt)
+    ∙ false_from_ne_true _ (λ same. both_ways _ (absent text pool none) (list_any_at (bytes_eq text) pool k d lt same)))
     (λ d. ap (bytes_eq text) (get_or-append_seam pool text [] d) ∙ (bytes_eq-Decides text text).1 refl)
 
 -- what pooling makes of a pool, by the number of the text and by whether the pool is full
@@ -46,7 +56,8 @@ data IsPooled (pool : List (List ℕ)) (text : List ℕ) : List (List ℕ) → T
   last : number_of pool text ≡ None → nat_le most_texts (length pool) ≡ false → IsPooled pool text (pool ++ text ∷ [])
 
 -- what is chosen is pooled, by the number of the text and by whether the pool is full
-chosen_is : (pool : List (List ℕ)) (text : List ℕ) (number : Option ℕ) (is_full : Bool) → number_of pool text ≡ number → nat_le most_texts (length pool) ≡ is_full → IsPooled pool text (chosen pool text number is_full)
+chosen_is : (pool : List (List ℕ)) (text : List ℕ) (number : Option ℕ) (is_full : Bool) → number_of pool text ≡ number
+    → nat_le most_texts (length pool) ≡ is_full → IsPooled pool text (chosen pool text number is_full)
 chosen_is pool text None true number is_full = full number is_full
 chosen_is pool text None false number is_full = last number is_full
 chosen_is pool text (Some n) is_full number _ = known n number
@@ -142,14 +153,16 @@ pub extends_pooled : {pool more : List (List ℕ)} (text : List ℕ) → more �
 extends_pooled {pool} text is = subst (Extends pool) (sym is) (extends_one (is_pooled pool text))
 
 -- the number that adding a text answers
-pub code_found : (pool : List (List ℕ)) (bytes text : List ℕ) (number : ℕ) → number_of pool bytes ≡ Some number → bytes ≡ text → number ≡ or_zero (number_of pool text)
+pub code_found : (pool : List (List ℕ)) (bytes text : List ℕ) (number : ℕ) → number_of pool bytes ≡ Some number → bytes ≡ text
+    → number ≡ or_zero (number_of pool text)
 code_found pool bytes text number found same = ap or_zero (sym found ∙ ap (number_of pool) same)
 
 -- there was room for it
 pub not_past : (old new : List (List ℕ)) (text : List ℕ) → new ≡ with_text old text → length new ≤ most_texts → is_past old text ≡ false
 not_past old new text added few = go (number_of old text) (nat_le most_texts (length old)) refl refl
   where
-    go : (number : Option ℕ) (is_full : Bool) → number_of old text ≡ number → nat_le most_texts (length old) ≡ is_full → (is_none (number_of old text) && nat_le most_texts (length old)) ≡ false
+    go : (number : Option ℕ) (is_full : Bool) → number_of old text ≡ number → nat_le most_texts (length old) ≡ is_full
+        → (is_none (number_of old text) && nat_le most_texts (length old)) ≡ false
     go (Some n) is_full number room = (λ i. is_none (number i) && nat_le most_texts (length old))
     go None false number room = (λ i. is_none (number i) && room i)
     go None true number room =
