@@ -1,0 +1,24 @@
+-- What was taken from a stack, and what is made of it.
+use Rattle.std.proofs.Common.{◌≡◌, List, Option, Some, None, Result, Ok, Err, sym, ap, subst, ◌∙◌}
+use Rattle.std.specs.Result.{IsErr}
+use Rattle.jrag_reader.specs.Parts.{Part, take}
+use Rattle.jrag_reader.specs.Stack.{Makes, Takes}
+use Rattle.jrag_reader.specs.declared.parts.Unbuilt.{Unbuilt}
+
+-- What was taken goes on with the parts below.
+pub taking : {A B M : Type 0} (seen : M → A) (o : Option (A × List Part)) (k : A → List Part → Option B) (x : M) (new : List Part)
+    → Takes seen o (Ok x) new → take o k ≡ k (seen x) new
+taking seen None k x new taken = elim taken [ ]
+taking seen (Some (a, parts)) k x new taken = sym (ap (λ z. k z new) taken.0 ∙ ap (k a) taken.1)
+
+-- What is made of what was taken and of the parts below is made of the whole.
+pub making : {A B M : Type 0} (seen : M → A) (o : Option (A × List Part)) (k : A → List Part → Option B) (x : M) (below : List Part)
+    (r : Result (Unit {0}) Unbuilt) (new : B) → Takes seen o (Ok x) below → Makes (k (seen x) below) r new → Makes (take o k) r new
+making seen o k x below r new taken made = subst (λ z. Makes z r new) (sym (taking seen o k x below taken)) made
+
+-- Where what is asked for isn't there, nothing is made.
+pub refusing : {A B M : Type 0} (seen : M → A) (o : Option (A × List Part)) (k : A → List Part → Option B) (u : Unbuilt) (below : List Part)
+    (r : Result (Unit {0}) Unbuilt) (new : B) → Takes seen o (Err u) below → IsErr r → Makes (take o k) r new
+refusing seen None k u below (Ok x) new missed failed = absurd (cc)
+refusing seen None k u below (Err v) new missed failed = tt
+refusing seen (Some a) k u below r new missed failed = elim missed [ ]

@@ -1,0 +1,84 @@
+-- Which items and expressions are built so far: those that plain synthesized attributes need.
+use Rattle.std.specs.Prelude.{ℕ, List, [], ◌∷◌, Bool, true, false, not, ◌&&◌, Option, Some, None, codes}
+use Rattle.rag_io.specs.Words.{is_one_of}
+use Rattle.jrag_reader.specs.Expressions.{Expr, Arguments, no_more, argument, Truth, Null, Empty, This, Int, Text, Source, Variable, Call, Member, New, Quantified, Group, Cast, Not, Negate, Binary, InstanceOf, If}
+use Rattle.jrag_reader.specs.Items.{TypeName, Boolean, Integer, String, Class, WrittenType, Parameter, Signature, Circular, Synthesized, Equation, Item, Declared, Inherits, Equates, Collects, Contributes}
+
+-- the words of the forms on sets, which are calls without receiver
+abbrev pub set_forms : List (List ℕ)
+set_forms = codes "single" ∷ codes "union" ∷ codes "inter" ∷ codes "minus" ∷ codes "contains" ∷ codes "size" ∷ []
+
+abbrev mutual
+  pub is_built : Expr → Bool
+  is_built (Truth p b) = true
+  is_built (Null p) = true
+  is_built (Empty p) = false
+  is_built (This p) = true
+  is_built (Int p n) = true
+  is_built (Text p n) = true
+  is_built (Source p n) = true
+  is_built (Variable n) = true
+  is_built (Call n es) = not (is_one_of set_forms n.text) && are_built es
+  is_built (Member e n es) = is_built e && are_built es
+  is_built (New p n es) = false
+  is_built (Quantified q p n range e) = false
+  is_built (Group p e) = is_built e
+  is_built (Cast p n e) = false
+  is_built (Not p e) = is_built e
+  is_built (Negate p e) = is_built e
+  is_built (Binary o a b) = is_built a && is_built b
+  is_built (InstanceOf e n) = false
+  is_built (If c a b) = is_built c && (is_built a && is_built b)
+
+  pub are_built : Arguments → Bool
+  are_built no_more = true
+  are_built (argument e es) = is_built e && are_built es
+
+-- `boolean`, `int` or `String`
+abbrev pub is_plain_name : TypeName → Bool
+is_plain_name Boolean = true
+is_plain_name Integer = true
+is_plain_name String = true
+is_plain_name (Class name) = false
+
+abbrev pub is_plain : WrittenType → Bool
+is_plain t = not t.set && is_plain_name t.name
+
+abbrev pub are_none : List Parameter → Bool
+are_none [] = true
+are_none (p ∷ ps) = false
+
+abbrev pub has_none : Signature → Bool
+has_none s = are_none s.parameters
+
+abbrev pub is_built_body : Option Expr → Bool
+is_built_body None = true
+is_built_body (Some e) = is_built e
+
+abbrev pub is_not_circular : Option Circular → Bool
+is_not_circular None = true
+is_not_circular (Some c) = false
+
+abbrev pub has_no_path : Option Signature → Bool
+has_no_path None = true
+has_no_path (Some s) = false
+
+-- a declaration without `nta`, `circular` and parameters, of a plain type
+abbrev pub is_built_declaration : Synthesized → Bool
+is_built_declaration s = not s.higher_order && (is_plain s.of && (has_none s.signature && (is_not_circular s.circular && is_built_body s.body)))
+
+-- an equation without path and parameters
+abbrev pub is_built_equation : Equation → Bool
+is_built_equation e = has_none e.signature && (has_no_path e.inherited && is_built e.body)
+
+abbrev pub is_built_item : Item → Bool
+is_built_item (Declared s) = is_built_declaration s
+is_built_item (Inherits i) = false
+is_built_item (Equates e) = is_built_equation e
+is_built_item (Collects c) = false
+is_built_item (Contributes c) = false
+
+-- all items are built
+abbrev pub all_built : List Item → Bool
+all_built [] = true
+all_built (i ∷ items) = is_built_item i && all_built items

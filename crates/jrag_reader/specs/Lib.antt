@@ -1,0 +1,13 @@
+pub mod Answers
+pub mod Building
+pub mod Built
+pub mod Expressions
+pub mod Forms
+pub mod Items
+pub mod Limits
+pub mod Making
+pub mod Parts
+pub mod Reading
+pub mod Running
+pub mod Saying
+pub mod Stack

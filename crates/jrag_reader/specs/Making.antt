@@ -1,0 +1,337 @@
+-- What each form makes of its parts, which lie on a stack, the last one on top. The forms have the numbers of the actions of the grammar.
+use Rattle.std.specs.Prelude.{ℕ, ◌==◌, min, true, false, List, [], ◌∷◌, ◌++◌, Option, Some, None, if◌then◌else◌}
+use Rattle.std.specs.Option.{option_map}
+use Rattle.rag_io.specs.Decimal.{decimal}
+use Rattle.rag_io.specs.Tokens.{Lexed}
+use Rattle.jrag_syntax.specs.Tokens.{token_class}
+use Rattle.jrag_syntax.specs.declared.classes.Start.{Start}
+use Rattle.jrag_reader.specs.declared.expression.Operator.{Operator}
+use Rattle.jrag_reader.specs.declared.expression.Operator.TheVariants as operators
+use Rattle.jrag_reader.specs.declared.expression.Quantifier.{Quantifier}
+use Rattle.jrag_reader.specs.declared.expression.Quantifier.TheVariants as quantifiers
+use Rattle.jrag_reader.specs.Expressions as expressions
+use Rattle.jrag_reader.specs.Expressions.{Expr, Name, arguments_of}
+use Rattle.jrag_reader.specs.Items.{TypeName, Boolean, Integer, String, Class, Parameter, Signature, Declared, Inherits, Equates, Collects, Contributes}
+use Rattle.jrag_reader.specs.Parts.{Part, Named, Quantifying, Formed, Arguments, Typed, Parameters, Flag, Modifiers, Circularity, Perhaps, Behind, PerhapsNamed, Made, Items, Opened}
+use Rattle.jrag_reader.specs.Parts.{take, top, token_in, name_in, quantifier_in, expr_in, arguments_in, type_in, parameters_in, flag_in, modifiers_in, circularity_in, perhaps_in, behind_in, perhaps_named_in, item_in, items_in, opened_in}
+
+-- the largest integer that is kept; a larger one is kept as this
+abbrev pub most_kept : ℕ
+most_kept = 4294967295
+
+abbrev pub name_of : Lexed → Name
+name_of t = record { text = t.text; place = t.place }
+
+abbrev pub integer_of : Lexed → ℕ
+integer_of t = min (decimal t.text) most_kept
+
+-- a literal by the class of its token
+abbrev pub literal_by : ℕ → Lexed → Option Expr
+literal_by c t =
+    if c == 2 then Some (expressions.Int t.place (integer_of t))
+    else if c == 15 then Some (expressions.This t.place)
+    else if c == 16 then Some (expressions.Truth t.place true)
+    else if c == 17 then Some (expressions.Truth t.place false)
+    else if c == 18 then Some (expressions.Null t.place)
+    else if c == 19 then Some (expressions.Empty t.place)
+    else None
+
+-- an operator by the class of its token: first those that compare
+abbrev pub comparison_by : ℕ → Option Operator
+comparison_by c =
+    if c == 47 then Some operators.Equal
+    else if c == 48 then Some operators.Differ
+    else if c == 49 then Some operators.Less
+    else if c == 50 then Some operators.AtMost
+    else if c == 51 then Some operators.Greater
+    else if c == 52 then Some operators.AtLeast
+    else None
+
+abbrev pub operator_by : ℕ → Option Operator
+operator_by c =
+    if c == 45 then Some operators.Or
+    else if c == 46 then Some operators.And
+    else if c == 53 then Some operators.Add
+    else if c == 54 then Some operators.Subtract
+    else if c == 55 then Some operators.Multiply
+    else comparison_by c
+
+abbrev pub quantifier_by : ℕ → Option Quantifier
+quantifier_by c =
+    if c == 29 then Some quantifiers.Each
+    else if c == 30 then Some quantifiers.Any
+    else if c == 31 then Some quantifiers.All
+    else if c == 32 then Some quantifiers.First
+    else None
+
+-- the name of a type by the class of its token
+abbrev pub type_name_by : ℕ → List ℕ → TypeName
+type_name_by c text =
+    if c == 22 then Boolean
+    else if c == 23 then Integer
+    else if c == 24 then String
+    else Class text
+
+-- a word: the name that it is, and perhaps the quantifier
+abbrev pub named : Option Quantifier → Name → Part
+named None n = Named n
+named (Some q) n = Quantifying q n
+
+abbrev pub make_text : List Part → Option (List Part)
+make_text parts = take (top token_in parts) (λ t parts. Some (Formed (expressions.Text t.0.place t.1) ∷ parts))
+
+-- `@` and an integer
+abbrev pub make_source : List Part → Option (List Part)
+make_source parts = take (top token_in parts) (λ digits parts. take (top token_in parts) (λ at parts. Some (Formed (expressions.Source at.0.place (integer_of digits.0)) ∷ parts)))
+
+abbrev pub make_first_argument : List Part → Option (List Part)
+make_first_argument parts = take (top expr_in parts) (λ e parts. Some (Arguments (e ∷ []) ∷ parts))
+
+-- a further argument, behind a comma
+abbrev pub make_argument : List Part → Option (List Part)
+make_argument parts = take (top expr_in parts) (λ e parts. take (top token_in parts) (λ comma parts. take (top arguments_in parts) (λ es parts. Some (Arguments (es ++ e ∷ []) ∷ parts))))
+
+-- arguments in parentheses
+abbrev pub arguments_on : List Part → Option (List Expr × List Part)
+arguments_on parts = take (top token_in parts) (λ close parts. take (top arguments_in parts) (λ es parts. take (top token_in parts) (λ opening parts. Some (es, parts))))
+
+abbrev pub make_call : List Part → Option (List Part)
+make_call parts = take (arguments_on parts) (λ es parts. take (top name_in parts) (λ n parts. Some (Formed (expressions.Call n (arguments_of es)) ∷ parts)))
+
+abbrev pub make_member : List Part → Option (List Part)
+make_member parts = take (arguments_on parts) (λ es parts. take (top name_in parts) (λ n parts. take (top token_in parts) (λ dot parts. take (top expr_in parts) (λ e parts.
+    Some (Formed (expressions.Member e n (arguments_of es)) ∷ parts)))))
+
+abbrev pub make_new : List Part → Option (List Part)
+make_new parts = take (arguments_on parts) (λ es parts. take (top name_in parts) (λ n parts. take (top token_in parts) (λ word parts. Some (Formed (expressions.New word.0.place n (arguments_of es)) ∷ parts))))
+
+-- a quantifier, a bound name and `:` in parentheses with the range, `|` and what is read
+abbrev pub make_quantified : List Part → Option (List Part)
+make_quantified parts = take (top token_in parts) (λ close parts. take (top expr_in parts) (λ read parts. take (top token_in parts) (λ bar parts. take (top expr_in parts) (λ range parts.
+    take (top token_in parts) (λ colon parts. take (top name_in parts) (λ bound parts. take (top token_in parts) (λ opening parts. take (top quantifier_in parts) (λ q parts.
+    Some (Formed (expressions.Quantified q.0 q.1.place bound range read) ∷ parts)))))))))
+
+abbrev pub make_group : List Part → Option (List Part)
+make_group parts = take (top token_in parts) (λ close parts. take (top expr_in parts) (λ e parts. take (top token_in parts) (λ opening parts. Some (Formed (expressions.Group opening.0.place e) ∷ parts))))
+
+abbrev pub make_cast : List Part → Option (List Part)
+make_cast parts = take (top expr_in parts) (λ e parts. take (top token_in parts) (λ close parts. take (top name_in parts) (λ n parts. take (top token_in parts) (λ opening parts.
+    Some (Formed (expressions.Cast opening.0.place n e) ∷ parts)))))
+
+abbrev pub make_not : List Part → Option (List Part)
+make_not parts = take (top expr_in parts) (λ e parts. take (top token_in parts) (λ sign parts. Some (Formed (expressions.Not sign.0.place e) ∷ parts)))
+
+abbrev pub make_negate : List Part → Option (List Part)
+make_negate parts = take (top expr_in parts) (λ e parts. take (top token_in parts) (λ sign parts. Some (Formed (expressions.Negate sign.0.place e) ∷ parts)))
+
+abbrev pub make_instance : List Part → Option (List Part)
+make_instance parts = take (top name_in parts) (λ n parts. take (top token_in parts) (λ word parts. take (top expr_in parts) (λ e parts. Some (Formed (expressions.InstanceOf e n) ∷ parts))))
+
+abbrev pub make_choice : List Part → Option (List Part)
+make_choice parts = take (top expr_in parts) (λ b parts. take (top token_in parts) (λ colon parts. take (top expr_in parts) (λ a parts. take (top token_in parts) (λ mark parts. take (top expr_in parts) (λ c parts.
+    Some (Formed (expressions.If c a b) ∷ parts))))))
+
+-- the items of no aspect
+abbrev pub make_no_items : List Part → Option (List Part)
+make_no_items parts = Some (Items [] ∷ parts)
+
+-- an aspect behind others, up to its `{`
+abbrev pub make_open : List Part → Option (List Part)
+make_open parts = take (top token_in parts) (λ brace parts. take (top name_in parts) (λ n parts. take (top token_in parts) (λ word parts. take (top items_in parts) (λ is parts. Some (Opened is ∷ parts)))))
+
+-- a further item
+abbrev pub make_item : List Part → Option (List Part)
+make_item parts = take (top item_in parts) (λ i parts. take (top opened_in parts) (λ is parts. Some (Opened (is ++ i ∷ []) ∷ parts)))
+
+abbrev pub make_close : List Part → Option (List Part)
+make_close parts = take (top token_in parts) (λ brace parts. take (top opened_in parts) (λ is parts. Some (Items is ∷ parts)))
+
+-- a name, and its parameters in parentheses
+abbrev pub signature_on : List Part → Option (Signature × List Part)
+signature_on parts = take (top token_in parts) (λ close parts. take (top parameters_in parts) (λ ps parts. take (top token_in parts) (λ opening parts. take (top name_in parts) (λ n parts.
+    Some (record { name = n; parameters = ps }, parts)))))
+
+-- a class, and `.` behind it
+abbrev pub class_on : List Part → Option (Name × List Part)
+class_on parts = take (top token_in parts) (λ dot parts. take (top name_in parts) (λ c parts. Some (c, parts)))
+
+-- a class, `.`, a name and empty parentheses: first the name, then the class
+abbrev pub target_on : List Part → Option ((Name × Name) × List Part)
+target_on parts = take (top token_in parts) (λ close parts. take (top token_in parts) (λ opening parts. take (top name_in parts) (λ n parts. take (class_on parts) (λ c parts. Some ((n, c), parts)))))
+
+abbrev pub make_synthesized : List Part → Option (List Part)
+make_synthesized parts = take (top token_in parts) (λ semicolon parts. take (top perhaps_in parts) (λ body parts. take (top circularity_in parts) (λ circular parts. take (signature_on parts) (λ signature parts.
+    take (class_on parts) (λ class parts. take (top type_in parts) (λ of parts. take (top modifiers_in parts) (λ modifiers parts. take (top token_in parts) (λ word parts.
+    Some (Made (Declared (record { lazy = modifiers.0; higher_order = modifiers.1; of = of; class = class; signature = signature; circular = circular; body = body })) ∷ parts)))))))))
+
+abbrev pub make_inherited : List Part → Option (List Part)
+make_inherited parts = take (top token_in parts) (λ semicolon parts. take (top circularity_in parts) (λ circular parts. take (signature_on parts) (λ signature parts. take (class_on parts) (λ class parts.
+    take (top type_in parts) (λ of parts. take (top flag_in parts) (λ lazy parts. take (top token_in parts) (λ word parts.
+    Some (Made (Inherits (record { lazy = lazy; of = of; class = class; signature = signature; circular = circular })) ∷ parts))))))))
+
+abbrev pub make_equation : List Part → Option (List Part)
+make_equation parts = take (top token_in parts) (λ semicolon parts. take (top expr_in parts) (λ body parts. take (top token_in parts) (λ equals parts. take (top behind_in parts) (λ inherited parts.
+    take (signature_on parts) (λ signature parts. take (class_on parts) (λ class parts. take (top token_in parts) (λ word parts.
+    Some (Made (Equates (record { class = class; signature = signature; inherited = inherited; body = body })) ∷ parts))))))))
+
+abbrev pub make_collection : List Part → Option (List Part)
+make_collection parts = take (top token_in parts) (λ semicolon parts. take (top perhaps_named_in parts) (λ root parts. take (top perhaps_named_in parts) (λ method parts. take (top token_in parts) (λ close parts.
+    take (top expr_in parts) (λ fresh parts. take (top token_in parts) (λ opening parts. take (target_on parts) (λ target parts. take (top type_in parts) (λ of parts. take (top token_in parts) (λ word parts.
+    Some (Made (Collects (record { of = of; class = target.1; name = target.0; fresh = fresh; method = method; root = root })) ∷ parts))))))))))
+
+abbrev pub make_contribution : List Part → Option (List Part)
+make_contribution parts = take (top token_in parts) (λ semicolon parts. take (top expr_in parts) (λ receiver parts. take (top token_in parts) (λ for parts. take (target_on parts) (λ target parts.
+    take (top token_in parts) (λ to parts. take (top perhaps_in parts) (λ condition parts. take (top expr_in parts) (λ value parts. take (top token_in parts) (λ word parts. take (top name_in parts) (λ contributor parts.
+    Some (Made (Contributes (record { contributor = contributor; value = value; condition = condition; class = target.1; name = target.0; receiver = receiver })) ∷ parts))))))))))
+
+-- a word that may be left out: it is there, or not
+abbrev pub make_present : List Part → Option (List Part)
+make_present parts = take (top token_in parts) (λ word parts. Some (Flag true ∷ parts))
+
+abbrev pub make_absent : List Part → Option (List Part)
+make_absent parts = Some (Flag false ∷ parts)
+
+abbrev pub make_no_modifiers : List Part → Option (List Part)
+make_no_modifiers parts = Some (Modifiers false false ∷ parts)
+
+-- `lazy`, and perhaps `nta`
+abbrev pub make_lazy_first : List Part → Option (List Part)
+make_lazy_first parts = take (top flag_in parts) (λ higher parts. take (top token_in parts) (λ word parts. Some (Modifiers true higher ∷ parts)))
+
+-- `nta`, and perhaps `lazy`
+abbrev pub make_higher_order_first : List Part → Option (List Part)
+make_higher_order_first parts = take (top flag_in parts) (λ lazy parts. take (top token_in parts) (λ word parts. Some (Modifiers lazy true ∷ parts)))
+
+abbrev pub make_no_parameters : List Part → Option (List Part)
+make_no_parameters parts = Some (Parameters [] ∷ parts)
+
+-- a type and a name
+abbrev pub parameter_on : List Part → Option (Parameter × List Part)
+parameter_on parts = take (top name_in parts) (λ n parts. take (top type_in parts) (λ t parts. Some (record { of = t; name = n }, parts)))
+
+abbrev pub make_first_parameter : List Part → Option (List Part)
+make_first_parameter parts = take (parameter_on parts) (λ p parts. Some (Parameters (p ∷ []) ∷ parts))
+
+abbrev pub make_parameter : List Part → Option (List Part)
+make_parameter parts = take (parameter_on parts) (λ p parts. take (top token_in parts) (λ comma parts. take (top parameters_in parts) (λ ps parts. Some (Parameters (ps ++ p ∷ []) ∷ parts))))
+
+abbrev pub make_circular : List Part → Option (List Part)
+make_circular parts = take (top token_in parts) (λ close parts. take (top expr_in parts) (λ bottom parts. take (top token_in parts) (λ opening parts. take (top token_in parts) (λ word parts.
+    Some (Circularity (Some (record { place = word.0.place; bottom = bottom })) ∷ parts)))))
+
+abbrev pub make_not_circular : List Part → Option (List Part)
+make_not_circular parts = Some (Circularity None ∷ parts)
+
+-- an expression behind `=` or `when`
+abbrev pub make_body : List Part → Option (List Part)
+make_body parts = take (top expr_in parts) (λ e parts. take (top token_in parts) (λ word parts. Some (Perhaps (Some e) ∷ parts)))
+
+abbrev pub make_no_body : List Part → Option (List Part)
+make_no_body parts = Some (Perhaps None ∷ parts)
+
+abbrev pub make_path : List Part → Option (List Part)
+make_path parts = take (signature_on parts) (λ signature parts. take (top token_in parts) (λ dot parts. Some (Behind (Some signature) ∷ parts)))
+
+abbrev pub make_no_path : List Part → Option (List Part)
+make_no_path parts = Some (Behind None ∷ parts)
+
+-- a name behind `with` or `root`
+abbrev pub make_named : List Part → Option (List Part)
+make_named parts = take (top name_in parts) (λ n parts. take (top token_in parts) (λ word parts. Some (PerhapsNamed (Some n) ∷ parts)))
+
+abbrev pub make_not_named : List Part → Option (List Part)
+make_not_named parts = Some (PerhapsNamed None ∷ parts)
+
+module _ (start : Start) where
+  abbrev pub make_name : List Part → Option (List Part)
+  make_name parts = take (top token_in parts) (λ t parts. Some (named (quantifier_by (token_class start t.0)) (name_of t.0) ∷ parts))
+
+  abbrev pub make_literal : List Part → Option (List Part)
+  make_literal parts = take (top token_in parts) (λ t parts. option_map (λ e. Formed e ∷ parts) (literal_by (token_class start t.0) t.0))
+
+  -- an operator between two operands
+  abbrev pub make_binary : List Part → Option (List Part)
+  make_binary parts = take (top expr_in parts) (λ b parts. take (top token_in parts) (λ sign parts. take (top expr_in parts) (λ a parts.
+      option_map (λ o. Formed (expressions.Binary o a b) ∷ parts) (operator_by (token_class start sign.0)))))
+
+  abbrev pub make_type : List Part → Option (List Part)
+  make_type parts = take (top token_in parts) (λ t parts. Some (Typed (record { place = t.0.place; set = false; name = type_name_by (token_class start t.0) t.0.text }) ∷ parts))
+
+  abbrev pub make_set : List Part → Option (List Part)
+  make_set parts = take (top token_in parts) (λ close parts. take (top token_in parts) (λ t parts. take (top token_in parts) (λ opening parts. take (top token_in parts) (λ word parts.
+      Some (Typed (record { place = word.0.place; set = true; name = type_name_by (token_class start t.0) t.0.text }) ∷ parts)))))
+
+  -- forms of expressions
+  abbrev pub make_expression : ℕ → List Part → Option (List Part)
+  make_expression form parts =
+      if form == 3 then make_name parts
+      else if form == 4 then make_literal parts
+      else if form == 5 then make_text parts
+      else if form == 6 then make_source parts
+      else if form == 10 then make_call parts
+      else if form == 11 then make_member parts
+      else if form == 12 then make_new parts
+      else if form == 13 then make_quantified parts
+      else if form == 14 then make_group parts
+      else if form == 15 then make_cast parts
+      else if form == 16 then make_not parts
+      else if form == 17 then make_negate parts
+      else if form == 18 then make_binary parts
+      else if form == 19 then make_binary parts
+      else if form == 20 then make_binary parts
+      else if form == 21 then make_instance parts
+      else if form == 22 then make_binary parts
+      else if form == 23 then make_binary parts
+      else if form == 24 then make_binary parts
+      else if form == 25 then make_choice parts
+      else None
+
+  -- parts of items
+  abbrev pub make_detail : ℕ → List Part → Option (List Part)
+  make_detail form parts =
+      if form == 7 then Some (Arguments [] ∷ parts)
+      else if form == 8 then make_first_argument parts
+      else if form == 9 then make_argument parts
+      else if form == 35 then make_present parts
+      else if form == 36 then make_absent parts
+      else if form == 37 then make_no_modifiers parts
+      else if form == 38 then make_lazy_first parts
+      else if form == 39 then make_higher_order_first parts
+      else if form == 40 then make_type parts
+      else if form == 41 then make_set parts
+      else if form == 42 then make_no_parameters parts
+      else if form == 43 then make_first_parameter parts
+      else if form == 44 then make_parameter parts
+      else if form == 45 then make_circular parts
+      else if form == 46 then make_not_circular parts
+      else make_expression form parts
+
+  abbrev pub make_optional : ℕ → List Part → Option (List Part)
+  make_optional form parts =
+      if form == 47 then make_body parts
+      else if form == 48 then make_no_body parts
+      else if form == 49 then make_path parts
+      else if form == 50 then make_no_path parts
+      else if form == 51 then make_named parts
+      else if form == 52 then make_not_named parts
+      else if form == 53 then make_named parts
+      else if form == 54 then make_not_named parts
+      else if form == 55 then make_body parts
+      else if form == 56 then make_no_body parts
+      else make_detail form parts
+
+  -- what an action makes of the parts; the first two only say where an outermost expression begins and ends
+  abbrev pub make : ℕ → List Part → Option (List Part)
+  make form parts =
+      if form == 1 then Some parts
+      else if form == 2 then Some parts
+      else if form == 26 then make_no_items parts
+      else if form == 27 then make_open parts
+      else if form == 28 then make_item parts
+      else if form == 29 then make_close parts
+      else if form == 30 then make_synthesized parts
+      else if form == 31 then make_inherited parts
+      else if form == 32 then make_equation parts
+      else if form == 33 then make_collection parts
+      else if form == 34 then make_contribution parts
+      else make_optional form parts

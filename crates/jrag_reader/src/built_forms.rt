@@ -1,0 +1,124 @@
+// Which items are built so far: those that plain synthesized attributes need.
+ghost use Rattle.std.specs.Prelude.{◌≡◌, map};
+ghost use Rattle.rag_io.specs.Words.{is_one_of};
+ghost use Rattle.jrag_reader.specs.Built.{all_built, are_built, has_none, is_built, is_built_declaration, is_built_equation, is_built_item, is_plain, set_forms};
+ghost use Rattle.jrag_reader.specs.Expressions.{arguments_of, seen_expr};
+ghost use Rattle.jrag_reader.specs.Items.{seen_aspects, seen_equation, seen_item, seen_signature, seen_synthesized, seen_type};
+
+use crate::aspects::Aspects;
+use crate::expression::Expr;
+use crate::items::{Equation, Item, Signature, Synthesized, Type, TypeName};
+
+// The word of a form on sets, which is a call without receiver.
+fn is_set_form(text: &[u8]) -> bool
+    ensures { result ≡ is_one_of set_forms text.now }
+{
+    text == b"single".as_slice()
+        || text == b"union".as_slice()
+        || text == b"inter".as_slice()
+        || text == b"minus".as_slice()
+        || text == b"contains".as_slice()
+        || text == b"size".as_slice()
+}
+
+// It goes down the expression, which has at most 400 tokens.
+#[cycle(built)]
+fn is_built_expr(expr: &Expr) -> bool
+    ensures { result ≡ is_built (seen_expr expr.now) }
+{
+    match expr {
+        Expr::Truth(..)
+        | Expr::Null(_)
+        | Expr::This(_)
+        | Expr::Int(..)
+        | Expr::Text(..)
+        | Expr::Source(..)
+        | Expr::Variable(_) => true,
+        Expr::Empty(_)
+        | Expr::New(..)
+        | Expr::Quantified(..)
+        | Expr::Cast(..)
+        | Expr::InstanceOf(..) => false,
+        Expr::Call(name, arguments) => { !is_set_form(&name.text) && are_built_exprs(arguments) }
+        Expr::Member(receiver, _, arguments) => {
+            is_built_expr(receiver) && are_built_exprs(arguments)
+        }
+        Expr::Group(_, inner) | Expr::Not(_, inner) | Expr::Negate(_, inner) => {
+            is_built_expr(inner)
+        }
+        Expr::Binary(_, left, right) => is_built_expr(left) && is_built_expr(right),
+        Expr::If(condition, then, otherwise) => {
+            is_built_expr(condition) && is_built_expr(then) && is_built_expr(otherwise)
+        }
+    }
+}
+
+#[cycle(built)]
+fn are_built_exprs(exprs: &[Expr]) -> bool
+    ensures { result ≡ are_built (arguments_of (map seen_expr exprs.now)) }
+{
+    for expr in exprs {
+        if !is_built_expr(expr) {
+            return false;
+        }
+    }
+    true
+}
+
+fn is_plain(of: &Type) -> bool
+    ensures { result ≡ is_plain (seen_type of.now) }
+{
+    !of.set
+        && match of.name {
+            TypeName::Boolean | TypeName::Int | TypeName::String => true,
+            TypeName::Class(_) => false,
+        }
+}
+
+fn has_none(signature: &Signature) -> bool
+    ensures { result ≡ has_none (seen_signature signature.now) }
+{
+    signature.parameters.is_empty()
+}
+
+fn is_built_declaration(declared: &Synthesized) -> bool
+    ensures { result ≡ is_built_declaration (seen_synthesized declared.now) }
+{
+    !declared.higher_order
+        && is_plain(&declared.of)
+        && has_none(&declared.signature)
+        && declared.circular.is_none()
+        && match &declared.body {
+            Some(body) => is_built_expr(body),
+            None => true,
+        }
+}
+
+fn is_built_equation(equation: &Equation) -> bool
+    ensures { result ≡ is_built_equation (seen_equation equation.now) }
+{
+    has_none(&equation.signature) && equation.inherited.is_none() && is_built_expr(&equation.body)
+}
+
+fn is_built_item(item: &Item) -> bool
+    ensures { result ≡ is_built_item (seen_item item.now) }
+{
+    match item {
+        Item::Synthesized(declared) => is_built_declaration(declared),
+        Item::Equation(equation) => is_built_equation(equation),
+        Item::Inherited(_) | Item::Collection(_) | Item::Contribution(_) => false,
+    }
+}
+
+/// Whether every form is one that plain synthesized attributes need: items `syn` without `nta`, `circular` and parameters, of type `boolean`, `int` or `String`, and
+/// `eq` without path and parameters; expressions without `new`, `empty`, casts, `instanceof`, quantifiers and the forms on sets.
+pub fn built(aspects: &Aspects) -> bool
+    ensures { result ≡ all_built (seen_aspects aspects.now) }
+{
+    for item in &aspects.items {
+        if !is_built_item(item) {
+            return false;
+        }
+    }
+    true
+}

@@ -1,0 +1,118 @@
+// Which items are evaluated so far.
+use super::*;
+
+const BUILT: [&str; 17] = [
+    "",
+    "syn int N.v();",
+    "syn int N.v() = 1;",
+    "syn lazy boolean N.v() = true;",
+    "syn String N.v() = \"x\";",
+    "eq N.v() = this;",
+    "eq N.v() = null;",
+    "eq N.v() = x;",
+    "eq N.v() = v(1, w()).x(y.z(2));",
+    "eq N.v() = (1 + 2) * -3 - 4;",
+    "eq N.v() = a < b == c >= d || !e && f != g;",
+    "eq N.v() = a ? b : c;",
+    "eq N.v() = x.size();",
+    "eq N.v() = x.single(y.union());",
+    "eq N.v() = Size(sizes(), first(any()));",
+    "eq N.v() = size;",
+    "syn int N.v() = 1; eq N.v() = 2; eq M.v() = 3;",
+];
+
+const NOT_BUILT: [&str; 56] = [
+    // Declarations and items.
+    "syn nta N N.v();",
+    "syn nta int N.v();",
+    "syn int N.v(int i);",
+    "syn int N.v(int i) = 1;",
+    "syn N N.v();",
+    "syn Set<int> N.v();",
+    "syn Set<N> N.v();",
+    "syn boolean N.v() circular [false];",
+    "syn boolean N.v() circular [false] = true;",
+    "inh int N.v();",
+    "eq N.v(int i) = 1;",
+    "eq N.getM().v() = 1;",
+    "eq N.getM(int i).v() = 1;",
+    "eq N.getM().v(int i) = 1;",
+    "coll int N.v() [0];",
+    "N contributes 1 to M.v() for this;",
+    // Expressions.
+    "eq N.v() = empty;",
+    "eq N.v() = new C();",
+    "eq N.v() = (C) x;",
+    "eq N.v() = x instanceof C;",
+    "eq N.v() = each(x : r | b);",
+    "eq N.v() = any(x : r | b);",
+    "eq N.v() = all(x : r | b);",
+    "eq N.v() = first(x : r | b);",
+    "eq N.v() = single(1);",
+    "eq N.v() = union(a, b);",
+    "eq N.v() = inter(a, b);",
+    "eq N.v() = minus(a, b);",
+    "eq N.v() = contains(a, b);",
+    "eq N.v() = size(a);",
+    "eq N.v() = size();",
+    "syn int N.v() = empty;",
+    // The same inside of others.
+    "eq N.v() = (empty);",
+    "eq N.v() = !empty;",
+    "eq N.v() = -empty;",
+    "eq N.v() = empty + 1;",
+    "eq N.v() = 1 + empty;",
+    "eq N.v() = empty ? a : b;",
+    "eq N.v() = a ? empty : b;",
+    "eq N.v() = a ? b : empty;",
+    "eq N.v() = v(empty);",
+    "eq N.v() = v(1, empty, 2);",
+    "eq N.v() = v(1, 2, empty);",
+    "eq N.v() = size(1).v();",
+    "eq N.v() = empty.v();",
+    "eq N.v() = x.v(empty);",
+    "eq N.v() = x.v(1, empty);",
+    "eq N.v() = x.v(w(y.z(empty)));",
+    "eq N.v() = x == (N) y;",
+    "eq N.v() = (x instanceof N) == y;",
+    "eq N.v() = !any(x : r | b);",
+    "eq N.v() = 1 + size(x);",
+    // Among others.
+    "inh int N.v(); eq N.v() = 1;",
+    "eq N.v() = 1; inh int N.v();",
+    "eq N.v() = 1; eq N.v() = empty; eq N.v() = 1;",
+    "eq N.v() = 1; } aspect B { eq N.v() = empty;",
+];
+
+// Whether the items of a text are built.
+fn is_built(rt: &impl Abort, alloc: Global, text: &str) -> Result<bool, Fail> {
+    let mut pool = Pool::new(alloc)?;
+    match file_answer(rt, alloc, text.as_bytes(), &mut pool)? {
+        Ok(aspects) => Ok(built(&aspects)),
+        Err(_) => Err("no aspects".into()),
+    }
+}
+
+fn expect_truth(rt: &impl Abort, found: bool, want: bool, of: &str) -> Result<(), Fail> {
+    assert_eq!(rt; found, want, "{of}");
+    Ok(())
+}
+
+fn expect_built(rt: &impl Abort, alloc: Global, rows: &[&str], want: bool) -> Result<(), Fail> {
+    for items in rows {
+        let text = format!(in alloc; "aspect A {{ {items} }}")?;
+        let found = is_built(rt, alloc, text.as_str())?;
+        expect_truth(rt, found, want, items)?;
+    }
+    Ok(())
+}
+
+#[test]
+fn forms_that_are_evaluated(rt: HostRuntime) -> Result<(), Fail> {
+    expect_built(&rt, rt.alloc(), &BUILT, true)
+}
+
+#[test]
+fn forms_that_are_not_evaluated_yet(rt: HostRuntime) -> Result<(), Fail> {
+    expect_built(&rt, rt.alloc(), &NOT_BUILT, false)
+}
