@@ -104,7 +104,8 @@ pub grammar_allowed : {g : List Class} {bytes : List ℕ} → ReadsGrammar bytes
 grammar_allowed {bytes = bytes} s = said_allowed (record { bytes = bytes; scanned = s.scanned }) s.says
 
 -- and what the bytes of a tree file say is a tree of the grammar
-pub tree_allowed : {g : List Class} {bytes : List ℕ} {tree : List Node} {texts : List (List ℕ)} → ReadsTree g bytes tree texts → IsTreeOf g (length texts) tree
+pub tree_allowed : {g : List Class} {before : List (List ℕ)} {bytes : List ℕ} {tree : List Node} {texts : List (List ℕ)} → ReadsTree g before bytes tree texts
+    → IsTreeOf g (length texts) tree
 tree_allowed {g} {tree = tree} s = subst (λ (x : List (List ℕ)). IsTreeOf g (length x) tree) (sym s.pooled) (said_tree s.says)
 
 -- the four files say a program that breaks no rule
@@ -113,7 +114,7 @@ is_program held p s =
     record {
       items = s.items;
       grammar = grammar_allowed s.grammar;
-      allowed = s.aspects.says.allowed;
+      allowed = s.evaluated.allowed;
       rules = s.rules;
       tree = tree_allowed s.tree;
       queries = queries_typed p (superclasses_in p.rules (superclasses_of p.grammar) s.items s.rules) s.queries;

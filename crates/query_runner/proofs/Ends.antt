@@ -1,12 +1,8 @@
--- The end of a file has the number 0 in each grammar.
+-- The end of a line has the number 0 in the grammar.
 use Rattle.std.proofs.Common.{◌≡◌, ap}
 use Rattle.rag_io.specs.declared.token.TokenKind.TheVariants.{End}
 use Rattle.rag_io.specs.Tokens.{Lexed}
-use Rattle.query_runner.specs.Aspects as aspects
 use Rattle.query_runner.specs.Queries as queries
-
-pub aspects_end : (t : Lexed) → t.kind ≡ End → aspects.aspect_class t ≡ 0
-aspects_end t is = ap (λ k. aspects.class_of_parts k t.text) is
 
 pub query_ends : (t : Lexed) → t.kind ≡ End → queries.query_class t ≡ 0
 query_ends t is = ap (λ k. queries.class_of_parts k t.text) is

@@ -2,6 +2,7 @@ pub mod Answerable
 pub mod Answered
 pub mod Ends
 pub mod Fits
+pub mod Joining
 pub mod KeptHeads
 pub mod Lines
 pub mod Membership
@@ -13,9 +14,11 @@ pub mod Preparing
 pub mod ReplyLines
 pub mod Resolving
 pub mod Right
+pub mod SaidForms
 pub mod SayingAspects
 pub mod SayingQueries
 pub mod Stopping
 pub mod TypedNames
 pub mod Uniqueness
 pub mod Unread
+pub mod WrittenItems

@@ -12,7 +12,7 @@ use Rattle.query_runner.specs.Files as files
 use Rattle.query_runner.specs.Files.{Contents, File, IsBroken, IsNotBuilt, IsTreeBroken, SaysProgram, SaysText, TreeContents, no_items, no_queries}
 use Rattle.query_runner.specs.Output.{Answers, AreReplies, HoldsAll, HoldsShort, HoldsTree, IsFirstLong, IsRefused, Output, TreeOutput, broken, broken_line, broken_tree, files_of, here, in_order, later, misused, name_of, not_built, printed, refused, replied, too_long, tree_in_order, tree_name_of}
 use Rattle.query_runner.specs.Words.{Command, FileNames, PrintTree, Run, TreeNames, command_of}
-use Rattle.query_runner.proofs.OneReading.{breaks_there, both_rules, both_trees, items_there, queries_there, reads_or_breaks, same_broken, same_grammar, same_program, same_texts, same_tree_broken, says_or_breaks}
+use Rattle.query_runner.proofs.OneReading.{aspects_or_break, both_rules, both_texts, both_trees, breaks_there, broken_there, items_there, nodes_there, queries_there, reads_or_breaks, same_aspects_broken, same_broken, same_grammar, same_program, same_tree_broken, says_or_breaks}
 use Rattle.query_runner.proofs.OneReply.{one_replies}
 
 -- a file is held once
@@ -71,33 +71,42 @@ not_long_both h (later s (later t l)) = elim l [ ]
 -- a file that isn't built says nothing, and no other file is refused before it
 module _ (held : Contents) where
   one_file : {f g : File} → IsNotBuilt held f → IsNotBuilt held g → f ≡ g
-  one_file (no_items g a) (no_items h b) = refl
-  one_file (no_items g a) (no_queries h i t b) = absurd (a _ (items_there held g h i))
-  one_file (no_queries g i t a) (no_items h b) = absurd (b _ (items_there held h g i))
-  one_file (no_queries g i t a) (no_queries h j s b) = refl
+  one_file (no_items g i a) (no_items h j b) = refl
+  one_file (no_items g i a) (no_queries h j s t b) = absurd (a _ (items_there held g h i j s))
+  one_file (no_queries g i s t a) (no_items h j b) = absurd (b _ (items_there held h g j i s))
+  one_file (no_queries g i s t a) (no_queries h j r u b) = refl
 
   -- one file breaks a rule first, and one rule
   one_breaking : {f g : File} {b c : Broken} → IsBroken held f b → IsBroken held g c → (f ≡ g) × (b ≡ c)
   one_breaking (files.IsBroken.grammar a) (files.IsBroken.grammar b) = (refl, same_broken a b)
-  one_breaking (files.IsBroken.grammar a) (files.IsBroken.tree g i b) = absurd (says_or_breaks g a)
-  one_breaking (files.IsBroken.tree g i a) (files.IsBroken.grammar b) = absurd (says_or_breaks g b)
-  one_breaking (files.IsBroken.tree g i a) (files.IsBroken.tree h j b) = (refl, same_tree_broken a (breaks_there g h b))
+  one_breaking (files.IsBroken.grammar a) (files.IsBroken.aspects g b) = absurd (says_or_breaks g a)
+  one_breaking (files.IsBroken.grammar a) (files.IsBroken.tree g i s b) = absurd (says_or_breaks g a)
+  one_breaking (files.IsBroken.aspects g a) (files.IsBroken.grammar b) = absurd (says_or_breaks g b)
+  one_breaking (files.IsBroken.aspects g a) (files.IsBroken.aspects h b) = (refl, same_aspects_broken a b)
+  one_breaking (files.IsBroken.aspects g a) (files.IsBroken.tree h i s b) = absurd (aspects_or_break i a)
+  one_breaking (files.IsBroken.tree g i s a) (files.IsBroken.grammar b) = absurd (says_or_breaks g b)
+  one_breaking (files.IsBroken.tree g i s a) (files.IsBroken.aspects h b) = absurd (aspects_or_break i b)
+  one_breaking (files.IsBroken.tree g i s a) (files.IsBroken.tree h j r b) = (refl, same_tree_broken a (broken_there held g h i j b))
 
   breaks_or_refuses : {f g : File} {b : Broken} → IsBroken held f b → IsNotBuilt held g → ⊥
-  breaks_or_refuses (files.IsBroken.grammar a) (no_items g never) = says_or_breaks g a
-  breaks_or_refuses (files.IsBroken.grammar a) (no_queries g i t never) = says_or_breaks g a
-  breaks_or_refuses (files.IsBroken.tree g i a) (no_items h never) = never _ (items_there held h g i)
-  breaks_or_refuses (files.IsBroken.tree g i a) (no_queries h j t never) = reads_or_breaks t (breaks_there h g a)
+  breaks_or_refuses (files.IsBroken.grammar a) (no_items g i never) = says_or_breaks g a
+  breaks_or_refuses (files.IsBroken.grammar a) (no_queries g i s t never) = says_or_breaks g a
+  breaks_or_refuses (files.IsBroken.aspects g a) (no_items h i never) = aspects_or_break i a
+  breaks_or_refuses (files.IsBroken.aspects g a) (no_queries h i s t never) = aspects_or_break i a
+  breaks_or_refuses (files.IsBroken.tree g i s a) (no_items h j never) = never _ (items_there held h g j i s)
+  breaks_or_refuses (files.IsBroken.tree g i s a) (no_queries h j r t never) = reads_or_breaks t (broken_there held h g j i a)
 
   module _ (p : Program) (a : SaysProgram held p) where
     says_or_refuses : {f : File} → IsNotBuilt held f → ⊥
-    says_or_refuses (no_items g never) = never _ (items_there held g a.grammar a.aspects)
-    says_or_refuses (no_queries g i t never) =
-        never _ (queries_there (same_grammar g a.grammar) (both_rules held g a.grammar i a.aspects ∙ sym a.rules) (both_trees g a.grammar t a.tree) a.queries)
+    says_or_refuses (no_items g i never) = never _ (items_there held g a.grammar i a.aspects a.evaluated)
+    says_or_refuses (no_queries g i s t never) =
+        let rules = both_rules held g a.grammar i a.aspects s a.evaluated ∙ sym a.rules in
+        never _ (queries_there (same_grammar g a.grammar) rules (nodes_there held g a.grammar i a.aspects t a.tree) a.queries)
 
     program_or_broken : {f : File} {b : Broken} → IsBroken held f b → ⊥
     program_or_broken (files.IsBroken.grammar b) = says_or_breaks a.grammar b
-    program_or_broken (files.IsBroken.tree g i b) = reads_or_breaks a.tree (breaks_there a.grammar g b)
+    program_or_broken (files.IsBroken.aspects g b) = aspects_or_break a.aspects b
+    program_or_broken (files.IsBroken.tree g i s b) = reads_or_breaks a.tree (broken_there held a.grammar g a.aspects i b)
 
 -- the same of a grammar and a tree alone
 module _ (held : TreeContents) where
@@ -105,20 +114,21 @@ module _ (held : TreeContents) where
   one_tree_breaking (files.IsTreeBroken.grammar a) (files.IsTreeBroken.grammar b) = (refl, same_broken a b)
   one_tree_breaking (files.IsTreeBroken.grammar a) (files.IsTreeBroken.tree g b) = absurd (says_or_breaks g a)
   one_tree_breaking (files.IsTreeBroken.tree g a) (files.IsTreeBroken.grammar b) = absurd (says_or_breaks g b)
-  one_tree_breaking (files.IsTreeBroken.tree g a) (files.IsTreeBroken.tree h b) = (refl, same_tree_broken a (breaks_there g h b))
+  one_tree_breaking (files.IsTreeBroken.tree g a) (files.IsTreeBroken.tree h b) = (refl, same_tree_broken a (breaks_there (same_grammar g h) refl b))
 
   text_or_broken : {t : List ℕ} {f : File} {b : Broken} → SaysText held t → IsTreeBroken held f b → ⊥
   text_or_broken a (files.IsTreeBroken.grammar b) = says_or_breaks a.grammar b
-  text_or_broken a (files.IsTreeBroken.tree g b) = reads_or_breaks a.tree (breaks_there a.grammar g b)
+  text_or_broken a (files.IsTreeBroken.tree g b) = reads_or_breaks a.tree (breaks_there (same_grammar a.grammar g) refl b)
 
   same_canonical : {g h : List Class} {x y : List (List ℕ)} {s t : Forest} → g ≡ h → x ≡ y → s ≡ t → canonical g x s ≡ canonical h y t
   same_canonical a b c = cc
 
   one_tree_text : {t u : List ℕ} → SaysText held t → SaysText held u → t ≡ u
   one_tree_text a b =
-      let nodes = both_trees a.grammar b.grammar a.tree b.tree in
+      let grammar = same_grammar a.grammar b.grammar in
+      let nodes = both_trees grammar refl a.tree b.tree in
       let term : a.term ≡ b.term = one_term a.term b.term (term_alone _ _ a.term a.grown) (term_alone _ _ b.term b.grown) (sym a.are ∙ nodes ∙ b.are) in
-      a.written ∙ same_canonical (same_grammar a.grammar b.grammar) (same_texts a.tree b.tree) term ∙ sym b.written
+      a.written ∙ same_canonical grammar (both_texts grammar refl a.tree b.tree) term ∙ sym b.written
 
 module _ (words : List (List ℕ)) (files : List Named) where
   -- the words ask for one thing

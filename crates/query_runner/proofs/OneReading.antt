@@ -4,21 +4,26 @@ use Rattle.rag_io.specs.Tokens.{Lexed}
 use Rattle.rag_io.proofs.Readings.{not_both, one_place, one_list}
 use Rattle.rag_io.specs.declared.token.Place.{Place}
 use Rattle.broken_rules.specs.declared.broken.Broken.{Broken}
-use Rattle.broken_rules.specs.declared.rule.Rule.TheVariants.{G1, N1}
+use Rattle.broken_rules.specs.declared.rule.Rule.TheVariants.{G1, J1, N1}
 use Rattle.broken_rules.specs.Notes.{at}
 use Rattle.ast_grammar.specs.Grammar.{Class, superclasses_of}
 use Rattle.ast_grammar.specs.Reading.{IsFirstBroken, SaysGrammar}
 use Rattle.ast_grammar.proofs.OneGrammar as grammars
 use Rattle.attr_types.specs.Expression.{Expression}
 use Rattle.attr_types.specs.Rules.{Item, RuleSet, rules_of}
+use Rattle.jrag_syntax.specs.declared.classes.Start.TheVariants as starts
+use Rattle.jrag_reader.specs.Items.{Item as AspectItem}
+use Rattle.jrag_reader.specs.Parts.{Items}
+use Rattle.jrag_reader.specs.Reading.{IsFirstBroken as AspectsBreak, SaysItems}
+use Rattle.jrag_reader.proofs.OneReading as aspects
 use Rattle.tree_arena.specs.Nodes.{Node}
 use Rattle.tree_reader.proofs.OneTree as trees
-use Rattle.tree_reader.specs.Breaking.{pooled_texts}
+use Rattle.token_texts.specs.Texts.{pooled_texts}
 use Rattle.tree_reader.specs.Reading.{IsFirstBroken as TreeBreaks, SaysTree}
 use Rattle.equation_law.specs.Program.{Program}
 use Rattle.query_runner.specs.Aspects.{SaysAspects}
 use Rattle.query_runner.specs.Files as files
-use Rattle.query_runner.specs.Files.{BreaksGrammar, BreaksTree, Contents, ReadsGrammar, ReadsItems, ReadsTree, SaysProgram, no_texts}
+use Rattle.query_runner.specs.Files.{BreaksAspects, BreaksGrammar, BreaksTree, Contents, ReadsAspects, ReadsGrammar, ReadsTree, SaysProgram, no_texts}
 use Rattle.query_runner.specs.Queries.{SaysQueries}
 use Rattle.query_runner.proofs.SayingQueries.{one_queries}
 use Rattle.query_runner.proofs.Uniqueness.{one_items}
@@ -40,48 +45,82 @@ module _ {bytes : List ℕ} where
   says_or_breaks a (files.BreaksGrammar.bad_place b) = not_both a.scanned b
   says_or_breaks {g} a (files.BreaksGrammar.by_tokens {b = b} s breaks) = grammars.said_or_broken a.tokens g b a.says (subst (λ (ts : List Lexed). IsFirstBroken ts b) (one_list s a.scanned) breaks)
 
-  pub same_items : {g : List Class} {i j : List Item} → ReadsItems g bytes i → ReadsItems g bytes j → i ≡ j
-  same_items {g} {j = j} a b = one_items a.says (subst (λ (ts : List Lexed). SaysAspects g ts j) (one_list b.scanned a.scanned) b.says)
+  -- the aspects, and the texts behind them
+  module _ {texts : List (List ℕ)} where
+    pub same_aspects : {a b : List AspectItem} {x y : List (List ℕ)} → ReadsAspects texts bytes a x → ReadsAspects texts bytes b y → a ≡ b
+    same_aspects {a} {b} r s =
+        aspects.one_items texts r.tokens a b r.says (subst (λ (ts : List Lexed). SaysItems texts ts b) (one_list s.scanned r.scanned) s.says)
+
+    pub same_pooled : {a b : List AspectItem} {x y : List (List ℕ)} → ReadsAspects texts bytes a x → ReadsAspects texts bytes b y → x ≡ y
+    same_pooled r s = r.are_pooled ∙ ap (pooled_texts texts) (one_list r.scanned s.scanned) ∙ sym s.are_pooled
+
+    pub same_aspects_broken : {b c : Broken} → BreaksAspects texts bytes b → BreaksAspects texts bytes c → b ≡ c
+    same_aspects_broken (files.BreaksAspects.bad_place a) (files.BreaksAspects.bad_place b) = ap (λ (p : Place). at p J1) (one_place a b)
+    same_aspects_broken (files.BreaksAspects.bad_place a) (files.BreaksAspects.by_tokens s b) = absurd (not_both s a)
+    same_aspects_broken (files.BreaksAspects.by_tokens s a) (files.BreaksAspects.bad_place b) = absurd (not_both s b)
+    same_aspects_broken (files.BreaksAspects.by_tokens {tokens = ts} {b = b} s a) (files.BreaksAspects.by_tokens {b = c} t d) =
+        aspects.one_broken starts.File texts ts b c a (subst (λ (us : List Lexed). AspectsBreak starts.File texts us c) (one_list t s) d)
+
+    pub aspects_or_break : {a : List AspectItem} {x : List (List ℕ)} {b : Broken} → ReadsAspects texts bytes a x → BreaksAspects texts bytes b → ⊥
+    aspects_or_break r (files.BreaksAspects.bad_place b) = not_both r.scanned b
+    aspects_or_break {a} r (files.BreaksAspects.by_tokens {b = b} s breaks) =
+        let there = subst (λ (ts : List Lexed). AspectsBreak starts.File texts ts b) (one_list s r.scanned) breaks in
+        aspects.whole_or_broken starts.File texts r.tokens (Items a) b r.says there
 
   -- the tree, and its texts
-  pub same_tree : {g : List Class} {s t : List Node} {x y : List (List ℕ)} → ReadsTree g bytes s x → ReadsTree g bytes t y → s ≡ t
-  same_tree {g} {s} {t} a b = trees.one_said_tree g no_texts a.tokens s t a.says (subst (λ (ts : List Lexed). SaysTree g no_texts ts t) (one_list b.scanned a.scanned) b.says)
+  module _ {g : List Class} {texts : List (List ℕ)} where
+    pub same_tree : {s t : List Node} {x y : List (List ℕ)} → ReadsTree g texts bytes s x → ReadsTree g texts bytes t y → s ≡ t
+    same_tree {s} {t} a b =
+        trees.one_said_tree g texts a.tokens s t a.says (subst (λ (ts : List Lexed). SaysTree g texts ts t) (one_list b.scanned a.scanned) b.says)
 
-  pub same_texts : {g h : List Class} {s t : List Node} {x y : List (List ℕ)} → ReadsTree g bytes s x → ReadsTree h bytes t y → x ≡ y
-  same_texts a b = a.pooled ∙ ap (pooled_texts no_texts) (one_list a.scanned b.scanned) ∙ sym b.pooled
+    pub same_tree_broken : {b c : Broken} → BreaksTree g texts bytes b → BreaksTree g texts bytes c → b ≡ c
+    same_tree_broken (files.BreaksTree.bad_place a) (files.BreaksTree.bad_place b) = ap (λ (p : Place). at p N1) (one_place a b)
+    same_tree_broken (files.BreaksTree.bad_place a) (files.BreaksTree.by_tokens s b) = absurd (not_both s a)
+    same_tree_broken (files.BreaksTree.by_tokens s a) (files.BreaksTree.bad_place b) = absurd (not_both s b)
+    same_tree_broken (files.BreaksTree.by_tokens {tokens = ts} {b = b} s a) (files.BreaksTree.by_tokens {b = c} t d) =
+        trees.one_broken g texts ts b c a (subst (λ (us : List Lexed). TreeBreaks g texts us c) (one_list t s) d)
 
-  pub same_tree_broken : {g : List Class} {b c : Broken} → BreaksTree g bytes b → BreaksTree g bytes c → b ≡ c
-  same_tree_broken (files.BreaksTree.bad_place a) (files.BreaksTree.bad_place b) = ap (λ (p : Place). at p N1) (one_place a b)
-  same_tree_broken (files.BreaksTree.bad_place a) (files.BreaksTree.by_tokens s b) = absurd (not_both s a)
-  same_tree_broken (files.BreaksTree.by_tokens s a) (files.BreaksTree.bad_place b) = absurd (not_both s b)
-  same_tree_broken {g} (files.BreaksTree.by_tokens {tokens = ts} {b = b} s a) (files.BreaksTree.by_tokens {b = c} t d) =
-      trees.one_broken g no_texts ts b c a (subst (λ (us : List Lexed). TreeBreaks g no_texts us c) (one_list t s) d)
+    pub reads_or_breaks : {t : List Node} {x : List (List ℕ)} {b : Broken} → ReadsTree g texts bytes t x → BreaksTree g texts bytes b → ⊥
+    reads_or_breaks a (files.BreaksTree.bad_place b) = not_both a.scanned b
+    reads_or_breaks {t} a (files.BreaksTree.by_tokens {b = b} s breaks) =
+        trees.said_or_broken g texts a.tokens t b a.says (subst (λ (ts : List Lexed). TreeBreaks g texts ts b) (one_list s a.scanned) breaks)
 
-  pub reads_or_breaks : {g : List Class} {t : List Node} {x : List (List ℕ)} {b : Broken} → ReadsTree g bytes t x → BreaksTree g bytes b → ⊥
-  reads_or_breaks a (files.BreaksTree.bad_place b) = not_both a.scanned b
-  reads_or_breaks {g} {t} a (files.BreaksTree.by_tokens {b = b} s breaks) = trees.said_or_broken g no_texts a.tokens t b a.says (subst (λ (ts : List Lexed). TreeBreaks g no_texts ts b) (one_list s a.scanned) breaks)
+-- the readings of a tree file under the same grammar and over the same texts
+module _ {bytes : List ℕ} {g h : List Class} {p q : List (List ℕ)} (classes : g ≡ h) (texts : p ≡ q) where
+  pub tree_there : {t : List Node} {x : List (List ℕ)} → ReadsTree h q bytes t x → ReadsTree g p bytes t x
+  tree_there {t} {x} r =
+      subst (λ (c : List Class). ReadsTree c p bytes t x) (sym classes) (subst (λ (before : List (List ℕ)). ReadsTree h before bytes t x) (sym texts) r)
 
--- the readings of a tree file under one grammar
-module _ {ast bytes : List ℕ} {g h : List Class} (a : ReadsGrammar ast g) (b : ReadsGrammar ast h) where
-  pub tree_there : {t : List Node} {x : List (List ℕ)} → ReadsTree h bytes t x → ReadsTree g bytes t x
-  tree_there {t} {x} r = subst (λ (c : List Class). ReadsTree c bytes t x) (sym (same_grammar a b)) r
+  pub breaks_there : {b : Broken} → BreaksTree h q bytes b → BreaksTree g p bytes b
+  breaks_there {b} r =
+      subst (λ (c : List Class). BreaksTree c p bytes b) (sym classes) (subst (λ (before : List (List ℕ)). BreaksTree h before bytes b) (sym texts) r)
 
-  pub breaks_there : {x : Broken} → BreaksTree h bytes x → BreaksTree g bytes x
-  breaks_there {x} r = subst (λ (c : List Class). BreaksTree c bytes x) (sym (same_grammar a b)) r
-
-  pub both_trees : {s t : List Node} {x y : List (List ℕ)} → ReadsTree g bytes s x → ReadsTree h bytes t y → s ≡ t
+  pub both_trees : {s t : List Node} {x y : List (List ℕ)} → ReadsTree g p bytes s x → ReadsTree h q bytes t y → s ≡ t
   both_trees r s = same_tree r (tree_there s)
 
--- the readings of one file after the other, under one grammar, one list of items and one tree
-module _ (held : Contents) {g h : List Class} (a : ReadsGrammar held.ast g) (b : ReadsGrammar held.ast h) where
-  pub items_there : {j : List Item} → ReadsItems h held.jrag j → ReadsItems g held.jrag j
-  items_there {j} r = subst (λ (x : List Class). ReadsItems x held.jrag j) (sym (same_grammar a b)) r
+  pub both_texts : {s t : List Node} {x y : List (List ℕ)} → ReadsTree g p bytes s x → ReadsTree h q bytes t y → x ≡ y
+  both_texts r s = let there = tree_there s in r.pooled ∙ ap (pooled_texts p) (one_list r.scanned there.scanned) ∙ sym there.pooled
 
-  both_items : {i j : List Item} → ReadsItems g held.jrag i → ReadsItems h held.jrag j → i ≡ j
-  both_items r s = same_items r (items_there s)
+-- the readings of one file after the other, under one grammar, over the aspects and the texts that are read before
+module _ (held : Contents) {g h : List Class} {written other : List AspectItem} {between behind : List (List ℕ)}
+    (a : ReadsGrammar held.ast g) (b : ReadsGrammar held.ast h)
+    (i : ReadsAspects no_texts held.jrag written between) (j : ReadsAspects no_texts held.jrag other behind) where
+  pub items_there : {js : List Item} → SaysAspects h other js → SaysAspects g written js
+  items_there {js} s =
+      subst (λ (c : List Class). SaysAspects c written js) (sym (same_grammar a b))
+      (subst (λ (w : List AspectItem). SaysAspects h w js) (sym (same_aspects i j)) s)
 
-  pub both_rules : {i j : List Item} → ReadsItems g held.jrag i → ReadsItems h held.jrag j → rules_of (superclasses_of g) i ≡ rules_of (superclasses_of h) j
-  both_rules {i} r s = ap (λ (x : List Class). rules_of (superclasses_of x) i) (same_grammar a b) ∙ ap (rules_of (superclasses_of h)) (both_items r s)
+  both_items : {is js : List Item} → SaysAspects g written is → SaysAspects h other js → is ≡ js
+  both_items r s = one_items r (items_there s)
+
+  pub both_rules : {is js : List Item} → SaysAspects g written is → SaysAspects h other js → rules_of (superclasses_of g) is ≡ rules_of (superclasses_of h) js
+  both_rules {is} r s = ap (λ (c : List Class). rules_of (superclasses_of c) is) (same_grammar a b) ∙ ap (rules_of (superclasses_of h)) (both_items r s)
+
+  pub broken_there : {x : Broken} → BreaksTree h behind held.tree x → BreaksTree g between held.tree x
+  broken_there r = breaks_there (same_grammar a b) (same_pooled i j) r
+
+  pub nodes_there : {s t : List Node} {x y : List (List ℕ)} → ReadsTree g between held.tree s x → ReadsTree h behind held.tree t y → s ≡ t
+  nodes_there r s = both_trees (same_grammar a b) (same_pooled i j) r s
 
 -- queries under the same grammar, the same rules and the same tree
 pub queries_there : {bytes : List ℕ} {g h : List Class} {r q : RuleSet} {s t : List Node} {es : List Expression} → g ≡ h → r ≡ q → s ≡ t → SaysQueries h q t bytes es → SaysQueries g r s bytes es
@@ -99,8 +138,9 @@ pub same_program : (held : Contents) (p q : Program) → SaysProgram held p → 
 unfolding program
 same_program held p q a b =
     let grammar : p.grammar ≡ q.grammar = same_grammar a.grammar b.grammar in
-    let rules : p.rules ≡ q.rules = a.rules ∙ both_rules held a.grammar b.grammar a.aspects b.aspects ∙ sym b.rules in
-    let tree : p.tree ≡ q.tree = both_trees a.grammar b.grammar a.tree b.tree in
-    let texts : p.texts ≡ q.texts = same_texts a.tree b.tree in
+    let rules : p.rules ≡ q.rules = a.rules ∙ both_rules held a.grammar b.grammar a.aspects b.aspects a.evaluated b.evaluated ∙ sym b.rules in
+    let between : a.between ≡ b.between = same_pooled a.aspects b.aspects in
+    let tree : p.tree ≡ q.tree = both_trees grammar between a.tree b.tree in
+    let texts : p.texts ≡ q.texts = both_texts grammar between a.tree b.tree in
     let queries : p.queries ≡ q.queries = one_queries p.grammar p.rules p.tree a.queries (queries_there grammar rules tree b.queries) in
     same_parts grammar rules tree texts queries

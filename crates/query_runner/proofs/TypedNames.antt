@@ -9,15 +9,17 @@ use Rattle.attr_types.specs.declared.kinds.Kind.TheVariants as kinds
 use Rattle.attr_types.specs.Accessors.{named_on_type}
 use Rattle.attr_types.specs.Expression.{Expression, This, If}
 use Rattle.attr_types.specs.Typing.{Names, type_of}
-use Rattle.query_runner.specs.declared.building.Written.{Written}
+use Rattle.jrag_reader.specs.declared.expression.Expr as memory
+use Rattle.jrag_reader.specs.declared.expression.Operator.{Operator}
+use Rattle.jrag_reader.specs.declared.expression.Operator.TheVariants as signs
+use Rattle.jrag_reader.specs.Built.{set_forms}
+use Rattle.jrag_reader.specs.Expressions.{seen_expr}
 use Rattle.query_runner.specs.declared.members.Member.{Member}
-use Rattle.query_runner.specs.declared.naming.Said.{Said}
+use Rattle.query_runner.specs.declared.typed.Said.{Said}
 use Rattle.query_runner.specs.declared.members.Member.TheVariants as members
 use Rattle.query_runner.specs.Members.{member_named, on_receiver}
-use Rattle.query_runner.specs.Naming.{Site, called, called_alone, form_names, head_named, join_three, join_two, names_at, said}
-use Rattle.query_runner.specs.NamingSteps.{Typed, called_on, chosen, member_of, member_on, of_three, of_two, seen_said, typed_by}
-use Rattle.query_runner.specs.Tokens.{text_at}
-use Rattle.query_runner.specs.Written.{written_in}
+use Rattle.query_runner.specs.Naming.{Site, called, called_alone, head_named, join_three, join_two, joined, names_at, said}
+use Rattle.query_runner.specs.NamingSteps.{Typed, called_on, chosen, joined as of_both, member_of, member_on, of_three, of_two, seen_said, typed_by}
 use Rattle.query_runner.proofs.Membership.{named_by_member}
 
 -- a member of an expression, with its type
@@ -42,14 +44,14 @@ module _ (s : Site) (e : Expression) where
   by_type (Some (kinds.Nodes c)) name = refl
 
   -- a call of a name on an expression
-  pub called_typed : (name : ℕ) → called_on s name (typed_by (names_at s) e) ≡ option_map (typed_by (names_at s)) (called s name e)
-  called_typed name = by_type (type_of (names_at s) e) (text_at s.tokens name)
+  pub called_typed : (name : List ℕ) → called_on s name (typed_by (names_at s) e) ≡ option_map (typed_by (names_at s)) (called s name e)
+  called_typed name = by_type (type_of (names_at s) e) name
 
 -- a word that is no form stands for a call on `this`
-pub alone_typed : (s : Site) (name : ℕ) → is_one_of form_names (text_at s.tokens name) ≡ false → called_on s name (typed_by (names_at s) This) ≡ option_map (typed_by (names_at s)) (called_alone s name)
+pub alone_typed : (s : Site) (name : List ℕ) → is_one_of set_forms name ≡ false → called_on s name (typed_by (names_at s) This) ≡ option_map (typed_by (names_at s)) (called_alone s name)
 alone_typed s name e = called_typed s This name ∙ ap (λ b. option_map (typed_by (names_at s)) (cond b None (called s name This))) (sym e)
 
-pub calls_typed : (s : Site) (name : ℕ) (o : Option Expression) → option_and_then (called_on s name) (option_map (typed_by (names_at s)) o) ≡ option_map (typed_by (names_at s)) (option_and_then (called s name) o)
+pub calls_typed : (s : Site) (name : List ℕ) (o : Option Expression) → option_and_then (called_on s name) (option_map (typed_by (names_at s)) o) ≡ option_map (typed_by (names_at s)) (option_and_then (called s name) o)
 calls_typed s name None = refl
 calls_typed s name (Some e) = called_typed s e name
 
@@ -60,13 +62,27 @@ two_typed N f h e None y = refl
 two_typed N f h e (Some a) None = refl
 two_typed N f h e (Some a) (Some b) = ap Some (e a b)
 
+-- two parts and what stands between them
+pub joined_typed : (N : Names) (o : Operator) (a b : Expression) → of_both o (typed_by N a) (typed_by N b) ≡ typed_by N (joined o a b)
+joined_typed N signs.Multiply a b = refl
+joined_typed N signs.Add a b = refl
+joined_typed N signs.Subtract a b = refl
+joined_typed N signs.Less a b = refl
+joined_typed N signs.AtMost a b = refl
+joined_typed N signs.Greater a b = refl
+joined_typed N signs.AtLeast a b = refl
+joined_typed N signs.Equal a b = refl
+joined_typed N signs.Differ a b = refl
+joined_typed N signs.And a b = refl
+joined_typed N signs.Or a b = refl
+
 pub three_typed : (N : Names) (z x y : Option Expression) → of_three N.grammar (option_map (typed_by N) z) (option_map (typed_by N) x) (option_map (typed_by N) y) ≡ option_map (typed_by N) (join_three z x y)
 three_typed N None x y = refl
 three_typed N (Some c) x y = two_typed N (If c) (chosen N.grammar (typed_by N c)) (λ a b. refl) x y
 
 -- what a written expression says, with its type
-abbrev pub resolved : Site → Written → Option Typed
-resolved s w = option_map (typed_by (names_at s)) (said s (written_in w))
+abbrev pub resolved : Site → memory.Expr → Option Typed
+resolved s w = option_map (typed_by (names_at s)) (said s (seen_expr w))
 
 -- forms of the same parts
 pub same_two : (h : Typed → Typed → Typed) {x u y v : Option Typed} → x ≡ u → y ≡ v → of_two h x y ≡ of_two h u v

@@ -3,13 +3,15 @@ use Rattle.std.proofs.Common.{◌≡◌, ℕ, ◌≤◌, List, length, Result, O
 use Rattle.std.specs.Result.{IsErr, IsErrAnd}
 use Rattle.std.proofs.lemmas.Result.{err_from_is_err_and}
 use Rattle.rag_io.specs.Tokens.{Lexed, IsTokens, first_place}
-use Rattle.rag_io.proofs.Readings.{one_list}
 use Rattle.broken_rules.specs.declared.broken.ReadFault.{ReadFault}
 use Rattle.broken_rules.specs.declared.broken.ReadFault.TheVariants as faults
 use Rattle.ast_grammar.specs.Grammar.{Class}
 use Rattle.ast_grammar.specs.Reading.{ReadsAst}
 use Rattle.attr_types.specs.Expression.{Expression}
-use Rattle.attr_types.specs.Rules.{Item, RuleSet}
+use Rattle.attr_types.specs.Rules.{RuleSet}
+use Rattle.jrag_reader.specs.declared.aspects.Aspects.{Aspects}
+use Rattle.jrag_reader.specs.Answers.{AnswersItems}
+use Rattle.jrag_reader.specs.Items.{Item as AspectItem}
 use Rattle.tree_arena.specs.Nodes.{Node}
 use Rattle.tree_arena.specs.Terms.{Forest, IsTerm, IsTreeOf, nodes_of}
 use Rattle.tree_writer.specs.Canonical.{canonical}
@@ -18,12 +20,11 @@ use Rattle.query_runner.specs.declared.files.Refusal.{Refusal}
 use Rattle.query_runner.specs.declared.files.Unread.{Unread}
 use Rattle.query_runner.specs.declared.files.Unread.TheVariants.{NotBuilt, Memory}
 use Rattle.query_runner.specs.declared.words.FileKind.TheVariants as files
-use Rattle.query_runner.specs.Aspects.{SaysAspects}
-use Rattle.query_runner.specs.Built.{AnswersAsked, AnswersGrammar, AnswersRules, AnswersSource, BreaksFile, IsRefusal, IsTreeRefusal, ReadsRules, Refuses}
-use Rattle.tree_reader.specs.Breaking.{pooled_texts}
+use Rattle.query_runner.specs.Built.{AnswersAsked, AnswersGrammar, AnswersRules, AnswersSource, AnswersWritten, BreaksFile, IsRefusal, IsTreeRefusal, ReadsRules, Refuses}
+use Rattle.token_texts.specs.Texts.{pooled_texts}
 use Rattle.tree_reader.specs.Reading.{ReadsTree as TreeRead}
 use Rattle.query_runner.specs.Files as held
-use Rattle.query_runner.specs.Files.{Contents, ReadsGrammar, ReadsItems, ReadsTree, SaysText, TreeContents, no_texts, no_items, no_queries}
+use Rattle.query_runner.specs.Files.{Contents, ReadsAspects, ReadsGrammar, ReadsTree, SaysText, TreeContents, no_texts, no_items, no_queries}
 use Rattle.query_runner.specs.Queries.{SaysLines, over, silent, query, SaysQueries}
 
 -- where `?` hands on want of memory
@@ -36,15 +37,29 @@ module _ {bytes : List ℕ} {ts : List Lexed} (scanned : IsTokens first_place by
   answers_grammar (Err (faults.Broken b)) broken = held.BreaksGrammar.by_tokens scanned broken
   answers_grammar (Err faults.Memory) none = tt
 
-  pub says_no_items : (g : List Class) → ((items : List Item) → SaysAspects g ts items → ⊥) → (items : List Item) → ReadsItems g bytes items → ⊥
-  says_no_items g none items r = none items (subst (λ (us : List Lexed). SaysAspects g us items) (one_list r.scanned scanned) r.says)
+  pub answers_written : (r : Result Aspects ReadFault) (before texts : List (List ℕ)) → AnswersItems before ts r → IfOk r (λ _. texts ≡ pooled_texts before ts)
+      → AnswersWritten before bytes texts r
+  answers_written (Ok aspects) before texts says pooled = record { tokens = ts; scanned = scanned; says = says; are_pooled = pooled }
+  answers_written (Err (faults.Broken b)) before texts broken pooled = held.BreaksAspects.by_tokens scanned broken
+  answers_written (Err faults.Memory) before texts none pooled = tt
 
-  pub answers_source : (g : List Class) (r : Result (List Node) ReadFault) (texts : List (List ℕ)) → TreeRead g no_texts ts r → IfOk r (λ _. texts ≡ pooled_texts no_texts ts) → AnswersSource g bytes texts r
-  answers_source g (Ok tree) texts says pooled = record { tokens = ts; scanned = scanned; says = says; pooled = pooled }
-  answers_source g (Err (faults.Broken b)) texts broken pooled = held.BreaksTree.by_tokens scanned broken
-  answers_source g (Err faults.Memory) texts none pooled = tt
+  pub answers_source : (g : List Class) (r : Result (List Node) ReadFault) (before texts : List (List ℕ)) → TreeRead g before ts r
+      → IfOk r (λ _. texts ≡ pooled_texts before ts) → AnswersSource g before bytes texts r
+  answers_source g (Ok tree) before texts says pooled = record { tokens = ts; scanned = scanned; says = says; pooled = pooled }
+  answers_source g (Err (faults.Broken b)) before texts broken pooled = held.BreaksTree.by_tokens scanned broken
+  answers_source g (Err faults.Memory) before texts none pooled = tt
 
--- a grammar that is refused, and a tree
+-- the same answer over the same texts and the same bytes
+module _ {before now : List (List ℕ)} {bytes file : List ℕ} (texts : List (List ℕ)) (pool : before ≡ now) (read : bytes ≡ file) where
+  pub written_there : (r : Result Aspects ReadFault) → AnswersWritten before bytes texts r → AnswersWritten now file texts r
+  written_there r answer =
+      subst (λ (b : List ℕ). AnswersWritten now b texts r) read (subst (λ (p : List (List ℕ)). AnswersWritten p bytes texts r) pool answer)
+
+  pub source_there : (g : List Class) (r : Result (List Node) ReadFault) → AnswersSource g before bytes texts r → AnswersSource g now file texts r
+  source_there g r answer =
+      subst (λ (b : List ℕ). AnswersSource g now b texts r) read (subst (λ (p : List (List ℕ)). AnswersSource g p bytes texts r) pool answer)
+
+-- a grammar that is refused, aspects, and a tree
 module _ (contents : Contents) (fault : ReadFault) (refusal : Refusal) where
   pub grammar_refused : AnswersGrammar contents.ast (Err fault) → BreaksFile files.Ast fault refusal → IsRefusal contents refusal
   grammar_refused answer is = elim fault as (λ f. AnswersGrammar contents.ast (Err f) → BreaksFile files.Ast f refusal → IsRefusal contents refusal) [
@@ -52,12 +67,22 @@ module _ (contents : Contents) (fault : ReadFault) (refusal : Refusal) where
     | faults.Memory ↦ λ a e. subst (IsRefusal contents) (sym e) tt
   ] answer is
 
-  pub tree_refused : {g : List Class} {rules : RuleSet} (texts : List (List ℕ)) → ReadsGrammar contents.ast g → ReadsRules g contents.jrag rules → AnswersSource g contents.tree texts (Err fault)
-      → BreaksFile files.Tree fault refusal → IsRefusal contents refusal
-  tree_refused {g} texts grammar rules answer is = elim fault as (λ f. AnswersSource g contents.tree texts (Err f) → BreaksFile files.Tree f refusal → IsRefusal contents refusal) [
-    | faults.Broken b ↦ λ a e. subst (IsRefusal contents) (sym e) (held.IsBroken.tree grammar rules.reads a)
-    | faults.Memory ↦ λ a e. subst (IsRefusal contents) (sym e) tt
-  ] answer is
+  pub aspects_refused : {g : List Class} (texts : List (List ℕ)) → ReadsGrammar contents.ast g → AnswersWritten no_texts contents.jrag texts (Err fault)
+      → BreaksFile files.Jrag fault refusal → IsRefusal contents refusal
+  aspects_refused texts grammar answer is =
+      elim fault as (λ f. AnswersWritten no_texts contents.jrag texts (Err f) → BreaksFile files.Jrag f refusal → IsRefusal contents refusal) [
+        | faults.Broken b ↦ λ a e. subst (IsRefusal contents) (sym e) (held.IsBroken.aspects grammar a)
+        | faults.Memory ↦ λ a e. subst (IsRefusal contents) (sym e) tt
+      ] answer is
+
+  pub tree_refused : {g : List Class} {written : List AspectItem} {between : List (List ℕ)} {rules : RuleSet} (texts : List (List ℕ))
+      → ReadsGrammar contents.ast g → ReadsAspects no_texts contents.jrag written between → ReadsRules g written rules
+      → AnswersSource g between contents.tree texts (Err fault) → BreaksFile files.Tree fault refusal → IsRefusal contents refusal
+  tree_refused {g} {between = between} texts grammar aspects rules answer is =
+      elim fault as (λ f. AnswersSource g between contents.tree texts (Err f) → BreaksFile files.Tree f refusal → IsRefusal contents refusal) [
+        | faults.Broken b ↦ λ a e. subst (IsRefusal contents) (sym e) (held.IsBroken.tree grammar aspects rules.say a)
+        | faults.Memory ↦ λ a e. subst (IsRefusal contents) (sym e) tt
+      ] answer is
 
 module _ (contents : TreeContents) (fault : ReadFault) (refusal : Refusal) where
   pub lone_grammar_refused : AnswersGrammar contents.ast (Err fault) → BreaksFile files.Ast fault refusal → IsTreeRefusal contents refusal
@@ -66,32 +91,39 @@ module _ (contents : TreeContents) (fault : ReadFault) (refusal : Refusal) where
     | faults.Memory ↦ λ a e. subst (IsTreeRefusal contents) (sym e) tt
   ] answer is
 
-  pub lone_tree_refused : {g : List Class} (texts : List (List ℕ)) → ReadsGrammar contents.ast g → AnswersSource g contents.tree texts (Err fault) → BreaksFile files.Tree fault refusal → IsTreeRefusal contents refusal
-  lone_tree_refused {g} texts grammar answer is = elim fault as (λ f. AnswersSource g contents.tree texts (Err f) → BreaksFile files.Tree f refusal → IsTreeRefusal contents refusal) [
-    | faults.Broken b ↦ λ a e. subst (IsTreeRefusal contents) (sym e) (held.IsTreeBroken.tree grammar a)
-    | faults.Memory ↦ λ a e. subst (IsTreeRefusal contents) (sym e) tt
-  ] answer is
+  pub lone_tree_refused : {g : List Class} (texts : List (List ℕ)) → ReadsGrammar contents.ast g → AnswersSource g no_texts contents.tree texts (Err fault)
+      → BreaksFile files.Tree fault refusal → IsTreeRefusal contents refusal
+  lone_tree_refused {g} texts grammar answer is =
+      elim fault as (λ f. AnswersSource g no_texts contents.tree texts (Err f) → BreaksFile files.Tree f refusal → IsTreeRefusal contents refusal) [
+        | faults.Broken b ↦ λ a e. subst (IsTreeRefusal contents) (sym e) (held.IsTreeBroken.tree grammar a)
+        | faults.Memory ↦ λ a e. subst (IsTreeRefusal contents) (sym e) tt
+      ] answer is
 
 -- the text of the tree that is read
-pub says_text : (contents : TreeContents) {g : List Class} {nodes : List Node} {texts : List (List ℕ)} (text : List ℕ) → ReadsGrammar contents.ast g → ReadsTree g contents.tree nodes texts → IsTreeOf g (length texts) nodes
+pub says_text : (contents : TreeContents) {g : List Class} {nodes : List Node} {texts : List (List ℕ)} (text : List ℕ) → ReadsGrammar contents.ast g
+    → ReadsTree g no_texts contents.tree nodes texts → IsTreeOf g (length texts) nodes
     → ((term : Forest) → IsTerm g (length texts) term → nodes ≡ nodes_of term → text ≡ canonical g texts term) → SaysText contents text
 says_text contents {g} {nodes} {texts} text grammar tree is wrote =
     record { classes = g; grammar = grammar; nodes = nodes; texts = texts; tree = tree; term = is.term; grown = is.grown; are = is.are; written = wrote is.term is.grown is.are }
 
--- aspects and queries that aren't in the form that is read so far
-module _ (contents : Contents) (unread : Unread) (refusal : Refusal) where
-  pub jrag_refused : {g : List Class} → ReadsGrammar contents.ast g → AnswersRules g contents.jrag (Err unread) → Refuses files.Jrag unread refusal → IsRefusal contents refusal
-  jrag_refused {g} grammar answer is = elim unread as (λ u. AnswersRules g contents.jrag (Err u) → Refuses files.Jrag u refusal → IsRefusal contents refusal) [
-    | NotBuilt ↦ λ a e. subst (IsRefusal contents) (sym e) (no_items grammar a)
+-- aspects and queries that aren't in the form that is evaluated so far
+module _ (contents : Contents) (unread : Unread) (refusal : Refusal) {g : List Class} {written : List AspectItem} {between : List (List ℕ)} where
+  pub rules_refused : ReadsGrammar contents.ast g → ReadsAspects no_texts contents.jrag written between → AnswersRules g written (Err unread)
+      → Refuses files.Jrag unread refusal → IsRefusal contents refusal
+  rules_refused grammar aspects answer is = elim unread as (λ u. AnswersRules g written (Err u) → Refuses files.Jrag u refusal → IsRefusal contents refusal) [
+    | NotBuilt ↦ λ a e. subst (IsRefusal contents) (sym e) (no_items grammar aspects a)
     | Memory ↦ λ a e. subst (IsRefusal contents) (sym e) tt
   ] answer is
 
-  pub queries_refused : {g : List Class} {rules : RuleSet} {tree : List Node} {texts : List (List ℕ)} → ReadsGrammar contents.ast g → ReadsRules g contents.jrag rules → ReadsTree g contents.tree tree texts
+  pub queries_refused : {rules : RuleSet} {tree : List Node} {texts : List (List ℕ)} → ReadsGrammar contents.ast g
+      → ReadsAspects no_texts contents.jrag written between → ReadsRules g written rules → ReadsTree g between contents.tree tree texts
       → AnswersAsked g rules tree contents.queries (Err unread) → Refuses files.Queries unread refusal → IsRefusal contents refusal
-  queries_refused {g} {rules} {tree} grammar reads source answer is = elim unread as (λ u. AnswersAsked g rules tree contents.queries (Err u) → Refuses files.Queries u refusal → IsRefusal contents refusal) [
-    | NotBuilt ↦ λ a e. subst (IsRefusal contents) (sym e) (no_queries grammar reads.reads source (λ es s. a es (subst (λ (r : RuleSet). SaysQueries g r tree contents.queries es) (sym reads.are) s)))
-    | Memory ↦ λ a e. subst (IsRefusal contents) (sym e) tt
-  ] answer is
+  queries_refused {rules} {tree} grammar aspects reads source answer is =
+      elim unread as (λ u. AnswersAsked g rules tree contents.queries (Err u) → Refuses files.Queries u refusal → IsRefusal contents refusal) [
+        | NotBuilt ↦ λ a e. subst (IsRefusal contents) (sym e)
+            (no_queries grammar aspects reads.say source (λ es s. a es (subst (λ (r : RuleSet). SaysQueries g r tree contents.queries es) (sym reads.are) s)))
+        | Memory ↦ λ a e. subst (IsRefusal contents) (sym e) tt
+      ] answer is
 
 -- no more queries than lines
 lines_most : {g : List Class} {rules : RuleSet} {tree : List Node} {lines : List (List ℕ)} {es : List Expression} → SaysLines g rules tree lines es → length es ≤ length lines

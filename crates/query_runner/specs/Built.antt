@@ -1,8 +1,5 @@
 -- What reading the files answers.
-use Rattle.std.specs.Prelude.{◌≡◌, ℕ, List, Result, Ok, Err, Vec}
-use Rattle.std.specs.declared.alloc.Global.{Global}
-use Rattle.rag_io.specs.declared.token.Token as memory
-use Rattle.rag_io.specs.Tokens.{Lexed, IsTokens, first_place, seen_tokens}
+use Rattle.std.specs.Prelude.{◌≡◌, ℕ, List, Result, Ok, Err}
 use Rattle.broken_rules.specs.declared.broken.ReadFault.{ReadFault}
 use Rattle.broken_rules.specs.declared.broken.ReadFault.TheVariants as faults
 use Rattle.ast_grammar.specs.Grammar.{Class, superclasses_of}
@@ -10,6 +7,8 @@ use Rattle.attr_types.specs.declared.rules.Rules.{Rules}
 use Rattle.attr_types.specs.Expression.{Expression}
 use Rattle.attr_types.specs.Items.{rules_in}
 use Rattle.attr_types.specs.Rules.{Item, RuleSet, rules_of}
+use Rattle.jrag_reader.specs.declared.aspects.Aspects.{Aspects}
+use Rattle.jrag_reader.specs.Items.{Item as AspectItem, seen_aspects}
 use Rattle.equation_law.specs.declared.system.Queries.{Queries as KeptQueries}
 use Rattle.tree_arena.specs.Nodes.{Node}
 use Rattle.equation_law.specs.Systems.{queries_in}
@@ -18,15 +17,10 @@ use Rattle.query_runner.specs.declared.files.Refusal.TheVariants as refusals
 use Rattle.query_runner.specs.declared.files.Unread.{Unread}
 use Rattle.query_runner.specs.declared.files.Unread.TheVariants.{NotBuilt, Memory}
 use Rattle.query_runner.specs.declared.words.FileKind.{FileKind}
-use Rattle.query_runner.specs.Files.{BreaksGrammar, BreaksTree, Contents, IsBroken, IsNotBuilt, IsTreeBroken, ReadsGrammar, ReadsItems, ReadsTree, TreeContents}
+use Rattle.query_runner.specs.Aspects.{SaysAspects}
+use Rattle.query_runner.specs.Files.{BreaksAspects, BreaksGrammar, BreaksTree, Contents, IsBroken, IsNotBuilt, IsTreeBroken, ReadsAspects, ReadsGrammar, ReadsTree, TreeContents}
 use Rattle.query_runner.specs.Named.{seen_file}
 use Rattle.query_runner.specs.Queries.{SaysQueries}
-
--- The tokens of some bytes; or there are none.
-abbrev pub Scans : List ℕ → Result (Vec memory.Token Global) Unread → Type 0
-Scans bytes (Ok tokens) = IsTokens first_place bytes (seen_tokens tokens.items)
-Scans bytes (Err NotBuilt) = (ts : List Lexed) → IsTokens first_place bytes ts → ⊥
-Scans bytes (Err Memory) = Unit {0}
 
 -- The grammar that the bytes say, or the first rule that they break.
 abbrev pub AnswersGrammar : List ℕ → Result (List Class) ReadFault → Type 0
@@ -34,22 +28,29 @@ AnswersGrammar bytes (Ok g) = ReadsGrammar bytes g
 AnswersGrammar bytes (Err (faults.Broken b)) = BreaksGrammar bytes b
 AnswersGrammar bytes (Err faults.Memory) = Unit {0}
 
--- The bytes say items, and these are their rules.
-pub record ReadsRules (g : List Class) (bytes : List ℕ) (rules : RuleSet) : Type 0 where
+-- The aspects that the bytes say over the texts of a pool, with those that it then holds, or the first rule that they break.
+abbrev pub AnswersWritten : List (List ℕ) → List ℕ → List (List ℕ) → Result Aspects ReadFault → Type 0
+AnswersWritten before bytes texts (Ok aspects) = ReadsAspects before bytes (seen_aspects aspects) texts
+AnswersWritten before bytes texts (Err (faults.Broken b)) = BreaksAspects before bytes b
+AnswersWritten before bytes texts (Err faults.Memory) = Unit {0}
+
+-- The aspects say items over a grammar, and these are their rules.
+pub record ReadsRules (g : List Class) (aspects : List AspectItem) (rules : RuleSet) : Type 0 where
   pub items : List Item
-  pub reads : ReadsItems g bytes items
+  pub say : SaysAspects g aspects items
   pub are : rules ≡ rules_of (superclasses_of g) items
 
-abbrev pub AnswersRules : List Class → List ℕ → Result Rules Unread → Type 0
-AnswersRules g bytes (Ok rules) = ReadsRules g bytes (rules_in rules)
-AnswersRules g bytes (Err NotBuilt) = (items : List Item) → ReadsItems g bytes items → ⊥
-AnswersRules g bytes (Err Memory) = Unit {0}
+-- The rules of some aspects; or they say no items.
+abbrev pub AnswersRules : List Class → List AspectItem → Result Rules Unread → Type 0
+AnswersRules g aspects (Ok rules) = ReadsRules g aspects (rules_in rules)
+AnswersRules g aspects (Err NotBuilt) = (items : List Item) → SaysAspects g aspects items → ⊥
+AnswersRules g aspects (Err Memory) = Unit {0}
 
--- The tree that the bytes say, with the texts that the pool then holds, or the first rule that they break.
-abbrev pub AnswersSource : List Class → List ℕ → List (List ℕ) → Result (List Node) ReadFault → Type 0
-AnswersSource g bytes texts (Ok tree) = ReadsTree g bytes tree texts
-AnswersSource g bytes texts (Err (faults.Broken b)) = BreaksTree g bytes b
-AnswersSource g bytes texts (Err faults.Memory) = Unit {0}
+-- The tree that the bytes say over the texts of a pool, with those that it then holds, or the first rule that they break.
+abbrev pub AnswersSource : List Class → List (List ℕ) → List ℕ → List (List ℕ) → Result (List Node) ReadFault → Type 0
+AnswersSource g before bytes texts (Ok tree) = ReadsTree g before bytes tree texts
+AnswersSource g before bytes texts (Err (faults.Broken b)) = BreaksTree g before bytes b
+AnswersSource g before bytes texts (Err faults.Memory) = Unit {0}
 
 -- The queries that the bytes say; or they say none.
 abbrev pub AnswersAsked : List Class → RuleSet → List Node → List ℕ → Result KeptQueries Unread → Type 0

@@ -1,9 +1,6 @@
 pub mod Answered
 pub mod AspectSteps
 pub mod Aspects
-pub mod AspectsClaims
-pub mod AspectsGrammar
-pub mod Building
 pub mod Built
 pub mod Fetched
 pub mod Files
@@ -23,4 +20,3 @@ pub mod Run
 pub mod Sentences
 pub mod Tokens
 pub mod Words
-pub mod Written

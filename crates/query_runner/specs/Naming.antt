@@ -1,12 +1,12 @@
 -- What the names in an expression mean, at a node of a class.
-use Rattle.std.specs.Prelude.{ℕ, List, [], ◌∷◌, ◌&&◌, Option, Some, None, codes, if◌then◌else◌, position, slice_get}
+use Rattle.std.specs.Prelude.{ℕ, pos, nat_le, List, ◌&&◌, Option, Some, None, if◌then◌else◌, position, slice_get}
 use Rattle.std.specs.Option.{option_and_then, option_map}
 use Rattle.std.specs.Str.{bytes_eq}
-use Rattle.rag_io.specs.Tokens.{Lexed}
 use Rattle.rag_io.specs.Words.{is_one_of}
 use Rattle.ast_grammar.specs.declared.grammar.ClassId.{ClassId}
 use Rattle.superclasses.specs.Superclasses.{is_sub}
 use Rattle.ast_grammar.specs.Grammar.{Class, superclasses_of}
+use Rattle.attr_types.specs.declared.expression.Operator.TheVariants as kept
 use Rattle.attr_types.specs.declared.kinds.Attr.{Attr}
 use Rattle.attr_types.specs.declared.kinds.Kind.{Kind}
 use Rattle.attr_types.specs.Accessors.{named_on_type}
@@ -14,8 +14,10 @@ use Rattle.attr_types.specs.Expression as said_as
 use Rattle.attr_types.specs.Expression.{Expression}
 use Rattle.attr_types.specs.Rules.{plain_attribute}
 use Rattle.attr_types.specs.Typing.{Names, type_of}
-use Rattle.query_runner.specs.Tokens.{text_at}
-use Rattle.query_runner.specs.Written.{Written, Truth, Int, This, Call, Alone, Not, Negate, Binary, And, Or, If}
+use Rattle.jrag_reader.specs.declared.expression.Operator.{Operator}
+use Rattle.jrag_reader.specs.declared.expression.Operator.TheVariants as signs
+use Rattle.jrag_reader.specs.Built.{set_forms}
+use Rattle.jrag_reader.specs.Expressions.{Expr, no_more, argument, Truth, Null, Empty, This, Int, Text, Source, Variable, Call, Member, New, Quantified, Group, Cast, Not, Negate, Binary, InstanceOf, If}
 
 -- what an item declares: an attribute of a class
 pub record Head : Type 0 where
@@ -30,11 +32,10 @@ head_named superclasses heads class name = position (λ h. is_sub superclasses c
 abbrev pub declared_by : Head → Attr
 declared_by h = plain_attribute h.class h.kind
 
--- where an expression is read: the grammar, the attributes, the tokens of the file, and the class of the node
+-- where an expression is read: the grammar, the attributes, and the class of the node
 pub record Site : Type 0 where
   pub grammar : List Class
   pub heads : List Head
-  pub tokens : List Lexed
   pub class : ClassId
 
 -- what may be named at a node of a class
@@ -44,17 +45,17 @@ names_by g heads c = record { grammar = g; attribute = λ a. option_map declared
 abbrev pub names_at : Site → Names
 names_at s = names_by s.grammar s.heads s.class
 
--- words that are forms of their own where they stand without receiver
-abbrev pub form_names : List (List ℕ)
-form_names = codes "union" ∷ codes "inter" ∷ codes "minus" ∷ codes "single" ∷ codes "contains" ∷ codes "size" ∷ []
+-- the largest integer literal
+abbrev pub greatest : ℕ
+greatest = 2147483647
 
--- the call of the name that is the token of this number
-abbrev pub called : Site → ℕ → Expression → Option Expression
-called s name e = named_on_type s.grammar (head_named (superclasses_of s.grammar) s.heads) (type_of (names_at s) e) (text_at s.tokens name) e
+-- the call of a name
+abbrev pub called : Site → List ℕ → Expression → Option Expression
+called s name e = named_on_type s.grammar (head_named (superclasses_of s.grammar) s.heads) (type_of (names_at s) e) name e
 
--- the same without receiver, which is `this` then
-abbrev pub called_alone : Site → ℕ → Option Expression
-called_alone s name = if is_one_of form_names (text_at s.tokens name) then None else called s name said_as.This
+-- the same without receiver, which is `this` then; the words of the forms on sets are no names there
+abbrev pub called_alone : Site → List ℕ → Option Expression
+called_alone s name = if is_one_of set_forms name then None else called s name said_as.This
 
 abbrev pub join_two : (Expression → Expression → Expression) → Option Expression → Option Expression → Option Expression
 join_two f None b = None
@@ -64,16 +65,40 @@ abbrev pub join_three : Option Expression → Option Expression → Option Expre
 join_three None a b = None
 join_three (Some c) a b = join_two (said_as.If c) a b
 
--- the expression that a written one says, or None where a name means nothing
-abbrev pub said : Site → Written → Option Expression
-said s (Truth b) = Some (said_as.Truth b)
-said s (Int z) = Some (said_as.Int z)
-said s This = Some said_as.This
-said s (Call name w) = option_and_then (called s name) (said s w)
-said s (Alone name) = called_alone s name
-said s (Not w) = option_map said_as.Not (said s w)
-said s (Negate w) = option_map said_as.Negate (said s w)
-said s (Binary o a b) = join_two (said_as.Binary o) (said s a) (said s b)
-said s (And a b) = join_two said_as.And (said s a) (said s b)
-said s (Or a b) = join_two said_as.Or (said s a) (said s b)
+-- two expressions and what stands between them
+abbrev pub joined : Operator → Expression → Expression → Expression
+joined signs.Multiply a b = said_as.Binary kept.Multiply a b
+joined signs.Add a b = said_as.Binary kept.Add a b
+joined signs.Subtract a b = said_as.Binary kept.Subtract a b
+joined signs.Less a b = said_as.Binary kept.Less a b
+joined signs.AtMost a b = said_as.Binary kept.AtMost a b
+joined signs.Greater a b = said_as.Binary kept.Greater a b
+joined signs.AtLeast a b = said_as.Binary kept.AtLeast a b
+joined signs.Equal a b = said_as.Binary kept.Equal a b
+joined signs.Differ a b = said_as.Not (said_as.Binary kept.Equal a b)
+joined signs.And a b = said_as.And a b
+joined signs.Or a b = said_as.Or a b
+
+-- the expression that a written one says, or None where a name means nothing, a literal is too large, or a form isn't evaluated so far
+abbrev pub said : Site → Expr → Option Expression
+said s (Truth p b) = Some (said_as.Truth b)
+said s (Null p) = None
+said s (Empty p) = None
+said s (This p) = Some said_as.This
+said s (Int p n) = if nat_le n greatest then Some (said_as.Int (pos n)) else None
+said s (Text p n) = None
+said s (Source p n) = None
+said s (Variable n) = None
+said s (Call n no_more) = called_alone s n.text
+said s (Call n (argument e es)) = None
+said s (Member e n no_more) = option_and_then (called s n.text) (said s e)
+said s (Member e n (argument f es)) = None
+said s (New p n es) = None
+said s (Quantified q p n range e) = None
+said s (Group p e) = said s e
+said s (Cast p n e) = None
+said s (Not p e) = option_map said_as.Not (said s e)
+said s (Negate p e) = option_map said_as.Negate (said s e)
+said s (Binary o a b) = join_two (joined o) (said s a) (said s b)
+said s (InstanceOf e n) = None
 said s (If c a b) = join_three (said s c) (said s a) (said s b)

@@ -101,7 +101,8 @@ pub data IsFirstLong (files : List Named) : List (List ℕ) → List ℕ → Typ
 abbrev pub broken_line : List ℕ → Broken → List ℕ
 broken_line name b = name ++ codes ":" ++ decimal b.place.line ++ codes ":" ++ decimal b.place.column ++ codes ": " ++ code_of b.rule ++ codes "\n"
 
--- The line of a file that is refused.
+-- The line of a file that is refused: of the first that is too long; of a grammar, aspects or a tree that breaks a rule, with the first one and its
+-- place; or of another that isn't in the form that is evaluated so far.
 pub data IsRefused (words : List (List ℕ)) (files : List Named) : List ℕ → Type 0 where
   too_long : {command : Command} {name : List ℕ} → command_of words ≡ Some command → IsFirstLong files (files_of command) name → IsRefused words files (name ++ codes ": too long\n")
   broken : {names : FileNames} {contents : Contents} {file : File} {b : Broken} → command_of words ≡ Some (Run names) → HoldsAll files names contents → IsBroken contents file b

@@ -9,7 +9,3 @@ text_in (Some t) = t.text
 -- the text of the token of this number
 abbrev pub text_at : List Lexed → ℕ → List ℕ
 text_at ts k = text_in (slice_get ts k)
-
--- the largest integer literal
-abbrev pub greatest : ℕ
-greatest = 2147483647

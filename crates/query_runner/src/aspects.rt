@@ -1,130 +1,107 @@
-// The reader of aspects in the first form.
-ghost use Rattle.std.specs.Prelude.{◌≡◌, ◌==◌, ◌≤◌, ◌↔◌, ◌++◌, ◌∷◌, [], IfOk, IsTrue, length, map, count_by};
-ghost use Rattle.rag_io.specs.Tokens.{AreTokens, seen_tokens};
+// What aspects say.
+ghost use Rattle.std.specs.Prelude.{◌≡◌, ◌≤◌, ◌↔◌, ◌++◌, ◌∷◌, [], IfOk, IsTrue, length, map, true};
+ghost use Rattle.std.specs.Option.{option_map};
 ghost use Rattle.ast_grammar.specs.Grammar.{superclasses_of};
 ghost use Rattle.attr_types.specs.Items.{item_of};
 ghost use Rattle.attr_types.specs.Rules.{IsFree, are_related, declares, items_differ, most_attributes};
-ghost use Rattle.query_runner.specs.Aspects.{aspect_class, are_short, is_small, are_small, AnswersAspects};
-ghost use Rattle.query_runner.specs.AspectsGrammar.{aspects_grammar};
-ghost use Rattle.query_runner.specs.AspectSteps.{IsModest, ReadsEvents, FindsHead, FindsHeads, MakesEquation, ResolvesItem, Resolves};
-ghost use Rattle.query_runner.specs.Building.{written_of};
+ghost use Rattle.jrag_reader.specs.Built.{all_built};
+ghost use Rattle.jrag_reader.specs.Items.{Declared, seen_aspects, seen_item, seen_synthesized, seen_type};
+ghost use Rattle.query_runner.specs.Aspects.{AnswersAspects, kind_of, written_item};
+ghost use Rattle.query_runner.specs.AspectSteps.{FindsHead, FindsHeads, FindsWritten, MakesEquation, Resolves, ResolvesItem, seen_written};
 ghost use Rattle.query_runner.specs.Heads.{seen_head};
 ghost use Rattle.query_runner.specs.NamingSteps.{seen_said};
-ghost use Rattle.query_runner.specs.Sentences.{Recognizes};
 
-use crate::aspect_events as events;
-use crate::aspect_tokens::AspectWords;
-use crate::aspects_table::{ASPECTS_BODIES, ASPECTS_CHOICE, ASPECTS_OF, ASPECTS_STARTS};
-use crate::building::{WrittenItem, build};
 use crate::heads::{Head, Heads};
 use crate::members::accessed_by;
-use crate::naming::{Said, Site, resolve_names};
-use crate::sentences::{GREATEST, classes_of, sentence, text_at};
+use crate::naming::{Site, resolve_names};
+use crate::typed::Said;
 use ast_grammar::{ClassId, Grammar};
-use attr_types::{FirstEq, Name};
-use ll_parser::Table;
-use rag_io::{Memory, Token, TokenKind, capped};
+use attr_types::{FirstEq, Kind, Name};
+use jrag_reader::{Aspects, Expr, Item, Synthesized, Type, TypeName};
+use rag_io::Memory;
 use std::alloc::Global;
-
-/// Each expression has at most so many tokens.
-const MOST_TOKENS: usize = 400;
 
 /// So many attributes may be declared.
 const MOST_ATTRIBUTES: usize = 1024;
 
-fn sentence_of(alloc: Global, tokens: &[Token<'_>]) -> Result<Option<Vec<u8>>, Memory>
-    requires { AreTokens (seen_tokens tokens.now) }
-    ensures { Recognizes aspects_grammar (map aspect_class (seen_tokens tokens.now)) result }
-{
-    let classes = classes_of::<AspectWords>(alloc, tokens)?;
-    let table = Table {
-        of: &ASPECTS_OF,
-        starts: &ASPECTS_STARTS,
-        bodies: &ASPECTS_BODIES,
-        choice: &ASPECTS_CHOICE,
-    };
-    sentence(alloc, &table, &classes)
+// An attribute with its equation, as it is written.
+#[derive(Clone, Copy, Debug)]
+struct WrittenItem<'a> {
+    class: &'a [u8],
+    name: &'a [u8],
+    kind: Kind,
+    body: &'a Expr,
 }
 
-// No expression has more tokens than one may have.
-fn are_short(sentence: &[u8]) -> bool
-    ensures { result ≡ are_short 0 0 sentence.now }
+// The type of an attribute, where it is one that is evaluated so far.
+fn kind_of(of: &Type) -> Option<Kind>
+    ensures { result ≡ kind_of (seen_type of.now) }
 {
-    let mut at: usize = 0;
-    let mut from: usize = 0;
-    for event in sentence {
-        match *event {
-            events::TOKEN => at += 1,
-            events::BEGIN => from = at,
-            events::ITEM => {
-                if at.saturating_sub(1).saturating_sub(from) > MOST_TOKENS {
-                    return false;
-                }
-            }
-            _ => {}
+    if of.set {
+        return None;
+    }
+    match of.name {
+        TypeName::Boolean => Some(Kind::Truth),
+        TypeName::Int => Some(Kind::Int),
+        TypeName::String | TypeName::Class(_) => None,
+    }
+}
+
+// The attribute that a declaration declares, with the equation that it has.
+fn written_declaration(declared: &Synthesized) -> Option<WrittenItem<'_>>
+    ensures { option_map seen_written result ≡ written_item (Declared (seen_synthesized declared.now)) }
+{
+    let kind = kind_of(&declared.of)?;
+    let body = declared.body.as_ref()?;
+    Some(WrittenItem {
+        class: &declared.class.text,
+        name: &declared.signature.name.text,
+        kind,
+        body,
+    })
+}
+
+// The attribute that an item declares, with its equation.
+fn written_item(item: &Item) -> Option<WrittenItem<'_>>
+    ensures { option_map seen_written result ≡ written_item (seen_item item.now) }
+{
+    match item {
+        Item::Synthesized(declared) => written_declaration(declared),
+        Item::Inherited(_) | Item::Equation(_) | Item::Collection(_) | Item::Contribution(_) => {
+            None
         }
     }
-    true
 }
 
-fn item_count(sentence: &[u8]) -> usize
-    ensures { result ≡ count_by (λ e. e == 6) sentence.now }
+// One more written item.
+fn add_written<'a>(list: &mut Vec<WrittenItem<'a>>, item: WrittenItem<'a>) -> Result<(), Memory>
+    ensures { IfOk result (λ u. map seen_written list.new.items ≡ map seen_written list.old.items ++ seen_written item.entry ∷ []) }
 {
-    sentence
-        .iter()
-        .filter(|event| **event == events::ITEM)
-        .count()
+    list.push(item).map_err(|_| Memory)
 }
 
-// A literal is at most the greatest integer.
-fn is_small(token: &Token<'_>) -> bool
-    ensures { result ≡ is_small token.now.kind token.now.text.now }
+// The attributes that the items declare, with their equations, if each is one.
+fn written_items(alloc: Global, items: &[Item]) -> Result<Option<Vec<WrittenItem<'_>>>, Memory>
+    ensures { FindsWritten (map seen_item items.now) result }
 {
-    match token.kind {
-        TokenKind::Int => capped(token.text, GREATEST + 1) <= GREATEST,
-        TokenKind::Name => true,
-        TokenKind::Text => true,
-        TokenKind::Symbol => true,
-        TokenKind::End => true,
-    }
-}
-
-fn are_small(tokens: &[Token<'_>]) -> bool
-    ensures { result ≡ are_small (seen_tokens tokens.now) }
-{
-    for token in tokens {
-        if !is_small(token) {
-            return false;
+    let mut list = Vec::new(alloc);
+    for item in items {
+        match written_item(item) {
+            Some(written) => add_written(&mut list, written)?,
+            None => return Ok(None),
         }
     }
-    true
-}
-
-// The events of the sentence, where nothing is too large to be built.
-fn read_events(alloc: Global, tokens: &[Token<'_>]) -> Result<Option<Vec<u8>>, Memory>
-    requires { AreTokens (seen_tokens tokens.now) }
-    ensures { ReadsEvents (seen_tokens tokens.now) result }
-{
-    match sentence_of(alloc, tokens)? {
-        Some(events) => {
-            if item_count(&events) <= MOST_ATTRIBUTES && are_short(&events) && are_small(tokens) {
-                Ok(Some(events))
-            } else {
-                Ok(None)
-            }
-        }
-        None => Ok(None),
-    }
+    Ok(Some(list))
 }
 
 // The attribute that an item declares, if there is the class that it names.
-fn head_of<'a>(grammar: &Grammar, tokens: &[Token<'a>], item: &WrittenItem) -> Option<Head<'a>>
-    ensures { FindsHead grammar.now (seen_tokens tokens.now) (written_of item.now) result }
+fn head_of<'a>(grammar: &Grammar, item: WrittenItem<'a>) -> Option<Head<'a>>
+    ensures { FindsHead grammar.now (seen_written item.entry) result }
 {
-    let class = grammar.find_class(text_at(tokens, item.class))?;
+    let class = grammar.find_class(item.class)?;
     Some(Head {
         class,
-        name: text_at(tokens, item.name),
+        name: item.name,
         kind: item.kind,
     })
 }
@@ -140,14 +117,13 @@ fn add_head<'a>(heads: &mut Vec<Head<'a>>, head: Head<'a>) -> Result<(), Memory>
 fn heads_of<'a>(
     alloc: Global,
     grammar: &Grammar,
-    tokens: &[Token<'a>],
-    items: &[WrittenItem],
+    items: &[WrittenItem<'a>],
 ) -> Result<Option<Vec<Head<'a>>>, Memory>
-    ensures { FindsHeads grammar.now (seen_tokens tokens.now) (map written_of items.now) result }
+    ensures { FindsHeads grammar.now (map seen_written items.now) result }
 {
     let mut heads = Vec::new(alloc);
     for item in items {
-        match head_of(grammar, tokens, item) {
+        match head_of(grammar, *item) {
             Some(head) => add_head(&mut heads, head)?,
             None => return Ok(None),
         }
@@ -194,21 +170,19 @@ fn resolved(
     alloc: Global,
     grammar: &Grammar,
     heads: &Heads<'_>,
-    tokens: &[Token<'_>],
-    item: &WrittenItem,
+    item: WrittenItem<'_>,
 ) -> Result<Option<FirstEq>, Memory>
-    ensures { ResolvesItem grammar.now heads.now (seen_tokens tokens.now) (written_of item.now) result }
+    ensures { ResolvesItem grammar.now heads.now (seen_written item.entry) result }
 {
-    let Some(head) = head_of(grammar, tokens, item) else {
+    let Some(head) = head_of(grammar, item) else {
         return Ok(None);
     };
     let site = Site {
         grammar,
         heads,
-        tokens,
         class: head.class,
     };
-    match resolve_names(alloc, &site, &item.body)? {
+    match resolve_names(alloc, &site, item.body)? {
         Some(body) => equation(alloc, grammar, head, body),
         None => Ok(None),
     }
@@ -226,14 +200,13 @@ fn resolve(
     alloc: Global,
     grammar: &Grammar,
     heads: &Heads<'_>,
-    tokens: &[Token<'_>],
-    items: &[WrittenItem],
+    items: &[WrittenItem<'_>],
 ) -> Result<Option<Vec<FirstEq>>, Memory>
-    ensures { Resolves grammar.now heads.now (seen_tokens tokens.now) (map written_of items.now) result }
+    ensures { Resolves grammar.now heads.now (map seen_written items.now) result }
 {
     let mut list = Vec::new(alloc);
     for item in items {
-        match resolved(alloc, grammar, heads, tokens, item)? {
+        match resolved(alloc, grammar, heads, *item)? {
             Some(equation) => add(&mut list, equation)?,
             None => return Ok(None),
         }
@@ -272,22 +245,24 @@ fn items_differ(grammar: &Grammar, list: &[FirstEq]) -> bool
     true
 }
 
-// The items that the events of a sentence say.
+// The equations that the items of aspects say.
 fn read_items(
     alloc: Global,
     grammar: &Grammar,
-    tokens: &[Token<'_>],
-    sentence: &[u8],
+    items: &[Item],
 ) -> Result<Option<Vec<FirstEq>>, Memory>
-    requires { IsModest (seen_tokens tokens.now) sentence.now }
-    ensures { AnswersAspects grammar.now (seen_tokens tokens.now) result }
+    requires built { all_built (map seen_item items.now) ≡ true }
+    requires few { length items.now ≤ most_attributes }
+    ensures { AnswersAspects grammar.now (map seen_item items.now) result }
 {
-    let items = build(alloc, tokens, sentence)?;
-    let Some(heads) = heads_of(alloc, grammar, tokens, &items)? else {
+    let Some(written) = written_items(alloc, items)? else {
+        return Ok(None);
+    };
+    let Some(heads) = heads_of(alloc, grammar, &written)? else {
         return Ok(None);
     };
     let heads = Heads::of_list(alloc, heads)?;
-    let Some(list) = resolve(alloc, grammar, &heads, tokens, &items)? else {
+    let Some(list) = resolve(alloc, grammar, &heads, &written)? else {
         return Ok(None);
     };
     if items_differ(grammar, &list) {
@@ -297,18 +272,19 @@ fn read_items(
     }
 }
 
-/// The items that the tokens say over the grammar, or None exactly where they say none in the form that is
-/// read so far: `syn boolean` and `syn int` attributes without parameters.
+/// The equations that aspects say over the grammar, or None exactly where they say none in the form that is read so far: at most 1,024
+/// attributes, `syn boolean` and `syn int` without parameters, each with its equation.
 pub(crate) fn read_aspects(
     alloc: Global,
     grammar: &Grammar,
-    tokens: &[Token<'_>],
+    aspects: &Aspects,
 ) -> Result<Option<Vec<FirstEq>>, Memory>
-    requires { AreTokens (seen_tokens tokens.now) }
-    ensures { AnswersAspects grammar.now (seen_tokens tokens.now) result }
+    requires { all_built (seen_aspects aspects.now) ≡ true }
+    ensures { AnswersAspects grammar.now (seen_aspects aspects.now) result }
 {
-    match read_events(alloc, tokens)? {
-        Some(events) => read_items(alloc, grammar, tokens, &events),
-        None => Ok(None),
+    if aspects.items.len() <= MOST_ATTRIBUTES {
+        read_items(alloc, grammar, &aspects.items)
+    } else {
+        Ok(None)
     }
 }

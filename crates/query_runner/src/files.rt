@@ -3,9 +3,10 @@ ghost use Rattle.std.specs.Prelude.{◌≡◌, ◌≤◌, length, IfOk, IfErr};
 ghost use Rattle.rag_io.specs.Outside.{longest_file};
 ghost use Rattle.attr_types.specs.Items.{rules_in};
 ghost use Rattle.equation_law.specs.Systems.{program_of};
+ghost use Rattle.jrag_reader.specs.Items.{seen_aspects};
 ghost use Rattle.query_runner.specs.declared.files.Refusal.TheVariants.{Memory as NoMemory};
 ghost use Rattle.query_runner.specs.declared.files.Unread.TheVariants.{Memory as OutOfMemory};
-ghost use Rattle.query_runner.specs.Built.{Scans, AnswersGrammar, AnswersRules, AnswersSource, AnswersAsked, BreaksFile, Refuses, IsRefusal, IsTreeRefusal};
+ghost use Rattle.query_runner.specs.Built.{AnswersGrammar, AnswersWritten, AnswersRules, AnswersSource, AnswersAsked, BreaksFile, Refuses, IsRefusal, IsTreeRefusal};
 ghost use Rattle.query_runner.specs.Fetched.{seen_contents, seen_tree_contents, AreShort, AreBothShort};
 ghost use Rattle.query_runner.specs.Files.{SaysProgram, SaysText, no_texts};
 
@@ -17,7 +18,8 @@ use ast_grammar::{Grammar, read_ast};
 use attr_types::Rules;
 use broken_rules::{Broken, ReadFault, Rule};
 use equation_law::{Queries, System};
-use rag_io::{Memory, Pool, ScanFault, Token, scan};
+use jrag_reader::{Aspects, built, read_jrag};
+use rag_io::{Memory, Pool, ScanFault, scan};
 use std::alloc::Global;
 use tree_arena::Tree;
 use tree_reader::read_tree;
@@ -26,7 +28,7 @@ use tree_writer::write_tree;
 /// Why a file was not read.
 #[derive(Clone, Copy, Debug, PartialEq, Eq)]
 pub(crate) enum Unread {
-    /// It isn't in the form that is read so far.
+    /// It isn't in the form that is evaluated so far.
     NotBuilt,
     /// Want of memory.
     Memory,
@@ -45,7 +47,7 @@ impl From<Memory> for Unread {
 pub(crate) enum Refusal {
     /// It breaks a rule, and this is the first one.
     Broken(FileKind, Broken),
-    /// It isn't in the form that is read so far.
+    /// It isn't in the form that is evaluated so far.
     NotBuilt(FileKind),
     /// Want of memory.
     Memory,
@@ -68,20 +70,6 @@ fn refusal_of(file: FileKind, unread: Unread) -> Refusal
     }
 }
 
-// The tokens of a file.
-fn tokens_of(alloc: Global, bytes: &[u8]) -> Result<Vec<Token<'_>>, Unread>
-    requires { length bytes.now ≤ longest_file }
-    ensures { Scans bytes.now result }
-{
-    match scan(alloc, bytes) {
-        Ok(tokens) => Ok(tokens),
-        Err(fault) => match fault {
-            ScanFault::Bad(_) => Err(Unread::NotBuilt),
-            ScanFault::Memory => Err(Unread::Memory),
-        },
-    }
-}
-
 // The grammar that the bytes say, or the first rule that they break: G1 at a place where no token begins.
 fn read_grammar(alloc: Global, bytes: &[u8]) -> Result<Grammar, ReadFault>
     requires { length bytes.now ≤ longest_file }
@@ -97,12 +85,29 @@ fn read_grammar(alloc: Global, bytes: &[u8]) -> Result<Grammar, ReadFault>
     }
 }
 
-fn read_rules(alloc: Global, grammar: &Grammar, bytes: &[u8]) -> Result<Rules, Unread>
+// The aspects that the bytes say, whose texts go into the pool, or the first rule that they break: J1 at a place where no token begins.
+fn read_written(alloc: Global, bytes: &[u8], pool: &mut Pool) -> Result<Aspects, ReadFault>
     requires { length bytes.now ≤ longest_file }
-    ensures { AnswersRules grammar.now bytes.now result }
+    ensures { AnswersWritten pool.old bytes.now pool.new result }
 {
-    let tokens = tokens_of(alloc, bytes)?;
-    match read_aspects(alloc, grammar, &tokens)? {
+    match scan(alloc, bytes) {
+        Ok(tokens) => read_jrag(alloc, &tokens, pool),
+        Err(ScanFault::Bad(place)) => Err(ReadFault::Broken(Broken {
+            place,
+            rule: Rule::J1,
+        })),
+        Err(ScanFault::Memory) => Err(ReadFault::Memory),
+    }
+}
+
+// The rules of the aspects, where all of their forms are evaluated so far and they break nothing over the grammar.
+fn read_rules(alloc: Global, grammar: &Grammar, aspects: &Aspects) -> Result<Rules, Unread>
+    ensures { AnswersRules grammar.now (seen_aspects aspects.now) result }
+{
+    if !built(aspects) {
+        return Err(Unread::NotBuilt);
+    }
+    match read_aspects(alloc, grammar, aspects)? {
         Some(items) => Ok(Rules::of_equations(alloc, grammar, items)?),
         None => Err(Unread::NotBuilt),
     }
@@ -115,9 +120,8 @@ fn read_source(
     bytes: &[u8],
     pool: &mut Pool,
 ) -> Result<Tree, ReadFault>
-    requires short { length bytes.now ≤ longest_file }
-    requires texts { pool.old ≡ no_texts }
-    ensures { AnswersSource grammar.now bytes.now pool.new result }
+    requires { length bytes.now ≤ longest_file }
+    ensures { AnswersSource grammar.now pool.old bytes.now pool.new result }
 {
     match scan(alloc, bytes) {
         Ok(tokens) => read_tree(alloc, grammar, &tokens, pool),
@@ -145,7 +149,7 @@ fn read_asked(
     }
 }
 
-// The pool before a tree is read.
+// The pool before the first file is read.
 fn no_texts(alloc: Global) -> Result<Pool, Refusal>
     ensures said { IfOk result (λ pool. pool ≡ no_texts) }
     ensures refused { IfErr result (λ refusal. refusal ≡ Refusal.Memory) }
@@ -174,7 +178,11 @@ pub(crate) fn read_system(alloc: Global, contents: &Contents) -> Result<System, 
         Ok(grammar) => grammar,
         Err(fault) => return Err(broken_file(FileKind::Ast, fault)),
     };
-    let rules = match read_rules(alloc, &grammar, &contents.jrag) {
+    let aspects = match read_written(alloc, &contents.jrag, &mut pool) {
+        Ok(aspects) => aspects,
+        Err(fault) => return Err(broken_file(FileKind::Jrag, fault)),
+    };
+    let rules = match read_rules(alloc, &grammar, &aspects) {
         Ok(rules) => rules,
         Err(unread) => return Err(refusal_of(FileKind::Jrag, unread)),
     };

@@ -1,12 +1,8 @@
-//! A run of the program: the words, the four files in the form that is read so far, the replies, and the top
+//! A run of the program: the words, the four files in the form that is evaluated so far, the replies, and the top
 //! call.
 #![tactic(auto)]
 
-mod aspect_events;
-mod aspect_tokens;
 mod aspects;
-mod aspects_table;
-mod building;
 mod fetching;
 mod files;
 mod heads;
@@ -23,6 +19,7 @@ mod replies;
 mod run_tests;
 mod running;
 mod sentences;
+mod typed;
 mod words;
 
 pub use laws::one_answer;

@@ -7,14 +7,14 @@ pub const QUERY_OF: [u8; 1] = [0];
 pub const QUERY_STARTS: [u16; 2] = [0, 8];
 
 pub const QUERY_BODIES: [Symbol; 8] = [
-    Terminal(6),
-    Terminal(5),
-    Action(2),
-    Terminal(1),
-    Terminal(4),
-    Action(1),
-    Terminal(2),
-    Terminal(3),
+    Terminal(6), // 0. query: ')'
+    Terminal(5), // 0. query: '('
+    Action(2), // 0. query: @name
+    Terminal(1), // 0. query: Name
+    Terminal(4), // 0. query: '.'
+    Action(1), // 0. query: @node
+    Terminal(2), // 0. query: Int
+    Terminal(3), // 0. query: '@'
 ];
 
 pub const QUERY_CHOICE: [u8; 64] = [

@@ -2,6 +2,8 @@ use crate::aspects::read_aspects;
 use crate::queries::read_queries;
 use ast_grammar::{Grammar, read_ast};
 use attr_types::{FirstEq, QueryEq, Rules};
+use broken_rules::ReadFault;
+use jrag_reader::{Aspects, built, read_jrag};
 use rag_io::{LONGEST_FILE, Pool, scan};
 use std::alloc::{AllocError, Global};
 use std::fmt::Write;
@@ -16,7 +18,19 @@ fn grammar_said(rt: &impl Abort, alloc: Global, text: &str) -> Result<Grammar, F
     Ok(read_ast(alloc, &tokens)?)
 }
 
-// The items that the text says, or None where it says none.
+// The items that the aspects say, or None where they say none that are evaluated so far.
+fn evaluated(
+    alloc: Global,
+    grammar: &Grammar,
+    aspects: &Aspects,
+) -> Result<Option<Vec<FirstEq>>, Fail> {
+    if !built(aspects) {
+        return Ok(None);
+    }
+    Ok(read_aspects(alloc, grammar, aspects)?)
+}
+
+// The items that the text says, or None where it breaks a rule or says none that are evaluated so far.
 fn aspects_said(
     rt: &impl Abort,
     alloc: Global,
@@ -25,7 +39,12 @@ fn aspects_said(
 ) -> Result<Option<Vec<FirstEq>>, Fail> {
     assert!(rt; text.len() <= LONGEST_FILE);
     let tokens = scan(alloc, text.as_bytes())?;
-    Ok(read_aspects(alloc, grammar, &tokens)?)
+    let mut pool = Pool::new(alloc)?;
+    match read_jrag(alloc, &tokens, &mut pool) {
+        Ok(aspects) => evaluated(alloc, grammar, &aspects),
+        Err(ReadFault::Broken(_)) => Ok(None),
+        Err(ReadFault::Memory) => Err("no memory".into()),
+    }
 }
 
 // How many there are.
@@ -96,7 +115,7 @@ fn many_items(alloc: Global, count: u32) -> Result<String, AllocError> {
 const ACCESSED: &str = "N ::= l:N r:M <V:int> <T:boolean>; M;";
 
 // A text, and how many items it says, if it says some.
-const ASPECTS: [(&str, Option<usize>); 28] = [
+const ASPECTS: [(&str, Option<usize>); 33] = [
     ("", Some(0)),
     ("aspect A { syn int N.v() = 5; }", Some(1)),
     ("aspect A {} aspect B { syn int M.v() = 1; }", Some(1)),
@@ -112,7 +131,12 @@ const ASPECTS: [(&str, Option<usize>); 28] = [
     ("aspect A { syn int X.v() = 5; }", None),
     ("aspect A { syn boolean N.v() = 5; }", None),
     ("aspect A { syn int N.v() = true; }", None),
-    ("aspect A { syn lazy int N.v() = 5; }", None),
+    ("aspect A { syn lazy int N.v() = 5; }", Some(1)),
+    ("aspect A { syn nta int N.v() = 5; }", None),
+    ("aspect A { syn int N.v() circular [0] = 5; }", None),
+    ("aspect A { syn int N.v(); }", None),
+    ("aspect A { syn int N.v(); eq N.v() = 5; }", None),
+    ("aspect A { syn int N.first() = 5; }", Some(1)),
     ("aspect A { syn int N.v(int k) = 5; }", None),
     ("aspect A { syn int N.int() = 5; }", None),
     ("aspect A { syn int N.class() = 5; }", None),
@@ -234,7 +258,7 @@ const EXPRESSIONS: [(&str, &str, &str); 24] = [
 ];
 
 // The same, where names stand in the expression.
-const NAMES: [(&str, &str, &str); 26] = [
+const NAMES: [(&str, &str, &str); 32] = [
     ("int", "v()", "Call(AttrId(1), This)"),
     ("int", "this.v()", "Call(AttrId(1), This)"),
     ("int", "(this).v()", "Call(AttrId(1), This)"),
@@ -273,6 +297,12 @@ const NAMES: [(&str, &str, &str); 26] = [
     ("int", "this.v", ""),
     ("int", "this()", ""),
     ("int", "getl().this", ""),
+    ("boolean", "this == null", ""),
+    ("boolean", "this instanceof N", ""),
+    ("int", "((N) this).v()", ""),
+    ("int", "new M().w()", ""),
+    ("boolean", "\"a\" == \"b\"", ""),
+    ("boolean", "any(x : getl() | true)", ""),
 ];
 
 fn expect_body(
@@ -331,7 +361,10 @@ fn rules_said(
 ) -> Result<Rules, Fail> {
     assert!(rt; text.len() <= LONGEST_FILE);
     let tokens = scan(alloc, text.as_bytes())?;
-    match read_aspects(alloc, grammar, &tokens)? {
+    let mut pool = Pool::new(alloc)?;
+    let aspects = read_jrag(alloc, &tokens, &mut pool)?;
+    assert!(rt; built(&aspects));
+    match read_aspects(alloc, grammar, &aspects)? {
         Some(list) => Ok(Rules::of_equations(alloc, grammar, list)?),
         None => Err("no aspects")?,
     }

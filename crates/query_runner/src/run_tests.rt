@@ -1,6 +1,7 @@
 ghost use Rattle.std.specs.Prelude.{◌≡◌, IfOk};
 ghost use Rattle.std.specs.String.{string_bytes};
 
+mod aspect_files;
 mod grammars;
 mod programs;
 mod subclasses;
@@ -220,8 +221,9 @@ fn expect_rows<R: Threads + Sync + Abort>(
 }
 
 // Aspects and queries, and the status and the text that they give.
-const CASES: [Row; 7] = [
+const CASES: [Row; 9] = [
     (FIRST, "@0.v()", 0, "5\n"),
+    ("aspect A { syn lazy int N.v() = 5; }", "@0.v()", 0, "5\n"),
     (FIRST, "@0.v() + 1", 1, "q.txt: not built\n"),
     (
         "aspect A { syn boolean N.v() = !(1 + 2147483647 < 0) || false; }",
@@ -243,6 +245,12 @@ const CASES: [Row; 7] = [
     ),
     (
         "aspect A { syn boolean N.v() = false && 1 / 2 == 0; }",
+        "@0.v() + 1",
+        1,
+        "a.jrag:1:43: J1\n",
+    ),
+    (
+        "aspect A { syn boolean N.v() = false && this == null; }",
         "@0.v() + 1",
         1,
         "a.jrag: not built\n",
@@ -296,7 +304,7 @@ const MISUSED: [&str; 12] = [
 // Words that name a file of another form, and the line of the first that is refused.
 const MISNAMED: [(&str, &str); 4] = [
     ("run q.txt a.jrag t.tree g.ast", "q.txt:1:1: G1\n"),
-    ("run g.ast g.ast t.tree q.txt", "g.ast: not built\n"),
+    ("run g.ast g.ast t.tree q.txt", "g.ast:1:1: J1\n"),
     ("run g.ast a.jrag q.txt t.tree", "q.txt:1:1: N1\n"),
     ("run g.ast a.jrag t.tree t.tree", "t.tree: not built\n"),
 ];

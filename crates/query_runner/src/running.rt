@@ -77,7 +77,7 @@ fn refuse(alloc: Global, name: &str, why: &str) -> Result<Answer, Failure>
     }
 }
 
-// The line of a broken rule of the grammar.
+// The line of a broken rule.
 fn refuse_broken(alloc: Global, name: &str, broken: Broken) -> Result<Answer, Failure>
     ensures line { IfOk result (λ a. (status_of a ≡ 1) × (text_of a ≡ broken_line name.now broken)) }
     ensures memory { IfErr result (λ f. f ≡ Failure.Memory) }
@@ -180,8 +180,8 @@ fn prepare<S: Shelf, G: Gate>(
 /// |---|---|---|
 /// | 0 | where the whole output was put | the output: one line for each query, or the canonical text of the tree |
 /// | 1 | where a file is too long | `NAME: too long` |
-/// | 1 | where the grammar or the tree breaks a rule | `NAME:LINE:COLUMN: RULE`, of the first broken one |
-/// | 1 | where another file isn't in the form that is read so far | `NAME: not built` |
+/// | 1 | where the grammar, the aspects or the tree breaks a rule | `NAME:LINE:COLUMN: RULE`, of the first broken one |
+/// | 1 | where another file isn't in the form that is evaluated so far | `NAME: not built` |
 /// | 2 | where the words are neither `run` and four file names nor `tree` and two | the usage text |
 /// | 3 | for want of memory | nothing |
 /// | 5 | where the shelf's count of faults rose | nothing |

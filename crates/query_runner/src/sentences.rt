@@ -11,9 +11,6 @@ use ll_parser::{ParseFault, Table, parse};
 use rag_io::{Memory, Token, is_left_out, is_reserved};
 use std::alloc::Global;
 
-/// The largest integer literal.
-pub(crate) const GREATEST: u64 = 2_147_483_647;
-
 // The events of the sentence that the tokens of these classes are, or None where they are none.
 pub(crate) fn sentence(
     alloc: Global,

@@ -1,11 +1,9 @@
-use Rattle.std.proofs.Common.{◌≡◌, ℕ, List, IfOk, sym, subst}
+use Rattle.std.proofs.Common.{List, sym, subst}
 use Rattle.rag_io.specs.declared.token.Token as memory
 use Rattle.rag_io.specs.Tokens.{IsTokens, first_place, seen_tokens}
 use Rattle.rag_io.specs.declared.token.Place.{Place}
 use Rattle.broken_rules.specs.declared.rule.Rule.TheVariants.{N1}
 use Rattle.broken_rules.specs.Notes.{at}
-use Rattle.tree_reader.specs.Breaking.{pooled_texts}
-use Rattle.tree_reader.specs.Reading.{ReadsTree as TreeRead}
 use Rattle.query_runner.specs.Files as held
 use Rattle.query_runner.specs.Files.{BreaksTree}
 use Rattle.query_runner.proofs.Unread.{answers_source}
@@ -13,14 +11,10 @@ use Rattle.query_runner.proofs.files.read_source.Goals as goal
 
 pub returns-in-Ok : goal.returns-in-Ok
 returns-in-Ok c =
-    let g = c.args.grammar.now in
-    let ts = seen_tokens c.deref.result.now in
     let scanned = subst (λ (ts : List memory.Token). IsTokens first_place c.args.bytes.now (seen_tokens ts)) (sym c.deref.ensures.value) c.in-Ok.ensures in
-    answers_source scanned g c.read_tree.result c.read_tree.new.pool
-    (subst (λ (p : List (List ℕ)). TreeRead g p ts c.read_tree.result) c.requires.texts c.read_tree.ensures.says)
-    (subst (λ (p : List (List ℕ)). IfOk c.read_tree.result (λ _. c.read_tree.new.pool ≡ pooled_texts p ts)) c.requires.texts c.read_tree.ensures.pooled)
+    answers_source scanned c.args.grammar.now c.read_tree.result c.args.pool.now c.read_tree.new.pool c.read_tree.ensures.says c.read_tree.ensures.pooled
 
 pub returns-in-Err-Bad : goal.returns-in-Err-Bad
 returns-in-Err-Bad c =
     let bad = rw c.in-Err-Bad.field-0-is at c.in-Err-Bad.ensures in
-    subst (λ (p : Place). BreaksTree c.args.grammar.now c.args.bytes.now (at p N1)) (sym c.in-Err-Bad.place-is) (held.BreaksTree.bad_place bad)
+    subst (λ (p : Place). BreaksTree c.args.grammar.now c.args.pool.now c.args.bytes.now (at p N1)) (sym c.in-Err-Bad.place-is) (held.BreaksTree.bad_place bad)
