@@ -157,6 +157,8 @@ CASES = [
     ("aspects: an expression of -", {"a.jrag": filled(b"-", ASPECT)}),
     ("aspects: an expression of v().", {"a.jrag": filled(b"v().", ASPECT)}),
     ("aspects: empty ones", {"a.jrag": filled(b"aspect A {}\n")}),
+    ("aspects: items", {"a.jrag": enclosed(b"aspect A {\n", b"syn int N.v() = 1;\n", b"}\n")}),
+    ("aspects: equations with texts", {"a.jrag": enclosed(b"aspect A {\n", b'eq N.v(int i) = f("a", i + 1);\n', b"}\n")}),
     ("tree: N(", {"t.tree": filled(b"N(")}),
     ("tree: N( of a class with itself as its child", {"g.ast": [b"N ::= N;"], "t.tree": filled(b"N(")}),
     ("tree: 65,536 nodes, the sum of 32,768 tokens", halved()),
