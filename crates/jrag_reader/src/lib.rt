@@ -14,8 +14,6 @@ mod laws;
 mod limits;
 mod parts;
 mod reading;
-#[cfg(test)]
-mod tests;
 
 pub use aspects::Aspects;
 pub use built_forms::built;

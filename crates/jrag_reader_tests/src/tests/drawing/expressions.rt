@@ -1,6 +1,13 @@
 // Drawings of expressions: the form, its place where it keeps one, and its parts in brackets.
-use super::drawing::Drawing;
-use super::*;
+use super::{Drawing, Drawn};
+use jrag_reader::{Expr, Operator, Quantifier};
+use std::test::Fail;
+
+impl Drawn for Expr {
+    fn draw(&self, into: &mut Drawing) -> Result<(), Fail> {
+        draw_expr(into, self)
+    }
+}
 
 fn operator_word(operator: Operator) -> &'static str {
     match operator {
@@ -27,9 +34,8 @@ fn quantifier_word(quantifier: Quantifier) -> &'static str {
     }
 }
 
-/// Draws an expression.
 #[cycle(drawing)]
-pub(super) fn draw_expr(into: &mut Drawing, expr: &Expr) -> Result<(), Fail> {
+fn draw_expr(into: &mut Drawing, expr: &Expr) -> Result<(), Fail> {
     match expr {
         Expr::Truth(place, true) => into.word("True", *place),
         Expr::Truth(place, false) => into.word("False", *place),

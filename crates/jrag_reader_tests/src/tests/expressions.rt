@@ -338,12 +338,13 @@ fn texts_have_their_numbers(rt: HostRuntime) -> Result<(), Fail> {
 fn texts_are_kept_as_they_are_meant(rt: HostRuntime) -> Result<(), Fail> {
     let alloc = rt.alloc();
     let mut pool = Pool::new(alloc)?;
-    let said = expr_said(&rt, alloc, b"v(\"\\\"\\\\\", \"\\n\\t\\r/\")", &mut pool)?;
-    expect_same(
+    let want = "Call v@1:1(Text 1@1:3, Text 2@1:11)";
+    expect_expr_in(
         &rt,
-        said.as_str(),
-        "Call v@1:1(Text 1@1:3, Text 2@1:11)",
-        "texts",
+        alloc,
+        "v(\"\\\"\\\\\", \"\\n\\t\\r/\")",
+        &mut pool,
+        want,
     )?;
     assert_eq!(rt; pool.find(b"\"\\".as_slice()), Some(1));
     assert_eq!(rt; pool.find(b"\n\t\r/".as_slice()), Some(2));

@@ -219,11 +219,17 @@ fn expect_with_tokens(rt: &impl Abort, alloc: Global, pool: &mut Pool) -> Result
 }
 
 // The same in a single expression.
+const SINGLE_TEXTS: [(&str, &str); 2] = [
+    ("\"1\" == \"a\"", "1:8 J17"),
+    ("\"1\" == \"2\"", "accepted"),
+];
+
 fn expect_single(rt: &impl Abort, alloc: Global, pool: &mut Pool) -> Result<(), Fail> {
-    let said = expr_verdict_of(rt, alloc, b"\"1\" == \"a\"", pool)?;
-    expect_same(rt, said.as_str(), "1:8 J17", "a text too many")?;
-    let said = expr_verdict_of(rt, alloc, b"\"1\" == \"2\"", pool)?;
-    expect_same(rt, said.as_str(), "accepted", "no text too many")
+    for (text, want) in &SINGLE_TEXTS {
+        let said = expr_verdict_of(rt, alloc, text.as_bytes(), pool)?;
+        expect_same(rt, said.as_str(), want, text)?;
+    }
+    Ok(())
 }
 
 #[test]
@@ -245,25 +251,19 @@ fn a_text_that_has_room_breaks_nothing(rt: HostRuntime) -> Result<(), Fail> {
     Ok(())
 }
 
-// A pool keeps its texts from file to file, and where a file is refused.
+// Expressions one after the other, of which the second one is refused.
+const WITH_ONE_POOL: [(&str, &str); 3] = [
+    ("f(\"a\", \"b\")", "Call f@1:1(Text 1@1:3, Text 2@1:8)"),
+    ("f(\"c\" 1", "1:7 J1"),
+    ("f(\"b\", \"a\")", "Call f@1:1(Text 2@1:3, Text 1@1:8)"),
+];
+
 #[test]
 fn a_pool_keeps_its_texts(rt: HostRuntime) -> Result<(), Fail> {
     let alloc = rt.alloc();
     let mut pool = Pool::new(alloc)?;
-    let said = expr_said(&rt, alloc, b"f(\"a\", \"b\")", &mut pool)?;
-    expect_same(
-        &rt,
-        said.as_str(),
-        "Call f@1:1(Text 1@1:3, Text 2@1:8)",
-        "first",
-    )?;
-    let said = expr_said(&rt, alloc, b"f(\"c\" 1", &mut pool)?;
-    expect_same(&rt, said.as_str(), "1:7 J1", "refused")?;
-    let said = expr_said(&rt, alloc, b"f(\"b\", \"a\")", &mut pool)?;
-    expect_same(
-        &rt,
-        said.as_str(),
-        "Call f@1:1(Text 2@1:3, Text 1@1:8)",
-        "last",
-    )
+    for (text, want) in &WITH_ONE_POOL {
+        expect_expr_in(&rt, alloc, text, &mut pool, want)?;
+    }
+    Ok(())
 }

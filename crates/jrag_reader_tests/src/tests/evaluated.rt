@@ -1,5 +1,6 @@
 // Which items are evaluated so far.
 use super::*;
+use jrag_reader::built;
 
 const BUILT: [&str; 17] = [
     "",

@@ -2,28 +2,20 @@
 // the place and the rule that it breaks.
 mod drawing;
 mod evaluated;
-mod expr_drawings;
-mod expr_pieces;
 mod expressions;
 mod faults;
-mod item_drawings;
-mod item_pieces;
 mod items;
 mod limits;
 mod long_files;
-mod making;
 mod nesting;
-mod random;
 mod random_items;
 mod samples;
 mod sources;
 mod words;
 
-use super::*;
 use broken_rules::{Broken, ReadFault};
-use drawing::Drawing;
-use expr_drawings::draw_expr;
-use item_drawings::draw_items;
+use drawing::{Drawing, Drawn};
+use jrag_reader::{Aspects, Expr, read_expr, read_jrag};
 use rag_io::{LONGEST_FILE, Pool, scan};
 use std::alloc::Global;
 use std::process::Abort;
@@ -63,6 +55,16 @@ fn fault_said(alloc: Global, fault: ReadFault) -> Result<String, Fail> {
     }
 }
 
+// What was read, drawn with places or without them.
+fn drawn(alloc: Global, what: &impl Drawn, places: bool) -> Result<String, Fail> {
+    let mut drawing = Drawing {
+        text: String::new(alloc),
+        places,
+    };
+    what.draw(&mut drawing)?;
+    Ok(drawing.text)
+}
+
 // The items that a text says, drawn with places or without them, or what it breaks.
 fn file_said(
     rt: &impl Abort,
@@ -72,15 +74,9 @@ fn file_said(
     places: bool,
 ) -> Result<String, Fail> {
     match file_answer(rt, alloc, text, pool)? {
-        Ok(aspects) => drawn_items(alloc, &aspects.items, places),
+        Ok(aspects) => drawn(alloc, &aspects, places),
         Err(fault) => fault_said(alloc, fault),
     }
-}
-
-fn drawn_items(alloc: Global, items: &[Item], places: bool) -> Result<String, Fail> {
-    let mut drawing = Drawing::new(alloc, places);
-    draw_items(&mut drawing, items)?;
-    Ok(drawing.text)
 }
 
 // `accepted`, or what a text breaks.
@@ -112,15 +108,9 @@ fn expr_verdict_of(
 // The expression that a text says, drawn with its places, or what it breaks.
 fn expr_said(rt: &impl Abort, alloc: Global, text: &[u8], pool: &mut Pool) -> Result<String, Fail> {
     match expr_answer(rt, alloc, text, pool)? {
-        Ok(expr) => drawn_expr(alloc, &expr),
+        Ok(expr) => drawn(alloc, &expr, true),
         Err(fault) => fault_said(alloc, fault),
     }
-}
-
-fn drawn_expr(alloc: Global, expr: &Expr) -> Result<String, Fail> {
-    let mut drawing = Drawing::new(alloc, true);
-    draw_expr(&mut drawing, expr)?;
-    Ok(drawing.text)
 }
 
 fn expect_same(rt: &impl Abort, said: &str, want: &str, of: &str) -> Result<(), Fail> {
@@ -135,11 +125,22 @@ fn expect_file(rt: &impl Abort, alloc: Global, text: &str, want: &str) -> Result
     expect_same(rt, said.as_str(), want, text)
 }
 
+// What an expression says, with a pool that may have texts.
+fn expect_expr_in(
+    rt: &impl Abort,
+    alloc: Global,
+    text: &str,
+    pool: &mut Pool,
+    want: &str,
+) -> Result<(), Fail> {
+    let said = expr_said(rt, alloc, text.as_bytes(), pool)?;
+    expect_same(rt, said.as_str(), want, text)
+}
+
 // What an expression says, with a pool of its own.
 fn expect_expr(rt: &impl Abort, alloc: Global, text: &str, want: &str) -> Result<(), Fail> {
     let mut pool = Pool::new(alloc)?;
-    let said = expr_said(rt, alloc, text.as_bytes(), &mut pool)?;
-    expect_same(rt, said.as_str(), want, text)
+    expect_expr_in(rt, alloc, text, &mut pool, want)
 }
 
 // Whether a file is accepted, or what it breaks, with a pool of its own.
