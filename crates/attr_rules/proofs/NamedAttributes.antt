@@ -1,0 +1,104 @@
+-- Attributes with the numbers of their names.
+use Rattle.std.proofs.Common.{◌≡◌, ◌==◌, ◌&&◌, ℕ, zero, suc, ◌+◌, ◌<◌, ◌≤◌, true, false, List, [], ◌∷◌, ◌++◌, Option, Some, None, Vec, All, length, map, position, take, get_or, slice_get, inl, inr, refl, ap, sym, ◌∙◌, arith}
+use Rattle.std.specs.declared.alloc.Global.{Global}
+use Rattle.std.specs.Option.{option_map}
+use Rattle.std.specs.Str.{bytes_eq}
+use Rattle.std.proofs.Math.ListN.{length-append}
+use Rattle.std.proofs.lemmas.Bool.{and_right, false_from_ne_true}
+use Rattle.std.proofs.lemmas.Bool.Decides.{eqb_tells}
+use Rattle.std.proofs.lemmas.List.{map_push, take_more}
+use Rattle.std.proofs.lemmas.List.Elements.{All-head, All-push, All-tail, All-weaker}
+use Rattle.std.proofs.lemmas.Option.{slice_get-get_or, slice_get_within}
+use Rattle.std.proofs.lemmas.Slice.Eq.{bytes_eq-Decides}
+use Rattle.rag_io.specs.Pool.{ArePooled, number_of}
+use Rattle.rag_io.proofs.Numbers.{number_at, text_at as text_of_number}
+use Rattle.superclasses.specs.Superclasses.{is_sub}
+use Rattle.ast_grammar.specs.declared.grammar.ClassId.{ClassId}
+use Rattle.ast_grammar.proofs.Positions.{position-map, position_agree, position_none}
+use Rattle.attr_rules.specs.declared.attributes.KeptAttr.{KeptAttr}
+use Rattle.attr_rules.specs.declared.attributes.NamedAttr.{NamedAttr}
+use Rattle.attr_rules.specs.declared.kinds.AttrId.{AttrId}
+use Rattle.attr_rules.specs.KeptAttributes.{AreKept, Extends, attribute_in, attributes_in, text_at, text_or_empty}
+use Rattle.attr_rules.specs.KeptEquations.{seen_attribute}
+use Rattle.attr_rules.specs.RowsKept.{at_row}
+use Rattle.attr_rules.specs.Rules.{AttributeSet, attribute_named, number_of_attribute}
+
+slice_get_front : {X : Type 0} (xs ys : List X) (n : ℕ) → n < length xs → slice_get (xs ++ ys) n ≡ slice_get xs n
+slice_get_front [] ys n h = absurd (omega arith)
+slice_get_front (x ∷ xs) ys zero h = refl
+slice_get_front (x ∷ xs) ys (suc n) h = slice_get_front xs ys n (omega arith)
+
+-- attributes whose names are among the first texts are the same by all
+same_attributes : (first rest : List (List ℕ)) (kept : List KeptAttr) → All (λ (a : KeptAttr). a.name < length first) kept → attributes_in (first ++ rest) kept ≡ attributes_in first kept
+same_attributes first rest [] within = refl
+same_attributes first rest (a ∷ kept) within =
+    let here : text_at (first ++ rest) a.name ≡ text_at first a.name = ap text_or_empty (slice_get_front first rest a.name (All-head (λ (b : KeptAttr). b.name < length first) a kept within)) in
+    (λ i. record { name = here i; declared = a.declared } ∷ same_attributes first rest kept (All-tail (λ (b : KeptAttr). b.name < length first) a kept within) i)
+
+-- the attributes so far
+pub record SoFar (names : List (List ℕ)) (kept : List KeptAttr) (list : List NamedAttr) (i most : ℕ) : Type 0 where
+  pub attributes : attributes_in names kept ≡ map seen_attribute (take i list)
+  pub within : All (λ (a : KeptAttr). a.name < length names) kept
+  pub few : length names ≤ most + i
+
+-- one more
+pub so_far_more : (names all : List (List ℕ)) (list : List NamedAttr) (i most : ℕ) (d : NamedAttr) (a : KeptAttr) {kept later : List KeptAttr} → i < length list → Extends names all → length all ≤ suc (length names)
+    → slice_get all a.name ≡ Some (get_or list i d).name.now → a.declared ≡ (get_or list i d).declared → later ≡ kept ++ a ∷ [] → SoFar names kept list i most → SoFar all later list (i + 1) most
+so_far_more names all list i most d a {kept} {later} within extends one text declared pushed before =
+    let old : attributes_in all kept ≡ attributes_in names kept = ap (λ ts. attributes_in ts kept) extends.are ∙ same_attributes names extends.rest kept before.within in
+    let long : length all ≡ length names + length extends.rest = ap length extends.are ∙ length-append names extends.rest in
+    let new : attribute_in all a ≡ seen_attribute (get_or list i d) = (λ j. record { name = text_or_empty (text j); declared = declared j }) in
+    record {
+      attributes =
+          ap (attributes_in all) pushed ∙ map_push (attribute_in all) kept a ∙ ap (λ xs. xs ++ attribute_in all a ∷ []) (old ∙ before.attributes) ∙ ap (λ x. map seen_attribute (take i list) ++ x ∷ []) new
+          ∙ sym (ap (map seen_attribute) (take_more list i d within) ∙ map_push seen_attribute (take i list) (get_or list i d));
+      within = rw pushed (All-push (λ (b : KeptAttr). b.name < length all) kept a (All-weaker (λ (b : KeptAttr). b.name < length names) (λ (b : KeptAttr). b.name < length all) (λ b h. omega (arith, h, long)) kept before.within) (slice_get_within all a.name _ text));
+      few = omega (arith, one, before.few);
+    }
+
+-- names by their numbers
+module _ (names : List (List ℕ)) (pooled : ArePooled names) (name : List ℕ) where
+  numbered : (n : ℕ) → n < length names → bytes_eq (text_at names n) name ≡ true → number_of names name ≡ Some n
+  numbered n within same =
+      let at : slice_get names n ≡ Some (get_or names n []) = slice_get-get_or names n [] within in
+      let is : get_or names n [] ≡ name = sym (ap text_or_empty at) ∙ (bytes_eq-Decides (text_at names n) name).0 same in
+      number_at name names n pooled.distinct (at ∙ ap Some is)
+
+  -- no text is a name that has no number
+  other_text : (n : ℕ) → n < length names → number_of names name ≡ None → bytes_eq (text_at names n) name ≡ false
+  other_text n within none = false_from_ne_true _ (λ same. let some = numbered n within same in absurd cc)
+
+  -- a text is a name where it has the name's number
+  same_text : (n m : ℕ) → n < length names → number_of names name ≡ Some m → bytes_eq (text_at names n) name ≡ (n == m)
+  same_text n m within some = elim (eqb_tells n m) [
+    | inl t ↦
+        let is : text_at names n ≡ name = ap text_or_empty (ap (slice_get names) t.1 ∙ text_of_number name names m some) in
+        (bytes_eq-Decides (text_at names n) name).1 is ∙ sym t.0
+    | inr t ↦ false_from_ne_true _ (λ same. let other = numbered n within same in let equal : n ≡ m = cc in t.1 equal) ∙ sym t.0
+  ]
+
+module _ (superclasses : List (Option ℕ)) (names : List (List ℕ)) (kept : List KeptAttr) (rows : List (Vec (Option AttrId) Global)) (are : AreKept superclasses names kept rows) (class : ClassId) (name : List ℕ) where
+  -- the first attribute, by the texts of the names
+  first_by_text : attribute_named superclasses (attributes_in names kept) class name ≡ position (λ a. is_sub superclasses class.0 a.declared.class.0 && bytes_eq (text_at names a.name) name) kept
+  first_by_text = position-map (attribute_in names) (λ a. is_sub superclasses class.0 a.declared.class.0 && bytes_eq a.name name) kept
+
+  none_named : number_of names name ≡ None → attribute_named superclasses (attributes_in names kept) class name ≡ None
+  none_named none =
+      first_by_text
+      ∙ position_none (λ a. is_sub superclasses class.0 a.declared.class.0 && bytes_eq (text_at names a.name) name) kept (λ k d h.
+      and_right (is_sub superclasses class.0 (get_or kept k d).declared.class.0) _ (other_text names are.numbered.pooled name (get_or kept k d).name (are.numbered.within k d h) none))
+
+  found_named : (m : ℕ) → number_of names name ≡ Some m → class.0 < length superclasses → option_map number_of_attribute (at_row rows class.0 m) ≡ attribute_named superclasses (attributes_in names kept) class name
+  found_named m some known =
+      are.placed.each class.0 m known (slice_get_within names m name (text_of_number name names m some))
+      ∙ sym (first_by_text ∙ position_agree (λ a. is_sub superclasses class.0 a.declared.class.0 && bytes_eq (text_at names a.name) name) (λ a. is_sub superclasses class.0 a.declared.class.0 && (a.name == m)) kept (λ k d h.
+      ap (λ b. is_sub superclasses class.0 (get_or kept k d).declared.class.0 && b) (same_text names are.numbered.pooled name (get_or kept k d).name m (are.numbered.within k d h) some)))
+
+  module _ (set : AttributeSet) (seen : record { superclasses = superclasses; attributes = attributes_in names kept } ≡ set) where
+    pub unknown_name : {o : Option AttrId} → o ≡ None → number_of names name ≡ None → option_map number_of_attribute o ≡ attribute_named set.superclasses set.attributes class name
+    unknown_name {o} is none = ap (option_map number_of_attribute) is ∙ sym (none_named none) ∙ ap (λ (a : AttributeSet). attribute_named a.superclasses a.attributes class name) seen
+
+    pub known_name : (m : ℕ) {o : Option AttrId} → o ≡ at_row rows class.0 m → number_of names name ≡ Some m → class.0 < length set.superclasses → option_map number_of_attribute o ≡ attribute_named set.superclasses set.attributes class name
+    known_name m {o} is some known =
+        let inside : class.0 < length superclasses = omega (arith, ap (λ (a : AttributeSet). length a.superclasses) seen) in
+        ap (option_map number_of_attribute) is ∙ found_named m some inside ∙ ap (λ (a : AttributeSet). attribute_named a.superclasses a.attributes class name) seen

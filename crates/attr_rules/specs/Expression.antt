@@ -1,0 +1,55 @@
+-- Typed expressions without where they lie in memory.
+use Rattle.std.specs.Prelude.{ℕ, ℤ, Bool}
+use Rattle.attr_rules.specs.declared.kinds.Kind.{Kind}
+use Rattle.attr_rules.specs.declared.expression.Operator.{Operator}
+use Rattle.attr_rules.specs.declared.expression.TExpr.{TExpr}
+use Rattle.attr_rules.specs.declared.expression.TExpr.TheVariants as kept
+
+pub data Expression : Type 0 where
+  Truth : Bool → Expression
+  Int : ℤ → Expression
+  -- the text of this number
+  Text : ℕ → Expression
+  Null : Expression
+  -- the node at which the equation is read
+  This : Expression
+  -- the source node of this number
+  Source : ℕ → Expression
+  -- the child, or the optional child, of a receiver at the component of this number
+  Child : ℕ → Expression → Expression
+  -- the element of a receiver's list at the component of this number, by its place in the list
+  Element : ℕ → Expression → Expression → Expression
+  -- how many elements that list has
+  Count : ℕ → Expression → Expression
+  -- whether a receiver has the optional child at the component of this number
+  Has : ℕ → Expression → Expression
+  -- the token of a receiver, of this type, at the component of this number
+  Token : Kind → ℕ → Expression → Expression
+  -- the call of the attribute of this number on a receiver
+  Call : ℕ → Expression → Expression
+  Not : Expression → Expression
+  Negate : Expression → Expression
+  Binary : Operator → Expression → Expression → Expression
+  And : Expression → Expression → Expression
+  Or : Expression → Expression → Expression
+  If : Expression → Expression → Expression → Expression
+
+abbrev pub expression_of : TExpr → Expression
+expression_of (kept.Truth b) = Truth b
+expression_of (kept.Int z) = Int z
+expression_of (kept.Text n) = Text n
+expression_of kept.Null = Null
+expression_of kept.This = This
+expression_of (kept.Source k) = Source k
+expression_of (kept.Child' k p e) = Child k (expression_of e)
+expression_of (kept.Element' k p e q i) = Element k (expression_of e) (expression_of i)
+expression_of (kept.Count' k p e) = Count k (expression_of e)
+expression_of (kept.Has' k p e) = Has k (expression_of e)
+expression_of (kept.Token' t k p e) = Token t k (expression_of e)
+expression_of (kept.Call' a at p e) = Call a.0 (expression_of e)
+expression_of (kept.Not' p e) = Not (expression_of e)
+expression_of (kept.Negate' p e) = Negate (expression_of e)
+expression_of (kept.Binary' o p a q b) = Binary o (expression_of a) (expression_of b)
+expression_of (kept.And' p a q b) = And (expression_of a) (expression_of b)
+expression_of (kept.Or' p a q b) = Or (expression_of a) (expression_of b)
+expression_of (kept.If' p c q a at r b) = If (expression_of c) (expression_of a) (expression_of b)

@@ -1,0 +1,12 @@
+pub mod AccessorSteps
+pub mod Accessors
+pub mod Dispatching
+pub mod Expression
+pub mod Kept
+pub mod KeptAttributes
+pub mod KeptEquations
+pub mod Queries
+pub mod RowsKept
+pub mod Rules
+pub mod Types
+pub mod Typing

@@ -1,0 +1,140 @@
+-- The rules of a grammar: which attributes are declared, and which equation gives which attribute its value.
+use Rattle.std.specs.Prelude.{◌≡◌, ℕ, ◌<◌, ◌≤◌, List, [], ◌∷◌, Bool, true, false, ◌&&◌, ◌==◌, Option, Some, None, IsSome, All, map, length, position, slice_get}
+use Rattle.std.specs.Option.{option_map, option_or}
+use Rattle.std.specs.Str.{bytes_eq}
+use Rattle.ast_grammar.specs.declared.grammar.ClassId.{ClassId}
+use Rattle.superclasses.specs.Superclasses.{is_sub as is_below, upwards}
+use Rattle.ast_grammar.specs.Grammar.{Class, abstract_in, is_sub, superclasses_of}
+use Rattle.attr_rules.specs.declared.dispatch.Target.{Target}
+use Rattle.attr_rules.specs.declared.kinds.AttrId.{AttrId}
+use Rattle.attr_rules.specs.declared.kinds.EqId.{EqId}
+use Rattle.attr_rules.specs.declared.kinds.Kind.{Kind}
+use Rattle.attr_rules.specs.declared.kinds.Kind.TheVariants as kinds
+use Rattle.attr_rules.specs.declared.kinds.Attr.{Attr}
+use Rattle.attr_rules.specs.declared.kinds.Params.{Params}
+use Rattle.attr_rules.specs.declared.kinds.Sort.TheVariants.{Syn}
+use Rattle.attr_rules.specs.declared.kinds.Start.TheVariants.{Plain}
+use Rattle.attr_rules.specs.declared.types.ValueType.{ValueType}
+use Rattle.attr_rules.specs.Expression.{Expression}
+use Rattle.attr_rules.specs.Types.{fits}
+use Rattle.attr_rules.specs.Typing.{HasType, Names}
+
+-- an attribute: its name, and what is declared of it
+pub record Attribute : Type 0 where
+  pub name : List ℕ
+  pub declared : Attr
+
+-- the attributes by number, among classes of which the superclasses count
+pub record AttributeSet : Type 0 where
+  pub superclasses : List (Option ℕ)
+  pub attributes : List Attribute
+
+-- an equation: of which class it is and which attribute it gives a value, and its right side
+pub record Equation : Type 0 where
+  pub target : Target
+  pub body : Expression
+
+-- the rules of a grammar, of which the superclasses count
+pub record RuleSet : Type 0 where
+  pub superclasses : List (Option ℕ)
+  pub attributes : List Attribute
+  pub equations : List Equation
+
+abbrev pub no_params : Params
+no_params = record { count = 0; first = kinds.Truth; second = kinds.Truth; third = kinds.Truth }
+
+-- what is declared of a synthesized attribute without parameters
+abbrev pub plain_attribute : ClassId → Kind → Attr
+plain_attribute class kind = record { class = class; sort = Syn; kind = kind; params = no_params; circular = false; start = Plain }
+
+abbrev pub most_attributes : ℕ
+most_attributes = 1024
+
+-- the number of the attribute of this name that is declared for the class or a superclass
+abbrev pub attribute_named : List (Option ℕ) → List Attribute → ClassId → List ℕ → Option ℕ
+attribute_named superclasses attributes class name = position (λ a. is_below superclasses class.0 a.declared.class.0 && bytes_eq a.name name) attributes
+
+abbrev pub is_target : ℕ → ℕ → Target → Bool
+is_target class a t = (t.class.0 == class) && (t.attribute.0 == a)
+
+-- the equation that gives an attribute its value at nodes of exactly this class
+abbrev pub own_equation : List Target → ℕ → ℕ → Option ℕ
+own_equation targets a class = position (is_target class a) targets
+
+-- what the first of some classes that has something has
+abbrev pub first_of_line : (ℕ → Option ℕ) → List ℕ → Option ℕ
+first_of_line f [] = None
+first_of_line f (c ∷ cs) = option_or (f c) (first_of_line f cs)
+
+-- the equation of an attribute at nodes of a class: that of the nearest class, from this one upwards
+abbrev pub nearest_equation : List (Option ℕ) → List Target → ℕ → ℕ → Option ℕ
+nearest_equation superclasses targets class a = first_of_line (own_equation targets a) (upwards superclasses class)
+
+abbrev pub target_in : Equation → Target
+target_in e = e.target
+
+abbrev pub equation_number : RuleSet → ClassId → ℕ → Option ℕ
+equation_number rules class a = nearest_equation rules.superclasses (map target_in rules.equations) class.0 a
+
+abbrev pub declared_of : Attribute → Attr
+declared_of a = a.declared
+
+-- what is declared of the attribute of this number
+abbrev pub declared_at : List Attribute → ℕ → Option Attr
+declared_at attributes a = option_map declared_of (slice_get attributes a)
+
+abbrev pub attribute_at : RuleSet → ℕ → Option Attr
+attribute_at rules a = declared_at rules.attributes a
+
+abbrev pub expression_in : Equation → Expression
+expression_in e = e.body
+
+-- the right side of the equation of this number
+abbrev pub body_at : RuleSet → ℕ → Option Expression
+body_at rules e = option_map expression_in (slice_get rules.equations e)
+
+abbrev pub number_of_attribute : AttrId → ℕ
+number_of_attribute a = a.0
+
+abbrev pub number_of_equation : EqId → ℕ
+number_of_equation e = e.0
+
+-- the type is `boolean`, `int` or `String`, as of all attributes that are evaluated so far
+abbrev pub is_plain : Kind → Bool
+is_plain kinds.Truth = true
+is_plain kinds.Int = true
+is_plain kinds.Text = true
+is_plain (kinds.Node c) = false
+is_plain kinds.Texts = false
+is_plain (kinds.Nodes c) = false
+
+-- what an equation may name at nodes of a class
+abbrev pub names_for : List Class → List Attribute → ClassId → Names
+names_for g attributes c = record { grammar = g; attribute = declared_at attributes; node = λ k. None; this = Some c }
+
+-- An attribute of a class of the grammar.
+pub record IsAttribute (g : List Class) (x : Attribute) : Type 0 where
+  pub within : x.declared.class.0 < length g
+  pub plain : is_plain x.declared.kind ≡ true
+
+-- An equation of a class that has the attribute: its right side is well typed and fits.
+pub record IsEquation (g : List Class) (attributes : List Attribute) (e : Equation) : Type 0 where
+  pub within : e.target.class.0 < length g
+  pub attribute : Attr
+  pub declared : declared_at attributes e.target.attribute.0 ≡ Some attribute
+  pub has : is_sub g e.target.class.0 attribute.class.0 ≡ true
+  pub type : ValueType
+  pub typed : HasType (names_for g attributes e.target.class) e.body type
+  pub fit : fits g type attribute.kind ≡ true
+
+-- a class of which there are nodes
+abbrev pub IsConcrete : List Class → ℕ → Type 0
+IsConcrete g c = option_map abstract_in (slice_get g c) ≡ Some false
+
+-- Rules of a grammar that break nothing: each equation is well typed, and each concrete class has an equation for each of its attributes.
+pub record AreRules (g : List Class) (r : RuleSet) : Type 0 where
+  pub superclasses : r.superclasses ≡ superclasses_of g
+  pub few : length r.attributes ≤ most_attributes
+  pub attributes : All (IsAttribute g) r.attributes
+  pub equations : All (IsEquation g r.attributes) r.equations
+  pub complete : (c : ClassId) (a : ℕ) (d : Attr) → IsConcrete g c.0 → attribute_at r a ≡ Some d → is_sub g c.0 d.class.0 ≡ true → IsSome (equation_number r c a)

@@ -1,0 +1,130 @@
+-- Types of what expressions say, and which of them fit where.
+use Rattle.std.specs.Prelude.{ℕ, List, Bool, true, false, ◌&&◌, ◌||◌, Option, Some, None, if◌then◌else◌}
+use Rattle.std.specs.Option.{option_map}
+use Rattle.superclasses.specs.Superclasses.{nearest_common}
+use Rattle.ast_grammar.specs.declared.grammar.ClassId.{ClassId}
+use Rattle.ast_grammar.specs.Grammar.{Class, is_sub, superclasses_of}
+use Rattle.attr_rules.specs.declared.kinds.Kind.{Kind}
+use Rattle.attr_rules.specs.declared.kinds.Kind.TheVariants as kinds
+use Rattle.attr_rules.specs.declared.types.ValueType.{ValueType}
+use Rattle.attr_rules.specs.declared.types.ValueType.TheVariants as types
+
+abbrev pub of_class : ClassId → ValueType
+of_class c = types.Of (kinds.Node c)
+
+abbrev pub truth_kind : Kind → Bool
+truth_kind kinds.Truth = true
+truth_kind kinds.Int = false
+truth_kind kinds.Text = false
+truth_kind (kinds.Node c) = false
+truth_kind kinds.Texts = false
+truth_kind (kinds.Nodes c) = false
+
+abbrev pub int_kind : Kind → Bool
+int_kind kinds.Truth = false
+int_kind kinds.Int = true
+int_kind kinds.Text = false
+int_kind (kinds.Node c) = false
+int_kind kinds.Texts = false
+int_kind (kinds.Nodes c) = false
+
+abbrev pub text_kind : Kind → Bool
+text_kind kinds.Truth = false
+text_kind kinds.Int = false
+text_kind kinds.Text = true
+text_kind (kinds.Node c) = false
+text_kind kinds.Texts = false
+text_kind (kinds.Nodes c) = false
+
+-- the class of a type that is one
+abbrev pub kind_class : Kind → Option ClassId
+kind_class kinds.Truth = None
+kind_class kinds.Int = None
+kind_class kinds.Text = None
+kind_class (kinds.Node c) = Some c
+kind_class kinds.Texts = None
+kind_class (kinds.Nodes c) = None
+
+abbrev pub is_truth : ValueType → Bool
+is_truth types.Null = false
+is_truth (types.Of k) = truth_kind k
+
+abbrev pub is_int : ValueType → Bool
+is_int types.Null = false
+is_int (types.Of k) = int_kind k
+
+abbrev pub is_text : ValueType → Bool
+is_text types.Null = false
+is_text (types.Of k) = text_kind k
+
+-- the class of a type that is one; the type of `null` is none
+abbrev pub class_in : ValueType → Option ClassId
+class_in types.Null = None
+class_in (types.Of k) = kind_class k
+
+abbrev pub is_some_class : Option ClassId → Bool
+is_some_class None = false
+is_some_class (Some c) = true
+
+-- a node of some class, or `null`
+abbrev pub is_node : ValueType → Bool
+is_node types.Null = true
+is_node (types.Of k) = is_some_class (kind_class k)
+
+-- a class below another, or the same
+abbrev pub is_below : List Class → Option ClassId → ClassId → Bool
+is_below g None d = false
+is_below g (Some c) d = is_sub g c.0 d.0
+
+-- `null` fits every class, and a class each one above it
+abbrev pub fits_class : List Class → ValueType → ClassId → Bool
+fits_class g types.Null d = true
+fits_class g (types.Of k) d = is_below g (kind_class k) d
+
+-- a value of the type may stand where one of the second is wanted; no expression is a set so far
+abbrev pub fits : List Class → ValueType → Kind → Bool
+fits g t kinds.Truth = is_truth t
+fits g t kinds.Int = is_int t
+fits g t kinds.Text = is_text t
+fits g t (kinds.Node d) = fits_class g t d
+fits g t kinds.Texts = false
+fits g t (kinds.Nodes d) = false
+
+-- two truth values, integers, texts or nodes can be compared
+abbrev pub comparable : ValueType → ValueType → Bool
+comparable t u = (is_truth t && is_truth u) || ((is_int t && is_int u) || ((is_text t && is_text u) || (is_node t && is_node u)))
+
+abbrev pub type_where : Bool → ValueType → Option ValueType
+type_where b t = if b then Some t else None
+
+abbrev pub class_of_number : ℕ → ValueType
+class_of_number k = of_class (record { 0 = k })
+
+-- the nearest common superclass of a class and another
+abbrev pub common_class : List Class → ClassId → Option ClassId → Option ValueType
+common_class g c None = None
+common_class g c (Some d) = option_map class_of_number (nearest_common (superclasses_of g) c.0 d.0)
+
+-- of a class and a second type; `null` fits every class
+abbrev pub common_node : List Class → ClassId → ValueType → Option ValueType
+common_node g c types.Null = Some (of_class c)
+common_node g c (types.Of k) = common_class g c (kind_class k)
+
+abbrev pub common_kind : List Class → Kind → ValueType → Option ValueType
+common_kind g kinds.Truth u = type_where (is_truth u) u
+common_kind g kinds.Int u = type_where (is_int u) u
+common_kind g kinds.Text u = type_where (is_text u) u
+common_kind g (kinds.Node c) u = common_node g c u
+common_kind g kinds.Texts u = None
+common_kind g (kinds.Nodes c) u = None
+
+-- the common type of two parts, of which one is chosen: that of both where they are of one type, and of two classes their nearest common
+-- superclass
+abbrev pub common : List Class → ValueType → ValueType → Option ValueType
+common g types.Null u = type_where (is_node u) u
+common g (types.Of k) u = common_kind g k u
+
+-- the type at which a value is kept: that of `null` is the first class
+abbrev pub kept_kind : ValueType → Kind
+kept_kind types.Null = kinds.Node (record { 0 = 0 })
+kept_kind (types.Of k) = k

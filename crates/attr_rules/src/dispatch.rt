@@ -1,0 +1,144 @@
+// Which equation gives an attribute its value at nodes of a class.
+ghost use Rattle.std.specs.Prelude.{◌≡◌, ◌<◌, ◌^◌, All, IfOk, length};
+ghost use Rattle.std.specs.Option.{option_map};
+ghost use Rattle.ast_grammar.specs.Grammar.{superclasses_of};
+ghost use Rattle.attr_rules.specs.Dispatching.{AreEmptyRows, AreOwnRows, Dispatches, IsNearestRow, IsTarget, PutsFirst, filled};
+ghost use Rattle.attr_rules.specs.Rules.{nearest_equation, number_of_equation};
+ghost use Rattle.attr_rules.specs.RowsKept.{at_row};
+
+use crate::kinds::{AttrId, EqId};
+use crate::rows::{at_row, put_first};
+use ast_grammar::{ClassId, Grammar};
+use rag_io::Memory;
+use std::alloc::Global;
+
+/// What an equation is for: an attribute, at nodes of a class.
+#[derive(Clone, Copy, Debug, PartialEq, Eq)]
+pub struct Target {
+    pub class: ClassId,
+    pub attribute: AttrId,
+}
+
+/// The equation of each attribute at nodes of each class: that of the nearest class, from the node's class upwards. A row for each class has
+/// a place for each attribute, so it is found in constant time.
+#[derive(Drop)]
+pub struct Dispatch {
+    rows: Vec<Vec<Option<EqId>>>,
+}
+
+// Equations go by numbers of 32 bits. A file has no room for more.
+fn numbers_suffice(targets: &[Target]) -> Result<(), Memory>
+    ensures { IfOk result (λ u. length targets.now < 2 ^ 32) }
+{
+    match u32::try_from(targets.len()) {
+        Ok(_) => Ok(()),
+        Err(_) => Err(Memory),
+    }
+}
+
+// A row for each class, in which nothing stands.
+fn empty_rows(
+    alloc: Global,
+    classes: u32,
+    attributes: u32,
+) -> Result<Vec<Vec<Option<EqId>>>, Memory>
+    ensures { IfOk result (λ rows. AreEmptyRows classes attributes rows.items) }
+{
+    let mut rows = Vec::new(alloc);
+    for _ in 0..classes {
+        let row = vec![in alloc; None; attributes as usize].map_err(|_| Memory)?;
+        rows.push(row).map_err(|_| Memory)?;
+    }
+    Ok(rows)
+}
+
+// Puts an equation at the place of its class and attribute, where there is none yet.
+fn put(rows: &mut [Vec<Option<EqId>>], target: Target, equation: EqId)
+    ensures { PutsFirst target equation rows.old rows.new }
+{
+    let class = target.class.0 as usize;
+    if class < rows.len() {
+        put_first(&mut rows[class], target.attribute.0 as usize, equation);
+    }
+}
+
+// The rows of the equations of exactly each class: for each attribute the first.
+fn own_rows(
+    alloc: Global,
+    classes: u32,
+    attributes: u32,
+    targets: &[Target],
+) -> Result<Vec<Vec<Option<EqId>>>, Memory>
+    requires { length targets.now < 2 ^ 32 }
+    ensures { IfOk result (λ rows. AreOwnRows classes attributes targets.now rows.items) }
+{
+    let mut rows = empty_rows(alloc, classes, attributes)?;
+    for (i, target) in targets.iter().enumerate() {
+        put(&mut rows, *target, EqId(i as u32));
+    }
+    Ok(rows)
+}
+
+// Fills the places of a row that are empty with what stands there in another.
+fn fill(row: &mut [Option<EqId>], above: &[Option<EqId>])
+    ensures { row.new ≡ filled row.old above.now }
+{
+    for (place, held) in above.iter().enumerate() {
+        if let Some(equation) = held {
+            put_first(row, place, *equation);
+        }
+    }
+}
+
+// The row of a class and its superclasses: for each attribute the equation of the nearest class that has one.
+fn nearest_row(
+    alloc: Global,
+    grammar: &Grammar,
+    own: &[Vec<Option<EqId>>],
+    class: usize,
+) -> Result<Vec<Option<EqId>>, Memory>
+    requires { class < length own.now }
+    ensures { IfOk result (λ row. IsNearestRow (superclasses_of grammar.now) own.now class row.items) }
+{
+    let subclasses = grammar.subclasses();
+    let mut row = Vec::from_slice(alloc, &own[class]).map_err(|_| Memory)?;
+    let mut above = subclasses.superclass(class);
+    for _ in 0..grammar.classes() {
+        let Some(number) = above else { break };
+        if let Some(held) = own.get(number) {
+            fill(&mut row, held);
+        }
+        above = subclasses.superclass(number);
+    }
+    Ok(row)
+}
+
+impl Dispatch {
+    /// The equations for these, by their places in the list, among so many attributes. It takes time in proportion to the equations, and for
+    /// each class to its superclasses times the attributes.
+    pub fn of_targets(
+        alloc: Global,
+        grammar: &Grammar,
+        attributes: u32,
+        targets: &[Target],
+    ) -> Result<Dispatch, Memory>
+        requires { All (IsTarget (length (superclasses_of grammar.now)) attributes) targets.now }
+        ensures { IfOk result (λ d. Dispatches (superclasses_of grammar.now) targets.now d) }
+    {
+        numbers_suffice(targets)?;
+        let own = own_rows(alloc, grammar.classes(), attributes, targets)?;
+        let mut rows = Vec::new(alloc);
+        for class in 0..own.len() {
+            let row = nearest_row(alloc, grammar, &own, class)?;
+            rows.push(row).map_err(|_| Memory)?;
+        }
+        Ok(Dispatch { rows })
+    }
+
+    /// The equation of an attribute at nodes of a class, or None where there is none. It takes constant time.
+    pub fn find(&self, class: ClassId, attribute: AttrId) -> Option<EqId>
+        ensures { result ≡ at_row self.now.rows.items class.0 attribute.0 }
+    {
+        at_row(&self.rows, class.0 as usize, attribute.0 as usize)
+    }
+}

@@ -1,0 +1,86 @@
+// Types, and what is declared of an attribute.
+ghost use Rattle.std.specs.Prelude.{◌≡◌};
+
+use ast_grammar::ClassId;
+
+/// The number of an attribute: attributes are numbered from 0 in the order of their declarations.
+#[derive(Clone, Copy, Debug, PartialEq, Eq, Hash)]
+pub struct AttrId(pub u16);
+
+/// The number of an equation: equations are numbered from 0 in the order of the file.
+#[derive(Clone, Copy, Debug, PartialEq, Eq)]
+pub struct EqId(pub u32);
+
+/// A type: `boolean`, `int`, `String`, a class, a set of texts, or a set of nodes of a class.
+#[derive(Clone, Copy, Debug, PartialEq, Eq)]
+pub enum Kind {
+    Truth,
+    Int,
+    Text,
+    Node(ClassId),
+    Texts,
+    Nodes(ClassId),
+}
+
+/// The sort of an attribute: synthesized, inherited, higher-order (`nta`), or a collection.
+#[derive(Clone, Copy, Debug, PartialEq, Eq)]
+pub enum Sort {
+    Syn,
+    Inh,
+    Nta,
+    Coll,
+}
+
+/// Where the rounds of a circular attribute start; `Plain` for an attribute that isn't circular.
+#[derive(Clone, Copy, Debug, PartialEq, Eq)]
+pub enum Start {
+    Plain,
+    False,
+    True,
+    Empty,
+}
+
+/// The parameters of an attribute: how many there are, at most three, and their types. The types past the
+/// count are `Kind::Truth`.
+#[derive(Clone, Copy, Debug, PartialEq, Eq)]
+pub struct Params {
+    pub count: u32,
+    pub first: Kind,
+    pub second: Kind,
+    pub third: Kind,
+}
+
+/// What is declared of an attribute: the class that has it, its sort, its type, its parameters, and whether
+/// it may lie on a cycle, with the value at which its rounds start.
+#[derive(Clone, Copy, Debug, PartialEq, Eq)]
+pub struct Attr {
+    pub class: ClassId,
+    pub sort: Sort,
+    pub kind: Kind,
+    pub params: Params,
+    pub circular: bool,
+    pub start: Start,
+}
+
+impl Attr {
+    ghost use Rattle.attr_rules.specs.Rules.{plain_attribute};
+
+    /// A synthesized attribute of a class, of this type, without parameters.
+    pub fn plain(class: ClassId, kind: Kind) -> Attr
+        ensures { result ≡ plain_attribute class kind }
+    {
+        Attr {
+            class,
+            sort: Sort::Syn,
+            kind,
+            params: Params {
+                count: 0,
+                first: Kind::Truth,
+                second: Kind::Truth,
+                third: Kind::Truth,
+            },
+            circular: false,
+            start: Start::Plain,
+        }
+    }
+}

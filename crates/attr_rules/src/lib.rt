@@ -1,0 +1,23 @@
+//! Attributes: their declarations, typed expressions with the rules of their types, and the equations that hold at nodes of each class.
+#![tactic(auto)]
+
+mod accessors;
+mod attributes;
+mod dispatch;
+mod expression;
+mod kinds;
+mod queries;
+mod rows;
+mod rules;
+#[cfg(test)]
+mod tests;
+mod types;
+
+pub use accessors::{Access, Accessor, accessor_of, is_spelled};
+pub use attributes::{Attributes, NamedAttr};
+pub use dispatch::{Dispatch, Target};
+pub use expression::{Operator, TExpr};
+pub use kinds::{Attr, AttrId, EqId, Kind, Params, Sort, Start};
+pub use queries::QueryEq;
+pub use rules::{KeptEquation, Rules};
+pub use types::{ValueType, common, comparable, fits};

@@ -1,0 +1,136 @@
+// Types of what expressions say.
+ghost use Rattle.std.specs.Prelude.{◌≡◌, IsTrue};
+ghost use Rattle.attr_rules.specs.Types as spec;
+
+use crate::kinds::Kind;
+use ast_grammar::{ClassId, Grammar};
+
+/// The type of what an expression says: one that an attribute may have, or that of `null`, which fits every class.
+#[derive(Clone, Copy, Debug, PartialEq, Eq)]
+pub enum ValueType {
+    Of(Kind),
+    Null,
+}
+
+impl ValueType {
+    /// The type of the nodes of a class.
+    pub fn of_class(class: ClassId) -> ValueType
+        ensures { result ≡ spec.of_class class }
+    {
+        ValueType::Of(Kind::Node(class))
+    }
+
+    /// The class, where the type is one. That of `null` is none.
+    pub fn class(self) -> Option<ClassId>
+        ensures { result ≡ spec.class_in self }
+    {
+        match self {
+            ValueType::Of(Kind::Node(class)) => Some(class),
+            _ => None,
+        }
+    }
+
+    fn is_truth(self) -> bool
+        ensures { result ≡ spec.is_truth self }
+    {
+        matches!(self, ValueType::Of(Kind::Truth))
+    }
+
+    fn is_int(self) -> bool
+        ensures { result ≡ spec.is_int self }
+    {
+        matches!(self, ValueType::Of(Kind::Int))
+    }
+
+    fn is_text(self) -> bool
+        ensures { result ≡ spec.is_text self }
+    {
+        matches!(self, ValueType::Of(Kind::Text))
+    }
+
+    fn is_node(self) -> bool
+        ensures { result ≡ spec.is_node self }
+    {
+        matches!(self, ValueType::Of(Kind::Node(_)) | ValueType::Null)
+    }
+
+    /// The type at which a value is kept: `null` counts as a node of the first class.
+    pub fn kept_kind(self) -> Kind
+        ensures { result ≡ spec.kept_kind self }
+    {
+        match self {
+            ValueType::Of(kind) => kind,
+            ValueType::Null => Kind::Node(ClassId(0)),
+        }
+    }
+}
+
+// Whether a node of the type is of the class.
+fn fits_class(grammar: &Grammar, of: ValueType, class: ClassId) -> bool
+    ensures { result ≡ spec.fits_class grammar.now of class }
+{
+    match of {
+        ValueType::Null => true,
+        ValueType::Of(Kind::Node(below)) => grammar.is_sub(below, class),
+        ValueType::Of(_) => false,
+    }
+}
+
+/// Whether what is of the type may stand where one of the second is wanted: where they are equal, where a class is the other or below it,
+/// and where `null` stands for a node.
+pub fn fits(grammar: &Grammar, of: ValueType, wanted: Kind) -> bool
+    ensures { result ≡ spec.fits grammar.now of wanted }
+{
+    match wanted {
+        Kind::Truth => of.is_truth(),
+        Kind::Int => of.is_int(),
+        Kind::Text => of.is_text(),
+        Kind::Node(class) => fits_class(grammar, of, class),
+        Kind::Texts | Kind::Nodes(_) => false,
+    }
+}
+
+/// Whether `==` compares the two: two truth values, integers, texts or nodes, of whatever classes.
+pub fn comparable(left: ValueType, right: ValueType) -> bool
+    ensures { result ≡ spec.comparable left right }
+{
+    (left.is_truth() && right.is_truth())
+        || (left.is_int() && right.is_int())
+        || (left.is_text() && right.is_text())
+        || (left.is_node() && right.is_node())
+}
+
+fn type_where(holds: bool, of: ValueType) -> Option<ValueType>
+    ensures { result ≡ spec.type_where holds of }
+{
+    if holds { Some(of) } else { None }
+}
+
+// The common type of the nodes of a class and of a second type.
+fn common_node(grammar: &Grammar, class: ClassId, right: ValueType) -> Option<ValueType>
+    ensures { result ≡ spec.common_node grammar.now class right }
+{
+    match right {
+        ValueType::Null => Some(ValueType::of_class(class)),
+        ValueType::Of(Kind::Node(other)) => {
+            let common = grammar.nearest_common(class, other)?;
+            Some(ValueType::of_class(common))
+        }
+        ValueType::Of(_) => None,
+    }
+}
+
+/// The type of a choice between two parts: that of both, where they are of one type; their nearest common superclass, where both are classes;
+/// the class of the other, where one is that of `null`.
+pub fn common(grammar: &Grammar, left: ValueType, right: ValueType) -> Option<ValueType>
+    ensures { result ≡ spec.common grammar.now left right }
+{
+    match left {
+        ValueType::Null => type_where(right.is_node(), right),
+        ValueType::Of(Kind::Truth) => type_where(right.is_truth(), right),
+        ValueType::Of(Kind::Int) => type_where(right.is_int(), right),
+        ValueType::Of(Kind::Text) => type_where(right.is_text(), right),
+        ValueType::Of(Kind::Node(class)) => common_node(grammar, class, right),
+        ValueType::Of(Kind::Texts | Kind::Nodes(_)) => None,
+    }
+}
