@@ -1,18 +1,20 @@
-//! Attributes: their declarations, their equations as typed expressions, and the rules that tie them.
+//! The checker of aspects: which rules they break over a grammar, and the rules of attributes that they make.
 #![tactic(auto)]
 
-mod expression;
-mod kinds;
-mod queries;
-mod rules;
-#[cfg(test)]
-mod tests;
-mod typing;
+mod asked;
+mod bodies;
+mod calls;
+mod checking;
+mod completeness;
+mod declared;
+mod heads;
+mod laws;
+mod scope;
+mod sides;
+mod targets;
+mod typed;
+mod written;
 
-pub use expression::{Operator, TExpr};
-pub use kinds::{Attr, AttrId, EqId, Kind, Params, Sort, Start};
-pub use queries::QueryEq;
-pub use rules::{FirstEq, Name, Rules};
-pub use typing::{
-    call_type, child_type, common, component_on, operated, token_type, where_int, where_truth,
-};
+pub use asked::query_of_call;
+pub use checking::check;
+pub use laws::accepted_rules;

@@ -1,0 +1,30 @@
+-- Aspects that break no rule make rules of the grammar.
+use Rattle.std.proofs.Common.{◌≡◌, List, true, None, refl, arith}
+use Rattle.std.proofs.lemmas.List.{length-map}
+use Rattle.ast_grammar.specs.Grammar.{Class, IsGrammar}
+use Rattle.broken_rules.specs.Answers.{Answers}
+use Rattle.broken_rules.proofs.Clean.{phase_none}
+use Rattle.jrag_reader.specs.Built.{all_built}
+use Rattle.jrag_reader.specs.Items.{Item}
+use Rattle.attr_types.specs.Heads.{attribute_of, attributes_of}
+use Rattle.attr_types.specs.Phases.{phases_of, rules_of}
+use Rattle.attr_rules.specs.Rules.{AreRules}
+use Rattle.attr_types.specs.Written.{declarations}
+use Rattle.attr_types.proofs.CompleteClean.{complete_rules}
+use Rattle.attr_types.proofs.DeclaredClean.{declared_attributes, few_declared}
+use Rattle.attr_types.proofs.EquationsClean.{equations_there}
+
+pub accepted : (g : List Class) (items : List Item) → IsGrammar g → all_built items ≡ true → Answers (phases_of g items) None → AreRules g (rules_of g items)
+unfolding rules_of
+accepted g items grammar built answer =
+    let heads = phase_none answer in
+    let targets = phase_none heads.1 in
+    let complete = phase_none targets.1 in
+    let bodies = phase_none complete.1 in
+    record {
+      superclasses = refl;
+      few = omega (arith, few_declared g (declarations items) heads.0, length-map (declarations items) (attribute_of g));
+      attributes = declared_attributes g items built heads.0;
+      equations = equations_there g (attributes_of g (declarations items)) items built targets.0 bodies.0;
+      complete = complete_rules g items complete.0;
+    }

@@ -1,0 +1,63 @@
+-- What equations break, and what they say.
+use Rattle.std.proofs.Common.{◌≡◌, ℕ, ◌+◌, ◌<◌, List, [], ◌∷◌, ◌++◌, length, map, get_or, take, Option, ap, sym, ◌∙◌, subst, arith}
+use Rattle.std.proofs.Math.ListN.{get_or-map}
+use Rattle.std.proofs.lemmas.List.{length-map, map-append, take_more}
+use Rattle.std.specs.List.{flat_map}
+use Rattle.broken_rules.specs.declared.broken.Broken.{Broken}
+use Rattle.broken_rules.specs.Notes.{Notes}
+use Rattle.broken_rules.proofs.Noting.{notes_each}
+use Rattle.ast_grammar.specs.Grammar.{Class, superclasses_of}
+use Rattle.attr_rules.specs.declared.dispatch.Target.{Target}
+use Rattle.attr_rules.specs.declared.kinds.Kind.{Kind}
+use Rattle.attr_rules.specs.declared.rules.KeptEquation.{KeptEquation}
+use Rattle.attr_types.specs.declared.written.Given as kept_given
+use Rattle.attr_rules.specs.KeptEquations.{equation_in}
+use Rattle.attr_types.specs.Seen.{seen_given}
+use Rattle.attr_types.specs.Bodies.{most, operand_broken}
+use Rattle.attr_types.specs.Phases.{equation_broken, equation_of, scope_of, wanted_by}
+use Rattle.attr_rules.specs.Rules.{Attribute, AttributeSet}
+use Rattle.attr_types.specs.Scope.{Scope}
+use Rattle.attr_types.specs.Targets.{target_given}
+use Rattle.attr_types.specs.Written.{Given}
+
+-- what its right side breaks, which stands where the equation is for, and of which that type is wanted
+pub body_noted : (g : List Class) (a : AttributeSet) (e : Given) (t : Target) {k : Kind} {x y : Option Broken}
+    → a.superclasses ≡ superclasses_of g → t ≡ target_given g a.attributes e → k ≡ wanted_by a.attributes t
+    → Notes (operand_broken (record { grammar = g; known = a; this = t.class }) most k e.body) x y → Notes (equation_broken g a.attributes e) x y
+body_noted g a e t {k} {x} {y} same is wanted h =
+    let here : Scope = record { grammar = g; known = a; this = t.class } in
+    let scope : here ≡ scope_of g a.attributes t = ap (λ s. record { grammar = g; known = record { superclasses = s; attributes = a.attributes }; this = t.class }) same in
+    subst (λ u. Notes (operand_broken (scope_of g a.attributes u) most (wanted_by a.attributes u) e.body) x y) is
+    (subst (λ s. Notes (operand_broken s most (wanted_by a.attributes t) e.body) x y) scope (subst (λ w. Notes (operand_broken here most w e.body) x y) wanted h))
+
+-- the equations of memory, and what each is for
+module _ (g : List Class) (attributes : List Attribute) (es : List kept_given.Given) (i : ℕ) where
+  item : {e : kept_given.Given} → e ≡ get_or es i e → seen_given e ≡ get_or (map seen_given es) i (seen_given e)
+  item {e} is = ap seen_given is ∙ sym (get_or-map seen_given es i e)
+
+  within : i < length es → i < length (map seen_given es)
+  within lt = omega (arith, length-map es seen_given)
+
+  pub one_target : (ts : List Target) {e : kept_given.Given} {t : Target} → ts ≡ map (target_given g attributes) (map seen_given es)
+      → ((d : kept_given.Given) → e ≡ get_or es i d) → ((d : Target) → t ≡ get_or ts i d) → t ≡ target_given g attributes (seen_given e)
+  one_target ts {e} {t} same is at =
+      let f = target_given g attributes in
+      at (f (seen_given e)) ∙ ap (λ xs. get_or xs i (f (seen_given e))) same ∙ get_or-map f (map seen_given es) i (seen_given e) ∙ ap f (sym (item (is e)))
+
+  -- what one more breaks
+  pub one_noted : {e : kept_given.Given} {a b c : Option Broken} → ((d : kept_given.Given) → e ≡ get_or es i d) → i < length es
+      → Notes (flat_map (equation_broken g attributes) (take i (map seen_given es))) a b → Notes (equation_broken g attributes (seen_given e)) b c
+      → Notes (flat_map (equation_broken g attributes) (take (i + 1) (map seen_given es))) a c
+  one_noted {e} is lt h k = notes_each (equation_broken g attributes) (map seen_given es) i (item (is e)) (within lt) h k
+
+  -- and what it says
+  pub one_said : {e : kept_given.Given} (list new : List KeptEquation) (x : KeptEquation) → ((d : kept_given.Given) → e ≡ get_or es i d) → i < length es
+      → new ≡ list ++ x ∷ [] → equation_in x ≡ equation_of g attributes (seen_given e)
+      → map equation_in list ≡ map (equation_of g attributes) (take i (map seen_given es))
+      → map equation_in new ≡ map (equation_of g attributes) (take (i + 1) (map seen_given es))
+  one_said {e} list new x is lt more said so_far =
+      let f = equation_of g attributes in
+      let front = take i (map seen_given es) in
+      let longer = take_more (map seen_given es) i (seen_given e) (within lt) ∙ ap (λ y. front ++ y ∷ []) (sym (item (is e))) in
+      ap (map equation_in) more ∙ map-append equation_in list (x ∷ []) ∙ ap (λ ys. ys ++ equation_in x ∷ []) so_far ∙ ap (λ y. map f front ++ y ∷ []) said
+      ∙ sym (map-append f front (seen_given e ∷ [])) ∙ ap (map f) (sym longer)

@@ -1,0 +1,68 @@
+-- What holds of equations of built items that break nothing.
+use Rattle.std.proofs.Common.{◌≡◌, List, [], All, ◌&&◌, true, not, Option, Some, None, map, option_map, refl, ap, sym, ◌∙◌, subst}
+use Rattle.std.proofs.lemmas.Bool.{and_parts}
+use Rattle.broken_rules.proofs.Clean.{append_none, flat_map_found}
+use Rattle.ast_grammar.specs.Grammar.{Class}
+use Rattle.jrag_reader.specs.Built.{all_built, has_no_path, has_none, is_built, is_built_item, is_built_body, is_not_circular, is_plain}
+use Rattle.jrag_reader.specs.Expressions.{Expr}
+use Rattle.jrag_reader.specs.Items.{Item, Declared, Inherits, Equates, Collects, Contributes, Synthesized}
+use Rattle.attr_types.specs.Bodies.{expr_broken, misfit, most}
+use Rattle.attr_types.specs.Phases.{bodies_broken, equation_broken, equation_of, kind_or_truth, scope_of, wanted_by}
+use Rattle.attr_rules.specs.Rules.{Attribute, IsEquation}
+use Rattle.attr_types.specs.Targets.{target_given, targets_broken}
+use Rattle.attr_types.specs.Typed.{known}
+use Rattle.attr_rules.specs.Types.{fits}
+use Rattle.attr_types.specs.Written.{Given, given_by, given_in, given_with, givens}
+use Rattle.attr_types.proofs.FormsTyped.{fitting}
+use Rattle.attr_types.proofs.ItemsFound.{all_found, built_found, map_found}
+use Rattle.attr_types.proofs.MembersTyped.{names_in}
+use Rattle.attr_types.proofs.TargetsClean.{IsFound, given_target}
+use Rattle.attr_types.proofs.TypedClean.{typed}
+
+body_there : (s : Synthesized) (o : Option Expr) (e : Given) → is_built_body o ≡ true → option_map (given_with s) o ≡ Some e → is_built e.body ≡ true
+body_there s None e built is = absurd (cc)
+body_there s (Some body) e built is = let same : given_with s body ≡ e = cc in subst (λ (f : Given). is_built f.body ≡ true) same built
+
+-- the right side of an equation that a built item gives, is built
+built_in : (item : Item) (e : Given) → is_built_item item ≡ true → given_in item ≡ Some e → is_built e.body ≡ true
+built_in (Declared s) e built is =
+    let last = (is_not_circular s.circular && is_built_body s.body) in
+    let typed = (and_parts (not s.higher_order) (is_plain s.of && (has_none s.signature && last)) built).1 in
+    let alone = (and_parts (is_plain s.of) (has_none s.signature && last) typed).1 in
+    body_there s s.body e (and_parts (is_not_circular s.circular) (is_built_body s.body) (and_parts (has_none s.signature) last alone).1).1 is
+built_in (Inherits i) e built is = absurd (cc)
+built_in (Equates f) e built is =
+    let same : given_by f ≡ e = cc in
+    let rest = (has_no_path f.inherited && is_built f.body) in
+    subst (λ (h : Given). is_built h.body ≡ true) same (and_parts (has_no_path f.inherited) (is_built f.body) (and_parts (has_none f.signature) rest built).1).1
+built_in (Collects c) e built is = absurd (cc)
+built_in (Contributes c) e built is = absurd (cc)
+
+module _ (g : List Class) (attributes : List Attribute) where
+  equation_there : (e : Given) → IsFound g attributes (target_given g attributes e) → is_built e.body ≡ true → equation_broken g attributes e ≡ [] → IsEquation g attributes (equation_of g attributes e)
+  equation_there e target built none =
+      let scope = scope_of g attributes (target_given g attributes e) in
+      let wanted = wanted_by attributes (target_given g attributes e) in
+      let parts = append_none (expr_broken scope most e.body) (misfit g wanted (known scope e.body) e.body) none in
+      let body = typed scope (record { superclasses = refl }) e.body most built parts.0 in
+      let fits_wanted : fits g body.type wanted ≡ true = fitting (names_in scope) wanted (known scope e.body) body.type e.body body.is parts.1 in
+      record {
+        within = target.within;
+        attribute = target.has.attribute;
+        declared = target.has.declared;
+        has = target.has.has;
+        type = body.type;
+        typed = body.typed;
+        fit = ap (λ o. fits g body.type (kind_or_truth o)) (sym target.has.declared) ∙ fits_wanted;
+      }
+
+  -- each is well typed and fits
+  pub equations_there : (items : List Item) → all_built items ≡ true → targets_broken g attributes (givens items) ≡ [] → bodies_broken g attributes (givens items) ≡ []
+      → All (IsEquation g attributes) (map (equation_of g attributes) (givens items))
+  equations_there items built targets bodies = all_found (IsEquation g attributes) (map (equation_of g attributes) (givens items)) (λ i x is.
+      let found = map_found (equation_of g attributes) (givens items) i x is in
+      let e = found.0 in
+      let from = built_found given_in items i e built found.1 in
+      let target = given_target g attributes (givens items) i e targets found.1 in
+      subst (IsEquation g attributes) found.2
+      (equation_there e target (built_in from.item e from.built from.gives) (flat_map_found (equation_broken g attributes) (givens items) i e bodies found.1)))

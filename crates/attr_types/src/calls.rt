@@ -1,0 +1,82 @@
+// The rules on calls: J9, J10 and J11.
+ghost use Rattle.std.specs.Prelude.{◌≡◌, ◌==◌, length, not};
+ghost use Rattle.broken_rules.specs.Notes.{Notes, at, broken_if};
+ghost use Rattle.broken_rules.specs.declared.rule.Rule.TheVariants.{J10, J11};
+ghost use Rattle.attr_types.specs.Bodies.{call_broken, member_broken};
+ghost use Rattle.attr_types.specs.Calls.{first_place};
+ghost use Rattle.attr_types.specs.Scope.{Scope, arguments_wanted, is_list, member_on};
+ghost use Rattle.jrag_reader.specs.Expressions.{seen_name};
+
+use crate::scope::Member;
+use crate::sides::place_of;
+use attr_rules::ValueType;
+use broken_rules::{Earliest, Rule};
+use jrag_reader::{Expr, Name};
+use rag_io::Place;
+
+/// A call as it is written: its receiver, if it has one, the name, and how many arguments there are.
+#[derive(Clone, Copy)]
+pub(crate) struct Called<'a> {
+    pub receiver: Option<&'a Expr>,
+    pub name: &'a Name,
+    pub count: usize,
+}
+
+impl Called<'_> {
+    // The place of its first token.
+    fn place(&self) -> Place
+        ensures { result ≡ first_place self.now }
+    {
+        match self.receiver {
+            Some(receiver) => place_of(receiver),
+            None => self.name.place,
+        }
+    }
+}
+
+// J11 at a name that takes another number of arguments.
+fn check_count(call: Called<'_>, member: Member, faults: &mut Earliest)
+    ensures { Notes (broken_if (not (length (arguments_wanted member) == call.entry.count)) (at (seen_name call.entry.name.now).place J11)) faults.old faults.new }
+{
+    let is_other = member.arguments().len() != call.count;
+    faults.note_if(is_other, Rule::J11, call.name.place);
+}
+
+// J10 at a whole list, which stands in ranges alone.
+fn check_list(call: Called<'_>, member: Member, faults: &mut Earliest)
+    ensures { Notes (broken_if (is_list member) (at (first_place call.entry) J10)) faults.old faults.new }
+{
+    if member.is_list() {
+        faults.note(Rule::J10, call.place());
+    }
+}
+
+// J9 at a name that means nothing, and J10 and J11 at one that means something.
+fn check_member(call: Called<'_>, member: Option<Member>, faults: &mut Earliest)
+    ensures { Notes (member_broken member (seen_name call.entry.name.now) call.entry.count (first_place call.entry)) faults.old faults.new }
+{
+    match member {
+        None => faults.note(Rule::J9, call.name.place),
+        Some(member) => {
+            check_count(call, member, faults);
+            check_list(call, member, faults);
+        }
+    }
+}
+
+/// J9, J10 and J11 of a call of this member behind a receiver of a type, where that is known: J10 at a receiver that is of no class.
+pub(crate) fn check_call(
+    call: Called<'_>,
+    receiver: Option<ValueType>,
+    member: Option<Member>,
+    faults: &mut Earliest,
+)
+    ensures { (s : Scope) → member ≡ member_on s receiver (seen_name call.entry.name.now).text call.entry.count → Notes (call_broken s (seen_name call.entry.name.now) call.entry.count (first_place call.entry) receiver) faults.old faults.new }
+{
+    let Some(receiver) = receiver else { return };
+    if receiver.class().is_none() {
+        faults.note(Rule::J10, call.place());
+        return;
+    }
+    check_member(call, member, faults);
+}

@@ -1,0 +1,42 @@
+// Aspects over a grammar, checked.
+ghost use Rattle.std.specs.Prelude.{◌≡◌, IfOk, true};
+ghost use Rattle.broken_rules.specs.Answers.{Says};
+ghost use Rattle.attr_rules.specs.Kept.{rules_in};
+ghost use Rattle.attr_types.specs.Phases.{phases_of, rules_of};
+ghost use Rattle.jrag_reader.specs.Built.{all_built};
+ghost use Rattle.jrag_reader.specs.Items.{seen_aspects};
+
+use crate::bodies::check_bodies;
+use crate::completeness::check_completeness;
+use crate::heads::check_heads;
+use crate::targets::check_targets;
+use crate::written::{declarations, givens};
+use ast_grammar::Grammar;
+use attr_rules::{Dispatch, Rules};
+use broken_rules::ReadFault;
+use jrag_reader::Aspects;
+use std::alloc::Global;
+
+/// Checks aspects, all of whose forms are evaluated so far, over a grammar, and makes their rules. Attributes and equations are numbered in
+/// the order of the file; the equation in a declaration is one of them.
+///
+/// There are four phases, and the first that finds a broken rule decides. Declarations: the class is one of the grammar (J2); no attribute
+/// is declared a second time for a class, a superclass or a subclass, or has the spelling of an accessor there (J3); there are at most
+/// 1,024 (J17). What equations are for: the class is one of the grammar (J2) and has the attribute (J5), and no equation before is for
+/// the same class and attribute (J6). Completeness: each concrete class has an equation for each of its attributes, of its own or of
+/// a superclass (J7). Expressions: names mean something (J9), types fit (J10), calls have as many arguments as are wanted (J11), and
+/// integer literals have 32 bits (J17).
+pub fn check(alloc: Global, grammar: &Grammar, aspects: &Aspects) -> Result<Rules, ReadFault>
+    requires { all_built (seen_aspects aspects.now) ≡ true }
+    ensures phases { Says (phases_of grammar.now (seen_aspects aspects.now)) result }
+    ensures rules { IfOk result (λ rules. rules_in rules ≡ rules_of grammar.now (seen_aspects aspects.now)) }
+{
+    let heads = declarations(alloc, &aspects.items)?;
+    let attributes = check_heads(alloc, grammar, &heads)?;
+    let equations = givens(alloc, &aspects.items)?;
+    let targets = check_targets(alloc, grammar, &attributes, &equations)?;
+    let dispatch = Dispatch::of_targets(alloc, grammar, attributes.len(), &targets)?;
+    check_completeness(grammar, &dispatch, &heads)?;
+    let list = check_bodies(alloc, grammar, &attributes, &equations, &targets)?;
+    Ok(Rules::of_parts(attributes, dispatch, list))
+}

@@ -1,0 +1,141 @@
+// The rules on declarations: J2, J3 and J17.
+ghost use Rattle.std.specs.Prelude.{◌≡◌, ◌<◌, ◌++◌, ◌∷◌, [], List, Some, IfOk, IfSome, OnOk, length, map};
+ghost use Rattle.std.specs.Option.{option_map};
+ghost use Rattle.ast_grammar.specs.Grammar.{class_named, number_of, superclasses_of};
+ghost use Rattle.broken_rules.specs.Answers.{Ends};
+ghost use Rattle.broken_rules.specs.Notes.{Notes};
+ghost use Rattle.attr_rules.specs.KeptEquations.{seen_attribute};
+ghost use Rattle.attr_types.specs.DeclaredNames.{Adds, IsEven, Tells};
+ghost use Rattle.attr_types.specs.Heads.{again_for, attribute_of, attributes_of, class_broken, head_broken, heads_broken, is_taken, kind_written};
+ghost use Rattle.jrag_reader.specs.Expressions.{seen_name};
+ghost use Rattle.jrag_reader.specs.Items as read;
+ghost use Rattle.jrag_reader.specs.Items.{seen_synthesized, seen_type};
+
+use crate::declared::Declared;
+use ast_grammar::{ClassId, Grammar};
+use attr_rules::{Attr, Attributes, Kind, NamedAttr, is_spelled};
+use broken_rules::{Earliest, ReadFault, Rule};
+use jrag_reader::{Name, Synthesized, Type, TypeName};
+use rag_io::Memory;
+use std::alloc::Global;
+
+/// So many attributes may be declared.
+const MOST_ATTRIBUTES: usize = 1024;
+
+/// The class of a name. Notes J2 where there is none.
+pub(crate) fn check_class(grammar: &Grammar, name: &Name, faults: &mut Earliest) -> Option<ClassId>
+    ensures class { option_map number_of result ≡ class_named grammar.now (seen_name name.now).text }
+    ensures within { IfSome result (λ class. class.0 < length grammar.now) }
+    ensures noted { Notes (class_broken grammar.now (seen_name name.now)) faults.old faults.new }
+{
+    let class = grammar.find_class(&name.text);
+    faults.note_if(class.is_none(), Rule::J2, name.place);
+    class
+}
+
+// The name is that of an accessor of the class or of a subclass.
+fn is_taken(grammar: &Grammar, class: ClassId, name: &[u8]) -> bool
+    ensures { result ≡ is_taken grammar.now class.0 name.now }
+{
+    (0..grammar.classes()).any(|number| {
+        let below = ClassId(number as u16);
+        grammar.is_sub(below, class) && is_spelled(grammar, below, name)
+    })
+}
+
+// J3 at the name of a declaration for a class: it is declared a second time, or is an accessor's. It counts as declared then.
+fn check_again<'a>(
+    alloc: Global,
+    grammar: &Grammar,
+    declared: &mut Declared<'a>,
+    class: ClassId,
+    name: &'a Name,
+    faults: &mut Earliest,
+) -> Result<(), Memory>
+    ensures noted { (before : List read.Synthesized) → Tells grammar.now before declared.old → OnOk result (Notes (again_for grammar.now before (seen_name name.now) (Some class.0)) faults.old faults.new) }
+    ensures kept { (before : List read.Synthesized) → Tells grammar.now before declared.old → OnOk result (IsEven declared.new × Adds declared.old class (seen_name name.now).text declared.new) }
+{
+    let is_again = declared.contains(grammar, class, &name.text);
+    faults.note_if(
+        is_again || is_taken(grammar, class, &name.text),
+        Rule::J3,
+        name.place,
+    );
+    declared.insert(alloc, class, &name.text)
+}
+
+// J2, J3 and J17 of a declaration, before which there are so many.
+fn check_head<'a>(
+    alloc: Global,
+    grammar: &Grammar,
+    declared: &mut Declared<'a>,
+    count: usize,
+    head: &'a Synthesized,
+    faults: &mut Earliest,
+) -> Result<(), Memory>
+    ensures noted { (before : List read.Synthesized) → Tells grammar.now before declared.old → count ≡ length before → OnOk result (Notes (head_broken grammar.now before (seen_synthesized head.now)) faults.old faults.new) }
+    ensures told { (before : List read.Synthesized) → Tells grammar.now before declared.old → OnOk result (Tells grammar.now (before ++ seen_synthesized head.now ∷ []) declared.new) }
+{
+    let name = &head.signature.name;
+    if let Some(class) = check_class(grammar, &head.class, faults) {
+        check_again(alloc, grammar, declared, class, name, faults)?;
+    }
+    faults.note_if(count == MOST_ATTRIBUTES, Rule::J17, name.place);
+    Ok(())
+}
+
+// A type that is evaluated so far; any other counts as `boolean`.
+fn kind_written(of: &Type) -> Kind
+    ensures { result ≡ kind_written (seen_type of.now) }
+{
+    match of.name {
+        TypeName::Boolean | TypeName::Class(_) => Kind::Truth,
+        TypeName::Int => Kind::Int,
+        TypeName::String => Kind::Text,
+    }
+}
+
+/// What a declaration declares. A class that there isn't counts as the first.
+pub(crate) fn attribute_of<'a>(grammar: &Grammar, head: &'a Synthesized) -> NamedAttr<'a>
+    ensures { seen_attribute result ≡ attribute_of grammar.now (seen_synthesized head.now) }
+{
+    let class = grammar.find_class(&head.class.text).unwrap_or(ClassId(0));
+    NamedAttr {
+        name: &head.signature.name.text,
+        declared: Attr::plain(class, kind_written(&head.of)),
+    }
+}
+
+// What the declarations declare.
+fn named_attributes<'a>(
+    alloc: Global,
+    grammar: &Grammar,
+    heads: &[&'a Synthesized],
+) -> Result<Vec<NamedAttr<'a>>, Memory>
+    ensures { IfOk result (λ list. map seen_attribute list.items ≡ attributes_of grammar.now (map (λ s. seen_synthesized s.now) heads.now)) }
+{
+    let mut list = Vec::new(alloc);
+    for head in heads {
+        list.push(attribute_of(grammar, head)).map_err(|_| Memory)?;
+    }
+    Ok(list)
+}
+
+/// The phase of declarations: the attributes that they declare, at most 1,024, where no rule on declarations is broken.
+pub(crate) fn check_heads(
+    alloc: Global,
+    grammar: &Grammar,
+    heads: &[&Synthesized],
+) -> Result<Attributes, ReadFault>
+    ensures phase { Ends (heads_broken grammar.now (map (λ s. seen_synthesized s.now) heads.now)) result }
+    ensures attributes { IfOk result (λ a. a ≡ record { superclasses = superclasses_of grammar.now; attributes = attributes_of grammar.now (map (λ s. seen_synthesized s.now) heads.now) }) }
+{
+    let mut faults = Earliest::new();
+    let mut declared = Declared::new(alloc);
+    for (count, head) in heads.iter().enumerate() {
+        check_head(alloc, grammar, &mut declared, count, head, &mut faults)?;
+    }
+    faults.answer()?;
+    let list = named_attributes(alloc, grammar, heads)?;
+    Ok(Attributes::of_list(alloc, grammar, &list)?)
+}

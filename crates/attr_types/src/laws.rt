@@ -1,0 +1,14 @@
+// What holds of aspects that break no rule.
+ghost use Rattle.std.specs.Prelude.{◌≡◌, List, None, true};
+ghost use Rattle.ast_grammar.specs.Grammar.{Class, IsGrammar};
+ghost use Rattle.broken_rules.specs.Answers.{Answers};
+ghost use Rattle.attr_rules.specs.Rules.{AreRules};
+ghost use Rattle.attr_types.specs.Phases.{phases_of, rules_of};
+ghost use Rattle.jrag_reader.specs.Built.{all_built};
+ghost use Rattle.jrag_reader.specs.Items.{Item};
+
+/// Aspects that break no rule over a grammar make rules of it: each equation is of a class that has the attribute, its right side is well
+/// typed and fits, and each concrete class has an equation for each of its attributes.
+pub fn accepted_rules()
+    ensures { (g : List Class) (items : List Item) → IsGrammar g → all_built items ≡ true → Answers (phases_of g items) None → AreRules g (rules_of g items) }
+{}

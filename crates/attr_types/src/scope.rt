@@ -1,0 +1,113 @@
+// What may be named where an expression stands, and what a call means there.
+ghost use Rattle.std.specs.Prelude.{◌≡◌};
+ghost use Rattle.std.specs.Option.{option_and_then};
+ghost use Rattle.attr_types.specs.Scope as spec;
+ghost use Rattle.attr_types.specs.Scope.{arguments_wanted, member_of, member_on, type_called, wanted_for};
+ghost use Rattle.attr_types.specs.ScopeKept.{IsScope};
+ghost use Rattle.attr_types.specs.Seen.{seen_scope};
+
+use ast_grammar::{ClassId, Grammar};
+use attr_rules::{Access, Accessor, AttrId, Attributes, Kind, ValueType, accessor_of};
+
+/// What a name means behind a receiver of a class.
+#[derive(Clone, Copy, Debug, PartialEq, Eq)]
+pub(crate) enum Member {
+    /// A component is read.
+    Reads(Accessor),
+    /// An attribute is called.
+    Calls(AttrId),
+}
+
+impl Member {
+    /// The types of the arguments. Attributes have none so far.
+    pub(crate) fn arguments(self) -> &'static [Kind]
+        ensures { result.now ≡ arguments_wanted self }
+    {
+        match self {
+            Member::Reads(accessor) => accessor.access.arguments(),
+            Member::Calls(_) => &[],
+        }
+    }
+
+    /// Whether it gives a whole list, which stands in ranges alone.
+    pub(crate) fn is_list(self) -> bool
+        ensures { result ≡ spec.is_list self }
+    {
+        matches!(
+            self,
+            Member::Reads(Accessor {
+                access: Access::Elements,
+                ..
+            })
+        )
+    }
+}
+
+/// The types of the arguments of a call with so many, where it takes so many.
+pub(crate) fn wanted_for(member: Option<Member>, count: usize) -> &'static [Kind]
+    ensures { result.now ≡ wanted_for member count }
+{
+    match member {
+        Some(member) if member.arguments().len() == count => member.arguments(),
+        _ => &[],
+    }
+}
+
+/// Where an expression stands: in an equation of a class.
+#[derive(Clone, Copy)]
+pub(crate) struct Scope<'a> {
+    pub grammar: &'a Grammar,
+    pub attributes: &'a Attributes,
+    pub class: ClassId,
+}
+
+impl Scope<'_> {
+    /// What a name means behind a receiver of a class, called with so many arguments.
+    pub(crate) fn member_of(&self, name: &[u8], count: usize, class: ClassId) -> Option<Member>
+        requires { IsScope (seen_scope self.now) }
+        ensures { result ≡ member_of (seen_scope self.now) name.now count class }
+    {
+        if let Some(accessor) = accessor_of(self.grammar, class, name, count) {
+            return Some(Member::Reads(accessor));
+        }
+        if u32::from(class.0) >= self.grammar.classes() {
+            return None;
+        }
+        let attribute = self.attributes.find(class, name)?;
+        Some(Member::Calls(attribute))
+    }
+
+    /// What a name means behind a receiver of a type, where that is known, called with so many arguments.
+    pub(crate) fn member_on(
+        &self,
+        receiver: Option<ValueType>,
+        name: &[u8],
+        count: usize,
+    ) -> Option<Member>
+        requires { IsScope (seen_scope self.now) }
+        ensures { result ≡ member_on (seen_scope self.now) receiver name.now count }
+    {
+        let class = receiver?.class()?;
+        self.member_of(name, count, class)
+    }
+
+    /// The type of a call. A list, which stands in ranges alone, has none.
+    pub(crate) fn type_called(&self, member: Member) -> Option<ValueType>
+        ensures { result ≡ type_called (seen_scope self.now) member }
+    {
+        match member {
+            Member::Reads(accessor) => accessor.value_type(),
+            Member::Calls(attribute) if u32::from(attribute.0) < self.attributes.len() => {
+                Some(ValueType::Of(self.attributes.attr(attribute).kind))
+            }
+            Member::Calls(_) => None,
+        }
+    }
+
+    /// The type of what a call gives, where the name means something.
+    pub(crate) fn type_of(&self, member: Option<Member>) -> Option<ValueType>
+        ensures { result ≡ option_and_then (type_called (seen_scope self.now)) member }
+    {
+        self.type_called(member?)
+    }
+}

@@ -1,0 +1,164 @@
+// What written expressions say, made of what their parts say.
+ghost use Rattle.std.specs.Prelude.{◌≡◌, IfOk};
+ghost use Rattle.attr_rules.specs.Expression as said;
+ghost use Rattle.attr_rules.specs.Expression.{expression_of};
+ghost use Rattle.attr_types.specs.Typed.{call_said, common_of, joined, read, result_of};
+
+use crate::scope::Member;
+use ast_grammar::Grammar;
+use attr_rules::{Access, Accessor, Kind, Operator, TExpr, ValueType, common};
+use jrag_reader::Operator as Sign;
+use rag_io::{Memory, Place};
+use std::alloc::Global;
+
+/// What a written expression says: its type, where that is known, and its typed form. What breaks a rule says `null`.
+#[derive(Debug, Drop)]
+pub(crate) struct Typed {
+    pub value_type: Option<ValueType>,
+    pub body: TExpr,
+}
+
+/// The type of what an operator gives, which is known whatever stands on its sides.
+pub(crate) fn result_of(sign: Sign) -> Option<ValueType>
+    ensures { result ≡ result_of sign }
+{
+    match sign {
+        Sign::Multiply | Sign::Add | Sign::Subtract => Some(ValueType::Of(Kind::Int)),
+        Sign::Less
+        | Sign::AtMost
+        | Sign::Greater
+        | Sign::AtLeast
+        | Sign::Equal
+        | Sign::Differ
+        | Sign::And
+        | Sign::Or => Some(ValueType::Of(Kind::Truth)),
+    }
+}
+
+/// The common type of two parts, where both types are known.
+pub(crate) fn common_of(
+    grammar: &Grammar,
+    left: Option<ValueType>,
+    right: Option<ValueType>,
+) -> Option<ValueType>
+    ensures { result ≡ common_of grammar.now left right }
+{
+    common(grammar, left?, right?)
+}
+
+fn boxed(alloc: Global, expression: TExpr) -> Result<Box<TExpr>, Memory>
+    ensures { IfOk result (λ b. expression_of b.value ≡ expression_of expression) }
+{
+    Box::new(alloc, expression).map_err(|_| Memory)
+}
+
+/// `!`
+pub(crate) fn denied(alloc: Global, part: TExpr) -> Result<TExpr, Memory>
+    ensures { IfOk result (λ e. expression_of e ≡ said.Not (expression_of part)) }
+{
+    Ok(TExpr::Not(boxed(alloc, part)?))
+}
+
+/// Unary `-`.
+pub(crate) fn negated(alloc: Global, part: TExpr) -> Result<TExpr, Memory>
+    ensures { IfOk result (λ e. expression_of e ≡ said.Negate (expression_of part)) }
+{
+    Ok(TExpr::Negate(boxed(alloc, part)?))
+}
+
+fn operated(alloc: Global, operator: Operator, left: TExpr, right: TExpr) -> Result<TExpr, Memory>
+    ensures { IfOk result (λ e. expression_of e ≡ said.Binary operator (expression_of left) (expression_of right)) }
+{
+    let left = boxed(alloc, left)?;
+    Ok(TExpr::Binary(operator, left, boxed(alloc, right)?))
+}
+
+fn both(alloc: Global, left: TExpr, right: TExpr) -> Result<TExpr, Memory>
+    ensures { IfOk result (λ e. expression_of e ≡ said.And (expression_of left) (expression_of right)) }
+{
+    let left = boxed(alloc, left)?;
+    Ok(TExpr::And(left, boxed(alloc, right)?))
+}
+
+fn either(alloc: Global, left: TExpr, right: TExpr) -> Result<TExpr, Memory>
+    ensures { IfOk result (λ e. expression_of e ≡ said.Or (expression_of left) (expression_of right)) }
+{
+    let left = boxed(alloc, left)?;
+    Ok(TExpr::Or(left, boxed(alloc, right)?))
+}
+
+/// Two parts and what stands between them.
+pub(crate) fn joined(alloc: Global, sign: Sign, left: TExpr, right: TExpr) -> Result<TExpr, Memory>
+    ensures { IfOk result (λ e. expression_of e ≡ joined sign (expression_of left) (expression_of right)) }
+{
+    match sign {
+        Sign::Multiply => operated(alloc, Operator::Multiply, left, right),
+        Sign::Add => operated(alloc, Operator::Add, left, right),
+        Sign::Subtract => operated(alloc, Operator::Subtract, left, right),
+        Sign::Less => operated(alloc, Operator::Less, left, right),
+        Sign::AtMost => operated(alloc, Operator::AtMost, left, right),
+        Sign::Greater => operated(alloc, Operator::Greater, left, right),
+        Sign::AtLeast => operated(alloc, Operator::AtLeast, left, right),
+        Sign::Equal => operated(alloc, Operator::Equal, left, right),
+        Sign::Differ => denied(alloc, operated(alloc, Operator::Equal, left, right)?),
+        Sign::And => both(alloc, left, right),
+        Sign::Or => either(alloc, left, right),
+    }
+}
+
+/// A choice between two parts, of which the last begins at a place.
+pub(crate) fn chosen(
+    alloc: Global,
+    condition: TExpr,
+    then: TExpr,
+    place: Place,
+    otherwise: TExpr,
+) -> Result<TExpr, Memory>
+    ensures { IfOk result (λ e. expression_of e ≡ said.If (expression_of condition) (expression_of then) (expression_of otherwise)) }
+{
+    let condition = boxed(alloc, condition)?;
+    let then = boxed(alloc, then)?;
+    Ok(TExpr::If(condition, then, place, boxed(alloc, otherwise)?))
+}
+
+// What an accessor says behind a receiver, with the argument that it may have.
+fn read(
+    alloc: Global,
+    accessor: Accessor,
+    receiver: TExpr,
+    argument: TExpr,
+) -> Result<TExpr, Memory>
+    ensures { IfOk result (λ e. expression_of e ≡ read accessor.access accessor.component (expression_of receiver) (expression_of argument)) }
+{
+    let k = accessor.component;
+    let receiver = boxed(alloc, receiver)?;
+    Ok(match accessor.access {
+        Access::Child => TExpr::Child(k, receiver),
+        Access::Token(kind) => TExpr::Token(kind, k, receiver),
+        Access::Has => TExpr::Has(k, receiver),
+        Access::Count => TExpr::Count(k, receiver),
+        Access::Elements => TExpr::Null,
+        Access::Element => TExpr::Element(k, receiver, boxed(alloc, argument)?),
+    })
+}
+
+/// What a call says behind a receiver, with the argument that it may have and the place of its name.
+pub(crate) fn called(
+    alloc: Global,
+    member: Option<Member>,
+    receiver: TExpr,
+    argument: TExpr,
+    place: Place,
+) -> Result<TExpr, Memory>
+    ensures { IfOk result (λ e. expression_of e ≡ call_said member (expression_of receiver) (expression_of argument)) }
+{
+    match member {
+        None => Ok(TExpr::Null),
+        Some(Member::Reads(accessor)) => read(alloc, accessor, receiver, argument),
+        Some(Member::Calls(attribute)) => Ok(TExpr::Call(
+            attribute,
+            place,
+            boxed(alloc, receiver)?,
+        )),
+    }
+}
