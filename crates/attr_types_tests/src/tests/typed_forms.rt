@@ -1,0 +1,148 @@
+// What expressions say: their typed forms, with the places that they keep.
+use super::*;
+use attr_rules::{EqId, Rules};
+
+// A type, an expression of it, and its typed form, written out.
+const FORMS: [(&str, &str, &str); 28] = [
+    ("int", "2147483647", "Int(2147483647)"),
+    ("int", "002147483647", "Int(2147483647)"),
+    ("int", "-2147483648", "Negate(Int(-2147483648))"),
+    ("int", "-2147483647", "Negate(Int(2147483647))"),
+    (
+        "int",
+        "1 - 2 - 3",
+        "Binary(Subtract, Binary(Subtract, Int(1), Int(2)), Int(3))",
+    ),
+    (
+        "int",
+        "1 - (2 - 3)",
+        "Binary(Subtract, Int(1), Binary(Subtract, Int(2), Int(3)))",
+    ),
+    (
+        "int",
+        "1 + -2 * 3",
+        "Binary(Add, Int(1), Binary(Multiply, Negate(Int(2)), Int(3)))",
+    ),
+    (
+        "boolean",
+        "1 + 2 < 3 == 4 >= 5",
+        "Binary(Equal, Binary(Less, Binary(Add, Int(1), Int(2)), Int(3)), Binary(AtLeast, Int(4), Int(5)))",
+    ),
+    (
+        "boolean",
+        "1 <= 2 != (3 > 4)",
+        "Not(Binary(Equal, Binary(AtMost, Int(1), Int(2)), Binary(Greater, Int(3), Int(4))))",
+    ),
+    (
+        "boolean",
+        "true || !false && true == false",
+        "Or(Truth(true), And(Not(Truth(false)), Binary(Equal, Truth(true), Truth(false))))",
+    ),
+    (
+        "int",
+        "true ? 1 : 2",
+        "If(Truth(true), Int(1), Place { line: 1, column: 58 }, Int(2))",
+    ),
+    (
+        "int",
+        "true ? 1 : false || true ? 2 : 3",
+        "If(Truth(true), Int(1), Place { line: 1, column: 58 }, If(Or(Truth(false), Truth(true)), Int(2), Place { line: 1, column: 78 }, Int(3)))",
+    ),
+    ("String", "\"a\"", "Text(1)"),
+    ("boolean", "this == null", "Binary(Equal, This, Null)"),
+    (
+        "int",
+        "v()",
+        "Call(AttrId(1), Place { line: 1, column: 47 }, This)",
+    ),
+    (
+        "int",
+        "this.v()",
+        "Call(AttrId(1), Place { line: 1, column: 52 }, This)",
+    ),
+    (
+        "int",
+        "(this).v()",
+        "Call(AttrId(1), Place { line: 1, column: 54 }, This)",
+    ),
+    ("int", "getV()", "Token(Int, 2, This)"),
+    ("boolean", "!getT()", "Not(Token(Truth, 3, This))"),
+    ("int", "getl().getV()", "Token(Int, 2, Child(0, This))"),
+    (
+        "int",
+        "getr().w()",
+        "Call(AttrId(0), Place { line: 1, column: 54 }, Child(1, This))",
+    ),
+    (
+        "int",
+        "getl().getl().getr().w()",
+        "Call(AttrId(0), Place { line: 1, column: 68 }, Child(1, Child(0, Child(0, This))))",
+    ),
+    (
+        "int",
+        "(getT() ? getl() : this).v()",
+        "Call(AttrId(1), Place { line: 1, column: 72 }, If(Token(Truth, 3, This), Child(0, This), Place { line: 1, column: 66 }, This))",
+    ),
+    (
+        "int",
+        "getO().w()",
+        "Call(AttrId(0), Place { line: 1, column: 54 }, Child(4, This))",
+    ),
+    ("boolean", "hasO()", "Has(4, This)"),
+    (
+        "int",
+        "getX(1 + 2).w()",
+        "Call(AttrId(0), Place { line: 1, column: 59 }, Element(5, This, Binary(Add, Int(1), Int(2))))",
+    ),
+    ("int", "getl().getNumX()", "Count(5, Child(0, This))"),
+    ("String", "getS()", "Token(Text, 6, This)"),
+];
+
+// The rules of an attribute with this body at `N`, beside an attribute `w` of `M`.
+fn rules_of(
+    rt: &impl Abort,
+    alloc: Global,
+    grammar: &Grammar,
+    kind: &str,
+    body: &str,
+) -> Result<Rules, Fail> {
+    let text = format!(in alloc; "aspect A {{ syn int M.w() = 7; syn {kind} N.v() = {body}; }}")?;
+    let aspects = aspects_of(rt, alloc, text.as_bytes())?;
+    assert!(rt; built(&aspects));
+    Ok(check(alloc, grammar, &aspects)?)
+}
+
+// The right side of the second equation, written out.
+fn second_body(rt: &impl Abort, alloc: Global, rules: &Rules) -> Result<String, Fail> {
+    assert!(rt; rules.equations() == 2);
+    Ok(format!(in alloc; "{:?}", rules.body(EqId(1)))?)
+}
+
+fn expect_form(
+    rt: &impl Abort,
+    alloc: Global,
+    grammar: &Grammar,
+    (kind, body, want): (&str, &str, &str),
+) -> Result<(), Fail> {
+    let rules = rules_of(rt, alloc, grammar, kind, body)?;
+    let said = second_body(rt, alloc, &rules)?;
+    expect_same(rt, said.as_str(), want, body)
+}
+
+fn expect_forms(rt: &impl Abort, alloc: Global, grammar: &Grammar) -> Result<(), Fail> {
+    for (kind, body, want) in &FORMS {
+        expect_form(rt, alloc, grammar, (kind, body, want))?;
+    }
+    Ok(())
+}
+
+#[test]
+fn expressions_have_typed_forms(rt: HostRuntime) -> Result<(), Fail> {
+    let alloc = rt.alloc();
+    let grammar = grammar_of(
+        &rt,
+        alloc,
+        "N ::= l:N r:M <V:int> <T:boolean> [O:M] X:M* <S>; M;",
+    )?;
+    expect_forms(&rt, alloc, &grammar)
+}
