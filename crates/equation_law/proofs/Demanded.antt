@@ -1,74 +1,90 @@
--- An instance of a program demands only instances of it.
-use Rattle.std.proofs.Common.{◌≡◌, ℕ, true, false, cond, List, Option, Some, None, All, slice_get, refl, sym, ap, subst, ◌∙◌}
-use Rattle.std.specs.Option.{option_and_then, option_map}
-use Rattle.std.proofs.lemmas.Option.{get_or_from_slice_get, slice_get_within}
-use Rattle.superclasses.specs.Superclasses.{is_sub as is_below}
+-- The equation of an instance of a program demands only instances of it, and comes to a value of the instance's type.
+use Rattle.std.proofs.Common.{◌≡◌, ℕ, ℤ, true, ◌||◌, List, [], ◌∷◌, eqb, get_or, map, Contains, Option, Some, None, All, IsSome, length, slice_get, refl, sym, ap, subst, ◌∙◌}
+use Rattle.std.specs.Int.{int_wrap}
+use Rattle.std.specs.List.{list_any}
+use Rattle.std.specs.Option.{option_and_then, option_map, option_or}
+use Rattle.std.proofs.lemmas.Bool.{eq-eqb, or_right}
+use Rattle.std.proofs.lemmas.Int.{SFits-int_wrap, int_wrap_fits}
+use Rattle.std.proofs.lemmas.List.Quantifiers.{position-Some}
+use Rattle.std.proofs.lemmas.Option.{get_or_from_slice_get, slice_get-get_or, slice_get-map, slice_get_within}
+use mir.Syntax.{w32}
+use Rattle.superclasses.specs.Superclasses.{is_sub as is_below, upwards}
 use Rattle.superclasses.proofs.Lines.{sub_itself}
 use Rattle.ast_grammar.specs.declared.grammar.ClassId.{ClassId}
 use Rattle.ast_grammar.specs.Grammar.{is_sub, superclasses_of}
-use Rattle.attr_types.specs.declared.kinds.Attr.{Attr}
-use Rattle.attr_types.specs.declared.kinds.Kind.{Kind}
-use Rattle.attr_types.specs.Expression.{Expression}
-use Rattle.attr_types.specs.Rules.{Equation, IsItem, Item, RuleSet, attribute_of, equation_number, equation_of as equation_of_item, is_plain, names_for, plain_attribute}
-use Rattle.attr_types.specs.Rules.{Attribute as DeclaredAttribute}
-use Rattle.attr_types.specs.Typing.{type_of}
-use Rattle.attr_types.proofs.Kept.{twice}
-use Rattle.attr_types.proofs.RuleSets.{equation_number-rules_of, slice_get-attributes, slice_get-equations, where_below}
-use Rattle.solutions.specs.Asking.{Demands, Gives, Needs, Meets, here, later, next}
+use Rattle.attr_rules.specs.declared.dispatch.Target.{Target}
+use Rattle.attr_rules.specs.declared.kinds.Attr.{Attr}
+use Rattle.attr_rules.specs.declared.kinds.Kind.{Kind}
+use Rattle.attr_rules.specs.declared.kinds.Kind.TheVariants as kinds
+use Rattle.attr_rules.specs.declared.types.ValueType.{ValueType}
+use Rattle.attr_rules.specs.declared.types.ValueType.TheVariants as types
+use Rattle.attr_rules.specs.Queries.{Query as Asked}
+use Rattle.attr_rules.specs.Rules.{Attribute as DeclaredAttribute, Equation, IsAttribute, IsEquation, declared_at, equation_number, first_of_line, is_plain, is_target, names_for, nearest_equation, own_equation, target_in}
+use Rattle.attr_rules.specs.Types.{kept_kind}
+use Rattle.solutions.specs.Asking.{Demands, Ends, Gives, Needs, Meets, asks, gives, here, later, next}
 use Rattle.solutions.specs.Rounds.{Graph}
-use Rattle.equation_law.specs.Checked.{IsInstance, IsProgram, IsTyped, of_attribute, of_query}
-use Rattle.equation_law.specs.Equations.{Site, kind_or_truth, equation_for, equation_of, equations_of, site_at, site_demands, world_of}
+use Rattle.equation_law.specs.Checked.{Fits, IsAt, IsInstance, IsProgram, IsTyped, IsValue, of_attribute, of_query, int, node, text, truth}
+use Rattle.equation_law.specs.Equations.{Site, asked_kind, attribute_kind, equation_for, equation_of, equations_of, kind_in, kind_or_truth, site_at, site_demands, world_of}
 use Rattle.equation_law.specs.Meaning.{meaning_of}
 use Rattle.equation_law.specs.Names.{At, Instance, Source}
 use Rattle.equation_law.specs.Program.{Program, class_of, declared_of, names_in}
 use Rattle.equation_law.specs.Values.{Value, as_kind}
+use Rattle.equation_law.proofs.Keys.{both_equal}
 use Rattle.equation_law.proofs.Lists.{some_of}
-use Rattle.equation_law.proofs.Typed.{AreNames, IsAt, Keeps, typed_keeps}
+use Rattle.equation_law.proofs.Pooled.{empty_there, text_there}
+use Rattle.equation_law.proofs.Preordered.{node_concrete}
+use Rattle.equation_law.proofs.Typed.{AreBounds, AreNames, IsOf, Keeps, behind, fitting, kept, of_int, of_node, of_text, of_truth, typed_keeps}
 
 -- what holds of all elements holds of each
 pub each_of : {A : Type 0} (P : A → Type 0) (xs : List A) (k : ℕ) (x : A) → All P xs → slice_get xs k ≡ Some x → P x
 each_of P xs k x all e = subst P (get_or_from_slice_get xs k x x e) (all k x (slice_get_within xs k x e))
+
+-- what is there is something
+there_is : {A : Type 0} (o : Option A) → IsSome o → (x : A) × (o ≡ Some x)
+there_is None h = cc
+there_is (Some x) h = (x, refl)
 
 -- what is reached through something was there
 through : {A B : Type 0} (f : A → Option B) (o : Option A) (y : B) → option_and_then f o ≡ Some y → (x : A) × (o ≡ Some x) × (f x ≡ Some y)
 through f None y e = cc
 through f (Some x) y e = (x, refl, e)
 
--- where an item's class is this one or a superclass of it, there is an item
-item_below : (s : List (Option ℕ)) (c : ClassId) (a n : ℕ) (o : Option Item) → where_below s c a o ≡ Some n → (i : Item) × (o ≡ Some i) × (is_below s c.0 i.class.0 ≡ true) × (n ≡ a)
-item_below s c a n None e = absurd (cc)
-item_below s c a n (Some i) e = elim (is_below s c.0 i.class.0) as (λ b. is_below s c.0 i.class.0 ≡ b → cond b (Some a) None ≡ Some n → (j : Item) × (Some i ≡ Some j) × (is_below s c.0 j.class.0 ≡ true) × (n ≡ a)) [
-  | true ↦ λ below same. (i, refl, below, (cc))
-  | false ↦ λ below same. absurd (cc)
+-- what the first of a line has, one of the line has
+on_line : (f : ℕ → Option ℕ) (line : List ℕ) (k : ℕ) → first_of_line f line ≡ Some k → (b : ℕ) × (list_any (λ c. eqb c b) line ≡ true) × (f b ≡ Some k)
+on_line f [] k e = cc
+on_line f (c ∷ cs) k e = elim (f c) as (λ o. f c ≡ o → option_or o (first_of_line f cs) ≡ Some k → (b : ℕ) × (list_any (λ x. eqb x b) (c ∷ cs) ≡ true) × (f b ≡ Some k)) [
+  | None ↦ λ none later. let r = on_line f cs k later in (r.0, or_right (eqb c r.0) _ r.1, r.2)
+  | Some j ↦ λ some same. (c, ap (λ b. b || list_any (λ x. eqb x c) cs) (eq-eqb c c refl), some ∙ same)
 ] refl e
 
+-- the class whose equation is the nearest one is the class itself or above it
+nearest_above : (s : List (Option ℕ)) (targets : List Target) (c a k : ℕ) → nearest_equation s targets c a ≡ Some k → (b : ℕ) × (is_below s c b ≡ true) × (own_equation targets a b ≡ Some k)
+nearest_above s targets c a k e = on_line (own_equation targets a) (upwards s c) k e
+
+-- what an equation of a class is for
+own_target : (equations : List Equation) (a b k : ℕ) → own_equation (map target_in equations) a b ≡ Some k → (q : Equation) × (slice_get equations k ≡ Some q) × (q.target.class.0 ≡ b) × (q.target.attribute.0 ≡ a)
+own_target equations a b k e =
+    let none : Target = record { class = record { 0 = 0 }; attribute = record { 0 = 0 } } in
+    let at = position-Some (is_target b a) (map target_in equations) k none e in
+    let found = some_of target_in (slice_get equations k) (get_or (map target_in equations) k none) (sym (slice_get-map target_in equations k) ∙ slice_get-get_or (map target_in equations) k none at.0) in
+    let test = subst (λ (t : Target). is_target b a t ≡ true) (sym found.2) at.1 in
+    let same = both_equal found.0.target.class.0 b found.0.target.attribute.0 a test in
+    (found.0, found.1, same.0, same.1)
+
 module _ (p : Program) (good : IsProgram p) where
-  -- what an item declares
-  abbrev declared_by : Item → Attr
-  declared_by i = plain_attribute i.class i.kind
-
-  -- what is declared of an attribute stands in its item
-  declared_there : (a : ℕ) → declared_of p a ≡ option_map declared_by (slice_get good.items a)
-  declared_there a =
-      ap (λ (r : RuleSet). option_map (λ (x : DeclaredAttribute). x.declared) (slice_get r.attributes a)) good.rules
-      ∙ ap (option_map (λ (x : DeclaredAttribute). x.declared)) (slice_get-attributes (superclasses_of p.grammar) good.items a) ∙ twice attribute_of (λ (x : DeclaredAttribute). x.declared) (slice_get good.items a)
-
-  abbrev item_at : (k : ℕ) (i : Item) → slice_get good.items k ≡ Some i → IsItem p.grammar good.items i
-  item_at k i e = each_of (IsItem p.grammar good.items) good.items k i good.allowed.each e
-
-  -- all attributes are `boolean` or `int`
-  pub plain : (a : ℕ) (d : Attr) → declared_of p a ≡ Some d → is_plain d.kind ≡ true
+  -- all attributes are `boolean`, `int` or `String`
+  plain : (a : ℕ) (d : Attr) → declared_of p a ≡ Some d → is_plain d.kind ≡ true
   plain a d e =
-      let s = some_of declared_by (slice_get good.items a) d (sym (declared_there a) ∙ e) in
-      subst (λ (x : Attr). is_plain x.kind ≡ true) s.2 (item_at a s.0 s.1).plain
+      let s = some_of (λ (x : DeclaredAttribute). x.declared) (slice_get p.rules.attributes a) d e in
+      subst (λ (x : Attr). is_plain x.kind ≡ true) s.2 (each_of (IsAttribute p.grammar) p.rules.attributes a s.0 good.rules.attributes s.1).plain
 
-  -- what the equation of an item names at a node of its class or of a subclass
-  names_of_item : (i : Item) (n : ℕ) → IsAt p n i.class → AreNames p (names_for p.grammar good.items i.class) n
-  names_of_item i n at = record {
+  -- what an equation names at a node of its class or of a subclass
+  names_of_equation : (c : ClassId) (n : ℕ) → IsAt p n c → AreNames p (names_for p.grammar p.rules.attributes c) n
+  names_of_equation c n at = record {
     grammar = refl;
-    attribute = λ a d e. declared_there a ∙ e;
-    node = λ k c e. absurd (cc);
-    this = λ b e. let same : i.class ≡ b = cc in subst (IsAt p n) same at;
+    attribute = λ a d e. e;
+    node = λ k b e. absurd (cc);
+    this = λ b e. let same : c ≡ b = cc in subst (IsAt p n) same at;
   }
 
   -- a node of a class
@@ -76,7 +92,7 @@ module _ (p : Program) (good : IsProgram p) where
   at_class k c e = record { class = c; of = e; below = sub_itself (superclasses_of p.grammar) c.0 }
 
   -- what a query names
-  pub names_of_query : AreNames p (names_in p) 0
+  names_of_query : AreNames p (names_in p) 0
   names_of_query = record {
     grammar = refl;
     attribute = λ a d e. e;
@@ -84,44 +100,143 @@ module _ (p : Program) (good : IsProgram p) where
     this = at_class 0;
   }
 
-  -- the equation of an attribute at a class is that of an item of the class or of a superclass
-  item_of_equation : (a : ℕ) (c : ClassId) (q : Equation) → equation_for p a c ≡ Some q → (i : Item) × (IsItem p.grammar good.items i) × (i.body ≡ q.body) × (is_sub p.grammar c.0 i.class.0 ≡ true)
-  item_of_equation a c q e =
-      let above = superclasses_of p.grammar in
-      let s = through (slice_get p.rules.equations) (equation_number p.rules c a) q e in
-      let number : where_below above c a (slice_get good.items a) ≡ Some s.0 = sym (equation_number-rules_of above c a good.items) ∙ ap (λ (r : RuleSet). equation_number r c a) (sym good.rules) ∙ s.1 in
-      let found = item_below above c a s.0 (slice_get good.items a) number in
-      let there = subst (λ (r : RuleSet). slice_get r.equations s.0 ≡ Some q) good.rules s.2 in
-      let at : slice_get good.items s.0 ≡ Some found.0 = ap (slice_get good.items) found.3 ∙ found.1 in
-      let one : Some (equation_of_item s.0 found.0) ≡ Some q = ap (option_map (equation_of_item s.0)) (sym at) ∙ sym (slice_get-equations above good.items s.0) ∙ there in
-      let is : equation_of_item s.0 found.0 ≡ q = cc in
-      (found.0, item_at a found.0 found.1, ap (λ (x : Equation). x.body) is, found.2)
+  -- The equation of an attribute at nodes of a class is that of the class or of one above it.
+  record IsFor (a : ℕ) (c : ClassId) : Type 0 where
+    equation : Equation
+    is : equation_for p a c ≡ Some equation
+    allowed : IsEquation p.grammar p.rules.attributes equation
+    attribute : equation.target.attribute.0 ≡ a
+    above : is_sub p.grammar c.0 equation.target.class.0 ≡ true
 
-  -- what demands instances alone still does where its value is read at a type
-  met : (k : Kind) (f : Value → Value) (A : Instance → Option Value) (c : Demands Instance Value) (j : Instance) → Keeps p k c → Meets (Graph A) (next c (λ v. Gives (f v))) j → IsInstance p j
-  met k f A (Gives v) j h m = elim m [ ]
-  met k f A (Needs i g) j h here = h.0
-  met k f A (Needs i g) j h (later {w = w} e m) = met k f A (g w) j (h.1 w) m
+  -- there is one for each attribute of the class of a node
+  equation_is : (a k : ℕ) (c : ClassId) (d : Attr) → class_of p k ≡ Some c → declared_of p a ≡ Some d → is_sub p.grammar c.0 d.class.0 ≡ true → IsFor a c
+  equation_is a k c d f e b =
+      let number = there_is (equation_number p.rules c a) (good.rules.complete c a d (node_concrete p.grammar (length p.texts) p.tree good.tree k c f) e b) in
+      let near = nearest_above p.rules.superclasses (map target_in p.rules.equations) c.0 a number.0 number.1 in
+      let own = own_target p.rules.equations a near.0 number.0 near.2 in
+      record {
+        equation = own.0;
+        is = ap (option_and_then (slice_get p.rules.equations)) number.1 ∙ own.1;
+        allowed = each_of (IsEquation p.grammar p.rules.attributes) p.rules.equations number.0 own.0 good.rules.equations own.1;
+        attribute = own.3;
+        above = subst (λ (s : List (Option ℕ)). is_below s c.0 own.0.target.class.0 ≡ true) good.rules.superclasses (subst (λ (x : ℕ). is_below p.rules.superclasses c.0 x ≡ true) (sym own.2) near.1);
+      }
 
-  -- the demands of an equation
-  site_met : (A : Instance → Option Value) (o : Option Site) (j : Instance) → ((s : Site) → o ≡ Some s → (k : Kind) × Keeps p k (meaning_of (world_of p) s.body s.place)) → Meets (Graph A) (site_demands (world_of p) o) j → IsInstance p j
-  site_met A None j h m = elim m [ ]
-  site_met A (Some s) j h m = let q = h s refl in met q.0 (as_kind s.kind) A (meaning_of (world_of p) s.body s.place) j q.1 m
+  module _ (I : ℤ → Type 0) (T : List ℕ → Type 0) (M : Instance → Value → Type 0) (bounds : AreBounds p I T M) where
+    -- the equation of an attribute, read at a node
+    attribute_keeps : (a k : ℕ) (c : ClassId) (d : Attr) → class_of p k ≡ Some c → declared_of p a ≡ Some d → (q : IsFor a c) → Keeps p I T M (types.Of (attribute_kind p a)) (site_demands (world_of p) (Some (site_at p a k q.equation)))
+    attribute_keeps a k c d f e q =
+        let at : IsAt p k q.equation.target.class = record { class = c; of = f; below = q.above } in
+        let typed = typed_keeps p I T M bounds good.grammar good.tree (names_for p.grammar p.rules.attributes q.equation.target.class) k (names_of_equation q.equation.target.class k at) q.allowed.typed in
+        let declared : declared_of p a ≡ Some q.allowed.attribute = ap (declared_at p.rules.attributes) (sym q.attribute) ∙ q.allowed.declared in
+        let kind : attribute_kind p a ≡ q.allowed.attribute.kind = ap (λ (o : Option Attr). kind_or_truth (option_map (λ x. x.kind) o)) declared in
+        let fit = fitting p I T q.allowed.attribute.kind q.allowed.type (plain a q.allowed.attribute declared) q.allowed.fit in
+        let reads : Kind → Type 0 = λ x. Keeps p I T M (types.Of x) (next (meaning_of (world_of p) q.equation.body (record { this = At (Source k) })) (λ v. Gives (as_kind x v))) in
+        subst reads (sym kind)
+        (behind p I T M q.allowed.type (types.Of q.allowed.attribute.kind) (meaning_of (world_of p) q.equation.body (record { this = At (Source k) })) (λ v. Gives (as_kind q.allowed.attribute.kind v)) typed
+        (λ v o. kept p I T (types.Of q.allowed.attribute.kind) v (fit v o)))
 
-  -- the equation of an instance demands instances alone
-  site_keeps : (i : Instance) → IsInstance p i → (s : Site) → equation_of p i ≡ Some s → (k : Kind) × Keeps p k (meaning_of (world_of p) s.body s.place)
-  site_keeps i (of_attribute {a = a} {k = k} d c e f b) s h =
-      let t = some_of (site_at p a k) (option_and_then (equation_for p a) (class_of p k)) s h in
-      let m = item_of_equation a c t.0 (ap (option_and_then (equation_for p a)) (sym f) ∙ t.1) in
-      let at : IsAt p k m.0.class = record { class = c; of = f; below = m.3 } in
-      let keeps = typed_keeps p good.grammar good.tree plain (names_for p.grammar good.items m.0.class) k (names_of_item m.0 k at) m.0.body m.0.kind m.1.typed in
-      (m.0.kind, subst (λ (x : Site). Keeps p m.0.kind (meaning_of (world_of p) x.body x.place)) t.2 (subst (λ (x : Expression). Keeps p m.0.kind (meaning_of (world_of p) x (record { this = At (Source k) }))) m.2 keeps))
-  site_keeps i (of_query {q = q} e o) s h =
-      let read : Expression → Site = λ x. record { body = x; kind = kind_or_truth (type_of (names_in p) x); place = record { this = At (Source 0) } } in
-      let t = some_of read (slice_get p.queries q) s h in
-      let typed = each_of (IsTyped p) p.queries q t.0 good.queries t.1 in
-      (typed.kind, subst (λ (x : Site). Keeps p typed.kind (meaning_of (world_of p) x.body x.place)) t.2 (typed_keeps p good.grammar good.tree plain (names_in p) 0 names_of_query t.0 typed.kind typed.typed))
+    -- the expression of a query, read at the root
+    abbrev query_site : Asked → Site
+    query_site x = record { body = x.body; kind = x.kind; place = record { this = At (Source 0) } }
+
+    query_keeps : (e : Asked) → IsTyped p e → Keeps p I T M (types.Of e.kind) (site_demands (world_of p) (Some (query_site e)))
+    query_keeps e t =
+        let typed = typed_keeps p I T M bounds good.grammar good.tree (names_in p) 0 names_of_query t.typed in
+        let reads : Kind → Type 0 = λ x. Keeps p I T M (types.Of x) (next (meaning_of (world_of p) e.body (record { this = At (Source 0) })) (λ v. Gives (as_kind x v))) in
+        subst reads (sym t.kept)
+        (behind p I T M t.type (types.Of (kept_kind t.type)) (meaning_of (world_of p) e.body (record { this = At (Source 0) })) (λ v. Gives (as_kind (kept_kind t.type) v)) typed (kept p I T t.type))
+
+    -- the equation of each instance
+    site_keeps : (i : Instance) → IsInstance p i → Keeps p I T M (types.Of (kind_in p i)) (site_demands (world_of p) (equation_of p i))
+    site_keeps i (of_attribute {a = a} {k = k} d c e f b) =
+        let q = equation_is a k c d f e b in
+        let there : option_map (site_at p a k) (option_and_then (equation_for p a) (class_of p k)) ≡ Some (site_at p a k q.equation) =
+        ap (λ (o : Option ClassId). option_map (site_at p a k) (option_and_then (equation_for p a) o)) f ∙ ap (λ (o : Option Equation). option_map (site_at p a k) o) q.is
+        in
+        subst (λ (o : Option Site). Keeps p I T M (types.Of (attribute_kind p a)) (site_demands (world_of p) o)) (sym there) (attribute_keeps a k c d f e q)
+    site_keeps i (of_query {q = q} e o) =
+        subst (λ (x : Option Asked). Keeps p I T M (types.Of (kind_or_truth (option_map asked_kind x))) (site_demands (world_of p) (option_map query_site x))) (sym o)
+        (query_keeps e (each_of (IsTyped p) p.queries q e good.queries o))
+
+  -- any integers, texts and values
+  abbrev Any : {A : Type 0} → A → Type 0
+  Any x = Unit {0}
+
+  abbrev Admits : Instance → Value → Type 0
+  Admits i v = Unit {0}
+
+  read_any : (k : Kind) (v : Value) → is_plain k ≡ true → IsOf p Any Any (types.Of k) (as_kind k v)
+  read_any kinds.Truth v e = of_truth _
+  read_any kinds.Int v e = of_int _ tt
+  read_any kinds.Text v e = of_text _ tt
+  read_any (kinds.Node c) v e = cc
+  read_any kinds.Texts v e = cc
+  read_any (kinds.Nodes c) v e = cc
+
+  any_bounds : AreBounds p Any Any Admits
+  any_bounds = record {
+    literal = λ z e. tt;
+    wrapped = λ z. tt;
+    text = λ n. tt;
+    empty = tt;
+    plain = plain;
+    read = λ a d r v e m. read_any d.kind v (plain a d e);
+  }
+
+  -- what demands instances alone
+  met : (t : ValueType) (A : Instance → Option Value) (c : Demands Instance Value) (j : Instance) → Keeps p Any Any Admits t c → Meets (Graph A) c j → IsInstance p j
+  met t A (Gives v) j h m = elim m [ ]
+  met t A (Needs i g) j h here = h.0
+  met t A (Needs i g) j h (later {w = w} e m) = met t A (g w) j (h.1 w tt) m
 
   pub demands_instances : (i j : Instance) → IsInstance p i → (A : Instance → Option Value) → Meets (Graph A) ((equations_of p).equation i) j → IsInstance p j
   unfolding equations_of
-  demands_instances i j h A m = site_met A (equation_of p i) j (site_keeps i h) m
+  demands_instances i j h A m = met (types.Of (kind_in p i)) A (site_demands (world_of p) (equation_of p i)) j (site_keeps Any Any Admits any_bounds i h) m
+
+  -- integers of 32 bits, texts of the program, and values of their instances' types
+  abbrev IsWrapped : ℤ → Type 0
+  IsWrapped z = int_wrap w32 z ≡ z
+
+  abbrev IsText : List ℕ → Type 0
+  IsText t = Contains p.texts t
+
+  abbrev IsTypedValue : Instance → Value → Type 0
+  IsTypedValue i v = IsValue p (kind_in p i) v
+
+  -- a value of a type stays where it is read at it
+  read_value : (k : Kind) (v : Value) → IsValue p k v → IsOf p IsWrapped IsText (types.Of k) (as_kind k v)
+  read_value _ _ (truth b) = of_truth b
+  read_value _ _ (int z e) = of_int z e
+  read_value _ _ (text t e) = of_text t e
+  read_value _ _ (node c r h) = of_node c r h
+
+  value_bounds : AreBounds p IsWrapped IsText IsTypedValue
+  value_bounds = record {
+    literal = λ z e. e;
+    wrapped = λ z. int_wrap_fits w32 (int_wrap w32 z) (SFits-int_wrap w32 z);
+    text = text_there p.texts good.texts;
+    empty = empty_there p.texts good.texts;
+    plain = plain;
+    read = λ a d r v e m. read_value d.kind v (subst (λ (o : Option Attr). IsValue p (kind_or_truth (option_map (λ x. x.kind) o)) v) e m);
+  }
+
+  -- a value of a type
+  of_value : (k : Kind) (v : Value) → IsOf p IsWrapped IsText (types.Of k) v → IsValue p k v
+  of_value _ _ (of_truth b) = truth b
+  of_value _ _ (of_int z e) = int z e
+  of_value _ _ (of_text t e) = text t e
+  of_value _ _ (of_node c r h) = node c r h
+
+  -- what comes of demands, where the values of instances are of their types
+  ended : (k : Kind) (A : Instance → Value → Type 0) → ((j : Instance) (v : Value) → IsInstance p j → A j v → IsValue p (kind_in p j) v) → (c : Demands Instance Value) {v : Value} {ds : List Instance} → Keeps p IsWrapped IsText IsTypedValue (types.Of k) c → Ends A c v ds → IsValue p k v
+  ended k A f (Gives v) h gives = of_value k v h
+  ended k A f (Needs j g) h (asks {w = w} a e) = ended k A f (g w) (h.1 w (f j w h.0 a)) e
+
+  -- the value with which an equation ends
+  pub ended_typed : (A : Instance → Value → Type 0) → ((j : Instance) (w : Value) → IsInstance p j → A j w → IsValue p (kind_in p j) w) → (i : Instance) → IsInstance p i → (v : Value) (demands : List Instance) → Ends A ((equations_of p).equation i) v demands → IsValue p (kind_in p i) v
+  unfolding equations_of
+  ended_typed A f i h v demands e = ended (kind_in p i) A f (site_demands (world_of p) (equation_of p i)) (site_keeps IsWrapped IsText IsTypedValue value_bounds i h) e
+
+  pub well_typed_values : (i : Instance) → IsInstance p i → (A : Instance → Option Value) → Fits p A → (v : Value) (demands : List Instance) → Ends (Graph A) ((equations_of p).equation i) v demands → IsValue p (kind_in p i) v
+  well_typed_values i h A fit v demands e = ended_typed (Graph A) (λ j w q a. fit.fits j w a) i h v demands e

@@ -6,8 +6,8 @@ use Rattle.std.specs.Ordering.{eq_by_cmp}
 use Rattle.std.specs.Cmp.{IsTotalOrder}
 use Rattle.std.specs.Cmp.Lexicographic.{nat_list_cmp_total}
 use Rattle.std.specs.FinMap.{IsAntisymmetric, contains_key-keys}
-use Rattle.attr_types.specs.declared.kinds.Kind.{Kind}
-use Rattle.attr_types.specs.declared.kinds.Kind.TheVariants as kinds
+use Rattle.attr_rules.specs.declared.kinds.Kind.{Kind}
+use Rattle.attr_rules.specs.declared.kinds.Kind.TheVariants as kinds
 use Rattle.solutions.specs.Rising.{Part, none, keep, skip}
 use Rattle.equation_law.specs.Sets.{SetBy, elements, IsPart}
 use Rattle.equation_law.specs.Values.{Value, Truth, Texts, Nodes, truth, texts, nodes, as_kind}

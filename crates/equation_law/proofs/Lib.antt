@@ -1,4 +1,5 @@
 pub mod Answering
+pub mod Codes
 pub mod Deciding
 pub mod Demanded
 pub mod Ended
@@ -11,9 +12,10 @@ pub mod Listed
 pub mod Lists
 pub mod Names
 pub mod Orders
+pub mod Pooled
 pub mod Preordered
 pub mod QueryValues
-pub mod Reading
+pub mod Receivers
 pub mod Sets
 pub mod Solution
 pub mod Solving

@@ -5,9 +5,9 @@ use Rattle.std.proofs.lemmas.Bool.{or_right}
 use Rattle.superclasses.specs.Superclasses.{is_sub}
 use Rattle.ast_grammar.specs.declared.grammar.ClassId.{ClassId}
 use Rattle.ast_grammar.specs.Grammar.{superclasses_of}
-use Rattle.attr_types.specs.declared.kinds.Attr.{Attr}
-use Rattle.attr_types.specs.Expression.{Expression}
-use Rattle.attr_types.specs.Rules.{Attribute as DeclaredAttribute}
+use Rattle.attr_rules.specs.declared.kinds.Attr.{Attr}
+use Rattle.attr_rules.specs.Queries.{Query as Asked}
+use Rattle.attr_rules.specs.Rules.{Attribute as DeclaredAttribute}
 use Rattle.solutions.specs.Rounds.{is_in}
 use Rattle.equation_law.specs.Checked.{IsInstance, of_attribute, of_query}
 use Rattle.equation_law.specs.Names.{Instance, Query, same_instance}
@@ -78,7 +78,7 @@ module _ (p : Program) where
       (nodes_are a x.declared (h 0 a x (omega arith) refl) p.tree 0 (λ k m y l s. let same : k ≡ m = omega (arith, l) in ap (λ (j : ℕ). class_of p j) (sym same) ∙ ap (option_map (λ (z : Node). z.class)) s))
       (attributes_are attributes (suc a) (λ k m y l s. h (suc k) m y (omega (arith, l)) s))
 
-  queries_are : (queries : List Expression) (q : ℕ) → ((k m : ℕ) (e : Expression) → q + k ≡ m → slice_get queries k ≡ Some e → slice_get p.queries m ≡ Some e) → AllAre (IsInstance p) (query_instances queries q)
+  queries_are : (queries : List Asked) (q : ℕ) → ((k m : ℕ) (e : Asked) → q + k ≡ m → slice_get queries k ≡ Some e → slice_get p.queries m ≡ Some e) → AllAre (IsInstance p) (query_instances queries q)
   queries_are [] q h = tt
   queries_are (e ∷ queries) q h = (of_query e (h 0 q e (omega arith) refl), queries_are queries (suc q) (λ k m x l s. h (suc k) m x (omega (arith, l)) s))
 
@@ -121,7 +121,7 @@ module _ (p : Program) where
   attribute_in (y ∷ attributes) a (suc k) m n x l s h =
       in_right (map (at_source a) (nodes_of superclasses p.tree y.declared.class 0)) (attribute_instances superclasses attributes (suc a) p.tree) (at_source m n) (attribute_in attributes (suc a) k m n x (omega (arith, l)) s h)
 
-  query_in : (queries : List Expression) (q k m : ℕ) (e : Expression) → q + k ≡ m → slice_get queries k ≡ Some e → among (query_instances queries q) (Query m) ≡ true
+  query_in : (queries : List Asked) (q k m : ℕ) (e : Asked) → q + k ≡ m → slice_get queries k ≡ Some e → among (query_instances queries q) (Query m) ≡ true
   query_in [] q k m e l s = cc
   query_in (y ∷ queries) q zero m e l s =
       let at : q ≡ m = omega (arith, l) in

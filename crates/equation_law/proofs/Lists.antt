@@ -5,9 +5,11 @@ use Rattle.std.proofs.lemmas.List.{map-append}
 use Rattle.std.proofs.lemmas.Option.{get_or_from_slice_get, slice_get-get_or, slice_get_within}
 use Rattle.superclasses.specs.Superclasses.{is_sub}
 use Rattle.ast_grammar.specs.declared.grammar.ClassId.{ClassId}
-use Rattle.attr_types.specs.declared.kinds.Attr.{Attr}
-use Rattle.attr_types.specs.Expression.{Expression, Truth}
-use Rattle.attr_types.specs.Rules.{Attribute as DeclaredAttribute}
+use Rattle.attr_rules.specs.declared.kinds.Attr.{Attr}
+use Rattle.attr_rules.specs.declared.kinds.Kind.TheVariants as kinds
+use Rattle.attr_rules.specs.Expression.{Truth}
+use Rattle.attr_rules.specs.Queries.{Query as Asked}
+use Rattle.attr_rules.specs.Rules.{Attribute as DeclaredAttribute}
 use Rattle.equation_law.specs.declared.instances.NamedInstance.{NamedInstance}
 use Rattle.equation_law.specs.declared.instances.NamedInstance.TheVariants as named
 use Rattle.equation_law.specs.Names.{Instance, Query}
@@ -20,10 +22,6 @@ drop_at : {A : Type 0} (xs : List A) (k : ℕ) (x : A) → slice_get xs k ≡ So
 drop_at xs k x e =
     drop-cons xs k x (slice_get_within xs k x e) ∙ ap (λ y. y ∷ drop (suc k) xs) (get_or_from_slice_get xs k x x e) ∙ ap (λ j. x ∷ drop j xs) (sym (add-one k))
 
--- three elements more, one after another
-pub added : {A : Type 0} {none one two all : List A} (x y z : A) → none ≡ [] → one ≡ none ++ x ∷ [] → two ≡ one ++ y ∷ [] → all ≡ two ++ z ∷ [] → all ≡ x ∷ y ∷ z ∷ []
-added {A} x y z n e f g = g ∙ ap (λ (xs : List A). xs ++ z ∷ []) (f ∙ ap (λ (xs : List A). xs ++ y ∷ []) (e ∙ ap (λ (xs : List A). xs ++ x ∷ []) n))
-
 -- what is mapped to something was there
 pub some_of : {A B : Type 0} (f : A → B) (o : Option A) (y : B) → option_map f o ≡ Some y → (x : A) × (o ≡ Some x) × (f x ≡ y)
 some_of f None y e = cc
@@ -35,9 +33,10 @@ one_more xs ys n rest e =
     ap (λ zs. map instance_of zs ++ rest) e ∙ ap (λ zs. zs ++ rest) (map-append instance_of xs (n ∷ [])) ∙ append_assoc (map instance_of xs) (instance_of n ∷ []) rest
 
 -- a query more
-pub query_listed : (xs ys : List NamedInstance) (qs : List Expression) (k : ℕ) (all : List Instance) → k < length qs → ys ≡ xs ++ named.Query k ∷ [] → map instance_of xs ++ query_instances (drop k qs) k ≡ all → map instance_of ys ++ query_instances (drop (k + 1) qs) (k + 1) ≡ all
+pub query_listed : (xs ys : List NamedInstance) (qs : List Asked) (k : ℕ) (all : List Instance) → k < length qs → ys ≡ xs ++ named.Query k ∷ [] → map instance_of xs ++ query_instances (drop k qs) k ≡ all → map instance_of ys ++ query_instances (drop (k + 1) qs) (k + 1) ≡ all
 query_listed xs ys qs k all h e i =
-    let d = drop_at qs k (get_or qs k (Truth false)) (slice_get-get_or qs k (Truth false) h) in
+    let none : Asked = record { body = Truth false; kind = kinds.Truth } in
+    let d = drop_at qs k (get_or qs k none) (slice_get-get_or qs k none h) in
     let r : query_instances (drop k qs) k ≡ Query k ∷ query_instances (drop (k + 1) qs) (k + 1) = ap (λ zs. query_instances zs k) d ∙ ap (λ j. Query k ∷ query_instances (drop (k + 1) qs) j) (sym (add-one k)) in
     one_more xs ys (named.Query k) (query_instances (drop (k + 1) qs) (k + 1)) e ∙ ap (λ zs. map instance_of xs ++ zs) (sym r) ∙ i
 

@@ -2,8 +2,8 @@
 use Rattle.std.proofs.Common.{◌≡◌, refl, sym, ap, subst, ◌∙◌}
 use Rattle.std.specs.Cmp.{IsTotalOrder}
 use Rattle.std.specs.Cmp.Lexicographic.{nat_list_cmp_total, on_texts}
-use Rattle.attr_types.specs.declared.kinds.Kind.{Kind}
-use Rattle.attr_types.specs.declared.kinds.Kind.TheVariants as kinds
+use Rattle.attr_rules.specs.declared.kinds.Kind.{Kind}
+use Rattle.attr_rules.specs.declared.kinds.Kind.TheVariants as kinds
 use Rattle.solutions.proofs.Runs.{or_left, or_right}
 use Rattle.equation_law.specs.Names.{node_cmp, node_key}
 use Rattle.equation_law.specs.Values.{Value, Truth, Texts, Nodes, truth, texts, nodes, as_kind, default_of}

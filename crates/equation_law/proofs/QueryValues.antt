@@ -1,46 +1,30 @@
--- The value of a query is of the query's type.
-use Rattle.std.proofs.Common.{◌≡◌, ℕ, List, Option, Some, slice_get, refl, sym, ap, subst}
+-- The value of an instance, as of a query, is of the instance's type.
+use Rattle.std.proofs.Common.{◌≡◌, ℕ, List, [], ◌∷◌, Option, Some, slice_get, ap, subst}
 use Rattle.std.specs.Option.{option_map}
-use Rattle.attr_types.specs.declared.kinds.Kind.{Kind}
-use Rattle.attr_types.specs.declared.kinds.Kind.TheVariants as kinds
-use Rattle.attr_types.specs.Expression.{Expression}
-use Rattle.solutions.specs.Asking.{Demands, Gives, Needs, Ends, gives, asks, next}
-use Rattle.solutions.proofs.Runs.{val_ends}
-use Rattle.equation_law.specs.Checked.{IsProgram, IsTyped}
-use Rattle.equation_law.specs.Equations.{Site, HasValue, kind_or_truth, query_kind, equations_of, site_demands, world_of}
-use Rattle.equation_law.specs.Meaning.{meaning_of}
-use Rattle.equation_law.specs.Names.{At, Instance, Query, Source}
+use Rattle.attr_rules.specs.Queries.{Query as Asked}
+use Rattle.solutions.specs.Rounds.{Graph, outer_rounds}
+use Rattle.solutions.proofs.Runs.{before, came, circular, undeclared}
+use Rattle.equation_law.specs.Checked.{IsInstance, IsProgram, IsValue, of_query}
+use Rattle.equation_law.specs.Equations.{HasValue, asked_kind, equations_of, kind_in, kind_or_truth}
+use Rattle.equation_law.specs.Names.{Instance, Query}
 use Rattle.equation_law.specs.Program.{Program}
-use Rattle.equation_law.specs.Values.{Value, as_kind}
-use Rattle.equation_law.proofs.Demanded.{each_of, names_of_query, plain}
-use Rattle.equation_law.proofs.Typed.{IsOf, Keeps, typed_keeps}
+use Rattle.equation_law.specs.Values.{Value}
+use Rattle.equation_law.proofs.Demanded.{ended_typed}
+use Rattle.equation_law.proofs.Solution.{none_circular}
 
-module _ (p : Program) where
-  -- read at its type, a value stays
-  read_same : (k : Kind) (v : Value) → IsOf p k v → as_kind k v ≡ v
-  read_same kinds.Truth v h = subst (λ x. as_kind kinds.Truth x ≡ x) (sym h.1) refl
-  read_same kinds.Int v h = subst (λ x. as_kind kinds.Int x ≡ x) (sym h.1) refl
-  read_same kinds.Text v h = absurd h
-  read_same (kinds.Node c) v h = subst (λ x. as_kind (kinds.Node c) x ≡ x) (sym h.1) refl
-  read_same kinds.Texts v h = absurd h
-  read_same (kinds.Nodes c) v h = absurd h
+module _ (p : Program) (good : IsProgram p) where
+  -- what rounds give
+  given_typed : (list : List Instance) (rounds : List ℕ) (i : Instance) → IsInstance p i → (v : Value) → outer_rounds (equations_of p) list rounds i ≡ Some v → IsValue p (kind_in p i) v
+  given_typed list [] i h v e = cc
+  given_typed list (n ∷ ns) i h v e =
+      elim (came (equations_of p) list n ns i v e) [
+        | before g ↦ given_typed list ns i h v g
+        | undeclared c m ds d ↦ ended_typed p good (Graph (outer_rounds (equations_of p) list ns)) (λ j w q a. given_typed list ns j q w a) i h v ds d
+        | circular c g ↦ let none = none_circular p i in cc
+      ]
 
-  -- what ends in a value of the type, read at the type
-  ends_typed : (k : Kind) (A : Instance → Value → Type 0) (c : Demands Instance Value) {v : Value} {ds : List Instance} → Keeps p k c → Ends A (next c (λ w. Gives (as_kind k w))) v ds → IsOf p k v
-  ends_typed k A (Gives w) h gives = subst (IsOf p k) (sym (read_same k w h)) h
-  ends_typed k A (Needs j f) h (asks {w = w} a e) = ends_typed k A (f w) (h.1 w) e
+  pub value_typed : (i : Instance) → IsInstance p i → (v : Value) → HasValue p i v → IsValue p (kind_in p i) v
+  value_typed i h v a = given_typed a.list a.rounds i h v a.given
 
-  module _ (good : IsProgram p) where
-    pub query_typed : (q : ℕ) (e : Expression) (v : Value) → slice_get p.queries q ≡ Some e → HasValue p (Query q) v → (k : Kind) × IsOf p k v
-    unfolding equations_of
-    query_typed q e v o h =
-        let ends = val_ends (equations_of p) (Query q) v h in
-        let typed : IsTyped p e = each_of (IsTyped p) p.queries q e good.queries o in
-        let read : Expression → Site = λ x. record { body = x; kind = query_kind p x; place = record { this = At (Source 0) } } in
-        let there = subst (λ (s : Option Expression). Ends (HasValue p) (site_demands (world_of p) (option_map read s)) v ends.0) o ends.1 in
-        let kind : query_kind p e ≡ typed.kind = ap kind_or_truth typed.typed in
-        let keeps = typed_keeps p good.grammar good.tree (plain p good) _ 0 (names_of_query p good) e typed.kind typed.typed in (
-          typed.kind,
-          ends_typed typed.kind (HasValue p) (meaning_of (world_of p) e (record { this = At (Source 0) })) keeps
-              (subst (λ (k : Kind). Ends (HasValue p) (next (meaning_of (world_of p) e (record { this = At (Source 0) })) (λ w. Gives (as_kind k w))) v ends.0) kind there),
-        )
+  pub query_typed : (q : ℕ) (e : Asked) (v : Value) → slice_get p.queries q ≡ Some e → HasValue p (Query q) v → IsValue p e.kind v
+  query_typed q e v o h = subst (λ k. IsValue p k v) (ap (λ (x : Option Asked). kind_or_truth (option_map asked_kind x)) o) (value_typed (Query q) (of_query e o) v h)

@@ -1,359 +1,329 @@
 -- A well typed expression demands instances of its program alone, and its value is of its type.
-use Rattle.std.proofs.Common.{◌≡◌, ℕ, ℤ, neg_ℤ, Bool, true, false, not, cond, List, Option, Some, None, length, refl, sym, ap, subst, ◌∙◌}
+use Rattle.std.proofs.Common.{◌≡◌, ℕ, ℤ, pos, negsuc, neg_ℤ, Bool, true, false, not, cond, List, [], Option, Some, None, length, refl, sym, ap, subst, ◌∙◌}
 use Rattle.std.specs.Int.{int_wrap}
-use Rattle.std.specs.Option.{option_and_then, option_map}
+use Rattle.std.specs.Option.{option_map}
 use mir.Syntax.{w32}
+use Rattle.superclasses.specs.Superclasses.{nearest_common}
+use Rattle.superclasses.proofs.Lines.{common_sub, sub_then}
 use Rattle.ast_grammar.specs.declared.grammar.ClassId.{ClassId}
 use Rattle.ast_grammar.specs.declared.grammar.Shape.{Shape}
 use Rattle.ast_grammar.specs.declared.grammar.Shape.TheVariants as shapes
-use Rattle.superclasses.specs.Superclasses.{nearest_common}
-use Rattle.superclasses.proofs.Lines.{common_sub, sub_then}
 use Rattle.ast_grammar.specs.Grammar.{Class, Component, IsGrammar, component_at, is_sub, superclasses_of}
 use Rattle.ast_grammar.proofs.Inherited.{inherited_component}
-use Rattle.attr_types.specs.declared.expression.Operator.{Operator}
-use Rattle.attr_types.specs.declared.expression.Operator.TheVariants.{Add, Subtract, Multiply, Less, AtMost, Greater, AtLeast, Equal}
-use Rattle.attr_types.specs.declared.kinds.Attr.{Attr}
-use Rattle.attr_types.specs.declared.kinds.Kind.{Kind}
-use Rattle.attr_types.specs.declared.kinds.Kind.TheVariants as kinds
-use Rattle.attr_types.specs.Expression.{Expression, Truth as TruthLiteral, Int as IntLiteral, This, Source as SourceNode, Child, Token, Call, Not, Negate, Binary, And, Or, If}
-use Rattle.attr_types.specs.Rules.{is_plain}
-use Rattle.attr_types.specs.Typing.{Names, call_type, called_on, child_kind, child_type, common, common_class, compared, component_on, node_of_number, node_type, operated, token_kind, token_read, token_type, type_of, where_int, where_truth}
+use Rattle.attr_rules.specs.declared.accessors.Access.TheVariants as access
+use Rattle.attr_rules.specs.declared.expression.Operator.{Operator}
+use Rattle.attr_rules.specs.declared.expression.Operator.TheVariants.{Equal}
+use Rattle.attr_rules.specs.declared.kinds.Attr.{Attr}
+use Rattle.attr_rules.specs.declared.kinds.Kind.{Kind}
+use Rattle.attr_rules.specs.declared.kinds.Kind.TheVariants as kinds
+use Rattle.attr_rules.specs.declared.types.ValueType.{ValueType}
+use Rattle.attr_rules.specs.declared.types.ValueType.TheVariants as types
+use Rattle.attr_rules.specs.Accessors.{got}
+use Rattle.attr_rules.specs.Expression.{Expression}
+use Rattle.attr_rules.specs.Rules.{is_plain}
+use Rattle.attr_rules.specs.Types.{class_of_number, common, common_class, common_node, fits, is_int, is_node, is_text, is_truth, kept_kind, kind_class, of_class, type_where}
+use Rattle.attr_rules.specs.Typing.{HasType, Names, TakesInts}
+use Rattle.attr_rules.specs.Typing as typed
 use Rattle.solutions.specs.Asking.{Demands, Gives, Needs, next}
-use Rattle.tree_arena.specs.Nodes.{token_in}
+use Rattle.tree_arena.specs.Nodes.{child_in, token_in}
 use Rattle.tree_arena.specs.Terms.{IsTreeOf}
-use Rattle.equation_law.specs.Checked.{IsInstance, of_attribute}
-use Rattle.equation_law.specs.Equations.{decoded, kind_or_truth, source_or_null, world_of}
-use Rattle.equation_law.specs.Meaning.{call_at, child_at, meaning_of, operate, token_at}
-use Rattle.equation_law.specs.Names.{At, Instance, Null, Reference, Source}
-use Rattle.equation_law.specs.Program.{Program, class_of, declared_of}
-use Rattle.equation_law.specs.Values.{Value, Truth, Int, Node, as_kind, int, node, truth}
-use Rattle.equation_law.proofs.Preordered.{child_there}
+use Rattle.equation_law.specs.Checked.{IsAt, IsInstance, IsNodeOf, at, null, of_attribute}
+use Rattle.equation_law.specs.Equations.{attribute_kind, decoded, kind_or_truth, source_or_null, text_of, world_of}
+use Rattle.equation_law.specs.Meaning.{call_at, child_at, count_at, element_at, is_there, meaning_of, operate, token_at}
+use Rattle.equation_law.specs.Names.{At, Attribute, Instance, NoArguments, Null, Reference, Source}
+use Rattle.equation_law.specs.Program.{Program, declared_of}
+use Rattle.equation_law.specs.Values.{Value, Truth, Int, Text, Node, as_kind, default_of, int, node, truth}
+use Rattle.equation_law.proofs.Lists.{some_of}
+use Rattle.equation_law.proofs.Preordered.{child_below}
+
+-- a type that is chosen by a test that holds
+where_some : (b : Bool) (u t : ValueType) → type_where b u ≡ Some t → (b ≡ true) × (u ≡ t)
+where_some true u t e = (refl, cc)
+where_some false u t e = cc
+
+-- the types that the tests tell
+truth_type : (t : ValueType) → is_truth t ≡ true → types.Of kinds.Truth ≡ t
+truth_type types.Null e = cc
+truth_type (types.Of kinds.Truth) e = refl
+truth_type (types.Of kinds.Int) e = cc
+truth_type (types.Of kinds.Text) e = cc
+truth_type (types.Of (kinds.Node c)) e = cc
+truth_type (types.Of kinds.Texts) e = cc
+truth_type (types.Of (kinds.Nodes c)) e = cc
+
+int_type : (t : ValueType) → is_int t ≡ true → types.Of kinds.Int ≡ t
+int_type types.Null e = cc
+int_type (types.Of kinds.Truth) e = cc
+int_type (types.Of kinds.Int) e = refl
+int_type (types.Of kinds.Text) e = cc
+int_type (types.Of (kinds.Node c)) e = cc
+int_type (types.Of kinds.Texts) e = cc
+int_type (types.Of (kinds.Nodes c)) e = cc
+
+text_type : (t : ValueType) → is_text t ≡ true → types.Of kinds.Text ≡ t
+text_type types.Null e = cc
+text_type (types.Of kinds.Truth) e = cc
+text_type (types.Of kinds.Int) e = cc
+text_type (types.Of kinds.Text) e = refl
+text_type (types.Of (kinds.Node c)) e = cc
+text_type (types.Of kinds.Texts) e = cc
+text_type (types.Of (kinds.Nodes c)) e = cc
+
+-- the tokens that are read are of plain types
+token_plain : (s : Shape) (t : Kind) → got s ≡ Some (access.Token t) → is_plain t ≡ true
+token_plain shapes.Child t e = cc
+token_plain shapes.List t e = cc
+token_plain shapes.Optional t e = cc
+token_plain shapes.Text t e = let same : kinds.Text ≡ t = cc in ap is_plain (sym same)
+token_plain shapes.Int t e = let same : kinds.Int ≡ t = cc in ap is_plain (sym same)
+token_plain shapes.Truth t e = let same : kinds.Truth ≡ t = cc in ap is_plain (sym same)
 
 module _ (p : Program) where
-  -- a source node is of the class or of a subclass
-  pub record IsAt (k : ℕ) (c : ClassId) : Type 0 where
-    pub class : ClassId
-    pub of : class_of p k ≡ Some class
-    pub below : is_sub p.grammar class.0 c.0 ≡ true
+  -- a node of a class is one of each class above it
+  at_above : (c d : ClassId) (k : ℕ) → is_sub p.grammar c.0 d.0 ≡ true → IsAt p k c → IsAt p k d
+  at_above c d k s a = record { class = a.class; of = a.of; below = sub_then (superclasses_of p.grammar) a.class.0 c.0 d.0 a.below s }
 
-  -- the value is of the type; of a class, a source node of it or of a subclass
-  abbrev pub IsOf : Kind → Value → Type 0
-  IsOf kinds.Truth v = (b : Bool) × (v ≡ Truth b)
-  IsOf kinds.Int v = (z : ℤ) × (v ≡ Int z)
-  IsOf kinds.Text v = ⊥
-  IsOf (kinds.Node c) v = (k : ℕ) × (v ≡ Node (At (Source k))) × IsAt k c
-  IsOf kinds.Texts v = ⊥
-  IsOf (kinds.Nodes c) v = ⊥
+  node_above : (c d : ClassId) (r : Reference) → is_sub p.grammar c.0 d.0 ≡ true → IsNodeOf p c r → IsNodeOf p d r
+  node_above c d _ s null = null
+  node_above c d _ s (at {k = k} h) = at (at_above c d k s h)
 
-  -- each demand is an instance, and what comes of all is of the type
-  abbrev pub Keeps : Kind → Demands Instance Value → Type 0
-  Keeps k (Gives v) = IsOf k v
-  Keeps k (Needs i f) = IsInstance p i × ((v : Value) → Keeps k (f v))
+-- Values of types: of the integers those of which this holds, of the texts those of which that does.
+module _ (p : Program) (I : ℤ → Type 0) (T : List ℕ → Type 0) where
+  pub data IsOf : ValueType → Value → Type 0 where
+    of_truth : (b : Bool) → IsOf (types.Of kinds.Truth) (Truth b)
+    of_int : (z : ℤ) → I z → IsOf (types.Of kinds.Int) (Int z)
+    of_text : (t : List ℕ) → T t → IsOf (types.Of kinds.Text) (Text t)
+    of_node : (c : ClassId) (r : Reference) → IsNodeOf p c r → IsOf (of_class c) (Node r)
+    of_null : IsOf types.Null (Node Null)
 
-  abbrev KeepsTo : Option Kind → Demands Instance Value → Type 0
-  KeepsTo None c = Unit {0}
-  KeepsTo (Some k) c = Keeps k c
+  -- what holds of all nodes of a class holds of the values of that type
+  on_node : (c : ClassId) (P : Value → Type 0) (v : Value) → IsOf (of_class c) v → ((r : Reference) → IsNodeOf p c r → P (Node r)) → P v
+  on_node c P _ (of_node _ r h) f = f r h
+
+  -- null is of each type of nodes
+  null_of : (t : ValueType) → is_node t ≡ true → IsOf t (Node Null)
+  null_of types.Null e = of_null
+  null_of (types.Of kinds.Truth) e = cc
+  null_of (types.Of kinds.Int) e = cc
+  null_of (types.Of kinds.Text) e = cc
+  null_of (types.Of (kinds.Node c)) e = of_node c Null null
+  null_of (types.Of kinds.Texts) e = cc
+  null_of (types.Of (kinds.Nodes c)) e = cc
+
+  -- a value of one of two types is of their common type
+  common_class_left : (c : ClassId) (o : Option ClassId) (t : ValueType) → common_class p.grammar c o ≡ Some t → (r : Reference) → IsNodeOf p c r → IsOf t (Node r)
+  common_class_left c None t e r h = cc
+  common_class_left c (Some d) t e r h =
+      let s = some_of class_of_number (nearest_common (superclasses_of p.grammar) c.0 d.0) t e in
+      let above : ClassId = record { 0 = s.0 } in
+      subst (λ (x : ValueType). IsOf x (Node r)) s.2 (of_node above r (node_above p c above r (common_sub (superclasses_of p.grammar) c.0 d.0 s.0 s.1).0 h))
+
+  common_node_left : (c : ClassId) (u t : ValueType) → common_node p.grammar c u ≡ Some t → (r : Reference) → IsNodeOf p c r → IsOf t (Node r)
+  common_node_left c types.Null t e r h = let same : of_class c ≡ t = cc in subst (λ (x : ValueType). IsOf x (Node r)) same (of_node c r h)
+  common_node_left c (types.Of k) t e r h = common_class_left c (kind_class k) t e r h
+
+  common_left : (s u t : ValueType) → common p.grammar s u ≡ Some t → (v : Value) → IsOf s v → IsOf t v
+  common_left _ u t e _ (of_truth b) = let w = where_some (is_truth u) u t e in subst (λ (x : ValueType). IsOf x (Truth b)) (truth_type u w.0 ∙ w.1) (of_truth b)
+  common_left _ u t e _ (of_int z h) = let w = where_some (is_int u) u t e in subst (λ (x : ValueType). IsOf x (Int z)) (int_type u w.0 ∙ w.1) (of_int z h)
+  common_left _ u t e _ (of_text s h) = let w = where_some (is_text u) u t e in subst (λ (x : ValueType). IsOf x (Text s)) (text_type u w.0 ∙ w.1) (of_text s h)
+  common_left _ u t e _ (of_node c r h) = common_node_left c u t e r h
+  common_left _ u t e _ of_null = let w = where_some (is_node u) u t e in subst (λ (x : ValueType). IsOf x (Node Null)) w.1 (null_of u w.0)
+
+  common_node_right : (c : ClassId) (u t : ValueType) → common_node p.grammar c u ≡ Some t → (v : Value) → IsOf u v → IsOf t v
+  common_node_right c _ t e _ (of_truth b) = cc
+  common_node_right c _ t e _ (of_int z h) = cc
+  common_node_right c _ t e _ (of_text s h) = cc
+  common_node_right c _ t e _ (of_node d r h) =
+      let s = some_of class_of_number (nearest_common (superclasses_of p.grammar) c.0 d.0) t e in
+      let above : ClassId = record { 0 = s.0 } in
+      subst (λ (x : ValueType). IsOf x (Node r)) s.2 (of_node above r (node_above p d above r (common_sub (superclasses_of p.grammar) c.0 d.0 s.0 s.1).1 h))
+  common_node_right c _ t e _ of_null = let same : of_class c ≡ t = cc in subst (λ (x : ValueType). IsOf x (Node Null)) same (of_node c Null null)
+
+  common_right : (s u t : ValueType) → common p.grammar s u ≡ Some t → (v : Value) → IsOf u v → IsOf t v
+  common_right types.Null u t e v h = subst (λ (x : ValueType). IsOf x v) (where_some (is_node u) u t e).1 h
+  common_right (types.Of kinds.Truth) u t e v h = subst (λ (x : ValueType). IsOf x v) (where_some (is_truth u) u t e).1 h
+  common_right (types.Of kinds.Int) u t e v h = subst (λ (x : ValueType). IsOf x v) (where_some (is_int u) u t e).1 h
+  common_right (types.Of kinds.Text) u t e v h = subst (λ (x : ValueType). IsOf x v) (where_some (is_text u) u t e).1 h
+  common_right (types.Of (kinds.Node c)) u t e v h = common_node_right c u t e v h
+  common_right (types.Of kinds.Texts) u t e v h = cc
+  common_right (types.Of (kinds.Nodes c)) u t e v h = cc
+
+  -- a value of a type that fits a plain one is of the plain one
+  pub fitting : (k : Kind) (t : ValueType) → is_plain k ≡ true → fits p.grammar t k ≡ true → (v : Value) → IsOf t v → IsOf (types.Of k) v
+  fitting kinds.Truth t f e v h = subst (λ (x : ValueType). IsOf x v) (sym (truth_type t e)) h
+  fitting kinds.Int t f e v h = subst (λ (x : ValueType). IsOf x v) (sym (int_type t e)) h
+  fitting kinds.Text t f e v h = subst (λ (x : ValueType). IsOf x v) (sym (text_type t e)) h
+  fitting (kinds.Node c) t f e v h = cc
+  fitting kinds.Texts t f e v h = cc
+  fitting (kinds.Nodes c) t f e v h = cc
+
+  -- a value stays of its type where it is read at the one at which it is kept
+  pub kept : (t : ValueType) (v : Value) → IsOf t v → IsOf (types.Of (kept_kind t)) (as_kind (kept_kind t) v)
+  kept _ _ (of_truth b) = of_truth b
+  kept _ _ (of_int z h) = of_int z h
+  kept _ _ (of_text t h) = of_text t h
+  kept _ _ (of_node c r h) = of_node c r h
+  kept _ _ of_null = of_node (record { 0 = 0 }) Null null
+
+-- the names of an expression that is read at a source node are those of the program
+pub record AreNames (p : Program) (N : Names) (n : ℕ) : Type 0 where
+  pub grammar : N.grammar ≡ p.grammar
+  pub attribute : (a : ℕ) (d : Attr) → N.attribute a ≡ Some d → declared_of p a ≡ Some d
+  pub node : (k : ℕ) (c : ClassId) → N.node k ≡ Some c → IsAt p k c
+  pub this : (c : ClassId) → N.this ≡ Some c → IsAt p n c
+
+-- What is demanded are instances, and what comes of all demands is of a type, as long as each value that is demanded is admitted.
+module _ (p : Program) (I : ℤ → Type 0) (T : List ℕ → Type 0) (M : Instance → Value → Type 0) where
+  abbrev pub Keeps : ValueType → Demands Instance Value → Type 0
+  Keeps t (Gives v) = IsOf p I T t v
+  Keeps t (Needs i f) = IsInstance p i × ((v : Value) → M i v → Keeps t (f v))
 
   -- one after the other
-  behind : (k l : Kind) (c : Demands Instance Value) (f : Value → Demands Instance Value) → Keeps k c → ((v : Value) → IsOf k v → Keeps l (f v)) → Keeps l (next c f)
-  behind k l (Gives v) f h g = g v h
-  behind k l (Needs i e) f h g = (h.0, λ v. behind k l (e v) f (h.1 v) g)
+  pub behind : (t u : ValueType) (c : Demands Instance Value) (f : Value → Demands Instance Value) → Keeps t c → ((v : Value) → IsOf p I T t v → Keeps u (f v)) → Keeps u (next c f)
+  behind t u (Gives v) f h g = g v h
+  behind t u (Needs i e) f h g = (h.0, λ v m. behind t u (e v) f (h.1 v m) g)
 
-  -- a whole behind a truth value
-  behind_truth : (t k : Option Kind) (c : Demands Instance Value) (f : Value → Demands Instance Value) → KeepsTo t c → ((b : Bool) → KeepsTo k (f (Truth b))) → KeepsTo (where_truth t k) (next c f)
-  behind_truth None k c f h g = tt
-  behind_truth (Some kinds.Truth) None c f h g = tt
-  behind_truth (Some kinds.Truth) (Some l) c f h g = behind kinds.Truth l c f h (λ v o. subst (λ x. Keeps l (f x)) (sym o.1) (g o.0))
-  behind_truth (Some kinds.Int) k c f h g = tt
-  behind_truth (Some kinds.Text) k c f h g = tt
-  behind_truth (Some (kinds.Node l)) k c f h g = tt
-  behind_truth (Some kinds.Texts) k c f h g = tt
-  behind_truth (Some (kinds.Nodes l)) k c f h g = tt
+  -- what is of a type is of one that has all its values
+  widened : (t u : ValueType) (c : Demands Instance Value) → ((v : Value) → IsOf p I T t v → IsOf p I T u v) → Keeps t c → Keeps u c
+  widened t u (Gives v) g h = g v h
+  widened t u (Needs i f) g h = (h.0, λ v m. widened t u (f v) g (h.1 v m))
 
-  -- a whole behind an integer
-  behind_int : (t k : Option Kind) (c : Demands Instance Value) (f : Value → Demands Instance Value) → KeepsTo t c → ((z : ℤ) → KeepsTo k (f (Int z))) → KeepsTo (where_int t k) (next c f)
-  behind_int None k c f h g = tt
-  behind_int (Some kinds.Truth) k c f h g = tt
-  behind_int (Some kinds.Int) None c f h g = tt
-  behind_int (Some kinds.Int) (Some l) c f h g = behind kinds.Int l c f h (λ v o. subst (λ x. Keeps l (f x)) (sym o.1) (g o.0))
-  behind_int (Some kinds.Text) k c f h g = tt
-  behind_int (Some (kinds.Node l)) k c f h g = tt
-  behind_int (Some kinds.Texts) k c f h g = tt
-  behind_int (Some (kinds.Nodes l)) k c f h g = tt
+  -- one of two
+  one_of : (t : ValueType) (c d : Demands Instance Value) (b : Bool) → Keeps t c → Keeps t d → Keeps t (cond b c d)
+  one_of t c d true m n = m
+  one_of t c d false m n = n
 
-  -- what is a truth value in any case
-  whole_truth : (t : Option Kind) (c : Demands Instance Value) → Keeps kinds.Truth c → KeepsTo (where_truth t (Some kinds.Truth)) c
-  whole_truth None c h = tt
-  whole_truth (Some kinds.Truth) c h = h
-  whole_truth (Some kinds.Int) c h = tt
-  whole_truth (Some kinds.Text) c h = tt
-  whole_truth (Some (kinds.Node l)) c h = tt
-  whole_truth (Some kinds.Texts) c h = tt
-  whole_truth (Some (kinds.Nodes l)) c h = tt
+  -- the integers and texts that expressions make are of these, and so are admitted values of attributes that are read
+  pub record AreBounds : Type 0 where
+    pub literal : (z : ℤ) → int_wrap w32 z ≡ z → I z
+    pub wrapped : (z : ℤ) → I (int_wrap w32 z)
+    pub text : (n : ℕ) → T (text_of p n)
+    pub empty : T []
+    pub plain : (a : ℕ) (d : Attr) → declared_of p a ≡ Some d → is_plain d.kind ≡ true
+    pub read : (a : ℕ) (d : Attr) (r : Reference) (v : Value) → declared_of p a ≡ Some d → M (Attribute a r NoArguments) v → IsOf p I T (types.Of d.kind) (as_kind d.kind v)
 
-  -- what is an integer in any case
-  whole_int : (t : Option Kind) (c : Demands Instance Value) → Keeps kinds.Int c → KeepsTo (where_int t (Some kinds.Int)) c
-  whole_int None c h = tt
-  whole_int (Some kinds.Truth) c h = tt
-  whole_int (Some kinds.Int) c h = h
-  whole_int (Some kinds.Text) c h = tt
-  whole_int (Some (kinds.Node l)) c h = tt
-  whole_int (Some kinds.Texts) c h = tt
-  whole_int (Some (kinds.Nodes l)) c h = tt
+-- nothing is an integer of 32 bits
+zero_wrapped : int_wrap w32 (pos 0) ≡ pos 0
+unfolding int_wrap
+zero_wrapped = refl
 
-  -- one of two of one type
-  one_of : (k : Kind) (c d : Demands Instance Value) (b : Bool) → Keeps k c → Keeps k d → Keeps k (cond b c d)
-  one_of k c d true m n = m
-  one_of k c d false m n = n
+module _ (p : Program) (I : ℤ → Type 0) (T : List ℕ → Type 0) (M : Instance → Value → Type 0) (bounds : AreBounds p I T M) where
+  -- the default of a plain type
+  default_keeps : (k : Kind) → is_plain k ≡ true → IsOf p I T (types.Of k) (default_of k)
+  default_keeps kinds.Truth e = of_truth false
+  default_keeps kinds.Int e = of_int (pos 0) (bounds.literal (pos 0) zero_wrapped)
+  default_keeps kinds.Text e = of_text [] bounds.empty
+  default_keeps (kinds.Node c) e = cc
+  default_keeps kinds.Texts e = cc
+  default_keeps (kinds.Nodes c) e = cc
 
-  -- a node of a class is one of each class above it
-  at_above : (k : ℕ) (c d : ClassId) → is_sub p.grammar c.0 d.0 ≡ true → IsAt k c → IsAt k d
-  at_above k c d s a = record { class = a.class; of = a.of; below = sub_then (superclasses_of p.grammar) a.class.0 c.0 d.0 a.below s }
+  -- a token
+  decoded_keeps : (k : Kind) (o : Option ℕ) → is_plain k ≡ true → IsOf p I T (types.Of k) (decoded (text_of p) k o)
+  decoded_keeps k None e = default_keeps k e
+  decoded_keeps kinds.Truth (Some v) e = of_truth _
+  decoded_keeps kinds.Int (Some v) e = of_int _ (bounds.wrapped (pos v))
+  decoded_keeps kinds.Text (Some v) e = of_text _ (bounds.text v)
+  decoded_keeps (kinds.Node c) (Some v) e = cc
+  decoded_keeps kinds.Texts (Some v) e = cc
+  decoded_keeps (kinds.Nodes c) (Some v) e = cc
 
-  node_above : (c d : ClassId) (m : Demands Instance Value) → is_sub p.grammar c.0 d.0 ≡ true → Keeps (kinds.Node c) m → Keeps (kinds.Node d) m
-  node_above c d (Gives v) s h = (h.0, h.1, at_above h.0 c d s h.2)
-  node_above c d (Needs i f) s h = (h.0, λ v. node_above c d (f v) s (h.1 v))
+  token_keeps : (t : Kind) (k : ℕ) (r : Reference) → is_plain t ≡ true → IsOf p I T (types.Of t) (token_at (world_of p) t k r)
+  token_keeps t k Null e = default_keeps t e
+  token_keeps t k (At (Source n)) e = decoded_keeps t (token_in p.tree n k) e
 
-  -- a choice between nodes of two classes with a nearest common class
-  either_common : (l o : ClassId) (n : Option ℕ) (c d : Demands Instance Value) (b : Bool) → nearest_common (superclasses_of p.grammar) l.0 o.0 ≡ n → Keeps (kinds.Node l) c → Keeps (kinds.Node o) d
-      → KeepsTo (option_map node_of_number n) (cond b c d)
-  either_common l o None c d b e m n = tt
-  either_common l o (Some a) c d b e m n =
-      let above : ClassId = record { 0 = a } in
-      let s = common_sub (superclasses_of p.grammar) l.0 o.0 a e in
-      one_of (kinds.Node above) c d b (node_above l above c s.0 m) (node_above o above d s.1 n)
-
-  -- a choice between nodes
-  either_node : (l : ClassId) (u : Option Kind) (c d : Demands Instance Value) (b : Bool) → Keeps (kinds.Node l) c → KeepsTo u d → KeepsTo (common_class p.grammar l u) (cond b c d)
-  either_node l None c d b m n = tt
-  either_node l (Some kinds.Truth) c d b m n = tt
-  either_node l (Some kinds.Int) c d b m n = tt
-  either_node l (Some kinds.Text) c d b m n = tt
-  either_node l (Some (kinds.Node o)) c d b m n = either_common l o (nearest_common (superclasses_of p.grammar) l.0 o.0) c d b refl m n
-  either_node l (Some kinds.Texts) c d b m n = tt
-  either_node l (Some (kinds.Nodes o)) c d b m n = tt
-
-  -- a choice between two parts
-  either_part : (t u : Option Kind) (c d : Demands Instance Value) (b : Bool) → KeepsTo t c → KeepsTo u d → KeepsTo (common p.grammar t u) (cond b c d)
-  either_part None u c d b m n = tt
-  either_part (Some kinds.Truth) None c d b m n = tt
-  either_part (Some kinds.Truth) (Some kinds.Truth) c d b m n = one_of kinds.Truth c d b m n
-  either_part (Some kinds.Truth) (Some kinds.Int) c d b m n = tt
-  either_part (Some kinds.Truth) (Some kinds.Text) c d b m n = tt
-  either_part (Some kinds.Truth) (Some (kinds.Node l)) c d b m n = tt
-  either_part (Some kinds.Truth) (Some kinds.Texts) c d b m n = tt
-  either_part (Some kinds.Truth) (Some (kinds.Nodes l)) c d b m n = tt
-  either_part (Some kinds.Int) None c d b m n = tt
-  either_part (Some kinds.Int) (Some kinds.Truth) c d b m n = tt
-  either_part (Some kinds.Int) (Some kinds.Int) c d b m n = one_of kinds.Int c d b m n
-  either_part (Some kinds.Int) (Some kinds.Text) c d b m n = tt
-  either_part (Some kinds.Int) (Some (kinds.Node l)) c d b m n = tt
-  either_part (Some kinds.Int) (Some kinds.Texts) c d b m n = tt
-  either_part (Some kinds.Int) (Some (kinds.Nodes l)) c d b m n = tt
-  either_part (Some kinds.Text) u c d b m n = tt
-  either_part (Some (kinds.Node l)) u c d b m n = either_node l u c d b m n
-  either_part (Some kinds.Texts) u c d b m n = tt
-  either_part (Some (kinds.Nodes l)) u c d b m n = tt
-
-  -- both sides, and then the operator
-  abbrev both_sides : Operator → Demands Instance Value → Demands Instance Value → Demands Instance Value
-  both_sides o c d = next c (λ v. next d (λ w. Gives (operate o v w)))
+  -- the length of a list
+  count_keeps : (k : ℕ) (r : Reference) → IsOf p I T (types.Of kinds.Int) (Int (count_at (world_of p) k r))
+  count_keeps k Null = of_int (pos 0) (bounds.literal (pos 0) zero_wrapped)
+  count_keeps k (At (Source n)) = of_int _ (bounds.wrapped _)
 
   -- an operator on two integers
-  of_ints : (o : Operator) (t u : Option Kind) (c d : Demands Instance Value) (k : Kind) → ((y z : ℤ) → IsOf k (operate o (Int y) (Int z))) → KeepsTo t c → KeepsTo u d → KeepsTo (where_int t (where_int u (Some k))) (both_sides o c d)
-  of_ints o t u c d k g m n =
-      behind_int t (where_int u (Some k)) c (λ v. next d (λ w. Gives (operate o v w))) m (λ y. behind_int u (Some k) d (λ w. Gives (operate o (Int y) w)) n (λ z. g y z))
+  ints_keep : (o : Operator) (k : Kind) → TakesInts o k → (v w : Value) → IsOf p I T (types.Of k) (operate o v w)
+  ints_keep _ _ typed.add v w = of_int _ (bounds.wrapped _)
+  ints_keep _ _ typed.subtract v w = of_int _ (bounds.wrapped _)
+  ints_keep _ _ typed.multiply v w = of_int _ (bounds.wrapped _)
+  ints_keep _ _ typed.less v w = of_truth _
+  ints_keep _ _ typed.at_most v w = of_truth _
+  ints_keep _ _ typed.greater v w = of_truth _
+  ints_keep _ _ typed.at_least v w = of_truth _
 
-  -- a comparison for equality
-  compared_keeps : (t u : Option Kind) (c d : Demands Instance Value) → KeepsTo t c → KeepsTo u d → KeepsTo (compared t u) (both_sides Equal c d)
-  compared_keeps None u c d m n = tt
-  compared_keeps (Some kinds.Truth) u c d m n =
-      behind_truth (Some kinds.Truth) (where_truth u (Some kinds.Truth)) c (λ v. next d (λ w. Gives (operate Equal v w))) m (λ x. behind_truth u (Some kinds.Truth) d (λ w. Gives (operate Equal (Truth x) w)) n (λ y. (_, refl)))
-  compared_keeps (Some kinds.Int) u c d m n =
-      behind_int (Some kinds.Int) (where_int u (Some kinds.Truth)) c (λ v. next d (λ w. Gives (operate Equal v w))) m (λ x. behind_int u (Some kinds.Truth) d (λ w. Gives (operate Equal (Int x) w)) n (λ y. (_, refl)))
-  compared_keeps (Some kinds.Text) u c d m n = tt
-  compared_keeps (Some (kinds.Node l)) u c d m n = tt
-  compared_keeps (Some kinds.Texts) u c d m n = tt
-  compared_keeps (Some (kinds.Nodes l)) u c d m n = tt
+  -- a call on a node of the attribute's class or of a subclass, and on null
+  read_at_kind : (a : ℕ) (d : Attr) (i : Instance) → declared_of p a ≡ Some d → IsInstance p i → ((v : Value) → M i v → IsOf p I T (types.Of d.kind) (as_kind d.kind v)) → Keeps p I T M (types.Of d.kind) (Needs i (λ v. Gives (as_kind (attribute_kind p a) v)))
+  read_at_kind a d i e h f = (h, λ v m. subst (λ (o : Option Attr). IsOf p I T (types.Of d.kind) (as_kind (kind_or_truth (option_map (λ x. x.kind) o)) v)) (sym e) (f v m))
 
-  -- a binary operator
-  operated_keeps : (o : Operator) (t u : Option Kind) (c d : Demands Instance Value) → KeepsTo t c → KeepsTo u d → KeepsTo (operated o t u) (both_sides o c d)
-  operated_keeps Add t u c d m n = of_ints Add t u c d kinds.Int (λ y z. (_, refl)) m n
-  operated_keeps Subtract t u c d m n = of_ints Subtract t u c d kinds.Int (λ y z. (_, refl)) m n
-  operated_keeps Multiply t u c d m n = of_ints Multiply t u c d kinds.Int (λ y z. (_, refl)) m n
-  operated_keeps Less t u c d m n = of_ints Less t u c d kinds.Truth (λ y z. (_, refl)) m n
-  operated_keeps AtMost t u c d m n = of_ints AtMost t u c d kinds.Truth (λ y z. (_, refl)) m n
-  operated_keeps Greater t u c d m n = of_ints Greater t u c d kinds.Truth (λ y z. (_, refl)) m n
-  operated_keeps AtLeast t u c d m n = of_ints AtLeast t u c d kinds.Truth (λ y z. (_, refl)) m n
-  operated_keeps Equal t u c d m n = compared_keeps t u c d m n
+  call_keeps : (a : ℕ) (d : Attr) (r : Reference) → declared_of p a ≡ Some d → IsNodeOf p d.class r → Keeps p I T M (types.Of d.kind) (call_at (world_of p) a r)
+  call_keeps a d _ e null = subst (λ (o : Option Attr). IsOf p I T (types.Of d.kind) (default_of (kind_or_truth (option_map (λ x. x.kind) o)))) (sym e) (default_keeps d.kind (bounds.plain a d e))
+  call_keeps a d _ e (at {k = k} h) = read_at_kind a d (Attribute a (At (Source k)) NoArguments) e (of_attribute d h.class e h.of h.below) (λ v m. bounds.read a d (At (Source k)) v e m)
 
-  -- a token is of the type at which it is read
-  decoded_truth : (o : Option ℕ) → IsOf kinds.Truth (decoded kinds.Truth o)
-  decoded_truth None = (_, refl)
-  decoded_truth (Some v) = (_, refl)
+  module _ (allowed : IsGrammar p.grammar) (tree : IsTreeOf p.grammar (length p.texts) p.tree) where
+    -- what hangs at a component of a node, or null
+    hung_keeps : (c : ClassId) (n k i : ℕ) (x : Component) → component_at p.grammar c.0 k ≡ Some x → IsAt p n c → (o : Option ℕ) → child_in p.tree n k i ≡ o → IsNodeOf p x.class (source_or_null o)
+    hung_keeps c n k i x e h None s = null
+    hung_keeps c n k i x e h (Some m) s =
+        let f = child_below p.grammar (length p.texts) p.tree tree n k i m h.class x h.of (inherited_component p.grammar allowed h.class.0 c.0 k x h.below e) s in
+        at (record { class = f.0; of = f.1; below = f.2 })
 
-  decoded_int : (o : Option ℕ) → IsOf kinds.Int (decoded kinds.Int o)
-  decoded_int None = (_, refl)
-  decoded_int (Some v) = (_, refl)
+    child_keeps : (c : ClassId) (k : ℕ) (x : Component) → component_at p.grammar c.0 k ≡ Some x → (r : Reference) → IsNodeOf p c r → IsNodeOf p x.class (child_at (world_of p) k r)
+    child_keeps c k x e _ null = null
+    child_keeps c k x e _ (at {k = n} h) = hung_keeps c n k 0 x e h (child_in p.tree n k 0) refl
 
-  truth_token : (k : ℕ) (r : Reference) → IsOf kinds.Truth (token_at (world_of p) kinds.Truth k r)
-  truth_token k Null = (_, refl)
-  truth_token k (At (Source n)) = decoded_truth (token_in p.tree n k)
+    element_keeps : (c : ClassId) (k : ℕ) (x : Component) → component_at p.grammar c.0 k ≡ Some x → (r : Reference) (z : ℤ) → IsNodeOf p c r → IsNodeOf p x.class (element_at (world_of p) k r z)
+    element_keeps c k x e _ z null = null
+    element_keeps c k x e _ (pos i) (at {k = n} h) = hung_keeps c n k i x e h (child_in p.tree n k i) refl
+    element_keeps c k x e _ (negsuc i) (at h) = null
 
-  int_token : (k : ℕ) (r : Reference) → IsOf kinds.Int (token_at (world_of p) kinds.Int k r)
-  int_token k Null = (_, refl)
-  int_token k (At (Source n)) = decoded_int (token_in p.tree n k)
+    module _ (N : Names) (n : ℕ) (names : AreNames p N n) where
+      abbrev Meaning : Expression → Demands Instance Value
+      Meaning e = meaning_of (world_of p) e (record { this = At (Source n) })
 
-  -- a token of a receiver
-  abbrev token_after : Kind → ℕ → Demands Instance Value → Demands Instance Value
-  token_after t k c = next c (λ r. Gives (token_at (world_of p) t k (node r)))
+      -- a component of the grammar of the names is one of the program's
+      of_grammar : (c : ClassId) (k : ℕ) (x : Component) → component_at N.grammar c.0 k ≡ Some x → component_at p.grammar c.0 k ≡ Some x
+      of_grammar c k x e = subst (λ (g : List Class). component_at g c.0 k ≡ Some x) names.grammar e
 
-  token_keeps : (t l : Kind) (q : Option Kind) (k : ℕ) (c : Demands Instance Value) → Keeps l c → KeepsTo (token_read t q) (token_after t k c)
-  token_keeps kinds.Truth l q k c h = whole_truth q (token_after kinds.Truth k c) (behind l kinds.Truth c _ h (λ v o. truth_token k (node v)))
-  token_keeps kinds.Int l q k c h = whole_int q (token_after kinds.Int k c) (behind l kinds.Int c _ h (λ v o. int_token k (node v)))
-  token_keeps kinds.Text l q k c h = tt
-  token_keeps (kinds.Node m) l q k c h = tt
-  token_keeps kinds.Texts l q k c h = tt
-  token_keeps (kinds.Nodes m) l q k c h = tt
+      -- what is behind a receiver of a class
+      on_receiver : (c : ClassId) (t : ValueType) (m : Demands Instance Value) (f : Reference → Demands Instance Value) → Keeps p I T M (of_class c) m → ((r : Reference) → IsNodeOf p c r → Keeps p I T M t (f r)) → Keeps p I T M t (next m (λ r. f (node r)))
+      on_receiver c t m f h g = behind p I T M (of_class c) t m (λ r. f (node r)) h (λ v o. on_node p I T c (λ (x : Value). Keeps p I T M t (f (node x))) v o g)
 
-  -- one of a receiver without a type has none
-  no_token : (t : Kind) (d : Demands Instance Value) → KeepsTo (token_read t None) d
-  no_token kinds.Truth d = tt
-  no_token kinds.Int d = tt
-  no_token kinds.Text d = tt
-  no_token (kinds.Node m) d = tt
-  no_token kinds.Texts d = tt
-  no_token (kinds.Nodes m) d = tt
+      -- both sides, and then the operator
+      on_both : (t u w : ValueType) (o : Operator) (c d : Demands Instance Value) → Keeps p I T M t c → Keeps p I T M u d → ((x y : Value) → IsOf p I T w (operate o x y)) → Keeps p I T M w (next c (λ v. next d (λ x. Gives (operate o v x))))
+      on_both t u w o c d g h f = behind p I T M t w c (λ v. next d (λ x. Gives (operate o v x))) g (λ v q. behind p I T M u w d (λ x. Gives (operate o v x)) h (λ x r. f v x))
 
-  token_part : (g : List Class) (t : Kind) (e : Option Kind) (k : ℕ) (c : Demands Instance Value) → KeepsTo e c → KeepsTo (token_type t (component_on g e k)) (token_after t k c)
-  token_part g t None k c h = no_token t (token_after t k c)
-  token_part g t (Some l) k c h = token_keeps t l (option_and_then (λ (x : Component). token_kind x.shape) (component_on g (Some l) k)) k c h
+      -- the truth value of the right side
+      on_truth : (d : Demands Instance Value) → Keeps p I T M (types.Of kinds.Truth) d → Keeps p I T M (types.Of kinds.Truth) (next d (λ w. Gives (Truth (truth w))))
+      on_truth d h = behind p I T M (types.Of kinds.Truth) (types.Of kinds.Truth) d (λ w. Gives (Truth (truth w))) h (λ v q. of_truth (truth v))
 
-  -- a value of a plain type that is read at it
-  plain_read : (k : Kind) (v : Value) → is_plain k ≡ true → IsOf k (as_kind k v)
-  plain_read kinds.Truth v h = (_, refl)
-  plain_read kinds.Int v h = (_, refl)
-  plain_read kinds.Text v h = cc
-  plain_read (kinds.Node c) v h = cc
-  plain_read kinds.Texts v h = cc
-  plain_read (kinds.Nodes c) v h = cc
-
-  -- The names of an expression that is read at a source node are those of the program.
-  pub record AreNames (N : Names) (n : ℕ) : Type 0 where
-    pub grammar : N.grammar ≡ p.grammar
-    pub attribute : (a : ℕ) (d : Attr) → N.attribute a ≡ Some d → declared_of p a ≡ Some d
-    pub node : (k : ℕ) (c : ClassId) → N.node k ≡ Some c → IsAt k c
-    pub this : (c : ClassId) → N.this ≡ Some c → IsAt n c
-
-  module _ (allowed : IsGrammar p.grammar) (tree : IsTreeOf p.grammar (length p.texts) p.tree) (plain : (a : ℕ) (d : Attr) → declared_of p a ≡ Some d → is_plain d.kind ≡ true) (N : Names) (n : ℕ) (names : AreNames N n) where
-    -- a source node
-    source_keeps : (k : ℕ) (o : Option ClassId) → ((c : ClassId) → o ≡ Some c → IsAt k c) → KeepsTo (node_type o) (Gives (Node (At (Source k))))
-    source_keeps k None h = tt
-    source_keeps k (Some c) h = (k, refl, h c refl)
-
-    -- the child of a node at a component
-    child_after : ℕ → Demands Instance Value → Demands Instance Value
-    child_after k c = next c (λ r. Gives (Node (child_at (world_of p) k (node r))))
-
-    child_keeps : (l : ClassId) (k : ℕ) (c : Demands Instance Value) → Keeps (kinds.Node l) c → (x : Component) → component_at p.grammar l.0 k ≡ Some x → (s : Shape) → x.shape ≡ s → KeepsTo (child_kind s x.class) (child_after k c)
-    unfolding child_after
-    child_keeps l k c h x e shapes.Child s =
-        behind (kinds.Node l) (kinds.Node x.class) c (λ r. Gives (Node (child_at (world_of p) k (node r)))) h (λ v o.
-        let at = o.2 in
-        let has = inherited_component p.grammar allowed at.class.0 l.0 k x at.below e in
-        let f = child_there p.grammar (length p.texts) p.tree tree o.0 k at.class x.class x at.of has (ap (λ (y : Shape). child_kind y x.class) s) in
-        (f.0, ap (λ (y : Value). Node (child_at (world_of p) k (node y))) o.1 ∙ ap (λ (y : Option ℕ). Node (source_or_null y)) f.1, record { class = f.2; of = f.3; below = f.4 })
-        )
-    child_keeps l k c h x e shapes.List s = tt
-    child_keeps l k c h x e shapes.Optional s = tt
-    child_keeps l k c h x e shapes.Text s = tt
-    child_keeps l k c h x e shapes.Int s = tt
-    child_keeps l k c h x e shapes.Truth s = tt
-
-    child_of_class : (l : ClassId) (k : ℕ) (c : Demands Instance Value) → Keeps (kinds.Node l) c → (o : Option Component) → component_at p.grammar l.0 k ≡ o → KeepsTo (child_type o) (child_after k c)
-    child_of_class l k c h None e = tt
-    child_of_class l k c h (Some x) e = child_keeps l k c h x e x.shape refl
-
-    child_part : (t : Option Kind) (k : ℕ) (c : Demands Instance Value) → KeepsTo t c → KeepsTo (child_type (component_on p.grammar t k)) (child_after k c)
-    child_part None k c h = tt
-    child_part (Some kinds.Truth) k c h = tt
-    child_part (Some kinds.Int) k c h = tt
-    child_part (Some kinds.Text) k c h = tt
-    child_part (Some (kinds.Node l)) k c h = child_of_class l k c h (component_at p.grammar l.0 k) refl
-    child_part (Some kinds.Texts) k c h = tt
-    child_part (Some (kinds.Nodes l)) k c h = tt
-
-    -- the call of an attribute on a node of its class or of a subclass
-    call_after : ℕ → Demands Instance Value → Demands Instance Value
-    call_after a c = next c (λ r. call_at (world_of p) a (node r))
-
-    -- the value of an attribute at such a node
-    attribute_keeps : (a k : ℕ) (d : Attr) → declared_of p a ≡ Some d → IsAt k d.class → Keeps d.kind (call_at (world_of p) a (At (Source k)))
-    attribute_keeps a k d e h = (of_attribute d h.class e h.of h.below, λ v. subst (λ (o : Option Attr). IsOf d.kind (as_kind (kind_or_truth (option_map (λ x. x.kind) o)) v)) (sym e) (plain_read d.kind v (plain a d e)))
-
-    called_keeps : (l : ClassId) (a : ℕ) (c : Demands Instance Value) → Keeps (kinds.Node l) c → (o : Option Attr) → N.attribute a ≡ o → KeepsTo (called_on p.grammar l o) (call_after a c)
-    unfolding call_after
-    called_keeps l a c h None e = tt
-    called_keeps l a c h (Some d) e =
-        elim (is_sub p.grammar l.0 d.class.0) as (λ x. is_sub p.grammar l.0 d.class.0 ≡ x → KeepsTo (cond x (Some d.kind) None) (next c (λ r. call_at (world_of p) a (node r)))) [
-          | true ↦ λ s. behind (kinds.Node l) d.kind c (λ r. call_at (world_of p) a (node r)) h (λ v o.
-              subst (λ (y : Value). Keeps d.kind (call_at (world_of p) a (node y))) (sym o.1) (attribute_keeps a o.0 d (names.attribute a d e) (at_above o.0 l d.class s o.2))
-              )
-          | false ↦ λ s. tt
-        ] refl
-
-    call_part : (t : Option Kind) (a : ℕ) (c : Demands Instance Value) → KeepsTo t c → KeepsTo (call_type p.grammar t (N.attribute a)) (call_after a c)
-    call_part None a c h = tt
-    call_part (Some kinds.Truth) a c h = tt
-    call_part (Some kinds.Int) a c h = tt
-    call_part (Some kinds.Text) a c h = tt
-    call_part (Some (kinds.Node l)) a c h = called_keeps l a c h (N.attribute a) refl
-    call_part (Some kinds.Texts) a c h = tt
-    call_part (Some (kinds.Nodes l)) a c h = tt
-
-    abbrev Meaning : Expression → Demands Instance Value
-    Meaning e = meaning_of (world_of p) e (record { this = At (Source n) })
-
-    -- what holds by the grammar of the program holds by that of the names
-    of_names : (P : List Class → Type 0) → P p.grammar → P N.grammar
-    of_names P h = subst P (sym names.grammar) h
-
-    -- an expression, form by form
-    keeps : (e : Expression) → KeepsTo (type_of N e) (Meaning e)
-    unfolding child_after call_after
-    keeps (TruthLiteral b) = (b, refl)
-    keeps (IntLiteral z) = (z, refl)
-    keeps This = source_keeps n N.this names.this
-    keeps (SourceNode k) = source_keeps k (N.node k) (names.node k)
-    keeps (Child k e) = of_names (λ g. KeepsTo (child_type (component_on g (type_of N e) k)) (child_after k (Meaning e))) (child_part (type_of N e) k (Meaning e) (keeps e))
-    keeps (Token t k e) = token_part N.grammar t (type_of N e) k (Meaning e) (keeps e)
-    keeps (Call a e) = of_names (λ g. KeepsTo (call_type g (type_of N e) (N.attribute a)) (call_after a (Meaning e))) (call_part (type_of N e) a (Meaning e) (keeps e))
-    keeps (Not e) = behind_truth (type_of N e) (Some kinds.Truth) (Meaning e) (λ v. Gives (Truth (not (truth v)))) (keeps e) (λ b. (not b, refl))
-    keeps (Negate e) = behind_int (type_of N e) (Some kinds.Int) (Meaning e) (λ v. Gives (Int (int_wrap w32 (neg_ℤ (int v))))) (keeps e) (λ z. (_, refl))
-    keeps (Binary o a b) = operated_keeps o (type_of N a) (type_of N b) (Meaning a) (Meaning b) (keeps a) (keeps b)
-    keeps (And a b) =
-        let rest = where_truth (type_of N b) (Some kinds.Truth) in
-        let right = next (Meaning b) (λ w. Gives (Truth (truth w))) in
-        behind_truth (type_of N a) rest (Meaning a) (λ v. cond (truth v) right (Gives (Truth false))) (keeps a) (λ x.
-        elim x as (λ y. KeepsTo rest (cond y right (Gives (Truth false)))) [
-          | true ↦ behind_truth (type_of N b) (Some kinds.Truth) (Meaning b) (λ w. Gives (Truth (truth w))) (keeps b) (λ y. (y, refl))
-          | false ↦ whole_truth (type_of N b) (Gives (Truth false)) (false, refl)
-        ]
-        )
-    keeps (Or a b) =
-        let rest = where_truth (type_of N b) (Some kinds.Truth) in
-        let right = next (Meaning b) (λ w. Gives (Truth (truth w))) in
-        behind_truth (type_of N a) rest (Meaning a) (λ v. cond (truth v) (Gives (Truth true)) right) (keeps a) (λ x.
-        elim x as (λ y. KeepsTo rest (cond y (Gives (Truth true)) right)) [
-          | true ↦ whole_truth (type_of N b) (Gives (Truth true)) (true, refl)
-          | false ↦ behind_truth (type_of N b) (Some kinds.Truth) (Meaning b) (λ w. Gives (Truth (truth w))) (keeps b) (λ y. (y, refl))
-        ]
-        )
-    keeps (If t a b) =
-        behind_truth (type_of N t) (common N.grammar (type_of N a) (type_of N b)) (Meaning t) (λ v. cond (truth v) (Meaning a) (Meaning b)) (keeps t) (λ x.
-        of_names (λ g. KeepsTo (common g (type_of N a) (type_of N b)) (cond x (Meaning a) (Meaning b))) (either_part (type_of N a) (type_of N b) (Meaning a) (Meaning b) x (keeps a) (keeps b))
-        )
-
-    -- where there is a type
-    pub typed_keeps : (e : Expression) (k : Kind) → type_of N e ≡ Some k → Keeps k (Meaning e)
-    typed_keeps e k h = subst (λ t. KeepsTo t (Meaning e)) h (keeps e)
+      -- an expression, by the rule of its type
+      pub typed_keeps : {e : Expression} {t : ValueType} → HasType N e t → Keeps p I T M t (Meaning e)
+      typed_keeps (typed.truth b) = of_truth b
+      typed_keeps (typed.int z w) = of_int z (bounds.literal z w)
+      typed_keeps (typed.text k) = of_text _ (bounds.text k)
+      typed_keeps typed.null = of_null
+      typed_keeps (typed.this c e) = of_node c _ (at (names.this c e))
+      typed_keeps (typed.source k c e) = of_node c _ (at (names.node k c e))
+      typed_keeps (typed.child {e = e} c k x h s g) =
+          on_receiver c (of_class x.class) (Meaning e) (λ r. Gives (Node (child_at (world_of p) k r))) (typed_keeps h) (λ r o. of_node x.class _ (child_keeps c k x (of_grammar c k x s) r o))
+      typed_keeps (typed.element {e = e} {i = i} c k x h s g j) =
+          on_receiver c (of_class x.class) (Meaning e) (λ r. next (Meaning i) (λ z. Gives (Node (element_at (world_of p) k r (int z))))) (typed_keeps h)
+          (λ r o. behind p I T M (types.Of kinds.Int) (of_class x.class) (Meaning i) (λ z. Gives (Node (element_at (world_of p) k r (int z)))) (typed_keeps j) (λ z q. of_node x.class _ (element_keeps c k x (of_grammar c k x s) r (int z) o)))
+      typed_keeps (typed.count {e = e} c k x h s g) = on_receiver c (types.Of kinds.Int) (Meaning e) (λ r. Gives (Int (count_at (world_of p) k r))) (typed_keeps h) (λ r o. count_keeps k r)
+      typed_keeps (typed.has {e = e} c k x h s g) = on_receiver c (types.Of kinds.Truth) (Meaning e) (λ r. Gives (Truth (is_there (child_at (world_of p) k r)))) (typed_keeps h) (λ r o. of_truth _)
+      typed_keeps (typed.token {e = e} c k x t h s g) = on_receiver c (types.Of t) (Meaning e) (λ r. Gives (token_at (world_of p) t k r)) (typed_keeps h) (λ r o. token_keeps t k r (token_plain x.shape t g))
+      typed_keeps (typed.call {e = e} c a d h s b) =
+          on_receiver c (types.Of d.kind) (Meaning e) (λ r. call_at (world_of p) a r) (typed_keeps h)
+          (λ r o. call_keeps a d r (names.attribute a d s) (node_above p c d.class r (subst (λ (g : List Class). is_sub g c.0 d.class.0 ≡ true) names.grammar b) o))
+      typed_keeps (typed.not {e = e} h) = behind p I T M (types.Of kinds.Truth) (types.Of kinds.Truth) (Meaning e) (λ v. Gives (Truth (not (truth v)))) (typed_keeps h) (λ v q. of_truth _)
+      typed_keeps (typed.negate {e = e} h) =
+          behind p I T M (types.Of kinds.Int) (types.Of kinds.Int) (Meaning e) (λ v. Gives (Int (int_wrap w32 (neg_ℤ (int v))))) (typed_keeps h) (λ v q. of_int _ (bounds.wrapped _))
+      typed_keeps (typed.ints {a = a} {b = b} o k q g h) = on_both (types.Of kinds.Int) (types.Of kinds.Int) (types.Of k) o (Meaning a) (Meaning b) (typed_keeps g) (typed_keeps h) (ints_keep o k q)
+      typed_keeps (typed.equal {a = a} {b = b} t u g h q) = on_both t u (types.Of kinds.Truth) Equal (Meaning a) (Meaning b) (typed_keeps g) (typed_keeps h) (λ v w. of_truth _)
+      typed_keeps (typed.and {a = a} {b = b} g h) =
+          let right = next (Meaning b) (λ w. Gives (Truth (truth w))) in
+          behind p I T M (types.Of kinds.Truth) (types.Of kinds.Truth) (Meaning a) (λ v. cond (truth v) right (Gives (Truth false))) (typed_keeps g)
+          (λ v q. one_of p I T M (types.Of kinds.Truth) right (Gives (Truth false)) (truth v) (on_truth (Meaning b) (typed_keeps h)) (of_truth false))
+      typed_keeps (typed.or {a = a} {b = b} g h) =
+          let right = next (Meaning b) (λ w. Gives (Truth (truth w))) in
+          behind p I T M (types.Of kinds.Truth) (types.Of kinds.Truth) (Meaning a) (λ v. cond (truth v) (Gives (Truth true)) right) (typed_keeps g)
+          (λ v q. one_of p I T M (types.Of kinds.Truth) (Gives (Truth true)) right (truth v) (of_truth true) (on_truth (Meaning b) (typed_keeps h)))
+      typed_keeps (typed.choice {c = c} {a = a} {b = b} t u w f g h e) =
+          let same = subst (λ (x : List Class). common x t u ≡ Some w) names.grammar e in
+          behind p I T M (types.Of kinds.Truth) w (Meaning c) (λ v. cond (truth v) (Meaning a) (Meaning b)) (typed_keeps f)
+          (λ v q. one_of p I T M w (Meaning a) (Meaning b) (truth v) (widened p I T M t w (Meaning a) (common_left p I T t u w same) (typed_keeps g)) (widened p I T M u w (Meaning b) (common_right p I T t u w same) (typed_keeps h)))

@@ -1,27 +1,34 @@
--- A small program, worked through the definitions: the grammar `N ::= m:M; M ::= <V:int> <B:boolean>;`, a tree of
--- one N with one M, `syn int N.v() = 5`, `syn boolean M.w() = true`, and the query `@0.v()`.
-use Rattle.std.proofs.Common.{◌≡◌, pos, negsuc, arith, true, false, List, [], ◌∷◌, Some, None, codes, refl}
+-- A small program, worked through the definitions: the grammar `N ::= m:M [o:M] s:M*; M ::= <V:int> <B:boolean> <T:String>;`,
+-- a tree of one N with one M and a list of two, `syn int N.v() = 5`, `syn boolean M.w() = true`, and the query `@0.v()`.
+use Rattle.std.proofs.Common.{◌≡◌, ℤ, pos, negsuc, arith, true, false, List, [], ◌∷◌, Some, None, codes, refl}
 use Rattle.std.specs.Int.{int_wrap}
 use Rattle.ast_grammar.specs.declared.grammar.Shape.TheVariants as shapes
 use Rattle.superclasses.specs.Superclasses.{line_of}
 use Rattle.ast_grammar.specs.Grammar.{Class, superclasses_of}
-use Rattle.attr_types.specs.declared.expression.Operator.TheVariants.{Add, Subtract, Multiply, Less, AtMost, Greater, AtLeast, Equal}
-use Rattle.attr_types.specs.declared.kinds.Kind.TheVariants as kinds
-use Rattle.attr_types.specs.Expression.{Expression, Truth as TruthLiteral, Int as IntLiteral, This, Source as SourceNode, Child, Token, Call, Negate, Binary, And, Or, If}
-use Rattle.attr_types.specs.Rules.{Item, rules_of}
+use Rattle.attr_rules.specs.declared.expression.Operator.TheVariants.{Add, Subtract, Multiply, Less, AtMost, Greater, AtLeast, Equal}
+use Rattle.attr_rules.specs.declared.kinds.Kind.TheVariants as kinds
+use Rattle.attr_rules.specs.Expression.{Expression, Truth as TruthLiteral, Int as IntLiteral, Text as TextLiteral, Null as NullLiteral, This, Source as SourceNode, Child, Element, Count, Has, Token, Call, Negate, Binary, And, Or, If}
+use Rattle.attr_rules.specs.Rules.{Attribute as Declared, Equation, plain_attribute}
 use Rattle.solutions.specs.Asking.{Gives, Needs}
 use Rattle.tree_arena.specs.Nodes.{Node as TreeNode}
-use Rattle.tree_arena.specs.Terms.{Empty, IsTreeOf, Tree, one, over, root as whole, token}
+use Rattle.tree_arena.specs.Terms.{Empty, Fits, Forest, IsTreeOf, Tree, element, none, one, over, root as whole, token}
 use Rattle.equation_law.specs.Names.{At, Attribute, NoArguments, Null, Query, Source}
-use Rattle.equation_law.specs.Values.{Int, Node, Truth, as_kind, truth}
+use Rattle.equation_law.specs.Values.{Int, Node, Text, Truth, as_kind, truth}
 use Rattle.equation_law.specs.Meaning.{Place, meaning_of, operate}
 use Rattle.equation_law.specs.Program.{Program, at_source, source_instances}
 use Rattle.equation_law.specs.Equations.{HasValue, equation_of, equations_of, world_of}
 
-abbrev items : List Item
-items =
-    record { class = record { 0 = 0 }; name = codes "v"; kind = kinds.Int; body = IntLiteral (pos 5) } ∷
-    record { class = record { 0 = 1 }; name = codes "w"; kind = kinds.Truth; body = TruthLiteral true } ∷
+-- what is declared, and the equations
+abbrev attributes : List Declared
+attributes =
+    record { name = codes "v"; declared = plain_attribute (record { 0 = 0 }) kinds.Int } ∷
+    record { name = codes "w"; declared = plain_attribute (record { 0 = 1 }) kinds.Truth } ∷
+    []
+
+abbrev equations : List Equation
+equations =
+    record { target = record { class = record { 0 = 0 }; attribute = record { 0 = 0 } }; body = IntLiteral (pos 5) } ∷
+    record { target = record { class = record { 0 = 1 }; attribute = record { 0 = 1 } }; body = TruthLiteral true } ∷
     []
 
 -- the calls `@0.v()` and `@0.w()`; no rule of the notation allows the latter
@@ -37,37 +44,60 @@ classes =
       name = codes "N";
       abstract = false;
       superclass = None;
-      components = record { name = codes "m"; number = 0; shape = shapes.Child; class = record { 0 = 1 } } ∷ [];
+      components =
+          record { name = codes "m"; number = 0; shape = shapes.Child; class = record { 0 = 1 } } ∷
+          record { name = codes "o"; number = 1; shape = shapes.Optional; class = record { 0 = 1 } } ∷
+          record { name = codes "s"; number = 2; shape = shapes.List; class = record { 0 = 1 } } ∷
+          [];
     } ∷
     record {
       name = codes "M";
       abstract = false;
       superclass = None;
-      components = record { name = codes "V"; number = 1; shape = shapes.Int; class = record { 0 = 0 } } ∷ record { name = codes "B"; number = 2; shape = shapes.Truth; class = record { 0 = 0 } } ∷ [];
+      components =
+          record { name = codes "V"; number = 3; shape = shapes.Int; class = record { 0 = 0 } } ∷
+          record { name = codes "B"; number = 4; shape = shapes.Truth; class = record { 0 = 0 } } ∷
+          record { name = codes "T"; number = 5; shape = shapes.Text; class = record { 0 = 0 } } ∷
+          [];
     } ∷
     []
 
--- the tokens are -5 and true
-abbrev two_nodes : List TreeNode
-two_nodes =
-    record { class = record { 0 = 0 }; parent = 0; component = 0; tokens = 0 ∷ [] } ∷
-    record { class = record { 0 = 1 }; parent = 0; component = 0; tokens = 4294967291 ∷ 1 ∷ [] } ∷
+-- the tokens are -5, true and "x"; 7, false and "x"; 0, true and "y"
+abbrev four_nodes : List TreeNode
+four_nodes =
+    record { class = record { 0 = 0 }; parent = 0; component = 0; tokens = 0 ∷ 0 ∷ 0 ∷ [] } ∷
+    record { class = record { 0 = 1 }; parent = 0; component = 0; tokens = 4294967291 ∷ 1 ∷ 1 ∷ [] } ∷
+    record { class = record { 0 = 1 }; parent = 0; component = 2; tokens = 7 ∷ 0 ∷ 1 ∷ [] } ∷
+    record { class = record { 0 = 1 }; parent = 0; component = 2; tokens = 0 ∷ 1 ∷ 2 ∷ [] } ∷
     []
 
 abbrev small : Program
 small = record {
   grammar = classes;
-  rules = rules_of (superclasses_of classes) items;
-  tree = two_nodes;
-  texts = [];
-  queries = v ∷ [];
+  rules = record { superclasses = superclasses_of classes; attributes = attributes; equations = equations };
+  tree = four_nodes;
+  texts = [] ∷ codes "x" ∷ codes "y" ∷ [];
+  queries = record { body = v; kind = kinds.Int } ∷ [];
 }
 
 -- they are a tree of the grammar
-is_tree : IsTreeOf classes 0 two_nodes
+abbrev below : Forest
+below =
+    Tree (record { 0 = 1 }) 0 (4294967291 ∷ 1 ∷ 1 ∷ []) Empty
+    (Tree (record { 0 = 1 }) 2 (7 ∷ 0 ∷ 1 ∷ []) Empty
+    (Tree (record { 0 = 1 }) 2 (0 ∷ 1 ∷ 2 ∷ []) Empty Empty))
+
+fit : Fits classes (record { 0 = 1 }) (record { 0 = 1 })
+fit = record { below = refl; concrete = refl }
+
+is_tree : IsTreeOf classes 3 four_nodes
 is_tree = record {
-  term = Tree (record { 0 = 0 }) 0 (0 ∷ []) (Tree (record { 0 = 1 }) 0 (4294967291 ∷ 1 ∷ []) Empty Empty) Empty;
-  grown = whole (record { below = refl; concrete = refl }) (one tt (record { below = refl; concrete = refl }) (token (omega arith) (token (omega arith) over)) over);
+  term = Tree (record { 0 = 0 }) 0 (0 ∷ 0 ∷ 0 ∷ []) below Empty;
+  grown = whole (record { below = refl; concrete = refl })
+      (one tt fit (token (omega arith) (token (omega arith) (token (omega arith) over)))
+      (none tt
+      (element refl fit (token (omega arith) (token (omega arith) (token (omega arith) over)))
+      (element refl fit (token (omega arith) (token (omega arith) (token (omega arith) over))) (none tt over)))));
   are = refl;
   few = omega arith;
 }
@@ -76,33 +106,33 @@ abbrev root : Place
 root = record { this = At (Source 0) }
 
 -- the instances at its source nodes
-instances : source_instances small ≡ at_source 0 0 ∷ at_source 1 1 ∷ Query 0 ∷ []
-unfolding source_instances rules_of superclasses_of line_of
+instances : source_instances small ≡ at_source 0 0 ∷ at_source 1 1 ∷ at_source 1 2 ∷ at_source 1 3 ∷ Query 0 ∷ []
+unfolding source_instances superclasses_of line_of
 instances = refl
 
 -- the equation of its attribute at the root
 of_attribute : equation_of small (at_source 0 0) ≡ Some (record { body = IntLiteral (pos 5); kind = kinds.Int; place = root })
-unfolding rules_of superclasses_of line_of
+unfolding superclasses_of line_of
 of_attribute = refl
 
 -- that of the query
 of_query : equation_of small (Query 0) ≡ Some (record { body = v; kind = kinds.Int; place = root })
-unfolding rules_of superclasses_of line_of
+unfolding superclasses_of line_of
 of_query = refl
 
 -- the root is no M
 of_other_class : equation_of small (at_source 1 0) ≡ None
-unfolding rules_of superclasses_of line_of
+unfolding superclasses_of line_of
 of_other_class = refl
 
--- no third node
-of_no_node : equation_of small (at_source 0 2) ≡ None
-unfolding rules_of superclasses_of line_of
+-- no fifth node
+of_no_node : equation_of small (at_source 0 4) ≡ None
+unfolding superclasses_of line_of
 of_no_node = refl
 
 -- no third attribute
 of_no_attribute : equation_of small (at_source 2 0) ≡ None
-unfolding rules_of superclasses_of line_of
+unfolding superclasses_of line_of
 of_no_attribute = refl
 
 -- no second query
@@ -162,7 +192,7 @@ truth_values = (refl, refl, refl, refl)
 
 -- both sides are demanded, the left one first
 both_demanded : meaning_of (world_of small) (Binary Add v w) root ≡ Needs (at_source 0 0) (λ x. Needs (at_source 1 0) (λ y. Gives (operate Add (as_kind kinds.Int x) (as_kind kinds.Truth y))))
-unfolding rules_of superclasses_of line_of
+unfolding superclasses_of line_of
 both_demanded = refl
 
 -- `false && w` demands nothing
@@ -175,17 +205,17 @@ or_short = refl
 
 -- `true && w` demands w
 and_long : meaning_of (world_of small) (And (TruthLiteral true) w) root ≡ Needs (at_source 1 0) (λ x. Gives (Truth (truth x)))
-unfolding rules_of superclasses_of line_of
+unfolding superclasses_of line_of
 and_long = refl
 
 -- so does `false || w`
 or_long : meaning_of (world_of small) (Or (TruthLiteral false) w) root ≡ Needs (at_source 1 0) (λ x. Gives (Truth (truth x)))
-unfolding rules_of superclasses_of line_of
+unfolding superclasses_of line_of
 or_long = refl
 
 -- `true ? v : 7` demands v, and `false ? v : 7` nothing
 chosen : (meaning_of (world_of small) (If (TruthLiteral true) v (IntLiteral (pos 7))) root ≡ Needs (at_source 0 0) (λ x. Gives (as_kind kinds.Int x))) × (meaning_of (world_of small) (If (TruthLiteral false) v (IntLiteral (pos 7))) root ≡ Gives (Int (pos 7)))
-unfolding rules_of superclasses_of line_of
+unfolding superclasses_of line_of
 chosen = (refl, refl)
 
 -- `this`, `this.getm()`, and the same of that
@@ -198,16 +228,44 @@ unfolding int_wrap
 tokens = (refl, refl)
 
 -- on null a token and a call are defaults, and demand nothing
-on_null : (meaning_of (world_of small) (Token kinds.Int 0 (Child 1 This)) root ≡ Gives (Int (pos 0))) × (meaning_of (world_of small) (Call 1 (Child 1 This)) root ≡ Gives (Truth false))
-unfolding rules_of superclasses_of line_of
-on_null = (refl, refl)
+on_null : (meaning_of (world_of small) (Token kinds.Int 0 (Child 1 This)) root ≡ Gives (Int (pos 0))) × (meaning_of (world_of small) (Token kinds.Text 2 NullLiteral) root ≡ Gives (Text [])) × (meaning_of (world_of small) (Call 1 (Child 1 This)) root ≡ Gives (Truth false))
+unfolding superclasses_of line_of
+on_null = (refl, refl, refl)
+
+-- the texts of tokens and of literals; the number of no text stands for the empty one
+same_texts : (meaning_of (world_of small) (Binary Equal (Token kinds.Text 2 (SourceNode 1)) (Token kinds.Text 2 (SourceNode 2))) root ≡ Gives (Truth true)) × (meaning_of (world_of small) (Binary Equal (Token kinds.Text 2 (SourceNode 1)) (Token kinds.Text 2 (SourceNode 3))) root ≡ Gives (Truth false)) × (meaning_of (world_of small) (Binary Equal (Token kinds.Text 2 (SourceNode 3)) (TextLiteral 2)) root ≡ Gives (Truth true)) × (meaning_of (world_of small) (Binary Equal (TextLiteral 9) (TextLiteral 0)) root ≡ Gives (Truth true))
+same_texts = (refl, refl, refl, refl)
+
+-- two nodes, and null, which equals itself alone
+same_nodes : (meaning_of (world_of small) (Binary Equal This (SourceNode 0)) root ≡ Gives (Truth true)) × (meaning_of (world_of small) (Binary Equal This (Child 0 This)) root ≡ Gives (Truth false)) × (meaning_of (world_of small) (Binary Equal This NullLiteral) root ≡ Gives (Truth false)) × (meaning_of (world_of small) (Binary Equal NullLiteral This) root ≡ Gives (Truth false)) × (meaning_of (world_of small) (Binary Equal (Child 1 This) NullLiteral) root ≡ Gives (Truth true))
+same_nodes = (refl, refl, refl, refl, refl)
+
+-- a child is there, and the optional one is not
+optional : (meaning_of (world_of small) (Has 0 This) root ≡ Gives (Truth true)) × (meaning_of (world_of small) (Has 1 This) root ≡ Gives (Truth false)) × (meaning_of (world_of small) (Has 1 NullLiteral) root ≡ Gives (Truth false)) × (meaning_of (world_of small) (Child 1 This) root ≡ Gives (Node Null))
+optional = (refl, refl, refl, refl)
+
+-- the elements of a list, and its length
+abbrev element_at : Expression → ℤ → Expression
+element_at e z = Element 2 e (IntLiteral z)
+
+elements : (meaning_of (world_of small) (element_at This (pos 0)) root ≡ Gives (Node (At (Source 2)))) × (meaning_of (world_of small) (element_at This (pos 1)) root ≡ Gives (Node (At (Source 3)))) × (meaning_of (world_of small) (element_at This (pos 2)) root ≡ Gives (Node Null)) × (meaning_of (world_of small) (element_at This (negsuc 0)) root ≡ Gives (Node Null)) × (meaning_of (world_of small) (element_at NullLiteral (pos 0)) root ≡ Gives (Node Null))
+elements = (refl, refl, refl, refl, refl)
+
+counts : (meaning_of (world_of small) (Count 2 This) root ≡ Gives (Int (pos 2))) × (meaning_of (world_of small) (Count 2 (Child 0 This)) root ≡ Gives (Int (pos 0))) × (meaning_of (world_of small) (Count 2 NullLiteral) root ≡ Gives (Int (pos 0)))
+unfolding int_wrap
+counts = (refl, refl, refl)
+
+-- the place is evaluated, also on null
+place_first : meaning_of (world_of small) (Element 2 NullLiteral v) root ≡ Needs (at_source 0 0) (λ x. Gives (Node Null))
+unfolding superclasses_of line_of
+place_first = refl
 
 -- a call on the child
 on_child : meaning_of (world_of small) (Call 1 (Child 0 This)) root ≡ Needs (at_source 1 1) (λ x. Gives (Truth (truth x)))
-unfolding rules_of superclasses_of line_of
+unfolding superclasses_of line_of
 on_child = refl
 
 -- the rounds give the attribute its value in the first round, and the query in the second
 five : HasValue small (Query 0) (Int (pos 5))
-unfolding equations_of rules_of superclasses_of line_of
+unfolding equations_of superclasses_of line_of
 five = record { list = at_source 0 0 ∷ Query 0 ∷ []; rounds = 0 ∷ 0 ∷ []; whole = ((tt, λ i. refl), λ i. refl); given = refl }

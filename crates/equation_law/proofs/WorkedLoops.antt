@@ -3,9 +3,9 @@
 use Rattle.std.proofs.Common.{◌≡◌, ℕ, pos, true, false, cond, ◌||◌, List, [], ◌∷◌, Option, None, codes, refl, sym, subst}
 use Rattle.superclasses.specs.Superclasses.{line_of}
 use Rattle.ast_grammar.specs.Grammar.{Class, superclasses_of}
-use Rattle.attr_types.specs.declared.kinds.Kind.TheVariants as kinds
-use Rattle.attr_types.specs.Expression.{Expression, Truth as TruthLiteral, Int as IntLiteral, This, Call, And, Or}
-use Rattle.attr_types.specs.Rules.{Item, rules_of}
+use Rattle.attr_rules.specs.declared.kinds.Kind.TheVariants as kinds
+use Rattle.attr_rules.specs.Expression.{Expression, Truth as TruthLiteral, Int as IntLiteral, This, Call, And, Or}
+use Rattle.attr_rules.specs.Rules.{Attribute as Declared, Equation, plain_attribute}
 use Rattle.solutions.specs.Asking.{Demands, Gives, Needs, Meets, here, later, next}
 use Rattle.solutions.specs.Rounds.{Graph, RoundsEnd, is_in, outer_rounds}
 use Rattle.solutions.specs.Leading.{HasDemands, undeclared, none, more}
@@ -23,15 +23,23 @@ use Rattle.equation_law.proofs.Solution.{loopless}
 abbrev call : ℕ → Expression
 call a = Call a This
 
-abbrev items : List Item
-items =
-    record { class = record { 0 = 0 }; name = codes "x"; kind = kinds.Truth; body = call 1 } ∷
-    record { class = record { 0 = 0 }; name = codes "y"; kind = kinds.Truth; body = call 0 } ∷
-    record { class = record { 0 = 0 }; name = codes "z"; kind = kinds.Int; body = IntLiteral (pos 5) } ∷
-    record { class = record { 0 = 0 }; name = codes "w"; kind = kinds.Truth; body = call 0 } ∷
-    record { class = record { 0 = 0 }; name = codes "a"; kind = kinds.Truth; body = And (TruthLiteral false) (call 5) } ∷
-    record { class = record { 0 = 0 }; name = codes "b"; kind = kinds.Truth; body = Or (call 4) (call 5) } ∷
+abbrev attributes : List Declared
+attributes =
+    record { name = codes "x"; declared = plain_attribute (record { 0 = 0 }) kinds.Truth } ∷
+    record { name = codes "y"; declared = plain_attribute (record { 0 = 0 }) kinds.Truth } ∷
+    record { name = codes "z"; declared = plain_attribute (record { 0 = 0 }) kinds.Int } ∷
+    record { name = codes "w"; declared = plain_attribute (record { 0 = 0 }) kinds.Truth } ∷
+    record { name = codes "a"; declared = plain_attribute (record { 0 = 0 }) kinds.Truth } ∷
+    record { name = codes "b"; declared = plain_attribute (record { 0 = 0 }) kinds.Truth } ∷
     []
+
+-- the equation of an attribute at N
+abbrev at_n : ℕ → Expression → Equation
+at_n a body = record { target = record { class = record { 0 = 0 }; attribute = record { 0 = a } }; body = body }
+
+abbrev equations : List Equation
+equations =
+    at_n 0 (call 1) ∷ at_n 1 (call 0) ∷ at_n 2 (IntLiteral (pos 5)) ∷ at_n 3 (call 0) ∷ at_n 4 (And (TruthLiteral false) (call 5)) ∷ at_n 5 (Or (call 4) (call 5)) ∷ []
 
 abbrev classes : List Class
 classes = record { name = codes "N"; abstract = false; superclass = None; components = [] } ∷ []
@@ -40,9 +48,9 @@ classes = record { name = codes "N"; abstract = false; superclass = None; compon
 abbrev looping : Program
 looping = record {
   grammar = classes;
-  rules = rules_of (superclasses_of classes) items;
+  rules = record { superclasses = superclasses_of classes; attributes = attributes; equations = equations };
   tree = record { class = record { 0 = 0 }; parent = 0; component = 0; tokens = [] } ∷ [];
-  texts = [];
+  texts = [] ∷ [];
   queries = [];
 }
 
@@ -66,17 +74,17 @@ b = at_source 5 0
 
 -- z is 5, whatever the rest does
 five : HasValue looping z (Int (pos 5))
-unfolding equations_of rules_of superclasses_of line_of
+unfolding equations_of superclasses_of line_of
 five = record { list = z ∷ []; rounds = 0 ∷ []; whole = (tt, λ i. refl); given = refl }
 
 -- x leads to y
 x_to_y : Leads looping x y
-unfolding equations_of rules_of superclasses_of line_of
+unfolding equations_of superclasses_of line_of
 x_to_y = undeclared refl here
 
 -- and back
 y_to_x : Leads looping y x
-unfolding equations_of rules_of superclasses_of line_of
+unfolding equations_of superclasses_of line_of
 y_to_x = undeclared refl here
 
 -- so x stands on a loop
@@ -90,12 +98,12 @@ x_has_none v h = loopless looping x v h x_loops
 
 -- w leads into that loop without standing on it
 w_loops : HasLoop looping w
-unfolding equations_of rules_of superclasses_of line_of
+unfolding equations_of superclasses_of line_of
 w_loops = record { on = x; to = more (undeclared refl here) none; undeclared_on = refl; then = y; out = x_to_y; back = more y_to_x none }
 
 -- a is false and demands nothing
 a_false : HasValue looping a (Truth false)
-unfolding equations_of rules_of superclasses_of line_of
+unfolding equations_of superclasses_of line_of
 a_false = record { list = a ∷ []; rounds = 0 ∷ []; whole = (tt, λ i. refl); given = refl }
 
 -- so it has no loop
@@ -104,12 +112,12 @@ a_loopless = loopless looping a (Truth false) a_false
 
 -- b demands a
 b_to_a : Leads looping b a
-unfolding equations_of rules_of superclasses_of line_of
+unfolding equations_of superclasses_of line_of
 b_to_a = undeclared refl here
 
 -- and then itself
 b_to_b : Leads looping b b
-unfolding equations_of rules_of superclasses_of line_of
+unfolding equations_of superclasses_of line_of
 b_to_b = undeclared refl (later a_false here)
 
 -- so b stands on a loop of one step
@@ -144,7 +152,7 @@ of_six P hx hy hz hw ha hb =
 
 -- a second round over the list adds nothing
 adds_none : (i : Instance) → outer_rounds (equations_of looping) names (0 ∷ 0 ∷ []) i ≡ left i
-unfolding equations_of rules_of superclasses_of line_of
+unfolding equations_of superclasses_of line_of
 adds_none i = elim (is_in same_instance names i) as (λ c. is_in same_instance names i ≡ c → outer_rounds (equations_of looping) names (0 ∷ 0 ∷ []) i ≡ left i) [
   | true ↦ λ m. of_six (λ j. outer_rounds (equations_of looping) names (0 ∷ 0 ∷ []) j ≡ left j) refl refl refl refl refl refl i m
   | false ↦ λ m. rw m
@@ -152,7 +160,7 @@ adds_none i = elim (is_in same_instance names i) as (λ c. is_in same_instance n
 
 -- so the rounds end there
 ends : RoundsEnd (equations_of looping) names left
-unfolding equations_of rules_of superclasses_of line_of
+unfolding equations_of superclasses_of line_of
 ends = record { rounds = 0 ∷ []; whole = (tt, λ i. refl); turns = 0; stable = λ i. refl; last = adds_none; is = λ i. refl }
 
 -- the one demand of an equation is of the list, and a value that isn't there leads no further
@@ -162,13 +170,13 @@ demands_one j n k m e (later q r) = absurd (cc)
 
 -- b demands a, which is false, and then itself
 demands_of_b : (n : Instance) → Meets (Graph left) ((equations_of looping).equation b) n → is_in same_instance names n ≡ true
-unfolding equations_of rules_of superclasses_of line_of
+unfolding equations_of superclasses_of line_of
 demands_of_b n here = refl
 demands_of_b n (later {w = v} q r) = let p : Truth false ≡ v = cc in demands_one b n _ refl refl (meets_at (λ u. next (cond (truth (as_kind kinds.Truth u)) (Gives (Truth true)) (Needs b (λ t. Gives (Truth (truth (as_kind kinds.Truth t)))))) (λ t. Gives (as_kind kinds.Truth t))) (sym p) r)
 
 -- so the list has all demands
 has_demands : HasDemands (equations_of looping) names left
-unfolding equations_of rules_of superclasses_of line_of
+unfolding equations_of superclasses_of line_of
 has_demands i j m =
     of_six (λ k. (n : Instance) → Meets (Graph left) ((equations_of looping).equation k) n → is_in same_instance names n ≡ true)
     (λ n. demands_one y n _ refl refl)
@@ -181,5 +189,5 @@ has_demands i j m =
 
 -- so what is left tells that y has a loop
 y_loops : HasLoop looping y
-unfolding equations_of rules_of superclasses_of line_of
+unfolding equations_of superclasses_of line_of
 y_loops = left_has_loop looping names left ends has_demands y refl refl

@@ -1,31 +1,62 @@
--- Programs that break no rule, and their instances.
-use Rattle.std.specs.Prelude.{◌≡◌, ℕ, true, List, Some, All, length, slice_get}
+-- Programs that break no rule, their instances, and the values of each type.
+use Rattle.std.specs.Prelude.{◌≡◌, ℕ, ℤ, true, Bool, List, Option, Some, All, length, slice_get}
+use Rattle.std.specs.Int.{int_wrap}
+use Rattle.std.specs.List.{Contains}
+use mir.Syntax.{w32}
+use Rattle.rag_io.specs.Pool.{ArePooled}
 use Rattle.ast_grammar.specs.declared.grammar.ClassId.{ClassId}
-use Rattle.ast_grammar.specs.Grammar.{IsGrammar, is_sub, superclasses_of}
-use Rattle.attr_types.specs.declared.kinds.Attr.{Attr}
-use Rattle.attr_types.specs.declared.kinds.Kind.{Kind}
-use Rattle.attr_types.specs.Expression.{Expression}
-use Rattle.attr_types.specs.Rules.{Item, AreItems, rules_of}
-use Rattle.attr_types.specs.Typing.{type_of}
+use Rattle.ast_grammar.specs.Grammar.{IsGrammar, is_sub}
+use Rattle.attr_rules.specs.declared.kinds.Attr.{Attr}
+use Rattle.attr_rules.specs.declared.kinds.Kind.{Kind}
+use Rattle.attr_rules.specs.declared.kinds.Kind.TheVariants as kinds
+use Rattle.attr_rules.specs.declared.types.ValueType.{ValueType}
+use Rattle.attr_rules.specs.Queries.{Query as Asked}
+use Rattle.attr_rules.specs.Rules.{AreRules}
+use Rattle.attr_rules.specs.Types.{kept_kind}
+use Rattle.attr_rules.specs.Typing.{HasType}
 use Rattle.tree_arena.specs.Terms.{IsTreeOf}
-use Rattle.equation_law.specs.Names.{Source, At, Instance, Attribute, Query, NoArguments}
+use Rattle.equation_law.specs.Names.{Source, Reference, Null, At, Instance, Attribute, Query, NoArguments}
 use Rattle.equation_law.specs.Program.{Program, class_of, declared_of, names_in}
+use Rattle.equation_law.specs.Equations.{kind_in}
+use Rattle.equation_law.specs.Values.{Value, Truth, Int, Text, Node}
 
 -- a query is well typed: what it asks is an attribute or an accessor of the node's class
-pub record IsTyped (p : Program) (e : Expression) : Type 0 where
-  pub kind : Kind
-  pub typed : type_of (names_in p) e ≡ Some kind
+pub record IsTyped (p : Program) (q : Asked) : Type 0 where
+  pub type : ValueType
+  pub typed : HasType (names_in p) q.body type
+  pub kept : q.kind ≡ kept_kind type
 
 -- A program whose parts were read and checked against each other.
 pub record IsProgram (p : Program) : Type 0 where
-  pub items : List Item
   pub grammar : IsGrammar p.grammar
-  pub allowed : AreItems p.grammar items
-  pub rules : p.rules ≡ rules_of (superclasses_of p.grammar) items
+  pub rules : AreRules p.grammar p.rules
+  pub texts : ArePooled p.texts
   pub tree : IsTreeOf p.grammar (length p.texts) p.tree
   pub queries : All (IsTyped p) p.queries
 
 -- An instance of a program: an attribute at a source node, which is of the attribute's class or of a subclass, or a query.
 pub data IsInstance (p : Program) : Instance → Type 0 where
   of_attribute : {a k : ℕ} (d : Attr) (c : ClassId) → declared_of p a ≡ Some d → class_of p k ≡ Some c → is_sub p.grammar c.0 d.class.0 ≡ true → IsInstance p (Attribute a (At (Source k)) NoArguments)
-  of_query : {q : ℕ} (e : Expression) → slice_get p.queries q ≡ Some e → IsInstance p (Query q)
+  of_query : {q : ℕ} (e : Asked) → slice_get p.queries q ≡ Some e → IsInstance p (Query q)
+
+-- a source node of the class or of a subclass
+pub record IsAt (p : Program) (k : ℕ) (c : ClassId) : Type 0 where
+  pub class : ClassId
+  pub of : class_of p k ≡ Some class
+  pub below : is_sub p.grammar class.0 c.0 ≡ true
+
+-- null, or a source node of the class or of a subclass
+pub data IsNodeOf (p : Program) (c : ClassId) : Reference → Type 0 where
+  null : IsNodeOf p c Null
+  at : {k : ℕ} → IsAt p k c → IsNodeOf p c (At (Source k))
+
+-- A value of a type: an integer has 32 bits, and a text is one of the program. No value is a set so far.
+pub data IsValue (p : Program) : Kind → Value → Type 0 where
+  truth : (b : Bool) → IsValue p kinds.Truth (Truth b)
+  int : (z : ℤ) → int_wrap w32 z ≡ z → IsValue p kinds.Int (Int z)
+  text : (t : List ℕ) → Contains p.texts t → IsValue p kinds.Text (Text t)
+  node : (c : ClassId) (r : Reference) → IsNodeOf p c r → IsValue p (kinds.Node c) (Node r)
+
+-- an assignment whose values are of their instances' types
+pub record Fits (p : Program) (A : Instance → Option Value) : Type 0 where
+  pub fits : (i : Instance) (v : Value) → A i ≡ Some v → IsValue p (kind_in p i) v

@@ -1,7 +1,7 @@
 -- What an evaluation reads.
-use Rattle.std.specs.Prelude.{Option}
+use Rattle.std.specs.Prelude.{ℕ, List, Option}
 use Rattle.equation_law.specs.declared.evaluation.Context.{Context}
-use Rattle.equation_law.specs.Equations.{world_of}
+use Rattle.equation_law.specs.Equations.{text_of, world_of}
 use Rattle.equation_law.specs.Meaning.{Place, World}
 use Rattle.equation_law.specs.Names.{At, Instance, Source}
 use Rattle.equation_law.specs.Places.{found}
@@ -12,9 +12,13 @@ use Rattle.equation_law.specs.Values.{Value}
 abbrev pub world_in : Context → World
 world_in c = world_of (program_of c.system.now)
 
+-- the texts of the program, by their numbers
+abbrev pub texts_in : Context → ℕ → List ℕ
+texts_in c = text_of (program_of c.system.now)
+
 -- the values that stand
 abbrev pub standing_in : Context → Instance → Option Value
-standing_in c = found c.places.now.map c.values.now
+standing_in c = found (text_of (program_of c.system.now)) c.places.now.map c.values.now
 
 -- the node at which the equation is read
 abbrev pub place_in : Context → Place

@@ -1,20 +1,20 @@
 -- The equations of the instances of a program, and the solution.
-use Rattle.std.specs.Prelude.{ℕ, pos, false, not, ◌==◌, Option, Some, None, slice_get}
+use Rattle.std.specs.Prelude.{ℕ, ℤ, pos, negsuc, List, [], false, not, ◌==◌, Option, Some, None, slice_get, slice_index_or}
 use Rattle.std.specs.Int.{int_wrap}
 use Rattle.std.specs.Option.{option_and_then, option_map}
 use mir.Syntax.{w32}
 use Rattle.ast_grammar.specs.declared.grammar.ClassId.{ClassId}
-use Rattle.attr_types.specs.declared.kinds.Kind.{Kind}
-use Rattle.attr_types.specs.declared.kinds.Kind.TheVariants as kinds
-use Rattle.attr_types.specs.Expression.{Expression}
-use Rattle.attr_types.specs.Rules.{Equation, equation_number}
-use Rattle.attr_types.specs.Typing.{type_of}
+use Rattle.attr_rules.specs.declared.kinds.Kind.{Kind}
+use Rattle.attr_rules.specs.declared.kinds.Kind.TheVariants as kinds
+use Rattle.attr_rules.specs.Expression.{Expression}
+use Rattle.attr_rules.specs.Queries.{Query as Asked}
+use Rattle.attr_rules.specs.Rules.{Equation, equation_number}
 use Rattle.solutions.specs.Asking.{Demands, Gives, next}
 use Rattle.solutions.specs.Rounds.{Equations, HasValue as HasValueOf}
-use Rattle.tree_arena.specs.Nodes.{child_in, token_in}
+use Rattle.tree_arena.specs.Nodes.{child_in, count_in, token_in}
 use Rattle.equation_law.specs.Names.{NodeName, Source, Reference, Null, At, NoArguments, Instance, Attribute, Query, same_instance}
-use Rattle.equation_law.specs.Values.{Value, Truth, Int, Node, as_kind, default_of}
-use Rattle.equation_law.specs.Program.{Program, declared_of, class_of, names_in}
+use Rattle.equation_law.specs.Values.{Value, Truth, Int, Text, Node, as_kind, default_of}
+use Rattle.equation_law.specs.Program.{Program, declared_of, class_of}
 use Rattle.equation_law.specs.Meaning.{World, Place, meaning_of}
 
 -- an equation as it is read: an expression of a type, with the node at which it is read
@@ -38,30 +38,41 @@ source_or_null (Some k) = At (Source k)
 abbrev pub child_of : Program → NodeName → ℕ → Reference
 child_of p (Source n) k = source_or_null (child_in p.tree n k 0)
 
--- the value that a code stands for; a missing one is the type's default. Texts aren't read so far
-abbrev pub decoded : Kind → Option ℕ → Value
-decoded t None = default_of t
-decoded kinds.Truth (Some v) = Truth (not (v == 0))
-decoded kinds.Int (Some v) = Int (int_wrap w32 (pos v))
-decoded kinds.Text (Some v) = default_of kinds.Text
-decoded (kinds.Node c) (Some v) = default_of (kinds.Node c)
-decoded kinds.Texts (Some v) = default_of kinds.Texts
-decoded (kinds.Nodes c) (Some v) = default_of (kinds.Nodes c)
+-- the element of a list at a place; before the first and past the last there is none
+abbrev pub element_of : Program → NodeName → ℕ → ℤ → Reference
+element_of p (Source n) k (pos i) = source_or_null (child_in p.tree n k i)
+element_of p (Source n) k (negsuc i) = Null
+
+abbrev pub count_of : Program → NodeName → ℕ → ℕ
+count_of p (Source n) k = count_in p.tree n k
+
+-- the text of a number; that of a number that no text has is the empty one
+abbrev pub text_of : Program → ℕ → List ℕ
+text_of p n = slice_index_or p.texts n []
+
+-- the value that a code stands for, by the texts; a missing one is the type's default
+abbrev pub decoded : (ℕ → List ℕ) → Kind → Option ℕ → Value
+decoded texts t None = default_of t
+decoded texts kinds.Truth (Some v) = Truth (not (v == 0))
+decoded texts kinds.Int (Some v) = Int (int_wrap w32 (pos v))
+decoded texts kinds.Text (Some v) = Text (texts v)
+decoded texts (kinds.Node c) (Some v) = default_of (kinds.Node c)
+decoded texts kinds.Texts (Some v) = default_of kinds.Texts
+decoded texts (kinds.Nodes c) (Some v) = default_of (kinds.Nodes c)
 
 abbrev pub token_of : Program → Kind → NodeName → ℕ → Value
-token_of p t (Source n) k = decoded t (token_in p.tree n k)
+token_of p t (Source n) k = decoded (text_of p) t (token_in p.tree n k)
 
 abbrev pub world_of : Program → World
-world_of p = record { kind = attribute_kind p; child = child_of p; token = token_of p }
+world_of p = record { kind = attribute_kind p; text = text_of p; child = child_of p; element = element_of p; count = count_of p; token = token_of p }
 
--- the type of a query, or truth where it has none
-abbrev pub query_kind : Program → Expression → Kind
-query_kind p e = kind_or_truth (type_of (names_in p) e)
+abbrev pub asked_kind : Asked → Kind
+asked_kind q = q.kind
 
 -- the type of an instance's values
 abbrev pub kind_in : Program → Instance → Kind
 kind_in p (Attribute a n xs) = attribute_kind p a
-kind_in p (Query q) = kind_or_truth (option_map (query_kind p) (slice_get p.queries q))
+kind_in p (Query q) = kind_or_truth (option_map asked_kind (slice_get p.queries q))
 
 -- the equation of an attribute at nodes of a class: that of the nearest class, from this one upwards
 abbrev pub equation_for : Program → ℕ → ClassId → Option Equation
@@ -75,7 +86,7 @@ site_at p a k e = record { body = e.body; kind = attribute_kind p a; place = rec
 abbrev pub equation_of : Program → Instance → Option Site
 equation_of p (Attribute a Null NoArguments) = None
 equation_of p (Attribute a (At (Source k)) NoArguments) = option_map (site_at p a k) (option_and_then (equation_for p a) (class_of p k))
-equation_of p (Query q) = option_map (λ e. record { body = e; kind = query_kind p e; place = record { this = At (Source 0) } }) (slice_get p.queries q)
+equation_of p (Query q) = option_map (λ e. record { body = e.body; kind = e.kind; place = record { this = At (Source 0) } }) (slice_get p.queries q)
 
 -- what an equation demands; an instance that the program doesn't have counts as null
 abbrev pub site_demands : World → Option Site → Demands Instance Value

@@ -1,21 +1,28 @@
 -- The meaning of an expression: what it demands, in order, and the value that comes of it.
-use Rattle.std.specs.Prelude.{ℕ, ◌+ℤ◌, ◌-ℤ◌, ◌*ℤ◌, neg_ℤ, int_lt, Bool, true, false, not, cond}
+use Rattle.std.specs.Prelude.{ℕ, ℤ, pos, ◌+ℤ◌, ◌-ℤ◌, ◌*ℤ◌, neg_ℤ, int_lt, List, Bool, true, false, not, cond}
 use Rattle.std.specs.Int.{int_wrap}
 use Rattle.std.specs.Ordering.{int_eq}
+use Rattle.std.specs.Str.{bytes_eq}
 use mir.Syntax.{w32}
-use Rattle.attr_types.specs.declared.kinds.Kind.{Kind}
-use Rattle.attr_types.specs.declared.expression.Operator.{Operator}
-use Rattle.attr_types.specs.declared.expression.Operator.TheVariants.{Add, Subtract, Multiply, Less, AtMost, Greater, AtLeast, Equal}
-use Rattle.attr_types.specs.Expression.{Expression, Truth as TruthLiteral, Int as IntLiteral, This, Source as SourceNode, Child, Token, Call, Not, Negate, Binary, And, Or, If}
+use Rattle.attr_rules.specs.declared.kinds.Kind.{Kind}
+use Rattle.attr_rules.specs.declared.expression.Operator.{Operator}
+use Rattle.attr_rules.specs.declared.expression.Operator.TheVariants.{Add, Subtract, Multiply, Less, AtMost, Greater, AtLeast, Equal}
+use Rattle.attr_rules.specs.Expression.{Expression, Truth as TruthLiteral, Int as IntLiteral, Text as TextLiteral, Null as NullLiteral, This, Source as SourceNode, Child, Element, Count, Has, Token, Call, Not, Negate, Binary, And, Or, If}
 use Rattle.solutions.specs.Asking.{Demands, Gives, Needs, next}
-use Rattle.equation_law.specs.Names.{NodeName, Source, Reference, Null, At, Instance, Attribute, NoArguments}
-use Rattle.equation_law.specs.Values.{Value, Truth, Int, Text, Node, Texts, Nodes, truth, int, node, as_kind, default_of}
+use Rattle.equation_law.specs.Names.{NodeName, Source, Reference, Null, At, Instance, Attribute, NoArguments, same_reference}
+use Rattle.equation_law.specs.Values.{Value, Truth, Int, Text, Node, Texts, Nodes, truth, int, text, node, as_kind, default_of}
 
 -- what the grammar, the rules and the tree say of attributes and nodes
 pub record World : Type 0 where
   pub kind : ℕ → Kind
+  -- the texts, by their numbers
+  pub text : ℕ → List ℕ
   -- the child of a node at a component
   pub child : NodeName → ℕ → Reference
+  -- the element of a node's list at a component, by its place in the list
+  pub element : NodeName → ℕ → ℤ → Reference
+  -- how many elements the list has
+  pub count : NodeName → ℕ → ℕ
   -- the token of a node at a component, read at a type
   pub token : Kind → NodeName → ℕ → Value
 
@@ -23,12 +30,12 @@ pub record World : Type 0 where
 pub record Place : Type 0 where
   pub this : Reference
 
--- two truth values or two integers are equal
+-- two truth values, integers, texts or nodes are equal; null equals itself alone
 abbrev pub equal : Value → Value → Bool
 equal (Truth a) w = cond a (truth w) (not (truth w))
 equal (Int a) w = int_eq a (int w)
-equal (Text t) w = false
-equal (Node n) w = false
+equal (Text t) w = bytes_eq t (text w)
+equal (Node n) w = same_reference n (node w)
 equal (Texts s) w = false
 equal (Nodes s) w = false
 
@@ -52,10 +59,24 @@ abbrev pub call_at : World → ℕ → Reference → Demands Instance Value
 call_at W a Null = Gives (default_of (W.kind a))
 call_at W a (At n) = demand (W.kind a) (Attribute a (At n) NoArguments)
 
--- the accessor of a child; on null it is null
+-- the accessor of a child; on null, and where there is no optional child, it is null
 abbrev pub child_at : World → ℕ → Reference → Reference
 child_at W k Null = Null
 child_at W k (At n) = W.child n k
+
+-- the accessor of an element; on null, and at a place that the list doesn't have, it is null
+abbrev pub element_at : World → ℕ → Reference → ℤ → Reference
+element_at W k Null z = Null
+element_at W k (At n) z = W.element n k z
+
+-- the number of elements, which has 32 bits; on null it is 0
+abbrev pub count_at : World → ℕ → Reference → ℤ
+count_at W k Null = pos 0
+count_at W k (At n) = int_wrap w32 (pos (W.count n k))
+
+abbrev pub is_there : Reference → Bool
+is_there Null = false
+is_there (At n) = true
 
 -- the accessor of a token; on null it is the default of the type
 abbrev pub token_at : World → Kind → ℕ → Reference → Value
@@ -66,9 +87,14 @@ token_at W t k (At n) = W.token t n k
 abbrev pub meaning_of : World → Expression → Place → Demands Instance Value
 meaning_of W (TruthLiteral b) p = Gives (Truth b)
 meaning_of W (IntLiteral z) p = Gives (Int z)
+meaning_of W (TextLiteral n) p = Gives (Text (W.text n))
+meaning_of W NullLiteral p = Gives (Node Null)
 meaning_of W This p = Gives (Node p.this)
 meaning_of W (SourceNode k) p = Gives (Node (At (Source k)))
 meaning_of W (Child k e) p = next (meaning_of W e p) (λ r. Gives (Node (child_at W k (node r))))
+meaning_of W (Element k e i) p = next (meaning_of W e p) (λ r. next (meaning_of W i p) (λ z. Gives (Node (element_at W k (node r) (int z)))))
+meaning_of W (Count k e) p = next (meaning_of W e p) (λ r. Gives (Int (count_at W k (node r))))
+meaning_of W (Has k e) p = next (meaning_of W e p) (λ r. Gives (Truth (is_there (child_at W k (node r)))))
 meaning_of W (Token t k e) p = next (meaning_of W e p) (λ r. Gives (token_at W t k (node r)))
 meaning_of W (Call a e) p = next (meaning_of W e p) (λ r. call_at W a (node r))
 meaning_of W (Not e) p = next (meaning_of W e p) (λ v. Gives (Truth (not (truth v))))

@@ -15,7 +15,7 @@ use Rattle.equation_law.specs.Names.{Instance, Query, Reference, Null, At, Sourc
 use Rattle.equation_law.specs.Sets.{no_elements}
 use Rattle.equation_law.specs.Values.{Value, Truth, Int, Text, Node, Texts, Nodes}
 use Rattle.equation_law.specs.Program.{Program, at_source}
-use Rattle.equation_law.specs.Equations.{equations_of}
+use Rattle.equation_law.specs.Equations.{equations_of, text_of}
 
 abbrev pub instance_of : NamedInstance → Instance
 instance_of (named.Attribute a n) = at_source a.0 n
@@ -24,24 +24,25 @@ instance_of (named.Query q) = Query q
 abbrev pub instances_in : NameList → List Instance
 instances_in l = map instance_of l.names.items
 
-abbrev pub value_of : PlainValue → Value
-value_of (plain.Truth b) = Truth b
-value_of (plain.Int z) = Int z
-value_of plain.Null = Node Null
-value_of (plain.Node n) = Node (At (Source n))
-value_of plain.EmptyText = Text []
-value_of plain.NoTexts = Texts no_elements
-value_of plain.NoNodes = Nodes no_elements
+-- a value, by the texts that the numbers stand for
+abbrev pub value_of : (ℕ → List ℕ) → PlainValue → Value
+value_of texts (plain.Truth b) = Truth b
+value_of texts (plain.Int z) = Int z
+value_of texts (plain.Text n) = Text (texts n)
+value_of texts plain.Null = Node Null
+value_of texts (plain.Node n) = Node (At (Source n))
+value_of texts plain.NoTexts = Texts no_elements
+value_of texts plain.NoNodes = Nodes no_elements
 
 -- a node by its name
 abbrev pub reference_named : NodeName → Reference
 reference_named names.Null = Null
 reference_named (names.Source n) = At (Source n)
 
-abbrev pub value_in : NamedValue → Value
-value_in v = value_of v.value
+abbrev pub value_in : (ℕ → List ℕ) → NamedValue → Value
+value_in texts v = value_of texts v.value
 
--- the value is no truth value, no integer, and no node
+-- the value is no truth value, no integer, no text, and no node
 abbrev pub IsNoTruth : Value → Type 0
 IsNoTruth (Truth b) = ⊥
 IsNoTruth (Int z) = Unit {0}
@@ -58,6 +59,14 @@ IsNoInt (Node n) = Unit {0}
 IsNoInt (Texts s) = Unit {0}
 IsNoInt (Nodes s) = Unit {0}
 
+abbrev pub IsNoText : Value → Type 0
+IsNoText (Truth b) = Unit {0}
+IsNoText (Int z) = Unit {0}
+IsNoText (Text t) = ⊥
+IsNoText (Node n) = Unit {0}
+IsNoText (Texts s) = Unit {0}
+IsNoText (Nodes s) = Unit {0}
+
 abbrev pub IsNoNode : Value → Type 0
 IsNoNode (Truth b) = Unit {0}
 IsNoNode (Int z) = Unit {0}
@@ -66,12 +75,12 @@ IsNoNode (Node n) = ⊥
 IsNoNode (Texts s) = Unit {0}
 IsNoNode (Nodes s) = Unit {0}
 
-abbrev pub values_in : Table → List (Option Value)
-values_in t = map (option_map value_in) t.values.items
+abbrev pub values_in : (ℕ → List ℕ) → Table → List (Option Value)
+values_in texts t = map (option_map (value_in texts)) t.values.items
 
 -- the value of the k-th name, where there is one
-abbrev pub value_at : Table → ℕ → Option Value
-value_at t k = option_and_then (λ v. v) (slice_get (values_in t) k)
+abbrev pub value_at : (ℕ → List ℕ) → Table → ℕ → Option Value
+value_at texts t k = option_and_then (λ v. v) (slice_get (values_in texts t) k)
 
 -- the value that stands under the first place of an instance in the list
 abbrev pub assigned : List Instance → List (Option Value) → Instance → Option Value
@@ -81,5 +90,5 @@ assigned (j ∷ names) (v ∷ values) i = cond (same_instance i j) v (assigned n
 
 -- The table has a value for each name, where the rounds over the names, run until nothing is added, give it one.
 pub record Solves (p : Program) (names : List Instance) (t : Table) : Type 0 where
-  pub end : RoundsEnd (equations_of p) names (assigned names (values_in t))
-  pub each : (k : ℕ) (i : Instance) → slice_get names k ≡ Some i → value_at t k ≡ assigned names (values_in t) i
+  pub end : RoundsEnd (equations_of p) names (assigned names (values_in (text_of p) t))
+  pub each : (k : ℕ) (i : Instance) → slice_get names k ≡ Some i → value_at (text_of p) t k ≡ assigned names (values_in (text_of p) t) i

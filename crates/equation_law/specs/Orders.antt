@@ -1,7 +1,7 @@
 -- The order of the values of one circular type, and their joins.
 use Rattle.std.specs.Prelude.{◌≡◌, Bool, true, ◌||◌}
-use Rattle.attr_types.specs.declared.kinds.Kind.{Kind}
-use Rattle.attr_types.specs.declared.kinds.Kind.TheVariants as kinds
+use Rattle.attr_rules.specs.declared.kinds.Kind.{Kind}
+use Rattle.attr_rules.specs.declared.kinds.Kind.TheVariants as kinds
 use Rattle.equation_law.specs.Names.{node_cmp, text_cmp}
 use Rattle.equation_law.specs.Sets.{SetBy, IsPart, union}
 use Rattle.equation_law.specs.Values.{Value, Truth, Texts, Nodes, truth, texts, nodes}

@@ -18,9 +18,9 @@ abbrev pub kept_place : {S : Type 0} → HashMap NamedInstance ℕ S → Instanc
 kept_place m i = get_by (λ n. same_instance i (instance_of n)) m
 
 -- the value at a place
-abbrev pub value_on : List (Option NamedValue) → ℕ → Option Value
-value_on values k = option_and_then (option_map value_in) (slice_get values k)
+abbrev pub value_on : (ℕ → List ℕ) → List (Option NamedValue) → ℕ → Option Value
+value_on texts values k = option_and_then (option_map (value_in texts)) (slice_get values k)
 
 -- the value at the place that is kept of an instance
-abbrev pub found : {S : Type 0} → HashMap NamedInstance ℕ S → List (Option NamedValue) → Instance → Option Value
-found m values i = option_and_then (value_on values) (kept_place m i)
+abbrev pub found : {S : Type 0} → (ℕ → List ℕ) → HashMap NamedInstance ℕ S → List (Option NamedValue) → Instance → Option Value
+found texts m values i = option_and_then (value_on texts values) (kept_place m i)

@@ -4,10 +4,10 @@ use Rattle.std.specs.Option.{option_map}
 use Rattle.ast_grammar.specs.declared.grammar.ClassId.{ClassId}
 use Rattle.superclasses.specs.Superclasses.{is_sub}
 use Rattle.ast_grammar.specs.Grammar.{Class, superclasses_of}
-use Rattle.attr_types.specs.declared.kinds.Attr.{Attr}
-use Rattle.attr_types.specs.Expression.{Expression}
-use Rattle.attr_types.specs.Rules.{Attribute as DeclaredAttribute, RuleSet}
-use Rattle.attr_types.specs.Typing.{Names}
+use Rattle.attr_rules.specs.declared.kinds.Attr.{Attr}
+use Rattle.attr_rules.specs.Queries.{Query as Asked}
+use Rattle.attr_rules.specs.Rules.{Attribute as DeclaredAttribute, RuleSet}
+use Rattle.attr_rules.specs.Typing.{Names}
 use Rattle.tree_arena.specs.Nodes.{Node}
 use Rattle.equation_law.specs.Names.{Instance, Attribute, Query, At, Source, NoArguments}
 
@@ -16,7 +16,7 @@ pub record Program : Type 0 where
   pub rules : RuleSet
   pub tree : List Node
   pub texts : List (List ℕ)
-  pub queries : List Expression
+  pub queries : List Asked
 
 -- what is declared of an attribute, and the class of a source node, by their numbers
 abbrev pub declared_of : Program → ℕ → Option Attr
@@ -43,7 +43,7 @@ attribute_instances superclasses [] a tree = []
 attribute_instances superclasses (x ∷ attributes) a tree = map (at_source a) (nodes_of superclasses tree x.declared.class 0) ++ attribute_instances superclasses attributes (suc a) tree
 
 -- the queries, from the q-th on
-abbrev pub query_instances : List Expression → ℕ → List Instance
+abbrev pub query_instances : List Asked → ℕ → List Instance
 query_instances [] q = []
 query_instances (e ∷ queries) q = Query q ∷ query_instances queries (suc q)
 

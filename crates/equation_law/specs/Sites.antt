@@ -1,6 +1,6 @@
 -- The equation that the code finds.
 use Rattle.std.specs.Prelude.{◌≡◌, Option, Some, None}
-use Rattle.attr_types.specs.Expression.{expression_of}
+use Rattle.attr_rules.specs.Expression.{expression_of}
 use Rattle.equation_law.specs.declared.sites.Site.{Site as FoundSite}
 use Rattle.equation_law.specs.Equations.{Site}
 use Rattle.equation_law.specs.Names.{At, Source}

@@ -9,24 +9,24 @@ use Rattle.equation_law.specs.declared.values.NamedValue.{NamedValue}
 use Rattle.equation_law.specs.Names.{Instance}
 use Rattle.equation_law.specs.Values.{Value}
 use Rattle.equation_law.specs.Program.{Program}
-use Rattle.equation_law.specs.Equations.{equations_of}
+use Rattle.equation_law.specs.Equations.{equations_of, text_of}
 use Rattle.equation_law.specs.Named.{assigned, instance_of, value_in}
 
 -- what stands under the names
-abbrev pub standing : List NamedInstance → List (Option NamedValue) → Instance → Option Value
-standing names values = assigned (map instance_of names) (map (option_map value_in) values)
+abbrev pub standing : (ℕ → List ℕ) → List NamedInstance → List (Option NamedValue) → Instance → Option Value
+standing texts names values = assigned (map instance_of names) (map (option_map (value_in texts)) values)
 
 -- what stands stays, and the rest is what the equation comes to
-abbrev pub IsStep : Option NamedValue → Option NamedValue → Outcome Instance Value → Type 0
-IsStep (Some v) w o = w ≡ Some v
-IsStep None w o = option_map value_in w ≡ outcome_value o
+abbrev pub IsStep : (ℕ → List ℕ) → Option NamedValue → Option NamedValue → Outcome Instance Value → Type 0
+IsStep texts (Some v) w o = w ≡ Some v
+IsStep texts None w o = option_map (value_in texts) w ≡ outcome_value o
 
 abbrev pub name_at : List NamedInstance → ℕ → NamedInstance
 name_at names k = slice_index_or names k (named.Attribute (record { 0 = 0 }) 0)
 
 -- w is the k-th value after one more round
 abbrev pub IsStepAt : Program → List NamedInstance → List (Option NamedValue) → ℕ → Option NamedValue → Type 0
-IsStepAt p names values k w = IsStep (slice_index_or values k None) w (run (standing names values) ((equations_of p).equation (instance_of (name_at names k))))
+IsStepAt p names values k w = IsStep (text_of p) (slice_index_or values k None) w (run (standing (text_of p) names values) ((equations_of p).equation (instance_of (name_at names k))))
 
 -- each name's value after one more round
 pub record IsRound (p : Program) (names : List NamedInstance) (before after : List (Option NamedValue)) : Type 0 where
@@ -37,5 +37,5 @@ pub record IsAfter (p : Program) (names : List NamedInstance) (values : List (Op
   pub long : length values ≡ length names
   pub rounds : List ℕ
   pub whole : AreWhole (equations_of p) (map instance_of names) rounds
-  pub is : (i : Instance) → standing names values i ≡ outer_rounds (equations_of p) (map instance_of names) rounds i
-  pub even : (k : ℕ) → k < length names → option_map value_in (slice_index_or values k None) ≡ standing names values (instance_of (name_at names k))
+  pub is : (i : Instance) → standing (text_of p) names values i ≡ outer_rounds (equations_of p) (map instance_of names) rounds i
+  pub even : (k : ℕ) → k < length names → option_map (value_in (text_of p)) (slice_index_or values k None) ≡ standing (text_of p) names values (instance_of (name_at names k))

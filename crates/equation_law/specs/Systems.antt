@@ -1,13 +1,12 @@
 -- The program that a system keeps.
 use Rattle.std.specs.Prelude.{List, map}
-use Rattle.attr_types.specs.Expression.{Expression}
-use Rattle.attr_types.specs.Items.{rules_in}
-use Rattle.attr_types.specs.Queries.{query_of}
+use Rattle.attr_rules.specs.Kept.{rules_in}
+use Rattle.attr_rules.specs.Queries.{Query, query_of}
 use Rattle.equation_law.specs.declared.system.Queries.{Queries}
 use Rattle.equation_law.specs.declared.system.System.{System}
 use Rattle.equation_law.specs.Program.{Program}
 
-abbrev pub queries_in : Queries → List Expression
+abbrev pub queries_in : Queries → List Query
 queries_in q = map query_of q.list.items
 
 unfoldable pub program_of : System → Program

@@ -1,7 +1,7 @@
 -- Values. Each is read at a type, and a value of another type reads as the type's default.
 use Rattle.std.specs.Prelude.{ℕ, ℤ, pos, Bool, false, List, []}
-use Rattle.attr_types.specs.declared.kinds.Kind.{Kind}
-use Rattle.attr_types.specs.declared.kinds.Kind.TheVariants as kinds
+use Rattle.attr_rules.specs.declared.kinds.Kind.{Kind}
+use Rattle.attr_rules.specs.declared.kinds.Kind.TheVariants as kinds
 use Rattle.equation_law.specs.Names.{Reference, Null, node_cmp, text_cmp}
 use Rattle.equation_law.specs.Sets.{SetBy, no_elements}
 

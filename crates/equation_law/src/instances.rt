@@ -3,7 +3,7 @@ ghost use Rattle.std.specs.Prelude.{◌≡◌, ◌<◌, ◌^◌, IfOk, length};
 
 use crate::listing::{push_attributes, push_queries};
 use crate::system::System;
-use attr_types::AttrId;
+use attr_rules::AttrId;
 use rag_io::Memory;
 use std::alloc::Global;
 

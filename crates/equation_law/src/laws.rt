@@ -3,11 +3,11 @@ ghost use Rattle.std.specs.Prelude.{◌≡◌, ◌↔◌, ◌⊎◌, List, Optio
 ghost use Rattle.solutions.specs.Asking.{Ends, Halts, Meets};
 ghost use Rattle.solutions.specs.Rounds.{Equations, Graph, HasFinalValue, is_in};
 ghost use Rattle.solutions.specs.Leading.{Demanded};
-ghost use Rattle.equation_law.specs.Checked.{IsInstance, IsProgram};
+ghost use Rattle.equation_law.specs.Checked.{Fits, IsInstance, IsProgram, IsValue};
 ghost use Rattle.equation_law.specs.Names.{Instance, same_instance};
 ghost use Rattle.equation_law.specs.Values.{Value};
 ghost use Rattle.equation_law.specs.Program.{Program, source_instances};
-ghost use Rattle.equation_law.specs.Equations.{HasValue, equations_of};
+ghost use Rattle.equation_law.specs.Equations.{HasValue, equations_of, kind_in};
 ghost use Rattle.equation_law.specs.Loops.{Chain, HasLoop};
 
 /// One solution: two lists of instances that give an instance a value give it the same one.
@@ -48,6 +48,12 @@ pub fn reach_is_demanded()
 /// An instance of a program demands only instances of it.
 pub fn demands_instances()
     ensures { (p : Program) → IsProgram p → (i j : Instance) → IsInstance p i → (A : Instance → Option Value) → Meets (Graph A) ((equations_of p).equation i) j → IsInstance p j }
+{}
+
+/// Well typed equations have values of their types: where the values of an assignment are of their instances' types, an instance of a
+/// program whose equation ends has a value of its own type. It is stuck otherwise, at an instance that has no value.
+pub fn well_typed_values()
+    ensures { (p : Program) → IsProgram p → (i : Instance) → IsInstance p i → (A : Instance → Option Value) → Fits p A → (v : Value) (demands : List Instance) → Ends (Graph A) ((equations_of p).equation i) v demands → IsValue p (kind_in p i) v }
 {}
 
 /// The instances that are listed are those of the program.

@@ -8,7 +8,6 @@ mod instances;
 mod laws;
 mod listing;
 mod places;
-mod query_types;
 mod rounds;
 mod sites;
 mod system;
@@ -19,7 +18,7 @@ mod values;
 pub use instances::NameList;
 pub use laws::{
     demands_instances, ended_has_value, finished_rounds, listed_instances, loop_has_no_value,
-    one_solution, reach_is_demanded, stuck_has_none, value_or_loop,
+    one_solution, reach_is_demanded, stuck_has_none, value_or_loop, well_typed_values,
 };
 pub use rounds::{Table, plain_rounds};
 pub use system::{Queries, System};

@@ -2,7 +2,7 @@
 ghost use Rattle.std.specs.Prelude.{◌≡◌, ◌<◌, ◌≤◌, ◌+◌, ◌*◌, ◌++◌, OnOk, Some, length, map, slice_get};
 ghost use Rattle.std.specs.Option.{option_map};
 ghost use Rattle.ast_grammar.specs.Grammar.{is_sub, superclasses_of};
-ghost use Rattle.attr_types.specs.Rules.{most_attributes};
+ghost use Rattle.attr_rules.specs.Rules.{most_attributes};
 ghost use Rattle.equation_law.specs.Program.{attribute_instances, query_instances, nodes_of, at_source, most_replies};
 ghost use Rattle.tree_arena.specs.Nodes.{most_nodes};
 ghost use Rattle.equation_law.specs.Systems.{program_of};
@@ -12,7 +12,7 @@ use crate::growing::push;
 use crate::instances::NamedInstance;
 use crate::system::System;
 use ast_grammar::{ClassId, Grammar};
-use attr_types::AttrId;
+use attr_rules::AttrId;
 use rag_io::Memory;
 use tree_arena::Tree;
 

@@ -1,5 +1,5 @@
 // Where the instances of a list stand in it.
-ghost use Rattle.std.specs.Prelude.{◌≡◌, Some, None, IfOk, cond, map};
+ghost use Rattle.std.specs.Prelude.{◌≡◌, ℕ, List, Some, None, IfOk, cond, map};
 ghost use Rattle.std.specs.Option.{option_map};
 ghost use Rattle.solutions.specs.Rounds.{or_else};
 ghost use Rattle.equation_law.specs.Names.{Instance, same_instance};
@@ -38,7 +38,7 @@ fn keep_first(
 
 /// The value at a place, if there are such a place and a value.
 fn value_on(values: &[Option<NamedValue>], place: usize) -> Option<PlainValue>
-    ensures { option_map value_of result ≡ specs.value_on values.now place }
+    ensures { (texts : ℕ → List ℕ) → option_map (value_of texts) result ≡ specs.value_on texts values.now place }
 {
     match values.get(place) {
         Some(Some(held)) => Some(held.value),
@@ -65,7 +65,7 @@ impl Places {
         values: &[Option<NamedValue>],
         name: NamedInstance,
     ) -> Option<PlainValue>
-        ensures { option_map value_of result ≡ found self.now.map values.now (instance_of name) }
+        ensures { (texts : ℕ → List ℕ) → option_map (value_of texts) result ≡ found texts self.now.map values.now (instance_of name) }
     {
         let place = self.map.get(&name)?;
         value_on(values, *place)

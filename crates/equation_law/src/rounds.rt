@@ -1,8 +1,8 @@
 // The rounds of the model over a list of instances.
-ghost use Rattle.std.specs.Prelude.{◌≡◌, IfOk, MatchOption, Some, None, count_by, is_none, length, map, replicate};
+ghost use Rattle.std.specs.Prelude.{◌≡◌, ℕ, List, IfOk, MatchOption, Some, None, count_by, is_none, length, map, replicate};
 ghost use Rattle.solutions.specs.Asking.{run};
 ghost use Rattle.equation_law.specs.Names.{Instance};
-ghost use Rattle.equation_law.specs.Equations.{equations_of};
+ghost use Rattle.equation_law.specs.Equations.{equations_of, text_of};
 ghost use Rattle.equation_law.specs.Systems.{program_of};
 ghost use Rattle.equation_law.specs.Named.{instance_of, instances_in, value_in, value_at, Solves};
 ghost use Rattle.equation_law.specs.Places.{place_in, kept_place, found};
@@ -27,7 +27,7 @@ impl Table {
     /// The value of the k-th name, or None exactly where the rounds give that name no value or the list has no
     /// such name.
     pub fn value(&self, k: u32) -> Option<&NamedValue>
-        ensures { MatchOption result (value_at self.now k ≡ None) (λ v. value_at self.now k ≡ Some (value_in v.now)) }
+        ensures { (texts : ℕ → List ℕ) → MatchOption result (value_at texts self.now k ≡ None) (λ v. value_at texts self.now k ≡ Some (value_in texts v.now)) }
     {
         match self.values.get(k as usize) {
             Some(Some(value)) => Some(value),
@@ -44,7 +44,7 @@ fn stepped(
     name: NamedInstance,
     value: Option<NamedValue>,
 ) -> Option<NamedValue>
-    ensures { IsStep value result (run (found places.now.map values.now) ((equations_of (program_of system.now)).equation (instance_of name))) }
+    ensures { IsStep (text_of (program_of system.now)) value result (run (found (text_of (program_of system.now)) places.now.map values.now) ((equations_of (program_of system.now)).equation (instance_of name))) }
 {
     match value {
         Some(held) => Some(held),

@@ -3,9 +3,9 @@ ghost use Rattle.std.specs.Prelude.{◌≡◌};
 ghost use Rattle.std.specs.Option.{option_map};
 ghost use Rattle.solutions.specs.Asking.{run};
 ghost use Rattle.solutions.specs.Rounds.{value_of as outcome_value};
-ghost use Rattle.equation_law.specs.Program.{at_source};
+ghost use Rattle.equation_law.specs.Program.{at_source, class_of};
 ghost use Rattle.equation_law.specs.Names.{Query};
-ghost use Rattle.equation_law.specs.Equations.{equations_of, equation_of};
+ghost use Rattle.equation_law.specs.Equations.{equations_of, equation_of, text_of};
 ghost use Rattle.equation_law.specs.Systems.{program_of};
 ghost use Rattle.equation_law.specs.Named.{instance_of, value_in};
 ghost use Rattle.equation_law.specs.Places.{found};
@@ -14,10 +14,10 @@ ghost use Rattle.equation_law.specs.Sites.{IsSite};
 use crate::evaluation::{Context, attribute_kind, evaluate};
 use crate::instances::NamedInstance;
 use crate::places::Places;
-use crate::query_types::{class_at, expression_kind};
 use crate::system::System;
 use crate::values::{NamedValue, PlainValue};
-use attr_types::{AttrId, Kind, TExpr};
+use ast_grammar::ClassId;
+use attr_rules::{AttrId, Kind, TExpr};
 
 /// An equation as it is read: an expression of a type, and the source node at which it is read.
 #[derive(Clone, Copy)]
@@ -25,6 +25,18 @@ struct Site<'a> {
     body: &'a TExpr,
     kind: Kind,
     this: u32,
+}
+
+/// The class of a source node, if there is one of this number.
+fn class_at(system: &System, node: u32) -> Option<ClassId>
+    ensures { result ≡ class_of (program_of system.now) node }
+{
+    let tree = system.tree();
+    if node < tree.len() {
+        Some(tree.class_of(node))
+    } else {
+        None
+    }
 }
 
 /// The equation of an attribute at a node: that of the nearest class, from the node's class upwards, read at the node.
@@ -47,10 +59,10 @@ fn query_site(system: &System, query: u32) -> Option<Site<'_>>
     if query >= system.replies() {
         return None;
     }
-    let body = system.query(query).expression();
+    let query = system.query(query);
     Some(Site {
-        body,
-        kind: expression_kind(system, body).unwrap_or(Kind::Truth),
+        body: query.expression(),
+        kind: query.kind(),
         this: 0,
     })
 }
@@ -71,7 +83,7 @@ pub(crate) fn equation_value(
     values: &[Option<NamedValue>],
     name: NamedInstance,
 ) -> Option<NamedValue>
-    ensures { option_map value_in result ≡ outcome_value (run (found places.now.map values.now) ((equations_of (program_of system.now)).equation (instance_of name))) }
+    ensures { option_map (value_in (text_of (program_of system.now))) result ≡ outcome_value (run (found (text_of (program_of system.now)) places.now.map values.now) ((equations_of (program_of system.now)).equation (instance_of name))) }
 {
     match site_of(system, name) {
         None => Some(NamedValue {

@@ -1,11 +1,12 @@
 // A program as the code keeps it.
 ghost use Rattle.std.specs.Prelude.{◌≡◌, ◌<◌, ◌≤◌, Some, length, map, slice_get};
-ghost use Rattle.attr_types.specs.Items.{rules_in};
-ghost use Rattle.attr_types.specs.Queries.{query_of};
+ghost use Rattle.attr_rules.specs.Kept.{rules_in};
+ghost use Rattle.attr_rules.specs.Queries.{query_of};
+ghost use Rattle.rag_io.specs.Pool.{ArePooled};
 ghost use Rattle.equation_law.specs.Program.{most_replies};
 
 use ast_grammar::Grammar;
-use attr_types::{QueryEq, Rules};
+use attr_rules::{QueryEq, Rules};
 use rag_io::Pool;
 use tree_arena::Tree;
 
@@ -35,6 +36,7 @@ pub struct System {
     pool: Pool,
     queries: Queries,
     ghost few: { length queries.list.items ≤ most_replies },
+    ghost pooled: { ArePooled pool },
 }
 
 #[tactic(auto, unfolding(crate::specs::Systems::program_of))]
@@ -47,6 +49,8 @@ impl System {
         requires { length (queries_in queries) ≤ most_replies }
         ensures { program_of result ≡ record { grammar = grammar; rules = rules_in rules; tree = tree; texts = pool; queries = queries_in queries } }
     {
+        // Each pool has the empty text, as its first.
+        prove!(pool.len() > 0);
         System {
             grammar,
             rules,

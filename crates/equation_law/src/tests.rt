@@ -1,28 +1,21 @@
-ghost use Rattle.std.specs.Prelude.{◌≡◌, ◌≤◌, ◌+◌, [], ◌∷◌, ◌++◌, length, map, IfOk, OnOk};
-ghost use Rattle.rag_io.specs.Outside.{longest_file};
-ghost use Rattle.attr_types.specs.Expression.{Call, This, Token, expression_of};
-ghost use Rattle.attr_types.specs.Items.{item_of};
-ghost use Rattle.attr_types.specs.Rules.{AreItems};
-ghost use Rattle.tree_arena.specs.Kept.{node_of};
-ghost use Rattle.tree_arena.specs.Terms.{IsTree};
-ghost use Rattle.equation_law.specs.Program.{most_replies};
-
-mod subclasses;
+mod program;
+mod rounds;
 
 use super::*;
 use crate::evaluation::{Context, evaluate};
 use crate::instances::NamedInstance;
 use crate::places::Places;
 use crate::values::PlainValue;
-use ast_grammar::{ClassId, Grammar, read_ast};
-use attr_types::{AttrId, FirstEq, Kind, Name, Operator, QueryEq, Rules, TExpr};
-use rag_io::{Pool, scan};
+use attr_rules::{AttrId, Kind, Operator, TExpr};
+use program::{T, V, X, Y, system};
+use rag_io::Place;
 use std::alloc::{AllocFailed, Global};
 use std::process::Abort;
 use std::test::Fail;
-use tree_arena::{FirstNode, Tokens, Tree};
 
 type Failed = AllocFailed<TExpr>;
+
+const HERE: Place = Place { line: 1, column: 1 };
 
 fn truth(value: bool) -> TExpr {
     TExpr::Truth(value)
@@ -30,6 +23,14 @@ fn truth(value: bool) -> TExpr {
 
 fn int(value: i32) -> TExpr {
     TExpr::Int(value)
+}
+
+// A source node, or null.
+fn node(number: Option<u32>) -> TExpr {
+    match number {
+        Some(number) => TExpr::Source(number),
+        None => TExpr::Null,
+    }
 }
 
 fn not(alloc: Global, a: TExpr) -> Result<TExpr, Failed> {
@@ -58,164 +59,32 @@ fn or(alloc: Global, a: TExpr, b: TExpr) -> Result<TExpr, Failed> {
 fn choice(alloc: Global, condition: TExpr, a: TExpr, b: TExpr) -> Result<TExpr, Failed> {
     let condition = Box::new(alloc, condition)?;
     let a = Box::new(alloc, a)?;
-    Ok(TExpr::If(condition, a, Box::new(alloc, b)?))
+    Ok(TExpr::If(condition, a, HERE, Box::new(alloc, b)?))
 }
 
 fn child(alloc: Global, k: u32, receiver: TExpr) -> Result<TExpr, Failed> {
     Ok(TExpr::Child(k, Box::new(alloc, receiver)?))
 }
 
-fn token(alloc: Global, kind: Kind, k: u32, receiver: TExpr) -> Result<TExpr, Failed>
-    ensures { IfOk result (λ e. expression_of e ≡ Token kind k (expression_of receiver)) }
-{
+fn element(alloc: Global, k: u32, receiver: TExpr, place: TExpr) -> Result<TExpr, Failed> {
+    let receiver = Box::new(alloc, receiver)?;
+    Ok(TExpr::Element(k, receiver, Box::new(alloc, place)?))
+}
+
+fn count(alloc: Global, k: u32, receiver: TExpr) -> Result<TExpr, Failed> {
+    Ok(TExpr::Count(k, Box::new(alloc, receiver)?))
+}
+
+fn has(alloc: Global, k: u32, receiver: TExpr) -> Result<TExpr, Failed> {
+    Ok(TExpr::Has(k, Box::new(alloc, receiver)?))
+}
+
+fn token(alloc: Global, kind: Kind, k: u32, receiver: TExpr) -> Result<TExpr, Failed> {
     Ok(TExpr::Token(kind, k, Box::new(alloc, receiver)?))
 }
 
-fn call(alloc: Global, attribute: AttrId, receiver: TExpr) -> Result<TExpr, Failed>
-    ensures { IfOk result (λ e. expression_of e ≡ Call attribute.0 (expression_of receiver)) }
-{
-    Ok(TExpr::Call(attribute, Box::new(alloc, receiver)?))
-}
-
-// The attributes of the small program.
-const X: AttrId = AttrId(0);
-
-const Y: AttrId = AttrId(1);
-
-const S: AttrId = AttrId(2);
-
-const T: AttrId = AttrId(3);
-
-// Adds `syn KIND CLASS.NAME() = BODY;`.
-fn add_item(
-    list: &mut Vec<FirstEq>,
-    class: u16,
-    name: Name,
-    kind: Kind,
-    body: TExpr,
-) -> Result<(), Fail>
-    ensures { OnOk result (map item_of list.new.items ≡ map item_of list.old.items ++ record { class = record { 0 = class }; name = name; kind = kind; body = expression_of body } ∷ []) }
-{
-    let class = ClassId(class);
-    list.push(FirstEq {
-        class,
-        name,
-        kind,
-        body,
-    })?;
-    Ok(())
-}
-
-// Adds `syn KIND CLASS.NAME() = this.ATTRIBUTE();`.
-fn add_call(
-    alloc: Global,
-    list: &mut Vec<FirstEq>,
-    class: u16,
-    name: u8,
-    kind: Kind,
-    attribute: AttrId,
-) -> Result<(), Fail>
-    ensures { OnOk result (map item_of list.new.items ≡ map item_of list.old.items ++ record { class = record { 0 = class }; name = name ∷ []; kind = kind; body = Call attribute.0 This } ∷ []) }
-{
-    let body = call(alloc, attribute, TExpr::This)?;
-    let name = Name::of(vec![in alloc; name]?);
-    add_item(list, class, name, kind, body)
-}
-
-// `syn boolean P.x() = this.y()`, `syn boolean P.y() = this.x()`, `syn int L.s() = this.t()` and
-// `syn int L.t() = 7`.
-fn items(alloc: Global, grammar: &Grammar) -> Result<Vec<FirstEq>, Fail>
-    requires { length grammar.now ≡ 2 }
-    ensures { IfOk result (λ list. AreItems grammar.now (map item_of list.items)) }
-{
-    let _ = grammar;
-    let mut list = Vec::new(alloc);
-    add_call(alloc, &mut list, 0, b'x', Kind::Truth, Y)?;
-    add_call(alloc, &mut list, 0, b'y', Kind::Truth, X)?;
-    add_call(alloc, &mut list, 1, b's', Kind::Int, T)?;
-    let name = Name::of(vec![in alloc; b't']?);
-    add_item(&mut list, 1, name, Kind::Int, TExpr::Int(7))?;
-    Ok(list)
-}
-
-// Adds a node with two codes that hangs at the root.
-fn add_node(
-    alloc: Global,
-    list: &mut Vec<FirstNode>,
-    class: u16,
-    component: u32,
-    codes: (u32, u32),
-) -> Result<(), Fail>
-    ensures { OnOk result (map node_of list.new.items ≡ map node_of list.old.items ++ record { class = record { 0 = class }; parent = 0; component = component; tokens = codes.0 ∷ codes.1 ∷ [] } ∷ []) }
-{
-    let tokens = Tokens::of(vec![in alloc; codes.0, codes.1]?);
-    list.push(FirstNode {
-        class: ClassId(class),
-        parent: 0,
-        component,
-        tokens,
-    })?;
-    Ok(())
-}
-
-// The tree `P(L(-5, true), L(7, false))`.
-fn nodes(alloc: Global) -> Result<Vec<FirstNode>, Fail>
-    ensures { IfOk result (λ list. IsTree (map node_of list.items)) }
-{
-    let mut list = Vec::new(alloc);
-    add_node(alloc, &mut list, 0, 0, (0, 0))?;
-    add_node(alloc, &mut list, 1, 0, (4294967291, 1))?;
-    add_node(alloc, &mut list, 1, 1, (7, 0))?;
-    Ok(list)
-}
-
-// The grammar of these rules.
-fn grammar(alloc: Global, rules: &[u8]) -> Result<Grammar, Fail>
-    requires { length rules.now ≤ longest_file }
-{
-    let tokens = scan(alloc, rules)?;
-    Ok(read_ast(alloc, &tokens)?)
-}
-
-// The rules of the small program.
-fn rules(alloc: Global, grammar: &Grammar) -> Result<Rules, Fail> {
-    if grammar.classes() != 2 {
-        return Err("another grammar".into());
-    }
-    let items = items(alloc, grammar)?;
-    Ok(Rules::of_equations(alloc, grammar, items)?)
-}
-
-// Its tree.
-fn tree(alloc: Global) -> Result<Tree, Fail> {
-    let nodes = nodes(alloc)?;
-    Ok(Tree::of_nodes(alloc, nodes)?)
-}
-
-// The program of these parts.
-fn program(
-    alloc: Global,
-    grammar: Grammar,
-    rules: Rules,
-    tree: Tree,
-    queries: Vec<QueryEq>,
-) -> Result<System, Fail>
-    requires { length queries.items ≤ most_replies }
-{
-    let pool = Pool::new(alloc)?;
-    Ok(System::new(grammar, rules, tree, pool, Queries::new(queries)))
-}
-
-// The small program with these queries.
-fn system(alloc: Global, queries: Vec<QueryEq>) -> Result<System, Fail>
-    requires { length queries.items ≤ most_replies }
-{
-    let grammar = grammar(
-        alloc,
-        b"P ::= l:L r:L; L ::= <V:int> <B:boolean>;".as_slice(),
-    )?;
-    let rules = rules(alloc, &grammar)?;
-    program(alloc, grammar, rules, tree(alloc)?, queries)
+fn call(alloc: Global, attribute: AttrId, receiver: TExpr) -> Result<TExpr, Failed> {
+    Ok(TExpr::Call(attribute, HERE, Box::new(alloc, receiver)?))
 }
 
 // Checks what an expression comes to at a node, where no instance has a value yet.
@@ -249,8 +118,46 @@ fn check(
     check_at(rt, alloc, system, 0, expression, want)
 }
 
+fn check_truth(
+    rt: &impl Abort,
+    alloc: Global,
+    system: &System,
+    expression: TExpr,
+    want: bool,
+) -> Result<(), Fail> {
+    check(rt, alloc, system, expression, Ok(PlainValue::Truth(want)))
+}
+
+// A node, or null where there is none.
+fn check_node(
+    rt: &impl Abort,
+    alloc: Global,
+    system: &System,
+    expression: TExpr,
+    want: Option<u32>,
+) -> Result<(), Fail> {
+    let want = match want {
+        Some(number) => PlainValue::Node(number),
+        None => PlainValue::Null,
+    };
+    check(rt, alloc, system, expression, Ok(want))
+}
+
+// Checks whether two expressions are equal.
+fn check_same(
+    rt: &impl Abort,
+    alloc: Global,
+    system: &System,
+    left: TExpr,
+    right: TExpr,
+    want: bool,
+) -> Result<(), Fail> {
+    let e = binary(alloc, left, Operator::Equal, right)?;
+    check_truth(rt, alloc, system, e, want)
+}
+
 // The sides of an operator, and its value.
-const INTEGERS: [(i32, Operator, i32, i32); 5] = [
+const INTEGERS: &[(i32, Operator, i32, i32)] = &[
     (i32::MAX, Operator::Add, 1, i32::MIN),
     (-i32::MAX, Operator::Subtract, 2, i32::MAX),
     (10, Operator::Subtract, 3, 7),
@@ -258,7 +165,7 @@ const INTEGERS: [(i32, Operator, i32, i32); 5] = [
     (-7, Operator::Multiply, 6, -42),
 ];
 
-const COMPARISONS: [(i32, Operator, i32, bool); 11] = [
+const COMPARISONS: &[(i32, Operator, i32, bool)] = &[
     (i32::MIN, Operator::Less, i32::MAX, true),
     (i32::MAX, Operator::Less, i32::MIN, false),
     (2, Operator::Less, 2, false),
@@ -273,54 +180,103 @@ const COMPARISONS: [(i32, Operator, i32, bool); 11] = [
 ];
 
 // Two truth values, and whether both hold, one of them does, and they are the same.
-const TRUTHS: [(bool, bool, bool, bool, bool); 4] = [
+const TRUTHS: &[(bool, bool, bool, bool, bool)] = &[
     (false, false, false, false, true),
     (false, true, false, true, false),
     (true, false, false, true, false),
     (true, true, true, true, true),
 ];
 
-// A node, a component, and the child there.
-const CHILDREN: [(u32, u32, PlainValue); 6] = [
-    (0, 0, PlainValue::Node(1)),
-    (0, 1, PlainValue::Node(2)),
-    (0, 2, PlainValue::Null),
-    (1, 0, PlainValue::Null),
-    (2, 1, PlainValue::Null),
-    (3, 0, PlainValue::Null),
+// Two nodes, and whether they are equal.
+const NODES: &[(Option<u32>, Option<u32>, bool)] = &[
+    (Some(1), Some(1), true),
+    (Some(1), Some(2), false),
+    (Some(0), None, false),
+    (None, Some(0), false),
+    (None, None, true),
+];
+
+// The numbers of two texts, and whether they are equal. What is no number of a text counts as the empty one.
+const LITERALS: &[(u32, u32, bool)] = &[
+    (0, 0, true),
+    (1, 1, true),
+    (1, 2, false),
+    (0, 1, false),
+    (9, 0, true),
+    (0, 9, true),
+    (9, 1, false),
+];
+
+// A node, another one and a text, and whether the text of the first node is that of the second, and the text.
+const TOKEN_TEXTS: &[(u32, u32, u32, bool, bool)] = &[
+    (1, 3, 1, true, true),
+    (3, 2, 2, false, false),
+    (2, 1, 2, false, true),
+    (4, 2, 0, false, true),
+    (4, 4, 1, true, false),
+];
+
+// A node, a component, and the child there. The optional child at 2 is absent.
+const CHILDREN: &[(Option<u32>, u32, Option<u32>)] = &[
+    (Some(0), 0, Some(1)),
+    (Some(0), 1, Some(2)),
+    (Some(0), 2, None),
+    (Some(0), 4, None),
+    (Some(0), 5, None),
+    (Some(1), 0, None),
+    (Some(9), 0, None),
+    (None, 0, None),
+];
+
+// A node, the component of a list, a place in it, and the element there.
+const ELEMENTS: &[(Option<u32>, u32, i32, Option<u32>)] = &[
+    (Some(0), 3, 0, Some(3)),
+    (Some(0), 3, 1, Some(4)),
+    (Some(0), 3, 2, None),
+    (Some(0), 3, i32::MAX, None),
+    (Some(0), 3, -1, None),
+    (Some(0), 3, i32::MIN, None),
+    (Some(0), 4, 0, None),
+    (Some(9), 3, 0, None),
+    (None, 3, 0, None),
+];
+
+// A node, a component, and how many nodes hang there.
+const COUNTS: &[(Option<u32>, u32, i32)] = &[
+    (Some(0), 3, 2),
+    (Some(0), 4, 0),
+    (Some(0), 5, 0),
+    (Some(1), 3, 0),
+    (Some(9), 3, 0),
+    (None, 3, 0),
 ];
 
 // A node, a component, and the token there; a missing one is the type's default.
-const TOKENS: [(u32, Kind, u32, PlainValue); 7] = [
-    (1, Kind::Int, 0, PlainValue::Int(-5)),
-    (1, Kind::Truth, 1, PlainValue::Truth(true)),
-    (2, Kind::Int, 0, PlainValue::Int(7)),
-    (2, Kind::Truth, 1, PlainValue::Truth(false)),
-    (0, Kind::Int, 0, PlainValue::Int(0)),
-    (1, Kind::Int, 2, PlainValue::Int(0)),
-    (3, Kind::Truth, 0, PlainValue::Truth(false)),
+const TOKENS: &[(Option<u32>, Kind, u32, PlainValue)] = &[
+    (Some(1), Kind::Int, 0, PlainValue::Int(-5)),
+    (Some(1), Kind::Text, 1, PlainValue::Text(1)),
+    (Some(1), Kind::Truth, 2, PlainValue::Truth(true)),
+    (Some(2), Kind::Int, 0, PlainValue::Int(7)),
+    (Some(2), Kind::Text, 1, PlainValue::Text(2)),
+    (Some(2), Kind::Truth, 2, PlainValue::Truth(false)),
+    (Some(0), Kind::Int, 0, PlainValue::Int(0)),
+    (Some(1), Kind::Int, 3, PlainValue::Int(0)),
+    (Some(9), Kind::Text, 1, PlainValue::Text(0)),
+    (None, Kind::Int, 0, PlainValue::Int(0)),
+    (None, Kind::Text, 1, PlainValue::Text(0)),
+    (None, Kind::Truth, 2, PlainValue::Truth(false)),
 ];
 
 fn check_integers(rt: &impl Abort, alloc: Global, system: &System) -> Result<(), Fail> {
     for (a, operator, b, want) in INTEGERS {
-        let e = binary(alloc, int(a), operator, int(b))?;
-        check(rt, alloc, system, e, Ok(PlainValue::Int(want)))?;
+        let e = binary(alloc, int(*a), *operator, int(*b))?;
+        check(rt, alloc, system, e, Ok(PlainValue::Int(*want)))?;
     }
     for (a, want) in [(5, -5), (i32::MIN, i32::MIN)] {
         let e = negate(alloc, int(a))?;
         check(rt, alloc, system, e, Ok(PlainValue::Int(want)))?;
     }
     Ok(())
-}
-
-fn check_truth(
-    rt: &impl Abort,
-    alloc: Global,
-    system: &System,
-    expression: TExpr,
-    want: bool,
-) -> Result<(), Fail> {
-    check(rt, alloc, system, expression, Ok(PlainValue::Truth(want)))
 }
 
 // Checks the operators on two truth values.
@@ -334,8 +290,7 @@ fn check_operators(
     check_truth(rt, alloc, system, e, both)?;
     let e = or(alloc, truth(a), truth(b))?;
     check_truth(rt, alloc, system, e, either)?;
-    let e = binary(alloc, truth(a), Operator::Equal, truth(b))?;
-    check_truth(rt, alloc, system, e, same)?;
+    check_same(rt, alloc, system, truth(a), truth(b), same)?;
     let e = not(alloc, truth(a))?;
     check_truth(rt, alloc, system, e, !a)?;
     let e = choice(alloc, truth(a), truth(b), truth(!b))?;
@@ -344,26 +299,66 @@ fn check_operators(
 
 fn check_truths(rt: &impl Abort, alloc: Global, system: &System) -> Result<(), Fail> {
     for (a, operator, b, want) in COMPARISONS {
-        let e = binary(alloc, int(a), operator, int(b))?;
-        check_truth(rt, alloc, system, e, want)?;
+        let e = binary(alloc, int(*a), *operator, int(*b))?;
+        check_truth(rt, alloc, system, e, *want)?;
     }
     for row in TRUTHS {
-        check_operators(rt, alloc, system, row)?;
+        check_operators(rt, alloc, system, *row)?;
     }
     Ok(())
 }
 
-// Checks the accessors in an equation that is read at a node.
-fn check_accessors(rt: &impl Abort, alloc: Global, system: &System, this: u32) -> Result<(), Fail> {
-    let here = Ok(PlainValue::Node(this));
-    check_at(rt, alloc, system, this, TExpr::This, here)?;
+fn check_equality(rt: &impl Abort, alloc: Global, system: &System) -> Result<(), Fail> {
+    for (a, b, want) in NODES {
+        check_same(rt, alloc, system, node(*a), node(*b), *want)?;
+    }
+    for (a, b, want) in LITERALS {
+        let (left, right) = (TExpr::Text(*a), TExpr::Text(*b));
+        check_same(rt, alloc, system, left, right, *want)?;
+    }
+    for (a, b, text, same, spelled) in TOKEN_TEXTS {
+        let left = token(alloc, Kind::Text, 1, TExpr::Source(*a))?;
+        let right = token(alloc, Kind::Text, 1, TExpr::Source(*b))?;
+        check_same(rt, alloc, system, left, right, *same)?;
+        let left = token(alloc, Kind::Text, 1, TExpr::Source(*a))?;
+        check_same(rt, alloc, system, left, TExpr::Text(*text), *spelled)?;
+    }
+    Ok(())
+}
+
+// Checks what is read of lists.
+fn check_lists(rt: &impl Abort, alloc: Global, system: &System) -> Result<(), Fail> {
+    for (n, k, place, want) in ELEMENTS {
+        let e = element(alloc, *k, node(*n), int(*place))?;
+        check_node(rt, alloc, system, e, *want)?;
+    }
+    for (n, k, want) in COUNTS {
+        let e = count(alloc, *k, node(*n))?;
+        check(rt, alloc, system, e, Ok(PlainValue::Int(*want)))?;
+    }
+    Ok(())
+}
+
+// Checks the other accessors.
+fn check_accessors(rt: &impl Abort, alloc: Global, system: &System) -> Result<(), Fail> {
     for (n, k, want) in CHILDREN {
-        let e = child(alloc, k, TExpr::Source(n))?;
-        check_at(rt, alloc, system, this, e, Ok(want))?;
+        let e = child(alloc, *k, node(*n))?;
+        check_node(rt, alloc, system, e, *want)?;
+        let e = has(alloc, *k, node(*n))?;
+        check_truth(rt, alloc, system, e, want.is_some())?;
     }
     for (n, kind, k, want) in TOKENS {
-        let e = token(alloc, kind, k, TExpr::Source(n))?;
-        check_at(rt, alloc, system, this, e, Ok(want))?;
+        let e = token(alloc, *kind, *k, node(*n))?;
+        check(rt, alloc, system, e, Ok(*want))?;
+    }
+    Ok(())
+}
+
+// Checks an equation that is read at each node.
+fn check_this(rt: &impl Abort, alloc: Global, system: &System) -> Result<(), Fail> {
+    for this in 0..5 {
+        let here = Ok(PlainValue::Node(this));
+        check_at(rt, alloc, system, this, TExpr::This, here)?;
     }
     Ok(())
 }
@@ -393,26 +388,47 @@ fn check_stuck_operators(rt: &impl Abort, alloc: Global, system: &System) -> Res
     check(rt, alloc, system, e, X_FIRST)
 }
 
-// A choice whose other part is stuck, and a call and a child on null.
+// A choice whose other part is stuck, and accessors of which a part is stuck: also of null, since all parts come first.
 fn check_stuck_parts(rt: &impl Abort, alloc: Global, system: &System) -> Result<(), Fail> {
     let e = choice(alloc, truth(false), x(alloc)?, int(3))?;
     check(rt, alloc, system, e, Ok(PlainValue::Int(3)))?;
-    let null = child(alloc, 2, TExpr::Source(0))?;
-    let e = call(alloc, S, null)?;
-    check(rt, alloc, system, e, Ok(PlainValue::Int(0)))?;
-    let null = child(alloc, 2, TExpr::Source(0))?;
-    let e = child(alloc, 0, null)?;
-    check(rt, alloc, system, e, Ok(PlainValue::Null))
+    let e = element(alloc, 3, TExpr::Null, x(alloc)?)?;
+    check(rt, alloc, system, e, X_FIRST)?;
+    let y = call(alloc, Y, TExpr::Source(0))?;
+    let e = element(alloc, 3, x(alloc)?, y)?;
+    check(rt, alloc, system, e, X_FIRST)?;
+    let e = count(alloc, 3, x(alloc)?)?;
+    check(rt, alloc, system, e, X_FIRST)?;
+    let e = has(alloc, 1, x(alloc)?)?;
+    check(rt, alloc, system, e, X_FIRST)
+}
+
+// Calls on null and on an absent child, which demand nothing.
+fn check_calls_on_null(rt: &impl Abort, alloc: Global, system: &System) -> Result<(), Fail> {
+    for (attribute, want) in [
+        (X, PlainValue::Truth(false)),
+        (V, PlainValue::Int(0)),
+        (T, PlainValue::Text(0)),
+    ] {
+        let e = call(alloc, attribute, TExpr::Null)?;
+        check(rt, alloc, system, e, Ok(want))?;
+        let absent = child(alloc, 2, TExpr::Source(0))?;
+        let e = call(alloc, attribute, absent)?;
+        check(rt, alloc, system, e, Ok(want))?;
+    }
+    Ok(())
 }
 
 fn check_expressions(rt: &impl Abort, alloc: Global, system: &System) -> Result<(), Fail> {
     check_integers(rt, alloc, system)?;
     check_truths(rt, alloc, system)?;
-    for this in 0..3 {
-        check_accessors(rt, alloc, system, this)?;
-    }
+    check_equality(rt, alloc, system)?;
+    check_lists(rt, alloc, system)?;
+    check_accessors(rt, alloc, system)?;
+    check_this(rt, alloc, system)?;
     check_stuck_operators(rt, alloc, system)?;
-    check_stuck_parts(rt, alloc, system)
+    check_stuck_parts(rt, alloc, system)?;
+    check_calls_on_null(rt, alloc, system)
 }
 
 // One test, since each that owns a system takes a while to prove.
@@ -423,99 +439,25 @@ fn expressions_have_values(rt: HostRuntime) -> Result<(), Fail> {
     check_expressions(&rt, alloc, &system)
 }
 
-fn query(list: &mut Vec<QueryEq>, expression: TExpr) -> Result<(), Fail>
-    ensures { length list.new.items ≤ length list.old.items + 1 }
-{
-    list.push(QueryEq::of(expression))?;
-    Ok(())
-}
-
-// `this`, `@2.s()`, `@0.getl().s()` and `-@1.getV() + @2.getV()`.
-fn push_first(alloc: Global, list: &mut Vec<QueryEq>) -> Result<(), Fail>
-    ensures { length list.new.items ≤ length list.old.items + 4 }
-{
-    query(list, TExpr::This)?;
-    query(list, call(alloc, S, TExpr::Source(2))?)?;
-    let left = child(alloc, 0, TExpr::Source(0))?;
-    query(list, call(alloc, S, left)?)?;
-    let first = negate(alloc, token(alloc, Kind::Int, 0, TExpr::Source(1))?)?;
-    let second = token(alloc, Kind::Int, 0, TExpr::Source(2))?;
-    query(list, binary(alloc, first, Operator::Add, second)?)
-}
-
-// `true || @0.x()`, `false && @0.x()`, `false || @0.x()`, `@0.x() || true` and `@0.y()`.
-fn push_last(alloc: Global, list: &mut Vec<QueryEq>) -> Result<(), Fail>
-    ensures { length list.new.items ≤ length list.old.items + 5 }
-{
-    query(list, or(alloc, truth(true), x(alloc)?)?)?;
-    query(list, and(alloc, truth(false), x(alloc)?)?)?;
-    query(list, or(alloc, truth(false), x(alloc)?)?)?;
-    query(list, or(alloc, x(alloc)?, truth(true))?)?;
-    query(list, call(alloc, Y, TExpr::Source(0))?)
-}
-
-fn queries(alloc: Global) -> Result<Vec<QueryEq>, Fail>
-    ensures { IfOk result (λ list. length list.items ≤ 9) }
-{
-    let mut list = Vec::new(alloc);
-    push_first(alloc, &mut list)?;
-    push_last(alloc, &mut list)?;
-    Ok(list)
-}
-
-// The values of `x` and `y` at the root, of `s` and of `t` at both its children, and of the queries.
-const VALUES: [Option<PlainValue>; 15] = [
-    None,
-    None,
-    Some(PlainValue::Int(7)),
-    Some(PlainValue::Int(7)),
-    Some(PlainValue::Int(7)),
-    Some(PlainValue::Int(7)),
-    Some(PlainValue::Node(0)),
-    Some(PlainValue::Int(7)),
-    Some(PlainValue::Int(7)),
-    Some(PlainValue::Int(12)),
-    Some(PlainValue::Truth(true)),
-    Some(PlainValue::Truth(false)),
-    None,
-    None,
-    None,
-];
-
-fn check_table(rt: &impl Abort, table: &Table) {
-    for (k, want) in VALUES.iter().enumerate() {
-        let value = table.value(k as u32);
-        assert_eq!(rt; value.map(|v| v.value), *want, "name {k}");
-    }
-    assert!(rt; table.value(15).is_none());
-}
-
-fn check_rounds(rt: &impl Abort, alloc: Global, system: &System) -> Result<(), Fail> {
-    let names = NameList::of_source(alloc, system)?;
-    assert_eq!(rt; names.len(), 15);
-    let table = plain_rounds(alloc, system, &names)?;
-    check_table(rt, &table);
-    Ok(())
-}
-
-#[test]
-fn rounds_give_values(rt: HostRuntime) -> Result<(), Fail> {
-    let alloc = rt.alloc();
-    let system = system(alloc, queries(alloc)?)?;
-    check_rounds(&rt, alloc, &system)
-}
-
 #[test]
 fn values_are_told_apart(rt: HostRuntime) {
-    for (value, truth, int, node) in [
-        (PlainValue::Truth(true), Some(true), None, None),
-        (PlainValue::Int(3), None, Some(3), None),
-        (PlainValue::Null, None, None, Some(NodeName::Null)),
-        (PlainValue::Node(2), None, None, Some(NodeName::Source(2))),
+    for (value, truth, int, text, node) in [
+        (PlainValue::Truth(true), Some(true), None, None, None),
+        (PlainValue::Int(3), None, Some(3), None, None),
+        (PlainValue::Text(2), None, None, Some(2), None),
+        (PlainValue::Null, None, None, None, Some(NodeName::Null)),
+        (
+            PlainValue::Node(2),
+            None,
+            None,
+            None,
+            Some(NodeName::Source(2)),
+        ),
     ] {
         let value = NamedValue { value };
         assert_eq!(rt; value.truth(), truth);
         assert_eq!(rt; value.int(), int);
+        assert_eq!(rt; value.text(), text);
         assert_eq!(rt; value.node(), node);
     }
 }

@@ -1,7 +1,7 @@
 use Rattle.std.proofs.Common.{◌≡◌, arith, map, Some, slice_get, List, ◌++◌, ap, subst, ◌∙◌}
 use Rattle.std.specs.Option.{option_map}
 use Rattle.ast_grammar.specs.Grammar.{Class, superclasses_of}
-use Rattle.attr_types.specs.Rules.{RuleSet, Attribute}
+use Rattle.attr_rules.specs.Rules.{RuleSet, Attribute}
 use Rattle.tree_arena.specs.Nodes.{Node}
 use Rattle.equation_law.specs.Named.{instance_of}
 use Rattle.equation_law.specs.Names.{Instance}

@@ -1,6 +1,8 @@
+use Rattle.equation_law.specs.Equations.{text_of}
 use Rattle.equation_law.specs.Named.{instance_of}
 use Rattle.equation_law.specs.Systems.{program_of}
 use Rattle.equation_law.proofs.Found.{equation_done, equation_none, equation_stuck}
+use Rattle.equation_law.proofs.Pooled.{first_text}
 use Rattle.equation_law.proofs.sites.equation_value.Goals as goal
 
 pub returns-in-None : goal.returns-in-None
@@ -12,4 +14,4 @@ returns-in-Err c =
 
 pub returns-in-Ok : goal.returns-in-Ok
 returns-in-Ok c =
-    equation_done (program_of c.args.system.now) _ (instance_of c.args.name) _ _ _ c.in-Some.ensures c.in-Ok.ensures c.read_as.ensures
+    equation_done (program_of c.args.system.now) _ (instance_of c.args.name) _ _ _ c.in-Some.ensures c.in-Ok.ensures (c.read_as.ensures (text_of (program_of c.args.system.now)) (first_text c.args.system.now))

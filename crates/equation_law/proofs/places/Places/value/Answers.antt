@@ -5,5 +5,5 @@ use Rattle.equation_law.proofs.Keys.{by_name}
 use Rattle.equation_law.proofs.places.Places.value.Goals as goal
 
 pub returns : goal.returns
-returns c =
-    c.value_on.ensures ∙ ap (option_and_then (value_on c.args.values.now)) (c.in_ok-place.ensures.value ∙ by_name c.args.self.now.map c.args.name)
+returns c = λ texts.
+    c.value_on.ensures texts ∙ ap (option_and_then (value_on texts c.args.values.now)) (c.in_ok-place.ensures.value ∙ by_name c.args.self.now.map c.args.name)
