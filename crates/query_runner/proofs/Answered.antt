@@ -1,24 +1,23 @@
 -- What the table of a program that was read has for each query.
 use Rattle.std.proofs.Common.{length-append, ◌≡◌, ℕ, zero, suc, ◌+◌, ◌<◌, List, [], ◌∷◌, ◌++◌, length, Option, Some, None, refl, sym, ap, subst, ◌∙◌, arith, slice_get}
 use Rattle.ast_grammar.specs.Grammar.{superclasses_of}
-use Rattle.attr_types.specs.declared.kinds.Kind.{Kind}
-use Rattle.attr_types.specs.declared.kinds.Kind.TheVariants as kinds
-use Rattle.attr_types.specs.Expression.{Expression}
+use Rattle.attr_rules.specs.declared.kinds.Kind.{Kind}
+use Rattle.attr_rules.specs.Queries.{Query as Asked}
 use Rattle.equation_law.specs.declared.rounds.Table.{Table}
-use Rattle.equation_law.specs.Checked.{IsProgram, of_query}
-use Rattle.equation_law.specs.Names.{Query}
+use Rattle.equation_law.specs.Checked.{IsProgram, IsValue, int, node, of_query, text, truth}
+use Rattle.equation_law.specs.Equations.{text_of}
+use Rattle.equation_law.specs.Names.{Instance, Query}
 use Rattle.equation_law.specs.Values.{Value}
 use Rattle.equation_law.specs.Program.{Program, attribute_instances, query_instances, source_instances}
-use Rattle.equation_law.specs.Named.{IsNoInt, IsNoNode, IsNoTruth, Solves, assigned, value_at, values_in}
+use Rattle.equation_law.specs.Named.{Solves, assigned, value_at, values_in}
 use Rattle.equation_law.proofs.Deciding.{has_demands}
 use Rattle.equation_law.proofs.Ended.{left_value, left_has_loop}
 use Rattle.equation_law.proofs.Listed.{is_listed}
 use Rattle.equation_law.proofs.QueryValues.{query_typed}
-use Rattle.equation_law.proofs.Typed.{IsOf}
 use Rattle.query_runner.specs.Replies.{IsPlain, IsReply, valued, circular}
 
 -- a query is where its number says
-query_at : (n q : ℕ) (es : List Expression) → q < length es → slice_get (query_instances es n) q ≡ Some (Query (n + q))
+query_at : (n q : ℕ) (es : List Asked) → q < length es → slice_get (query_instances es n) q ≡ Some (Query (n + q))
 query_at n q [] h = absurd (omega arith)
 query_at n zero (e ∷ es) h = let at : n ≡ n + 0 = omega arith in ap (λ j. Some (Query j)) at
 query_at n (suc q) (e ∷ es) h = let at : suc n + q ≡ n + suc q = omega arith in query_at (suc n) q es (omega arith) ∙ ap (λ j. Some (Query j)) at
@@ -31,7 +30,7 @@ slice_get-behind (x ∷ xs) ys k = let e : length (x ∷ xs) + k ≡ suc (length
 abbrev pub attributes_before : Program → ℕ
 attributes_before p = length (attribute_instances (superclasses_of p.grammar) p.rules.attributes 0 p.tree)
 
-length-queries : (n : ℕ) (es : List Expression) → length (query_instances es n) ≡ length es
+length-queries : (n : ℕ) (es : List Asked) → length (query_instances es n) ≡ length es
 length-queries n [] = refl
 length-queries n (e ∷ es) = let r = length-queries (suc n) es in omega arith
 
@@ -49,23 +48,27 @@ there_is [] k h = absurd (omega (arith, h))
 there_is (x ∷ xs) zero h = (x, refl)
 there_is (x ∷ xs) (suc k) h = there_is xs k (omega (arith, h))
 
--- a truth value, an integer or a node
-plain : (p : Program) (k : Kind) (v : Value) → IsOf p k v → IsPlain v
-plain p kinds.Truth v h = λ no_truth no_int no_node. subst IsNoTruth h.1 no_truth
-plain p kinds.Int v h = λ no_truth no_int no_node. subst IsNoInt h.1 no_int
-plain p kinds.Text v h = absurd h
-plain p (kinds.Node c) v h = λ no_truth no_int no_node. subst IsNoNode h.1 no_node
-plain p kinds.Texts v h = absurd h
-plain p (kinds.Nodes c) v h = absurd h
+-- a truth value, an integer, a text or a node
+plain : (p : Program) (k : Kind) (v : Value) → IsValue p k v → IsPlain v
+plain p k v (truth b) = λ no_truth no_int no_text no_node. absurd no_truth
+plain p k v (int z fits) = λ no_truth no_int no_text no_node. absurd no_int
+plain p k v (text t there) = λ no_truth no_int no_text no_node. absurd no_text
+plain p k v (node c r is) = λ no_truth no_int no_text no_node. absurd no_node
 
 module _ (p : Program) (good : IsProgram p) where
   -- the table has the value of a query, and none where the query has a loop
-  pub answered : (t : Table) → Solves p (source_instances p) t → (q : ℕ) → q < length p.queries → IsReply p q (value_at t (attributes_before p + q))
+  pub answered : (t : Table) → Solves p (source_instances p) t → (q : ℕ) → q < length p.queries → IsReply p q (value_at (text_of p) t (attributes_before p + q))
   answered t s q h =
-      let A = assigned (source_instances p) (values_in t) in
-      let at : value_at t (attributes_before p + q) ≡ A (Query q) = s.each (attributes_before p + q) (Query q) (query_listed p q h) in
+      let at : value_at (text_of p) t (attributes_before p + q) ≡ A (Query q) = s.each (attributes_before p + q) (Query q) (query_listed p q h) in
       subst (IsReply p q) (sym at) (reply (A (Query q)) refl)
     where
-      reply : (o : Option Value) → assigned (source_instances p) (values_in t) (Query q) ≡ o → IsReply p q o
-      reply (Some v) e = valued (left_value p (source_instances p) (assigned (source_instances p) (values_in t)) s.end (Query q) v e) (let there = there_is p.queries q h in let value = left_value p (source_instances p) (assigned (source_instances p) (values_in t)) s.end (Query q) v e in let typed = query_typed p good q there.0 v there.1 value in plain p typed.0 v typed.1)
-      reply None e = circular (left_has_loop p (source_instances p) (assigned (source_instances p) (values_in t)) s.end (has_demands p good (assigned (source_instances p) (values_in t))) (Query q) (is_listed p (Query q) (of_query (there_is p.queries q h).0 (there_is p.queries q h).1)) e)
+      A : Instance → Option Value
+      A = assigned (source_instances p) (values_in (text_of p) t)
+
+      reply : (o : Option Value) → A (Query q) ≡ o → IsReply p q o
+      reply (Some v) e =
+          let there = there_is p.queries q h in
+          let value = left_value p (source_instances p) A s.end (Query q) v e in
+          valued value (plain p there.0.kind v (query_typed p good q there.0 v there.1 value))
+      reply None e =
+          circular (left_has_loop p (source_instances p) A s.end (has_demands p good A) (Query q) (is_listed p (Query q) (of_query (there_is p.queries q h).0 (there_is p.queries q h).1)) e)

@@ -3,16 +3,18 @@ use Rattle.std.proofs.Common.{◌≡◌, ℕ, List, ◌++◌, length, Some, None
 use Rattle.rag_io.specs.Outside.{Named, IsLong, IsShort}
 use Rattle.broken_rules.specs.declared.broken.Broken.{Broken}
 use Rattle.ast_grammar.specs.Grammar.{Class}
+use Rattle.attr_types.specs.Phases.{rules_of}
+use Rattle.jrag_reader.specs.Items.{Item as AspectItem}
 use Rattle.tree_arena.specs.Terms.{Forest}
 use Rattle.tree_arena.proofs.AccessorsOnce.{one_term}
 use Rattle.tree_arena.proofs.AccessorsTrees.{term_alone}
 use Rattle.tree_writer.specs.Canonical.{canonical}
 use Rattle.equation_law.specs.Program.{Program}
 use Rattle.query_runner.specs.Files as files
-use Rattle.query_runner.specs.Files.{Contents, File, IsBroken, IsNotBuilt, IsTreeBroken, SaysProgram, SaysText, TreeContents, no_items, no_queries}
-use Rattle.query_runner.specs.Output.{Answers, AreReplies, HoldsAll, HoldsShort, HoldsTree, IsFirstLong, IsRefused, Output, TreeOutput, broken, broken_line, broken_tree, files_of, here, in_order, later, misused, name_of, not_built, printed, refused, replied, too_long, tree_in_order, tree_name_of}
-use Rattle.query_runner.specs.Words.{Command, FileNames, PrintTree, Run, TreeNames, command_of}
-use Rattle.query_runner.proofs.OneReading.{aspects_or_break, both_rules, both_texts, both_trees, breaks_there, broken_there, items_there, nodes_there, queries_there, reads_or_breaks, same_aspects_broken, same_broken, same_grammar, same_program, same_tree_broken, says_or_breaks}
+use Rattle.query_runner.specs.Files.{PairContents, Contents, File, IsBroken, IsCheckBroken, IsCheckNotBuilt, IsNotBuilt, IsTreeBroken, SaysCounts, SaysProgram, SaysText, counts_of, forms, no_queries}
+use Rattle.query_runner.specs.Output.{Answers, AreReplies, CheckOutput, HoldsAll, HoldsPair, HoldsShort, IsFirstLong, IsRefused, Output, TreeOutput, broken, broken_check, broken_line, broken_tree, pair_in_order, pair_name_of, check_not_built, counted, files_of, here, in_order, later, misused, name_of, not_built, printed, refused, replied, too_long}
+use Rattle.query_runner.specs.Words.{Check, PairNames, Command, FileNames, PrintTree, Run, command_of}
+use Rattle.query_runner.proofs.OneReading.{accepted_or_refused, accepted_there, aspects_or_break, both_rules, both_texts, both_trees, breaks_there, broken_there, built_or_not, nodes_there, one_refusal, queries_there, reads_or_breaks, refused_there, same_aspects, same_aspects_broken, same_broken, same_grammar, same_program, same_tree_broken, says_or_breaks, unbuilt_there}
 use Rattle.query_runner.proofs.OneReply.{one_replies}
 
 -- a file is held once
@@ -30,15 +32,15 @@ same_contents : {files : List Named} {names : FileNames} {c d : Contents} → Ho
 unfolding contents
 same_contents {c = c} {d = d} a b = same_files (same_bytes a.ast b.ast) (same_bytes a.jrag b.jrag) (same_bytes a.tree b.tree) (same_bytes a.queries b.queries)
 
-pair : List ℕ → List ℕ → TreeContents
-pair a t = record { ast = a; tree = t }
+pair : List ℕ → List ℕ → PairContents
+pair a t = record { ast = a; other = t }
 
 same_pair : {a b s t : List ℕ} → a ≡ b → s ≡ t → pair a s ≡ pair b t
 same_pair a b = cc
 
-same_both : {files : List Named} {names : TreeNames} {c d : TreeContents} → HoldsTree files names c → HoldsTree files names d → c ≡ d
+same_both : {files : List Named} {names : PairNames} {c d : PairContents} → HoldsPair files names c → HoldsPair files names d → c ≡ d
 unfolding pair
-same_both a b = same_pair (same_bytes a.ast b.ast) (same_bytes a.tree b.tree)
+same_both a b = same_pair (same_bytes a.ast b.ast) (same_bytes a.other b.other)
 
 long_or_short : {files : List Named} {name : List ℕ} → IsLong files name → IsShort files name → ⊥
 long_or_short l s =
@@ -63,53 +65,95 @@ not_long h (later s (later t (here l))) = long_or_short l (as_short h.tree)
 not_long h (later s (later t (later u (here l)))) = long_or_short l (as_short h.queries)
 not_long h (later s (later t (later u (later v l)))) = elim l [ ]
 
-not_long_both : {files : List Named} {names : TreeNames} {c : TreeContents} {name : List ℕ} → HoldsTree files names c → IsFirstLong files (tree_in_order names) name → ⊥
+not_long_both : {files : List Named} {names : PairNames} {c : PairContents} {name : List ℕ} → HoldsPair files names c → IsFirstLong files (pair_in_order names) name → ⊥
 not_long_both h (here l) = long_or_short l (as_short h.ast)
-not_long_both h (later s (here l)) = long_or_short l (as_short h.tree)
+not_long_both h (later s (here l)) = long_or_short l (as_short h.other)
 not_long_both h (later s (later t l)) = elim l [ ]
 
 -- a file that isn't built says nothing, and no other file is refused before it
 module _ (held : Contents) where
   one_file : {f g : File} → IsNotBuilt held f → IsNotBuilt held g → f ≡ g
-  one_file (no_items g i a) (no_items h j b) = refl
-  one_file (no_items g i a) (no_queries h j s t b) = absurd (a _ (items_there held g h i j s))
-  one_file (no_queries g i s t a) (no_items h j b) = absurd (b _ (items_there held h g j i s))
+  one_file (forms g i a) (forms h j b) = refl
+  one_file (forms g i a) (no_queries h j s t b) = let u = accepted_there g h i j s in absurd (built_or_not u.built a)
+  one_file (no_queries g i s t a) (forms h j b) = let u = accepted_there h g j i s in absurd (built_or_not u.built b)
   one_file (no_queries g i s t a) (no_queries h j r u b) = refl
 
   -- one file breaks a rule first, and one rule
   one_breaking : {f g : File} {b c : Broken} → IsBroken held f b → IsBroken held g c → (f ≡ g) × (b ≡ c)
   one_breaking (files.IsBroken.grammar a) (files.IsBroken.grammar b) = (refl, same_broken a b)
   one_breaking (files.IsBroken.grammar a) (files.IsBroken.aspects g b) = absurd (says_or_breaks g a)
+  one_breaking (files.IsBroken.grammar a) (files.IsBroken.checked g i b) = absurd (says_or_breaks g a)
   one_breaking (files.IsBroken.grammar a) (files.IsBroken.tree g i s b) = absurd (says_or_breaks g a)
   one_breaking (files.IsBroken.aspects g a) (files.IsBroken.grammar b) = absurd (says_or_breaks g b)
   one_breaking (files.IsBroken.aspects g a) (files.IsBroken.aspects h b) = (refl, same_aspects_broken a b)
+  one_breaking (files.IsBroken.aspects g a) (files.IsBroken.checked h i b) = absurd (aspects_or_break i a)
   one_breaking (files.IsBroken.aspects g a) (files.IsBroken.tree h i s b) = absurd (aspects_or_break i a)
+  one_breaking (files.IsBroken.checked g i a) (files.IsBroken.grammar b) = absurd (says_or_breaks g b)
+  one_breaking (files.IsBroken.checked g i a) (files.IsBroken.aspects h b) = absurd (aspects_or_break i b)
+  one_breaking (files.IsBroken.checked g i a) (files.IsBroken.checked h j b) = (refl, one_refusal a (refused_there g h i j b))
+  one_breaking (files.IsBroken.checked g i a) (files.IsBroken.tree h j s b) = absurd (accepted_or_refused (accepted_there g h i j s) a)
   one_breaking (files.IsBroken.tree g i s a) (files.IsBroken.grammar b) = absurd (says_or_breaks g b)
   one_breaking (files.IsBroken.tree g i s a) (files.IsBroken.aspects h b) = absurd (aspects_or_break i b)
-  one_breaking (files.IsBroken.tree g i s a) (files.IsBroken.tree h j r b) = (refl, same_tree_broken a (broken_there held g h i j b))
+  one_breaking (files.IsBroken.tree g i s a) (files.IsBroken.checked h j b) = absurd (accepted_or_refused s (refused_there g h i j b))
+  one_breaking (files.IsBroken.tree g i s a) (files.IsBroken.tree h j r b) = (refl, same_tree_broken a (broken_there g h i j b))
 
   breaks_or_refuses : {f g : File} {b : Broken} → IsBroken held f b → IsNotBuilt held g → ⊥
-  breaks_or_refuses (files.IsBroken.grammar a) (no_items g i never) = says_or_breaks g a
+  breaks_or_refuses (files.IsBroken.grammar a) (forms g i never) = says_or_breaks g a
   breaks_or_refuses (files.IsBroken.grammar a) (no_queries g i s t never) = says_or_breaks g a
-  breaks_or_refuses (files.IsBroken.aspects g a) (no_items h i never) = aspects_or_break i a
+  breaks_or_refuses (files.IsBroken.aspects g a) (forms h i never) = aspects_or_break i a
   breaks_or_refuses (files.IsBroken.aspects g a) (no_queries h i s t never) = aspects_or_break i a
-  breaks_or_refuses (files.IsBroken.tree g i s a) (no_items h j never) = never _ (items_there held h g j i s)
-  breaks_or_refuses (files.IsBroken.tree g i s a) (no_queries h j r t never) = reads_or_breaks t (broken_there held h g j i a)
+  breaks_or_refuses (files.IsBroken.checked g i a) (forms h j never) = built_or_not a.built (unbuilt_there g h i j never)
+  breaks_or_refuses (files.IsBroken.checked g i a) (no_queries h j s t never) = accepted_or_refused (accepted_there g h i j s) a
+  breaks_or_refuses (files.IsBroken.tree g i s a) (forms h j never) = built_or_not s.built (unbuilt_there g h i j never)
+  breaks_or_refuses (files.IsBroken.tree g i s a) (no_queries h j r t never) = reads_or_breaks t (broken_there h g j i a)
 
   module _ (p : Program) (a : SaysProgram held p) where
     says_or_refuses : {f : File} → IsNotBuilt held f → ⊥
-    says_or_refuses (no_items g i never) = never _ (items_there held g a.grammar i a.aspects a.evaluated)
+    says_or_refuses (forms g i never) = built_or_not a.accepted.built (unbuilt_there a.grammar g a.aspects i never)
     says_or_refuses (no_queries g i s t never) =
-        let rules = both_rules held g a.grammar i a.aspects s a.evaluated ∙ sym a.rules in
-        never _ (queries_there (same_grammar g a.grammar) rules (nodes_there held g a.grammar i a.aspects t a.tree) a.queries)
+        let rules = both_rules g a.grammar i a.aspects ∙ sym a.rules in
+        never _ (queries_there (same_grammar g a.grammar) rules (nodes_there g a.grammar i a.aspects t a.tree) a.queries)
 
     program_or_broken : {f : File} {b : Broken} → IsBroken held f b → ⊥
     program_or_broken (files.IsBroken.grammar b) = says_or_breaks a.grammar b
     program_or_broken (files.IsBroken.aspects g b) = aspects_or_break a.aspects b
-    program_or_broken (files.IsBroken.tree g i s b) = reads_or_breaks a.tree (broken_there held a.grammar g a.aspects i b)
+    program_or_broken (files.IsBroken.checked g i b) = accepted_or_refused a.accepted (refused_there a.grammar g a.aspects i b)
+    program_or_broken (files.IsBroken.tree g i s b) = reads_or_breaks a.tree (broken_there a.grammar g a.aspects i b)
+
+-- the same of a grammar and aspects alone
+module _ (held : PairContents) where
+  one_check_breaking : {f g : File} {b c : Broken} → IsCheckBroken held f b → IsCheckBroken held g c → (f ≡ g) × (b ≡ c)
+  one_check_breaking (files.IsCheckBroken.grammar a) (files.IsCheckBroken.grammar b) = (refl, same_broken a b)
+  one_check_breaking (files.IsCheckBroken.grammar a) (files.IsCheckBroken.aspects g b) = absurd (says_or_breaks g a)
+  one_check_breaking (files.IsCheckBroken.grammar a) (files.IsCheckBroken.checked g i b) = absurd (says_or_breaks g a)
+  one_check_breaking (files.IsCheckBroken.aspects g a) (files.IsCheckBroken.grammar b) = absurd (says_or_breaks g b)
+  one_check_breaking (files.IsCheckBroken.aspects g a) (files.IsCheckBroken.aspects h b) = (refl, same_aspects_broken a b)
+  one_check_breaking (files.IsCheckBroken.aspects g a) (files.IsCheckBroken.checked h i b) = absurd (aspects_or_break i a)
+  one_check_breaking (files.IsCheckBroken.checked g i a) (files.IsCheckBroken.grammar b) = absurd (says_or_breaks g b)
+  one_check_breaking (files.IsCheckBroken.checked g i a) (files.IsCheckBroken.aspects h b) = absurd (aspects_or_break i b)
+  one_check_breaking (files.IsCheckBroken.checked g i a) (files.IsCheckBroken.checked h j b) = (refl, one_refusal a (refused_there g h i j b))
+
+  check_breaks_or_refuses : {f g : File} {b : Broken} → IsCheckBroken held f b → IsCheckNotBuilt held g → ⊥
+  check_breaks_or_refuses (files.IsCheckBroken.grammar a) n = says_or_breaks n.grammar a
+  check_breaks_or_refuses (files.IsCheckBroken.aspects g a) n = aspects_or_break n.written a
+  check_breaks_or_refuses (files.IsCheckBroken.checked g i a) n = built_or_not a.built (unbuilt_there g n.grammar i n.written n.forms)
+
+  module _ {t : List ℕ} (a : SaysCounts held t) where
+    counts_or_refused : {f : File} → IsCheckNotBuilt held f → ⊥
+    counts_or_refused n = built_or_not a.accepted.built (unbuilt_there a.grammar n.grammar a.written n.written n.forms)
+
+    counts_or_broken : {f : File} {b : Broken} → IsCheckBroken held f b → ⊥
+    counts_or_broken (files.IsCheckBroken.grammar b) = says_or_breaks a.grammar b
+    counts_or_broken (files.IsCheckBroken.aspects g b) = aspects_or_break a.written b
+    counts_or_broken (files.IsCheckBroken.checked g i b) = accepted_or_refused a.accepted (refused_there a.grammar g a.written i b)
+
+    one_counts : {u : List ℕ} → SaysCounts held u → t ≡ u
+    one_counts b =
+        a.counted ∙ ap (λ (g : List Class). counts_of g (rules_of g a.aspects) a.aspects) (same_grammar a.grammar b.grammar)
+        ∙ ap (λ (w : List AspectItem). counts_of b.classes (rules_of b.classes w) w) (same_aspects a.written b.written) ∙ sym b.counted
 
 -- the same of a grammar and a tree alone
-module _ (held : TreeContents) where
+module _ (held : PairContents) where
   one_tree_breaking : {f g : File} {b c : Broken} → IsTreeBroken held f b → IsTreeBroken held g c → (f ≡ g) × (b ≡ c)
   one_tree_breaking (files.IsTreeBroken.grammar a) (files.IsTreeBroken.grammar b) = (refl, same_broken a b)
   one_tree_breaking (files.IsTreeBroken.grammar a) (files.IsTreeBroken.tree g b) = absurd (says_or_breaks g a)
@@ -135,33 +179,51 @@ module _ (words : List (List ℕ)) (files : List Named) where
   one_command : {c d : Command} → command_of words ≡ Some c → command_of words ≡ Some d → c ≡ d
   one_command {c} {d} a b = let e : Some c ≡ Some d = sym a ∙ b in cc
 
-  run_or_tree : {T : Type 0} {n : FileNames} {m : TreeNames} → command_of words ≡ Some (Run n) → command_of words ≡ Some (PrintTree m) → T
+  run_or_check : {T : Type 0} {n : FileNames} {m : PairNames} → command_of words ≡ Some (Run n) → command_of words ≡ Some (Check m) → T
+  run_or_check {n = n} {m = m} a b = let e : Some (Run n) ≡ Some (Check m) = sym a ∙ b in cc
+
+  check_or_tree : {T : Type 0} {n : PairNames} {m : PairNames} → command_of words ≡ Some (Check n) → command_of words ≡ Some (PrintTree m) → T
+  check_or_tree {n = n} {m = m} a b = let e : Some (Check n) ≡ Some (PrintTree m) = sym a ∙ b in cc
+
+  run_or_tree : {T : Type 0} {n : FileNames} {m : PairNames} → command_of words ≡ Some (Run n) → command_of words ≡ Some (PrintTree m) → T
   run_or_tree {n = n} {m = m} a b = let e : Some (Run n) ≡ Some (PrintTree m) = sym a ∙ b in cc
 
   same_names : {n m : FileNames} → command_of words ≡ Some (Run n) → command_of words ≡ Some (Run m) → n ≡ m
   same_names {n} {m} a b = let e : Some (Run n) ≡ Some (Run m) = sym a ∙ b in cc
 
-  same_tree_names : {n m : TreeNames} → command_of words ≡ Some (PrintTree n) → command_of words ≡ Some (PrintTree m) → n ≡ m
+  same_tree_names : {n m : PairNames} → command_of words ≡ Some (PrintTree n) → command_of words ≡ Some (PrintTree m) → n ≡ m
   same_tree_names {n} {m} a b = let e : Some (PrintTree n) ≡ Some (PrintTree m) = sym a ∙ b in cc
 
   holds_there : {n m : FileNames} {c : Contents} → command_of words ≡ Some (Run n) → command_of words ≡ Some (Run m) → HoldsAll files m c → HoldsAll files n c
   holds_there {c = c} a b h = subst (λ (x : FileNames). HoldsAll files x c) (same_names b a) h
 
-  both_there : {n m : TreeNames} {c : TreeContents} → command_of words ≡ Some (PrintTree n) → command_of words ≡ Some (PrintTree m) → HoldsTree files m c → HoldsTree files n c
-  both_there {c = c} a b h = subst (λ (x : TreeNames). HoldsTree files x c) (same_tree_names b a) h
+  both_there : {n m : PairNames} {c : PairContents} → command_of words ≡ Some (PrintTree n) → command_of words ≡ Some (PrintTree m) → HoldsPair files m c → HoldsPair files n c
+  both_there {c = c} a b h = subst (λ (x : PairNames). HoldsPair files x c) (same_tree_names b a) h
+
+  same_check_names : {n m : PairNames} → command_of words ≡ Some (Check n) → command_of words ≡ Some (Check m) → n ≡ m
+  same_check_names {n} {m} a b = let e : Some (Check n) ≡ Some (Check m) = sym a ∙ b in cc
+
+  check_there : {n m : PairNames} {c : PairContents} → command_of words ≡ Some (Check n) → command_of words ≡ Some (Check m) → HoldsPair files m c → HoldsPair files n c
+  check_there {c = c} a b h = subst (λ (x : PairNames). HoldsPair files x c) (same_check_names b a) h
+
+  check_once : {n m : PairNames} {c d : PairContents} → command_of words ≡ Some (Check n) → command_of words ≡ Some (Check m) → HoldsPair files n c → HoldsPair files m d → d ≡ c
+  check_once a b h k = same_both (check_there a b k) h
 
   held_once : {n m : FileNames} {c d : Contents} → command_of words ≡ Some (Run n) → command_of words ≡ Some (Run m) → HoldsAll files n c → HoldsAll files m d → d ≡ c
   held_once a b h k = same_contents (holds_there a b k) h
 
-  pair_once : {n m : TreeNames} {c d : TreeContents} → command_of words ≡ Some (PrintTree n) → command_of words ≡ Some (PrintTree m) → HoldsTree files n c → HoldsTree files m d → d ≡ c
+  pair_once : {n m : PairNames} {c d : PairContents} → command_of words ≡ Some (PrintTree n) → command_of words ≡ Some (PrintTree m) → HoldsPair files n c → HoldsPair files m d → d ≡ c
   pair_once a b h k = same_both (both_there a b k) h
 
   -- the files of the command aren't too long where they are held
   none_long : {c : Command} {n : FileNames} {held : Contents} {name : List ℕ} → command_of words ≡ Some c → command_of words ≡ Some (Run n) → IsFirstLong files (files_of c) name → HoldsAll files n held → ⊥
   none_long {name = name} r s l h = not_long h (subst (λ (x : Command). IsFirstLong files (files_of x) name) (one_command r s) l)
 
-  pair_long : {c : Command} {n : TreeNames} {held : TreeContents} {name : List ℕ} → command_of words ≡ Some c → command_of words ≡ Some (PrintTree n) → IsFirstLong files (files_of c) name → HoldsTree files n held → ⊥
+  pair_long : {c : Command} {n : PairNames} {held : PairContents} {name : List ℕ} → command_of words ≡ Some c → command_of words ≡ Some (PrintTree n) → IsFirstLong files (files_of c) name → HoldsPair files n held → ⊥
   pair_long {name = name} r s l h = not_long_both h (subst (λ (x : Command). IsFirstLong files (files_of x) name) (one_command r s) l)
+
+  check_long : {c : Command} {n : PairNames} {held : PairContents} {name : List ℕ} → command_of words ≡ Some c → command_of words ≡ Some (Check n) → IsFirstLong files (files_of c) name → HoldsPair files n held → ⊥
+  check_long {name = name} r s l h = not_long_both h (subst (λ (x : Command). IsFirstLong files (files_of x) name) (one_command r s) l)
 
   one_output : (t u : List ℕ) → Output words files t → Output words files u → t ≡ u
   one_output t u a b =
@@ -170,19 +232,26 @@ module _ (words : List (List ℕ)) (files : List Named) where
       one_replies a.program a.replies (subst (λ (p : Program). AreReplies p 0 p.queries u) programs b.replies)
 
   one_tree_output : (t u : List ℕ) → TreeOutput words files t → TreeOutput words files u → t ≡ u
-  one_tree_output t u a b = one_tree_text a.contents a.said (subst (λ (c : TreeContents). SaysText c u) (pair_once a.read b.read a.held b.held) b.said)
+  one_tree_output t u a b = one_tree_text a.contents a.said (subst (λ (c : PairContents). SaysText c u) (pair_once a.read b.read a.held b.held) b.said)
+
+  one_check_output : (t u : List ℕ) → CheckOutput words files t → CheckOutput words files u → t ≡ u
+  one_check_output t u a b = one_counts a.contents a.said (subst (λ (c : PairContents). SaysCounts c u) (check_once a.read b.read a.held b.held) b.said)
 
   one_line : {t u : List ℕ} → IsRefused words files t → IsRefused words files u → t ≡ u
   one_line (too_long {name = n} r l) (too_long {name = m} s k) =
       ap (λ (x : List ℕ). x ++ codes ": too long\n") (one_long l (subst (λ (x : Command). IsFirstLong files (files_of x) m) (one_command s r) k))
   one_line (too_long r l) (broken s h b) = absurd (none_long r s l h)
   one_line (too_long r l) (not_built s h b) = absurd (none_long r s l h)
+  one_line (too_long r l) (broken_check s h b) = absurd (check_long r s l h)
+  one_line (too_long r l) (check_not_built s h b) = absurd (check_long r s l h)
   one_line (too_long r l) (broken_tree s h b) = absurd (pair_long r s l h)
   one_line (broken r h a) (too_long s l) = absurd (none_long s r l h)
   one_line (broken {names = n} {contents = c} {file = f} {b = x} r h a) (broken {names = m} {file = g} {b = y} s k b) =
       let both = one_breaking c a (subst (λ (z : Contents). IsBroken z g y) (held_once r s h k) b) in
       ap (λ (z : FileNames). broken_line (name_of z f) x) (same_names r s) ∙ ap (λ (z : File). broken_line (name_of m z) x) both.0 ∙ ap (broken_line (name_of m g)) both.1
   one_line (broken {contents = c} r h a) (not_built {file = f} s k b) = absurd (breaks_or_refuses c a (subst (λ (z : Contents). IsNotBuilt z f) (held_once r s h k) b))
+  one_line (broken r h a) (broken_check s k b) = run_or_check r s
+  one_line (broken r h a) (check_not_built s k b) = run_or_check r s
   one_line (broken r h a) (broken_tree s k b) = run_or_tree r s
   one_line (not_built r h a) (too_long s l) = absurd (none_long s r l h)
   one_line (not_built {file = f} r h a) (broken {contents = d} s k b) = absurd (breaks_or_refuses d b (subst (λ (z : Contents). IsNotBuilt z f) (held_once s r k h) a))
@@ -190,25 +259,56 @@ module _ (words : List (List ℕ)) (files : List Named) where
       let names : n ≡ m = same_names r s in
       let file : f ≡ g = one_file c a (subst (λ (x : Contents). IsNotBuilt x g) (held_once r s h k) b) in
       cc
+  one_line (not_built r h a) (broken_check s k b) = run_or_check r s
+  one_line (not_built r h a) (check_not_built s k b) = run_or_check r s
   one_line (not_built r h a) (broken_tree s k b) = run_or_tree r s
+  one_line (broken_check r h a) (too_long s l) = absurd (check_long s r l h)
+  one_line (broken_check r h a) (broken s k b) = run_or_check s r
+  one_line (broken_check r h a) (not_built s k b) = run_or_check s r
+  one_line (broken_check {names = n} {contents = c} {file = f} {b = x} r h a) (broken_check {names = m} {file = g} {b = y} s k b) =
+      let both = one_check_breaking c a (subst (λ (z : PairContents). IsCheckBroken z g y) (check_once r s h k) b) in
+      ap (λ (z : PairNames). broken_line (pair_name_of z f) x) (same_check_names r s) ∙ ap (λ (z : File). broken_line (pair_name_of m z) x) both.0 ∙ ap (broken_line (pair_name_of m g)) both.1
+  one_line (broken_check {contents = c} r h a) (check_not_built {file = f} s k b) = absurd (check_breaks_or_refuses c a (subst (λ (z : PairContents). IsCheckNotBuilt z f) (check_once r s h k) b))
+  one_line (broken_check r h a) (broken_tree s k b) = check_or_tree r s
+  one_line (check_not_built r h a) (too_long s l) = absurd (check_long s r l h)
+  one_line (check_not_built r h a) (broken s k b) = run_or_check s r
+  one_line (check_not_built r h a) (not_built s k b) = run_or_check s r
+  one_line (check_not_built {file = f} r h a) (broken_check {contents = d} s k b) = absurd (check_breaks_or_refuses d b (subst (λ (z : PairContents). IsCheckNotBuilt z f) (check_once s r k h) a))
+  one_line (check_not_built {names = n} {contents = c} {file = f} r h a) (check_not_built {names = m} {file = g} s k b) =
+      ap (λ (z : PairNames). pair_name_of z f ++ codes ": not built\n") (same_check_names r s) ∙ ap (λ (z : File). pair_name_of m z ++ codes ": not built\n") (a.of ∙ sym b.of)
+  one_line (check_not_built r h a) (broken_tree s k b) = check_or_tree r s
   one_line (broken_tree r h a) (too_long s l) = absurd (pair_long s r l h)
   one_line (broken_tree r h a) (broken s k b) = run_or_tree s r
   one_line (broken_tree r h a) (not_built s k b) = run_or_tree s r
+  one_line (broken_tree r h a) (broken_check s k b) = check_or_tree s r
+  one_line (broken_tree r h a) (check_not_built s k b) = check_or_tree s r
   one_line (broken_tree {names = n} {contents = c} {file = f} {b = x} r h a) (broken_tree {names = m} {file = g} {b = y} s k b) =
-      let both = one_tree_breaking c a (subst (λ (z : TreeContents). IsTreeBroken z g y) (pair_once r s h k) b) in
-      ap (λ (z : TreeNames). broken_line (tree_name_of z f) x) (same_tree_names r s) ∙ ap (λ (z : File). broken_line (tree_name_of m z) x) both.0 ∙ ap (broken_line (tree_name_of m g)) both.1
+      let both = one_tree_breaking c a (subst (λ (z : PairContents). IsTreeBroken z g y) (pair_once r s h k) b) in
+      ap (λ (z : PairNames). broken_line (pair_name_of z f) x) (same_tree_names r s) ∙ ap (λ (z : File). broken_line (pair_name_of m z) x) both.0 ∙ ap (broken_line (pair_name_of m g)) both.1
 
   output_or_line : (t : List ℕ) {u : List ℕ} → Output words files t → IsRefused words files u → ⊥
   output_or_line t a (too_long r l) = none_long r a.read l a.held
   output_or_line t a (broken {file = f} {b = b} r h breaks) = program_or_broken a.contents a.program a.said (subst (λ (x : Contents). IsBroken x f b) (held_once a.read r a.held h) breaks)
   output_or_line t a (not_built {file = f} r h b) = says_or_refuses a.contents a.program a.said (subst (λ (x : Contents). IsNotBuilt x f) (held_once a.read r a.held h) b)
+  output_or_line t a (broken_check r h b) = run_or_check a.read r
+  output_or_line t a (check_not_built r h b) = run_or_check a.read r
   output_or_line t a (broken_tree r h b) = run_or_tree a.read r
+
+  check_or_line : (t : List ℕ) {u : List ℕ} → CheckOutput words files t → IsRefused words files u → ⊥
+  check_or_line t a (too_long r l) = check_long r a.read l a.held
+  check_or_line t a (broken r h b) = run_or_check r a.read
+  check_or_line t a (not_built r h b) = run_or_check r a.read
+  check_or_line t a (broken_check {file = f} {b = b} r h breaks) = counts_or_broken a.contents a.said (subst (λ (x : PairContents). IsCheckBroken x f b) (check_once a.read r a.held h) breaks)
+  check_or_line t a (check_not_built {file = f} r h b) = counts_or_refused a.contents a.said (subst (λ (x : PairContents). IsCheckNotBuilt x f) (check_once a.read r a.held h) b)
+  check_or_line t a (broken_tree r h b) = check_or_tree a.read r
 
   tree_or_line : (t : List ℕ) {u : List ℕ} → TreeOutput words files t → IsRefused words files u → ⊥
   tree_or_line t a (too_long r l) = pair_long r a.read l a.held
   tree_or_line t a (broken r h b) = run_or_tree r a.read
   tree_or_line t a (not_built r h b) = run_or_tree r a.read
-  tree_or_line t a (broken_tree {file = f} {b = b} r h breaks) = text_or_broken a.contents a.said (subst (λ (x : TreeContents). IsTreeBroken x f b) (pair_once a.read r a.held h) breaks)
+  tree_or_line t a (broken_check r h b) = check_or_tree r a.read
+  tree_or_line t a (check_not_built r h b) = check_or_tree r a.read
+  tree_or_line t a (broken_tree {file = f} {b = b} r h breaks) = text_or_broken a.contents a.said (subst (λ (x : PairContents). IsTreeBroken x f b) (pair_once a.read r a.held h) breaks)
 
   -- something is asked for, or nothing
   given : {c : Command} → command_of words ≡ Some c → command_of words ≡ None → ⊥
@@ -218,22 +318,33 @@ module _ (words : List (List ℕ)) (files : List Named) where
   command_refused (too_long r l) e = given r e
   command_refused (broken r h b) e = given r e
   command_refused (not_built r h b) e = given r e
+  command_refused (broken_check r h b) e = given r e
+  command_refused (check_not_built r h b) e = given r e
   command_refused (broken_tree r h b) e = given r e
 
   pub one_answer : (s r : ℕ) (t u : List ℕ) → Answers words files s t → Answers words files r u → (s ≡ r) × (t ≡ u)
   one_answer s r t u (replied a) (replied b) = (refl, one_output t u a b)
+  one_answer s r t u (replied a) (counted b) = run_or_check a.read b.read
   one_answer s r t u (replied a) (printed b) = run_or_tree a.read b.read
   one_answer s r t u (replied a) (refused b) = absurd (output_or_line t a b)
   one_answer s r t u (replied a) (misused e) = absurd (given a.read e)
+  one_answer s r t u (counted a) (replied b) = run_or_check b.read a.read
+  one_answer s r t u (counted a) (counted b) = (refl, one_check_output t u a b)
+  one_answer s r t u (counted a) (printed b) = check_or_tree a.read b.read
+  one_answer s r t u (counted a) (refused b) = absurd (check_or_line t a b)
+  one_answer s r t u (counted a) (misused e) = absurd (given a.read e)
   one_answer s r t u (printed a) (replied b) = run_or_tree b.read a.read
+  one_answer s r t u (printed a) (counted b) = check_or_tree b.read a.read
   one_answer s r t u (printed a) (printed b) = (refl, one_tree_output t u a b)
   one_answer s r t u (printed a) (refused b) = absurd (tree_or_line t a b)
   one_answer s r t u (printed a) (misused e) = absurd (given a.read e)
   one_answer s r t u (refused a) (replied b) = absurd (output_or_line u b a)
+  one_answer s r t u (refused a) (counted b) = absurd (check_or_line u b a)
   one_answer s r t u (refused a) (printed b) = absurd (tree_or_line u b a)
   one_answer s r t u (refused a) (refused b) = (refl, one_line a b)
   one_answer s r t u (refused a) (misused e) = absurd (command_refused a e)
   one_answer s r t u (misused e) (replied b) = absurd (given b.read e)
+  one_answer s r t u (misused e) (counted b) = absurd (given b.read e)
   one_answer s r t u (misused e) (printed b) = absurd (given b.read e)
   one_answer s r t u (misused e) (refused b) = absurd (command_refused b e)
   one_answer s r t u (misused e) (misused f) = (refl, refl)

@@ -1,17 +1,20 @@
 -- What the bytes of files say is one thing.
-use Rattle.std.proofs.Common.{◌≡◌, ℕ, List, sym, ap, subst, ◌∙◌}
+use Rattle.std.proofs.Common.{◌≡◌, Bool, ℕ, List, true, false, Some, None, sym, ap, subst, ◌∙◌}
 use Rattle.rag_io.specs.Tokens.{Lexed}
 use Rattle.rag_io.proofs.Readings.{not_both, one_place, one_list}
 use Rattle.rag_io.specs.declared.token.Place.{Place}
 use Rattle.broken_rules.specs.declared.broken.Broken.{Broken}
 use Rattle.broken_rules.specs.declared.rule.Rule.TheVariants.{G1, J1, N1}
 use Rattle.broken_rules.specs.Notes.{at}
-use Rattle.ast_grammar.specs.Grammar.{Class, superclasses_of}
+use Rattle.broken_rules.proofs.Answering.{one_answer}
+use Rattle.ast_grammar.specs.Grammar.{Class}
 use Rattle.ast_grammar.specs.Reading.{IsFirstBroken, SaysGrammar}
 use Rattle.ast_grammar.proofs.OneGrammar as grammars
-use Rattle.attr_types.specs.Expression.{Expression}
-use Rattle.attr_types.specs.Rules.{Item, RuleSet, rules_of}
+use Rattle.attr_rules.specs.Queries.{Query}
+use Rattle.attr_rules.specs.Rules.{RuleSet}
+use Rattle.attr_types.specs.Phases.{rules_of}
 use Rattle.jrag_syntax.specs.declared.classes.Start.TheVariants as starts
+use Rattle.jrag_reader.specs.Built.{all_built}
 use Rattle.jrag_reader.specs.Items.{Item as AspectItem}
 use Rattle.jrag_reader.specs.Parts.{Items}
 use Rattle.jrag_reader.specs.Reading.{IsFirstBroken as AspectsBreak, SaysItems}
@@ -21,12 +24,10 @@ use Rattle.tree_reader.proofs.OneTree as trees
 use Rattle.token_texts.specs.Texts.{pooled_texts}
 use Rattle.tree_reader.specs.Reading.{IsFirstBroken as TreeBreaks, SaysTree}
 use Rattle.equation_law.specs.Program.{Program}
-use Rattle.query_runner.specs.Aspects.{SaysAspects}
 use Rattle.query_runner.specs.Files as files
-use Rattle.query_runner.specs.Files.{BreaksAspects, BreaksGrammar, BreaksTree, Contents, ReadsAspects, ReadsGrammar, ReadsTree, SaysProgram, no_texts}
+use Rattle.query_runner.specs.Files.{AreAccepted, AreRefused, BreaksAspects, BreaksGrammar, BreaksTree, Contents, ReadsAspects, ReadsGrammar, ReadsTree, SaysProgram, no_texts}
 use Rattle.query_runner.specs.Queries.{SaysQueries}
 use Rattle.query_runner.proofs.SayingQueries.{one_queries}
-use Rattle.query_runner.proofs.Uniqueness.{one_items}
 
 -- what is read from some bytes is one
 module _ {bytes : List ℕ} where
@@ -101,44 +102,58 @@ module _ {bytes : List ℕ} {g h : List Class} {p q : List (List ℕ)} (classes 
   pub both_texts : {s t : List Node} {x y : List (List ℕ)} → ReadsTree g p bytes s x → ReadsTree h q bytes t y → x ≡ y
   both_texts r s = let there = tree_there s in r.pooled ∙ ap (pooled_texts p) (one_list r.scanned there.scanned) ∙ sym there.pooled
 
+-- some aspects break one rule first over a grammar, or none, or have a form that isn't evaluated so far
+module _ {g : List Class} {aspects : List AspectItem} where
+  pub one_refusal : {b c : Broken} → AreRefused g aspects b → AreRefused g aspects c → b ≡ c
+  one_refusal {b} {c} r s = let both : Some b ≡ Some c = one_answer r.breaks s.breaks in cc
+
+  pub accepted_or_refused : {b : Broken} → AreAccepted g aspects → AreRefused g aspects b → ⊥
+  accepted_or_refused {b} r s = let both : None ≡ Some b = one_answer r.clean s.breaks in absurd cc
+
+pub built_or_not : {is_built : Bool} → is_built ≡ true → is_built ≡ false → ⊥
+built_or_not a b = let both : true ≡ false = sym a ∙ b in absurd cc
+
 -- the readings of one file after the other, under one grammar, over the aspects and the texts that are read before
-module _ (held : Contents) {g h : List Class} {written other : List AspectItem} {between behind : List (List ℕ)}
-    (a : ReadsGrammar held.ast g) (b : ReadsGrammar held.ast h)
-    (i : ReadsAspects no_texts held.jrag written between) (j : ReadsAspects no_texts held.jrag other behind) where
-  pub items_there : {js : List Item} → SaysAspects h other js → SaysAspects g written js
-  items_there {js} s =
-      subst (λ (c : List Class). SaysAspects c written js) (sym (same_grammar a b))
-      (subst (λ (w : List AspectItem). SaysAspects h w js) (sym (same_aspects i j)) s)
+module _ {ast jrag : List ℕ} {g h : List Class} {written other : List AspectItem} {between behind : List (List ℕ)}
+    (a : ReadsGrammar ast g) (b : ReadsGrammar ast h)
+    (i : ReadsAspects no_texts jrag written between) (j : ReadsAspects no_texts jrag other behind) where
+  pub accepted_there : AreAccepted h other → AreAccepted g written
+  accepted_there s = subst (λ (c : List Class). AreAccepted c written) (sym (same_grammar a b)) (subst (λ (w : List AspectItem). AreAccepted h w) (sym (same_aspects i j)) s)
 
-  both_items : {is js : List Item} → SaysAspects g written is → SaysAspects h other js → is ≡ js
-  both_items r s = one_items r (items_there s)
+  pub refused_there : {x : Broken} → AreRefused h other x → AreRefused g written x
+  refused_there {x} s =
+      subst (λ (c : List Class). AreRefused c written x) (sym (same_grammar a b)) (subst (λ (w : List AspectItem). AreRefused h w x) (sym (same_aspects i j)) s)
 
-  pub both_rules : {is js : List Item} → SaysAspects g written is → SaysAspects h other js → rules_of (superclasses_of g) is ≡ rules_of (superclasses_of h) js
-  both_rules {is} r s = ap (λ (c : List Class). rules_of (superclasses_of c) is) (same_grammar a b) ∙ ap (rules_of (superclasses_of h)) (both_items r s)
+  pub unbuilt_there : all_built other ≡ false → all_built written ≡ false
+  unbuilt_there e = ap all_built (same_aspects i j) ∙ e
 
-  pub broken_there : {x : Broken} → BreaksTree h behind held.tree x → BreaksTree g between held.tree x
-  broken_there r = breaks_there (same_grammar a b) (same_pooled i j) r
+  pub both_rules : rules_of g written ≡ rules_of h other
+  both_rules = ap (λ (c : List Class). rules_of c written) (same_grammar a b) ∙ ap (rules_of h) (same_aspects i j)
 
-  pub nodes_there : {s t : List Node} {x y : List (List ℕ)} → ReadsTree g between held.tree s x → ReadsTree h behind held.tree t y → s ≡ t
-  nodes_there r s = both_trees (same_grammar a b) (same_pooled i j) r s
+  module _ {source : List ℕ} where
+    pub broken_there : {x : Broken} → BreaksTree h behind source x → BreaksTree g between source x
+    broken_there r = breaks_there (same_grammar a b) (same_pooled i j) r
+
+    pub nodes_there : {s t : List Node} {x y : List (List ℕ)} → ReadsTree g between source s x → ReadsTree h behind source t y → s ≡ t
+    nodes_there r s = both_trees (same_grammar a b) (same_pooled i j) r s
 
 -- queries under the same grammar, the same rules and the same tree
-pub queries_there : {bytes : List ℕ} {g h : List Class} {r q : RuleSet} {s t : List Node} {es : List Expression} → g ≡ h → r ≡ q → s ≡ t → SaysQueries h q t bytes es → SaysQueries g r s bytes es
+pub queries_there : {bytes : List ℕ} {g h : List Class} {r q : RuleSet} {s t : List Node} {es : List Query} → g ≡ h → r ≡ q → s ≡ t → SaysQueries h q t bytes es → SaysQueries g r s bytes es
 queries_there {bytes} {g} {h} {r} {q} {s} {t} {es} d e f says =
     subst (λ (x : List Class). SaysQueries x r s bytes es) (sym d) (subst (λ (x : RuleSet). SaysQueries h x s bytes es) (sym e) (subst (λ (x : List Node). SaysQueries h q x bytes es) (sym f) says))
 
 -- a program by its parts
-program : List Class → RuleSet → List Node → List (List ℕ) → List Expression → Program
+program : List Class → RuleSet → List Node → List (List ℕ) → List Query → Program
 program g r t x q = record { grammar = g; rules = r; tree = t; texts = x; queries = q }
 
-same_parts : {g h : List Class} {r q : RuleSet} {s t : List Node} {x y : List (List ℕ)} {es fs : List Expression} → g ≡ h → r ≡ q → s ≡ t → x ≡ y → es ≡ fs → program g r s x es ≡ program h q t y fs
+same_parts : {g h : List Class} {r q : RuleSet} {s t : List Node} {x y : List (List ℕ)} {es fs : List Query} → g ≡ h → r ≡ q → s ≡ t → x ≡ y → es ≡ fs → program g r s x es ≡ program h q t y fs
 same_parts a b c d e = cc
 
 pub same_program : (held : Contents) (p q : Program) → SaysProgram held p → SaysProgram held q → p ≡ q
 unfolding program
 same_program held p q a b =
     let grammar : p.grammar ≡ q.grammar = same_grammar a.grammar b.grammar in
-    let rules : p.rules ≡ q.rules = a.rules ∙ both_rules held a.grammar b.grammar a.aspects b.aspects a.evaluated b.evaluated ∙ sym b.rules in
+    let rules : p.rules ≡ q.rules = a.rules ∙ both_rules a.grammar b.grammar a.aspects b.aspects ∙ sym b.rules in
     let between : a.between ≡ b.between = same_pooled a.aspects b.aspects in
     let tree : p.tree ≡ q.tree = both_trees grammar between a.tree b.tree in
     let texts : p.texts ≡ q.texts = both_texts grammar between a.tree b.tree in

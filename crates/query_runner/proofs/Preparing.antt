@@ -9,10 +9,10 @@ use Rattle.query_runner.specs.declared.fetching.Stop.{Stop}
 use Rattle.query_runner.specs.declared.fetching.Stop.TheVariants as stops
 use Rattle.query_runner.specs.declared.running.Failure.TheVariants as failures
 use Rattle.query_runner.specs.Answered.{AnswersWhereTold, Stopped, status_of, text_of}
-use Rattle.query_runner.specs.Fetched.{FirstLongWhereTold, HoldsFetched, HoldsTreeFetched, StopsAll}
-use Rattle.query_runner.specs.Files.{Contents, File, IsBroken, IsNotBuilt, IsTreeBroken, SaysProgram, SaysText, TreeContents}
-use Rattle.query_runner.specs.Output.{Answers, AreReplies, broken, broken_line, broken_tree, files_of, misused, printed, refused, replied, too_long, tree_name_of, not_built, name_of}
-use Rattle.query_runner.specs.Words.{Command, FileNames, PrintTree, Run, TreeNames, command_of}
+use Rattle.query_runner.specs.Fetched.{FirstLongWhereTold, HoldsPairFetched, HoldsFetched, StopsAll}
+use Rattle.query_runner.specs.Files.{PairContents, Contents, File, IsBroken, IsCheckBroken, IsCheckNotBuilt, IsNotBuilt, IsTreeBroken, SaysCounts, SaysProgram, SaysText}
+use Rattle.query_runner.specs.Output.{Answers, AreReplies, broken, broken_check, broken_line, broken_tree, pair_name_of, check_not_built, counted, files_of, misused, printed, refused, replied, too_long, not_built, name_of}
+use Rattle.query_runner.specs.Words.{Check, PairNames, Command, FileNames, PrintTree, Run, command_of}
 use Rattle.equation_law.specs.Program.{Program}
 
 pub usage_answer : (words : List (List ℕ)) (files : Option (List Named)) → command_of words ≡ None → AnswersWhereTold words files answers.Usage
@@ -60,10 +60,28 @@ broken_answer words None names held file b (Ok a) read holds cause e = tt
 broken_answer words (Some files) names held file b (Ok a) read holds cause e = line_answer words files (broken_line (name_of names file) b) a (refused (broken read holds cause)) e
 broken_answer words files names held file b (Err f) read holds cause e = tt
 
-pub broken_tree_answer : (words : List (List ℕ)) (files : Option (List Named)) (names : TreeNames) (held : TreeContents) (file : File) (b : Broken) (r : Result Answer Failure) → command_of words ≡ Some (PrintTree names)
-    → HoldsTreeFetched files names held → IsTreeBroken held file b → IfOk r (λ a. (status_of a ≡ 1) × (text_of a ≡ broken_line (tree_name_of names file) b)) → IfOk r (λ a. AnswersWhereTold words files a)
+pub broken_check_answer : (words : List (List ℕ)) (files : Option (List Named)) (names : PairNames) (held : PairContents) (file : File) (b : Broken) (r : Result Answer Failure) → command_of words ≡ Some (Check names)
+    → HoldsPairFetched files names held → IsCheckBroken held file b → IfOk r (λ a. (status_of a ≡ 1) × (text_of a ≡ broken_line (pair_name_of names file) b)) → IfOk r (λ a. AnswersWhereTold words files a)
+broken_check_answer words None names held file b (Ok a) read holds cause e = tt
+broken_check_answer words (Some files) names held file b (Ok a) read holds cause e = line_answer words files (broken_line (pair_name_of names file) b) a (refused (broken_check read holds cause)) e
+broken_check_answer words files names held file b (Err f) read holds cause e = tt
+
+pub unbuilt_check_answer : (words : List (List ℕ)) (files : Option (List Named)) (names : PairNames) (held : PairContents) (file : File) (r : Result Answer Failure) → command_of words ≡ Some (Check names) → HoldsPairFetched files names held
+    → IsCheckNotBuilt held file → IfOk r (λ a. (status_of a ≡ 1) × (text_of a ≡ pair_name_of names file ++ codes ": not built\n")) → IfOk r (λ a. AnswersWhereTold words files a)
+unbuilt_check_answer words None names held file (Ok a) read holds cause e = tt
+unbuilt_check_answer words (Some files) names held file (Ok a) read holds cause e = line_answer words files (pair_name_of names file ++ codes ": not built\n") a (refused (check_not_built read holds cause)) e
+unbuilt_check_answer words files names held file (Err f) read holds cause e = tt
+
+pub counts_answer : (words : List (List ℕ)) (files : Option (List Named)) (names : PairNames) (held : PairContents) (text : List ℕ) → command_of words ≡ Some (Check names) → HoldsPairFetched files names held → SaysCounts held text
+    → (a : Answer) → status_of a ≡ 0 → text_of a ≡ text → AnswersWhereTold words files a
+counts_answer words None names held text read holds said a s t = tt
+counts_answer words (Some files) names held text read holds said a s t =
+    subst (λ (k : ℕ). Answers words files k (text_of a)) (sym s) (subst (λ (x : List ℕ). Answers words files 0 x) (sym t) (counted (record { names = names; contents = held; read = read; held = holds; said = said })))
+
+pub broken_tree_answer : (words : List (List ℕ)) (files : Option (List Named)) (names : PairNames) (held : PairContents) (file : File) (b : Broken) (r : Result Answer Failure) → command_of words ≡ Some (PrintTree names)
+    → HoldsPairFetched files names held → IsTreeBroken held file b → IfOk r (λ a. (status_of a ≡ 1) × (text_of a ≡ broken_line (pair_name_of names file) b)) → IfOk r (λ a. AnswersWhereTold words files a)
 broken_tree_answer words None names held file b (Ok a) read holds cause e = tt
-broken_tree_answer words (Some files) names held file b (Ok a) read holds cause e = line_answer words files (broken_line (tree_name_of names file) b) a (refused (broken_tree read holds cause)) e
+broken_tree_answer words (Some files) names held file b (Ok a) read holds cause e = line_answer words files (broken_line (pair_name_of names file) b) a (refused (broken_tree read holds cause)) e
 broken_tree_answer words files names held file b (Err f) read holds cause e = tt
 
 -- a line has status 1
@@ -71,7 +89,7 @@ pub line_status : (line : List ℕ) (r : Result Answer Failure) → IfOk r (λ a
 line_status line (Ok a) e = omega (arith, e.0)
 line_status line (Err f) e = tt
 
-pub tree_answer : (words : List (List ℕ)) (files : Option (List Named)) (names : TreeNames) (held : TreeContents) (text : List ℕ) → command_of words ≡ Some (PrintTree names) → HoldsTreeFetched files names held → SaysText held text
+pub tree_answer : (words : List (List ℕ)) (files : Option (List Named)) (names : PairNames) (held : PairContents) (text : List ℕ) → command_of words ≡ Some (PrintTree names) → HoldsPairFetched files names held → SaysText held text
     → (a : Answer) → status_of a ≡ 0 → text_of a ≡ text → AnswersWhereTold words files a
 tree_answer words None names held text read holds said a s t = tt
 tree_answer words (Some files) names held text read holds said a s t =

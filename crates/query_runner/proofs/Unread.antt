@@ -1,14 +1,12 @@
 -- What the tokens of a file say or don't, its bytes do or don't; and which file is refused.
-use Rattle.std.proofs.Common.{◌≡◌, ℕ, ◌≤◌, List, length, Result, Ok, Err, IfOk, sym, ap, subst, arith, ◌∙◌}
-use Rattle.std.specs.Result.{IsErr, IsErrAnd}
-use Rattle.std.proofs.lemmas.Result.{err_from_is_err_and}
+use Rattle.std.proofs.Common.{◌≡◌, ℕ, ◌≤◌, List, length, Result, Ok, Err, IfOk, refl, sym, subst, arith}
 use Rattle.rag_io.specs.Tokens.{Lexed, IsTokens, first_place}
 use Rattle.broken_rules.specs.declared.broken.ReadFault.{ReadFault}
 use Rattle.broken_rules.specs.declared.broken.ReadFault.TheVariants as faults
 use Rattle.ast_grammar.specs.Grammar.{Class}
 use Rattle.ast_grammar.specs.Reading.{ReadsAst}
-use Rattle.attr_types.specs.Expression.{Expression}
-use Rattle.attr_types.specs.Rules.{RuleSet}
+use Rattle.attr_rules.specs.Queries.{Query}
+use Rattle.attr_rules.specs.Rules.{RuleSet}
 use Rattle.jrag_reader.specs.declared.aspects.Aspects.{Aspects}
 use Rattle.jrag_reader.specs.Answers.{AnswersItems}
 use Rattle.jrag_reader.specs.Items.{Item as AspectItem}
@@ -17,19 +15,16 @@ use Rattle.tree_arena.specs.Terms.{Forest, IsTerm, IsTreeOf, nodes_of}
 use Rattle.tree_writer.specs.Canonical.{canonical}
 use Rattle.equation_law.specs.Program.{most_replies}
 use Rattle.query_runner.specs.declared.files.Refusal.{Refusal}
+use Rattle.query_runner.specs.declared.files.Refusal.TheVariants as refusals
 use Rattle.query_runner.specs.declared.files.Unread.{Unread}
-use Rattle.query_runner.specs.declared.files.Unread.TheVariants.{NotBuilt, Memory}
+use Rattle.query_runner.specs.declared.files.Unread.TheVariants.{Broken as Unaccepted, NotBuilt, Memory}
 use Rattle.query_runner.specs.declared.words.FileKind.TheVariants as files
-use Rattle.query_runner.specs.Built.{AnswersAsked, AnswersGrammar, AnswersRules, AnswersSource, AnswersWritten, BreaksFile, IsRefusal, IsTreeRefusal, ReadsRules, Refuses}
+use Rattle.query_runner.specs.Built.{AnswersGrammar, AnswersRules, AnswersSource, AnswersWritten, BreaksFile, IsCheckRefusal, IsRefusal, IsTreeRefusal, MakesRules, Refuses}
 use Rattle.token_texts.specs.Texts.{pooled_texts}
 use Rattle.tree_reader.specs.Reading.{ReadsTree as TreeRead}
 use Rattle.query_runner.specs.Files as held
-use Rattle.query_runner.specs.Files.{Contents, ReadsAspects, ReadsGrammar, ReadsTree, SaysText, TreeContents, no_texts, no_items, no_queries}
+use Rattle.query_runner.specs.Files.{PairContents, Contents, ReadsAspects, ReadsGrammar, ReadsTree, SaysText, forms, no_texts, no_queries}
 use Rattle.query_runner.specs.Queries.{SaysLines, over, silent, query, SaysQueries}
-
--- where `?` hands on want of memory
-pub out_of_memory : {T : Type 0} (P : Result T Unread → Type 0) (r : Result T Unread) → IsErr r × IsErrAnd r (λ u. u ≡ Memory) → P (Err Memory) → P r
-out_of_memory P r h p = let q = err_from_is_err_and r h.1 in subst P (sym (q.1 ∙ ap Err q.2)) p
 
 module _ {bytes : List ℕ} {ts : List Lexed} (scanned : IsTokens first_place bytes ts) where
   pub answers_grammar : (r : Result (List Class) ReadFault) → ReadsAst ts r → AnswersGrammar bytes r
@@ -76,60 +71,82 @@ module _ (contents : Contents) (fault : ReadFault) (refusal : Refusal) where
       ] answer is
 
   pub tree_refused : {g : List Class} {written : List AspectItem} {between : List (List ℕ)} {rules : RuleSet} (texts : List (List ℕ))
-      → ReadsGrammar contents.ast g → ReadsAspects no_texts contents.jrag written between → ReadsRules g written rules
+      → ReadsGrammar contents.ast g → ReadsAspects no_texts contents.jrag written between → MakesRules g written rules
       → AnswersSource g between contents.tree texts (Err fault) → BreaksFile files.Tree fault refusal → IsRefusal contents refusal
   tree_refused {g} {between = between} texts grammar aspects rules answer is =
       elim fault as (λ f. AnswersSource g between contents.tree texts (Err f) → BreaksFile files.Tree f refusal → IsRefusal contents refusal) [
-        | faults.Broken b ↦ λ a e. subst (IsRefusal contents) (sym e) (held.IsBroken.tree grammar aspects rules.say a)
+        | faults.Broken b ↦ λ a e. subst (IsRefusal contents) (sym e) (held.IsBroken.tree grammar aspects rules.accepted a)
         | faults.Memory ↦ λ a e. subst (IsRefusal contents) (sym e) tt
       ] answer is
 
-module _ (contents : TreeContents) (fault : ReadFault) (refusal : Refusal) where
+module _ (contents : PairContents) (fault : ReadFault) (refusal : Refusal) where
   pub lone_grammar_refused : AnswersGrammar contents.ast (Err fault) → BreaksFile files.Ast fault refusal → IsTreeRefusal contents refusal
   lone_grammar_refused answer is = elim fault as (λ f. AnswersGrammar contents.ast (Err f) → BreaksFile files.Ast f refusal → IsTreeRefusal contents refusal) [
     | faults.Broken b ↦ λ a e. subst (IsTreeRefusal contents) (sym e) (held.IsTreeBroken.grammar a)
     | faults.Memory ↦ λ a e. subst (IsTreeRefusal contents) (sym e) tt
   ] answer is
 
-  pub lone_tree_refused : {g : List Class} (texts : List (List ℕ)) → ReadsGrammar contents.ast g → AnswersSource g no_texts contents.tree texts (Err fault)
+  pub lone_tree_refused : {g : List Class} (texts : List (List ℕ)) → ReadsGrammar contents.ast g → AnswersSource g no_texts contents.other texts (Err fault)
       → BreaksFile files.Tree fault refusal → IsTreeRefusal contents refusal
   lone_tree_refused {g} texts grammar answer is =
-      elim fault as (λ f. AnswersSource g no_texts contents.tree texts (Err f) → BreaksFile files.Tree f refusal → IsTreeRefusal contents refusal) [
+      elim fault as (λ f. AnswersSource g no_texts contents.other texts (Err f) → BreaksFile files.Tree f refusal → IsTreeRefusal contents refusal) [
         | faults.Broken b ↦ λ a e. subst (IsTreeRefusal contents) (sym e) (held.IsTreeBroken.tree grammar a)
         | faults.Memory ↦ λ a e. subst (IsTreeRefusal contents) (sym e) tt
       ] answer is
 
 -- the text of the tree that is read
-pub says_text : (contents : TreeContents) {g : List Class} {nodes : List Node} {texts : List (List ℕ)} (text : List ℕ) → ReadsGrammar contents.ast g
-    → ReadsTree g no_texts contents.tree nodes texts → IsTreeOf g (length texts) nodes
+pub says_text : (contents : PairContents) {g : List Class} {nodes : List Node} {texts : List (List ℕ)} (text : List ℕ) → ReadsGrammar contents.ast g
+    → ReadsTree g no_texts contents.other nodes texts → IsTreeOf g (length texts) nodes
     → ((term : Forest) → IsTerm g (length texts) term → nodes ≡ nodes_of term → text ≡ canonical g texts term) → SaysText contents text
 says_text contents {g} {nodes} {texts} text grammar tree is wrote =
     record { classes = g; grammar = grammar; nodes = nodes; texts = texts; tree = tree; term = is.term; grown = is.grown; are = is.are; written = wrote is.term is.grown is.are }
 
--- aspects and queries that aren't in the form that is evaluated so far
+-- aspects that break a rule over the grammar, or aren't in the form that is evaluated so far
 module _ (contents : Contents) (unread : Unread) (refusal : Refusal) {g : List Class} {written : List AspectItem} {between : List (List ℕ)} where
   pub rules_refused : ReadsGrammar contents.ast g → ReadsAspects no_texts contents.jrag written between → AnswersRules g written (Err unread)
       → Refuses files.Jrag unread refusal → IsRefusal contents refusal
   rules_refused grammar aspects answer is = elim unread as (λ u. AnswersRules g written (Err u) → Refuses files.Jrag u refusal → IsRefusal contents refusal) [
-    | NotBuilt ↦ λ a e. subst (IsRefusal contents) (sym e) (no_items grammar aspects a)
+    | Unaccepted b ↦ λ a e. subst (IsRefusal contents) (sym e) (held.IsBroken.checked grammar aspects a)
+    | NotBuilt ↦ λ a e. subst (IsRefusal contents) (sym e) (forms grammar aspects a)
     | Memory ↦ λ a e. subst (IsRefusal contents) (sym e) tt
   ] answer is
 
-  pub queries_refused : {rules : RuleSet} {tree : List Node} {texts : List (List ℕ)} → ReadsGrammar contents.ast g
-      → ReadsAspects no_texts contents.jrag written between → ReadsRules g written rules → ReadsTree g between contents.tree tree texts
-      → AnswersAsked g rules tree contents.queries (Err unread) → Refuses files.Queries unread refusal → IsRefusal contents refusal
-  queries_refused {rules} {tree} grammar aspects reads source answer is =
-      elim unread as (λ u. AnswersAsked g rules tree contents.queries (Err u) → Refuses files.Queries u refusal → IsRefusal contents refusal) [
-        | NotBuilt ↦ λ a e. subst (IsRefusal contents) (sym e)
-            (no_queries grammar aspects reads.say source (λ es s. a es (subst (λ (r : RuleSet). SaysQueries g r tree contents.queries es) (sym reads.are) s)))
-        | Memory ↦ λ a e. subst (IsRefusal contents) (sym e) tt
+-- the same under `check`
+module _ (contents : PairContents) (refusal : Refusal) where
+  pub check_grammar_refused : (fault : ReadFault) → AnswersGrammar contents.ast (Err fault) → BreaksFile files.Ast fault refusal → IsCheckRefusal contents refusal
+  check_grammar_refused fault answer is = elim fault as (λ f. AnswersGrammar contents.ast (Err f) → BreaksFile files.Ast f refusal → IsCheckRefusal contents refusal) [
+    | faults.Broken b ↦ λ a e. subst (IsCheckRefusal contents) (sym e) (held.IsCheckBroken.grammar a)
+    | faults.Memory ↦ λ a e. subst (IsCheckRefusal contents) (sym e) tt
+  ] answer is
+
+  pub check_aspects_refused : (fault : ReadFault) {g : List Class} (texts : List (List ℕ)) → ReadsGrammar contents.ast g → AnswersWritten no_texts contents.other texts (Err fault)
+      → BreaksFile files.Jrag fault refusal → IsCheckRefusal contents refusal
+  check_aspects_refused fault texts grammar answer is =
+      elim fault as (λ f. AnswersWritten no_texts contents.other texts (Err f) → BreaksFile files.Jrag f refusal → IsCheckRefusal contents refusal) [
+        | faults.Broken b ↦ λ a e. subst (IsCheckRefusal contents) (sym e) (held.IsCheckBroken.aspects grammar a)
+        | faults.Memory ↦ λ a e. subst (IsCheckRefusal contents) (sym e) tt
       ] answer is
 
+  pub check_rules_refused : (unread : Unread) {g : List Class} {written : List AspectItem} {between : List (List ℕ)} → ReadsGrammar contents.ast g
+      → ReadsAspects no_texts contents.other written between → AnswersRules g written (Err unread) → Refuses files.Jrag unread refusal → IsCheckRefusal contents refusal
+  check_rules_refused unread {g} {written} {between} grammar aspects answer is = elim unread as (λ u. AnswersRules g written (Err u) → Refuses files.Jrag u refusal → IsCheckRefusal contents refusal) [
+    | Unaccepted b ↦ λ a e. subst (IsCheckRefusal contents) (sym e) (held.IsCheckBroken.checked grammar aspects a)
+    | NotBuilt ↦ λ a e. subst (IsCheckRefusal contents) (sym e) (record { of = refl; classes = g; aspects = written; between = between; grammar = grammar; written = aspects; forms = a })
+    | Memory ↦ λ a e. subst (IsCheckRefusal contents) (sym e) tt
+  ] answer is
+
+-- queries that aren't in the form that is evaluated so far
+pub queries_refused : (contents : Contents) {g : List Class} {written : List AspectItem} {between : List (List ℕ)} {rules : RuleSet} {tree : List Node} {texts : List (List ℕ)}
+    → ReadsGrammar contents.ast g → ReadsAspects no_texts contents.jrag written between → MakesRules g written rules → ReadsTree g between contents.tree tree texts
+    → ((qs : List Query) → SaysQueries g rules tree contents.queries qs → ⊥) → IsRefusal contents (refusals.NotBuilt files.Queries)
+queries_refused contents {g} {tree = tree} grammar aspects makes source none =
+    no_queries grammar aspects makes.accepted source (λ qs s. none qs (subst (λ (r : RuleSet). SaysQueries g r tree contents.queries qs) (sym makes.are) s))
+
 -- no more queries than lines
-lines_most : {g : List Class} {rules : RuleSet} {tree : List Node} {lines : List (List ℕ)} {es : List Expression} → SaysLines g rules tree lines es → length es ≤ length lines
+lines_most : {g : List Class} {rules : RuleSet} {tree : List Node} {lines : List (List ℕ)} {es : List Query} → SaysLines g rules tree lines es → length es ≤ length lines
 lines_most over = omega arith
 lines_most (silent e more) = let m = lines_most more in omega arith
 lines_most (query s scanned says more) = let m = lines_most more in omega arith
 
-pub few_queries : {g : List Class} {rules : RuleSet} {tree : List Node} {bytes : List ℕ} {es : List Expression} → SaysQueries g rules tree bytes es → length es ≤ most_replies
+pub few_queries : {g : List Class} {rules : RuleSet} {tree : List Node} {bytes : List ℕ} {es : List Query} → SaysQueries g rules tree bytes es → length es ≤ most_replies
 few_queries s = let m = lines_most s.said in let f = s.few in omega arith

@@ -1,24 +1,27 @@
 -- What reading the files answers.
-use Rattle.std.specs.Prelude.{◌≡◌, ℕ, List, Result, Ok, Err}
+use Rattle.std.specs.Prelude.{◌≡◌, ℕ, List, Bool, false, Option, Some, None, Result, Ok, Err}
+use Rattle.rag_io.specs.declared.Memory.{Memory as OutOfMemory}
 use Rattle.broken_rules.specs.declared.broken.ReadFault.{ReadFault}
 use Rattle.broken_rules.specs.declared.broken.ReadFault.TheVariants as faults
-use Rattle.ast_grammar.specs.Grammar.{Class, superclasses_of}
-use Rattle.attr_types.specs.declared.rules.Rules.{Rules}
-use Rattle.attr_types.specs.Expression.{Expression}
-use Rattle.attr_types.specs.Items.{rules_in}
-use Rattle.attr_types.specs.Rules.{Item, RuleSet, rules_of}
+use Rattle.ast_grammar.specs.Grammar.{Class}
+use Rattle.attr_rules.specs.declared.rules.Rules.{Rules}
+use Rattle.attr_rules.specs.Kept.{rules_in}
+use Rattle.attr_rules.specs.Queries.{Query}
+use Rattle.attr_rules.specs.Rules.{RuleSet}
+use Rattle.attr_types.specs.Phases.{rules_of}
+use Rattle.jrag_reader.specs.Built.{all_built}
 use Rattle.jrag_reader.specs.declared.aspects.Aspects.{Aspects}
-use Rattle.jrag_reader.specs.Items.{Item as AspectItem, seen_aspects}
+use Rattle.jrag_reader.specs.Items.{Item as AspectItem, seen_aspects, seen_item}
+use Rattle.jrag_reader.specs.declared.items.Item.{Item as KeptItem}
 use Rattle.equation_law.specs.declared.system.Queries.{Queries as KeptQueries}
 use Rattle.tree_arena.specs.Nodes.{Node}
 use Rattle.equation_law.specs.Systems.{queries_in}
 use Rattle.query_runner.specs.declared.files.Refusal.{Refusal}
 use Rattle.query_runner.specs.declared.files.Refusal.TheVariants as refusals
 use Rattle.query_runner.specs.declared.files.Unread.{Unread}
-use Rattle.query_runner.specs.declared.files.Unread.TheVariants.{NotBuilt, Memory}
+use Rattle.query_runner.specs.declared.files.Unread.TheVariants.{Broken as Unaccepted, NotBuilt, Memory}
 use Rattle.query_runner.specs.declared.words.FileKind.{FileKind}
-use Rattle.query_runner.specs.Aspects.{SaysAspects}
-use Rattle.query_runner.specs.Files.{BreaksAspects, BreaksGrammar, BreaksTree, Contents, IsBroken, IsNotBuilt, IsTreeBroken, ReadsAspects, ReadsGrammar, ReadsTree, TreeContents}
+use Rattle.query_runner.specs.Files.{AreAccepted, AreRefused, BreaksAspects, BreaksGrammar, BreaksTree, Contents, IsBroken, IsCheckBroken, IsCheckNotBuilt, IsNotBuilt, IsTreeBroken, ReadsAspects, ReadsGrammar, ReadsTree, PairContents, is_contribution}
 use Rattle.query_runner.specs.Named.{seen_file}
 use Rattle.query_runner.specs.Queries.{SaysQueries}
 
@@ -34,16 +37,16 @@ AnswersWritten before bytes texts (Ok aspects) = ReadsAspects before bytes (seen
 AnswersWritten before bytes texts (Err (faults.Broken b)) = BreaksAspects before bytes b
 AnswersWritten before bytes texts (Err faults.Memory) = Unit {0}
 
--- The aspects say items over a grammar, and these are their rules.
-pub record ReadsRules (g : List Class) (aspects : List AspectItem) (rules : RuleSet) : Type 0 where
-  pub items : List Item
-  pub say : SaysAspects g aspects items
-  pub are : rules ≡ rules_of (superclasses_of g) items
+-- The aspects break no rule over a grammar, and these are their rules.
+pub record MakesRules (g : List Class) (aspects : List AspectItem) (rules : RuleSet) : Type 0 where
+  pub accepted : AreAccepted g aspects
+  pub are : rules ≡ rules_of g aspects
 
--- The rules of some aspects; or they say no items.
+-- The rules of some aspects; or the first rule that they break, or a form of theirs isn't evaluated so far.
 abbrev pub AnswersRules : List Class → List AspectItem → Result Rules Unread → Type 0
-AnswersRules g aspects (Ok rules) = ReadsRules g aspects (rules_in rules)
-AnswersRules g aspects (Err NotBuilt) = (items : List Item) → SaysAspects g aspects items → ⊥
+AnswersRules g aspects (Ok rules) = MakesRules g aspects (rules_in rules)
+AnswersRules g aspects (Err (Unaccepted b)) = AreRefused g aspects b
+AnswersRules g aspects (Err NotBuilt) = all_built aspects ≡ false
 AnswersRules g aspects (Err Memory) = Unit {0}
 
 -- The tree that the bytes say over the texts of a pool, with those that it then holds, or the first rule that they break.
@@ -53,13 +56,14 @@ AnswersSource g before bytes texts (Err (faults.Broken b)) = BreaksTree g before
 AnswersSource g before bytes texts (Err faults.Memory) = Unit {0}
 
 -- The queries that the bytes say; or they say none.
-abbrev pub AnswersAsked : List Class → RuleSet → List Node → List ℕ → Result KeptQueries Unread → Type 0
-AnswersAsked g rules tree bytes (Ok queries) = SaysQueries g rules tree bytes (queries_in queries)
-AnswersAsked g rules tree bytes (Err NotBuilt) = (es : List Expression) → SaysQueries g rules tree bytes es → ⊥
-AnswersAsked g rules tree bytes (Err Memory) = Unit {0}
+abbrev pub AnswersAsked : List Class → RuleSet → List Node → List ℕ → Result (Option KeptQueries) OutOfMemory → Type 0
+AnswersAsked g rules tree bytes (Ok (Some queries)) = SaysQueries g rules tree bytes (queries_in queries)
+AnswersAsked g rules tree bytes (Ok None) = (qs : List Query) → SaysQueries g rules tree bytes qs → ⊥
+AnswersAsked g rules tree bytes (Err m) = Unit {0}
 
 -- the refusal of a file
 abbrev pub Refuses : FileKind → Unread → Refusal → Type 0
+Refuses file (Unaccepted b) refusal = refusal ≡ refusals.Broken file b
 Refuses file NotBuilt refusal = refusal ≡ refusals.NotBuilt file
 Refuses file Memory refusal = refusal ≡ refusals.Memory
 
@@ -74,8 +78,18 @@ IsRefusal held (refusals.Broken file b) = IsBroken held (seen_file file) b
 IsRefusal held (refusals.NotBuilt file) = IsNotBuilt held (seen_file file)
 IsRefusal held refusals.Memory = Unit {0}
 
+-- why two files say no grammar with aspects that break no rule
+abbrev pub IsCheckRefusal : PairContents → Refusal → Type 0
+IsCheckRefusal held (refusals.Broken file b) = IsCheckBroken held (seen_file file) b
+IsCheckRefusal held (refusals.NotBuilt file) = IsCheckNotBuilt held (seen_file file)
+IsCheckRefusal held refusals.Memory = Unit {0}
+
 -- why two files say no tree
-abbrev pub IsTreeRefusal : TreeContents → Refusal → Type 0
+abbrev pub IsTreeRefusal : PairContents → Refusal → Type 0
 IsTreeRefusal held (refusals.Broken file b) = IsTreeBroken held (seen_file file) b
 IsTreeRefusal held (refusals.NotBuilt file) = ⊥
 IsTreeRefusal held refusals.Memory = Unit {0}
+
+-- an item, as it is kept, is a contribution
+unfoldable pub is_contributed : KeptItem → Bool
+is_contributed item = is_contribution (seen_item item)

@@ -2,18 +2,18 @@
 use Rattle.std.specs.Prelude.{◌≡◌, ℕ, ◌≤◌, List, Option, Some, None, length}
 use Rattle.rag_io.specs.Outside.{Named, longest_file, IsLong, Rose}
 use Rattle.query_runner.specs.declared.fetching.Contents as kept
-use Rattle.query_runner.specs.declared.fetching.TreeContents as kept_tree
+use Rattle.query_runner.specs.declared.fetching.PairContents as kept_pair
 use Rattle.query_runner.specs.declared.fetching.Stop.{Stop}
 use Rattle.query_runner.specs.declared.fetching.Stop.TheVariants as stops
-use Rattle.query_runner.specs.Files.{Contents, TreeContents}
-use Rattle.query_runner.specs.Output.{HoldsAll, HoldsShort, HoldsTree, IsFirstLong}
-use Rattle.query_runner.specs.Words.{FileNames, TreeNames}
+use Rattle.query_runner.specs.Files.{Contents, PairContents}
+use Rattle.query_runner.specs.Output.{HoldsAll, HoldsPair, HoldsShort, IsFirstLong}
+use Rattle.query_runner.specs.Words.{FileNames, PairNames}
 
 abbrev pub seen_contents : kept.Contents → Contents
 seen_contents c = record { ast = c.ast.items; jrag = c.jrag.items; tree = c.tree.items; queries = c.queries.items }
 
-abbrev pub seen_tree_contents : kept_tree.TreeContents → TreeContents
-seen_tree_contents c = record { ast = c.ast.items; tree = c.tree.items }
+abbrev pub seen_pair : kept_pair.PairContents → PairContents
+seen_pair c = record { ast = c.ast.items; other = c.other.items }
 
 -- none of the files is too long
 pub record AreShort (c : Contents) : Type 0 where
@@ -22,9 +22,9 @@ pub record AreShort (c : Contents) : Type 0 where
   pub tree : length c.tree ≤ longest_file
   pub queries : length c.queries ≤ longest_file
 
-pub record AreBothShort (c : TreeContents) : Type 0 where
+pub record AreBothShort (c : PairContents) : Type 0 where
   pub ast : length c.ast ≤ longest_file
-  pub tree : length c.tree ≤ longest_file
+  pub other : length c.other ≤ longest_file
 
 -- where the shelf tells its files, this one has these bytes, and they aren't too many
 abbrev pub Holds : Option (List Named) → List ℕ → List ℕ → Type 0
@@ -35,9 +35,9 @@ abbrev pub HoldsFetched : Option (List Named) → FileNames → Contents → Typ
 HoldsFetched None names held = Unit {0}
 HoldsFetched (Some files) names held = HoldsAll files names held
 
-abbrev pub HoldsTreeFetched : Option (List Named) → TreeNames → TreeContents → Type 0
-HoldsTreeFetched None names held = Unit {0}
-HoldsTreeFetched (Some files) names held = HoldsTree files names held
+abbrev pub HoldsPairFetched : Option (List Named) → PairNames → PairContents → Type 0
+HoldsPairFetched None names held = Unit {0}
+HoldsPairFetched (Some files) names held = HoldsPair files names held
 
 -- where the shelf tells its files, this one is too long
 abbrev pub LongWhereTold : Option (List Named) → List ℕ → Type 0

@@ -1,15 +1,9 @@
 pub mod Answered
-pub mod AspectSteps
-pub mod Aspects
 pub mod Built
 pub mod Fetched
 pub mod Files
-pub mod Heads
-pub mod Members
 pub mod Named
 pub mod Names
-pub mod Naming
-pub mod NamingSteps
 pub mod Output
 pub mod Queries
 pub mod QueryClaims
@@ -19,4 +13,5 @@ pub mod Replies
 pub mod Run
 pub mod Sentences
 pub mod Tokens
+pub mod Unread
 pub mod Words

@@ -4,21 +4,22 @@ use Rattle.query_runner.specs.declared.words.Command.TheVariants as commands
 use Rattle.query_runner.specs.declared.words.FileKind.{FileKind}
 use Rattle.query_runner.specs.declared.words.FileKind.TheVariants as kinds
 use Rattle.query_runner.specs.declared.words.Names as kept
-use Rattle.query_runner.specs.declared.words.TreeNames as kept_tree
+use Rattle.query_runner.specs.declared.words.PairNames as kept_pair
 use Rattle.query_runner.specs.Files.{File, Ast, Jrag, Tree, Queries}
 use Rattle.query_runner.specs.Output as output
-use Rattle.query_runner.specs.Words.{Command, FileNames, PrintTree, Run, TreeNames}
+use Rattle.query_runner.specs.Words.{Check, Command, FileNames, PairNames, PrintTree, Run}
 use Rattle.std.specs.Prelude.{ℕ, List}
 
 abbrev pub seen_names : kept.Names → FileNames
 seen_names n = record { ast = n.ast.now; jrag = n.jrag.now; tree = n.tree.now; queries = n.queries.now }
 
-abbrev pub seen_tree_names : kept_tree.TreeNames → TreeNames
-seen_tree_names n = record { ast = n.ast.now; tree = n.tree.now }
+abbrev pub seen_pair_names : kept_pair.PairNames → PairNames
+seen_pair_names n = record { ast = n.ast.now; other = n.other.now }
 
 abbrev pub seen_command : kept_command.Command → Command
 seen_command (commands.Run n) = Run (seen_names n)
-seen_command (commands.Tree n) = PrintTree (seen_tree_names n)
+seen_command (commands.Check n) = Check (seen_pair_names n)
+seen_command (commands.Tree n) = PrintTree (seen_pair_names n)
 
 abbrev pub seen_file : FileKind → File
 seen_file kinds.Ast = Ast
@@ -29,5 +30,5 @@ seen_file kinds.Queries = Queries
 abbrev pub name_of : FileNames → File → List ℕ
 name_of names file = output.name_of names file
 
-abbrev pub tree_name_of : TreeNames → File → List ℕ
-tree_name_of names file = output.tree_name_of names file
+abbrev pub pair_name_of : PairNames → File → List ℕ
+pair_name_of names file = output.pair_name_of names file

@@ -4,33 +4,35 @@ use Rattle.std.specs.Fmt.{decimal, signed_decimal}
 use Rattle.rag_io.specs.Outside.{Named, content_of, longest_file, IsLong, IsShort}
 use Rattle.broken_rules.specs.Codes.{code_of}
 use Rattle.broken_rules.specs.declared.broken.Broken.{Broken}
-use Rattle.attr_types.specs.Expression.{Expression}
+use Rattle.rag_io.specs.Quoting.{quoted}
+use Rattle.attr_rules.specs.Queries.{Query as Asked}
 use Rattle.equation_law.specs.Loops.{HasLoop}
 use Rattle.equation_law.specs.Names.{Null, At, Source, Query}
-use Rattle.equation_law.specs.Values.{Value, Truth, Int, Node}
+use Rattle.equation_law.specs.Values.{Value, Truth, Int, Text, Node}
 use Rattle.equation_law.specs.Program.{Program}
 use Rattle.equation_law.specs.Equations.{HasValue}
-use Rattle.query_runner.specs.Files.{Contents, TreeContents, SaysProgram, SaysText, File, Ast, Jrag, Tree, Queries, IsBroken, IsNotBuilt, IsTreeBroken}
-use Rattle.query_runner.specs.Words.{Command, FileNames, PrintTree, Run, TreeNames, command_of}
+use Rattle.query_runner.specs.Files.{Contents, PairContents, SaysCounts, SaysProgram, SaysText, File, Ast, Jrag, Tree, Queries, IsBroken, IsCheckBroken, IsCheckNotBuilt, IsNotBuilt, IsTreeBroken}
+use Rattle.query_runner.specs.Words.{Check, Command, FileNames, PairNames, PrintTree, Run, command_of}
 
 abbrev pub truth_text : Bool → List ℕ
 truth_text true = codes "true"
 truth_text false = codes "false"
 
--- the text of a value in a reply; a source node is `@` and its number
+-- the text of a value in a reply; a text stands in quotes, and a source node is `@` and its number
 pub data IsReplyText : Value → List ℕ → Type 0 where
   of_truth : (b : Bool) → IsReplyText (Truth b) (truth_text b)
   of_int : (z : ℤ) → IsReplyText (Int z) (signed_decimal z)
+  of_text : (t : List ℕ) → IsReplyText (Text t) (quoted t)
   of_null : IsReplyText (Node Null) (codes "null")
   of_source : (k : ℕ) → IsReplyText (Node (At (Source k))) (codes "@" ++ decimal k)
 
 -- One line for each query from the q-th on: the text of its value in the solution, or `circular` where it has a
 -- loop, and a line feed.
-pub data AreReplies (p : Program) : ℕ → List Expression → List ℕ → Type 0 where
+pub data AreReplies (p : Program) : ℕ → List Asked → List ℕ → Type 0 where
   none : {q : ℕ} → AreReplies p q [] []
-  reply : {q : ℕ} {e : Expression} {es : List Expression} {v : Value} {text rest : List ℕ} → HasValue p (Query q) v → IsReplyText v text
+  reply : {q : ℕ} {e : Asked} {es : List Asked} {v : Value} {text rest : List ℕ} → HasValue p (Query q) v → IsReplyText v text
       → AreReplies p (suc q) es rest → AreReplies p q (e ∷ es) (text ++ 10 ∷ rest)
-  looped : {q : ℕ} {e : Expression} {es : List Expression} {rest : List ℕ} → HasLoop p (Query q)
+  looped : {q : ℕ} {e : Asked} {es : List Asked} {rest : List ℕ} → HasLoop p (Query q)
       → AreReplies p (suc q) es rest → AreReplies p q (e ∷ es) (codes "circular" ++ 10 ∷ rest)
 
 -- The shelf holds these bytes under a name, and they aren't too many.
@@ -46,9 +48,9 @@ pub record HoldsAll (files : List Named) (names : FileNames) (held : Contents) :
   pub queries : HoldsShort files names.queries held.queries
 
 -- It holds these bytes under the two names.
-pub record HoldsTree (files : List Named) (names : TreeNames) (held : TreeContents) : Type 0 where
+pub record HoldsPair (files : List Named) (names : PairNames) (held : PairContents) : Type 0 where
   pub ast : HoldsShort files names.ast held.ast
-  pub tree : HoldsShort files names.tree held.tree
+  pub other : HoldsShort files names.other held.other
 
 -- The output for some words, over the files that a shelf holds: the replies of the program that they say.
 pub record Output (words : List (List ℕ)) (files : List Named) (text : List ℕ) : Type 0 where
@@ -60,12 +62,20 @@ pub record Output (words : List (List ℕ)) (files : List Named) (text : List �
   pub said : SaysProgram contents program
   pub replies : AreReplies program 0 program.queries text
 
+-- The same where the words ask for the counts of aspects.
+pub record CheckOutput (words : List (List ℕ)) (files : List Named) (text : List ℕ) : Type 0 where
+  pub names : PairNames
+  pub contents : PairContents
+  pub read : command_of words ≡ Some (Check names)
+  pub held : HoldsPair files names contents
+  pub said : SaysCounts contents text
+
 -- The same where the words ask for the text of a tree.
 pub record TreeOutput (words : List (List ℕ)) (files : List Named) (text : List ℕ) : Type 0 where
-  pub names : TreeNames
-  pub contents : TreeContents
+  pub names : PairNames
+  pub contents : PairContents
   pub read : command_of words ≡ Some (PrintTree names)
-  pub held : HoldsTree files names contents
+  pub held : HoldsPair files names contents
   pub said : SaysText contents text
 
 abbrev pub name_of : FileNames → File → List ℕ
@@ -74,23 +84,24 @@ name_of names Jrag = names.jrag
 name_of names Tree = names.tree
 name_of names Queries = names.queries
 
--- `tree` has no aspects and no queries
-abbrev pub tree_name_of : TreeNames → File → List ℕ
-tree_name_of names Ast = names.ast
-tree_name_of names Jrag = names.tree
-tree_name_of names Tree = names.tree
-tree_name_of names Queries = names.tree
+-- `check` and `tree` have two files
+abbrev pub pair_name_of : PairNames → File → List ℕ
+pair_name_of names Ast = names.ast
+pair_name_of names Jrag = names.other
+pair_name_of names Tree = names.other
+pair_name_of names Queries = names.other
 
 -- the files in the order of the command
 abbrev pub in_order : FileNames → List (List ℕ)
 in_order names = names.ast ∷ names.jrag ∷ names.tree ∷ names.queries ∷ []
 
-abbrev pub tree_in_order : TreeNames → List (List ℕ)
-tree_in_order names = names.ast ∷ names.tree ∷ []
+abbrev pub pair_in_order : PairNames → List (List ℕ)
+pair_in_order names = names.ast ∷ names.other ∷ []
 
 abbrev pub files_of : Command → List (List ℕ)
 files_of (Run names) = in_order names
-files_of (PrintTree names) = tree_in_order names
+files_of (Check names) = pair_in_order names
+files_of (PrintTree names) = pair_in_order names
 
 -- the first of some files that is too long, those before it being held and short enough
 pub data IsFirstLong (files : List Named) : List (List ℕ) → List ℕ → Type 0 where
@@ -109,17 +120,22 @@ pub data IsRefused (words : List (List ℕ)) (files : List Named) : List ℕ →
       → IsRefused words files (broken_line (name_of names file) b)
   not_built : {names : FileNames} {contents : Contents} {file : File} → command_of words ≡ Some (Run names) → HoldsAll files names contents → IsNotBuilt contents file
       → IsRefused words files (name_of names file ++ codes ": not built\n")
-  broken_tree : {names : TreeNames} {contents : TreeContents} {file : File} {b : Broken} → command_of words ≡ Some (PrintTree names) → HoldsTree files names contents → IsTreeBroken contents file b
-      → IsRefused words files (broken_line (tree_name_of names file) b)
+  broken_check : {names : PairNames} {contents : PairContents} {file : File} {b : Broken} → command_of words ≡ Some (Check names) → HoldsPair files names contents → IsCheckBroken contents file b
+      → IsRefused words files (broken_line (pair_name_of names file) b)
+  check_not_built : {names : PairNames} {contents : PairContents} {file : File} → command_of words ≡ Some (Check names) → HoldsPair files names contents → IsCheckNotBuilt contents file
+      → IsRefused words files (pair_name_of names file ++ codes ": not built\n")
+  broken_tree : {names : PairNames} {contents : PairContents} {file : File} {b : Broken} → command_of words ≡ Some (PrintTree names) → HoldsPair files names contents → IsTreeBroken contents file b
+      → IsRefused words files (broken_line (pair_name_of names file) b)
 
 -- the usage text
 abbrev pub usage : List ℕ
 usage = codes "usage: rag run [--callers N] [--cells N] [--count] AST JRAG TREE QUERIES\n       rag check AST JRAG\n       rag tree AST TREE\n       rag bulk N [--callers N]\n"
 
--- What is to be written for some words, and the status that goes with it: the replies or the text of the tree with 0, the line of a file
+-- What is to be written for some words, and the status that goes with it: the replies, the counts or the text of the tree with 0, the line of a file
 -- that is refused with 1, the usage text with 2.
 pub data Answers (words : List (List ℕ)) (files : List Named) : ℕ → List ℕ → Type 0 where
   replied : {text : List ℕ} → Output words files text → Answers words files 0 text
+  counted : {text : List ℕ} → CheckOutput words files text → Answers words files 0 text
   printed : {text : List ℕ} → TreeOutput words files text → Answers words files 0 text
   refused : {line : List ℕ} → IsRefused words files line → Answers words files 1 line
   misused : command_of words ≡ None → Answers words files 2 usage

@@ -12,11 +12,10 @@ use Rattle.rag_io.specs.declared.token.TokenKind.TheVariants as tokens
 use Rattle.ll_parser.specs.Grammar.{IsSentence}
 use Rattle.ast_grammar.specs.declared.grammar.ClassId.{ClassId}
 use Rattle.ast_grammar.specs.Grammar.{Class}
-use Rattle.attr_types.specs.declared.queries.QueryEq.{QueryEq}
-use Rattle.attr_types.specs.Accessors.{named_on}
-use Rattle.attr_types.specs.Expression.{Expression, Source}
-use Rattle.attr_types.specs.Queries.{query_of}
-use Rattle.attr_types.specs.Rules.{RuleSet, attribute_named}
+use Rattle.attr_rules.specs.declared.queries.QueryEq.{QueryEq}
+use Rattle.attr_rules.specs.Queries.{Query, query_of}
+use Rattle.attr_rules.specs.Rules.{RuleSet}
+use Rattle.attr_types.specs.Asked.{query_named}
 use Rattle.tree_arena.specs.Nodes.{Node}
 use Rattle.query_runner.specs.QueryGrammar.{query_grammar}
 use Rattle.query_runner.specs.Names.{is_name}
@@ -39,12 +38,12 @@ abbrev pub query_class : Lexed → ℕ
 query_class t = class_of_parts t.kind t.text
 
 -- The tokens of a line say this query: the accessor or the attribute of that name of the node's class, at the node.
-pub record SaysQuery (g : List Class) (rules : RuleSet) (tree : List Node) (ts : List Lexed) (e : Expression) : Type 0 where
+pub record SaysQuery (g : List Class) (rules : RuleSet) (tree : List Node) (ts : List Lexed) (e : Query) : Type 0 where
   pub events : List ℕ
   pub sentence : IsSentence query_grammar 0 (map query_class ts) events
   pub class : ClassId
   pub node : option_map (λ n. n.class) (slice_get tree (decimal (text_at ts 1))) ≡ Some class
-  pub is : named_on g (attribute_named rules) class (text_at ts 3) (Source (decimal (text_at ts 1))) ≡ Some e
+  pub is : query_named g rules (decimal (text_at ts 1)) class (text_at ts 3) ≡ Some e
 
 -- no byte of a line is a line feed
 abbrev pub is_inside : ℕ → Bool
@@ -63,17 +62,17 @@ is_silent [] = true
 is_silent (b ∷ line) = if is_white b then is_silent line else b == 35
 
 -- The lines say these queries, one for each that isn't silent.
-pub data SaysLines (g : List Class) (rules : RuleSet) (tree : List Node) : List (List ℕ) → List Expression → Type 0 where
+pub data SaysLines (g : List Class) (rules : RuleSet) (tree : List Node) : List (List ℕ) → List Query → Type 0 where
   over : SaysLines g rules tree [] []
-  silent : {line : List ℕ} {lines : List (List ℕ)} {es : List Expression} → is_silent line ≡ true → SaysLines g rules tree lines es → SaysLines g rules tree (line ∷ lines) es
-  query : {line : List ℕ} {lines : List (List ℕ)} {e : Expression} {es : List Expression} {ts : List Lexed} → is_silent line ≡ false
+  silent : {line : List ℕ} {lines : List (List ℕ)} {es : List Query} → is_silent line ≡ true → SaysLines g rules tree lines es → SaysLines g rules tree (line ∷ lines) es
+  query : {line : List ℕ} {lines : List (List ℕ)} {e : Query} {es : List Query} {ts : List Lexed} → is_silent line ≡ false
       → IsTokens first_place line ts → SaysQuery g rules tree ts e → SaysLines g rules tree lines es → SaysLines g rules tree (line ∷ lines) (e ∷ es)
 
 abbrev pub most_lines : ℕ
 most_lines = 65536
 
 -- The bytes of a query file say these queries.
-pub record SaysQueries (g : List Class) (rules : RuleSet) (tree : List Node) (bytes : List ℕ) (es : List Expression) : Type 0 where
+pub record SaysQueries (g : List Class) (rules : RuleSet) (tree : List Node) (bytes : List ℕ) (es : List Query) : Type 0 where
   pub lines : List (List ℕ)
   pub are_lines : AreLines bytes lines
   pub few : length lines ≤ most_lines
@@ -82,5 +81,5 @@ pub record SaysQueries (g : List Class) (rules : RuleSet) (tree : List Node) (by
 -- what reading the bytes of a query file answers
 abbrev pub AnswersQueries : List Class → RuleSet → List Node → List ℕ → Result (Option (Vec QueryEq Global)) Memory → Type 0
 AnswersQueries g rules tree bytes (Ok (Some list)) = SaysQueries g rules tree bytes (map query_of list.items)
-AnswersQueries g rules tree bytes (Ok None) = (es : List Expression) → SaysQueries g rules tree bytes es → ⊥
+AnswersQueries g rules tree bytes (Ok None) = (es : List Query) → SaysQueries g rules tree bytes es → ⊥
 AnswersQueries g rules tree bytes (Err m) = Unit {0}

@@ -14,15 +14,16 @@ pub record FileNames : Type 0 where
   pub tree : List ℕ
   pub queries : List ℕ
 
--- the names of the two files of `tree`
-pub record TreeNames : Type 0 where
+-- the names of the two files of `check` or of `tree`: a grammar, and aspects or a tree
+pub record PairNames : Type 0 where
   pub ast : List ℕ
-  pub tree : List ℕ
+  pub other : List ℕ
 
 -- what the words ask for
 pub data Command : Type 0 where
   Run : FileNames → Command
-  PrintTree : TreeNames → Command
+  Check : PairNames → Command
+  PrintTree : PairNames → Command
 
 -- a word that may name a file: it doesn't begin with `-`, or is that byte alone
 abbrev pub may_name_file : List ℕ → Bool
@@ -39,20 +40,21 @@ names_of (w ∷ a ∷ b ∷ c ∷ d ∷ []) = if bytes_eq w (codes "run") && (ma
     then Some (record { ast = a; jrag = b; tree = c; queries = d }) else None
 names_of (w ∷ a ∷ b ∷ c ∷ d ∷ e ∷ words) = None
 
--- `tree` and two names of files
-abbrev pub tree_names_of : List (List ℕ) → Option TreeNames
-tree_names_of [] = None
-tree_names_of (w ∷ []) = None
-tree_names_of (w ∷ a ∷ []) = None
-tree_names_of (w ∷ a ∷ b ∷ []) = if bytes_eq w (codes "tree") && (may_name_file a && may_name_file b) then Some (record { ast = a; tree = b }) else None
-tree_names_of (w ∷ a ∷ b ∷ c ∷ words) = None
+-- a command and two names of files
+abbrev pub pair_names_of : List ℕ → List (List ℕ) → Option PairNames
+pair_names_of command [] = None
+pair_names_of command (w ∷ []) = None
+pair_names_of command (w ∷ a ∷ []) = None
+pair_names_of command (w ∷ a ∷ b ∷ []) = if bytes_eq w command && (may_name_file a && may_name_file b) then Some (record { ast = a; other = b }) else None
+pair_names_of command (w ∷ a ∷ b ∷ c ∷ words) = None
 
--- the first of two commands that the words give
-abbrev pub either : Option FileNames → Option TreeNames → Option Command
-either None None = None
-either None (Some names) = Some (PrintTree names)
-either (Some names) tree = Some (Run names)
+-- the first of three commands that the words give
+abbrev pub first_of : Option FileNames → Option PairNames → Option PairNames → Option Command
+first_of None None None = None
+first_of None None (Some names) = Some (PrintTree names)
+first_of None (Some names) tree = Some (Check names)
+first_of (Some names) check tree = Some (Run names)
 
 -- what the words ask for; every other list of words is refused
 abbrev pub command_of : List (List ℕ) → Option Command
-command_of words = either (names_of words) (tree_names_of words)
+command_of words = first_of (names_of words) (pair_names_of (codes "check") words) (pair_names_of (codes "tree") words)

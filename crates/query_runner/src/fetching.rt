@@ -1,11 +1,11 @@
 // Fetches the files of a command, in their order.
 ghost use Rattle.std.specs.Prelude.{◌≡◌, ◌≤◌, length, IfOk, IfErr};
 ghost use Rattle.rag_io.specs.Outside.{longest_file};
-ghost use Rattle.query_runner.specs.Fetched.{seen_contents, seen_tree_contents, AreShort, AreBothShort, StopsOne, StopsAll, Holds, HoldsFetched, HoldsTreeFetched};
-ghost use Rattle.query_runner.specs.Named.{seen_names, seen_tree_names};
-ghost use Rattle.query_runner.specs.Output.{in_order, tree_in_order};
+ghost use Rattle.query_runner.specs.Fetched.{seen_contents, seen_pair, AreShort, AreBothShort, StopsOne, StopsAll, Holds, HoldsFetched, HoldsPairFetched};
+ghost use Rattle.query_runner.specs.Named.{seen_names, seen_pair_names};
+ghost use Rattle.query_runner.specs.Output.{in_order, pair_in_order};
 
-use crate::words::{Names, TreeNames};
+use crate::words::{Names, PairNames};
 use rag_io::{FetchFault, Shelf};
 use std::alloc::Global;
 
@@ -18,11 +18,11 @@ pub(crate) struct Contents {
     pub queries: Vec<u8>,
 }
 
-/// The bytes of a grammar and a tree.
+/// The bytes of a grammar and of one file more.
 #[derive(Drop)]
-pub(crate) struct TreeContents {
+pub(crate) struct PairContents {
     pub ast: Vec<u8>,
-    pub tree: Vec<u8>,
+    pub other: Vec<u8>,
 }
 
 /// Why fetching stopped.
@@ -75,18 +75,18 @@ pub(crate) fn fetch_all<'a, S: Shelf>(
     })
 }
 
-/// Fetches the two files of `tree`, up to the first that is refused.
-pub(crate) fn fetch_tree<'a, S: Shelf>(
+/// Fetches the two files of `check` or of `tree`, up to the first that is refused.
+pub(crate) fn fetch_pair<'a, S: Shelf>(
     alloc: Global,
     shelf: &mut S,
-    names: TreeNames<'a>,
-) -> Result<TreeContents, Stop<'a>>
-    ensures held { IfOk result (λ c. HoldsTreeFetched (S.files shelf.old) (seen_tree_names names.entry) (seen_tree_contents c)) }
-    ensures fits { IfOk result (λ c. AreBothShort (seen_tree_contents c)) }
-    ensures cause { IfErr result (λ stop. StopsAll (S.files shelf.old) (tree_in_order (seen_tree_names names.entry)) (S.faults shelf.old) (S.faults shelf.new) stop) }
+    names: PairNames<'a>,
+) -> Result<PairContents, Stop<'a>>
+    ensures held { IfOk result (λ c. HoldsPairFetched (S.files shelf.old) (seen_pair_names names.entry) (seen_pair c)) }
+    ensures fits { IfOk result (λ c. AreBothShort (seen_pair c)) }
+    ensures cause { IfErr result (λ stop. StopsAll (S.files shelf.old) (pair_in_order (seen_pair_names names.entry)) (S.faults shelf.old) (S.faults shelf.new) stop) }
     ensures later { S.faults shelf.old ≤ S.faults shelf.new }
 {
     let ast = fetch(alloc, shelf, names.ast)?;
-    let tree = fetch(alloc, shelf, names.tree)?;
-    Ok(TreeContents { ast, tree })
+    let other = fetch(alloc, shelf, names.other)?;
+    Ok(PairContents { ast, other })
 }

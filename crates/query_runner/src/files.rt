@@ -1,24 +1,27 @@
 // From the bytes of the files to what they say.
 ghost use Rattle.std.specs.Prelude.{◌≡◌, ◌≤◌, length, IfOk, IfErr};
+ghost use Rattle.std.specs.List.{count_by};
+ghost use Rattle.ast_grammar.specs.Grammar.{superclasses_of};
 ghost use Rattle.rag_io.specs.Outside.{longest_file};
-ghost use Rattle.attr_types.specs.Items.{rules_in};
+ghost use Rattle.attr_rules.specs.Kept.{rules_in};
+ghost use Rattle.attr_rules.specs.Rules.{RuleSet};
 ghost use Rattle.equation_law.specs.Systems.{program_of};
 ghost use Rattle.jrag_reader.specs.Items.{seen_aspects};
 ghost use Rattle.query_runner.specs.declared.files.Refusal.TheVariants.{Memory as NoMemory};
-ghost use Rattle.query_runner.specs.declared.files.Unread.TheVariants.{Memory as OutOfMemory};
-ghost use Rattle.query_runner.specs.Built.{AnswersGrammar, AnswersWritten, AnswersRules, AnswersSource, AnswersAsked, BreaksFile, Refuses, IsRefusal, IsTreeRefusal};
-ghost use Rattle.query_runner.specs.Fetched.{seen_contents, seen_tree_contents, AreShort, AreBothShort};
-ghost use Rattle.query_runner.specs.Files.{SaysProgram, SaysText, no_texts};
+ghost use Rattle.query_runner.specs.Unread.{unread_for};
+ghost use Rattle.query_runner.specs.Built.{AnswersGrammar, AnswersWritten, AnswersRules, AnswersSource, AnswersAsked, BreaksFile, Refuses, IsRefusal, IsCheckRefusal, IsTreeRefusal, is_contributed};
+ghost use Rattle.query_runner.specs.Fetched.{seen_contents, seen_pair, AreShort, AreBothShort};
+ghost use Rattle.query_runner.specs.Files.{SaysCounts, SaysProgram, SaysText, counts_line, counts_of, no_texts};
 
-use crate::aspects::read_aspects;
-use crate::fetching::{Contents, TreeContents};
+use crate::fetching::{Contents, PairContents};
 use crate::queries::read_queries;
 use crate::words::FileKind;
 use ast_grammar::{Grammar, read_ast};
-use attr_types::Rules;
+use attr_rules::Rules;
+use attr_types::check;
 use broken_rules::{Broken, ReadFault, Rule};
 use equation_law::{Queries, System};
-use jrag_reader::{Aspects, built, read_jrag};
+use jrag_reader::{Aspects, Item, built, read_jrag};
 use rag_io::{Memory, Pool, ScanFault, scan};
 use std::alloc::Global;
 use tree_arena::Tree;
@@ -28,17 +31,22 @@ use tree_writer::write_tree;
 /// Why a file was not read.
 #[derive(Clone, Copy, Debug, PartialEq, Eq)]
 pub(crate) enum Unread {
+    /// It breaks a rule, and this is the first one.
+    Broken(Broken),
     /// It isn't in the form that is evaluated so far.
     NotBuilt,
     /// Want of memory.
     Memory,
 }
 
-impl From<Memory> for Unread {
-    ghost from_gives = { λ _ unread. unread ≡ OutOfMemory };
+impl From<ReadFault> for Unread {
+    ghost from_gives = { λ fault unread. unread ≡ unread_for fault };
 
-    fn from(_: Memory) -> Unread {
-        Unread::Memory
+    fn from(fault: ReadFault) -> Unread {
+        match fault {
+            ReadFault::Broken(broken) => Unread::Broken(broken),
+            ReadFault::Memory => Unread::Memory,
+        }
     }
 }
 
@@ -65,6 +73,7 @@ fn refusal_of(file: FileKind, unread: Unread) -> Refusal
     ensures { Refuses file unread result }
 {
     match unread {
+        Unread::Broken(broken) => Refusal::Broken(file, broken),
         Unread::NotBuilt => Refusal::NotBuilt(file),
         Unread::Memory => Refusal::Memory,
     }
@@ -100,17 +109,14 @@ fn read_written(alloc: Global, bytes: &[u8], pool: &mut Pool) -> Result<Aspects,
     }
 }
 
-// The rules of the aspects, where all of their forms are evaluated so far and they break nothing over the grammar.
+// The rules of the aspects, where all of their forms are evaluated so far and they break no rule over the grammar.
 fn read_rules(alloc: Global, grammar: &Grammar, aspects: &Aspects) -> Result<Rules, Unread>
     ensures { AnswersRules grammar.now (seen_aspects aspects.now) result }
 {
     if !built(aspects) {
         return Err(Unread::NotBuilt);
     }
-    match read_aspects(alloc, grammar, aspects)? {
-        Some(items) => Ok(Rules::of_equations(alloc, grammar, items)?),
-        None => Err(Unread::NotBuilt),
-    }
+    Ok(check(alloc, grammar, aspects)?)
 }
 
 // The tree that the bytes say, whose texts go into the pool, or the first rule that they break: N1 at a place where no token begins.
@@ -139,14 +145,13 @@ fn read_asked(
     rules: &Rules,
     tree: &Tree,
     bytes: &[u8],
-) -> Result<Queries, Unread>
-    requires { length bytes.now ≤ longest_file }
+) -> Result<Option<Queries>, Memory>
+    requires short { length bytes.now ≤ longest_file }
+    requires classes { (rules_in rules.now).superclasses ≡ superclasses_of grammar.now }
     ensures { AnswersAsked grammar.now (rules_in rules.now) tree.now bytes.now result }
 {
-    match read_queries(alloc, grammar, rules, tree, bytes)? {
-        Some(list) => Ok(Queries::new(list)),
-        None => Err(Unread::NotBuilt),
-    }
+    let list = read_queries(alloc, grammar, rules, tree, bytes)?;
+    Ok(list.map(|list| Queries::new(list)))
 }
 
 // The pool before the first file is read.
@@ -190,26 +195,105 @@ pub(crate) fn read_system(alloc: Global, contents: &Contents) -> Result<System, 
         Ok(tree) => tree,
         Err(fault) => return Err(broken_file(FileKind::Tree, fault)),
     };
-    match read_asked(alloc, &grammar, &rules, &tree, &contents.queries) {
-        Ok(queries) => Ok(System::new(grammar, rules, tree, pool, queries)),
-        Err(unread) => Err(refusal_of(FileKind::Queries, unread)),
+    match read_asked(alloc, &grammar, &rules, &tree, &contents.queries)? {
+        Some(queries) => Ok(System::new(grammar, rules, tree, pool, queries)),
+        None => Err(Refusal::NotBuilt(FileKind::Queries)),
     }
 }
 
 /// The canonical text of the tree that a grammar and a tree file say, tested in this order.
-pub(crate) fn tree_text(alloc: Global, contents: &TreeContents) -> Result<Vec<u8>, Refusal>
-    requires { AreBothShort (seen_tree_contents contents.now) }
-    ensures said { IfOk result (λ text. SaysText (seen_tree_contents contents.now) text.items) }
-    ensures refused { IfErr result (λ refusal. IsTreeRefusal (seen_tree_contents contents.now) refusal) }
+pub(crate) fn tree_text(alloc: Global, contents: &PairContents) -> Result<Vec<u8>, Refusal>
+    requires { AreBothShort (seen_pair contents.now) }
+    ensures said { IfOk result (λ text. SaysText (seen_pair contents.now) text.items) }
+    ensures refused { IfErr result (λ refusal. IsTreeRefusal (seen_pair contents.now) refusal) }
 {
     let mut pool = no_texts(alloc)?;
     let grammar = match read_grammar(alloc, &contents.ast) {
         Ok(grammar) => grammar,
         Err(fault) => return Err(broken_file(FileKind::Ast, fault)),
     };
-    let tree = match read_source(alloc, &grammar, &contents.tree, &mut pool) {
+    let tree = match read_source(alloc, &grammar, &contents.other, &mut pool) {
         Ok(tree) => tree,
         Err(fault) => return Err(broken_file(FileKind::Tree, fault)),
     };
     Ok(write_tree(alloc, &grammar, &tree, &pool)?)
+}
+
+#[tactic(auto, unfolding(crate::specs::Built::is_contributed))]
+fn is_contribution(item: &Item) -> bool
+    ensures { result ≡ is_contributed item.now }
+{
+    matches!(item, Item::Contribution(_))
+}
+
+// How many contributions there are among some items.
+fn contributions(items: &[Item]) -> usize
+    ensures { result ≡ count_by is_contributed items.now }
+{
+    let mut count = 0;
+    for item in items {
+        if is_contribution(item) {
+            count += 1;
+        }
+    }
+    count
+}
+
+// How many there are of what aspects declare.
+#[derive(Clone, Copy)]
+struct Counts {
+    classes: u32,
+    attributes: u32,
+    equations: u32,
+    contributions: usize,
+}
+
+// The line of counts.
+fn line_of(alloc: Global, counts: Counts) -> Result<Vec<u8>, Memory>
+    ensures { IfOk result (λ text. text.items ≡ counts_line counts.classes counts.attributes counts.equations counts.contributions) }
+{
+    let Counts {
+        classes,
+        attributes,
+        equations,
+        contributions,
+    } = counts;
+    match format!(in alloc;
+        "ok: {classes} classes, {attributes} attributes, {equations} equations, {contributions} contributions\n"
+    ) {
+        Ok(line) => Ok(line.into_bytes()),
+        Err(_) => Err(Memory),
+    }
+}
+
+fn counted(grammar: &Grammar, rules: &Rules, aspects: &Aspects) -> Counts
+    ensures { counts_line result.classes result.attributes result.equations result.contributions ≡ counts_of grammar.now (rules_in rules.now) (seen_aspects aspects.now) }
+{
+    Counts {
+        classes: grammar.classes(),
+        attributes: rules.attrs(),
+        equations: rules.equations(),
+        contributions: contributions(&aspects.items),
+    }
+}
+
+/// The counts of a grammar and of aspects that break no rule, tested in this order.
+pub(crate) fn counts_text(alloc: Global, contents: &PairContents) -> Result<Vec<u8>, Refusal>
+    requires { AreBothShort (seen_pair contents.now) }
+    ensures said { IfOk result (λ text. SaysCounts (seen_pair contents.now) text.items) }
+    ensures refused { IfErr result (λ refusal. IsCheckRefusal (seen_pair contents.now) refusal) }
+{
+    let mut pool = no_texts(alloc)?;
+    let grammar = match read_grammar(alloc, &contents.ast) {
+        Ok(grammar) => grammar,
+        Err(fault) => return Err(broken_file(FileKind::Ast, fault)),
+    };
+    let aspects = match read_written(alloc, &contents.other, &mut pool) {
+        Ok(aspects) => aspects,
+        Err(fault) => return Err(broken_file(FileKind::Jrag, fault)),
+    };
+    match read_rules(alloc, &grammar, &aspects) {
+        Ok(rules) => Ok(line_of(alloc, counted(&grammar, &rules, &aspects))?),
+        Err(unread) => Err(refusal_of(FileKind::Jrag, unread)),
+    }
 }

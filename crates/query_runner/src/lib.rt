@@ -2,13 +2,9 @@
 //! call.
 #![tactic(auto)]
 
-mod aspects;
 mod fetching;
 mod files;
-mod heads;
 mod laws;
-mod members;
-mod naming;
 mod putting;
 mod queries;
 mod query_table;
@@ -19,7 +15,6 @@ mod replies;
 mod run_tests;
 mod running;
 mod sentences;
-mod typed;
 mod words;
 
 pub use laws::one_answer;

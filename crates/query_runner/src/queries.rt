@@ -4,21 +4,24 @@ ghost use Rattle.std.specs.List.{take_while};
 ghost use Rattle.rag_io.specs.Lexemes.{is_white};
 ghost use Rattle.rag_io.specs.Outside.{longest_file};
 ghost use Rattle.rag_io.specs.Tokens.{AreTokens, seen_tokens};
-ghost use Rattle.attr_types.specs.Items.{rules_in};
-ghost use Rattle.attr_types.specs.Queries.{query_of};
+ghost use Rattle.ast_grammar.specs.Grammar.{superclasses_of};
+ghost use Rattle.attr_rules.specs.Kept.{rules_in};
+ghost use Rattle.attr_rules.specs.Queries.{query_of};
 ghost use Rattle.query_runner.specs.Queries.{symbol_class, query_class, is_inside, is_silent, AnswersQueries};
 ghost use Rattle.query_runner.specs.QueryGrammar.{query_grammar};
 ghost use Rattle.query_runner.specs.QuerySteps.{FindsNode, AnswersCall, AnswersQuery, AnswersLine, IsFirstLine, ReadsLine};
 ghost use Rattle.query_runner.specs.Sentences.{Recognizes};
+ghost use Rattle.query_runner.specs.Tokens.{text_at as lexed_text};
 
-use crate::members::member_named;
 use crate::query_table::{QUERY_BODIES, QUERY_CHOICE, QUERY_OF, QUERY_STARTS};
 use crate::sentences::{Words, classes_of, is_name, sentence, text_at};
 use ast_grammar::Grammar;
-use attr_types::{QueryEq, Rules, TExpr};
+use attr_rules::{QueryEq, Rules};
+use attr_types::query_of_call;
 use ll_parser::Table;
-use rag_io::{Memory, ScanFault, Token, TokenKind, capped, scan};
+use rag_io::{Memory, Place, ScanFault, Token, TokenKind, capped, scan};
 use std::alloc::Global;
+use token_texts::place_of;
 use tree_arena::Tree;
 
 /// A query file has at most so many lines.
@@ -81,25 +84,39 @@ fn find_node(tree: &Tree, digits: &[u8]) -> Option<u32>
     if node < tree.len() { Some(node) } else { None }
 }
 
+// The place of the token of this number.
+fn place_at(tokens: &[Token<'_>], k: usize) -> Place {
+    match tokens.get(k) {
+        Some(token) => place_of(token),
+        None => Place { line: 1, column: 1 },
+    }
+}
+
 // The accessor or the attribute of this name at the node of the number that the digits write.
 fn call(
     alloc: Global,
     grammar: &Grammar,
     rules: &Rules,
     tree: &Tree,
-    digits: &[u8],
-    name: &[u8],
+    tokens: &[Token<'_>],
 ) -> Result<Option<QueryEq>, Memory>
-    ensures { AnswersCall grammar.now (rules_in rules.now) tree.now digits.now name.now result }
+    requires { (rules_in rules.now).superclasses ≡ superclasses_of grammar.now }
+    ensures { AnswersCall grammar.now (rules_in rules.now) tree.now (lexed_text (seen_tokens tokens.now) 1) (lexed_text (seen_tokens tokens.now) 3) result }
 {
-    let Some(node) = find_node(tree, digits) else {
+    let Some(node) = find_node(tree, text_at(tokens, 1)) else {
         return Ok(None);
     };
     let class = tree.class_of(node);
-    match member_named(grammar, class, name, rules.find(grammar, class, name)) {
-        Some(member) => Ok(Some(QueryEq::of(member.on(alloc, TExpr::Source(node))?))),
-        None => Ok(None),
-    }
+    let place = place_at(tokens, 3);
+    query_of_call(
+        alloc,
+        grammar,
+        rules,
+        node,
+        class,
+        text_at(tokens, 3),
+        place,
+    )
 }
 
 fn query_of_tokens(
@@ -109,18 +126,12 @@ fn query_of_tokens(
     tree: &Tree,
     tokens: &[Token<'_>],
 ) -> Result<Option<QueryEq>, Memory>
-    requires { AreTokens (seen_tokens tokens.now) }
+    requires tokens { AreTokens (seen_tokens tokens.now) }
+    requires classes { (rules_in rules.now).superclasses ≡ superclasses_of grammar.now }
     ensures { AnswersQuery grammar.now (rules_in rules.now) tree.now (seen_tokens tokens.now) result }
 {
     match sentence_of(alloc, tokens)? {
-        Some(_) => call(
-            alloc,
-            grammar,
-            rules,
-            tree,
-            text_at(tokens, 1),
-            text_at(tokens, 3),
-        ),
+        Some(_) => call(alloc, grammar, rules, tree, tokens),
         None => Ok(None),
     }
 }
@@ -133,7 +144,8 @@ fn query_of_line(
     tree: &Tree,
     line: &[u8],
 ) -> Result<Option<QueryEq>, Memory>
-    requires { length line.now ≤ longest_file }
+    requires short { length line.now ≤ longest_file }
+    requires classes { (rules_in rules.now).superclasses ≡ superclasses_of grammar.now }
     ensures { AnswersLine grammar.now (rules_in rules.now) tree.now line.now result }
 {
     match scan(alloc, line) {
@@ -197,7 +209,8 @@ fn read_line(
     line: &[u8],
     list: &mut Vec<QueryEq>,
 ) -> Result<bool, Memory>
-    requires { length line.now ≤ longest_file }
+    requires short { length line.now ≤ longest_file }
+    requires classes { (rules_in rules.now).superclasses ≡ superclasses_of grammar.now }
     ensures { ReadsLine grammar.now (rules_in rules.now) tree.now line.now result (map query_of list.old.items) (map query_of list.new.items) }
 {
     if is_silent(line) {
@@ -214,7 +227,7 @@ fn read_line(
 
 /// The queries that the bytes of a query file say, or None exactly where they say none in the form that is
 /// read so far: at most 65,536 lines, each of them white space, a `#` line, or `@NUMBER.NAME()` with
-/// the name of an attribute or an accessor of the node's class.
+/// the name of an attribute or of an accessor without arguments of the node's class.
 pub(crate) fn read_queries(
     alloc: Global,
     grammar: &Grammar,
@@ -222,7 +235,8 @@ pub(crate) fn read_queries(
     tree: &Tree,
     bytes: &[u8],
 ) -> Result<Option<Vec<QueryEq>>, Memory>
-    requires { length bytes.now ≤ longest_file }
+    requires short { length bytes.now ≤ longest_file }
+    requires classes { (rules_in rules.now).superclasses ≡ superclasses_of grammar.now }
     ensures { AnswersQueries grammar.now (rules_in rules.now) tree.now bytes.now result }
 {
     let mut list = Vec::new(alloc);

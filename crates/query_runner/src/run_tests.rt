@@ -2,10 +2,12 @@ ghost use Rattle.std.specs.Prelude.{◌≡◌, IfOk};
 ghost use Rattle.std.specs.String.{string_bytes};
 
 mod aspect_files;
+mod checks;
 mod grammars;
 mod programs;
 mod subclasses;
 mod texts;
+mod values;
 
 use crate::running::run;
 use rag_io::{Gate, LONGEST_FILE, MemoryShelf, MemorySink};
@@ -250,7 +252,7 @@ const CASES: [Row; 9] = [
         "a.jrag:1:43: J1\n",
     ),
     (
-        "aspect A { syn boolean N.v() = false && this == null; }",
+        "aspect A { syn boolean N.v() = true && this instanceof N; }",
         "@0.v() + 1",
         1,
         "a.jrag: not built\n",
@@ -286,11 +288,15 @@ fn tells_the_gate_of_each_reply(rt: HostRuntime) -> Result<(), Fail> {
 }
 
 // Words that aren't those of a command.
-const MISUSED: [&str; 12] = [
+const MISUSED: [&str; 16] = [
     "",
     "run a b c",
     "run a b c d e",
     "run -x b c d",
+    "check",
+    "check a",
+    "check a b c",
+    "check a -b",
     "tree a",
     "tree a b c",
     "tree a -b",

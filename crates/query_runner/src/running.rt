@@ -4,14 +4,14 @@ ghost use Rattle.rag_io.specs.Outside.{Rose};
 ghost use Rattle.query_runner.specs.Answered.{AnswersWhereTold, Stopped, status_of, text_of};
 ghost use Rattle.query_runner.specs.Run.{Took, TookSome, WritesAnswer, WritesPart};
 ghost use Rattle.query_runner.specs.Output.{broken_line, usage};
-ghost use Rattle.query_runner.specs.Words.{PrintTree, Run as AsksRun, command_of, text_of_word};
-ghost use Rattle.query_runner.specs.Named.{seen_names, seen_tree_names};
+ghost use Rattle.query_runner.specs.Words.{Check as AsksCheck, PrintTree, Run as AsksRun, command_of, text_of_word};
+ghost use Rattle.query_runner.specs.Named.{seen_names, seen_pair_names};
 
-use crate::fetching::{Stop, fetch_all, fetch_tree};
-use crate::files::{Refusal, read_system, tree_text};
+use crate::fetching::{Stop, fetch_all, fetch_pair};
+use crate::files::{Refusal, counts_text, read_system, tree_text};
 use crate::putting::put_all;
 use crate::replies::reply_lines;
-use crate::words::{Command, Names, TreeNames, command_of, name_of, tree_name_of};
+use crate::words::{Command, Names, PairNames, command_of, name_of, pair_name_of};
 use broken_rules::Broken;
 use rag_io::{Gate, Shelf, Sink};
 use std::alloc::Global;
@@ -23,7 +23,7 @@ const USAGE: &[u8] =
 /// What is to be written.
 #[derive(Drop)]
 pub(crate) enum Answer {
-    /// The reply lines, or the text of a tree.
+    /// The reply lines, the counts of aspects, or the text of a tree.
     Output(Vec<u8>),
     /// The line of a file that is refused.
     Refusal(Vec<u8>),
@@ -126,17 +126,41 @@ fn answer_run<S: Shelf, G: Gate>(
     }
 }
 
-// The canonical text of a tree, or the line of the first of its two files that is refused.
-fn answer_tree<S: Shelf>(
+// The counts of aspects, or the line of the first of its two files that is refused.
+fn answer_check<S: Shelf>(
     alloc: Global,
-    names: TreeNames<'_>,
+    names: PairNames<'_>,
     shelf: &mut S,
 ) -> Result<Answer, Failure>
-    ensures answer { (words : List (List ℕ)) → command_of words ≡ Some (PrintTree (seen_tree_names names.entry)) → IfOk result (λ a. AnswersWhereTold words (S.files shelf.old) a) }
+    ensures answer { (words : List (List ℕ)) → command_of words ≡ Some (AsksCheck (seen_pair_names names.entry)) → IfOk result (λ a. AnswersWhereTold words (S.files shelf.old) a) }
     ensures status { IfOk result (λ a. status_of a ≤ 1) }
     ensures fetch { result ≡ Err Failure.Fetch → Rose (S.faults shelf.old) (S.faults shelf.new) }
 {
-    let contents = match fetch_tree(alloc, shelf, names) {
+    let contents = match fetch_pair(alloc, shelf, names) {
+        Ok(contents) => contents,
+        Err(stop) => return refuse_stop(alloc, stop),
+    };
+    match counts_text(alloc, &contents) {
+        Ok(text) => Ok(Answer::Output(text)),
+        Err(Refusal::Memory) => Err(Failure::Memory),
+        Err(Refusal::Broken(file, broken)) => {
+            refuse_broken(alloc, pair_name_of(names, file), broken)
+        }
+        Err(Refusal::NotBuilt(file)) => refuse(alloc, pair_name_of(names, file), ": not built\n"),
+    }
+}
+
+// The canonical text of a tree, or the line of the first of its two files that is refused.
+fn answer_tree<S: Shelf>(
+    alloc: Global,
+    names: PairNames<'_>,
+    shelf: &mut S,
+) -> Result<Answer, Failure>
+    ensures answer { (words : List (List ℕ)) → command_of words ≡ Some (PrintTree (seen_pair_names names.entry)) → IfOk result (λ a. AnswersWhereTold words (S.files shelf.old) a) }
+    ensures status { IfOk result (λ a. status_of a ≤ 1) }
+    ensures fetch { result ≡ Err Failure.Fetch → Rose (S.faults shelf.old) (S.faults shelf.new) }
+{
+    let contents = match fetch_pair(alloc, shelf, names) {
         Ok(contents) => contents,
         Err(stop) => return refuse_stop(alloc, stop),
     };
@@ -144,7 +168,7 @@ fn answer_tree<S: Shelf>(
         Ok(text) => Ok(Answer::Output(text)),
         Err(Refusal::Memory) => Err(Failure::Memory),
         Err(Refusal::Broken(file, broken)) => {
-            refuse_broken(alloc, tree_name_of(names, file), broken)
+            refuse_broken(alloc, pair_name_of(names, file), broken)
         }
         Err(Refusal::NotBuilt(_)) => unreachable!(),
     }
@@ -165,24 +189,26 @@ fn prepare<S: Shelf, G: Gate>(
     match command_of(words) {
         None => Ok(Answer::Usage),
         Some(Command::Run(names)) => answer_run(alloc, names, shelf, gate),
+        Some(Command::Check(names)) => answer_check(alloc, names, shelf),
         Some(Command::Tree(names)) => answer_tree(alloc, names, shelf),
     }
 }
 
 /// Does all that the program does, and answers the status that it ends with.
 ///
-/// The words are `run` and the names of a grammar, aspects, a tree and queries, or `tree` and the names of a grammar and a tree. The order
-/// is: the words are read; the files are fetched, up to the first fetch that is refused; each is tested in turn; the replies are made, and
-/// `gate.reached(0, r)` is called after reply r, or the text of the tree is; it is put in pieces of 65,536 bytes. So nothing is put before
+/// The words are `run` and the names of a grammar, aspects, a tree and queries, or `check` and the names of a grammar and aspects, or `tree`
+/// and the names of a grammar and a tree. The order is: the words are read; the files are fetched, up to the first fetch that is refused;
+/// each is tested in turn; the replies are made, and `gate.reached(0, r)` is called after reply r, or the counts or the text of the tree are;
+/// it is put in pieces of 65,536 bytes. So nothing is put before
 /// all of it is made.
 ///
 /// | Status | Comes | Written |
 /// |---|---|---|
-/// | 0 | where the whole output was put | the output: one line for each query, or the canonical text of the tree |
+/// | 0 | where the whole output was put | the output: one line for each query, the line of counts, or the canonical text of the tree |
 /// | 1 | where a file is too long | `NAME: too long` |
 /// | 1 | where the grammar, the aspects or the tree breaks a rule | `NAME:LINE:COLUMN: RULE`, of the first broken one |
 /// | 1 | where another file isn't in the form that is evaluated so far | `NAME: not built` |
-/// | 2 | where the words are neither `run` and four file names nor `tree` and two | the usage text |
+/// | 2 | where the words are neither `run` and four file names nor `check` or `tree` and two | the usage text |
 /// | 3 | for want of memory | nothing |
 /// | 5 | where the shelf's count of faults rose | nothing |
 /// | 6 | where the sink's count of faults rose | a front of what was to be put |

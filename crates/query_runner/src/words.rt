@@ -1,8 +1,8 @@
 // The words of the command line.
 ghost use Rattle.std.specs.Prelude.{◌≡◌, map, MatchOption, None, Some};
 ghost use Rattle.std.specs.Option.{option_map};
-ghost use Rattle.query_runner.specs.Words.{text_of_word, may_name_file, names_of, tree_names_of, command_of};
-ghost use Rattle.query_runner.specs.Named.{seen_command, seen_names, seen_tree_names, seen_file, name_of, tree_name_of};
+ghost use Rattle.query_runner.specs.Words.{text_of_word, may_name_file, names_of, pair_names_of, command_of};
+ghost use Rattle.query_runner.specs.Named.{seen_command, seen_names, seen_pair_names, seen_file, name_of, pair_name_of};
 
 /// One of the files of a command.
 #[derive(Clone, Copy, Debug, PartialEq, Eq)]
@@ -22,11 +22,11 @@ pub(crate) struct Names<'a> {
     pub queries: &'a str,
 }
 
-/// The names of the two files of `tree`.
+/// The names of the two files of `check` or of `tree`: a grammar, and aspects or a tree.
 #[derive(Clone, Copy)]
-pub(crate) struct TreeNames<'a> {
+pub(crate) struct PairNames<'a> {
     pub ast: &'a str,
-    pub tree: &'a str,
+    pub other: &'a str,
 }
 
 /// What the words ask for.
@@ -34,8 +34,10 @@ pub(crate) struct TreeNames<'a> {
 pub(crate) enum Command<'a> {
     /// The replies to queries.
     Run(Names<'a>),
+    /// The counts of aspects that break no rule.
+    Check(PairNames<'a>),
     /// The canonical text of a tree.
-    Tree(TreeNames<'a>),
+    Tree(PairNames<'a>),
 }
 
 fn may_name_file(word: &str) -> bool
@@ -70,32 +72,35 @@ fn names_of(words: &[String]) -> Option<Names<'_>>
     }
 }
 
-// The names of the files, where the words are `tree` and two names.
-fn tree_names_of(words: &[String]) -> Option<TreeNames<'_>>
-    ensures { MatchOption result (tree_names_of (map text_of_word words.now) ≡ None) (λ names. tree_names_of (map text_of_word words.now) ≡ Some (seen_tree_names names)) }
+// The names of the files, where the words are this command and two names.
+fn pair_names_of<'a>(words: &'a [String], wanted: &str) -> Option<PairNames<'a>>
+    ensures { MatchOption result (pair_names_of wanted.now (map text_of_word words.now) ≡ None) (λ names. pair_names_of wanted.now (map text_of_word words.now) ≡ Some (seen_pair_names names)) }
 {
-    let [command, ast, tree] = words else {
+    let [command, ast, other] = words else {
         return None;
     };
-    let names = TreeNames {
+    let names = PairNames {
         ast: ast.as_str(),
-        tree: tree.as_str(),
+        other: other.as_str(),
     };
-    if command.as_str() == "tree" && may_name_file(names.ast) && may_name_file(names.tree) {
+    if command.as_str() == wanted && may_name_file(names.ast) && may_name_file(names.other) {
         Some(names)
     } else {
         None
     }
 }
 
-/// What the words ask for, where they are `run` and four names of files, or `tree` and two.
+/// What the words ask for, where they are `run` and four names of files, or `check` or `tree` and two.
 pub(crate) fn command_of(words: &[String]) -> Option<Command<'_>>
     ensures { MatchOption result (command_of (map text_of_word words.now) ≡ None) (λ command. command_of (map text_of_word words.now) ≡ Some (seen_command command)) }
 {
     if let Some(names) = names_of(words) {
         return Some(Command::Run(names));
     }
-    match tree_names_of(words) {
+    if let Some(names) = pair_names_of(words, "check") {
+        return Some(Command::Check(names));
+    }
+    match pair_names_of(words, "tree") {
         Some(names) => Some(Command::Tree(names)),
         None => None,
     }
@@ -113,12 +118,12 @@ pub(crate) fn name_of<'a>(names: Names<'a>, file: FileKind) -> &'a str
     }
 }
 
-/// The name of a file of `tree`, which has a grammar and a tree.
-pub(crate) fn tree_name_of<'a>(names: TreeNames<'a>, file: FileKind) -> &'a str
-    ensures { result.now ≡ tree_name_of (seen_tree_names names.entry) (seen_file file) }
+/// The name of a file of `check` or of `tree`, which have a grammar and one file more.
+pub(crate) fn pair_name_of<'a>(names: PairNames<'a>, file: FileKind) -> &'a str
+    ensures { result.now ≡ pair_name_of (seen_pair_names names.entry) (seen_file file) }
 {
     match file {
         FileKind::Ast => names.ast,
-        FileKind::Jrag | FileKind::Tree | FileKind::Queries => names.tree,
+        FileKind::Jrag | FileKind::Tree | FileKind::Queries => names.other,
     }
 }

@@ -39,33 +39,44 @@ const BROKEN: [(&str, &str); 17] = [
 ];
 
 // Aspects that break no rule of the syntax, and have a form that isn't evaluated so far.
-const UNBUILT: [&str; 25] = [
+const UNBUILT: [&str; 15] = [
     "aspect A { syn int N.v() = ((N) this).getV(); }",
     "aspect A { syn int N.v() = new N(\"a\", 1).getV(); }",
     "aspect A { inh int N.v(); }",
     "aspect A { coll Set<N> N.v() [empty] with add root N; }",
     "aspect A { N contributes this when true to N.v() for this; }",
-    "aspect A { syn int N.v(); eq N.v() = 1; }",
     "aspect A { eq N.getl().v() = 1; }",
-    "aspect A { syn int N.v(); }",
     "aspect A { syn nta N N.v() = new N(\"a\", 1); }",
     "aspect A { syn int N.v() circular [0] = 1; }",
     "aspect A { syn int N.v(int k) = k; }",
-    "aspect A { syn int N.v() = w(1); syn int N.w() = 2; }",
-    "aspect A { syn int N.v() = this.getV(1); }",
     "aspect A { syn boolean N.v() = any(x : all() | true); }",
     "aspect A { syn N N.v() = first(x : all() | true); }",
     "aspect A { syn Set<N> N.v() = single(this); }",
     "aspect A { syn int N.v() = size(union(empty, empty)); }",
-    "aspect A { syn String N.v() = getS(); }",
-    "aspect A { syn String N.v() = \"a\"; }",
-    "aspect A { syn boolean N.v() = \"a\" == \"b\"; }",
-    "aspect A { syn boolean N.v() = this == null; }",
     "aspect A { syn boolean N.v() = this instanceof N; }",
     "aspect A { syn N N.v() = this; }",
-    "aspect A { syn int N.v() = w; }",
-    // All forms are evaluated; there is no such class.
-    "aspect A { syn int X.v() = 5; }",
+];
+
+// Aspects that break a rule over the grammar, and the line of the first broken one.
+const CHECKED: [(&str, &str); 9] = [
+    ("aspect A { syn int X.v() = 5; }", "a.jrag:1:20: J2\n"),
+    ("aspect A { syn int N.getl() = 5; }", "a.jrag:1:22: J3\n"),
+    ("aspect A { eq N.v() = 5; }", "a.jrag:1:17: J5\n"),
+    (
+        "aspect A { syn int N.v() = 5; eq N.v() = 6; }",
+        "a.jrag:1:36: J6\n",
+    ),
+    ("aspect A { syn int N.v(); }", "a.jrag:1:22: J7\n"),
+    ("aspect A { syn int N.v() = w; }", "a.jrag:1:28: J9\n"),
+    ("aspect A { syn int N.v() = getS(); }", "a.jrag:1:28: J10\n"),
+    (
+        "aspect A { syn int N.v() = this.getV(1); }",
+        "a.jrag:1:33: J11\n",
+    ),
+    (
+        "aspect A { syn int N.v() = 2147483648; }",
+        "a.jrag:1:28: J17\n",
+    ),
 ];
 
 // A grammar, aspects and a tree of which more than one is refused, and the line of the first.
@@ -86,9 +97,9 @@ const REFUSED: [(&str, &str, &str, &str); 6] = [
     ),
     (
         "N;",
-        "aspect A { syn String N.v() = \"a\"; }",
+        "aspect A { syn int N.v() = true; }",
         "M()",
-        "a.jrag: not built\n",
+        "a.jrag:1:28: J10\n",
     ),
     (
         "N;",
@@ -114,6 +125,15 @@ fn expect_line<R: Threads + Sync + Abort>(
 fn aspects_that_break_a_rule(rt: HostRuntime) -> Result<(), Fail> {
     let alloc = rt.alloc();
     for (aspects, line) in BROKEN {
+        expect_line(&rt, alloc, aspects, line)?;
+    }
+    Ok(())
+}
+
+#[test]
+fn aspects_that_break_a_rule_over_the_grammar(rt: HostRuntime) -> Result<(), Fail> {
+    let alloc = rt.alloc();
+    for (aspects, line) in CHECKED {
         expect_line(&rt, alloc, aspects, line)?;
     }
     Ok(())

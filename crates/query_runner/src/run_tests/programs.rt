@@ -116,7 +116,7 @@ const TREES: [Case; 16] = [
         "P(L(3), L(-4), true)",
         "",
         1,
-        "a.jrag: not built\n",
+        "a.jrag:1:35: J9\n",
     ),
 ];
 

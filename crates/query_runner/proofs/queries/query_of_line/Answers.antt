@@ -1,7 +1,7 @@
 use Rattle.std.proofs.Common.{List, subst}
 use Rattle.rag_io.specs.declared.token.Token.{Token}
 use Rattle.rag_io.specs.Tokens.{seen_tokens}
-use Rattle.attr_types.specs.Items.{rules_in}
+use Rattle.attr_rules.specs.Kept.{rules_in}
 use Rattle.query_runner.specs.QuerySteps.{AnswersQuery}
 use Rattle.query_runner.proofs.SayingQueries.{line_by, no_line}
 use Rattle.query_runner.proofs.queries.query_of_line.Goals as goal

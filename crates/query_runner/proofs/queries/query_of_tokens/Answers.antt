@@ -1,8 +1,7 @@
-use Rattle.std.proofs.Common.{List, ℕ, sym, subst}
+use Rattle.std.proofs.Common.{sym, subst}
 use Rattle.rag_io.specs.Tokens.{seen_tokens}
-use Rattle.attr_types.specs.Items.{rules_in}
-use Rattle.query_runner.specs.QuerySteps.{AnswersCall, AnswersQuery}
-use Rattle.query_runner.specs.Tokens.{text_at}
+use Rattle.attr_rules.specs.Kept.{rules_in}
+use Rattle.query_runner.specs.QuerySteps.{AnswersQuery}
 use Rattle.query_runner.proofs.SayingQueries.{query_by}
 use Rattle.query_runner.proofs.queries.query_of_tokens.Goals as goal
 use Rattle.query_runner.proofs.queries.query_of_tokens.Goals.{in-Some, in-None}
@@ -15,10 +14,7 @@ returns c =
     elim c.match-branch-2.branch [
       | in-Some w ↦
           let sentence = rw w.in-Some.is at c.in_ok-sentence_of.ensures in
-          let digits = w.text_at.ensures in
-          let name = w.text_at-in-Some.ensures in
-          let called = subst (λ (x : List ℕ). AnswersCall c.args.grammar.now rules tree (text_at ts 1) x w.call.result) name (subst (λ (x : List ℕ). AnswersCall c.args.grammar.now rules tree x w.text_at-in-Some.result.now w.call.result) digits w.call.ensures) in
-          subst (AnswersQuery c.args.grammar.now rules tree ts) (sym w.result-is) (query_by c.args.grammar.now rules tree ts w.call.result sentence called)
+          subst (AnswersQuery c.args.grammar.now rules tree ts) (sym w.result-is) (query_by c.args.grammar.now rules tree ts w.call.result sentence w.call.ensures)
       | in-None w ↦
           let none = rw w.in-None.is at c.in_ok-sentence_of.ensures in
           subst (AnswersQuery c.args.grammar.now rules tree ts) (sym w.result-is) (λ e says. none says.events says.sentence.runs)

@@ -1,5 +1,5 @@
 use Rattle.std.proofs.Common.{◌∙◌, sym}
-use Rattle.attr_types.specs.Queries.{query_of}
+use Rattle.attr_rules.specs.Queries.{query_of}
 use Rattle.query_runner.specs.QuerySteps.{one}
 use Rattle.query_runner.proofs.queries.read_line.Goals as goal
 

@@ -1,6 +1,6 @@
 use Rattle.std.proofs.Common.{◌≤◌, length, map}
-use Rattle.attr_types.specs.Items.{rules_in}
-use Rattle.attr_types.specs.Queries.{query_of}
+use Rattle.attr_rules.specs.Kept.{rules_in}
+use Rattle.attr_rules.specs.Queries.{query_of}
 use Rattle.query_runner.specs.Queries.{most_lines}
 use Rattle.query_runner.specs.QuerySteps.{IsSofar}
 use Rattle.query_runner.proofs.queries.read_queries.Given as goal

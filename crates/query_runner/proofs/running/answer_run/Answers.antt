@@ -7,7 +7,7 @@ use Rattle.query_runner.specs.Named.{seen_file, seen_names}
 use Rattle.query_runner.specs.Output.{broken_line}
 use Rattle.query_runner.specs.Words.{Run}
 use Rattle.query_runner.specs.declared.running.Answer.TheVariants.{Output}
-use Rattle.query_runner.proofs.Answerable.{is_program}
+use Rattle.query_runner.proofs.Answerable.{is_program, texts_pooled}
 use Rattle.query_runner.proofs.Preparing.{broken_answer, reply_answer, stop_answer, unbuilt_answer}
 use Rattle.query_runner.proofs.running.answer_run.Goals as goal
 
@@ -16,7 +16,7 @@ returns-in-Err-clause-answer g c = λ words asked.
     stop_answer words (g.S.Shelf.files c.args.shelf.now) (Run (seen_names c.args.names)) _ _ c.in-Err.stop c.refuse_stop.result asked c.in-Err.ensures.cause c.refuse_stop.ensures
 
 pub reply_lines-requires-after_bounds : goal.reply_lines-requires-after_bounds
-reply_lines-requires-after_bounds g c = λ lifetimes among. is_program (seen_contents c.in-Ok.contents) (program_of c.in-Ok-read_system.system) c.in-Ok-read_system.ensures.said
+reply_lines-requires-after_bounds g c = λ lifetimes among. is_program (seen_contents c.in-Ok.contents) (program_of c.in-Ok-read_system.system) c.in-Ok-read_system.ensures.said (texts_pooled c.in-Ok-read_system.system)
 
 pub returns-in-Ok-reply_lines-clause-answer : goal.returns-in-Ok-reply_lines-clause-answer
 returns-in-Ok-reply_lines-clause-answer g c = λ words asked.
