@@ -170,6 +170,34 @@ CASES = [
 ]
 
 
+def dispatched(classes, count):
+    """A chain of so many superclasses, and so many attributes with an equation in each of them."""
+    yield b"aspect A {\n"
+    for number in range(count):
+        yield b"syn int C%d.v%d() = 0;\n" % (classes - 1, number)
+        yield b"".join(b"eq C%d.v%d() = %d;\n" % (k, number, k) for k in range(classes - 1))
+    yield b"}\n"
+
+
+def typed(count):
+    """So many attributes, each the sum of a hundred calls of the first: an expression of 399 tokens."""
+    yield b"aspect A {\nsyn int N.v0() = 1;\n"
+    total = b" + ".join([b"v0()"] * 100)
+    for number in range(1, count):
+        yield b"syn int N.v%d() = %s;\n" % (number, total)
+    yield b"}\n"
+
+
+# What `rag check` is timed on.
+CHECKS = [
+    ("check: the first example", {}),
+    ("check: 1,024 attributes, 262,144 equations", {"g.ast": chain(256), "a.jrag": dispatched(256, 1024)}),
+    ("check: 1,024 expressions of 399 tokens", {"a.jrag": typed(1024)}),
+    ("check: 883,010 attributes of one name", {"a.jrag": enclosed(b"aspect A {\n", b"syn int N.v() = 1;\n", b"}\n")}),
+    ("check: 1,024 attributes, each calls the next", {"a.jrag": chained(1024)}),
+]
+
+
 def measure(folder, name, files, words):
     for file, content in FIRST.items():
         with open(os.path.join(folder, file), "wb") as out:
@@ -191,6 +219,8 @@ def main():
             measure(folder, name, files, ["run", *FIRST])
         for name, files in TREES:
             measure(folder, name, files, ["tree", "g.ast", "t.tree"])
+        for name, files in CHECKS:
+            measure(folder, name, files, ["check", "g.ast", "a.jrag"])
 
 
 if __name__ == "__main__":
