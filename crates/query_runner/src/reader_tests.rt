@@ -1,3 +1,7 @@
+ghost use Rattle.std.specs.Prelude.{◌≡◌, IfOk};
+ghost use Rattle.ast_grammar.specs.Grammar.{superclasses_of};
+ghost use Rattle.attr_rules.specs.Kept.{rules_in};
+
 use crate::queries::read_queries;
 use ast_grammar::{Grammar, read_ast};
 use attr_rules::{QueryEq, Rules};
@@ -21,12 +25,9 @@ fn compare(rt: &impl Abort, said: &str, text: &str, told: &str) {
     assert_eq!(rt; said, text, "{told}");
 }
 
-fn rules_said(
-    rt: &impl Abort,
-    alloc: Global,
-    grammar: &Grammar,
-    text: &str,
-) -> Result<Rules, Fail> {
+fn rules_said(rt: &impl Abort, alloc: Global, grammar: &Grammar, text: &str) -> Result<Rules, Fail>
+    ensures { IfOk result (λ rules. (rules_in rules).superclasses ≡ superclasses_of grammar.now) }
+{
     assert!(rt; text.len() <= LONGEST_FILE);
     let tokens = scan(alloc, text.as_bytes())?;
     let mut pool = Pool::new(alloc)?;
@@ -59,7 +60,9 @@ fn queries_said(
     tree: &Tree,
     text: &str,
     shown: &mut String,
-) -> Result<(), Fail> {
+) -> Result<(), Fail>
+    requires { (rules_in rules.now).superclasses ≡ superclasses_of grammar.now }
+{
     assert!(rt; text.len() <= LONGEST_FILE);
     match read_queries(alloc, grammar, rules, tree, text.as_bytes())? {
         Some(list) => write_queries(&list, shown),
@@ -133,11 +136,14 @@ const QUERIES: [(&str, &str); 24] = [
 fn expect_query(
     rt: &impl Abort,
     alloc: Global,
-    (grammar, rules, tree): (&Grammar, &Rules, &Tree),
+    over: (&Grammar, &Rules, &Tree),
     text: &str,
     wanted: &str,
     told: &str,
-) -> Result<(), Fail> {
+) -> Result<(), Fail>
+    requires { (rules_in over.1.now).superclasses ≡ superclasses_of over.0.now }
+{
+    let (grammar, rules, tree) = over;
     let mut shown = String::new(alloc);
     queries_said(rt, alloc, grammar, rules, tree, text, &mut shown)?;
     compare(rt, shown.as_str(), wanted, told);
@@ -159,8 +165,11 @@ fn expect_late(
     rt: &impl Abort,
     alloc: Global,
     over: (&Grammar, &Rules, &Tree),
-    (lines, wanted, told): (usize, &str, &str),
-) -> Result<(), Fail> {
+    late: (usize, &str, &str),
+) -> Result<(), Fail>
+    requires { (rules_in over.1.now).superclasses ≡ superclasses_of over.0.now }
+{
+    let (lines, wanted, told) = late;
     let text = late_query(alloc, lines)?;
     expect_query(rt, alloc, over, text.as_str(), wanted, told)
 }
@@ -169,7 +178,9 @@ fn expect_queries(
     rt: &impl Abort,
     alloc: Global,
     over: (&Grammar, &Rules, &Tree),
-) -> Result<(), Fail> {
+) -> Result<(), Fail>
+    requires { (rules_in over.1.now).superclasses ≡ superclasses_of over.0.now }
+{
     for (text, shown) in &QUERIES {
         expect_query(rt, alloc, over, text, shown, text)?;
     }
