@@ -1,11 +1,6 @@
-pub mod Answering
-pub mod Codes
 pub mod Deciding
 pub mod Demanded
 pub mod Ended
-pub mod Firsts
-pub mod Forms
-pub mod Found
 pub mod Heights
 pub mod Keys
 pub mod Listed
@@ -15,10 +10,8 @@ pub mod Orders
 pub mod Pooled
 pub mod Preordered
 pub mod QueryValues
-pub mod Receivers
 pub mod Sets
 pub mod Solution
-pub mod Solving
 pub mod Typed
 mod Worked
 mod WorkedLoops

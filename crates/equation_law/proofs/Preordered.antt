@@ -6,7 +6,7 @@ use Rattle.std.proofs.lemmas.Option.{slice_get_past}
 use Rattle.ast_grammar.specs.declared.grammar.ClassId.{ClassId}
 use Rattle.ast_grammar.specs.Grammar.{Class, Component, component_at, components_of, is_sub}
 use Rattle.attr_rules.specs.Rules.{IsConcrete}
-use Rattle.tree_arena.specs.Nodes.{Node, child_in, class_in, count_in, hanging, hanging_from, token_in, tokens_at}
+use Rattle.tree_arena.specs.Nodes.{Node, child_in, class_in, count_in, hanging, hanging_from}
 use Rattle.tree_arena.specs.Terms.{Empty, Fits, Forest, Hangs, IsTerm, IsTree, IsTreeOf, Tree, element, nodes_from, nodes_of, none, one, over, root, size, token}
 use Rattle.equation_law.proofs.Keys.{both_equal}
 
@@ -173,16 +173,6 @@ none_past nodes t n k i l = ap (λ (ms : List ℕ). slice_get ms i) (none_hangs 
 
 pub none_counted : (nodes : List Node) → IsTree nodes → (n k : ℕ) → length nodes ≤ n → count_in nodes n k ≡ 0
 none_counted nodes t n k l = ap length (none_hangs nodes t n k l)
-
--- a node has no codes past its last component
-pub no_code_behind : (nodes : List Node) (n k : ℕ) → length (tokens_at nodes n) ≤ k → token_in nodes n k ≡ None
-no_code_behind nodes n k l = slice_get_past (tokens_at nodes n) k l
-
--- and none at all where there is no node
-pub no_code_past : (nodes : List Node) (n k : ℕ) → length nodes ≤ n → token_in nodes n k ≡ None
-no_code_past [] n k l = refl
-no_code_past (x ∷ nodes) zero k l = absurd (omega (arith, l))
-no_code_past (x ∷ nodes) (suc n) k l = no_code_past nodes n k (omega (arith, l))
 
 -- a node is of a class that is not abstract
 pub node_concrete : (g : List Class) (texts : ℕ) (nodes : List Node) → IsTreeOf g texts nodes → (n : ℕ) (c : ClassId) → class_in nodes n ≡ Some c → IsConcrete g c.0

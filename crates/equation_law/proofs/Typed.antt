@@ -1,5 +1,5 @@
 -- A well typed expression demands instances of its program alone, and its value is of its type.
-use Rattle.std.proofs.Common.{◌≡◌, ℕ, ℤ, pos, negsuc, neg_ℤ, Bool, true, false, not, cond, List, [], Option, Some, None, length, refl, sym, ap, subst, ◌∙◌}
+use Rattle.std.proofs.Common.{◌≡◌, ℕ, ℤ, pos, negsuc, neg_ℤ, Bool, true, false, not, cond, List, [], Option, Some, None, length, slice_get, refl, sym, ap, subst, ◌∙◌}
 use Rattle.std.specs.Int.{int_wrap}
 use Rattle.std.specs.Option.{option_map}
 use mir.Syntax.{w32}
@@ -25,10 +25,10 @@ use Rattle.attr_rules.specs.Types.{class_of_number, common, common_class, common
 use Rattle.attr_rules.specs.Typing.{HasType, Names, TakesInts}
 use Rattle.attr_rules.specs.Typing as typed
 use Rattle.solutions.specs.Asking.{Demands, Gives, Needs, next}
-use Rattle.tree_arena.specs.Nodes.{child_in, token_in}
+use Rattle.tree_arena.specs.Nodes.{Node as TreeNode, child_in, token_in}
 use Rattle.tree_arena.specs.Terms.{IsTreeOf}
 use Rattle.equation_law.specs.Checked.{IsAt, IsInstance, IsNodeOf, at, null, of_attribute}
-use Rattle.equation_law.specs.Equations.{attribute_kind, decoded, kind_or_truth, source_or_null, text_of, world_of}
+use Rattle.equation_law.specs.Equations.{attribute_kind, decoded, kind_or_truth, source_of, source_or_null, text_of, world_of}
 use Rattle.equation_law.specs.Meaning.{call_at, child_at, count_at, element_at, is_there, meaning_of, operate, token_at}
 use Rattle.equation_law.specs.Names.{At, Attribute, Instance, NoArguments, Null, Reference, Source}
 use Rattle.equation_law.specs.Program.{Program, declared_of}
@@ -254,6 +254,12 @@ module _ (p : Program) (I : ℤ → Type 0) (T : List ℕ → Type 0) (M : Insta
   call_keeps a d _ e null = subst (λ (o : Option Attr). IsOf p I T (types.Of d.kind) (default_of (kind_or_truth (option_map (λ x. x.kind) o)))) (sym e) (default_keeps d.kind (bounds.plain a d e))
   call_keeps a d _ e (at {k = k} h) = read_at_kind a d (Attribute a (At (Source k)) NoArguments) e (of_attribute d h.class e h.of h.below) (λ v m. bounds.read a d (At (Source k)) v e m)
 
+  -- a source node that the tree has
+  source_known : (k : ℕ) (c : ClassId) → IsAt p k c → IsNodeOf p c (source_of p k)
+  source_known k c h =
+      let found = some_of (λ (x : TreeNode). x.class) (slice_get p.tree k) h.class h.of in
+      subst (λ (o : Option TreeNode). IsNodeOf p c (source_or_null (option_map (λ x. k) o))) (sym found.1) (at h)
+
   module _ (allowed : IsGrammar p.grammar) (tree : IsTreeOf p.grammar (length p.texts) p.tree) where
     -- what hangs at a component of a node, or null
     hung_keeps : (c : ClassId) (n k i : ℕ) (x : Component) → component_at p.grammar c.0 k ≡ Some x → IsAt p n c → (o : Option ℕ) → child_in p.tree n k i ≡ o → IsNodeOf p x.class (source_or_null o)
@@ -298,7 +304,7 @@ module _ (p : Program) (I : ℤ → Type 0) (T : List ℕ → Type 0) (M : Insta
       typed_keeps (typed.text k) = of_text _ (bounds.text k)
       typed_keeps typed.null = of_null
       typed_keeps (typed.this c e) = of_node c _ (at (names.this c e))
-      typed_keeps (typed.source k c e) = of_node c _ (at (names.node k c e))
+      typed_keeps (typed.source k c e) = of_node c _ (source_known k c (names.node k c e))
       typed_keeps (typed.child {e = e} c k x h s g) =
           on_receiver c (of_class x.class) (Meaning e) (λ r. Gives (Node (child_at (world_of p) k r))) (typed_keeps h) (λ r o. of_node x.class _ (child_keeps c k x (of_grammar c k x s) r o))
       typed_keeps (typed.element {e = e} {i = i} c k x h s g j) =

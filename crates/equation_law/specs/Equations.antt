@@ -35,6 +35,10 @@ abbrev pub source_or_null : Option ℕ → Reference
 source_or_null None = Null
 source_or_null (Some k) = At (Source k)
 
+-- the source node of this number, if the tree has it
+abbrev pub source_of : Program → ℕ → Reference
+source_of p k = source_or_null (option_map (λ x. k) (slice_get p.tree k))
+
 abbrev pub child_of : Program → NodeName → ℕ → Reference
 child_of p (Source n) k = source_or_null (child_in p.tree n k 0)
 
@@ -64,7 +68,7 @@ abbrev pub token_of : Program → Kind → NodeName → ℕ → Value
 token_of p t (Source n) k = decoded (text_of p) t (token_in p.tree n k)
 
 abbrev pub world_of : Program → World
-world_of p = record { kind = attribute_kind p; text = text_of p; child = child_of p; element = element_of p; count = count_of p; token = token_of p }
+world_of p = record { kind = attribute_kind p; text = text_of p; source = source_of p; child = child_of p; element = element_of p; count = count_of p; token = token_of p }
 
 abbrev pub asked_kind : Asked → Kind
 asked_kind q = q.kind

@@ -9,7 +9,7 @@ use Rattle.attr_rules.specs.declared.expression.Operator.{Operator}
 use Rattle.attr_rules.specs.declared.expression.Operator.TheVariants.{Add, Subtract, Multiply, Less, AtMost, Greater, AtLeast, Equal}
 use Rattle.attr_rules.specs.Expression.{Expression, Truth as TruthLiteral, Int as IntLiteral, Text as TextLiteral, Null as NullLiteral, This, Source as SourceNode, Child, Element, Count, Has, Token, Call, Not, Negate, Binary, And, Or, If}
 use Rattle.solutions.specs.Asking.{Demands, Gives, Needs, next}
-use Rattle.equation_law.specs.Names.{NodeName, Source, Reference, Null, At, Instance, Attribute, NoArguments, same_reference}
+use Rattle.equation_law.specs.Names.{NodeName, Reference, Null, At, Instance, Attribute, NoArguments, same_reference}
 use Rattle.equation_law.specs.Values.{Value, Truth, Int, Text, Node, Texts, Nodes, truth, int, text, node, as_kind, default_of}
 
 -- what the grammar, the rules and the tree say of attributes and nodes
@@ -17,6 +17,8 @@ pub record World : Type 0 where
   pub kind : ℕ → Kind
   -- the texts, by their numbers
   pub text : ℕ → List ℕ
+  -- the source node of this number; where there is none it is null
+  pub source : ℕ → Reference
   -- the child of a node at a component
   pub child : NodeName → ℕ → Reference
   -- the element of a node's list at a component, by its place in the list
@@ -90,7 +92,7 @@ meaning_of W (IntLiteral z) p = Gives (Int z)
 meaning_of W (TextLiteral n) p = Gives (Text (W.text n))
 meaning_of W NullLiteral p = Gives (Node Null)
 meaning_of W This p = Gives (Node p.this)
-meaning_of W (SourceNode k) p = Gives (Node (At (Source k)))
+meaning_of W (SourceNode k) p = Gives (Node (W.source k))
 meaning_of W (Child k e) p = next (meaning_of W e p) (λ r. Gives (Node (child_at W k (node r))))
 meaning_of W (Element k e i) p = next (meaning_of W e p) (λ r. next (meaning_of W i p) (λ z. Gives (Node (element_at W k (node r) (int z)))))
 meaning_of W (Count k e) p = next (meaning_of W e p) (λ r. Gives (Int (count_at W k (node r))))

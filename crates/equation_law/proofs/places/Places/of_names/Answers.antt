@@ -1,7 +1,0 @@
-use Rattle.equation_law.specs.Places.{kept_place}
-use Rattle.equation_law.proofs.Keys.{next_kept}
-use Rattle.equation_law.proofs.places.Places.of_names.Goals as goal
-
-pub loop-k-preserved : goal.loop-k-preserved
-loop-k-preserved c =
-    next_kept c.args.names.now c.loop-k.k _ (kept_place c.loop-k.map) (kept_place c.keep_first.new.map) c.loop-k-test.true c.loop-k.invariant c.in_ok-keep_first.ensures

@@ -1,0 +1,130 @@
+// Values, nodes and instances by their codes.
+ghost use Rattle.std.specs.Prelude.{◌≡◌, ◌<◌, ◌+◌, ◌^◌, ℕ, List, [], IfSome};
+ghost use Rattle.equation_law.specs.Codes.{reference_of, value_of};
+ghost use Rattle.equation_law.specs.Equations.{source_or_null};
+ghost use Rattle.equation_law.specs.Values.{as_kind, default_of, int, node, text, truth};
+
+use attr_rules::{AttrId, EqId, Kind};
+
+/// The code of a value: 0 or 1 for a boolean, the two's complement of an integer, the number of a text in the pool, and for a node
+/// its `NodeRef`.
+pub type Code = u32;
+
+/// A node: 0 is null, and one more than its number is a source node.
+#[derive(Clone, Copy, Debug, PartialEq, Eq, Hash)]
+pub struct NodeRef(pub u32);
+
+/// An attribute at a node, or a query by its number.
+#[derive(Clone, Copy, Debug, PartialEq, Eq, Hash)]
+pub enum Instance {
+    Attr { attr: AttrId, node: NodeRef },
+    Query(u32),
+}
+
+/// A value. A text is its number in the pool; the empty text has the number 0. Of sets there are only the empty ones so far, as defaults.
+#[derive(Clone, Copy, Debug, PartialEq, Eq)]
+pub enum Value {
+    Truth(bool),
+    Int(i32),
+    Text(u32),
+    Node(NodeRef),
+    NoTexts,
+    NoNodes,
+}
+
+/// An equation with the node at which it is read.
+#[derive(Clone, Copy, Debug, PartialEq, Eq)]
+pub struct EqSite {
+    pub equation: EqId,
+    pub node: NodeRef,
+}
+
+impl NodeRef {
+    /// A source node by its number, or null.
+    pub fn of_source(node: Option<u32>) -> NodeRef
+        requires { IfSome node (λ n. n + 1 < 2 ^ 32) }
+        ensures { reference_of result.0 ≡ source_or_null node }
+    {
+        match node {
+            None => NodeRef(0),
+            Some(n) => NodeRef(n + 1),
+        }
+    }
+
+    /// The number of the source node, or None for null.
+    pub fn source(self) -> Option<u32>
+        ensures { source_or_null result ≡ reference_of self.0 }
+    {
+        self.0.checked_sub(1)
+    }
+}
+
+impl Value {
+    /// The truth value; of a value of another type, false.
+    pub fn truth(self) -> bool
+        ensures { (texts : ℕ → List ℕ) → result ≡ truth (value_of texts self) }
+    {
+        match self {
+            Value::Truth(b) => b,
+            _ => false,
+        }
+    }
+
+    /// The integer; of a value of another type, 0.
+    pub fn int(self) -> i32
+        ensures { (texts : ℕ → List ℕ) → result ≡ int (value_of texts self) }
+    {
+        match self {
+            Value::Int(z) => z,
+            _ => 0,
+        }
+    }
+
+    /// The number of the text; of a value of another type, that of the empty one.
+    pub fn text(self) -> u32
+        ensures { (texts : ℕ → List ℕ) → texts 0 ≡ [] → texts result ≡ text (value_of texts self) }
+    {
+        match self {
+            Value::Text(number) => number,
+            _ => 0,
+        }
+    }
+
+    /// The node; of a value of another type, null.
+    pub fn node(self) -> NodeRef
+        ensures { (texts : ℕ → List ℕ) → reference_of result.0 ≡ node (value_of texts self) }
+    {
+        match self {
+            Value::Node(n) => n,
+            _ => NodeRef(0),
+        }
+    }
+
+    /// The value read at a type: a value of another type reads as the type's default.
+    pub fn read_as(self, kind: Kind) -> Value
+        ensures { (texts : ℕ → List ℕ) → texts 0 ≡ [] → value_of texts result ≡ as_kind kind (value_of texts self) }
+    {
+        match kind {
+            Kind::Truth => Value::Truth(self.truth()),
+            Kind::Int => Value::Int(self.int()),
+            Kind::Text => Value::Text(self.text()),
+            Kind::Node(_) => Value::Node(self.node()),
+            Kind::Texts => Value::NoTexts,
+            Kind::Nodes(_) => Value::NoNodes,
+        }
+    }
+
+    /// The default of a type.
+    pub fn default_of(kind: Kind) -> Value
+        ensures { (texts : ℕ → List ℕ) → texts 0 ≡ [] → value_of texts result ≡ default_of kind }
+    {
+        match kind {
+            Kind::Truth => Value::Truth(false),
+            Kind::Int => Value::Int(0),
+            Kind::Text => Value::Text(0),
+            Kind::Node(_) => Value::Node(NodeRef(0)),
+            Kind::Texts => Value::NoTexts,
+            Kind::Nodes(_) => Value::NoNodes,
+        }
+    }
+}

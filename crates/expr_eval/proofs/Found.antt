@@ -1,0 +1,117 @@
+-- The equation of an instance, from where it is found, and what it comes to.
+use Rattle.std.proofs.Common.{◌≡◌, ℕ, ◌<◌, ◌≤◌, [], ◌++◌, length, Option, Some, None, Result, Ok, Err, sym, ap, subst, ◌∙◌, slice_get}
+use Rattle.std.specs.Option.{option_and_then, option_map}
+use Rattle.std.specs.Result.{IsErr}
+use Rattle.std.proofs.lemmas.Option.{slice_get_past}
+use Rattle.rag_io.specs.declared.Memory.{Memory as NoMemory}
+use Rattle.ast_grammar.specs.declared.grammar.ClassId.{ClassId}
+use Rattle.attr_rules.specs.declared.kinds.Kind.{Kind}
+use Rattle.attr_rules.specs.Expression.{Expression}
+use Rattle.attr_rules.specs.Queries.{Query as Asked}
+use Rattle.attr_rules.specs.Rules.{RuleSet, body_at, equation_number, expression_in}
+use Rattle.attr_rules.proofs.RowLists.{there}
+use Rattle.solutions.specs.Asking.{Demands, Ends, Gives, gives}
+use Rattle.equation_law.specs.declared.coding.EqSite.{EqSite}
+use Rattle.equation_law.specs.declared.coding.Value.{Value as CodedValue}
+use Rattle.equation_law.specs.Codes.{reference_of, value_of}
+use Rattle.equation_law.specs.Equations.{Site, attribute_kind, equation_for, equation_of, equations_of, site_at, site_demands, text_of, world_of}
+use Rattle.equation_law.specs.Meaning.{meaning_of}
+use Rattle.equation_law.specs.Names.{At, Attribute, Instance, NoArguments, Null, Query, Reference, Source}
+use Rattle.equation_law.specs.Program.{Program, class_of}
+use Rattle.equation_law.specs.Reading.{Grows, IsSound, Told}
+use Rattle.equation_law.specs.Values.{Node, Value, as_kind}
+use Rattle.equation_law.proofs.Lists.{some_of}
+use Rattle.expr_eval.specs.declared.evaluation.Halt.{Halt}
+use Rattle.expr_eval.specs.declared.evaluation.Halt.TheVariants.{Need, Memory}
+use Rattle.expr_eval.specs.declared.sites.Turn.{Turn}
+use Rattle.expr_eval.specs.declared.sites.Turn.TheVariants as turns
+use Rattle.expr_eval.specs.Evaluating.{AnswersTurn, Evaluates, Reads, read_at}
+use Rattle.expr_eval.specs.Sites.{IsSite, IsTurned, TurnAs, expression_or_null, query_reads, site_reads}
+use Rattle.expr_eval.proofs.Forms.{ends_next, gives_value, grows_self, halts_first}
+
+-- the equation of an attribute at a node
+pub site_found : (p : Program) (rules : RuleSet) (a n m e : ℕ) (c : ClassId) → At (Source m) ≡ reference_of n → Some c ≡ class_of p m → rules ≡ p.rules → Some e ≡ equation_number rules c a → e < length rules.equations
+    → (x : Site) × (equation_of p (Attribute a (reference_of n) NoArguments) ≡ Some x) × IsSite p (record { equation = record { 0 = e }; node = record { 0 = n } }) x
+site_found p rules a n m e c at of same number within =
+    let found = there p.rules.equations e (subst (λ (r : RuleSet). e < length r.equations) same within) in
+    let is : Some e ≡ equation_number p.rules c a = subst (λ (r : RuleSet). Some e ≡ equation_number r c a) same number in
+    let whole : equation_of p (Attribute a (At (Source m)) NoArguments) ≡ Some (site_at p a m found.0) =
+    ap (λ (o : Option ClassId). option_map (site_at p a m) (option_and_then (equation_for p a) o)) (sym of) ∙ ap (λ (o : Option ℕ). option_map (site_at p a m) (option_and_then (slice_get p.rules.equations) o)) (sym is) ∙ ap (option_map (site_at p a m)) found.1
+    in
+    (site_at p a m found.0, subst (λ (r : Reference). equation_of p (Attribute a r NoArguments) ≡ Some (site_at p a m found.0)) at whole, record { body = ap (option_map expression_in) found.1; this = at })
+
+-- the type of its value is that of the attribute
+pub attribute_site_kind : (p : Program) (a : ℕ) (r : Reference) (x : Site) → equation_of p (Attribute a r NoArguments) ≡ Some x → attribute_kind p a ≡ x.kind
+attribute_site_kind p a Null x e = cc
+attribute_site_kind p a (At (Source k)) x e = let found = some_of (site_at p a k) (option_and_then (equation_for p a) (class_of p k)) x e in ap (λ (s : Site). s.kind) found.2
+
+module _ (p : Program) (r s : Told) where
+  -- want of memory says nothing
+  pub failed : (c : Demands Instance Value) (res : Result Turn NoMemory) → Grows p r s → IsErr res → Evaluates p r s c res
+  failed c (Ok t) g e = cc
+  failed c (Err m) g e = record { kept = g; answer = tt }
+
+  -- what an evaluation is to callers
+  pub turned_reads : (this : ℕ) (e : Expression) (came : Result CodedValue Halt) (res : Result Turn NoMemory) → Reads p r s this e came → IsTurned came res → Evaluates p r s (read_at p this e) res
+  turned_reads this e (Ok v) res h is = record { kept = h.kept; answer = subst (AnswersTurn p s (read_at p this e)) (sym is) h.is }
+  turned_reads this e (Err (Need i)) res h is = record { kept = h.kept; answer = subst (AnswersTurn p s (read_at p this e)) (sym is) h.is }
+  turned_reads this e (Err Memory) res h is = failed (read_at p this e) res h.kept is
+
+  -- an equation by its number
+  pub site_evaluated : (site : EqSite) (rules : RuleSet) (e : Expression) (came : Result CodedValue Halt) (res : Result Turn NoMemory) → rules ≡ p.rules → body_at rules site.equation.0 ≡ Some e → Reads p r s site.node.0 e came → IsTurned came res
+      → Evaluates p r s (site_reads p site) res
+  site_evaluated site rules e came res same body h is =
+      let at : expression_or_null (body_at p.rules site.equation.0) ≡ e = ap (λ (x : RuleSet). expression_or_null (body_at x site.equation.0)) (sym same) ∙ ap expression_or_null body in
+      subst (λ (x : Expression). Evaluates p r s (read_at p site.node.0 x) res) (sym at) (turned_reads site.node.0 e came res h is)
+
+  -- a query by its number
+  pub query_evaluated : (q x : Asked) (n : ℕ) (e : Expression) (came : Result CodedValue Halt) (res : Result Turn NoMemory) → slice_get p.queries n ≡ Some x → e ≡ x.body → Reads p r s 1 e came → IsTurned came res → slice_get p.queries n ≡ Some q
+      → Evaluates p r s (query_reads p q) res
+  query_evaluated q x n e came res at body h is found =
+      let same : x ≡ q = cc in
+      subst (λ (y : Expression). Evaluates p r s (read_at p 1 y) res) (body ∙ ap (λ (y : Asked). y.body) same) (turned_reads 1 e came res h is)
+
+  -- the demands of an instance, from those of its equation
+  pub instance_evaluated : (i : Instance) (site : Site) (t u : Turn) → text_of p 0 ≡ [] → equation_of p i ≡ Some site → Evaluates p r s (meaning_of (world_of p) site.body site.place) (Ok t) → TurnAs site.kind t u
+      → Evaluates p r s ((equations_of p).equation i) (Ok u)
+  unfolding equations_of
+  instance_evaluated i site (turns.Done v) u first is h read =
+      let ends = ends_next (λ x. Gives (as_kind site.kind x)) h.answer.ends (subst (λ x. Ends s.has (Gives (as_kind site.kind (value_of (text_of p) v))) x []) (sym (read.2 (text_of p) first)) gives) in
+      let done : AnswersTurn p s (site_demands (world_of p) (Some site)) (Ok (turns.Done read.0)) = record { demands = h.answer.demands ++ []; ends = ends } in
+      record {
+        kept = h.kept;
+        answer = subst (λ o. AnswersTurn p s (site_demands (world_of p) o) (Ok u)) (sym is) (subst (λ x. AnswersTurn p s (site_demands (world_of p) (Some site)) (Ok x)) (sym read.1) done);
+      }
+  instance_evaluated i site (turns.Need n) u first is h read =
+      let needs : AnswersTurn p s (site_demands (world_of p) (Some site)) (Ok (turns.Need n)) = record { demands = h.answer.demands; halts = halts_first (λ x. Gives (as_kind site.kind x)) h.answer.halts } in
+      record {
+        kept = h.kept;
+        answer = subst (λ o. AnswersTurn p s (site_demands (world_of p) o) (Ok u)) (sym is) (subst (λ x. AnswersTurn p s (site_demands (world_of p) (Some site)) (Ok x)) (sym read) needs);
+      }
+
+-- an attribute's equation that is found, read at the attribute's type
+pub attribute_evaluated : (p : Program) (r s : Told) (a n : ℕ) (k : Kind) (site : EqSite) (t u : Turn) → text_of p 0 ≡ [] → k ≡ attribute_kind p a
+    → (x : Site) × (equation_of p (Attribute a (reference_of n) NoArguments) ≡ Some x) × IsSite p site x → Evaluates p r s (site_reads p site) (Ok t) → TurnAs k t u → Evaluates p r s ((equations_of p).equation (Attribute a (reference_of n) NoArguments)) (Ok u)
+attribute_evaluated p r s a n k site t u first kind found h read =
+    let x = found.0 in
+    let body : expression_or_null (body_at p.rules site.equation.0) ≡ x.body = ap expression_or_null found.2.body in
+    let at : Evaluates p r s (meaning_of (world_of p) x.body (record { this = reference_of site.node.0 })) (Ok t) = subst (λ (e : Expression). Evaluates p r s (read_at p site.node.0 e) (Ok t)) body h in
+    let here : Evaluates p r s (meaning_of (world_of p) x.body x.place) (Ok t) = subst (λ (o : Reference). Evaluates p r s (meaning_of (world_of p) x.body (record { this = o })) (Ok t)) (sym found.2.this) at in
+    instance_evaluated p r s (Attribute a (reference_of n) NoArguments) x t u first found.1 here (subst (λ (j : Kind). TurnAs j t u) (kind ∙ attribute_site_kind p a (reference_of n) x found.1) read)
+
+-- a query's, read at the query's type
+pub asked_evaluated : (p : Program) (r s : Told) (q : ℕ) (e : Asked) (k : Kind) (t u : Turn) → text_of p 0 ≡ [] → slice_get p.queries q ≡ Some e → k ≡ e.kind → Evaluates p r s (query_reads p e) (Ok t) → TurnAs k t u
+    → Evaluates p r s ((equations_of p).equation (Query q)) (Ok u)
+asked_evaluated p r s q e k t u first at kind h read =
+    let site : Site = record { body = e.body; kind = e.kind; place = record { this = At (Source 0) } } in
+    let is : equation_of p (Query q) ≡ Some site = ap (λ (o : Option Asked). option_map (λ x. record { body = x.body; kind = x.kind; place = record { this = At (Source 0) } }) o) at in
+    instance_evaluated p r s (Query q) site t u first is h (subst (λ (j : Kind). TurnAs j t u) kind read)
+
+-- what has no equation counts as null
+pub none_evaluated : (p : Program) (r : Told) (i : Instance) (x : CodedValue) → IsSound p r → equation_of p i ≡ None → value_of (text_of p) x ≡ Node Null → Evaluates p r r ((equations_of p).equation i) (Ok (turns.Done x))
+unfolding equations_of
+none_evaluated p r i x sound none e = record { kept = grows_self sound; answer = subst (λ o. AnswersTurn p r (site_demands (world_of p) o) (Ok (turns.Done x))) (sym none) (gives_value e) }
+
+-- as a query that isn't there
+pub past_query : (p : Program) (q : ℕ) → length p.queries ≤ q → equation_of p (Query q) ≡ None
+past_query p q past = ap (λ (o : Option Asked). option_map (λ x. record { body = x.body; kind = x.kind; place = record { this = At (Source 0) } }) o) (slice_get_past p.queries q past)

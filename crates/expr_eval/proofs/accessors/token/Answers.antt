@@ -1,0 +1,19 @@
+use Rattle.std.proofs.Common.{List, ap, ◌∙◌}
+use Rattle.tree_arena.specs.Nodes.{Node, token_in}
+use Rattle.equation_law.specs.Equations.{decoded}
+use Rattle.equation_law.specs.Meaning.{token_at}
+use Rattle.equation_law.proofs.Pooled.{first_text}
+use Rattle.expr_eval.specs.Evaluating.{texts_in, world_in}
+use Rattle.expr_eval.proofs.accessors.token.Goals as goal
+
+pub returns-in-None : goal.returns-in-None
+returns-in-None c =
+    let system = c.args.system.now in
+    c.default_of.ensures (texts_in system) (first_text system) ∙ ap (token_at (world_in system) c.args.kind c.args.k) (c.in-None.ensures ∙ c.node.ensures (texts_in system))
+
+pub returns-in-Some : goal.returns-in-Some
+returns-in-Some c =
+    let system = c.args.system.now in
+    c.decoded.ensures (texts_in system) (first_text system)
+    ∙ ap (decoded (texts_in system) c.args.kind) (c.code_at.ensures ∙ ap (λ (nodes : List Node). token_in nodes c.in-Some.node c.args.k) c.tree.ensures)
+    ∙ ap (token_at (world_in system) c.args.kind c.args.k) (c.in-Some.ensures ∙ c.node.ensures (texts_in system))

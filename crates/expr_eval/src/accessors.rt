@@ -1,0 +1,139 @@
+// Accessors of the components of a node.
+ghost use Rattle.std.specs.Prelude.{◌≡◌, ℕ, List, [], pos};
+ghost use Rattle.std.specs.Int.{int_wrap};
+ghost use mir.Syntax.{w32};
+ghost use Rattle.tree_arena.specs.Nodes.{child_in, count_in, token_in};
+ghost use Rattle.equation_law.specs.Codes.{reference_of, value_of};
+ghost use Rattle.equation_law.specs.Equations.{source_or_null, source_of};
+ghost use Rattle.equation_law.specs.Equations as spec;
+ghost use Rattle.equation_law.specs.Meaning.{child_at as child_on, count_at as count_on, element_at as element_on, is_there, token_at as token_on};
+ghost use Rattle.equation_law.specs.Systems.{program_of};
+ghost use Rattle.equation_law.specs.Values.{Int, Node, Truth, int, node};
+ghost use Rattle.expr_eval.specs.Evaluating.{texts_in, world_in};
+
+use attr_rules::Kind;
+use equation_law::{NodeRef, System, Value};
+use tree_arena::Tree;
+
+/// The source node of a number, or null where the tree has none.
+pub(crate) fn source(system: &System, number: u32) -> Value
+    ensures { value_of (texts_in system.now) result ≡ Node (source_of (program_of system.now) number) }
+{
+    if number < system.tree().len() {
+        Value::Node(NodeRef::of_source(Some(number)))
+    } else {
+        Value::Node(NodeRef(0))
+    }
+}
+
+/// The node that hangs at a place of a component of a node, or null where there is none.
+fn child_at(tree: &Tree, node: u32, k: u32, i: u32) -> NodeRef
+    ensures { reference_of result.0 ≡ source_or_null (child_in tree.now node k i) }
+{
+    if node >= tree.len() {
+        return NodeRef(0);
+    }
+    NodeRef::of_source(tree.child(node, k, i))
+}
+
+/// How many nodes hang at a component of a node.
+#[tactic(auto, using(crate::proofs::Trees::none_counted))]
+fn count_at(tree: &Tree, node: u32, k: u32) -> u32
+    ensures { result ≡ count_in tree.now node k }
+{
+    if node < tree.len() {
+        tree.count(node, k)
+    } else {
+        0
+    }
+}
+
+/// The code of the token of a node at a component, 0 where the component is no token, or None where there is no such node or component.
+#[tactic(auto, using(crate::proofs::Trees::no_code_past, crate::proofs::Trees::no_code_behind))]
+fn code_at(tree: &Tree, node: u32, k: u32) -> Option<u32>
+    ensures { result ≡ token_in tree.now node k }
+{
+    if node >= tree.len() || k >= tree.components(node) {
+        return None;
+    }
+    Some(tree.token(node, k))
+}
+
+fn child_of(system: &System, k: u32, receiver: Value) -> NodeRef
+    ensures { reference_of result.0 ≡ child_on (world_in system.now) k (node (value_of (texts_in system.now) receiver)) }
+{
+    match receiver.node().source() {
+        Some(node) => child_at(system.tree(), node, k, 0),
+        None => NodeRef(0),
+    }
+}
+
+/// The child, or the optional child, of a receiver at a component, or null.
+pub(crate) fn child(system: &System, k: u32, receiver: Value) -> Value
+    ensures { value_of (texts_in system.now) result ≡ Node (child_on (world_in system.now) k (node (value_of (texts_in system.now) receiver))) }
+{
+    Value::Node(child_of(system, k, receiver))
+}
+
+/// Whether a receiver has a child at a component; null has none.
+pub(crate) fn has(system: &System, k: u32, receiver: Value) -> Value
+    ensures { value_of (texts_in system.now) result ≡ Truth (is_there (child_on (world_in system.now) k (node (value_of (texts_in system.now) receiver)))) }
+{
+    Value::Truth(child_of(system, k, receiver).source().is_some())
+}
+
+/// The element of a receiver's list at a place, or null where the list doesn't have that place.
+pub(crate) fn element(system: &System, k: u32, receiver: Value, place: Value) -> Value
+    ensures { value_of (texts_in system.now) result ≡ Node (element_on (world_in system.now) k (node (value_of (texts_in system.now) receiver)) (int (value_of (texts_in system.now) place))) }
+{
+    match (receiver.node().source(), u32::try_from(place.int())) {
+        (Some(node), Ok(place)) => Value::Node(child_at(system.tree(), node, k, place)),
+        _ => Value::Node(NodeRef(0)),
+    }
+}
+
+/// How many elements a receiver's list has; on null there are none.
+fn count_of(system: &System, k: u32, receiver: Value) -> i32
+    ensures { result ≡ count_on (world_in system.now) k (node (value_of (texts_in system.now) receiver)) }
+{
+    match receiver.node().source() {
+        Some(node) => count_at(system.tree(), node, k).cast_signed(),
+        None => 0,
+    }
+}
+
+/// How many elements a receiver's list has, as a value.
+pub(crate) fn count(system: &System, k: u32, receiver: Value) -> Value
+    ensures { value_of (texts_in system.now) result ≡ Int (count_on (world_in system.now) k (node (value_of (texts_in system.now) receiver))) }
+{
+    Value::Int(count_of(system, k, receiver))
+}
+
+/// The integer that a code stands for, in two's complement.
+fn decoded_int(code: u32) -> Value
+    ensures { (texts : ℕ → List ℕ) → value_of texts result ≡ Int (int_wrap w32 (pos code)) }
+{
+    Value::Int(code.cast_signed())
+}
+
+/// The value that a token's code stands for; a missing one is the type's default.
+fn decoded(kind: Kind, code: Option<u32>) -> Value
+    ensures { (texts : ℕ → List ℕ) → texts 0 ≡ [] → value_of texts result ≡ spec.decoded texts kind code }
+{
+    match (kind, code) {
+        (Kind::Text, Some(code)) => Value::Text(code),
+        (Kind::Truth, Some(code)) => Value::Truth(code != 0),
+        (Kind::Int, Some(code)) => decoded_int(code),
+        _ => Value::default_of(kind),
+    }
+}
+
+/// The token of a receiver at a component, read at a type; on null it is the type's default.
+pub(crate) fn token(system: &System, kind: Kind, k: u32, receiver: Value) -> Value
+    ensures { value_of (texts_in system.now) result ≡ token_on (world_in system.now) kind k (node (value_of (texts_in system.now) receiver)) }
+{
+    match receiver.node().source() {
+        None => Value::default_of(kind),
+        Some(node) => decoded(kind, code_at(system.tree(), node, k)),
+    }
+}

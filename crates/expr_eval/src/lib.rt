@@ -1,0 +1,10 @@
+//! One evaluation of an expression: its meaning under what a reader has, or the first demand for which the reader has no value. It is
+//! proved once, for every reader.
+#![tactic(auto)]
+
+mod accessors;
+mod evaluation;
+mod operators;
+mod sites;
+
+pub use sites::{Turn, equation_of, evaluate, evaluate_instance, evaluate_query, kind_of};

@@ -1,0 +1,81 @@
+// Operators on values.
+ghost use Rattle.std.specs.Prelude.{◌≡◌, ◌<◌, ℕ, List, [], neg_ℤ, not, length, slice_index_or};
+ghost use Rattle.std.specs.Int.{int_wrap};
+ghost use Rattle.std.specs.Str.{bytes_eq};
+ghost use mir.Syntax.{w32};
+ghost use Rattle.rag_io.specs.Pool.{ArePooled};
+ghost use Rattle.equation_law.specs.Codes.{reference_of, value_of};
+ghost use Rattle.equation_law.specs.Meaning.{equal as same_value, operate as operated_by};
+ghost use Rattle.equation_law.specs.Names.{same_reference};
+ghost use Rattle.equation_law.specs.Values.{Int, Truth, int, truth};
+ghost use Rattle.expr_eval.specs.Evaluating.{texts_in};
+
+use attr_rules::Operator;
+use equation_law::{NodeRef, System, Value};
+use rag_io::Pool;
+
+/// The number of a text; one that no text has counts as that of the empty text.
+fn known(pool: &Pool, number: u32) -> u32
+    ensures text { slice_index_or pool.now result [] ≡ slice_index_or pool.now number [] }
+    ensures within { result < length pool.now }
+    ensures pooled { ArePooled pool.now }
+{
+    if number < pool.len() { number } else { 0 }
+}
+
+/// Whether two texts are equal, which are told apart by their numbers.
+fn same_text(pool: &Pool, left: u32, right: u32) -> bool
+    ensures { result ≡ bytes_eq (slice_index_or pool.now left []) (slice_index_or pool.now right []) }
+{
+    known(pool, left) == known(pool, right)
+}
+
+/// Whether two nodes are equal, which are told apart by their codes.
+fn same_node(left: NodeRef, right: NodeRef) -> bool
+    ensures { result ≡ same_reference (reference_of left.0) (reference_of right.0) }
+{
+    left == right
+}
+
+/// Whether two truth values, integers, texts or nodes are equal.
+fn equal(system: &System, left: Value, right: Value) -> bool
+    ensures { result ≡ same_value (value_of (texts_in system.now) left) (value_of (texts_in system.now) right) }
+{
+    match left {
+        Value::Truth(b) => b == right.truth(),
+        Value::Int(z) => z == right.int(),
+        Value::Text(number) => same_text(system.pool(), number, right.text()),
+        Value::Node(node) => same_node(node, right.node()),
+        Value::NoTexts | Value::NoNodes => false,
+    }
+}
+
+/// The other truth value.
+pub(crate) fn deny(operand: Value) -> Value
+    ensures { (texts : ℕ → List ℕ) → value_of texts result ≡ Truth (not (truth (value_of texts operand))) }
+{
+    Value::Truth(!operand.truth())
+}
+
+/// The integer with the other sign; the least one stays.
+pub(crate) fn negate(operand: Value) -> Value
+    ensures { (texts : ℕ → List ℕ) → value_of texts result ≡ Int (int_wrap w32 (neg_ℤ (int (value_of texts operand)))) }
+{
+    Value::Int(operand.int().wrapping_neg())
+}
+
+/// A binary operator on two values; sums, differences and products wrap.
+pub(crate) fn operate(system: &System, operator: Operator, left: Value, right: Value) -> Value
+    ensures { value_of (texts_in system.now) result ≡ operated_by operator (value_of (texts_in system.now) left) (value_of (texts_in system.now) right) }
+{
+    match operator {
+        Operator::Add => Value::Int(left.int().wrapping_add(right.int())),
+        Operator::Subtract => Value::Int(left.int().wrapping_sub(right.int())),
+        Operator::Multiply => Value::Int(left.int().wrapping_mul(right.int())),
+        Operator::Less => Value::Truth(left.int() < right.int()),
+        Operator::AtMost => Value::Truth(left.int() <= right.int()),
+        Operator::Greater => Value::Truth(left.int() > right.int()),
+        Operator::AtLeast => Value::Truth(left.int() >= right.int()),
+        Operator::Equal => Value::Truth(equal(system, left, right)),
+    }
+}

@@ -1,0 +1,188 @@
+// Equations that are evaluated: where they are found, and what they come to.
+ghost use Rattle.std.specs.Prelude.{◌≡◌, ◌<◌, Some, length, slice_get};
+ghost use Rattle.std.specs.Option.{option_map};
+ghost use Rattle.attr_rules.specs.Queries.{Query as Asked, query_of};
+ghost use Rattle.attr_rules.specs.Rules.{body_at};
+ghost use Rattle.equation_law.specs.Codes.{instance_of, reference_of};
+ghost use Rattle.equation_law.specs.Equations.{equations_of, kind_in};
+ghost use Rattle.equation_law.specs.Names.{Attribute, NoArguments, Query};
+ghost use Rattle.equation_law.specs.Program.{class_of};
+ghost use Rattle.equation_law.specs.Reading.{IsSound};
+ghost use Rattle.equation_law.specs.Systems.{program_of};
+ghost use Rattle.expr_eval.specs.Evaluating.{Evaluates};
+ghost use Rattle.expr_eval.specs.Sites.{IsEquationOf, IsTurned, TurnAs, query_reads, site_reads};
+
+use crate::evaluation::{Context, Halt, attribute_kind, meaning};
+use ast_grammar::ClassId;
+use attr_rules::{AttrId, Kind};
+use equation_law::{EqSite, Instance, NodeRef, Reader, System, Value};
+use rag_io::Memory;
+use std::alloc::Global;
+
+/// What an evaluation comes to.
+#[derive(Clone, Copy, Debug, PartialEq, Eq)]
+pub enum Turn {
+    /// The value.
+    Done(Value),
+    /// The first demand, in order, for which the reader has no value.
+    Need(Instance),
+}
+
+impl Turn {
+    /// The same with its value read at a type.
+    fn read_as(self, kind: Kind) -> Turn
+        ensures { TurnAs kind self result }
+    {
+        match self {
+            Turn::Done(value) => Turn::Done(value.read_as(kind)),
+            Turn::Need(instance) => Turn::Need(instance),
+        }
+    }
+}
+
+/// The type of a query's values; of one that isn't there, `boolean`.
+fn query_kind(system: &System, query: u32) -> Kind
+    ensures { result ≡ kind_in (program_of system.now) (Query query) }
+{
+    if query < system.replies() {
+        system.query(query).kind()
+    } else {
+        Kind::Truth
+    }
+}
+
+/// The type of an instance's values; of what is no instance of the system, `boolean`.
+pub fn kind_of(system: &System, i: &Instance) -> Kind
+    ensures { result ≡ kind_in (program_of system.now) (instance_of i.now) }
+{
+    match i {
+        Instance::Attr { attr, .. } => attribute_kind(system, *attr),
+        Instance::Query(query) => query_kind(system, *query),
+    }
+}
+
+/// The class of a source node, if there is one of this number.
+fn class_at(system: &System, node: u32) -> Option<ClassId>
+    ensures { result ≡ class_of (program_of system.now) node }
+{
+    let tree = system.tree();
+    if node < tree.len() {
+        Some(tree.class_of(node))
+    } else {
+        None
+    }
+}
+
+/// The equation of an attribute at a node: that of the nearest class, from the node's class upwards, read at the node. It takes constant
+/// time and no memory, and answers None where the node's class doesn't have the attribute, or lacks an equation for it.
+pub fn equation_of(system: &System, attr: AttrId, node: NodeRef) -> Option<EqSite>
+    ensures { IsEquationOf (program_of system.now) (Attribute attr.0 (reference_of node.0) NoArguments) result }
+{
+    let class = class_at(system, node.source()?)?;
+    let equation = system.rules().syn_equation(class, attr)?;
+    Some(EqSite { equation, node })
+}
+
+/// What an evaluation of an expression is to callers.
+fn turned(came: Result<Value, Halt>) -> Result<Turn, Memory>
+    ensures { IsTurned came result }
+{
+    match came {
+        Ok(value) => Ok(Turn::Done(value)),
+        Err(Halt::Need(instance)) => Ok(Turn::Need(instance)),
+        Err(Halt::Memory) => Err(Memory),
+    }
+}
+
+/// The meaning of the equation of a site under what a reader has at the end of the call, or the first demand that it has no value for.
+/// Only the reader takes memory.
+pub fn evaluate<R: Reader>(
+    alloc: Global,
+    system: &System,
+    site: &EqSite,
+    reader: &mut R,
+) -> Result<Turn, Memory>
+    requires equation { site.now.equation.0 < length (program_of system.now).rules.equations }
+    requires sound { IsSound (program_of system.now) (R.tells reader.old) }
+    ensures { Evaluates (program_of system.now) (R.tells reader.old) (R.tells reader.new) (site_reads (program_of system.now) site.now) result }
+{
+    let context = Context {
+        alloc,
+        system,
+        this: site.node,
+    };
+    turned(meaning(&context, system.rules().body(site.equation), reader))
+}
+
+/// The meaning of a query's expression, which is read at the root, in the same way.
+pub fn evaluate_query<R: Reader>(
+    alloc: Global,
+    system: &System,
+    query: u32,
+    reader: &mut R,
+) -> Result<Turn, Memory>
+    requires query { query < length (program_of system.now).queries }
+    requires sound { IsSound (program_of system.now) (R.tells reader.old) }
+    ensures { (q : Asked) → slice_get (program_of system.now).queries query ≡ Some q → Evaluates (program_of system.now) (R.tells reader.old) (R.tells reader.new) (query_reads (program_of system.now) q) result }
+{
+    let context = Context {
+        alloc,
+        system,
+        this: NodeRef(1),
+    };
+    turned(meaning(&context, system.query(query).expression(), reader))
+}
+
+/// What the equation of an attribute at a node comes to.
+fn evaluate_attribute<R: Reader>(
+    alloc: Global,
+    system: &System,
+    attr: AttrId,
+    node: NodeRef,
+    reader: &mut R,
+) -> Result<Turn, Memory>
+    requires { IsSound (program_of system.now) (R.tells reader.old) }
+    ensures { Evaluates (program_of system.now) (R.tells reader.old) (R.tells reader.new) ((equations_of (program_of system.now)).equation (Attribute attr.0 (reference_of node.0) NoArguments)) result }
+{
+    match equation_of(system, attr, node) {
+        None => Ok(Turn::Done(Value::Node(NodeRef(0)))),
+        Some(site) => {
+            let turn = evaluate(alloc, system, &site, reader)?;
+            Ok(turn.read_as(attribute_kind(system, attr)))
+        }
+    }
+}
+
+/// What a query comes to.
+fn evaluate_asked<R: Reader>(
+    alloc: Global,
+    system: &System,
+    query: u32,
+    reader: &mut R,
+) -> Result<Turn, Memory>
+    requires { IsSound (program_of system.now) (R.tells reader.old) }
+    ensures { Evaluates (program_of system.now) (R.tells reader.old) (R.tells reader.new) ((equations_of (program_of system.now)).equation (Query query)) result }
+{
+    if query >= system.replies() {
+        return Ok(Turn::Done(Value::Node(NodeRef(0))));
+    }
+    let turn = evaluate_query(alloc, system, query, reader)?;
+    Ok(turn.read_as(system.query(query).kind()))
+}
+
+/// What the equation of an instance comes to: the value is that of its expression, read at the instance's type. What is no instance of the
+/// system counts as null.
+pub fn evaluate_instance<R: Reader>(
+    alloc: Global,
+    system: &System,
+    i: &Instance,
+    reader: &mut R,
+) -> Result<Turn, Memory>
+    requires { IsSound (program_of system.now) (R.tells reader.old) }
+    ensures { Evaluates (program_of system.now) (R.tells reader.old) (R.tells reader.new) ((equations_of (program_of system.now)).equation (instance_of i.now)) result }
+{
+    match i {
+        Instance::Attr { attr, node } => evaluate_attribute(alloc, system, *attr, *node, reader),
+        Instance::Query(query) => evaluate_asked(alloc, system, *query, reader),
+    }
+}
