@@ -1,0 +1,56 @@
+-- What stands in a round is what a reader over it has.
+use Rattle.std.proofs.Common.{◌≡◌, List, Option, Some, None, Ok, refl, sym, ap, subst, ◌∙◌, inl, inr}
+use Rattle.solutions.specs.Asking.{Demands, Halts, after, answered, at, demanded, run, Stuck}
+use Rattle.solutions.specs.Rounds.{Graph, value_of as outcome_value}
+use Rattle.solutions.proofs.Runs.{ends_more, ends_run, option_cases}
+use Rattle.equation_law.specs.declared.coding.Instance.{Instance as CodedInstance}
+use Rattle.equation_law.specs.declared.coding.Value.{Value as CodedValue}
+use Rattle.equation_law.specs.Codes.{instance_of, value_of}
+use Rattle.equation_law.specs.Equations.{kind_in, text_of}
+use Rattle.equation_law.specs.Names.{Instance}
+use Rattle.equation_law.specs.Program.{Program}
+use Rattle.equation_law.specs.Reading.{IsSound, SettledBy, Settles, Told}
+use Rattle.equation_law.specs.Systems.{program_of}
+use Rattle.equation_law.specs.Values.{Value, as_kind}
+use Rattle.expr_eval.specs.declared.sites.Turn.{Turn}
+use Rattle.expr_eval.specs.declared.sites.Turn.TheVariants.{Done, Need}
+use Rattle.expr_eval.specs.Evaluating.{Evaluates}
+use Rattle.expr_eval.proofs.Forms.{grows_self}
+use Rattle.plain_rounds.specs.declared.standing.Standing.{Standing}
+use Rattle.plain_rounds.specs.Standing.{IsStanding, standing_at, told_by}
+
+-- it is a reader for its program
+pub sound : (s : Standing) → IsSound (program_of s.system.now) (told_by s)
+sound s = record { for = refl; within = λ i v a. a; one_value = λ i v w a b. cc }
+
+answers : (s : Standing) (p : Program) (i : Instance) (o : Option CodedValue) → p ≡ program_of s.system.now → IsStanding s i o → Settles p (told_by s) i (Ok o)
+answers s p i None e h = λ w a. cc
+answers s p i (Some v) e h = (h.0, h.1, subst (λ (q : Program). value_of (text_of q) v ≡ as_kind (kind_in q i) h.0) (sym e) h.2)
+
+pub settled_by : (s : Standing) (i : CodedInstance) (o : Option CodedValue) → IsStanding s (instance_of i) o → SettledBy (told_by s) (told_by s) i (Ok o)
+settled_by s i o h = record { kept = λ p a. grows_self a; answer = λ p a. answers s p (instance_of i) o a.for h }
+
+-- it is stuck at an instance that has no value
+halts_run : {I V : Type 0} (A : I → Option V) {c : Demands I V} {j : I} {ds : List I} → Halts (Graph A) c j ds → run A c ≡ Stuck j ds
+halts_run A (at {j = j} {k = k} f) = elim (option_cases (A j)) [
+  | inl v ↦ absurd (f v.0 v.1)
+  | inr e ↦ ap (λ o. answered j o (λ v. run A (k v))) e
+]
+halts_run A (after {j = j} {k = k} {w = w} a e) = ap (λ o. answered j o (λ v. run A (k v))) a ∙ ap (demanded j) (halts_run A e)
+
+halts_more : {I V : Type 0} {A B : I → V → Type 0} {c : Demands I V} {j : I} {ds : List I} → ((i : I) (w : V) → A i w → B i w) → ((i : I) (w : V) → B i w → A i w) → Halts A c j ds → Halts B c j ds
+halts_more g h (at f) = at (λ v b. f v (h _ v b))
+halts_more g h (after {j = j} {w = w} a e) = after (g j w a) (halts_more g h e)
+
+module _ (p : Program) (r : Standing) (s : Told) (c : Demands Instance Value) where
+  -- what is done under what stands has that value
+  pub done_value : (v : CodedValue) (t : Turn) → t ≡ Done v → Evaluates p (told_by r) s c (Ok t) → Some (value_of (text_of p) v) ≡ outcome_value (run (standing_at r) c)
+  done_value v t is g =
+      let h = subst (λ (x : Turn). Evaluates p (told_by r) s c (Ok x)) is g in
+      sym (ap outcome_value (ends_run (standing_at r) (ends_more (λ i w a. h.kept.bound i w (h.kept.sound.within i w a)) h.answer.ends)))
+
+  -- what is stuck has none
+  pub stuck_value : (j : CodedInstance) (t : Turn) → t ≡ Need j → Evaluates p (told_by r) s c (Ok t) → None ≡ outcome_value (run (standing_at r) c)
+  stuck_value j t is g =
+      let h = subst (λ (x : Turn). Evaluates p (told_by r) s c (Ok x)) is g in
+      sym (ap outcome_value (halts_run (standing_at r) (halts_more (λ i w a. h.kept.bound i w (h.kept.sound.within i w a)) (λ i w a. h.kept.values i w a) h.answer.halts)))

@@ -1,0 +1,76 @@
+-- Values by structural names of nodes, and what a table of values stands for.
+use Rattle.std.specs.Prelude.{◌≡◌, ℕ, cond, List, [], ◌∷◌, Option, Some, None, map, slice_get}
+use Rattle.std.specs.Option.{option_map, option_and_then}
+use Rattle.solutions.specs.Rounds.{RoundsEnd}
+use Rattle.plain_rounds.specs.declared.instances.NameList.{NameList}
+use Rattle.plain_rounds.specs.declared.values.NamedValue.{NamedValue}
+use Rattle.plain_rounds.specs.declared.values.NodeName.{NodeName}
+use Rattle.plain_rounds.specs.declared.values.NodeName.TheVariants as names
+use Rattle.plain_rounds.specs.declared.rounds.Table.{Table}
+use Rattle.equation_law.specs.Names.{Instance, Reference, Null, At, Source, same_instance}
+use Rattle.equation_law.specs.Codes.{instance_of, value_of}
+use Rattle.equation_law.specs.Values.{Value, Truth, Int, Text, Node, Texts, Nodes}
+use Rattle.equation_law.specs.Program.{Program}
+use Rattle.equation_law.specs.Equations.{equations_of, text_of}
+
+abbrev pub instances_in : NameList → List Instance
+instances_in l = map instance_of l.names.items
+
+-- a node by its name
+abbrev pub reference_named : NodeName → Reference
+reference_named names.Null = Null
+reference_named (names.Source n) = At (Source n)
+
+abbrev pub value_in : (ℕ → List ℕ) → NamedValue → Value
+value_in texts v = value_of texts v.value
+
+-- the value is no truth value, no integer, no text, and no node
+abbrev pub IsNoTruth : Value → Type 0
+IsNoTruth (Truth b) = ⊥
+IsNoTruth (Int z) = Unit {0}
+IsNoTruth (Text t) = Unit {0}
+IsNoTruth (Node n) = Unit {0}
+IsNoTruth (Texts s) = Unit {0}
+IsNoTruth (Nodes s) = Unit {0}
+
+abbrev pub IsNoInt : Value → Type 0
+IsNoInt (Truth b) = Unit {0}
+IsNoInt (Int z) = ⊥
+IsNoInt (Text t) = Unit {0}
+IsNoInt (Node n) = Unit {0}
+IsNoInt (Texts s) = Unit {0}
+IsNoInt (Nodes s) = Unit {0}
+
+abbrev pub IsNoText : Value → Type 0
+IsNoText (Truth b) = Unit {0}
+IsNoText (Int z) = Unit {0}
+IsNoText (Text t) = ⊥
+IsNoText (Node n) = Unit {0}
+IsNoText (Texts s) = Unit {0}
+IsNoText (Nodes s) = Unit {0}
+
+abbrev pub IsNoNode : Value → Type 0
+IsNoNode (Truth b) = Unit {0}
+IsNoNode (Int z) = Unit {0}
+IsNoNode (Text t) = Unit {0}
+IsNoNode (Node n) = ⊥
+IsNoNode (Texts s) = Unit {0}
+IsNoNode (Nodes s) = Unit {0}
+
+abbrev pub values_in : (ℕ → List ℕ) → Table → List (Option Value)
+values_in texts t = map (option_map (value_in texts)) t.values.items
+
+-- the value of the k-th name, where there is one
+abbrev pub value_at : (ℕ → List ℕ) → Table → ℕ → Option Value
+value_at texts t k = option_and_then (λ v. v) (slice_get (values_in texts t) k)
+
+-- the value that stands under the first place of an instance in the list
+abbrev pub assigned : List Instance → List (Option Value) → Instance → Option Value
+assigned [] values i = None
+assigned (j ∷ names) [] i = None
+assigned (j ∷ names) (v ∷ values) i = cond (same_instance i j) v (assigned names values i)
+
+-- The table has a value for each name, where the rounds over the names, run until nothing is added, give it one.
+pub record Solves (p : Program) (names : List Instance) (t : Table) : Type 0 where
+  pub end : RoundsEnd (equations_of p) names (assigned names (values_in (text_of p) t))
+  pub each : (k : ℕ) (i : Instance) → slice_get names k ≡ Some i → value_at (text_of p) t k ≡ assigned names (values_in (text_of p) t) i

@@ -1,0 +1,24 @@
+-- What stands in a round, told as a reader tells it.
+use Rattle.std.specs.Prelude.{◌≡◌, Option, Some, None}
+use Rattle.equation_law.specs.declared.coding.Value.{Value as CodedValue}
+use Rattle.equation_law.specs.Codes.{value_of}
+use Rattle.equation_law.specs.Equations.{kind_in, text_of}
+use Rattle.equation_law.specs.Names.{Instance}
+use Rattle.equation_law.specs.Reading.{Told}
+use Rattle.equation_law.specs.Systems.{program_of}
+use Rattle.equation_law.specs.Values.{Value, as_kind}
+use Rattle.plain_rounds.specs.declared.standing.Standing.{Standing}
+use Rattle.plain_rounds.specs.Places.{found}
+
+-- the value at the place of an instance
+abbrev pub standing_at : Standing → Instance → Option Value
+standing_at s i = found (text_of (program_of s.system.now)) s.places.now.map s.values.now i
+
+-- a reader for its program, which has these values and no other
+abbrev pub told_by : Standing → Told
+told_by s = record { for = λ p. p ≡ program_of s.system.now; has = λ i v. standing_at s i ≡ Some v; can = λ i v. standing_at s i ≡ Some v }
+
+-- the value, read at its type, or None where there is none
+abbrev pub IsStanding : Standing → Instance → Option CodedValue → Type 0
+IsStanding s i None = standing_at s i ≡ None
+IsStanding s i (Some v) = (w : Value) × (standing_at s i ≡ Some w) × (value_of (text_of (program_of s.system.now)) v ≡ as_kind (kind_in (program_of s.system.now) i) w)

@@ -1,0 +1,69 @@
+// Where the instances of a list stand in it.
+ghost use Rattle.std.specs.Prelude.{◌≡◌, ℕ, List, Some, None, IfOk, cond, map};
+ghost use Rattle.std.specs.Option.{option_map};
+ghost use Rattle.solutions.specs.Rounds.{or_else};
+ghost use Rattle.equation_law.specs.Codes.{instance_of, value_of};
+ghost use Rattle.equation_law.specs.Names.{Instance as InstanceName, same_instance};
+ghost use Rattle.plain_rounds.specs.Places.{place_in, kept_place, found};
+ghost use Rattle.plain_rounds.specs.Places as specs;
+
+use crate::values::NamedValue;
+use equation_law::{Instance, Value};
+use rag_io::Memory;
+use std::alloc::Global;
+use std::collections::HashMap;
+
+/// The first place of each instance of a list.
+#[derive(Drop)]
+pub(crate) struct Places {
+    map: HashMap<Instance, usize>,
+}
+
+/// Keeps the place of an instance, unless one is kept already.
+fn keep_first(
+    map: &mut HashMap<Instance, usize>,
+    name: Instance,
+    place: usize,
+) -> Result<(), Memory>
+    ensures { IfOk result (λ _. (i : InstanceName) → kept_place map.new i ≡ or_else (kept_place map.old i) (cond (same_instance i (instance_of name)) (Some place) None)) }
+{
+    if map.contains_key(&name) {
+        return Ok(());
+    }
+    match map.insert(name, place) {
+        Ok(_) => Ok(()),
+        Err(_) => Err(Memory),
+    }
+}
+
+/// The value at a place, if there are such a place and a value.
+fn value_on(values: &[Option<NamedValue>], place: usize) -> Option<Value>
+    ensures { (texts : ℕ → List ℕ) → option_map (value_of texts) result ≡ specs.value_on texts values.now place }
+{
+    match values.get(place) {
+        Some(Some(held)) => Some(held.value),
+        Some(None) => None,
+        None => None,
+    }
+}
+
+impl Places {
+    /// The places in these names.
+    pub(crate) fn of_names(alloc: Global, names: &[Instance]) -> Result<Places, Memory>
+        ensures { IfOk result (λ p. (i : InstanceName) → kept_place p.map i ≡ place_in (map instance_of names.now) i) }
+    {
+        let mut map = HashMap::new(alloc);
+        for (k, name) in names.iter().enumerate() {
+            keep_first(&mut map, *name, k)?;
+        }
+        Ok(Places { map })
+    }
+
+    /// The value that stands at the first place of an instance, if there are such a place and a value.
+    pub(crate) fn value(&self, values: &[Option<NamedValue>], name: Instance) -> Option<Value>
+        ensures { (texts : ℕ → List ℕ) → option_map (value_of texts) result ≡ found texts self.now.map values.now (instance_of name) }
+    {
+        let place = self.map.get(&name)?;
+        value_on(values, *place)
+    }
+}

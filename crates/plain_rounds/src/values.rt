@@ -1,0 +1,74 @@
+// Values by structural names of nodes.
+ghost use Rattle.std.specs.Prelude.{◌≡◌, ℕ, List, MatchOption};
+ghost use Rattle.equation_law.specs.Codes.{reference_of};
+ghost use Rattle.equation_law.specs.Values.{Truth, Int, Text, Node};
+ghost use Rattle.plain_rounds.specs.Named.{value_in, reference_named, IsNoTruth, IsNoInt, IsNoText, IsNoNode};
+
+use equation_law::{NodeRef, Value};
+
+/// The name of a node: null, or the source node of this number.
+#[derive(Clone, Copy, Debug, PartialEq, Eq)]
+pub enum NodeName {
+    Null,
+    Source(u32),
+}
+
+impl NodeName {
+    /// The name of a node.
+    fn of_node(node: NodeRef) -> NodeName
+        ensures { reference_named result ≡ reference_of node.0 }
+    {
+        match node.source() {
+            None => NodeName::Null,
+            Some(number) => NodeName::Source(number),
+        }
+    }
+}
+
+/// A value with structural names of nodes.
+#[derive(Clone, Copy, Debug, PartialEq, Eq)]
+pub struct NamedValue {
+    pub(crate) value: Value,
+}
+
+impl NamedValue {
+    /// The truth value, or None exactly where the value is of another kind.
+    pub fn truth(&self) -> Option<bool>
+        ensures { (texts : ℕ → List ℕ) → MatchOption result (IsNoTruth (value_in texts self.now)) (λ b. value_in texts self.now ≡ Truth b) }
+    {
+        match self.value {
+            Value::Truth(b) => Some(b),
+            _ => None,
+        }
+    }
+
+    /// The integer, or None exactly where the value is of another kind.
+    pub fn int(&self) -> Option<i32>
+        ensures { (texts : ℕ → List ℕ) → MatchOption result (IsNoInt (value_in texts self.now)) (λ z. value_in texts self.now ≡ Int z) }
+    {
+        match self.value {
+            Value::Int(z) => Some(z),
+            _ => None,
+        }
+    }
+
+    /// The number of the text in the pool, or None exactly where the value is of another kind.
+    pub fn text(&self) -> Option<u32>
+        ensures { (texts : ℕ → List ℕ) → MatchOption result (IsNoText (value_in texts self.now)) (λ n. value_in texts self.now ≡ Text (texts n)) }
+    {
+        match self.value {
+            Value::Text(number) => Some(number),
+            _ => None,
+        }
+    }
+
+    /// The name of the node, or None exactly where the value is of another kind.
+    pub fn node(&self) -> Option<NodeName>
+        ensures { (texts : ℕ → List ℕ) → MatchOption result (IsNoNode (value_in texts self.now)) (λ n. value_in texts self.now ≡ Node (reference_named n)) }
+    {
+        match self.value {
+            Value::Node(node) => Some(NodeName::of_node(node)),
+            _ => None,
+        }
+    }
+}
