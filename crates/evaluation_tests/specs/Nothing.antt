@@ -1,0 +1,8 @@
+-- A reader that has no value.
+use Rattle.equation_law.specs.Names.{Instance}
+use Rattle.equation_law.specs.Program.{Program}
+use Rattle.equation_law.specs.Reading.{Told}
+use Rattle.equation_law.specs.Values.{Value}
+
+abbrev pub nothing : Told
+nothing = record { for = λ p. Unit {0}; has = λ i v. ⊥; can = λ i v. ⊥ }

@@ -1,0 +1,351 @@
+// What expressions come to where no instance has a value.
+ghost use Rattle.std.specs.Prelude.{◌≡◌, ◌<◌, length};
+ghost use Rattle.equation_law.specs.Systems.{program_of};
+
+use super::program::{T, V, X, Y, system};
+use super::*;
+use attr_rules::EqId;
+use equation_law::EqSite;
+use expr_eval::{Turn, evaluate, evaluate_query};
+
+// A reader that has no value.
+#[derive(Clone, Copy)]
+struct Nothing;
+
+impl Reader for Nothing {
+    ghost use Rattle.evaluation_tests.specs.Nothing.{nothing};
+
+    ghost tells = { λ _. nothing };
+
+    fn settled(&mut self, _alloc: Global, _i: &Instance) -> Result<Option<Value>, Memory> {
+        Ok(None)
+    }
+}
+
+// Expressions, each a query, and what they come to.
+#[derive(Drop)]
+struct Rows {
+    queries: Vec<QueryEq>,
+    wanted: Vec<Turn>,
+}
+
+impl Rows {
+    fn add(&mut self, expression: TExpr, wanted: Turn) -> Result<(), Fail> {
+        self.queries.push(QueryEq::of(expression, Kind::Truth))?;
+        self.wanted.push(wanted)?;
+        Ok(())
+    }
+
+    fn add_value(&mut self, expression: TExpr, value: Value) -> Result<(), Fail> {
+        self.add(expression, Turn::Done(value))
+    }
+
+    fn add_truth(&mut self, expression: TExpr, truth: bool) -> Result<(), Fail> {
+        self.add_value(expression, Value::Truth(truth))
+    }
+
+    fn add_int(&mut self, expression: TExpr, int: i32) -> Result<(), Fail> {
+        self.add_value(expression, Value::Int(int))
+    }
+
+    // A node, or null where there is none.
+    fn add_node(&mut self, expression: TExpr, node: Option<u32>) -> Result<(), Fail> {
+        self.add_value(
+            expression,
+            Value::Node(NodeRef(node.map_or(0, |n| n.wrapping_add(1)))),
+        )
+    }
+
+    // Whether two expressions are equal.
+    fn add_same(
+        &mut self,
+        alloc: Global,
+        left: TExpr,
+        right: TExpr,
+        same: bool,
+    ) -> Result<(), Fail> {
+        self.add_truth(binary(alloc, left, Operator::Equal, right)?, same)
+    }
+}
+
+// The sides of an operator, and its value.
+const INTEGERS: &[(i32, Operator, i32, i32)] = &[
+    (i32::MAX, Operator::Add, 1, i32::MIN),
+    (-i32::MAX, Operator::Subtract, 2, i32::MAX),
+    (10, Operator::Subtract, 3, 7),
+    (65536, Operator::Multiply, 65536, 0),
+    (-7, Operator::Multiply, 6, -42),
+];
+
+const COMPARISONS: &[(i32, Operator, i32, bool)] = &[
+    (i32::MIN, Operator::Less, i32::MAX, true),
+    (i32::MAX, Operator::Less, i32::MIN, false),
+    (2, Operator::Less, 2, false),
+    (2, Operator::AtMost, 2, true),
+    (i32::MAX, Operator::AtMost, i32::MIN, false),
+    (i32::MAX, Operator::Greater, i32::MIN, true),
+    (2, Operator::Greater, 2, false),
+    (2, Operator::AtLeast, 2, true),
+    (i32::MIN, Operator::AtLeast, i32::MAX, false),
+    (-3, Operator::Equal, -3, true),
+    (3, Operator::Equal, -3, false),
+];
+
+// Two truth values, and whether both hold, one of them does, and they are the same.
+const TRUTHS: &[(bool, bool, bool, bool, bool)] = &[
+    (false, false, false, false, true),
+    (false, true, false, true, false),
+    (true, false, false, true, false),
+    (true, true, true, true, true),
+];
+
+// Two nodes, and whether they are equal.
+const NODES: &[(Option<u32>, Option<u32>, bool)] = &[
+    (Some(1), Some(1), true),
+    (Some(1), Some(2), false),
+    (Some(0), None, false),
+    (None, Some(0), false),
+    (None, None, true),
+];
+
+// The numbers of two texts, and whether they are equal. What is no number of a text counts as the empty one.
+const LITERALS: &[(u32, u32, bool)] = &[
+    (0, 0, true),
+    (1, 1, true),
+    (1, 2, false),
+    (0, 1, false),
+    (9, 0, true),
+    (0, 9, true),
+    (9, 1, false),
+];
+
+// A node, another one and a text, and whether the text of the first node is that of the second, and the text.
+const TOKEN_TEXTS: &[(u32, u32, u32, bool, bool)] = &[
+    (1, 3, 1, true, true),
+    (3, 2, 2, false, false),
+    (2, 1, 2, false, true),
+    (4, 2, 0, false, true),
+    (4, 4, 1, true, false),
+];
+
+// A node, a component, and the child there. The optional child at 2 is absent.
+const CHILDREN: &[(Option<u32>, u32, Option<u32>)] = &[
+    (Some(0), 0, Some(1)),
+    (Some(0), 1, Some(2)),
+    (Some(0), 2, None),
+    (Some(0), 4, None),
+    (Some(0), 5, None),
+    (Some(1), 0, None),
+    (Some(9), 0, None),
+    (None, 0, None),
+];
+
+// A node, the component of a list, a place in it, and the element there.
+const ELEMENTS: &[(Option<u32>, u32, i32, Option<u32>)] = &[
+    (Some(0), 3, 0, Some(3)),
+    (Some(0), 3, 1, Some(4)),
+    (Some(0), 3, 2, None),
+    (Some(0), 3, i32::MAX, None),
+    (Some(0), 3, -1, None),
+    (Some(0), 3, i32::MIN, None),
+    (Some(0), 4, 0, None),
+    (Some(9), 3, 0, None),
+    (None, 3, 0, None),
+];
+
+// A node, a component, and how many nodes hang there.
+const COUNTS: &[(Option<u32>, u32, i32)] = &[
+    (Some(0), 3, 2),
+    (Some(0), 4, 0),
+    (Some(0), 5, 0),
+    (Some(1), 3, 0),
+    (Some(9), 3, 0),
+    (None, 3, 0),
+];
+
+// A node, a component, and the token there; a missing one is the type's default.
+const TOKENS: &[(Option<u32>, Kind, u32, Value)] = &[
+    (Some(1), Kind::Int, 0, Value::Int(-5)),
+    (Some(1), Kind::Text, 1, Value::Text(1)),
+    (Some(1), Kind::Truth, 2, Value::Truth(true)),
+    (Some(2), Kind::Int, 0, Value::Int(7)),
+    (Some(2), Kind::Text, 1, Value::Text(2)),
+    (Some(2), Kind::Truth, 2, Value::Truth(false)),
+    (Some(0), Kind::Int, 0, Value::Int(0)),
+    (Some(1), Kind::Int, 3, Value::Int(0)),
+    (Some(9), Kind::Text, 1, Value::Text(0)),
+    (None, Kind::Int, 0, Value::Int(0)),
+    (None, Kind::Text, 1, Value::Text(0)),
+    (None, Kind::Truth, 2, Value::Truth(false)),
+];
+
+fn add_integers(alloc: Global, rows: &mut Rows) -> Result<(), Fail> {
+    for (a, operator, b, sum) in INTEGERS {
+        rows.add_int(binary(alloc, int(*a), *operator, int(*b))?, *sum)?;
+    }
+    rows.add_int(negate(alloc, int(5))?, -5)?;
+    rows.add_int(negate(alloc, int(i32::MIN))?, i32::MIN)
+}
+
+fn add_comparisons(alloc: Global, rows: &mut Rows) -> Result<(), Fail> {
+    for (a, operator, b, holds) in COMPARISONS {
+        rows.add_truth(binary(alloc, int(*a), *operator, int(*b))?, *holds)?;
+    }
+    Ok(())
+}
+
+fn add_truths(alloc: Global, rows: &mut Rows) -> Result<(), Fail> {
+    for (a, b, both, either, same) in TRUTHS {
+        rows.add_truth(and(alloc, truth(*a), truth(*b))?, *both)?;
+        rows.add_truth(or(alloc, truth(*a), truth(*b))?, *either)?;
+        rows.add_same(alloc, truth(*a), truth(*b), *same)?;
+        rows.add_truth(not(alloc, truth(*a))?, !*a)?;
+        rows.add_truth(choice(alloc, truth(*a), truth(*b), truth(!*b))?, *same)?;
+    }
+    Ok(())
+}
+
+fn add_equality(alloc: Global, rows: &mut Rows) -> Result<(), Fail> {
+    for (a, b, same) in NODES {
+        rows.add_same(alloc, node(*a), node(*b), *same)?;
+    }
+    for (a, b, same) in LITERALS {
+        rows.add_same(alloc, TExpr::Text(*a), TExpr::Text(*b), *same)?;
+    }
+    Ok(())
+}
+
+fn spelled(alloc: Global, number: u32) -> Result<TExpr, Failed> {
+    token(alloc, Kind::Text, 1, TExpr::Source(number))
+}
+
+fn add_texts(alloc: Global, rows: &mut Rows) -> Result<(), Fail> {
+    for (a, b, text, same, is) in TOKEN_TEXTS {
+        rows.add_same(alloc, spelled(alloc, *a)?, spelled(alloc, *b)?, *same)?;
+        rows.add_same(alloc, spelled(alloc, *a)?, TExpr::Text(*text), *is)?;
+    }
+    Ok(())
+}
+
+// What is read of lists.
+fn add_lists(alloc: Global, rows: &mut Rows) -> Result<(), Fail> {
+    for (n, k, place, there) in ELEMENTS {
+        rows.add_node(element(alloc, *k, node(*n), int(*place))?, *there)?;
+    }
+    for (n, k, many) in COUNTS {
+        rows.add_int(count(alloc, *k, node(*n))?, *many)?;
+    }
+    Ok(())
+}
+
+// The other accessors.
+fn add_accessors(alloc: Global, rows: &mut Rows) -> Result<(), Fail> {
+    for (n, k, there) in CHILDREN {
+        rows.add_node(child(alloc, *k, node(*n))?, *there)?;
+        rows.add_truth(has(alloc, *k, node(*n))?, there.is_some())?;
+    }
+    for (n, kind, k, value) in TOKENS {
+        rows.add_value(token(alloc, *kind, *k, node(*n))?, *value)?;
+    }
+    rows.add_node(TExpr::This, Some(0))
+}
+
+const X_FIRST: Turn = Turn::Need(Instance::Attr {
+    attr: X,
+    node: NodeRef(1),
+});
+
+// A call, and operators over calls: a demand where the part that decides is stuck, and else a value.
+fn add_stuck_operators(alloc: Global, rows: &mut Rows) -> Result<(), Fail> {
+    rows.add(x(alloc)?, X_FIRST)?;
+    let y = call(alloc, Y, TExpr::Source(0))?;
+    rows.add(binary(alloc, x(alloc)?, Operator::Equal, y)?, X_FIRST)?;
+    rows.add_truth(and(alloc, truth(false), x(alloc)?)?, false)?;
+    rows.add(and(alloc, truth(true), x(alloc)?)?, X_FIRST)?;
+    rows.add(and(alloc, x(alloc)?, truth(false))?, X_FIRST)?;
+    rows.add_truth(or(alloc, truth(true), x(alloc)?)?, true)?;
+    rows.add(or(alloc, x(alloc)?, truth(true))?, X_FIRST)
+}
+
+// A choice whose other part is stuck, and accessors of which a part is stuck: also of null, since all parts come first.
+fn add_stuck_parts(alloc: Global, rows: &mut Rows) -> Result<(), Fail> {
+    rows.add_int(choice(alloc, truth(false), x(alloc)?, int(3))?, 3)?;
+    rows.add(element(alloc, 3, TExpr::Null, x(alloc)?)?, X_FIRST)?;
+    let y = call(alloc, Y, TExpr::Source(0))?;
+    rows.add(element(alloc, 3, x(alloc)?, y)?, X_FIRST)?;
+    rows.add(count(alloc, 3, x(alloc)?)?, X_FIRST)?;
+    rows.add(has(alloc, 1, x(alloc)?)?, X_FIRST)
+}
+
+// Calls on null and on an absent child, which demand nothing.
+fn add_calls_on_null(alloc: Global, rows: &mut Rows) -> Result<(), Fail> {
+    for (attribute, value) in [
+        (X, Value::Truth(false)),
+        (V, Value::Int(0)),
+        (T, Value::Text(0)),
+    ] {
+        rows.add_value(call(alloc, attribute, TExpr::Null)?, value)?;
+        let absent = child(alloc, 2, TExpr::Source(0))?;
+        rows.add_value(call(alloc, attribute, absent)?, value)?;
+    }
+    Ok(())
+}
+
+fn all_rows(alloc: Global) -> Result<Rows, Fail> {
+    let mut rows = Rows {
+        queries: Vec::new(alloc),
+        wanted: Vec::new(alloc),
+    };
+    add_integers(alloc, &mut rows)?;
+    add_comparisons(alloc, &mut rows)?;
+    add_truths(alloc, &mut rows)?;
+    add_equality(alloc, &mut rows)?;
+    add_texts(alloc, &mut rows)?;
+    add_lists(alloc, &mut rows)?;
+    add_accessors(alloc, &mut rows)?;
+    add_stuck_operators(alloc, &mut rows)?;
+    add_stuck_parts(alloc, &mut rows)?;
+    add_calls_on_null(alloc, &mut rows)?;
+    Ok(rows)
+}
+
+// Checks what each query comes to.
+fn check_queries(
+    rt: &impl Abort,
+    alloc: Global,
+    system: &System,
+    wanted: &[Turn],
+) -> Result<(), Fail> {
+    let mut nothing = Nothing;
+    for k in 0..system.replies() {
+        let turn = evaluate_query(alloc, system, k, &mut nothing)?;
+        assert_eq!(rt; Some(turn), wanted.get(k as usize).copied(), "query {k}");
+    }
+    Ok(())
+}
+
+// Checks the equation of `t`, which is the fifth, at each node but the root.
+fn check_sites(rt: &impl Abort, alloc: Global, system: &System) -> Result<(), Fail> {
+    assert!(rt; system.rules().equations() > 4);
+    let mut nothing = Nothing;
+    for (node, text) in [(2, 1), (3, 2), (4, 1), (5, 0)] {
+        let site = EqSite {
+            equation: EqId(4),
+            node: NodeRef(node),
+        };
+        let turn = evaluate(alloc, system, &site, &mut nothing)?;
+        assert_eq!(rt; turn, Turn::Done(Value::Text(text)), "node {node}");
+    }
+    Ok(())
+}
+
+// One test, since each that owns a system takes a while to prove.
+#[test]
+fn expressions_have_values(rt: HostRuntime) -> Result<(), Fail> {
+    let alloc = rt.alloc();
+    let Rows { queries, wanted } = all_rows(alloc)?;
+    assert!(rt; queries.len() <= 262_144);
+    let system = system(alloc, queries)?;
+    check_queries(&rt, alloc, &system, &wanted)?;
+    check_sites(&rt, alloc, &system)
+}
