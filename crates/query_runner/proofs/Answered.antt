@@ -3,13 +3,13 @@ use Rattle.std.proofs.Common.{length-append, ◌≡◌, ℕ, zero, suc, ◌+◌,
 use Rattle.ast_grammar.specs.Grammar.{superclasses_of}
 use Rattle.attr_rules.specs.declared.kinds.Kind.{Kind}
 use Rattle.attr_rules.specs.Queries.{Query as Asked}
-use Rattle.equation_law.specs.declared.rounds.Table.{Table}
+use Rattle.plain_rounds.specs.declared.rounds.Table.{Table}
 use Rattle.equation_law.specs.Checked.{IsProgram, IsValue, int, node, of_query, text, truth}
 use Rattle.equation_law.specs.Equations.{text_of}
 use Rattle.equation_law.specs.Names.{Instance, Query}
 use Rattle.equation_law.specs.Values.{Value}
 use Rattle.equation_law.specs.Program.{Program, attribute_instances, query_instances, source_instances}
-use Rattle.equation_law.specs.Named.{Solves, assigned, value_at, values_in}
+use Rattle.plain_rounds.specs.Named.{Solves, assigned, value_at, values_in}
 use Rattle.equation_law.proofs.Deciding.{has_demands}
 use Rattle.equation_law.proofs.Ended.{left_value, left_has_loop}
 use Rattle.equation_law.proofs.Listed.{is_listed}

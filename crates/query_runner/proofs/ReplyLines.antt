@@ -6,9 +6,9 @@ use Rattle.rag_io.specs.declared.Memory.{Memory}
 use Rattle.attr_rules.specs.declared.kinds.Kind.TheVariants as kinds
 use Rattle.attr_rules.specs.Expression.{Null as NullLiteral}
 use Rattle.attr_rules.specs.Queries.{Query as Asked}
-use Rattle.equation_law.specs.declared.values.NamedValue.{NamedValue}
+use Rattle.plain_rounds.specs.declared.values.NamedValue.{NamedValue}
 use Rattle.equation_law.specs.Loops.{HasLoop}
-use Rattle.equation_law.specs.Named.{IsNoInt, value_in}
+use Rattle.plain_rounds.specs.Named.{IsNoInt, value_in}
 use Rattle.equation_law.specs.Names.{Query}
 use Rattle.equation_law.specs.Program.{Program}
 use Rattle.equation_law.specs.Equations.{HasValue}

@@ -1,7 +1,7 @@
 -- A reply of a program, and a line of it.
 use Rattle.std.specs.Prelude.{◌≡◌, ℕ, List, [], ◌∷◌, ◌++◌, Option, Some, None, slice_index_or}
 use Rattle.equation_law.specs.Loops.{HasLoop}
-use Rattle.equation_law.specs.Named.{IsNoTruth, IsNoInt, IsNoText, IsNoNode}
+use Rattle.plain_rounds.specs.Named.{IsNoTruth, IsNoInt, IsNoText, IsNoNode}
 use Rattle.equation_law.specs.Names.{Query}
 use Rattle.equation_law.specs.Program.{Program}
 use Rattle.equation_law.specs.Equations.{HasValue}

@@ -3,13 +3,14 @@ ghost use Rattle.std.specs.Prelude.{◌≡◌, ◌++◌, ◌∷◌, [], ℕ, sli
 ghost use Rattle.std.specs.Fmt.{decimal, signed_decimal};
 ghost use Rattle.rag_io.specs.Quoting.{quoted};
 ghost use Rattle.equation_law.specs.Checked.{IsProgram};
-ghost use Rattle.equation_law.specs.Named.{value_in, reference_named};
+ghost use Rattle.plain_rounds.specs.Named.{value_in, reference_named};
 ghost use Rattle.equation_law.specs.Systems.{program_of};
 ghost use Rattle.equation_law.specs.Values.{Node};
 ghost use Rattle.query_runner.specs.Output.{AreReplies, truth_text};
 ghost use Rattle.query_runner.specs.Replies.{IsPlain, AddsReply, texts_in};
 
-use equation_law::{NameList, NamedValue, NodeName, System, plain_rounds};
+use equation_law::System;
+use plain_rounds::{NameList, NamedValue, NodeName, plain_rounds};
 use rag_io::{Gate, Memory, Pool, push_quoted};
 use std::alloc::Global;
 

@@ -1,7 +1,7 @@
 use Rattle.std.proofs.Common.{◌≡◌, ◌++◌, ◌∷◌, [], OnOk, codes, ap, subst, List, ℕ}
 use Rattle.std.specs.Fmt.{decimal}
 use Rattle.equation_law.specs.Names.{Null, At, Source}
-use Rattle.equation_law.specs.Named.{reference_named}
+use Rattle.plain_rounds.specs.Named.{reference_named}
 use Rattle.equation_law.specs.Values.{Node}
 use Rattle.query_runner.specs.Output.{of_null, of_source}
 use Rattle.query_runner.proofs.ReplyLines.{text_added}

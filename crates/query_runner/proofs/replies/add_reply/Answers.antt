@@ -1,6 +1,6 @@
 use Rattle.std.proofs.Common.{sym, ◌∙◌}
 use Rattle.rag_io.specs.Quoting.{quoted}
-use Rattle.equation_law.specs.Named.{value_in}
+use Rattle.plain_rounds.specs.Named.{value_in}
 use Rattle.equation_law.specs.Values.{Text, Truth}
 use Rattle.query_runner.specs.Output.{of_text, of_truth, truth_text}
 use Rattle.query_runner.specs.Replies.{texts_in}

@@ -1,7 +1,7 @@
 -- Each query has a value in the table or a loop, and its line is added.
 use Rattle.std.proofs.Common.{◌≡◌, ℕ, ◌+◌, ◌-◌, ◌<◌, ◌≤◌, List, length, arith, ap, subst, sym, ◌∙◌}
 use Rattle.std.proofs.Math.ListN.{drop_of_length-le}
-use Rattle.equation_law.specs.Named.{Solves, value_at}
+use Rattle.plain_rounds.specs.Named.{Solves, value_at}
 use Rattle.equation_law.specs.Names.{Instance}
 use Rattle.equation_law.specs.Systems.{program_of}
 use Rattle.query_runner.specs.Replies.{IsReply, texts_in}
