@@ -185,14 +185,17 @@ module _ (p : Program) (good : IsProgram p) where
   }
 
   -- what demands instances alone
-  met : (t : ValueType) (A : Instance → Option Value) (c : Demands Instance Value) (j : Instance) → Keeps p Any Any Admits t c → Meets (Graph A) c j → IsInstance p j
+  met : (t : ValueType) (A : Instance → Value → Type 0) (c : Demands Instance Value) (j : Instance) → Keeps p Any Any Admits t c → Meets A c j → IsInstance p j
   met t A (Gives v) j h m = elim m [ ]
   met t A (Needs i g) j h here = h.0
   met t A (Needs i g) j h (later {w = w} e m) = met t A (g w) j (h.1 w tt) m
 
-  pub demands_instances : (i j : Instance) → IsInstance p i → (A : Instance → Option Value) → Meets (Graph A) ((equations_of p).equation i) j → IsInstance p j
+  pub met_instances : (i j : Instance) → IsInstance p i → (A : Instance → Value → Type 0) → Meets A ((equations_of p).equation i) j → IsInstance p j
   unfolding equations_of
-  demands_instances i j h A m = met (types.Of (kind_in p i)) A (site_demands (world_of p) (equation_of p i)) j (site_keeps Any Any Admits any_bounds i h) m
+  met_instances i j h A m = met (types.Of (kind_in p i)) A (site_demands (world_of p) (equation_of p i)) j (site_keeps Any Any Admits any_bounds i h) m
+
+  pub demands_instances : (i j : Instance) → IsInstance p i → (A : Instance → Option Value) → Meets (Graph A) ((equations_of p).equation i) j → IsInstance p j
+  demands_instances i j h A m = met_instances i j h (Graph A) m
 
   -- integers of 32 bits, texts of the program, and values of their instances' types
   abbrev IsWrapped : ℤ → Type 0

@@ -1,3 +1,4 @@
+pub mod Codes
 pub mod Deciding
 pub mod Demanded
 pub mod Ended

@@ -12,6 +12,7 @@ use Rattle.attr_rules.specs.Rules.{Equation, equation_number}
 use Rattle.solutions.specs.Asking.{Demands, Gives, next}
 use Rattle.solutions.specs.Rounds.{Equations, HasValue as HasValueOf}
 use Rattle.tree_arena.specs.Nodes.{child_in, count_in, token_in}
+use Rattle.equation_law.specs.Codes.{value_at}
 use Rattle.equation_law.specs.Names.{NodeName, Source, Reference, Null, At, NoArguments, Instance, Attribute, Query, same_instance}
 use Rattle.equation_law.specs.Values.{Value, Truth, Int, Text, Node, as_kind, default_of}
 use Rattle.equation_law.specs.Program.{Program, declared_of, class_of}
@@ -57,12 +58,7 @@ text_of p n = slice_index_or p.texts n []
 -- the value that a code stands for, by the texts; a missing one is the type's default
 abbrev pub decoded : (ℕ → List ℕ) → Kind → Option ℕ → Value
 decoded texts t None = default_of t
-decoded texts kinds.Truth (Some v) = Truth (not (v == 0))
-decoded texts kinds.Int (Some v) = Int (int_wrap w32 (pos v))
-decoded texts kinds.Text (Some v) = Text (texts v)
-decoded texts (kinds.Node c) (Some v) = default_of (kinds.Node c)
-decoded texts kinds.Texts (Some v) = default_of kinds.Texts
-decoded texts (kinds.Nodes c) (Some v) = default_of (kinds.Nodes c)
+decoded texts t (Some c) = value_at texts t c
 
 abbrev pub token_of : Program → Kind → NodeName → ℕ → Value
 token_of p t (Source n) k = decoded (text_of p) t (token_in p.tree n k)

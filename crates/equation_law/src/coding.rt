@@ -1,6 +1,6 @@
 // Values, nodes and instances by their codes.
 ghost use Rattle.std.specs.Prelude.{◌≡◌, ◌<◌, ◌+◌, ◌^◌, ℕ, List, [], IfSome};
-ghost use Rattle.equation_law.specs.Codes.{reference_of, value_of};
+ghost use Rattle.equation_law.specs.Codes.{reference_of, value_at, value_of};
 ghost use Rattle.equation_law.specs.Equations.{source_or_null};
 ghost use Rattle.equation_law.specs.Values.{as_kind, default_of, int, node, text, truth};
 
@@ -123,6 +123,33 @@ impl Value {
             Kind::Int => Value::Int(0),
             Kind::Text => Value::Text(0),
             Kind::Node(_) => Value::Node(NodeRef(0)),
+            Kind::Texts => Value::NoTexts,
+            Kind::Nodes(_) => Value::NoNodes,
+        }
+    }
+
+    /// The code of the value, read at a type.
+    pub fn code(self, kind: Kind) -> Code
+        ensures { (texts : ℕ → List ℕ) → texts 0 ≡ [] → value_at texts kind result ≡ as_kind kind (value_of texts self) }
+    {
+        match kind {
+            Kind::Truth => u32::from(self.truth()),
+            Kind::Int => self.int().cast_unsigned(),
+            Kind::Text => self.text(),
+            Kind::Node(_) => self.node().0,
+            Kind::Texts | Kind::Nodes(_) => 0,
+        }
+    }
+
+    /// The value of a type that a code stands for.
+    pub fn of_code(kind: Kind, code: Code) -> Value
+        ensures { (texts : ℕ → List ℕ) → value_of texts result ≡ value_at texts kind code }
+    {
+        match kind {
+            Kind::Truth => Value::Truth(code != 0),
+            Kind::Int => Value::Int(code.cast_signed()),
+            Kind::Text => Value::Text(code),
+            Kind::Node(_) => Value::Node(NodeRef(code)),
             Kind::Texts => Value::NoTexts,
             Kind::Nodes(_) => Value::NoNodes,
         }

@@ -9,7 +9,7 @@ use std::alloc::Global;
 pub trait Reader {
     ghost use Rattle.equation_law.specs.Reading.{SettledBy, Told};
 
-    ghost tells: { Self → Told };
+    ghost tells: { Self → Told Self };
 
     /// The value that the reader has for an instance at the end of the call, or None where it has none then.
     fn settled(&mut self, alloc: Global, i: &Instance) -> Result<Option<Value>, Memory>

@@ -4,5 +4,5 @@ use Rattle.equation_law.specs.Program.{Program}
 use Rattle.equation_law.specs.Reading.{Told}
 use Rattle.equation_law.specs.Values.{Value}
 
-abbrev pub nothing : Told
-nothing = record { for = λ p. Unit {0}; has = λ i v. ⊥; can = λ i v. ⊥ }
+abbrev pub nothing : {S : Type 0} → Told S
+nothing {S} = record { for = λ p. Unit {0}; has = λ i v. ⊥; can = λ i v. ⊥; keeps = λ earlier. Unit {0} }

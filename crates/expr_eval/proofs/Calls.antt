@@ -16,7 +16,7 @@ use Rattle.expr_eval.specs.declared.evaluation.Halt.TheVariants.{Need}
 use Rattle.expr_eval.specs.Evaluating.{Answers, CallReads, DemandReads}
 use Rattle.expr_eval.proofs.Forms.{gives_value, grows_self}
 
-module _ (p : Program) (r : Told) (a : ℕ) where
+module _ {S : Type 0} (p : Program) (r : Told S) (a : ℕ) where
   -- on null it is the default of the type
   pub call_null : (v : CodedValue) (n : ℕ) (x : CodedValue) (k : Kind) → reference_of n ≡ node (value_of (text_of p) v) → IsSound p r → n ≡ 0 → k ≡ attribute_kind p a → value_of (text_of p) x ≡ default_of k → CallReads p r r a v (Ok x)
   call_null v n x k same sound null kind e = record {
@@ -25,11 +25,11 @@ module _ (p : Program) (r : Told) (a : ℕ) where
   }
 
   -- at a node it is the value of the attribute there
-  pub call_there : (s : Told) (v : CodedValue) (n : ℕ) (res : Result CodedValue Halt) → reference_of n ≡ node (value_of (text_of p) v) → (n ≡ 0 → ⊥) → DemandReads p r s (Attribute a (reference_of n) NoArguments) res → CallReads p r s a v res
+  pub call_there : (s : Told S) (v : CodedValue) (n : ℕ) (res : Result CodedValue Halt) → reference_of n ≡ node (value_of (text_of p) v) → (n ≡ 0 → ⊥) → DemandReads p r s (Attribute a (reference_of n) NoArguments) res → CallReads p r s a v res
   call_there s v zero res same there h = absurd (there refl)
   call_there s v (suc n) res same there h = record { kept = h.kept; is = subst (λ (o : Reference). Answers p s (call_at (world_of p) a o) res) same h.is }
 
-module _ (p : Program) (r s : Told) (grows : Grows p r s) (i : Instance) where
+module _ {S : Type 0} (p : Program) (r s : Told S) (grows : Grows p r s) (i : Instance) where
   -- the value that the reader has
   pub settled : (v : CodedValue) (o : Option CodedValue) → o ≡ Some v → Settles p s i (Ok o) → DemandReads p r s i (Ok v)
   settled v o is g =

@@ -45,7 +45,7 @@ pub attribute_site_kind : (p : Program) (a : ℕ) (r : Reference) (x : Site) →
 attribute_site_kind p a Null x e = cc
 attribute_site_kind p a (At (Source k)) x e = let found = some_of (site_at p a k) (option_and_then (equation_for p a) (class_of p k)) x e in ap (λ (s : Site). s.kind) found.2
 
-module _ (p : Program) (r s : Told) where
+module _ {S : Type 0} (p : Program) (r s : Told S) where
   -- want of memory says nothing
   pub failed : (c : Demands Instance Value) (res : Result Turn NoMemory) → Grows p r s → IsErr res → Evaluates p r s c res
   failed c (Ok t) g e = cc
@@ -90,7 +90,7 @@ module _ (p : Program) (r s : Told) where
       }
 
 -- an attribute's equation that is found, read at the attribute's type
-pub attribute_evaluated : (p : Program) (r s : Told) (a n : ℕ) (k : Kind) (site : EqSite) (t u : Turn) → text_of p 0 ≡ [] → k ≡ attribute_kind p a
+pub attribute_evaluated : {S : Type 0} (p : Program) (r s : Told S) (a n : ℕ) (k : Kind) (site : EqSite) (t u : Turn) → text_of p 0 ≡ [] → k ≡ attribute_kind p a
     → (x : Site) × (equation_of p (Attribute a (reference_of n) NoArguments) ≡ Some x) × IsSite p site x → Evaluates p r s (site_reads p site) (Ok t) → TurnAs k t u → Evaluates p r s ((equations_of p).equation (Attribute a (reference_of n) NoArguments)) (Ok u)
 attribute_evaluated p r s a n k site t u first kind found h read =
     let x = found.0 in
@@ -100,7 +100,7 @@ attribute_evaluated p r s a n k site t u first kind found h read =
     instance_evaluated p r s (Attribute a (reference_of n) NoArguments) x t u first found.1 here (subst (λ (j : Kind). TurnAs j t u) (kind ∙ attribute_site_kind p a (reference_of n) x found.1) read)
 
 -- a query's, read at the query's type
-pub asked_evaluated : (p : Program) (r s : Told) (q : ℕ) (e : Asked) (k : Kind) (t u : Turn) → text_of p 0 ≡ [] → slice_get p.queries q ≡ Some e → k ≡ e.kind → Evaluates p r s (query_reads p e) (Ok t) → TurnAs k t u
+pub asked_evaluated : {S : Type 0} (p : Program) (r s : Told S) (q : ℕ) (e : Asked) (k : Kind) (t u : Turn) → text_of p 0 ≡ [] → slice_get p.queries q ≡ Some e → k ≡ e.kind → Evaluates p r s (query_reads p e) (Ok t) → TurnAs k t u
     → Evaluates p r s ((equations_of p).equation (Query q)) (Ok u)
 asked_evaluated p r s q e k t u first at kind h read =
     let site : Site = record { body = e.body; kind = e.kind; place = record { this = At (Source 0) } } in
@@ -108,7 +108,7 @@ asked_evaluated p r s q e k t u first at kind h read =
     instance_evaluated p r s (Query q) site t u first is h (subst (λ (j : Kind). TurnAs j t u) kind read)
 
 -- what has no equation counts as null
-pub none_evaluated : (p : Program) (r : Told) (i : Instance) (x : CodedValue) → IsSound p r → equation_of p i ≡ None → value_of (text_of p) x ≡ Node Null → Evaluates p r r ((equations_of p).equation i) (Ok (turns.Done x))
+pub none_evaluated : {S : Type 0} (p : Program) (r : Told S) (i : Instance) (x : CodedValue) → IsSound p r → equation_of p i ≡ None → value_of (text_of p) x ≡ Node Null → Evaluates p r r ((equations_of p).equation i) (Ok (turns.Done x))
 unfolding equations_of
 none_evaluated p r i x sound none e = record { kept = grows_self sound; answer = subst (λ o. AnswersTurn p r (site_demands (world_of p) o) (Ok (turns.Done x))) (sym none) (gives_value e) }
 

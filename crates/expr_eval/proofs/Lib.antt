@@ -1,5 +1,4 @@
 pub mod Calls
-pub mod Codes
 pub mod Forms
 pub mod Found
 pub mod Trees

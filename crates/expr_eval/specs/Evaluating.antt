@@ -27,16 +27,16 @@ abbrev pub texts_in : System → ℕ → List ℕ
 texts_in s = text_of (program_of s)
 
 -- a value, which comes under what the reader has
-pub record Given (p : Program) (s : Told) (c : Demands Instance Value) (v : CodedValue) : Type 0 where
+pub record Given {S : Type 0} (p : Program) (s : Told S) (c : Demands Instance Value) (v : CodedValue) : Type 0 where
   pub demands : List Instance
   pub ends : Ends s.has c (value_of (text_of p) v) demands
 
 -- the first demand that the reader has no value for
-pub record Stopped (p : Program) (s : Told) (c : Demands Instance Value) (i : CodedInstance) : Type 0 where
+pub record Stopped {S : Type 0} (p : Program) (s : Told S) (c : Demands Instance Value) (i : CodedInstance) : Type 0 where
   pub demands : List Instance
   pub halts : Halts s.has c (instance_of i) demands
 
-abbrev pub Answers : Program → Told → Demands Instance Value → Result CodedValue Halt → Type 0
+abbrev pub Answers : {S : Type 0} → Program → Told S → Demands Instance Value → Result CodedValue Halt → Type 0
 Answers p s c (Ok v) = Given p s c v
 Answers p s c (Err (Need i)) = Stopped p s c i
 Answers p s c (Err Memory) = Unit {0}
@@ -46,27 +46,27 @@ abbrev pub read_at : Program → ℕ → Expression → Demands Instance Value
 read_at p this e = meaning_of (world_of p) e (record { this = reference_of this })
 
 -- the answer to an expression, by what the reader has at the end
-pub record Reads (p : Program) (r s : Told) (this : ℕ) (e : Expression) (result : Result CodedValue Halt) : Type 0 where
+pub record Reads {S : Type 0} (p : Program) (r s : Told S) (this : ℕ) (e : Expression) (result : Result CodedValue Halt) : Type 0 where
   pub kept : Grows p r s
   pub is : Answers p s (read_at p this e) result
 
 -- the answer to the demand of an instance
-pub record DemandReads (p : Program) (r s : Told) (i : Instance) (result : Result CodedValue Halt) : Type 0 where
+pub record DemandReads {S : Type 0} (p : Program) (r s : Told S) (i : Instance) (result : Result CodedValue Halt) : Type 0 where
   pub kept : Grows p r s
   pub is : Answers p s (demand (kind_in p i) i) result
 
 -- the answer to a call on a receiver
-pub record CallReads (p : Program) (r s : Told) (a : ℕ) (receiver : CodedValue) (result : Result CodedValue Halt) : Type 0 where
+pub record CallReads {S : Type 0} (p : Program) (r s : Told S) (a : ℕ) (receiver : CodedValue) (result : Result CodedValue Halt) : Type 0 where
   pub kept : Grows p r s
   pub is : Answers p s (call_at (world_of p) a (node (value_of (text_of p) receiver))) result
 
 -- What a turn says of some demands: `Done` is the value that they come to under what the reader has at the end, and `Need` the first of
 -- them that it has no value for. For want of memory nothing is said.
-abbrev pub AnswersTurn : Program → Told → Demands Instance Value → Result Turn NoMemory → Type 0
+abbrev pub AnswersTurn : {S : Type 0} → Program → Told S → Demands Instance Value → Result Turn NoMemory → Type 0
 AnswersTurn p s c (Ok (turns.Done v)) = Given p s c v
 AnswersTurn p s c (Ok (turns.Need i)) = Stopped p s c i
 AnswersTurn p s c (Err m) = Unit {0}
 
-pub record Evaluates (p : Program) (r s : Told) (c : Demands Instance Value) (result : Result Turn NoMemory) : Type 0 where
+pub record Evaluates {S : Type 0} (p : Program) (r s : Told S) (c : Demands Instance Value) (result : Result Turn NoMemory) : Type 0 where
   pub kept : Grows p r s
   pub answer : AnswersTurn p s c result

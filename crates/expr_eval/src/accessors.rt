@@ -1,7 +1,5 @@
 // Accessors of the components of a node.
-ghost use Rattle.std.specs.Prelude.{◌≡◌, ℕ, List, [], pos};
-ghost use Rattle.std.specs.Int.{int_wrap};
-ghost use mir.Syntax.{w32};
+ghost use Rattle.std.specs.Prelude.{◌≡◌, ℕ, List, []};
 ghost use Rattle.tree_arena.specs.Nodes.{child_in, count_in, token_in};
 ghost use Rattle.equation_law.specs.Codes.{reference_of, value_of};
 ghost use Rattle.equation_law.specs.Equations.{source_or_null, source_of};
@@ -109,22 +107,13 @@ pub(crate) fn count(system: &System, k: u32, receiver: Value) -> Value
     Value::Int(count_of(system, k, receiver))
 }
 
-/// The integer that a code stands for, in two's complement.
-fn decoded_int(code: u32) -> Value
-    ensures { (texts : ℕ → List ℕ) → value_of texts result ≡ Int (int_wrap w32 (pos code)) }
-{
-    Value::Int(code.cast_signed())
-}
-
 /// The value that a token's code stands for; a missing one is the type's default.
 fn decoded(kind: Kind, code: Option<u32>) -> Value
     ensures { (texts : ℕ → List ℕ) → texts 0 ≡ [] → value_of texts result ≡ spec.decoded texts kind code }
 {
-    match (kind, code) {
-        (Kind::Text, Some(code)) => Value::Text(code),
-        (Kind::Truth, Some(code)) => Value::Truth(code != 0),
-        (Kind::Int, Some(code)) => decoded_int(code),
-        _ => Value::default_of(kind),
+    match code {
+        Some(code) => Value::of_code(kind, code),
+        None => Value::default_of(kind),
     }
 }
 

@@ -42,7 +42,7 @@ halts_more : {I V : Type 0} {A B : I → V → Type 0} {c : Demands I V} {j : I}
 halts_more g h (at f) = at (λ v b. f v (h _ v b))
 halts_more g h (after {j = j} {w = w} a e) = after (g j w a) (halts_more g h e)
 
-module _ (p : Program) (r : Standing) (s : Told) (c : Demands Instance Value) where
+module _ (p : Program) (r : Standing) (s : Told Standing) (c : Demands Instance Value) where
   -- what is done under what stands has that value
   pub done_value : (v : CodedValue) (t : Turn) → t ≡ Done v → Evaluates p (told_by r) s c (Ok t) → Some (value_of (text_of p) v) ≡ outcome_value (run (standing_at r) c)
   done_value v t is g =

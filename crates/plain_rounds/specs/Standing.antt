@@ -15,8 +15,8 @@ abbrev pub standing_at : Standing → Instance → Option Value
 standing_at s i = found (text_of (program_of s.system.now)) s.places.now.map s.values.now i
 
 -- a reader for its program, which has these values and no other
-abbrev pub told_by : Standing → Told
-told_by s = record { for = λ p. p ≡ program_of s.system.now; has = λ i v. standing_at s i ≡ Some v; can = λ i v. standing_at s i ≡ Some v }
+abbrev pub told_by : Standing → Told Standing
+told_by s = record { for = λ p. p ≡ program_of s.system.now; has = λ i v. standing_at s i ≡ Some v; can = λ i v. standing_at s i ≡ Some v; keeps = λ earlier. earlier ≡ s }
 
 -- the value, read at its type, or None where there is none
 abbrev pub IsStanding : Standing → Instance → Option CodedValue → Type 0

@@ -5,7 +5,7 @@ use mir.Syntax.{w32}
 use Rattle.tree_arena.specs.Nodes.{Node, count_in}
 use Rattle.equation_law.specs.Meaning.{count_at}
 use Rattle.expr_eval.specs.Evaluating.{texts_in, world_in}
-use Rattle.expr_eval.proofs.Codes.{signed}
+use Rattle.equation_law.proofs.Codes.{signed}
 use Rattle.expr_eval.proofs.accessors.count_of.Goals as goal
 
 pub returns-in-Some : goal.returns-in-Some

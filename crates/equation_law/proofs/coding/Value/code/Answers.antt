@@ -1,0 +1,15 @@
+use Rattle.std.proofs.Common.{sym, ap, ◌∙◌, of_z, to_z}
+use Rattle.std.proofs.lemmas.Int.{to_z-of_z}
+use mir.Syntax.{w32}
+use Rattle.equation_law.specs.Codes.{value_at, value_of}
+use Rattle.equation_law.specs.Values.{Int, as_kind}
+use Rattle.equation_law.proofs.Codes.{signed}
+use Rattle.equation_law.proofs.coding.Value.code.Goals as goal
+
+pub returns-in-Int : goal.returns-in-Int
+returns-in-Int c = λ texts first.
+    let z = c.int.result in
+    let r = c.cast_unsigned.result in
+    let back = to_z-of_z w32 z (record { sfits = c.int.type_inv }) in
+    let same = sym (signed r c.cast_unsigned.type_inv) ∙ ap (to_z w32) (c.cast_unsigned.ensures ∙ ap (of_z w32) back) ∙ back ∙ c.int.ensures texts in
+    ap (λ k. value_at texts k r) c.in-Int.is ∙ ap Int same ∙ sym (ap (λ k. as_kind k (value_of texts c.args.self)) c.in-Int.is)

@@ -1,7 +1,0 @@
-use Rattle.std.proofs.Common.{rules}
-use Rattle.std.proofs.lemmas.Int.{wraps}
-use Rattle.expr_eval.proofs.Codes.{signed}
-use Rattle.expr_eval.proofs.accessors.decoded_int.Goals as goal
-
-pub returns : goal.returns
-returns c = let e = signed c.args.code c.ranges.code.fits in search (rules, wraps)
