@@ -1,0 +1,39 @@
+-- Words of which none is set.
+use Rattle.std.proofs.Common.{◌≡◌, ℕ, zero, suc, ◌^◌, [], replicate, get_or, refl, ◌∙◌, arith, Some}
+use Rattle.memo_cells.specs.declared.view.Frame.{Frame}
+use Rattle.memo_cells.specs.Views.{first_view, keys_from, knows_all, places_from, values_from, word_at}
+use Rattle.memo_cells.specs.Words.{AreOrdered}
+use Rattle.memo_cells.proofs.Places.{no_key, no_value, open_value, zero_key, zero_place}
+
+all_zero : (n p : ℕ) → ◌≡◌ {A = ℕ} (get_or (replicate n 0) p 0) 0
+all_zero zero p = refl
+all_zero (suc n) zero = refl
+all_zero (suc n) (suc p) = all_zero n p
+
+fresh_keys : (n p : ℕ) → keys_from p (replicate n 0) ≡ []
+fresh_keys zero p = no_key p
+fresh_keys (suc n) p = zero_key p 0 (replicate n 0) refl ∙ fresh_keys n (suc p)
+
+none_placed : (p : ℕ) → places_from p [] ≡ []
+unfolding places_from
+none_placed p = refl
+
+fresh_places : (n p : ℕ) → places_from p (replicate n 0) ≡ []
+fresh_places zero p = none_placed p
+fresh_places (suc n) p = zero_place p 0 (replicate n 0) refl ∙ fresh_places n (suc p)
+
+fresh_values : (n p : ℕ) → values_from p (replicate n 0) (replicate n 0) ≡ []
+fresh_values zero p = (no_value p 0 [] []).0
+fresh_values (suc n) p = open_value p 0 0 (replicate n 0) (replicate n 0) (omega arith) ∙ fresh_values n (suc p)
+
+pub fresh_view : (f : Frame) (n : ℕ) → knows_all f (replicate n 0) (replicate n 0) ≡ first_view f
+fresh_view f n = λ i. record { frame = Some f; share = 2 ^ 62; keys = fresh_keys n 0 i; values = fresh_values n 0 i; claims = fresh_places n 0 i }
+
+pub fresh_ordered : (formed : ℕ → Type 0) (codes leads : ℕ → ℕ → Type 0) (n m : ℕ) → AreOrdered formed codes leads n (word_at (replicate m 0)) (word_at (replicate m 0))
+fresh_ordered formed codes leads n m = record {
+  formed_keys = λ p l nz. absurd (nz (all_zero m p));
+  once = λ p q l k nz e. absurd (nz (all_zero m p));
+  reached = λ p q l nz b. absurd (nz (all_zero m p));
+  coded = λ p l nz. absurd (nz (all_zero m p));
+  closed = λ p l nz j h. absurd (nz (all_zero m p));
+}

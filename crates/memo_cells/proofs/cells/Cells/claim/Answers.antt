@@ -1,0 +1,18 @@
+use Rattle.std.proofs.Common.{ℕ, rules, lt_of_not-le, subst}
+use mathlib.Core.Logic.{dite}
+use native.Mathlib.Decide.{dec_le}
+use Rattle.memo_cells.specs.Views.{IsOther}
+use Rattle.memo_cells.proofs.More.{at_least_then, other_later}
+use Rattle.memo_cells.proofs.cells.Cells.claim.Goals as goal
+
+pub returns-in-Some-probe_claim-clause-kept : goal.returns-in-Some-probe_claim-clause-kept
+returns-in-Some-probe_claim-clause-kept c = at_least_then c.probe_claim.ensures.kept c.probe_claim-2.ensures.kept
+
+pub returns-clause-kept : goal.returns-clause-kept
+returns-clause-kept c = at_least_then c.probe_claim.ensures.kept c.probe_claim-2.ensures.kept
+
+pub returns-clause-full : goal.returns-clause-full
+returns-clause-full c = λ q l.
+    subst (λ (k : ℕ). IsOther c.probe_claim-2.new.pass k q) c.word-word.ensures.word
+    (dite (dec_le c.start_of-first.result q)
+    (λ h. other_later c.probe_claim.new.pass c.probe_claim-2.new.pass c.word-word.result q c.probe_claim-2.ensures.kept (c.in_default.ensures.probed q h (search rules))) (λ h. c.in_default-probe_claim.ensures.probed q (search rules) (lt_of_not-le h)))

@@ -1,0 +1,20 @@
+use Rattle.std.proofs.Common.{◌≡◌, ℕ, List, replicate, refl, sym, ap, ◌∙◌, subst}
+use Rattle.std.specs.declared.snapshot.Snapshot.{Snapshot}
+use Rattle.equation_law.specs.declared.system.System.{System}
+use Rattle.memo_cells.specs.declared.view.Frame.{Frame}
+use Rattle.memo_cells.specs.Views.{first_view, knows_all}
+use Rattle.memo_cells.specs.declared.view.View.{View}
+use Rattle.memo_cells.specs.Standing.{IsPassOf}
+use Rattle.memo_cells.proofs.Facts.{first_own}
+use Rattle.memo_cells.proofs.Fresh.{fresh_view}
+use Rattle.memo_cells.proofs.cells.Cells.new.Goals as goal
+
+pub returns : goal.returns
+returns c =
+    let one : c.of-2.result ≡ c.of.result = λ i. record { marker = c.of.result.marker; value = (c.of-2.ensures ∙ sym c.of.ensures) i } in
+    let f : Frame = record { system = c.of.result; cells = c.args.cells } in
+    let first : knows_all (record { system = c.of-2.result; cells = c.args.cells }) c.in_ok-keys.keys.items c.in_ok-values.values.items ≡ first_view f =
+    ap (λ (s : Snapshot System). knows_all (record { system = s; cells = c.args.cells }) c.in_ok-keys.keys.items c.in_ok-values.values.items) one ∙ ap (λ (ks : List ℕ). knows_all f ks c.in_ok-values.values.items) c.in_ok-keys.ensures
+    ∙ ap (λ (vs : List ℕ). knows_all f (replicate c.args.cells 0) vs) c.in_ok-values.ensures ∙ fresh_view f c.args.cells
+    in
+    record { system = c.of.ensures; cells = refl; first = first; own = subst (λ (v : View). IsPassOf f v) (sym first) (first_own f) }

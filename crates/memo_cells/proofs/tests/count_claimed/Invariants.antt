@@ -1,0 +1,6 @@
+-- The pass stays one of the cells.
+use Rattle.memo_cells.specs.Standing.{IsPassOf}
+use Rattle.memo_cells.proofs.tests.count_claimed.Given as goal
+
+abbrev pub invariant-loop-key : goal.invariant-loop-key
+invariant-loop-key l = IsPassOf l.cells l.pass

@@ -1,0 +1,5 @@
+pub mod Keys
+pub mod Standing
+pub mod Steps
+pub mod Views
+pub mod Words

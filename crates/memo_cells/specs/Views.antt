@@ -1,0 +1,97 @@
+-- What a pass knows.
+use Rattle.std.specs.Prelude.{◌≡◌, ◌≢◌, ℕ, zero, suc, ◌+◌, ◌-◌, ◌^◌, ◌<◌, ◌≤◌, ◌⊎◌, ◌==◌, ◌&&◌, nat_le, Bool, List, [], ◌∷◌, Some, slice_index, if◌then◌else◌}
+use Rattle.std.specs.List.{list_any}
+use Rattle.memo_cells.specs.declared.view.Frame.{Frame}
+use Rattle.memo_cells.specs.declared.view.View.{View}
+use Rattle.memo_cells.specs.Keys.{is_attribute, start}
+use Rattle.memo_cells.specs.Words.{Before}
+
+-- x stands in the list
+abbrev pub Has : {X : Type 0} → List X → X → Type 0
+Has [] x = ⊥
+Has (y ∷ ys) x = (x ≡ y) ⊎ Has ys x
+
+-- how often x stands in the list
+abbrev pub times : ℕ → List ℕ → ℕ
+times x [] = 0
+times x (y ∷ ys) = (if x == y then 1 else 0) + times x ys
+
+-- each place that has a key, from p on, with it
+unfoldable pub keys_from : ℕ → List ℕ → List (ℕ × ℕ)
+keys_from p [] = []
+keys_from p (k ∷ ks) = if k == 0 then keys_from (suc p) ks else (p, k) ∷ keys_from (suc p) ks
+
+-- the places alone
+unfoldable pub places_from : ℕ → List ℕ → List ℕ
+places_from p [] = []
+places_from p (k ∷ ks) = if k == 0 then places_from (suc p) ks else p ∷ places_from (suc p) ks
+
+-- each place whose value is settled, with its key and code
+unfoldable pub values_from : ℕ → List ℕ → List ℕ → List (ℕ × ℕ × ℕ)
+values_from p ks [] = []
+values_from p [] (v ∷ vs) = []
+values_from p (k ∷ ks) (v ∷ vs) = if nat_le (2 ^ 63) v then (p, k, v - 2 ^ 63) ∷ values_from (suc p) ks vs else values_from (suc p) ks vs
+
+-- a pass that has the words itself knows all that stands there, and claimed it
+abbrev pub knows_all : Frame → List ℕ → List ℕ → View
+knows_all f ks vs = record { frame = Some f; share = 2 ^ 62; keys = keys_from 0 ks; values = values_from 0 ks vs; claims = places_from 0 ks }
+
+-- nothing is unlearnt
+pub record IsAtLeast (v w : View) : Type 0 where
+  pub frame : w.frame ≡ v.frame
+  pub share : w.share ≡ v.share
+  pub keys : (p k : ℕ) → Has v.keys (p, k) → Has w.keys (p, k)
+  pub values : (p k c : ℕ) → Has v.values (p, k, c) → Has w.values (p, k, c)
+  pub claims : (p : ℕ) → times p v.claims ≤ times p w.claims
+
+-- the key k is seen claimed at place p
+abbrev pub IsSlot : Frame → View → ℕ → ℕ → Type 0
+IsSlot f v p k = (p < f.cells) × Has v.keys (p, k)
+
+-- q is seen claimed, and not by k
+abbrev pub IsOther : View → ℕ → ℕ → Type 0
+IsOther v k q = (j : ℕ) × Has v.keys (q, j) × (j ≢ k) × (j ≢ 0)
+
+-- all places before p on the way of the key k are seen claimed, by other keys
+abbrev pub IsPassed : Frame → View → ℕ → ℕ → Type 0
+IsPassed f v k p = (q : ℕ) → Before f.cells (start f.cells k) p q → IsOther v k q
+
+-- each place is
+abbrev pub IsFull : Frame → View → ℕ → Type 0
+IsFull f v k = (q : ℕ) → q < f.cells → IsOther v k q
+
+-- each place from a on, below b, is
+abbrev pub IsOtherIn : View → ℕ → ℕ → ℕ → Type 0
+IsOtherIn v k a b = (q : ℕ) → a ≤ q → q < b → IsOther v k q
+
+-- on the way of k to each place from a on, below b, all that lies outside these is
+abbrev pub IsLedTo : Frame → View → ℕ → ℕ → ℕ → Type 0
+IsLedTo f v k a b = (p q : ℕ) → a ≤ p → p < b → Before f.cells (start f.cells k) p q → ((a ≤ q) × (q < p)) ⊎ IsOther v k q
+
+-- the key isn't seen claimed
+abbrev pub IsNowhere : View → ℕ → Type 0
+IsNowhere v k = (q : ℕ) → ¬ Has v.keys (q, k)
+
+-- it isn't seen settled
+abbrev pub IsUnset : View → ℕ → Type 0
+IsUnset v k = (q c : ℕ) → ¬ Has v.values (q, k, c)
+
+-- what a call claimed is a cell of the key k
+abbrev pub ClaimsOnly : View → View → ℕ → Type 0
+ClaimsOnly v w k = (q : ℕ) → (times q w.claims ≡ times q v.claims) ⊎ Has w.keys (q, k)
+
+abbrev pub word_at : List ℕ → ℕ → ℕ
+word_at ws p = slice_index ws p
+
+-- the first pass knows nothing and has the whole share
+abbrev pub first_view : Frame → View
+first_view f = record { frame = Some f; share = 2 ^ 62; keys = []; values = []; claims = [] }
+
+-- the cell at this place is of an attribute, and seen settled
+abbrev pub is_settled_at : View → ℕ → Bool
+is_settled_at v p = list_any (λ x. x.0 == p && is_attribute x.1) v.values
+
+-- how many of the cells below n are
+abbrev pub settled_below : View → ℕ → ℕ
+settled_below v zero = 0
+settled_below v (suc n) = (if is_settled_at v n then 1 else 0) + settled_below v n

@@ -1,0 +1,60 @@
+// Keys of cells, and the words that they are.
+ghost use Rattle.std.specs.Prelude.{◌≡◌, ◌≢◌, ◌<◌};
+ghost use Rattle.memo_cells.specs.Keys.{Fits, is_attribute, key_of, key_word, start};
+
+use attr_rules::AttrId;
+use equation_law::{Instance, NodeRef};
+
+/// The place of a cell in the table, from 0 to the number of cells less one.
+#[derive(Clone, Copy, Debug, PartialEq, Eq, Hash)]
+pub struct Slot(pub u32);
+
+/// What a cell is for: an attribute at a node, or a query by its number.
+#[derive(Clone, Copy, Debug, PartialEq, Eq)]
+pub enum Key {
+    Inst { attr: AttrId, node: NodeRef },
+    Query(u32),
+}
+
+impl Key {
+    /// The key of an instance's cell.
+    pub fn of(i: Instance) -> Key
+        ensures key { result ≡ key_of i }
+        ensures fits { Fits result }
+    {
+        match i {
+            Instance::Attr { attr, node } => Key::Inst { attr, node },
+            Instance::Query(query) => Key::Query(query),
+        }
+    }
+
+    /// The word that stands for the key in the table. Its top three bits are the kind: 1 for an attribute, of which the number stands
+    /// above the code of the node, and 4 for a query.
+    pub(crate) fn word(self) -> u64
+        ensures word { result ≡ key_word self }
+        ensures claimed { result ≢ 0 }
+    {
+        match self {
+            Key::Inst { attr, node } => (1 << 61)
+                + u64::from(attr.0) * (1 << 32)
+                + u64::from(node.0),
+            Key::Query(query) => (1 << 63) + u64::from(query),
+        }
+    }
+}
+
+/// Where the search for a key begins in a table of so many cells: a multiplicative hash of its word.
+pub(crate) fn start_of(cells: u32, word: u64) -> u32
+    requires { 0 < cells }
+    ensures start { result ≡ start cells word }
+    ensures below { result < cells }
+{
+    ((word.wrapping_mul(0x9E37_79B9_7F4A_7C15) >> 32) % u64::from(cells)) as u32
+}
+
+/// Whether a key word is of an attribute.
+pub(crate) fn is_attribute(word: u64) -> bool
+    ensures { result ≡ is_attribute word }
+{
+    word >> 61 == 1
+}

@@ -1,0 +1,16 @@
+//! The memo table: a cell for each instance whose value was asked for, with its value once that is settled.
+#![tactic(auto)]
+
+mod calls;
+mod cells;
+mod keys;
+mod probe;
+mod steps;
+#[cfg(test)]
+mod tests;
+mod view;
+
+pub use calls::CellsFull;
+pub use cells::{Cells, Pass};
+pub use keys::{Key, Slot};
+pub use view::{Frame, View};
