@@ -13,12 +13,12 @@ use Rattle.memo_cells.specs.Steps.{KeySeen, ValueSeen}
 use Rattle.memo_cells.specs.Views.{Has, is_settled_at, settled_below}
 
 -- what is there is found
-any_has : {X : Type 0} (f : X → Bool) (xs : List X) (x : X) → Has xs x → f x ≡ true → list_any f xs ≡ true
+pub any_has : {X : Type 0} (f : X → Bool) (xs : List X) (x : X) → Has xs x → f x ≡ true → list_any f xs ≡ true
 any_has f [] x h e = absurd h
 any_has f (y ∷ ys) x h e = ⊎_elim (λ same. or_left (f y) (list_any f ys) (ap f (sym same) ∙ e)) (λ later. or_right (f y) (list_any f ys) (any_has f ys x later e)) h
 
 -- and what is found is there
-has_any : {X : Type 0} (f : X → Bool) (xs : List X) → list_any f xs ≡ true → (x : X) × Has xs x × (f x ≡ true)
+pub has_any : {X : Type 0} (f : X → Bool) (xs : List X) → list_any f xs ≡ true → (x : X) × Has xs x × (f x ≡ true)
 has_any f [] e = cc
 has_any {X} f (y ∷ ys) e =
     elim (f y) as (λ b. f y ≡ b → (b || list_any f ys) ≡ true → (x : X) × Has (y ∷ ys) x × (f x ≡ true)) [
