@@ -1,0 +1,89 @@
+-- What falls from turn to turn: the cells that are neither seen settled nor of an instance that waits.
+use Rattle.std.proofs.Common.{◌≡◌, ◌≢◌, ℕ, zero, suc, ◌+◌, ◌*◌, ◌<◌, ◌≤◌, ◌⊎◌, inl, inr, ⊎_elim, Bool, true, false, ◌||◌, eqb, if◌then◌else◌, List, [], ◌∷◌, ◌++◌, length, refl, sym, ap, subst, ◌∙◌, arith}
+use mathlib.Core.Logic.{dite}
+use native.Mathlib.Decide.{ℕ_discrete}
+use Rattle.std.specs.List.{list_any}
+use Rattle.std.proofs.lemmas.Bool.{eq-eqb, eqb-true, or_left, or_right}
+use Rattle.equation_law.proofs.Keys.{both_ways}
+use Rattle.equation_law.specs.declared.coding.Instance.{Instance as CodedInstance}
+use Rattle.memo_cells.specs.declared.keys.Slot.{Slot}
+use Rattle.memo_cells.specs.declared.view.View.{View}
+use Rattle.memo_cells.specs.Views.{Has, IsAtLeast}
+use Rattle.memo_cells.proofs.Counting.{any_has, has_any}
+use Rattle.caller_pass.proofs.Lines.{has_last, has_left, has_snoc}
+
+-- the cell is seen settled, or an instance waits at it
+abbrev pub taken : View → List (CodedInstance × Slot) → ℕ → Bool
+taken v es q = list_any (λ x. eqb x.0 q) v.values || list_any (λ e. eqb e.1.0 q) es
+
+-- how many of the cells below n aren't
+abbrev pub left : (ℕ → Bool) → ℕ → ℕ
+left f zero = 0
+left f (suc n) = (if f n then 0 else 1) + left f n
+
+-- a part is at most what it was
+step : (a b : Bool) → (a ≡ true → b ≡ true) → if◌then◌else◌ {A = ℕ} b 0 1 ≤ (if a then 0 else 1)
+step true true more = omega arith
+step true false more = let e = more refl in cc
+step false true more = omega arith
+step false false more = omega arith
+
+pub left_less : (f g : ℕ → Bool) (n : ℕ) → ((q : ℕ) → f q ≡ true → g q ≡ true) → left g n ≤ left f n
+left_less f g zero more = omega arith
+left_less f g (suc n) more = let rest = left_less f g n more in let here = step (f n) (g n) (more n) in omega (arith, here, rest)
+
+-- one more is taken
+pub left_falls : (f g : ℕ → Bool) (n s : ℕ) → ((q : ℕ) → f q ≡ true → g q ≡ true) → s < n → f s ≡ false → g s ≡ true → left g n < left f n
+left_falls f g zero s more lt free new = absurd (omega arith)
+left_falls f g (suc n) s more lt free new =
+    dite (ℕ_discrete s n)
+    (λ e.
+    let before : if◌then◌else◌ {A = ℕ} (f n) 0 1 ≡ 1 = ap (λ b. if◌then◌else◌ {A = ℕ} b 0 1) (ap f (sym e) ∙ free) in
+    let now : if◌then◌else◌ {A = ℕ} (g n) 0 1 ≡ 0 = ap (λ b. if◌then◌else◌ {A = ℕ} b 0 1) (ap g (sym e) ∙ new) in
+    let rest = left_less f g n more in
+    omega (arith, before, now, rest)
+    )
+    (λ apart.
+    let rest = left_falls f g n s more (omega (arith, apart)) free new in
+    let here = step (f n) (g n) (more n) in
+    omega (arith, rest, here)
+    )
+
+-- what is taken
+pub by_value : (v : View) (es : List (CodedInstance × Slot)) (q k c : ℕ) → Has v.values (q, k, c) → taken v es q ≡ true
+by_value v es q k c h = or_left (list_any (λ x. eqb x.0 q) v.values) _ (any_has (λ x. eqb x.0 q) v.values (q, k, c) h (eq-eqb q q refl))
+
+pub by_one : (v : View) (es : List (CodedInstance × Slot)) (e : CodedInstance × Slot) → Has es e → taken v es e.1.0 ≡ true
+by_one v es e h = or_right (list_any (λ x. eqb x.0 e.1.0) v.values) _ (any_has (λ x. eqb x.1.0 e.1.0) es e h (eq-eqb e.1.0 e.1.0 refl))
+
+pub taken_by : (v : View) (es : List (CodedInstance × Slot)) (q : ℕ) → taken v es q ≡ true → ((k c : ℕ) × Has v.values (q, k, c)) ⊎ ((e : CodedInstance × Slot) × Has es e × (e.1.0 ≡ q))
+taken_by v es q h = ⊎_elim
+    (λ e. let r = has_any (λ x. eqb x.0 q) v.values e in inl (r.0.1, r.0.2, subst (λ (y : ℕ). Has v.values (y, r.0.1, r.0.2)) (eqb-true r.0.0 q r.2) r.1))
+    (λ e. let r = has_any (λ x. eqb x.1.0 q) es e in inr (r.0, r.1, eqb-true r.0.1.0 q r.2))
+    (one_of (list_any (λ x. eqb x.0 q) v.values) (list_any (λ e. eqb e.1.0 q) es) h)
+  where
+    one_of : (a b : Bool) → (a || b) ≡ true → (a ≡ true) ⊎ (b ≡ true)
+    one_of true b h = inl refl
+    one_of false b h = inr h
+
+-- one that waits more
+pub push_keeps : (v w : View) (es : List (CodedInstance × Slot)) (e : CodedInstance × Slot) → IsAtLeast v w → (q : ℕ) → taken v es q ≡ true → taken w (es ++ e ∷ []) q ≡ true
+push_keeps v w es e kept q h = ⊎_elim
+    (λ x. by_value w (es ++ e ∷ []) q x.0 x.1 (kept.values q x.0 x.1 x.2))
+    (λ x. subst (λ (y : ℕ). taken w (es ++ e ∷ []) y ≡ true) x.2 (by_one w (es ++ e ∷ []) x.0 (has_left es (e ∷ []) x.0 x.1)))
+    (taken_by v es q h)
+
+-- one that waits no more, whose cell is seen settled
+pub pop_keeps : (v w : View) (es : List (CodedInstance × Slot)) (e : CodedInstance × Slot) (k c : ℕ) → IsAtLeast v w → Has w.values (e.1.0, k, c) → (q : ℕ) → taken v (es ++ e ∷ []) q ≡ true → taken w es q ≡ true
+pop_keeps v w es e k c kept settled q h = ⊎_elim
+    (λ x. by_value w es q x.0 x.1 (kept.values q x.0 x.1 x.2))
+    (λ x. ⊎_elim (λ before. subst (λ (y : ℕ). taken w es y ≡ true) x.2 (by_one w es x.0 before)) (λ same. by_value w es q k c (subst (λ (y : ℕ). Has w.values (y, k, c)) (sym (ap (λ (d : CodedInstance × Slot). d.1.0) same) ∙ x.2) settled)) (has_snoc es e x.0 x.1))
+    (taken_by v (es ++ e ∷ []) q h)
+
+-- a cell that nothing takes
+pub not_taken : (v : View) (es : List (CodedInstance × Slot)) (q : ℕ) → ((k c : ℕ) → ¬ Has v.values (q, k, c)) → ((e : CodedInstance × Slot) → Has es e → e.1.0 ≢ q) → taken v es q ≡ false
+not_taken v es q none other = both_ways (taken v es q) false (λ h. ⊎_elim (λ x. absurd (none x.0 x.1 x.2)) (λ x. absurd (other x.0 x.1 x.2)) (taken_by v es q h)) (λ h. cc)
+
+-- the measure of a turn
+abbrev pub measure : View → List (CodedInstance × Slot) → CodedInstance × Slot → ℕ → ℕ
+measure v es last n = 2 * left (taken v (es ++ last ∷ [])) n + length es

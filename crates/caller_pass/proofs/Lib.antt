@@ -1,0 +1,7 @@
+pub mod Asked
+pub mod Desks
+pub mod Falling
+pub mod Knowing
+pub mod Lines
+pub mod Stacks
+pub mod Turning
