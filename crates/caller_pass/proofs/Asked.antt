@@ -1,5 +1,5 @@
 -- What asking for an instance says, at each way out.
-use Rattle.std.proofs.Common.{◌≡◌, ◌≢◌, ℕ, ◌⊎◌, inl, inr, ⊎_elim, true, List, [], ◌∷◌, ◌++◌, Result, Ok, Err, IsOk, refl, sym, ap, subst, ◌∙◌}
+use Rattle.std.proofs.Common.{◌≡◌, ◌≢◌, ℕ, ◌+◌, ◌*◌, ◌<◌, ◌⊎◌, inl, inr, ⊎_elim, true, List, [], ◌∷◌, ◌++◌, Result, Ok, Err, IsOk, refl, sym, ap, subst, ◌∙◌}
 use Rattle.std.specs.Result.{IsErr, IsErrAnd}
 use Rattle.attr_rules.specs.declared.kinds.Kind.{Kind}
 use Rattle.attr_rules.specs.declared.kinds.Kind.TheVariants as kinds
@@ -21,7 +21,7 @@ use Rattle.memo_cells.specs.Keys.{Fits, key_of, key_word}
 use Rattle.memo_cells.specs.Views.{ClaimsOnly, Has, IsAtLeast, IsFull, times}
 use Rattle.caller_pass.specs.declared.asking.AskFault.{AskFault}
 use Rattle.caller_pass.specs.declared.asking.AskFault.TheVariants.{CellsFull, Circular, Memory}
-use Rattle.caller_pass.specs.Answering.{AnswersAsk, AnswersWait, Asks, ClaimsKeys, IsCircular, IsKeyOf, IsLoop}
+use Rattle.caller_pass.specs.Answering.{AnswersAsk, AnswersWait, Asks, ClaimsKeys, IsCircular, IsKeyOf, IsLoop, unsettled}
 use Rattle.caller_pass.specs.Knowing.{HasEnded, IsKnownValue, Knows}
 use Rattle.caller_pass.specs.Waiting.{IsLine, names, waits}
 use Rattle.caller_pass.proofs.Knowing.{ended_value, stands}
@@ -53,11 +53,17 @@ answered_known p f v w i x n good instance k claims = record {
   circular = λ h. absurd h;
   claims = λ q. inl (ap (times q) claims);
   known = λ _. (refl, refl);
+  cost = λ _. inl refl;
 }
 
--- any other one, where the value wasn't known
-pub asked : (p : Program) (f : Frame) (v w : View) (i : Instance) (m n : ℕ) (r : Result CodedValue AskFault) → ¬ Knows v i → ClaimsKeys p i v w → AnswersAsk p f w i r → Asks p f v w i m n r
-asked p f v w i m n r unknown claims answer = record { answer = answer; circular = circular_loop p f w i r answer; claims = claims; known = λ k. absurd (unknown k) }
+-- a value that wasn't known
+pub asked_value : (p : Program) (f : Frame) (v w : View) (i : Instance) (m n : ℕ) (x : CodedValue) → ¬ Knows v i → ClaimsKeys p i v w → AnswersAsk p f w i (Ok x) → n + 2 * unsettled w f.cells < m + 2 * unsettled v f.cells → Asks p f v w i m n (Ok x)
+asked_value p f v w i m n x unknown claims answer cost = record { answer = answer; circular = λ h. absurd h; claims = claims; known = λ k. absurd (unknown k); cost = λ _. inr cost }
+
+-- a fault
+pub asked_fault : (p : Program) (f : Frame) (v w : View) (i : Instance) (m n : ℕ) (r : Result CodedValue AskFault) → ¬ Knows v i → ClaimsKeys p i v w → IsErr r → AnswersAsk p f w i r → Asks p f v w i m n r
+asked_fault p f v w i m n (Ok x) unknown claims fault answer = cc
+asked_fault p f v w i m n (Err e) unknown claims fault answer = record { answer = answer; circular = circular_loop p f w i (Err e) answer; claims = claims; known = λ k. absurd (unknown k); cost = λ ok. cc }
 
 -- a fault that is handed on, want of memory, and full cells
 pub fault_is : (p : Program) (f : Frame) (v : View) (i : Instance) (e : AskFault) (r : Result CodedValue AskFault) → IsErr r × IsErrAnd r (λ x. x ≡ e) → AnswersAsk p f v i (Err e) → AnswersAsk p f v i r

@@ -10,6 +10,7 @@ use Rattle.memo_cells.specs.declared.keys.Slot.{Slot}
 use Rattle.memo_cells.specs.declared.view.View.{View}
 use Rattle.memo_cells.specs.Views.{Has, IsAtLeast}
 use Rattle.memo_cells.proofs.Counting.{any_has, has_any}
+use Rattle.caller_pass.specs.Answering.{unsettled}
 use Rattle.caller_pass.proofs.Lines.{has_last, has_left, has_snoc}
 
 -- the cell is seen settled, or an instance waits at it
@@ -87,3 +88,14 @@ not_taken v es q none other = both_ways (taken v es q) false (λ h. ⊎_elim (λ
 -- the measure of a turn
 abbrev pub measure : View → List (CodedInstance × Slot) → CodedInstance × Slot → ℕ → ℕ
 measure v es last n = 2 * left (taken v (es ++ last ∷ [])) n + length es
+
+-- where nobody waits, what isn't seen settled is left
+pub left_unsettled : (v : View) (n : ℕ) → left (taken v []) n ≡ unsettled v n
+left_unsettled v zero = refl
+left_unsettled v (suc n) =
+    let rest = left_unsettled v n in
+    ap (λ (b : Bool). (if b then 0 else 1) + left (taken v []) n) (no_more (list_any (λ x. eqb x.0 n) v.values)) ∙ ap (λ (x : ℕ). (if list_any (λ y. eqb y.0 n) v.values then 0 else 1) + x) rest
+  where
+    no_more : (b : Bool) → (b || false) ≡ b
+    no_more true = refl
+    no_more false = refl

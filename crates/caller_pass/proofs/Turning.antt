@@ -25,10 +25,10 @@ use Rattle.memo_cells.specs.Views.{ClaimsOnly, Has, IsAtLeast, IsFull, IsSlot, t
 use Rattle.memo_cells.proofs.More.{at_least_then}
 use Rattle.caller_pass.specs.declared.asking.AskFault.{AskFault}
 use Rattle.caller_pass.specs.declared.asking.AskFault.TheVariants.{CellsFull, Circular, Memory}
-use Rattle.caller_pass.specs.Answering.{AnswersAsk, AnswersWait, ClaimsKeys, IsKeyOf, IsLoop}
+use Rattle.caller_pass.specs.Answering.{AnswersAsk, AnswersWait, ClaimsKeys, IsKeyOf, IsLoop, unsettled}
 use Rattle.caller_pass.specs.Knowing.{HasEnded, Known, Knows}
 use Rattle.caller_pass.specs.Waiting.{IsLine, names, waits}
-use Rattle.caller_pass.proofs.Falling.{left, left_falls, left_less, measure, not_taken, pop_keeps, push_keeps, taken, by_one}
+use Rattle.caller_pass.proofs.Falling.{left, left_falls, left_unsettled, left_less, measure, not_taken, pop_keeps, push_keeps, taken, by_one}
 use Rattle.caller_pass.proofs.Knowing.{ended_value, halts_meets, its_instance, its_key, knows_later, one_word, stands, stuck_leads}
 use Rattle.caller_pass.proofs.Lines.{has_last, has_left, last_reached, line_front, line_later, line_more, line_one, loop_of}
 
@@ -71,6 +71,20 @@ begun p f v u w i s instance fits first same unknown own kept there only = recor
   claims = claims_more p (instance_of i) v u w i fits none (λ q. inl (ap (times q) same)) kept only;
   unknown = λ k. unknown (knows_later v u (instance_of i) first k);
 }
+
+-- before it, two evaluations are paid by the cell that will be settled
+pub first_paid : (p : Program) (f : Frame) (v w : View) (i : CodedInstance) (s : Slot) (evals : ℕ) → Fits (key_of i) → ¬ Knows v (instance_of i) → IsPassOf f w → IsAtLeast v w → IsSlot f w s.0 (key_word (key_of i)) → evals + measure w [] (i, s) f.cells + 2 ≤ evals + 2 * unsettled v f.cells
+first_paid p f v w i s evals fits unknown own kept there =
+    let free = not_taken v [] s.0
+    (λ k c h.
+    let key = own.one_key s.0 k (key_word (key_of i)) (own.valued s.0 k c (kept.values s.0 k c h)).0 there.1 in
+    unknown (record { key = key_word (key_of i); stands = stands i fits; slot = s.0; code = c; settled = subst (λ (x : ℕ). Has v.values (s.0, x, c)) key h })
+    )
+    (λ e h. absurd h)
+    in
+    let falls = left_falls (taken v []) (taken w ((i, s) ∷ [])) f.cells s.0 (push_keeps v w [] (i, s) kept) there.0 free (by_one w ((i, s) ∷ []) (i, s) (has_last [] (i, s))) in
+    let all = left_unsettled v f.cells in
+    omega (arith, falls, all)
 
 -- where it halts, nothing is known
 halts_unknown : (p : Program) (f : Frame) (v : View) (i j : Instance) (ds : List Instance) → p ≡ program_of f.system.value → IsPassOf f v → Halts (Known p v) ((equations_of p).equation i) j ds → ¬ Knows v j
@@ -170,6 +184,23 @@ module _ (p : Program) (f : Frame) (good : IsProgram p) (same : p ≡ program_of
     pub claims_back : ClaimsKeys p i v w2
     claims_back = claims_same p i v w1 w2 claims_now kept2 quiet2
 
+    -- no more are left than before
+    less_back : left (taken w2 es) f.cells ≤ left (taken w0 (es ++ (top, slot) ∷ [])) f.cells
+    less_back =
+        let key = its_key top known.key known.stands in
+        let there = kept2.keys slot.0 (key_word (key_of top)) top_at.1 in
+        let value = subst (λ (k : ℕ). Has w2.values (known.slot, k, known.code)) key known.settled in
+        let place = own2.one_place known.slot slot.0 (key_word (key_of top)) (own2.valued known.slot (key_word (key_of top)) known.code value).0 there in
+        let settled = subst (λ (q : ℕ). Has w2.values (q, key_word (key_of top), known.code)) place value in
+        left_less (taken w0 (es ++ (top, slot) ∷ [])) (taken w2 es) f.cells (pop_keeps w0 w2 es (top, slot) (key_word (key_of top)) known.code (at_least_then kept kept2) settled)
+
+    -- what an answer took
+    pub first_cost : (before evals : ℕ) → es ≡ [] → evals + measure w0 es (top, slot) f.cells + 2 ≤ before + 2 * unsettled v f.cells → evals + 1 + 2 * unsettled w2 f.cells < before + 2 * unsettled v f.cells
+    first_cost before evals empty paid =
+        let less = less_back in
+        let all : left (taken w2 es) f.cells ≡ unsettled w2 f.cells = ap (λ l. left (taken w2 l) f.cells) empty ∙ left_unsettled w2 f.cells in
+        omega (arith, less, all, paid)
+
     module _ (new : List (CodedInstance × Slot)) (last : CodedInstance × Slot) (is : es ≡ new ++ last ∷ []) (other : waits new last.0 ≡ false) where
       pub went_back : IsAsking p f v w2 i new last.0 last.1
       went_back = record {
@@ -183,13 +214,7 @@ module _ (p : Program) (f : Frame) (good : IsProgram p) (same : p ≡ program_of
 
       pub falls_back : measure w2 new last f.cells < measure w0 es (top, slot) f.cells
       falls_back =
-          let here = known.stands in
-          let key = its_key top known.key here in
-          let there = kept2.keys slot.0 (key_word (key_of top)) top_at.1 in
-          let value = subst (λ (k : ℕ). Has w2.values (known.slot, k, known.code)) key known.settled in
-          let place = own2.one_place known.slot slot.0 (key_word (key_of top)) (own2.valued known.slot (key_word (key_of top)) known.code value).0 there in
-          let settled = subst (λ (q : ℕ). Has w2.values (q, key_word (key_of top), known.code)) place value in
-          let less = left_less (taken w0 (es ++ (top, slot) ∷ [])) (taken w2 es) f.cells (pop_keeps w0 w2 es (top, slot) (key_word (key_of top)) known.code (at_least_then kept kept2) settled) in
+          let less = less_back in
           let same_left : left (taken w2 (new ++ last ∷ [])) f.cells ≡ left (taken w2 es) f.cells = ap (λ l. left (taken w2 l) f.cells) (sym is) in
           let longer = ap length is ∙ length_snoc new last in
           omega (arith, less, same_left, longer)

@@ -1,5 +1,6 @@
 -- The answers to an instance that is asked for.
-use Rattle.std.specs.Prelude.{◌≡◌, ℕ, true, false, List, [], ◌∷◌, ◌++◌, ◌⊎◌, Option, Some, None, Result, Ok, Err, IsOk}
+use Rattle.std.specs.Prelude.{◌≡◌, ℕ, zero, suc, ◌+◌, ◌*◌, ◌<◌, ◌==◌, if◌then◌else◌, true, false, List, [], ◌∷◌, ◌++◌, ◌⊎◌, Option, Some, None, Result, Ok, Err, IsOk}
+use Rattle.std.specs.List.{list_any}
 use Rattle.equation_law.specs.declared.coding.Instance.{Instance as CodedInstance}
 use Rattle.equation_law.specs.declared.coding.Value.{Value as CodedValue}
 use Rattle.equation_law.specs.Codes.{instance_of, value_of}
@@ -57,9 +58,16 @@ abbrev pub IsCircular : Result CodedValue AskFault → Type 0
 IsCircular (Err (Circular on chain)) = Unit {0}
 IsCircular _ = ⊥
 
--- what asking for i says, with the counts of evaluations before and after: where the cell was seen settled, it takes none
+-- how many of the cells below n aren't seen settled
+abbrev pub unsettled : View → ℕ → ℕ
+unsettled v zero = 0
+unsettled v (suc n) = (if list_any (λ x. x.0 == n) v.values then 0 else 1) + unsettled v n
+
+-- What asking for i says, with the counts of evaluations before and after. Where the cell was seen settled, it takes none. An answer takes
+-- none, or fewer than twice as many as cells came to be seen settled.
 pub record Asks (p : Program) (f : Frame) (v w : View) (i : Instance) (before after : ℕ) (result : Result CodedValue AskFault) : Type 0 where
   pub answer : AnswersAsk p f w i result
   pub circular : IsCircular result → HasLoop p i
   pub claims : ClaimsKeys p i v w
   pub known : Knows v i → IsOk result × (after ≡ before)
+  pub cost : IsOk result → (after ≡ before) ⊎ (after + 2 * unsettled w f.cells < before + 2 * unsettled v f.cells)
