@@ -73,6 +73,26 @@ def nested():
     }
 
 
+COUNTED = [b"aspect A { syn int L.d() = hasL() ? getL().d() + 1 : 0; }"]
+
+
+def demanded(count):
+    """A chain of so many nodes, of which each demands the value of the one below it."""
+    return {"g.ast": [b"L ::= [L];"], "a.jrag": COUNTED, "t.tree": deep(count), "q.txt": [b"@0.d()\n"]}
+
+
+def asked(count):
+    """The same, where each node is asked for, the last one first."""
+    return {**demanded(count), "q.txt": (b"@%d.d()\n" % number for number in reversed(range(count)))}
+
+
+def full():
+    """Five attributes at each of 60,000 nodes."""
+    calls = b"".join(b"syn int L.%c() = %c(); " % (a, b) for a, b in zip(b"efg", b"fgh"))
+    aspects = b"aspect A { syn int L.d() = e() + (hasL() ? getL().d() : 0); " + calls + b"syn int L.h() = 1; }"
+    return {**demanded(60000), "a.jrag": [aspects]}
+
+
 def chain(count, end=b""):
     """So many classes, each of which has the next as its superclass; the last has what `end` says."""
     yield b"".join(b"C%d:C%d;" % (number, number + 1) for number in range(count - 1))
@@ -164,6 +184,9 @@ CASES = [
     ("tree: 65,536 nodes, the sum of 32,768 tokens", halved()),
     ("tree: 256 levels, the sum of 256 tokens", nested()),
     ("1,024 attributes, each calls the next", {"a.jrag": chained(1024), "q.txt": [b"@0.v0()"]}),
+    *[(f"demand: a chain of {count:,} nodes", demanded(count)) for count in [1000, 4000, 16000, 32000, 50001, 64000]],
+    *[(f"demand: {count:,} nodes, each asked for", asked(count)) for count in [1000, 4000, 16000, 32000, 65536]],
+    ("demand: more instances than cells", full()),
     ("queries: line feeds", {"q.txt": filled(b"\n")}),
     ("queries: 65,536", {"q.txt": repeated(b"@0.v()\n", 65536)}),
     ("1,024 attributes, 65,536 queries for the last", {"a.jrag": attributes(1024), "q.txt": repeated(b"@0.v1023()\n", 65536)}),

@@ -39,12 +39,16 @@ pub record IsKeyOf (p : Program) (i : Instance) (k : ℕ) : Type 0 where
 abbrev pub ClaimsKeys : Program → Instance → View → View → Type 0
 ClaimsKeys p i v w = (q : ℕ) → (times q w.claims ≡ times q v.claims) ⊎ ((k : ℕ) × Has w.keys (q, k) × IsKeyOf p i k)
 
+-- other keys have all the cells than some key of i
+abbrev pub FillsCells : Program → Instance → Frame → View → Type 0
+FillsCells p i f v = (k : ℕ) × IsKeyOf p i k × IsFull f v k
+
 -- Ok is the value in the solution, and the cell is then seen settled; `Circular` comes with a loop, and `CellsFull` where other keys have
 -- all the cells than some key of i.
 abbrev pub AnswersAsk : Program → Frame → View → Instance → Result CodedValue AskFault → Type 0
 AnswersAsk p f v i (Ok x) = HasValue p i (value_of (text_of p) x) × Knows v i
 AnswersAsk p f v i (Err (Circular on chain)) = IsLoop p i (instance_of on) chain
-AnswersAsk p f v i (Err CellsFull) = (k : ℕ) × IsKeyOf p i k × IsFull f v k
+AnswersAsk p f v i (Err CellsFull) = FillsCells p i f v
 AnswersAsk p f v i (Err Memory) = Unit {0}
 
 -- the answer where the last of `es` is to wait for `next`: its slot, which is new among them, or the loop that it closes

@@ -1,4 +1,5 @@
 pub mod Answering
 pub mod Desks
 pub mod Knowing
+pub mod Overfull
 pub mod Waiting

@@ -1,5 +1,5 @@
 -- For some words and the files that a shelf holds there is one answer.
-use Rattle.std.proofs.Common.{◌≡◌, ℕ, List, ◌++◌, length, Some, None, codes, refl, sym, ap, subst, ◌∙◌, arith}
+use Rattle.std.proofs.Common.{◌≡◌, ◌≤◌, ℕ, List, ◌++◌, length, Some, None, codes, refl, sym, ap, subst, ◌∙◌, arith}
 use Rattle.rag_io.specs.Outside.{Named, IsLong, IsShort}
 use Rattle.broken_rules.specs.declared.broken.Broken.{Broken}
 use Rattle.ast_grammar.specs.Grammar.{Class}
@@ -12,7 +12,7 @@ use Rattle.tree_writer.specs.Canonical.{canonical}
 use Rattle.equation_law.specs.Program.{Program}
 use Rattle.query_runner.specs.Files as files
 use Rattle.query_runner.specs.Files.{PairContents, Contents, File, IsBroken, IsCheckBroken, IsCheckNotBuilt, IsNotBuilt, IsTreeBroken, SaysCounts, SaysProgram, SaysText, counts_of, forms, no_queries}
-use Rattle.query_runner.specs.Output.{Answers, AreReplies, CheckOutput, HoldsAll, HoldsPair, HoldsShort, IsFirstLong, IsRefused, Output, TreeOutput, broken, broken_check, broken_line, broken_tree, pair_in_order, pair_name_of, check_not_built, counted, files_of, here, in_order, later, misused, name_of, not_built, printed, refused, replied, too_long}
+use Rattle.query_runner.specs.Output.{Answers, AreReplies, CheckOutput, HoldsAll, HoldsPair, HoldsShort, IsFirstLong, IsRefused, Output, TreeOutput, broken, broken_check, broken_line, broken_tree, pair_in_order, pair_name_of, check_not_built, counted, files_of, full, here, in_order, later, misused, name_of, not_built, printed, refused, replied, too_long}
 use Rattle.query_runner.specs.Words.{Check, PairNames, Command, FileNames, PrintTree, Run, command_of}
 use Rattle.query_runner.proofs.OneReading.{accepted_or_refused, accepted_there, aspects_or_break, both_rules, both_texts, both_trees, breaks_there, broken_there, built_or_not, nodes_there, one_refusal, queries_there, reads_or_breaks, refused_there, same_aspects, same_aspects_broken, same_broken, same_grammar, same_program, same_tree_broken, says_or_breaks, unbuilt_there}
 use Rattle.query_runner.proofs.OneReply.{one_replies}
@@ -322,29 +322,35 @@ module _ (words : List (List ℕ)) (files : List Named) where
   command_refused (check_not_built r h b) e = given r e
   command_refused (broken_tree r h b) e = given r e
 
-  pub one_answer : (s r : ℕ) (t u : List ℕ) → Answers words files s t → Answers words files r u → (s ≡ r) × (t ≡ u)
-  one_answer s r t u (replied a) (replied b) = (refl, one_output t u a b)
-  one_answer s r t u (replied a) (counted b) = run_or_check a.read b.read
-  one_answer s r t u (replied a) (printed b) = run_or_tree a.read b.read
-  one_answer s r t u (replied a) (refused b) = absurd (output_or_line t a b)
-  one_answer s r t u (replied a) (misused e) = absurd (given a.read e)
-  one_answer s r t u (counted a) (replied b) = run_or_check b.read a.read
-  one_answer s r t u (counted a) (counted b) = (refl, one_check_output t u a b)
-  one_answer s r t u (counted a) (printed b) = check_or_tree a.read b.read
-  one_answer s r t u (counted a) (refused b) = absurd (check_or_line t a b)
-  one_answer s r t u (counted a) (misused e) = absurd (given a.read e)
-  one_answer s r t u (printed a) (replied b) = run_or_tree b.read a.read
-  one_answer s r t u (printed a) (counted b) = check_or_tree b.read a.read
-  one_answer s r t u (printed a) (printed b) = (refl, one_tree_output t u a b)
-  one_answer s r t u (printed a) (refused b) = absurd (tree_or_line t a b)
-  one_answer s r t u (printed a) (misused e) = absurd (given a.read e)
-  one_answer s r t u (refused a) (replied b) = absurd (output_or_line u b a)
-  one_answer s r t u (refused a) (counted b) = absurd (check_or_line u b a)
-  one_answer s r t u (refused a) (printed b) = absurd (tree_or_line u b a)
-  one_answer s r t u (refused a) (refused b) = (refl, one_line a b)
-  one_answer s r t u (refused a) (misused e) = absurd (command_refused a e)
-  one_answer s r t u (misused e) (replied b) = absurd (given b.read e)
-  one_answer s r t u (misused e) (counted b) = absurd (given b.read e)
-  one_answer s r t u (misused e) (printed b) = absurd (given b.read e)
-  one_answer s r t u (misused e) (refused b) = absurd (command_refused b e)
-  one_answer s r t u (misused e) (misused f) = (refl, refl)
+  pub one_answer : (s r : ℕ) (t u : List ℕ) → Answers words files s t → Answers words files r u → s ≤ 2 → r ≤ 2 → (s ≡ r) × (t ≡ u)
+  one_answer s r t u (replied a) (replied b) le me = (refl, one_output t u a b)
+  one_answer s r t u (replied a) (counted b) le me = run_or_check a.read b.read
+  one_answer s r t u (replied a) (printed b) le me = run_or_tree a.read b.read
+  one_answer s r t u (replied a) (refused b) le me = absurd (output_or_line t a b)
+  one_answer s r t u (replied a) (full b) le me = absurd (omega (arith, me))
+  one_answer s r t u (replied a) (misused e) le me = absurd (given a.read e)
+  one_answer s r t u (counted a) (replied b) le me = run_or_check b.read a.read
+  one_answer s r t u (counted a) (counted b) le me = (refl, one_check_output t u a b)
+  one_answer s r t u (counted a) (printed b) le me = check_or_tree a.read b.read
+  one_answer s r t u (counted a) (refused b) le me = absurd (check_or_line t a b)
+  one_answer s r t u (counted a) (full b) le me = absurd (omega (arith, me))
+  one_answer s r t u (counted a) (misused e) le me = absurd (given a.read e)
+  one_answer s r t u (printed a) (replied b) le me = run_or_tree b.read a.read
+  one_answer s r t u (printed a) (counted b) le me = check_or_tree b.read a.read
+  one_answer s r t u (printed a) (printed b) le me = (refl, one_tree_output t u a b)
+  one_answer s r t u (printed a) (refused b) le me = absurd (tree_or_line t a b)
+  one_answer s r t u (printed a) (full b) le me = absurd (omega (arith, me))
+  one_answer s r t u (printed a) (misused e) le me = absurd (given a.read e)
+  one_answer s r t u (refused a) (replied b) le me = absurd (output_or_line u b a)
+  one_answer s r t u (refused a) (counted b) le me = absurd (check_or_line u b a)
+  one_answer s r t u (refused a) (printed b) le me = absurd (tree_or_line u b a)
+  one_answer s r t u (refused a) (refused b) le me = (refl, one_line a b)
+  one_answer s r t u (refused a) (full b) le me = absurd (omega (arith, me))
+  one_answer s r t u (refused a) (misused e) le me = absurd (command_refused a e)
+  one_answer s r t u (misused e) (replied b) le me = absurd (given b.read e)
+  one_answer s r t u (misused e) (counted b) le me = absurd (given b.read e)
+  one_answer s r t u (misused e) (printed b) le me = absurd (given b.read e)
+  one_answer s r t u (misused e) (refused b) le me = absurd (command_refused b e)
+  one_answer s r t u (misused e) (misused f) le me = (refl, refl)
+  one_answer s r t u (misused e) (full b) le me = absurd (omega (arith, me))
+  one_answer s r t u (full a) b le me = absurd (omega (arith, le))

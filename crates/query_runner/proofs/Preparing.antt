@@ -11,7 +11,8 @@ use Rattle.query_runner.specs.declared.running.Failure.TheVariants as failures
 use Rattle.query_runner.specs.Answered.{AnswersWhereTold, Stopped, status_of, text_of}
 use Rattle.query_runner.specs.Fetched.{FirstLongWhereTold, HoldsPairFetched, HoldsFetched, StopsAll}
 use Rattle.query_runner.specs.Files.{PairContents, Contents, File, IsBroken, IsCheckBroken, IsCheckNotBuilt, IsNotBuilt, IsTreeBroken, SaysCounts, SaysProgram, SaysText}
-use Rattle.query_runner.specs.Output.{Answers, AreReplies, broken, broken_check, broken_line, broken_tree, pair_name_of, check_not_built, counted, files_of, misused, printed, refused, replied, too_long, not_built, name_of}
+use Rattle.query_runner.specs.Output.{Answers, AreReplies, broken, broken_check, broken_line, broken_tree, pair_name_of, check_not_built, counted, files_of, full, misused, most_cells, printed, refused, replied, too_long, not_built, name_of}
+use Rattle.caller_pass.specs.Overfull.{IsOverfull}
 use Rattle.query_runner.specs.Words.{Check, PairNames, Command, FileNames, PrintTree, Run, command_of}
 use Rattle.equation_law.specs.Program.{Program}
 
@@ -37,11 +38,18 @@ stop_answer words files command before now stops.Memory r read cause is = subst 
 stop_answer words files command before now (stops.TooLong name) r read cause is = long_answer words files command name.now r read cause is.0
 
 -- it gives a line, or nothing; nothing for a fault of the shelf only where the shelf's count rose
-pub stop_status : (stop : Stop) (r : Result Answer Failure) → Stopped stop r → IfOk r (λ a. status_of a ≤ 1)
-stop_status stops.Failed r is = subst (λ x. IfOk x (λ a. status_of a ≤ 1)) (sym is) tt
-stop_status stops.Memory r is = subst (λ x. IfOk x (λ a. status_of a ≤ 1)) (sym is) tt
-stop_status (stops.TooLong name) (Ok a) is = omega (arith, is.0.0)
-stop_status (stops.TooLong name) (Err f) is = tt
+-- a line isn't the usage text
+pub line_status : (line : List ℕ) (r : Result Answer Failure) → IfOk r (λ a. (status_of a ≡ 1) × (text_of a ≡ line)) → r ≡ Ok answers.Usage → ⊥
+line_status line (Ok (answers.Output x)) e same = cc
+line_status line (Ok (answers.Refusal x)) e same = cc
+line_status line (Ok answers.Usage) e same = absurd (omega (arith, e.0))
+line_status line (Ok answers.Full) e same = cc
+line_status line (Err f) e same = cc
+
+pub stop_status : (stop : Stop) (r : Result Answer Failure) → Stopped stop r → r ≡ Ok answers.Usage → ⊥
+stop_status stops.Failed r is same = let e = sym is ∙ same in cc
+stop_status stops.Memory r is same = let e = sym is ∙ same in cc
+stop_status (stops.TooLong name) r is same = line_status (name.now ++ codes ": too long\n") r is.0 same
 
 pub stop_fetch : (files : Option (List Named)) (names : List (List ℕ)) (before now : ℕ) (stop : Stop) (r : Result Answer Failure) → StopsAll files names before now stop → Stopped stop r → r ≡ Err failures.Fetch → Rose before now
 stop_fetch files names before now stops.Failed r cause is fails = cause
@@ -84,11 +92,6 @@ broken_tree_answer words None names held file b (Ok a) read holds cause e = tt
 broken_tree_answer words (Some files) names held file b (Ok a) read holds cause e = line_answer words files (broken_line (pair_name_of names file) b) a (refused (broken_tree read holds cause)) e
 broken_tree_answer words files names held file b (Err f) read holds cause e = tt
 
--- a line has status 1
-pub line_status : (line : List ℕ) (r : Result Answer Failure) → IfOk r (λ a. (status_of a ≡ 1) × (text_of a ≡ line)) → IfOk r (λ a. status_of a ≤ 1)
-line_status line (Ok a) e = omega (arith, e.0)
-line_status line (Err f) e = tt
-
 pub tree_answer : (words : List (List ℕ)) (files : Option (List Named)) (names : PairNames) (held : PairContents) (text : List ℕ) → command_of words ≡ Some (PrintTree names) → HoldsPairFetched files names held → SaysText held text
     → (a : Answer) → status_of a ≡ 0 → text_of a ≡ text → AnswersWhereTold words files a
 tree_answer words None names held text read holds said a s t = tt
@@ -101,3 +104,7 @@ reply_answer words None names held p text read holds said replies a s t = tt
 reply_answer words (Some files) names held p text read holds said replies a s t =
     subst (λ (k : ℕ). Answers words files k (text_of a)) (sym s) (subst (λ (x : List ℕ). Answers words files 0 x) (sym t)
     (replied (record { names = names; contents = held; program = p; read = read; held = holds; said = said; replies = replies })))
+
+pub full_answer : (words : List (List ℕ)) (files : Option (List Named)) (names : FileNames) (held : Contents) (p : Program) → command_of words ≡ Some (Run names) → HoldsFetched files names held → SaysProgram held p → IsOverfull p most_cells → AnswersWhereTold words files answers.Full
+full_answer words None names held p read holds said over = tt
+full_answer words (Some files) names held p read holds said over = full (record { names = names; contents = held; program = p; read = read; held = holds; said = said; overfull = over })

@@ -6,18 +6,20 @@ use Rattle.query_runner.specs.declared.fetching.Stop.TheVariants as stops
 use Rattle.query_runner.specs.declared.running.Answer.{Answer}
 use Rattle.query_runner.specs.declared.running.Failure.{Failure}
 use Rattle.query_runner.specs.declared.running.Failure.TheVariants as failures
-use Rattle.query_runner.specs.declared.running.Answer.TheVariants.{Output, Refusal, Usage}
+use Rattle.query_runner.specs.declared.running.Answer.TheVariants.{Full, Output, Refusal, Usage}
 use Rattle.query_runner.specs.Output.{Answers, usage}
 
 abbrev pub status_of : Answer → ℕ
 status_of (Output text) = 0
 status_of (Refusal text) = 1
 status_of Usage = 2
+status_of Full = 4
 
 abbrev pub text_of : Answer → List ℕ
 text_of (Output text) = text.items
 text_of (Refusal text) = text.items
 text_of Usage = usage
+text_of Full = codes "full: cells\n"
 
 -- what is written where fetching stopped: the line of a file that is too long, or nothing
 abbrev pub Stopped : Stop → Result Answer Failure → Type 0

@@ -11,6 +11,7 @@ use Rattle.equation_law.specs.Names.{Null, At, Source, Query}
 use Rattle.equation_law.specs.Values.{Value, Truth, Int, Text, Node}
 use Rattle.equation_law.specs.Program.{Program}
 use Rattle.equation_law.specs.Equations.{HasValue}
+use Rattle.caller_pass.specs.Overfull.{IsOverfull}
 use Rattle.query_runner.specs.Files.{Contents, PairContents, SaysCounts, SaysProgram, SaysText, File, Ast, Jrag, Tree, Queries, IsBroken, IsCheckBroken, IsCheckNotBuilt, IsNotBuilt, IsTreeBroken}
 use Rattle.query_runner.specs.Words.{Check, Command, FileNames, PairNames, PrintTree, Run, command_of}
 
@@ -131,11 +132,26 @@ pub data IsRefused (words : List (List ℕ)) (files : List Named) : List ℕ →
 abbrev pub usage : List ℕ
 usage = codes "usage: rag run [--callers N] [--cells N] [--count] AST JRAG TREE QUERIES\n       rag check AST JRAG\n       rag tree AST TREE\n       rag bulk N [--callers N]\n"
 
+-- how many cells a run has
+abbrev pub most_cells : ℕ
+most_cells = 262144
+
+-- The same words where the queries of the program have more keys than there are cells.
+pub record Overfull (words : List (List ℕ)) (files : List Named) : Type 0 where
+  pub names : FileNames
+  pub contents : Contents
+  pub program : Program
+  pub read : command_of words ≡ Some (Run names)
+  pub held : HoldsAll files names contents
+  pub said : SaysProgram contents program
+  pub overfull : IsOverfull program most_cells
+
 -- What is to be written for some words, and the status that goes with it: the replies, the counts or the text of the tree with 0, the line of a file
--- that is refused with 1, the usage text with 2.
+-- that is refused with 1, the usage text with 2. Where more cells are demanded than there are, that may be said with 4.
 pub data Answers (words : List (List ℕ)) (files : List Named) : ℕ → List ℕ → Type 0 where
   replied : {text : List ℕ} → Output words files text → Answers words files 0 text
   counted : {text : List ℕ} → CheckOutput words files text → Answers words files 0 text
   printed : {text : List ℕ} → TreeOutput words files text → Answers words files 0 text
   refused : {line : List ℕ} → IsRefused words files line → Answers words files 1 line
   misused : command_of words ≡ None → Answers words files 2 usage
+  full : Overfull words files → Answers words files 4 (codes "full: cells\n")

@@ -1,18 +1,26 @@
 // The reply lines.
-ghost use Rattle.std.specs.Prelude.{◌≡◌, ◌++◌, ◌∷◌, [], ℕ, slice_index_or, IfOk, IfSome, IsSome, OnOk, MatchOption, codes};
+ghost use Rattle.std.specs.Prelude.{◌≡◌, ◌≤◌, ◌<◌, ◌++◌, ◌∷◌, [], ℕ, Err, slice_index_or, IfOk, OnOk, codes, length};
 ghost use Rattle.std.specs.Fmt.{decimal, signed_decimal};
 ghost use Rattle.rag_io.specs.Quoting.{quoted};
 ghost use Rattle.equation_law.specs.Checked.{IsProgram};
-ghost use Rattle.plain_rounds.specs.Named.{value_in, reference_named};
 ghost use Rattle.equation_law.specs.Systems.{program_of};
+ghost use Rattle.equation_law.specs.Codes.{reference_of, value_of};
 ghost use Rattle.equation_law.specs.Values.{Node};
+ghost use Rattle.equation_law.specs.Names.{Query};
+ghost use Rattle.memo_cells.specs.Standing.{AreNew, IsPassOf};
+ghost use Rattle.memo_cells.specs.Views.{IsAtLeast};
+ghost use Rattle.caller_pass.specs.Answering.{ClaimsKeys, FillsCells};
+ghost use Rattle.caller_pass.specs.Overfull.{IsOverfull};
 ghost use Rattle.query_runner.specs.Output.{AreReplies, truth_text};
-ghost use Rattle.query_runner.specs.Replies.{IsPlain, AddsReply, texts_in};
+ghost use Rattle.query_runner.specs.Replies.{IsPlain, AddsAnswer, AddsReply, texts_in};
 
-use equation_law::System;
-use plain_rounds::{NameList, NamedValue, NodeName, plain_rounds};
+use caller_pass::{AskFault, Steps, ask};
+use equation_law::{Instance, NodeRef, System, Value};
+use memo_cells::{Cells, Pass};
 use rag_io::{Gate, Memory, Pool, push_quoted};
 use std::alloc::Global;
+use std::marker::Brand;
+use std::sync::ledger::{Blank, Ledger};
 
 fn add_line(text: &mut Vec<u8>, line: &[u8]) -> Result<(), Memory>
     ensures { OnOk result (text.new.items ≡ text.old.items ++ (line.now ++ 10 ∷ [])) }
@@ -32,17 +40,11 @@ fn add_truth(text: &mut Vec<u8>, truth: bool) -> Result<(), Memory>
     }
 }
 
-fn add_int(alloc: Global, text: &mut Vec<u8>, int: Option<i32>) -> Result<(), Memory>
-    requires { IsSome int }
-    ensures { IfSome int (λ z. OnOk result (text.new.items ≡ text.old.items ++ (signed_decimal z ++ 10 ∷ []))) }
+fn add_int(alloc: Global, text: &mut Vec<u8>, int: i32) -> Result<(), Memory>
+    ensures { OnOk result (text.new.items ≡ text.old.items ++ (signed_decimal int ++ 10 ∷ [])) }
 {
-    match int {
-        Some(int) => {
-            let digits = int.to_string(alloc).map_err(|_| Memory)?;
-            add_line(text, digits.as_bytes())
-        }
-        None => unreachable!(),
-    }
+    let digits = int.to_string(alloc).map_err(|_| Memory)?;
+    add_line(text, digits.as_bytes())
 }
 
 // The text of a number; of a number that no text has, the empty one.
@@ -71,73 +73,115 @@ fn add_source(alloc: Global, text: &mut Vec<u8>, node: u32) -> Result<(), Memory
     add_line(text, digits.as_bytes())
 }
 
-fn add_node(alloc: Global, text: &mut Vec<u8>, node: NodeName) -> Result<(), Memory>
-    ensures { OnOk result (AddsReply (Node (reference_named node)) text.old.items text.new.items) }
+fn add_node(alloc: Global, text: &mut Vec<u8>, node: NodeRef) -> Result<(), Memory>
+    ensures { OnOk result (AddsReply (Node (reference_of node.0)) text.old.items text.new.items) }
 {
-    match node {
-        NodeName::Null => add_line(text, b"null".as_slice()),
-        NodeName::Source(k) => add_source(alloc, text, k),
+    match node.source() {
+        None => add_line(text, b"null".as_slice()),
+        Some(k) => add_source(alloc, text, k),
     }
 }
 
 // The line of a value.
-fn add_reply(
-    alloc: Global,
-    pool: &Pool,
-    text: &mut Vec<u8>,
-    value: &NamedValue,
-) -> Result<(), Memory>
-    requires { IsPlain (value_in (texts_in pool.now) value.now) }
-    ensures { OnOk result (AddsReply (value_in (texts_in pool.now) value.now) text.old.items text.new.items) }
+fn add_reply(alloc: Global, pool: &Pool, text: &mut Vec<u8>, value: Value) -> Result<(), Memory>
+    requires { IsPlain (value_of (texts_in pool.now) value) }
+    ensures { OnOk result (AddsReply (value_of (texts_in pool.now) value) text.old.items text.new.items) }
 {
-    if let Some(truth) = value.truth() {
-        return add_truth(text, truth);
-    }
-    let int = value.int();
-    if int.is_some() {
-        return add_int(alloc, text, int);
-    }
-    if let Some(number) = value.text() {
-        return add_text(pool, text, number);
-    }
-    match value.node() {
-        Some(node) => add_node(alloc, text, node),
-        None => unreachable!(),
+    match value {
+        Value::Truth(truth) => add_truth(text, truth),
+        Value::Int(int) => add_int(alloc, text, int),
+        Value::Text(number) => add_text(pool, text, number),
+        Value::Node(node) => add_node(alloc, text, node),
+        Value::NoTexts | Value::NoNodes => unreachable!(),
     }
 }
 
-// The line of a query: the text of its value, or `circular` where it has none.
-fn add_answer(
-    alloc: Global,
-    pool: &Pool,
-    text: &mut Vec<u8>,
-    found: Option<&NamedValue>,
-) -> Result<(), Memory>
-    requires { MatchOption found (Unit {0}) (λ v. IsPlain (value_in (texts_in pool.now) v.now)) }
-    ensures { OnOk result (MatchOption found.entry (text.new.items ≡ text.old.items ++ (codes "circular" ++ 10 ∷ [])) (λ v. AddsReply (value_in (texts_in pool.now) v.now) text.old.items text.new.items)) }
-{
-    match found {
-        Some(value) => add_reply(alloc, pool, text, value),
-        None => add_line(text, b"circular".as_slice()),
+/// Why there are no replies.
+#[derive(Clone, Copy, Debug, PartialEq, Eq)]
+pub(crate) enum ReplyFault {
+    /// All cells have keys, and more are demanded.
+    Cells,
+    /// Want of memory.
+    Memory,
+}
+
+impl From<Memory> for ReplyFault {
+    ghost use Rattle.std.specs.Prelude.{◌≡◌};
+    ghost use Rattle.query_runner.specs.declared.replies.ReplyFault.TheVariants.{Memory as NoMemory};
+
+    ghost from_gives = { λ _ fault. fault ≡ NoMemory };
+
+    fn from(_: Memory) -> ReplyFault {
+        ReplyFault::Memory
     }
 }
 
-/// The reply lines of all queries, in order. The gate is told after each reply.
+// The line of a query: the text of its value, or `circular` where it has a loop.
+fn add_answer<L: Ledger>(
+    alloc: Global,
+    system: &System,
+    cells: &Cells,
+    pass: &mut Pass,
+    query: u32,
+    text: &mut Vec<u8>,
+    evals: &mut Steps<L>,
+) -> Result<(), ReplyFault>
+    requires program { IsProgram (program_of system.now) }
+    requires same { cells.now.system.value ≡ system.now }
+    requires own { IsPassOf cells.now pass.old }
+    requires query { query < length (program_of system.now).queries }
+    ensures own { IsPassOf cells.now pass.new }
+    ensures kept { IsAtLeast pass.old pass.new }
+    ensures claims { ClaimsKeys (program_of system.now) (Query query) pass.old pass.new }
+    ensures line { OnOk result (AddsAnswer (program_of system.now) query text.old.items text.new.items) }
+    ensures full { result ≡ Err ReplyFault.Cells → FillsCells (program_of system.now) (Query query) cells.now pass.new }
+{
+    match ask(alloc, system, cells, pass, &Instance::Query(query), evals) {
+        Ok(value) => Ok(add_reply(alloc, system.pool(), text, value)?),
+        Err(AskFault::Circular { .. }) => Ok(add_line(text, b"circular".as_slice())?),
+        Err(AskFault::CellsFull) => Err(ReplyFault::Cells),
+        Err(AskFault::Memory) => Err(ReplyFault::Memory),
+    }
+}
+
+// Adds the lines of all queries, in order.
+fn add_answers<L: Ledger, G: Gate>(
+    alloc: Global,
+    gate: &G,
+    system: &System,
+    cells: &Cells,
+    pass: &mut Pass,
+    blank: Blank,
+) -> Result<Vec<u8>, ReplyFault>
+    requires name { blank.name ≡ L.name }
+    requires parts { blank.parts ≡ L.parts }
+    requires some { 0 < L.parts }
+    requires program { IsProgram (program_of system.now) }
+    requires new { AreNew system.now cells.now.cells cells.now pass.old }
+    ensures replies { IfOk result (λ text. AreReplies (program_of system.now) 0 (program_of system.now).queries text.items) }
+    ensures full { result ≡ Err ReplyFault.Cells → IsOverfull (program_of system.now) cells.now.cells }
+{
+    let mut evals = Steps::<L>::new(blank);
+    let mut text = Vec::new(alloc);
+    'replies: for query in 0..system.replies() {
+        add_answer(alloc, system, cells, pass, query, &mut text, &mut evals)?;
+        gate.reached(0, query);
+    }
+    Ok(text)
+}
+
+/// The reply lines of all queries, in order, over so many cells. The gate is told after each reply.
 pub(crate) fn reply_lines<G: Gate>(
     alloc: Global,
     gate: &G,
     system: &System,
-) -> Result<Vec<u8>, Memory>
-    requires { IsProgram (program_of system.now) }
-    ensures { IfOk result (λ text. AreReplies (program_of system.now) 0 (program_of system.now).queries text.items) }
+    cells: u32,
+) -> Result<Vec<u8>, ReplyFault>
+    requires program { IsProgram (program_of system.now) }
+    requires cells { (1024 ≤ cells) × (cells ≤ 4194304) }
+    ensures replies { IfOk result (λ text. AreReplies (program_of system.now) 0 (program_of system.now).queries text.items) }
+    ensures full { result ≡ Err ReplyFault.Cells → IsOverfull (program_of system.now) cells }
 {
-    let names = NameList::of_source(alloc, system)?;
-    let table = plain_rounds(alloc, system, &names)?;
-    let first = names.len() - system.replies();
-    let mut text = Vec::new(alloc);
-    'replies: for q in 0..system.replies() {
-        add_answer(alloc, system.pool(), &mut text, table.value(first + q))?;
-        gate.reached(0, q);
-    }
-    Ok(text)
+    let (cells, mut pass) = Cells::new(alloc, system, cells)?;
+    add_answers::<Brand, G>(alloc, gate, system, &cells, &mut pass, Blank::new(1))
 }

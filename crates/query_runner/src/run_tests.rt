@@ -3,6 +3,7 @@ ghost use Rattle.std.specs.String.{string_bytes};
 
 mod aspect_files;
 mod checks;
+mod demands;
 mod grammars;
 mod programs;
 mod subclasses;
@@ -18,6 +19,9 @@ use std::test::Fail;
 use std::thread::Threads;
 
 const FIRST: &str = "aspect A { syn int N.v() = 5; }";
+
+// The number of nodes below a node of a chain.
+const COUNTED: &str = "aspect A { syn int L.d() = hasL() ? getL().d() + 1 : 0; }";
 
 const USAGE: &str =
     "usage: rag run [--callers N] [--cells N] [--count] AST JRAG TREE QUERIES\n       rag check AST JRAG\n       rag tree AST TREE\n       rag bulk N [--callers N]\n";
@@ -363,6 +367,16 @@ fn repeated(alloc: Global, part: &str, times: usize) -> Result<String, AllocErro
         text.push_str(part)?;
     }
     Ok(text)
+}
+
+// So many nodes, each below the one before.
+fn chained_tree(alloc: Global, nodes: usize) -> Result<String, AllocError> {
+    let before = nodes.saturating_sub(1);
+    let mut tree = repeated(alloc, "L([", before)?;
+    tree.push_str("L([])")?;
+    let ends = repeated(alloc, "])", before)?;
+    tree.push_str(&ends)?;
+    Ok(tree)
 }
 
 // A text that is one byte too long for a file.

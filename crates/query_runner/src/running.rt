@@ -1,5 +1,5 @@
 // The top call.
-ghost use Rattle.std.specs.Prelude.{◌≡◌, ◌⊎◌, ◌≤◌, ◌++◌, ℕ, List, None, Some, Ok, Err, map, IfOk, IfErr};
+ghost use Rattle.std.specs.Prelude.{◌≡◌, ◌≢◌, ◌⊎◌, ◌≤◌, ◌++◌, ℕ, List, None, Some, Ok, Err, map, IfOk, IfErr};
 ghost use Rattle.rag_io.specs.Outside.{Rose};
 ghost use Rattle.query_runner.specs.Answered.{AnswersWhereTold, Stopped, status_of, text_of};
 ghost use Rattle.query_runner.specs.Run.{Took, TookSome, WritesAnswer, WritesPart};
@@ -10,7 +10,7 @@ ghost use Rattle.query_runner.specs.Named.{seen_names, seen_pair_names};
 use crate::fetching::{Stop, fetch_all, fetch_pair};
 use crate::files::{Refusal, counts_text, read_system, tree_text};
 use crate::putting::put_all;
-use crate::replies::reply_lines;
+use crate::replies::{ReplyFault, reply_lines};
 use crate::words::{Command, Names, PairNames, command_of, name_of, pair_name_of};
 use broken_rules::Broken;
 use rag_io::{Gate, Shelf, Sink};
@@ -19,6 +19,9 @@ use std::thread::Threads;
 
 const USAGE: &[u8] =
     b"usage: rag run [--callers N] [--cells N] [--count] AST JRAG TREE QUERIES\n       rag check AST JRAG\n       rag tree AST TREE\n       rag bulk N [--callers N]\n";
+
+/// How many cells the memo table of a run has.
+const CELLS: u32 = 262_144;
 
 /// What is to be written.
 #[derive(Drop)]
@@ -29,6 +32,8 @@ pub(crate) enum Answer {
     Refusal(Vec<u8>),
     /// The usage text.
     Usage,
+    /// The line that says that the cells are full.
+    Full,
 }
 
 /// Why nothing is to be written.
@@ -49,6 +54,7 @@ impl Answer {
             Answer::Output(_) => 0,
             Answer::Refusal(_) => 1,
             Answer::Usage => 2,
+            Answer::Full => 4,
         }
     }
 
@@ -59,6 +65,7 @@ impl Answer {
         match self {
             Answer::Output(text) | Answer::Refusal(text) => text.as_slice(),
             Answer::Usage => USAGE,
+            Answer::Full => b"full: cells\n",
         }
     }
 }
@@ -108,7 +115,7 @@ fn answer_run<S: Shelf, G: Gate>(
     gate: &G,
 ) -> Result<Answer, Failure>
     ensures answer { (words : List (List ℕ)) → command_of words ≡ Some (AsksRun (seen_names names.entry)) → IfOk result (λ a. AnswersWhereTold words (S.files shelf.old) a) }
-    ensures status { IfOk result (λ a. status_of a ≤ 1) }
+    ensures status { result ≢ Ok Answer.Usage }
     ensures fetch { result ≡ Err Failure.Fetch → Rose (S.faults shelf.old) (S.faults shelf.new) }
 {
     let contents = match fetch_all(alloc, shelf, names) {
@@ -116,9 +123,10 @@ fn answer_run<S: Shelf, G: Gate>(
         Err(stop) => return refuse_stop(alloc, stop),
     };
     match read_system(alloc, &contents) {
-        Ok(system) => match reply_lines(alloc, gate, &system) {
+        Ok(system) => match reply_lines(alloc, gate, &system, CELLS) {
             Ok(text) => Ok(Answer::Output(text)),
-            Err(_) => Err(Failure::Memory),
+            Err(ReplyFault::Cells) => Ok(Answer::Full),
+            Err(ReplyFault::Memory) => Err(Failure::Memory),
         },
         Err(Refusal::Memory) => Err(Failure::Memory),
         Err(Refusal::Broken(file, broken)) => refuse_broken(alloc, name_of(names, file), broken),
@@ -133,7 +141,7 @@ fn answer_check<S: Shelf>(
     shelf: &mut S,
 ) -> Result<Answer, Failure>
     ensures answer { (words : List (List ℕ)) → command_of words ≡ Some (AsksCheck (seen_pair_names names.entry)) → IfOk result (λ a. AnswersWhereTold words (S.files shelf.old) a) }
-    ensures status { IfOk result (λ a. status_of a ≤ 1) }
+    ensures status { result ≢ Ok Answer.Usage }
     ensures fetch { result ≡ Err Failure.Fetch → Rose (S.faults shelf.old) (S.faults shelf.new) }
 {
     let contents = match fetch_pair(alloc, shelf, names) {
@@ -157,7 +165,7 @@ fn answer_tree<S: Shelf>(
     shelf: &mut S,
 ) -> Result<Answer, Failure>
     ensures answer { (words : List (List ℕ)) → command_of words ≡ Some (PrintTree (seen_pair_names names.entry)) → IfOk result (λ a. AnswersWhereTold words (S.files shelf.old) a) }
-    ensures status { IfOk result (λ a. status_of a ≤ 1) }
+    ensures status { result ≢ Ok Answer.Usage }
     ensures fetch { result ≡ Err Failure.Fetch → Rose (S.faults shelf.old) (S.faults shelf.new) }
 {
     let contents = match fetch_pair(alloc, shelf, names) {
@@ -210,6 +218,7 @@ fn prepare<S: Shelf, G: Gate>(
 /// | 1 | where another file isn't in the form that is evaluated so far | `NAME: not built` |
 /// | 2 | where the words are neither `run` and four file names nor `check` or `tree` and two | the usage text |
 /// | 3 | for want of memory | nothing |
+/// | 4 | where more cells are demanded than there are | `full: cells` |
 /// | 5 | where the shelf's count of faults rose | nothing |
 /// | 6 | where the sink's count of faults rose | a front of what was to be put |
 pub fn run<R: Threads + Sync, S: Shelf, K: Sink, G: Gate>(
@@ -220,13 +229,14 @@ pub fn run<R: Threads + Sync, S: Shelf, K: Sink, G: Gate>(
     sink: &mut K,
     gate: &G,
 ) -> u8
+    ensures full { result ≡ 4 → WritesAnswer (map text_of_word words.now) (S.files shelf.old) (K.taken sink.old) (K.taken sink.new) result }
     ensures answer { result ≤ 2 → WritesAnswer (map text_of_word words.now) (S.files shelf.old) (K.taken sink.old) (K.taken sink.new) result }
     ensures misused { command_of (map text_of_word words.now) ≡ None → (result ≡ 2) ⊎ (result ≡ 6) }
     ensures usage { result ≡ 2 → (command_of (map text_of_word words.now) ≡ None) × Took (K.taken sink.old) usage (K.taken sink.new) }
     ensures memory { result ≡ 3 → K.taken sink.new ≡ K.taken sink.old }
     ensures fetch { result ≡ 5 → Rose (S.faults shelf.old) (S.faults shelf.new) × (K.taken sink.new ≡ K.taken sink.old) }
     ensures put { result ≡ 6 → Rose (K.faults sink.old) (K.faults sink.new) × WritesPart (map text_of_word words.now) (S.files shelf.old) (K.taken sink.old) (K.taken sink.new) }
-    ensures statuses { (result ≤ 2) ⊎ ((result ≡ 3) ⊎ ((result ≡ 5) ⊎ (result ≡ 6))) }
+    ensures statuses { (result ≤ 2) ⊎ ((result ≡ 3) ⊎ ((result ≡ 4) ⊎ ((result ≡ 5) ⊎ (result ≡ 6)))) }
 {
     let answer = match prepare(alloc, words, shelf, gate) {
         Ok(answer) => answer,

@@ -1,4 +1,4 @@
-use super::{RUN, expect, faultless, repeated};
+use super::{COUNTED, RUN, chained_tree, expect, faultless, repeated};
 use std::alloc::{AllocError, Global};
 use std::process::Abort;
 use std::test::Fail;
@@ -128,9 +128,9 @@ const SYSTEMS: [Case; 16] = [
         "N;",
         "aspect A { syn int N.x() = y(); syn int N.y() = x(); syn int N.z() = 5; }",
         "N()",
-        "@0.x()\n@0.z()",
+        "@0.x()\n@0.y()\n@0.z()",
         0,
-        "circular\n5\n",
+        "circular\ncircular\n5\n",
     ),
     // It leads into a loop without standing on it.
     (
@@ -343,6 +343,16 @@ fn deep_texts_are_refused(rt: HostRuntime) -> Result<(), Fail> {
     let told = ["20,000 nodes"];
     let asked = faultless(RUN, ("N ::= N;", "", &tree, ""), &told);
     expect(&rt, alloc, &asked, 1, "t.tree:1:40001: N1\n")
+}
+
+// The value of the root demands that of the node below it, and so on down to the 50,001st.
+#[test]
+fn the_longest_demand(rt: HostRuntime) -> Result<(), Fail> {
+    let alloc = rt.alloc();
+    let tree = chained_tree(alloc, 50_001)?;
+    let told = ["50,001 nodes"];
+    let asked = faultless(RUN, ("L ::= [L];", COUNTED, &tree, "@0.d()"), &told);
+    expect(&rt, alloc, &asked, 0, "50000\n")
 }
 
 // The classes of a tree in which each node but a leaf has two children.

@@ -1,5 +1,5 @@
 -- Each end of a run has its answer.
-use Rattle.std.proofs.Common.{◌≡◌, ℕ, List, ◌++◌, IfOk, codes, refl, subst}
+use Rattle.std.proofs.Common.{◌≡◌, ℕ, List, ◌++◌, Err, IfOk, ap, codes, refl, subst}
 use Rattle.equation_law.specs.Systems.{program_of}
 use Rattle.query_runner.specs.Answered.{status_of, text_of}
 use Rattle.query_runner.specs.Fetched.{seen_contents}
@@ -8,20 +8,20 @@ use Rattle.query_runner.specs.Output.{broken_line}
 use Rattle.query_runner.specs.Words.{Run}
 use Rattle.query_runner.specs.declared.running.Answer.TheVariants.{Output}
 use Rattle.query_runner.proofs.Answerable.{is_program, texts_pooled}
-use Rattle.query_runner.proofs.Preparing.{broken_answer, reply_answer, stop_answer, unbuilt_answer}
+use Rattle.query_runner.proofs.Preparing.{broken_answer, full_answer, reply_answer, stop_answer, unbuilt_answer}
 use Rattle.query_runner.proofs.running.answer_run.Goals as goal
 
 pub returns-in-Err-clause-answer : goal.returns-in-Err-clause-answer
 returns-in-Err-clause-answer g c = λ words asked.
     stop_answer words (g.S.Shelf.files c.args.shelf.now) (Run (seen_names c.args.names)) _ _ c.in-Err.stop c.refuse_stop.result asked c.in-Err.ensures.cause c.refuse_stop.ensures
 
-pub reply_lines-requires-after_bounds : goal.reply_lines-requires-after_bounds
-reply_lines-requires-after_bounds g c = λ lifetimes among. is_program (seen_contents c.in-Ok.contents) (program_of c.in-Ok-read_system.system) c.in-Ok-read_system.ensures.said (texts_pooled c.in-Ok-read_system.system)
+pub reply_lines-requires-clause-program : goal.reply_lines-requires-clause-program
+reply_lines-requires-clause-program g c = λ lifetimes among. is_program (seen_contents c.in-Ok.contents) (program_of c.in-Ok-read_system.system) c.in-Ok-read_system.ensures.said (texts_pooled c.in-Ok-read_system.system)
 
 pub returns-in-Ok-reply_lines-clause-answer : goal.returns-in-Ok-reply_lines-clause-answer
 returns-in-Ok-reply_lines-clause-answer g c = λ words asked.
     reply_answer words (g.S.Shelf.files c.args.shelf.now) (seen_names c.args.names) (seen_contents c.in-Ok.contents) (program_of c.in-Ok-read_system.system) c.in-Ok-reply_lines.text.items
-    asked c.in-Ok.ensures.held c.in-Ok-read_system.ensures.said c.in-Ok-reply_lines.ensures (Output c.in-Ok-reply_lines.text) refl refl
+    asked c.in-Ok.ensures.held c.in-Ok-read_system.ensures.said c.in-Ok-reply_lines.ensures.replies (Output c.in-Ok-reply_lines.text) refl refl
 
 pub returns-in-Err-Broken-clause-answer : goal.returns-in-Err-Broken-clause-answer
 returns-in-Err-Broken-clause-answer g c = λ words asked.
@@ -39,3 +39,8 @@ returns-clause-answer g c = λ words asked.
     unbuilt_answer words (g.S.Shelf.files c.args.shelf.now) (seen_names c.args.names) (seen_contents c.in-Ok.contents) (seen_file file) c.refuse.result
     asked c.in-Ok.ensures.held cause
     (subst (λ (name : List ℕ). IfOk c.refuse.result (λ a. (status_of a ≡ 1) × (text_of a ≡ name ++ codes ": not built\n"))) c.name_of-in-Err-NotBuilt.ensures c.refuse.ensures.line)
+
+pub returns-in-Err-Cells-clause-answer : goal.returns-in-Err-Cells-clause-answer
+returns-in-Err-Cells-clause-answer g c = λ words asked.
+    full_answer words (g.S.Shelf.files c.args.shelf.now) (seen_names c.args.names) (seen_contents c.in-Ok.contents) (program_of c.in-Ok-read_system.system)
+    asked c.in-Ok.ensures.held c.in-Ok-read_system.ensures.said (c.in-Err-Cells.ensures.full (ap Err c.in-Err-Cells.field-0-is))
