@@ -1,7 +1,9 @@
 -- Typed expressions without where they lie in memory.
 use Rattle.std.specs.Prelude.{ℕ, ℤ, Bool}
+use Rattle.ast_grammar.specs.declared.grammar.ClassId.{ClassId}
 use Rattle.attr_rules.specs.declared.kinds.Kind.{Kind}
 use Rattle.attr_rules.specs.declared.expression.Operator.{Operator}
+use Rattle.attr_rules.specs.declared.expression.Quantifier.{Quantifier}
 use Rattle.attr_rules.specs.declared.expression.TExpr.{TExpr}
 use Rattle.attr_rules.specs.declared.expression.TExpr.TheVariants as kept
 
@@ -13,6 +15,8 @@ pub data Expression : Type 0 where
   Null : Expression
   -- the node at which the equation is read
   This : Expression
+  -- the value of a name, by its number: bound names come first, the innermost as 0
+  Variable : ℕ → Expression
   -- the source node of this number
   Source : ℕ → Expression
   -- the child, or the optional child, of a receiver at the component of this number
@@ -27,6 +31,12 @@ pub data Expression : Type 0 where
   Token : Kind → ℕ → Expression → Expression
   -- the call of the attribute of this number on a receiver
   Call : ℕ → Expression → Expression
+  -- the node where it is of the class or below, and null else
+  Cast : ClassId → Expression → Expression
+  -- whether there is a node of the class or below
+  InstanceOf : ClassId → Expression → Expression
+  -- a condition at the elements of a receiver's list at the component of this number; name 0 in it is the element
+  Quantified : Quantifier → ℕ → Expression → Expression → Expression
   Not : Expression → Expression
   Negate : Expression → Expression
   Binary : Operator → Expression → Expression → Expression
@@ -40,6 +50,7 @@ expression_of (kept.Int z) = Int z
 expression_of (kept.Text n) = Text n
 expression_of kept.Null = Null
 expression_of kept.This = This
+expression_of (kept.Variable k) = Variable k
 expression_of (kept.Source k) = Source k
 expression_of (kept.Child' k p e) = Child k (expression_of e)
 expression_of (kept.Element' k p e q i) = Element k (expression_of e) (expression_of i)
@@ -47,6 +58,9 @@ expression_of (kept.Count' k p e) = Count k (expression_of e)
 expression_of (kept.Has' k p e) = Has k (expression_of e)
 expression_of (kept.Token' t k p e) = Token t k (expression_of e)
 expression_of (kept.Call' a at p e) = Call a.0 (expression_of e)
+expression_of (kept.Cast' c p e) = Cast c (expression_of e)
+expression_of (kept.InstanceOf' c p e) = InstanceOf c (expression_of e)
+expression_of (kept.Quantified' q k p e r b) = Quantified q k (expression_of e) (expression_of b)
 expression_of (kept.Not' p e) = Not (expression_of e)
 expression_of (kept.Negate' p e) = Negate (expression_of e)
 expression_of (kept.Binary' o p a q b) = Binary o (expression_of a) (expression_of b)

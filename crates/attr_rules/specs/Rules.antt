@@ -16,7 +16,7 @@ use Rattle.attr_rules.specs.declared.kinds.Sort.TheVariants.{Syn}
 use Rattle.attr_rules.specs.declared.kinds.Start.TheVariants.{Plain}
 use Rattle.attr_rules.specs.declared.types.ValueType.{ValueType}
 use Rattle.attr_rules.specs.Expression.{Expression}
-use Rattle.attr_rules.specs.Types.{fits}
+use Rattle.attr_rules.specs.Types.{fits, kind_class}
 use Rattle.attr_rules.specs.Typing.{HasType, Names}
 
 -- an attribute: its name, and what is declared of it
@@ -99,23 +99,24 @@ number_of_attribute a = a.0
 abbrev pub number_of_equation : EqId → ℕ
 number_of_equation e = e.0
 
--- the type is `boolean`, `int` or `String`, as of all attributes that are evaluated so far
-abbrev pub is_plain : Kind → Bool
-is_plain kinds.Truth = true
-is_plain kinds.Int = true
-is_plain kinds.Text = true
-is_plain (kinds.Node c) = false
-is_plain kinds.Texts = false
-is_plain (kinds.Nodes c) = false
+-- the type is no set, as of all attributes that are evaluated so far
+abbrev pub is_single : Kind → Bool
+is_single kinds.Truth = true
+is_single kinds.Int = true
+is_single kinds.Text = true
+is_single (kinds.Node c) = true
+is_single kinds.Texts = false
+is_single (kinds.Nodes c) = false
 
 -- what an equation may name at nodes of a class
 abbrev pub names_for : List Class → List Attribute → ClassId → Names
-names_for g attributes c = record { grammar = g; attribute = declared_at attributes; node = λ k. None; this = Some c }
+names_for g attributes c = record { grammar = g; attribute = declared_at attributes; node = λ k. None; this = Some c; variables = [] }
 
 -- An attribute of a class of the grammar.
 pub record IsAttribute (g : List Class) (x : Attribute) : Type 0 where
   pub within : x.declared.class.0 < length g
-  pub plain : is_plain x.declared.kind ≡ true
+  pub single : is_single x.declared.kind ≡ true
+  pub class : (c : ClassId) → kind_class x.declared.kind ≡ Some c → c.0 < length g
 
 -- An equation of a class that has the attribute: its right side is well typed and fits.
 pub record IsEquation (g : List Class) (attributes : List Attribute) (e : Equation) : Type 0 where

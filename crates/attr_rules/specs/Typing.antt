@@ -1,5 +1,5 @@
 -- The rules of types: which typed expressions are of which type.
-use Rattle.std.specs.Prelude.{◌≡◌, ℕ, ℤ, Bool, true, List, Option, Some}
+use Rattle.std.specs.Prelude.{◌≡◌, ℕ, ℤ, ◌<◌, Bool, true, List, ◌∷◌, Option, Some, length, slice_get}
 use Rattle.std.specs.Int.{int_wrap}
 use mir.Syntax.{w32}
 use Rattle.ast_grammar.specs.declared.grammar.ClassId.{ClassId}
@@ -10,20 +10,33 @@ use Rattle.attr_rules.specs.declared.kinds.Kind.{Kind}
 use Rattle.attr_rules.specs.declared.kinds.Kind.TheVariants as kinds
 use Rattle.attr_rules.specs.declared.expression.Operator.{Operator}
 use Rattle.attr_rules.specs.declared.expression.Operator.TheVariants.{Add, Subtract, Multiply, Less, AtMost, Greater, AtLeast, Equal}
+use Rattle.attr_rules.specs.declared.expression.Quantifier.{Quantifier}
+use Rattle.attr_rules.specs.declared.expression.Quantifier.TheVariants.{Any, All, First}
 use Rattle.attr_rules.specs.declared.types.ValueType.{ValueType}
 use Rattle.attr_rules.specs.declared.types.ValueType.TheVariants as types
 use Rattle.attr_rules.specs.declared.accessors.Access.TheVariants as access
 use Rattle.attr_rules.specs.Accessors.{got}
-use Rattle.attr_rules.specs.Expression.{Expression, Truth, Int, Text, Null, This, Source, Child, Element, Count, Has, Token, Call, Not, Negate, Binary, And, Or, If}
-use Rattle.attr_rules.specs.Types.{common, comparable, of_class}
+use Rattle.attr_rules.specs.Expression.{Expression, Truth, Int, Text, Null, This, Variable, Source, Child, Element, Count, Has, Token, Call, Cast, InstanceOf, Quantified, Not, Negate, Binary, And, Or, If}
+use Rattle.attr_rules.specs.Types.{common, comparable, is_node, of_class}
 
--- what an expression may name: the grammar's classes with their components, attributes, source nodes, and the class of the node at which
--- it is read
+-- what an expression may name: the grammar's classes with their components, attributes, source nodes, the class of the node at which
+-- it is read, and the types of the names, by their numbers
 pub record Names : Type 0 where
   pub grammar : List Class
   pub attribute : ℕ → Option Attr
   pub node : ℕ → Option ClassId
   pub this : Option ClassId
+  pub variables : List Kind
+
+-- with one name more, which comes first
+abbrev pub with_variable : Names → Kind → Names
+with_variable N k = record { grammar = N.grammar; attribute = N.attribute; node = N.node; this = N.this; variables = k ∷ N.variables }
+
+-- what a form over a list of nodes of a class gives
+abbrev pub quantified_type : Quantifier → ClassId → ValueType
+quantified_type Any c = types.Of kinds.Truth
+quantified_type All c = types.Of kinds.Truth
+quantified_type First c = of_class c
 
 -- the operator takes two integers, and this is the type of its result
 pub data TakesInts : Operator → Kind → Type 0 where
@@ -36,24 +49,28 @@ pub data TakesInts : Operator → Kind → Type 0 where
   at_least : TakesInts AtLeast kinds.Truth
 
 -- The expression is well typed and of this type. A receiver is of a class, and may be null all the same.
-pub data HasType (N : Names) : Expression → ValueType → Type 0 where
-  truth : (b : Bool) → HasType N (Truth b) (types.Of kinds.Truth)
+pub data HasType : Names → Expression → ValueType → Type 0 where
+  truth : {N : Names} → (b : Bool) → HasType N (Truth b) (types.Of kinds.Truth)
   -- a literal has 32 bits
-  int : (z : ℤ) → int_wrap w32 z ≡ z → HasType N (Int z) (types.Of kinds.Int)
-  text : (n : ℕ) → HasType N (Text n) (types.Of kinds.Text)
-  null : HasType N Null types.Null
-  this : (c : ClassId) → N.this ≡ Some c → HasType N This (of_class c)
-  source : (k : ℕ) (c : ClassId) → N.node k ≡ Some c → HasType N (Source k) (of_class c)
-  child : {e : Expression} (c : ClassId) (k : ℕ) (x : Component) → HasType N e (of_class c) → component_at N.grammar c.0 k ≡ Some x → got x.shape ≡ Some access.Child → HasType N (Child k e) (of_class x.class)
-  element : {e i : Expression} (c : ClassId) (k : ℕ) (x : Component) → HasType N e (of_class c) → component_at N.grammar c.0 k ≡ Some x → x.shape ≡ shapes.List → HasType N i (types.Of kinds.Int) → HasType N (Element k e i) (of_class x.class)
-  count : {e : Expression} (c : ClassId) (k : ℕ) (x : Component) → HasType N e (of_class c) → component_at N.grammar c.0 k ≡ Some x → x.shape ≡ shapes.List → HasType N (Count k e) (types.Of kinds.Int)
-  has : {e : Expression} (c : ClassId) (k : ℕ) (x : Component) → HasType N e (of_class c) → component_at N.grammar c.0 k ≡ Some x → x.shape ≡ shapes.Optional → HasType N (Has k e) (types.Of kinds.Truth)
-  token : {e : Expression} (c : ClassId) (k : ℕ) (x : Component) (t : Kind) → HasType N e (of_class c) → component_at N.grammar c.0 k ≡ Some x → got x.shape ≡ Some (access.Token t) → HasType N (Token t k e) (types.Of t)
-  call : {e : Expression} (c : ClassId) (a : ℕ) (d : Attr) → HasType N e (of_class c) → N.attribute a ≡ Some d → is_sub N.grammar c.0 d.class.0 ≡ true → HasType N (Call a e) (types.Of d.kind)
-  not : {e : Expression} → HasType N e (types.Of kinds.Truth) → HasType N (Not e) (types.Of kinds.Truth)
-  negate : {e : Expression} → HasType N e (types.Of kinds.Int) → HasType N (Negate e) (types.Of kinds.Int)
-  ints : {a b : Expression} (o : Operator) (k : Kind) → TakesInts o k → HasType N a (types.Of kinds.Int) → HasType N b (types.Of kinds.Int) → HasType N (Binary o a b) (types.Of k)
-  equal : {a b : Expression} (t u : ValueType) → HasType N a t → HasType N b u → comparable t u ≡ true → HasType N (Binary Equal a b) (types.Of kinds.Truth)
-  and : {a b : Expression} → HasType N a (types.Of kinds.Truth) → HasType N b (types.Of kinds.Truth) → HasType N (And a b) (types.Of kinds.Truth)
-  or : {a b : Expression} → HasType N a (types.Of kinds.Truth) → HasType N b (types.Of kinds.Truth) → HasType N (Or a b) (types.Of kinds.Truth)
-  choice : {c a b : Expression} (t u v : ValueType) → HasType N c (types.Of kinds.Truth) → HasType N a t → HasType N b u → common N.grammar t u ≡ Some v → HasType N (If c a b) v
+  int : {N : Names} → (z : ℤ) → int_wrap w32 z ≡ z → HasType N (Int z) (types.Of kinds.Int)
+  text : {N : Names} → (n : ℕ) → HasType N (Text n) (types.Of kinds.Text)
+  null : {N : Names} → HasType N Null types.Null
+  this : {N : Names} → (c : ClassId) → N.this ≡ Some c → HasType N This (of_class c)
+  variable : {N : Names} → (k : ℕ) (t : Kind) → slice_get N.variables k ≡ Some t → HasType N (Variable k) (types.Of t)
+  source : {N : Names} → (k : ℕ) (c : ClassId) → N.node k ≡ Some c → HasType N (Source k) (of_class c)
+  child : {N : Names} {e : Expression} (c : ClassId) (k : ℕ) (x : Component) → HasType N e (of_class c) → component_at N.grammar c.0 k ≡ Some x → got x.shape ≡ Some access.Child → HasType N (Child k e) (of_class x.class)
+  element : {N : Names} {e i : Expression} (c : ClassId) (k : ℕ) (x : Component) → HasType N e (of_class c) → component_at N.grammar c.0 k ≡ Some x → x.shape ≡ shapes.List → HasType N i (types.Of kinds.Int) → HasType N (Element k e i) (of_class x.class)
+  count : {N : Names} {e : Expression} (c : ClassId) (k : ℕ) (x : Component) → HasType N e (of_class c) → component_at N.grammar c.0 k ≡ Some x → x.shape ≡ shapes.List → HasType N (Count k e) (types.Of kinds.Int)
+  has : {N : Names} {e : Expression} (c : ClassId) (k : ℕ) (x : Component) → HasType N e (of_class c) → component_at N.grammar c.0 k ≡ Some x → x.shape ≡ shapes.Optional → HasType N (Has k e) (types.Of kinds.Truth)
+  token : {N : Names} {e : Expression} (c : ClassId) (k : ℕ) (x : Component) (t : Kind) → HasType N e (of_class c) → component_at N.grammar c.0 k ≡ Some x → got x.shape ≡ Some (access.Token t) → HasType N (Token t k e) (types.Of t)
+  call : {N : Names} {e : Expression} (c : ClassId) (a : ℕ) (d : Attr) → HasType N e (of_class c) → N.attribute a ≡ Some d → is_sub N.grammar c.0 d.class.0 ≡ true → HasType N (Call a e) (types.Of d.kind)
+  cast : {N : Names} {e : Expression} (t : ValueType) (c : ClassId) → HasType N e t → is_node t ≡ true → c.0 < length N.grammar → HasType N (Cast c e) (of_class c)
+  instance_of : {N : Names} {e : Expression} (t : ValueType) (c : ClassId) → HasType N e t → is_node t ≡ true → c.0 < length N.grammar → HasType N (InstanceOf c e) (types.Of kinds.Truth)
+  quantified : {N : Names} {e b : Expression} (q : Quantifier) (c : ClassId) (k : ℕ) (x : Component) → HasType N e (of_class c) → component_at N.grammar c.0 k ≡ Some x → x.shape ≡ shapes.List → HasType (with_variable N (kinds.Node x.class)) b (types.Of kinds.Truth) → HasType N (Quantified q k e b) (quantified_type q x.class)
+  not : {N : Names} {e : Expression} → HasType N e (types.Of kinds.Truth) → HasType N (Not e) (types.Of kinds.Truth)
+  negate : {N : Names} {e : Expression} → HasType N e (types.Of kinds.Int) → HasType N (Negate e) (types.Of kinds.Int)
+  ints : {N : Names} {a b : Expression} (o : Operator) (k : Kind) → TakesInts o k → HasType N a (types.Of kinds.Int) → HasType N b (types.Of kinds.Int) → HasType N (Binary o a b) (types.Of k)
+  equal : {N : Names} {a b : Expression} (t u : ValueType) → HasType N a t → HasType N b u → comparable t u ≡ true → HasType N (Binary Equal a b) (types.Of kinds.Truth)
+  and : {N : Names} {a b : Expression} → HasType N a (types.Of kinds.Truth) → HasType N b (types.Of kinds.Truth) → HasType N (And a b) (types.Of kinds.Truth)
+  or : {N : Names} {a b : Expression} → HasType N a (types.Of kinds.Truth) → HasType N b (types.Of kinds.Truth) → HasType N (Or a b) (types.Of kinds.Truth)
+  choice : {N : Names} {c a b : Expression} (t u v : ValueType) → HasType N c (types.Of kinds.Truth) → HasType N a t → HasType N b u → common N.grammar t u ≡ Some v → HasType N (If c a b) v

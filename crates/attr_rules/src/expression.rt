@@ -1,5 +1,6 @@
 // Typed expressions.
 use crate::kinds::{AttrId, Kind};
+use ast_grammar::ClassId;
 use rag_io::Place;
 use std::alloc::Global;
 
@@ -17,6 +18,15 @@ pub enum Operator {
     Equal,
 }
 
+/// A form over the elements of a list. `any` and `all` evaluate their condition at every element, `first` up to the first one at which it is
+/// true.
+#[derive(Clone, Copy, Debug, PartialEq, Eq)]
+pub enum Quantifier {
+    Any,
+    All,
+    First,
+}
+
 /// A typed expression. Its calls name attributes by number and its accessors name components by number, and
 /// `a != b` is the denial of `a == b`. The forms and their meaning are this project's own, after Java's
 /// expressions on `boolean` and `int`. It keeps the places that the rules on rising equations name.
@@ -32,6 +42,8 @@ pub enum TExpr {
     Null,
     /// `this`, the node at which the equation is read.
     This,
+    /// A name that stands for a value, by its number: those that the expression binds come first, the innermost as 0.
+    Variable(usize),
     /// `@k`, the source node of this number. It stands in queries alone.
     Source(u32),
     /// The child of a receiver at the component of this number, or the optional child: null where there is none.
@@ -47,6 +59,12 @@ pub enum TExpr {
     Token(Kind, u32, Box<TExpr>),
     /// The call of an attribute without arguments, with the place of its name, on a receiver.
     Call(AttrId, Place, Box<TExpr>),
+    /// `(C) e`: the node where it is of the class or below, and null else.
+    Cast(ClassId, Box<TExpr>),
+    /// `e instanceof C`: whether there is a node, and it is of the class or below.
+    InstanceOf(ClassId, Box<TExpr>),
+    /// `any`, `all` or `first` over a receiver's list at the component of this number, with the condition, in which variable 0 is the element.
+    Quantified(Quantifier, u32, Box<TExpr>, Box<TExpr>),
     /// `!`
     Not(Box<TExpr>),
     /// Unary `-`, which wraps.

@@ -16,7 +16,7 @@ mod types;
 pub use accessors::{Access, Accessor, accessor_of, is_spelled};
 pub use attributes::{Attributes, NamedAttr};
 pub use dispatch::{Dispatch, Target};
-pub use expression::{Operator, TExpr};
+pub use expression::{Operator, Quantifier, TExpr};
 pub use kinds::{Attr, AttrId, EqId, Kind, Params, Sort, Start};
 pub use queries::QueryEq;
 pub use rules::{KeptEquation, Rules};

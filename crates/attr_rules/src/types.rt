@@ -48,7 +48,8 @@ impl ValueType {
         matches!(self, ValueType::Of(Kind::Text))
     }
 
-    fn is_node(self) -> bool
+    /// Whether it is a class, or the type of `null`.
+    pub fn is_node(self) -> bool
         ensures { result ≡ spec.is_node self }
     {
         matches!(self, ValueType::Of(Kind::Node(_)) | ValueType::Null)
