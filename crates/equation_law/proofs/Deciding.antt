@@ -1,27 +1,28 @@
 -- Each instance of a program has a value or a loop: rounds over all its instances come to an end, and what they leave
 -- tells which.
 use Rattle.std.proofs.Common.{Option, inl, inr, ◌⊎◌}
-use Rattle.solutions.specs.Rounds.{Ended}
+use Rattle.solutions.specs.Rounds.{Ended, Graph}
 use Rattle.solutions.specs.Leading.{HasDemands}
 use Rattle.solutions.proofs.Finishing.{ended}
 use Rattle.solutions.proofs.Runs.{option_cases}
-use Rattle.equation_law.specs.Checked.{IsInstance, IsProgram}
+use Rattle.equation_law.specs.Checked.{IsInstance, IsProgram, IsValue}
 use Rattle.equation_law.specs.Names.{Instance}
 use Rattle.equation_law.specs.Values.{Value}
 use Rattle.equation_law.specs.Program.{Program, source_instances}
-use Rattle.equation_law.specs.Equations.{HasValue, equations_of}
+use Rattle.equation_law.specs.Equations.{HasValue, equations_of, kind_in}
 use Rattle.equation_law.specs.Loops.{HasLoop}
-use Rattle.equation_law.proofs.Demanded.{demands_instances}
+use Rattle.equation_law.proofs.Demanded.{met_instances}
+use Rattle.equation_law.proofs.QueryValues.{value_typed}
 use Rattle.equation_law.proofs.Ended.{left_has_loop, left_value}
 use Rattle.equation_law.proofs.Listed.{is_listed, listed_is}
 use Rattle.equation_law.proofs.Names.{same_instance_is}
 use Rattle.equation_law.proofs.Solution.{none_circular}
 
 module _ (p : Program) (good : IsProgram p) where
-  -- the list of all instances has all that they demand
-  pub has_demands : (A : Instance → Option Value) → HasDemands (equations_of p) (source_instances p) A
+  -- the list of all instances has all that they demand under values of their types
+  pub has_demands : (A : Instance → Option Value) → ((j : Instance) (w : Value) → IsInstance p j → Graph A j w → IsValue p (kind_in p j) w) → HasDemands (equations_of p) (source_instances p) A
   unfolding equations_of
-  has_demands A i j m meets = is_listed p j (demands_instances p good i j (listed_is p i m) A meets)
+  has_demands A f i j m meets = is_listed p j (met_instances p good i j (listed_is p i m) (Graph A) f meets)
 
   rounds_end : Ended (equations_of p) (source_instances p)
   unfolding equations_of
@@ -33,5 +34,5 @@ module _ (p : Program) (good : IsProgram p) where
       let e = rounds_end in
       elim (option_cases (e.left i)) [
         | inl s ↦ inl (s.0, left_value p names e.left e.end i s.0 s.1)
-        | inr n ↦ inr (left_has_loop p names e.left e.end (has_demands e.left) i (is_listed p i h) n)
+        | inr n ↦ inr (left_has_loop p names e.left e.end (has_demands e.left (λ j w q a. value_typed p good j q w (left_value p names e.left e.end j w a))) i (is_listed p i h) n)
       ]

@@ -19,12 +19,12 @@ use Rattle.attr_rules.specs.declared.kinds.Kind.TheVariants as kinds
 use Rattle.attr_rules.specs.declared.types.ValueType.{ValueType}
 use Rattle.attr_rules.specs.declared.types.ValueType.TheVariants as types
 use Rattle.attr_rules.specs.Queries.{Query as Asked}
-use Rattle.attr_rules.specs.Rules.{Attribute as DeclaredAttribute, Equation, IsAttribute, IsEquation, declared_at, equation_number, first_of_line, is_plain, is_target, names_for, nearest_equation, own_equation, target_in}
+use Rattle.attr_rules.specs.Rules.{Attribute as DeclaredAttribute, Equation, IsAttribute, IsEquation, declared_at, equation_number, first_of_line, is_single, is_target, names_for, nearest_equation, own_equation, target_in}
 use Rattle.attr_rules.specs.Types.{kept_kind}
 use Rattle.solutions.specs.Asking.{Demands, Ends, Gives, Needs, Meets, asks, gives, here, later, next}
 use Rattle.solutions.specs.Rounds.{Graph}
-use Rattle.equation_law.specs.Checked.{Fits, IsAt, IsInstance, IsProgram, IsTyped, IsValue, of_attribute, of_query, int, node, text, truth}
-use Rattle.equation_law.specs.Equations.{Site, asked_kind, attribute_kind, equation_for, equation_of, equations_of, kind_in, kind_or_truth, site_at, site_demands, world_of}
+use Rattle.equation_law.specs.Checked.{Fits, IsAt, IsInstance, IsProgram, IsTyped, IsValue, at, of_attribute, of_query, int, node, text, truth}
+use Rattle.equation_law.specs.Equations.{Site, asked_kind, attribute_kind, equation_for, equation_of, equations_of, kind_in, kind_or_truth, place_at, site_at, site_demands, world_of}
 use Rattle.equation_law.specs.Meaning.{meaning_of}
 use Rattle.equation_law.specs.Names.{At, Instance, Source}
 use Rattle.equation_law.specs.Program.{Program, class_of, declared_of, names_in}
@@ -72,33 +72,36 @@ own_target equations a b k e =
     (found.0, found.1, same.0, same.1)
 
 module _ (p : Program) (good : IsProgram p) where
-  -- all attributes are `boolean`, `int` or `String`
-  plain : (a : ℕ) (d : Attr) → declared_of p a ≡ Some d → is_plain d.kind ≡ true
-  plain a d e =
+  -- no attribute is a set
+  single : (a : ℕ) (d : Attr) → declared_of p a ≡ Some d → is_single d.kind ≡ true
+  single a d e =
       let s = some_of (λ (x : DeclaredAttribute). x.declared) (slice_get p.rules.attributes a) d e in
-      subst (λ (x : Attr). is_plain x.kind ≡ true) s.2 (each_of (IsAttribute p.grammar) p.rules.attributes a s.0 good.rules.attributes s.1).plain
-
-  -- what an equation names at a node of its class or of a subclass
-  names_of_equation : (c : ClassId) (n : ℕ) → IsAt p n c → AreNames p (names_for p.grammar p.rules.attributes c) n
-  names_of_equation c n at = record {
-    grammar = refl;
-    attribute = λ a d e. e;
-    node = λ k b e. absurd (cc);
-    this = λ b e. let same : c ≡ b = cc in subst (IsAt p n) same at;
-  }
+      subst (λ (x : Attr). is_single x.kind ≡ true) s.2 (each_of (IsAttribute p.grammar) p.rules.attributes a s.0 good.rules.attributes s.1).single
 
   -- a node of a class
   at_class : (k : ℕ) (c : ClassId) → class_of p k ≡ Some c → IsAt p k c
   at_class k c e = record { class = c; of = e; below = sub_itself (superclasses_of p.grammar) c.0 }
 
-  -- what a query names
-  names_of_query : AreNames p (names_in p) 0
-  names_of_query = record {
-    grammar = refl;
-    attribute = λ a d e. e;
-    node = at_class;
-    this = at_class 0;
-  }
+  module _ (I : ℤ → Type 0) (T : List ℕ → Type 0) where
+    -- what an equation names at a node of its class or of a subclass
+    names_of_equation : (c : ClassId) (n : ℕ) → IsAt p n c → AreNames p I T (names_for p.grammar p.rules.attributes c) (place_at n)
+    names_of_equation c n stands = record {
+      grammar = refl;
+      attribute = λ a d e. e;
+      node = λ k b e. absurd (cc);
+      this = λ b e. let same : c ≡ b = cc in at (subst (IsAt p n) same stands);
+      variables = λ k t e. absurd (cc);
+    }
+
+    -- what a query names
+    names_of_query : AreNames p I T (names_in p) (place_at 0)
+    names_of_query = record {
+      grammar = refl;
+      attribute = λ a d e. e;
+      node = at_class;
+      this = λ c e. at (at_class 0 c e);
+      variables = λ k t e. absurd (cc);
+    }
 
   -- The equation of an attribute at nodes of a class is that of the class or of one above it.
   record IsFor (a : ℕ) (c : ClassId) : Type 0 where
@@ -126,26 +129,26 @@ module _ (p : Program) (good : IsProgram p) where
     -- the equation of an attribute, read at a node
     attribute_keeps : (a k : ℕ) (c : ClassId) (d : Attr) → class_of p k ≡ Some c → declared_of p a ≡ Some d → (q : IsFor a c) → Keeps p I T M (types.Of (attribute_kind p a)) (site_demands (world_of p) (Some (site_at p a k q.equation)))
     attribute_keeps a k c d f e q =
-        let at : IsAt p k q.equation.target.class = record { class = c; of = f; below = q.above } in
-        let typed = typed_keeps p I T M bounds good.grammar good.tree (names_for p.grammar p.rules.attributes q.equation.target.class) k (names_of_equation q.equation.target.class k at) q.allowed.typed in
+        let stands : IsAt p k q.equation.target.class = record { class = c; of = f; below = q.above } in
+        let typed = typed_keeps p I T M bounds good.grammar good.tree q.allowed.typed (place_at k) (names_of_equation I T q.equation.target.class k stands) in
         let declared : declared_of p a ≡ Some q.allowed.attribute = ap (declared_at p.rules.attributes) (sym q.attribute) ∙ q.allowed.declared in
         let kind : attribute_kind p a ≡ q.allowed.attribute.kind = ap (λ (o : Option Attr). kind_or_truth (option_map (λ x. x.kind) o)) declared in
-        let fit = fitting p I T q.allowed.attribute.kind q.allowed.type (plain a q.allowed.attribute declared) q.allowed.fit in
-        let reads : Kind → Type 0 = λ x. Keeps p I T M (types.Of x) (next (meaning_of (world_of p) q.equation.body (record { this = At (Source k) })) (λ v. Gives (as_kind x v))) in
+        let fit = fitting p I T q.allowed.attribute.kind q.allowed.type (single a q.allowed.attribute declared) q.allowed.fit in
+        let reads : Kind → Type 0 = λ x. Keeps p I T M (types.Of x) (next (meaning_of (world_of p) q.equation.body (place_at k)) (λ v. Gives (as_kind x v))) in
         subst reads (sym kind)
-        (behind p I T M q.allowed.type (types.Of q.allowed.attribute.kind) (meaning_of (world_of p) q.equation.body (record { this = At (Source k) })) (λ v. Gives (as_kind q.allowed.attribute.kind v)) typed
+        (behind p I T M q.allowed.type (types.Of q.allowed.attribute.kind) (meaning_of (world_of p) q.equation.body (place_at k)) (λ v. Gives (as_kind q.allowed.attribute.kind v)) typed
         (λ v o. kept p I T (types.Of q.allowed.attribute.kind) v (fit v o)))
 
     -- the expression of a query, read at the root
     abbrev query_site : Asked → Site
-    query_site x = record { body = x.body; kind = x.kind; place = record { this = At (Source 0) } }
+    query_site x = record { body = x.body; kind = x.kind; place = place_at 0 }
 
     query_keeps : (e : Asked) → IsTyped p e → Keeps p I T M (types.Of e.kind) (site_demands (world_of p) (Some (query_site e)))
     query_keeps e t =
-        let typed = typed_keeps p I T M bounds good.grammar good.tree (names_in p) 0 names_of_query t.typed in
-        let reads : Kind → Type 0 = λ x. Keeps p I T M (types.Of x) (next (meaning_of (world_of p) e.body (record { this = At (Source 0) })) (λ v. Gives (as_kind x v))) in
+        let typed = typed_keeps p I T M bounds good.grammar good.tree t.typed (place_at 0) (names_of_query I T) in
+        let reads : Kind → Type 0 = λ x. Keeps p I T M (types.Of x) (next (meaning_of (world_of p) e.body (place_at 0)) (λ v. Gives (as_kind x v))) in
         subst reads (sym t.kept)
-        (behind p I T M t.type (types.Of (kept_kind t.type)) (meaning_of (world_of p) e.body (record { this = At (Source 0) })) (λ v. Gives (as_kind (kept_kind t.type) v)) typed (kept p I T t.type))
+        (behind p I T M t.type (types.Of (kept_kind t.type)) (meaning_of (world_of p) e.body (place_at 0)) (λ v. Gives (as_kind (kept_kind t.type) v)) typed (kept p I T t.type))
 
     -- the equation of each instance
     site_keeps : (i : Instance) → IsInstance p i → Keeps p I T M (types.Of (kind_in p i)) (site_demands (world_of p) (equation_of p i))
@@ -158,44 +161,6 @@ module _ (p : Program) (good : IsProgram p) where
     site_keeps i (of_query {q = q} e o) =
         subst (λ (x : Option Asked). Keeps p I T M (types.Of (kind_or_truth (option_map asked_kind x))) (site_demands (world_of p) (option_map query_site x))) (sym o)
         (query_keeps e (each_of (IsTyped p) p.queries q e good.queries o))
-
-  -- any integers, texts and values
-  abbrev Any : {A : Type 0} → A → Type 0
-  Any x = Unit {0}
-
-  abbrev Admits : Instance → Value → Type 0
-  Admits i v = Unit {0}
-
-  read_any : (k : Kind) (v : Value) → is_plain k ≡ true → IsOf p Any Any (types.Of k) (as_kind k v)
-  read_any kinds.Truth v e = of_truth _
-  read_any kinds.Int v e = of_int _ tt
-  read_any kinds.Text v e = of_text _ tt
-  read_any (kinds.Node c) v e = cc
-  read_any kinds.Texts v e = cc
-  read_any (kinds.Nodes c) v e = cc
-
-  any_bounds : AreBounds p Any Any Admits
-  any_bounds = record {
-    literal = λ z e. tt;
-    wrapped = λ z. tt;
-    text = λ n. tt;
-    empty = tt;
-    plain = plain;
-    read = λ a d r v e m. read_any d.kind v (plain a d e);
-  }
-
-  -- what demands instances alone
-  met : (t : ValueType) (A : Instance → Value → Type 0) (c : Demands Instance Value) (j : Instance) → Keeps p Any Any Admits t c → Meets A c j → IsInstance p j
-  met t A (Gives v) j h m = elim m [ ]
-  met t A (Needs i g) j h here = h.0
-  met t A (Needs i g) j h (later {w = w} e m) = met t A (g w) j (h.1 w tt) m
-
-  pub met_instances : (i j : Instance) → IsInstance p i → (A : Instance → Value → Type 0) → Meets A ((equations_of p).equation i) j → IsInstance p j
-  unfolding equations_of
-  met_instances i j h A m = met (types.Of (kind_in p i)) A (site_demands (world_of p) (equation_of p i)) j (site_keeps Any Any Admits any_bounds i h) m
-
-  pub demands_instances : (i j : Instance) → IsInstance p i → (A : Instance → Option Value) → Meets (Graph A) ((equations_of p).equation i) j → IsInstance p j
-  demands_instances i j h A m = met_instances i j h (Graph A) m
 
   -- integers of 32 bits, texts of the program, and values of their instances' types
   abbrev IsWrapped : ℤ → Type 0
@@ -220,7 +185,7 @@ module _ (p : Program) (good : IsProgram p) where
     wrapped = λ z. int_wrap_fits w32 (int_wrap w32 z) (SFits-int_wrap w32 z);
     text = text_there p.texts good.texts;
     empty = empty_there p.texts good.texts;
-    plain = plain;
+    single = single;
     read = λ a d r v e m. read_value d.kind v (subst (λ (o : Option Attr). IsValue p (kind_or_truth (option_map (λ x. x.kind) o)) v) e m);
   }
 
@@ -243,3 +208,16 @@ module _ (p : Program) (good : IsProgram p) where
 
   pub well_typed_values : (i : Instance) → IsInstance p i → (A : Instance → Option Value) → Fits p A → (v : Value) (demands : List Instance) → Ends (Graph A) ((equations_of p).equation i) v demands → IsValue p (kind_in p i) v
   well_typed_values i h A fit v demands e = ended_typed (Graph A) (λ j w q a. fit.fits j w a) i h v demands e
+
+  -- what is demanded, where the values of instances are of their types
+  met : (k : Kind) (A : Instance → Value → Type 0) → ((j : Instance) (v : Value) → IsInstance p j → A j v → IsValue p (kind_in p j) v) → (c : Demands Instance Value) (j : Instance) → Keeps p IsWrapped IsText IsTypedValue (types.Of k) c → Meets A c j → IsInstance p j
+  met k A f (Gives v) j h m = elim m [ ]
+  met k A f (Needs i g) j h here = h.0
+  met k A f (Needs i g) j h (later {w = w} e m) = met k A f (g w) j (h.1 w (f i w h.0 e)) m
+
+  pub met_instances : (i j : Instance) → IsInstance p i → (A : Instance → Value → Type 0) → ((j : Instance) (w : Value) → IsInstance p j → A j w → IsValue p (kind_in p j) w) → Meets A ((equations_of p).equation i) j → IsInstance p j
+  unfolding equations_of
+  met_instances i j h A f m = met (kind_in p i) A f (site_demands (world_of p) (equation_of p i)) j (site_keeps IsWrapped IsText IsTypedValue value_bounds i h) m
+
+  pub demands_instances : (i j : Instance) → IsInstance p i → (A : Instance → Option Value) → Fits p A → Meets (Graph A) ((equations_of p).equation i) j → IsInstance p j
+  demands_instances i j h A fit m = met_instances i j h (Graph A) (λ k w q a. fit.fits k w a) m

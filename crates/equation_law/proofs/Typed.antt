@@ -1,6 +1,7 @@
 -- A well typed expression demands instances of its program alone, and its value is of its type.
-use Rattle.std.proofs.Common.{◌≡◌, ℕ, ℤ, pos, negsuc, neg_ℤ, Bool, true, false, not, cond, List, [], Option, Some, None, length, slice_get, refl, sym, ap, subst, ◌∙◌}
+use Rattle.std.proofs.Common.{◌≡◌, ℕ, zero, suc, ℤ, pos, negsuc, neg_ℤ, Bool, true, false, not, cond, ◌&&◌, ◌||◌, List, [], ◌∷◌, map, Option, Some, None, length, slice_get, refl, sym, ap, subst, ◌∙◌}
 use Rattle.std.specs.Int.{int_wrap}
+use Rattle.std.specs.List.{range_with_len}
 use Rattle.std.specs.Option.{option_map}
 use mir.Syntax.{w32}
 use Rattle.superclasses.specs.Superclasses.{nearest_common}
@@ -13,6 +14,8 @@ use Rattle.ast_grammar.proofs.Inherited.{inherited_component}
 use Rattle.attr_rules.specs.declared.accessors.Access.TheVariants as access
 use Rattle.attr_rules.specs.declared.expression.Operator.{Operator}
 use Rattle.attr_rules.specs.declared.expression.Operator.TheVariants.{Equal}
+use Rattle.attr_rules.specs.declared.expression.Quantifier.{Quantifier}
+use Rattle.attr_rules.specs.declared.expression.Quantifier.TheVariants.{Any, All, First}
 use Rattle.attr_rules.specs.declared.kinds.Attr.{Attr}
 use Rattle.attr_rules.specs.declared.kinds.Kind.{Kind}
 use Rattle.attr_rules.specs.declared.kinds.Kind.TheVariants as kinds
@@ -20,18 +23,18 @@ use Rattle.attr_rules.specs.declared.types.ValueType.{ValueType}
 use Rattle.attr_rules.specs.declared.types.ValueType.TheVariants as types
 use Rattle.attr_rules.specs.Accessors.{got}
 use Rattle.attr_rules.specs.Expression.{Expression}
-use Rattle.attr_rules.specs.Rules.{is_plain}
-use Rattle.attr_rules.specs.Types.{class_of_number, common, common_class, common_node, fits, is_int, is_node, is_text, is_truth, kept_kind, kind_class, of_class, type_where}
-use Rattle.attr_rules.specs.Typing.{HasType, Names, TakesInts}
+use Rattle.attr_rules.specs.Rules.{is_single}
+use Rattle.attr_rules.specs.Types.{class_of_number, common, common_class, common_node, fits, fits_class, is_below, is_int, is_node, is_text, is_truth, kept_kind, kind_class, of_class, type_where}
+use Rattle.attr_rules.specs.Typing.{HasType, Names, TakesInts, quantified_type, with_variable}
 use Rattle.attr_rules.specs.Typing as typed
 use Rattle.solutions.specs.Asking.{Demands, Gives, Needs, next}
 use Rattle.tree_arena.specs.Nodes.{Node as TreeNode, child_in, token_in}
 use Rattle.tree_arena.specs.Terms.{IsTreeOf}
 use Rattle.equation_law.specs.Checked.{IsAt, IsInstance, IsNodeOf, at, null, of_attribute}
-use Rattle.equation_law.specs.Equations.{attribute_kind, decoded, kind_or_truth, source_of, source_or_null, text_of, world_of}
-use Rattle.equation_law.specs.Meaning.{call_at, child_at, count_at, element_at, is_there, meaning_of, operate, token_at}
+use Rattle.equation_law.specs.Equations.{attribute_kind, count_of, decoded, element_of, kind_or_truth, source_of, source_or_null, text_of, world_of}
+use Rattle.equation_law.specs.Meaning.{Place, at_each, call_at, cast_to, child_at, count_at, element_at, elements_at, first_with, is_instance, is_there, meaning_of, named, operate, over_elements, token_at, with_name}
 use Rattle.equation_law.specs.Names.{At, Attribute, Instance, NoArguments, Null, Reference, Source}
-use Rattle.equation_law.specs.Program.{Program, declared_of}
+use Rattle.equation_law.specs.Program.{Program, class_of, declared_of}
 use Rattle.equation_law.specs.Values.{Value, Truth, Int, Text, Node, as_kind, default_of, int, node, truth}
 use Rattle.equation_law.proofs.Lists.{some_of}
 use Rattle.equation_law.proofs.Preordered.{child_below}
@@ -69,7 +72,24 @@ text_type (types.Of (kinds.Node c)) e = cc
 text_type (types.Of kinds.Texts) e = cc
 text_type (types.Of (kinds.Nodes c)) e = cc
 
--- the tokens that are read are of plain types
+-- a truth value, an integer or a text
+abbrev is_plain : Kind → Bool
+is_plain kinds.Truth = true
+is_plain kinds.Int = true
+is_plain kinds.Text = true
+is_plain (kinds.Node c) = false
+is_plain kinds.Texts = false
+is_plain (kinds.Nodes c) = false
+
+plain_single : (k : Kind) → is_plain k ≡ true → is_single k ≡ true
+plain_single kinds.Truth e = refl
+plain_single kinds.Int e = refl
+plain_single kinds.Text e = refl
+plain_single (kinds.Node c) e = refl
+plain_single kinds.Texts e = e
+plain_single (kinds.Nodes c) e = e
+
+-- the tokens that are read are truth values, integers or texts
 token_plain : (s : Shape) (t : Kind) → got s ≡ Some (access.Token t) → is_plain t ≡ true
 token_plain shapes.Child t e = cc
 token_plain shapes.List t e = cc
@@ -148,12 +168,20 @@ module _ (p : Program) (I : ℤ → Type 0) (T : List ℕ → Type 0) where
   common_right (types.Of kinds.Texts) u t e v h = cc
   common_right (types.Of (kinds.Nodes c)) u t e v h = cc
 
-  -- a value of a type that fits a plain one is of the plain one
-  pub fitting : (k : Kind) (t : ValueType) → is_plain k ≡ true → fits p.grammar t k ≡ true → (v : Value) → IsOf t v → IsOf (types.Of k) v
+  -- a value of a type that fits a class is null, or a node of it
+  fits_node : (c : ClassId) (t : ValueType) → fits_class p.grammar t c ≡ true → (v : Value) → IsOf t v → IsOf (of_class c) v
+  fits_node c _ e _ (of_truth b) = cc
+  fits_node c _ e _ (of_int z h) = cc
+  fits_node c _ e _ (of_text t h) = cc
+  fits_node c _ e _ (of_node d r h) = of_node c r (node_above p d c r e h)
+  fits_node c _ e _ of_null = of_node c Null null
+
+  -- a value of a type that fits another is of the other
+  pub fitting : (k : Kind) (t : ValueType) → is_single k ≡ true → fits p.grammar t k ≡ true → (v : Value) → IsOf t v → IsOf (types.Of k) v
   fitting kinds.Truth t f e v h = subst (λ (x : ValueType). IsOf x v) (sym (truth_type t e)) h
   fitting kinds.Int t f e v h = subst (λ (x : ValueType). IsOf x v) (sym (int_type t e)) h
   fitting kinds.Text t f e v h = subst (λ (x : ValueType). IsOf x v) (sym (text_type t e)) h
-  fitting (kinds.Node c) t f e v h = cc
+  fitting (kinds.Node c) t f e v h = fits_node c t e v h
   fitting kinds.Texts t f e v h = cc
   fitting (kinds.Nodes c) t f e v h = cc
 
@@ -165,12 +193,29 @@ module _ (p : Program) (I : ℤ → Type 0) (T : List ℕ → Type 0) where
   kept _ _ (of_node c r h) = of_node c r h
   kept _ _ of_null = of_node (record { 0 = 0 }) Null null
 
--- the names of an expression that is read at a source node are those of the program
-pub record AreNames (p : Program) (N : Names) (n : ℕ) : Type 0 where
+-- the names of an expression at a place are those of the program, and stand for values of their types
+pub record AreNames (p : Program) (I : ℤ → Type 0) (T : List ℕ → Type 0) (N : Names) (q : Place) : Type 0 where
   pub grammar : N.grammar ≡ p.grammar
   pub attribute : (a : ℕ) (d : Attr) → N.attribute a ≡ Some d → declared_of p a ≡ Some d
   pub node : (k : ℕ) (c : ClassId) → N.node k ≡ Some c → IsAt p k c
-  pub this : (c : ClassId) → N.this ≡ Some c → IsAt p n c
+  pub this : (c : ClassId) → N.this ≡ Some c → IsNodeOf p c q.this
+  pub variables : (k : ℕ) (t : Kind) → slice_get N.variables k ≡ Some t → IsOf p I T (types.Of t) (named q.names k)
+
+-- a name more
+module _ (p : Program) (I : ℤ → Type 0) (T : List ℕ → Type 0) where
+  variable_more : (ts : List Kind) (vs : List Value) (t : Kind) (v : Value) → IsOf p I T (types.Of t) v → ((k : ℕ) (u : Kind) → slice_get ts k ≡ Some u → IsOf p I T (types.Of u) (named vs k))
+      → (k : ℕ) (u : Kind) → slice_get (t ∷ ts) k ≡ Some u → IsOf p I T (types.Of u) (named (v ∷ vs) k)
+  variable_more ts vs t v is all zero u e = let same : t ≡ u = cc in subst (λ (x : Kind). IsOf p I T (types.Of x) v) same is
+  variable_more ts vs t v is all (suc k) u e = all k u e
+
+  names_more : (N : Names) (q : Place) (t : Kind) (v : Value) → IsOf p I T (types.Of t) v → AreNames p I T N q → AreNames p I T (with_variable N t) (with_name q v)
+  names_more N q t v is names = record {
+    grammar = names.grammar;
+    attribute = names.attribute;
+    node = names.node;
+    this = names.this;
+    variables = variable_more N.variables q.names t v is names.variables;
+  }
 
 -- What is demanded are instances, and what comes of all demands is of a type, as long as each value that is demanded is admitted.
 module _ (p : Program) (I : ℤ → Type 0) (T : List ℕ → Type 0) (M : Instance → Value → Type 0) where
@@ -199,7 +244,7 @@ module _ (p : Program) (I : ℤ → Type 0) (T : List ℕ → Type 0) (M : Insta
     pub wrapped : (z : ℤ) → I (int_wrap w32 z)
     pub text : (n : ℕ) → T (text_of p n)
     pub empty : T []
-    pub plain : (a : ℕ) (d : Attr) → declared_of p a ≡ Some d → is_plain d.kind ≡ true
+    pub single : (a : ℕ) (d : Attr) → declared_of p a ≡ Some d → is_single d.kind ≡ true
     pub read : (a : ℕ) (d : Attr) (r : Reference) (v : Value) → declared_of p a ≡ Some d → M (Attribute a r NoArguments) v → IsOf p I T (types.Of d.kind) (as_kind d.kind v)
 
 -- nothing is an integer of 32 bits
@@ -208,18 +253,18 @@ unfolding int_wrap
 zero_wrapped = refl
 
 module _ (p : Program) (I : ℤ → Type 0) (T : List ℕ → Type 0) (M : Instance → Value → Type 0) (bounds : AreBounds p I T M) where
-  -- the default of a plain type
-  default_keeps : (k : Kind) → is_plain k ≡ true → IsOf p I T (types.Of k) (default_of k)
+  -- the default of a type
+  default_keeps : (k : Kind) → is_single k ≡ true → IsOf p I T (types.Of k) (default_of k)
   default_keeps kinds.Truth e = of_truth false
   default_keeps kinds.Int e = of_int (pos 0) (bounds.literal (pos 0) zero_wrapped)
   default_keeps kinds.Text e = of_text [] bounds.empty
-  default_keeps (kinds.Node c) e = cc
+  default_keeps (kinds.Node c) e = of_node c Null null
   default_keeps kinds.Texts e = cc
   default_keeps (kinds.Nodes c) e = cc
 
   -- a token
   decoded_keeps : (k : Kind) (o : Option ℕ) → is_plain k ≡ true → IsOf p I T (types.Of k) (decoded (text_of p) k o)
-  decoded_keeps k None e = default_keeps k e
+  decoded_keeps k None e = default_keeps k (plain_single k e)
   decoded_keeps kinds.Truth (Some v) e = of_truth _
   decoded_keeps kinds.Int (Some v) e = of_int _ (bounds.wrapped (pos v))
   decoded_keeps kinds.Text (Some v) e = of_text _ (bounds.text v)
@@ -228,7 +273,7 @@ module _ (p : Program) (I : ℤ → Type 0) (T : List ℕ → Type 0) (M : Insta
   decoded_keeps (kinds.Nodes c) (Some v) e = cc
 
   token_keeps : (t : Kind) (k : ℕ) (r : Reference) → is_plain t ≡ true → IsOf p I T (types.Of t) (token_at (world_of p) t k r)
-  token_keeps t k Null e = default_keeps t e
+  token_keeps t k Null e = default_keeps t (plain_single t e)
   token_keeps t k (At (Source n)) e = decoded_keeps t (token_in p.tree n k) e
 
   -- the length of a list
@@ -251,7 +296,7 @@ module _ (p : Program) (I : ℤ → Type 0) (T : List ℕ → Type 0) (M : Insta
   read_at_kind a d i e h f = (h, λ v m. subst (λ (o : Option Attr). IsOf p I T (types.Of d.kind) (as_kind (kind_or_truth (option_map (λ x. x.kind) o)) v)) (sym e) (f v m))
 
   call_keeps : (a : ℕ) (d : Attr) (r : Reference) → declared_of p a ≡ Some d → IsNodeOf p d.class r → Keeps p I T M (types.Of d.kind) (call_at (world_of p) a r)
-  call_keeps a d _ e null = subst (λ (o : Option Attr). IsOf p I T (types.Of d.kind) (default_of (kind_or_truth (option_map (λ x. x.kind) o)))) (sym e) (default_keeps d.kind (bounds.plain a d e))
+  call_keeps a d _ e null = subst (λ (o : Option Attr). IsOf p I T (types.Of d.kind) (default_of (kind_or_truth (option_map (λ x. x.kind) o)))) (sym e) (default_keeps d.kind (bounds.single a d e))
   call_keeps a d _ e (at {k = k} h) = read_at_kind a d (Attribute a (At (Source k)) NoArguments) e (of_attribute d h.class e h.of h.below) (λ v m. bounds.read a d (At (Source k)) v e m)
 
   -- a source node that the tree has
@@ -277,59 +322,100 @@ module _ (p : Program) (I : ℤ → Type 0) (T : List ℕ → Type 0) (M : Insta
     element_keeps c k x e _ (pos i) (at {k = n} h) = hung_keeps c n k i x e h (child_in p.tree n k i) refl
     element_keeps c k x e _ (negsuc i) (at h) = null
 
-    module _ (N : Names) (n : ℕ) (names : AreNames p N n) where
-      abbrev Meaning : Expression → Demands Instance Value
-      Meaning e = meaning_of (world_of p) e (record { this = At (Source n) })
+    -- a source node where it is of the class or below
+    cast_at : (c : ClassId) (k : ℕ) (o : Option ClassId) → class_of p k ≡ o → (b : Bool) → is_below p.grammar o c ≡ b → IsNodeOf p c (cond b (At (Source k)) Null)
+    cast_at c k o e false f = null
+    cast_at c k None e true f = cc
+    cast_at c k (Some d) e true f = at (record { class = d; of = e; below = f })
 
-      -- a component of the grammar of the names is one of the program's
-      of_grammar : (c : ClassId) (k : ℕ) (x : Component) → component_at N.grammar c.0 k ≡ Some x → component_at p.grammar c.0 k ≡ Some x
-      of_grammar c k x e = subst (λ (g : List Class). component_at g c.0 k ≡ Some x) names.grammar e
+    cast_keeps : (c : ClassId) (r : Reference) → IsNodeOf p c (cast_to (world_of p) c r)
+    cast_keeps c Null = null
+    cast_keeps c (At (Source k)) = cast_at c k (class_of p k) refl (is_below p.grammar (class_of p k) c) refl
 
-      -- what is behind a receiver of a class
-      on_receiver : (c : ClassId) (t : ValueType) (m : Demands Instance Value) (f : Reference → Demands Instance Value) → Keeps p I T M (of_class c) m → ((r : Reference) → IsNodeOf p c r → Keeps p I T M t (f r)) → Keeps p I T M t (next m (λ r. f (node r)))
-      on_receiver c t m f h g = behind p I T M (of_class c) t m (λ r. f (node r)) h (λ v o. on_node p I T c (λ (x : Value). Keeps p I T M t (f (node x))) v o g)
+    -- what a condition says at each element of a list
+    each_keeps : (o : Bool → Bool → Bool) (so_far : Bool) (element : ℕ → Value) (numbers : List ℕ) (f : Value → Demands Instance Value) → ((i : ℕ) → Keeps p I T M (types.Of kinds.Truth) (f (element i))) → Keeps p I T M (types.Of kinds.Truth) (at_each o so_far (map element numbers) f)
+    each_keeps o so_far element [] f h = of_truth so_far
+    each_keeps o so_far element (i ∷ numbers) f h =
+        behind p I T M (types.Of kinds.Truth) (types.Of kinds.Truth) (f (element i)) (λ v. at_each o (o so_far (truth v)) (map element numbers) f) (h i) (λ v q. each_keeps o (o so_far (truth v)) element numbers f h)
 
-      -- both sides, and then the operator
-      on_both : (t u w : ValueType) (o : Operator) (c d : Demands Instance Value) → Keeps p I T M t c → Keeps p I T M u d → ((x y : Value) → IsOf p I T w (operate o x y)) → Keeps p I T M w (next c (λ v. next d (λ x. Gives (operate o v x))))
-      on_both t u w o c d g h f = behind p I T M t w c (λ v. next d (λ x. Gives (operate o v x))) g (λ v q. behind p I T M u w d (λ x. Gives (operate o v x)) h (λ x r. f v x))
+    first_keeps : (c : ClassId) (element : ℕ → Value) (numbers : List ℕ) (f : Value → Demands Instance Value) → ((i : ℕ) → IsOf p I T (of_class c) (element i)) → ((i : ℕ) → Keeps p I T M (types.Of kinds.Truth) (f (element i))) → Keeps p I T M (of_class c) (first_with (map element numbers) f)
+    first_keeps c element [] f is h = of_node c Null null
+    first_keeps c element (i ∷ numbers) f is h =
+        let rest = first_with (map element numbers) f in
+        behind p I T M (types.Of kinds.Truth) (of_class c) (f (element i)) (λ v. cond (truth v) (Gives (element i)) rest) (h i)
+        (λ v q. one_of p I T M (of_class c) (Gives (element i)) rest (truth v) (is i) (first_keeps c element numbers f is h))
 
-      -- the truth value of the right side
-      on_truth : (d : Demands Instance Value) → Keeps p I T M (types.Of kinds.Truth) d → Keeps p I T M (types.Of kinds.Truth) (next d (λ w. Gives (Truth (truth w))))
-      on_truth d h = behind p I T M (types.Of kinds.Truth) (types.Of kinds.Truth) d (λ w. Gives (Truth (truth w))) h (λ v q. of_truth (truth v))
+    over_keeps : (q : Quantifier) (c : ClassId) (element : ℕ → Value) (numbers : List ℕ) (f : Value → Demands Instance Value) → ((i : ℕ) → IsOf p I T (of_class c) (element i)) → ((i : ℕ) → Keeps p I T M (types.Of kinds.Truth) (f (element i))) → Keeps p I T M (quantified_type q c) (over_elements q (map element numbers) f)
+    over_keeps Any c element numbers f is h = each_keeps (λ a b. a || b) false element numbers f h
+    over_keeps All c element numbers f is h = each_keeps (λ a b. a && b) true element numbers f h
+    over_keeps First c element numbers f is h = first_keeps c element numbers f is h
 
-      -- an expression, by the rule of its type
-      pub typed_keeps : {e : Expression} {t : ValueType} → HasType N e t → Keeps p I T M t (Meaning e)
-      typed_keeps (typed.truth b) = of_truth b
-      typed_keeps (typed.int z w) = of_int z (bounds.literal z w)
-      typed_keeps (typed.text k) = of_text _ (bounds.text k)
-      typed_keeps typed.null = of_null
-      typed_keeps (typed.this c e) = of_node c _ (at (names.this c e))
-      typed_keeps (typed.source k c e) = of_node c _ (source_known k c (names.node k c e))
-      typed_keeps (typed.child {e = e} c k x h s g) =
-          on_receiver c (of_class x.class) (Meaning e) (λ r. Gives (Node (child_at (world_of p) k r))) (typed_keeps h) (λ r o. of_node x.class _ (child_keeps c k x (of_grammar c k x s) r o))
-      typed_keeps (typed.element {e = e} {i = i} c k x h s g j) =
-          on_receiver c (of_class x.class) (Meaning e) (λ r. next (Meaning i) (λ z. Gives (Node (element_at (world_of p) k r (int z))))) (typed_keeps h)
-          (λ r o. behind p I T M (types.Of kinds.Int) (of_class x.class) (Meaning i) (λ z. Gives (Node (element_at (world_of p) k r (int z)))) (typed_keeps j) (λ z q. of_node x.class _ (element_keeps c k x (of_grammar c k x s) r (int z) o)))
-      typed_keeps (typed.count {e = e} c k x h s g) = on_receiver c (types.Of kinds.Int) (Meaning e) (λ r. Gives (Int (count_at (world_of p) k r))) (typed_keeps h) (λ r o. count_keeps k r)
-      typed_keeps (typed.has {e = e} c k x h s g) = on_receiver c (types.Of kinds.Truth) (Meaning e) (λ r. Gives (Truth (is_there (child_at (world_of p) k r)))) (typed_keeps h) (λ r o. of_truth _)
-      typed_keeps (typed.token {e = e} c k x t h s g) = on_receiver c (types.Of t) (Meaning e) (λ r. Gives (token_at (world_of p) t k r)) (typed_keeps h) (λ r o. token_keeps t k r (token_plain x.shape t g))
-      typed_keeps (typed.call {e = e} c a d h s b) =
-          on_receiver c (types.Of d.kind) (Meaning e) (λ r. call_at (world_of p) a r) (typed_keeps h)
-          (λ r o. call_keeps a d r (names.attribute a d s) (node_above p c d.class r (subst (λ (g : List Class). is_sub g c.0 d.class.0 ≡ true) names.grammar b) o))
-      typed_keeps (typed.not {e = e} h) = behind p I T M (types.Of kinds.Truth) (types.Of kinds.Truth) (Meaning e) (λ v. Gives (Truth (not (truth v)))) (typed_keeps h) (λ v q. of_truth _)
-      typed_keeps (typed.negate {e = e} h) =
-          behind p I T M (types.Of kinds.Int) (types.Of kinds.Int) (Meaning e) (λ v. Gives (Int (int_wrap w32 (neg_ℤ (int v))))) (typed_keeps h) (λ v q. of_int _ (bounds.wrapped _))
-      typed_keeps (typed.ints {a = a} {b = b} o k q g h) = on_both (types.Of kinds.Int) (types.Of kinds.Int) (types.Of k) o (Meaning a) (Meaning b) (typed_keeps g) (typed_keeps h) (ints_keep o k q)
-      typed_keeps (typed.equal {a = a} {b = b} t u g h q) = on_both t u (types.Of kinds.Truth) Equal (Meaning a) (Meaning b) (typed_keeps g) (typed_keeps h) (λ v w. of_truth _)
-      typed_keeps (typed.and {a = a} {b = b} g h) =
-          let right = next (Meaning b) (λ w. Gives (Truth (truth w))) in
-          behind p I T M (types.Of kinds.Truth) (types.Of kinds.Truth) (Meaning a) (λ v. cond (truth v) right (Gives (Truth false))) (typed_keeps g)
-          (λ v q. one_of p I T M (types.Of kinds.Truth) right (Gives (Truth false)) (truth v) (on_truth (Meaning b) (typed_keeps h)) (of_truth false))
-      typed_keeps (typed.or {a = a} {b = b} g h) =
-          let right = next (Meaning b) (λ w. Gives (Truth (truth w))) in
-          behind p I T M (types.Of kinds.Truth) (types.Of kinds.Truth) (Meaning a) (λ v. cond (truth v) (Gives (Truth true)) right) (typed_keeps g)
-          (λ v q. one_of p I T M (types.Of kinds.Truth) (Gives (Truth true)) right (truth v) (of_truth true) (on_truth (Meaning b) (typed_keeps h)))
-      typed_keeps (typed.choice {c = c} {a = a} {b = b} t u w f g h e) =
-          let same = subst (λ (x : List Class). common x t u ≡ Some w) names.grammar e in
-          behind p I T M (types.Of kinds.Truth) w (Meaning c) (λ v. cond (truth v) (Meaning a) (Meaning b)) (typed_keeps f)
-          (λ v q. one_of p I T M w (Meaning a) (Meaning b) (truth v) (widened p I T M t w (Meaning a) (common_left p I T t u w same) (typed_keeps g)) (widened p I T M u w (Meaning b) (common_right p I T t u w same) (typed_keeps h)))
+    -- over the elements of a receiver's list; null has none
+    elements_keep : (q : Quantifier) (c : ClassId) (k : ℕ) (x : Component) → component_at p.grammar c.0 k ≡ Some x → (f : Value → Demands Instance Value) → ((v : Value) → IsOf p I T (of_class x.class) v → Keeps p I T M (types.Of kinds.Truth) (f v)) → (r : Reference) → IsNodeOf p c r
+        → Keeps p I T M (quantified_type q x.class) (over_elements q (elements_at (world_of p) k r) f)
+    elements_keep q c k x e f h _ null = over_keeps q x.class (λ i. Node Null) [] f (λ i. of_node x.class Null null) (λ i. h (Node Null) (of_node x.class Null null))
+    elements_keep q c k x e f h _ (at {k = n} a) =
+        let is = λ (i : ℕ). of_node x.class _ (element_keeps c k x e (At (Source n)) (pos i) (at a)) in
+        over_keeps q x.class (λ i. Node (element_of p (Source n) k (pos i))) (range_with_len 0 (count_of p (Source n) k)) f is (λ i. h _ (is i))
+
+    abbrev Meaning : Place → Expression → Demands Instance Value
+    Meaning pl e = meaning_of (world_of p) e pl
+
+    -- a component of the grammar of the names is one of the program's
+    of_grammar : (g : List Class) → g ≡ p.grammar → (c : ClassId) (k : ℕ) (x : Component) → component_at g c.0 k ≡ Some x → component_at p.grammar c.0 k ≡ Some x
+    of_grammar g same c k x e = subst (λ (f : List Class). component_at f c.0 k ≡ Some x) same e
+
+    -- what is behind a receiver of a class
+    on_receiver : (c : ClassId) (t : ValueType) (m : Demands Instance Value) (f : Reference → Demands Instance Value) → Keeps p I T M (of_class c) m → ((r : Reference) → IsNodeOf p c r → Keeps p I T M t (f r)) → Keeps p I T M t (next m (λ r. f (node r)))
+    on_receiver c t m f h g = behind p I T M (of_class c) t m (λ r. f (node r)) h (λ v o. on_node p I T c (λ (x : Value). Keeps p I T M t (f (node x))) v o g)
+
+    -- both sides, and then the operator
+    on_both : (t u w : ValueType) (o : Operator) (c d : Demands Instance Value) → Keeps p I T M t c → Keeps p I T M u d → ((x y : Value) → IsOf p I T w (operate o x y)) → Keeps p I T M w (next c (λ v. next d (λ x. Gives (operate o v x))))
+    on_both t u w o c d g h f = behind p I T M t w c (λ v. next d (λ x. Gives (operate o v x))) g (λ v q. behind p I T M u w d (λ x. Gives (operate o v x)) h (λ x r. f v x))
+
+    -- the truth value of the right side
+    on_truth : (d : Demands Instance Value) → Keeps p I T M (types.Of kinds.Truth) d → Keeps p I T M (types.Of kinds.Truth) (next d (λ w. Gives (Truth (truth w))))
+    on_truth d h = behind p I T M (types.Of kinds.Truth) (types.Of kinds.Truth) d (λ w. Gives (Truth (truth w))) h (λ v q. of_truth (truth v))
+
+    -- an expression, by the rule of its type
+    pub typed_keeps : {N : Names} {e : Expression} {t : ValueType} → HasType N e t → (pl : Place) → AreNames p I T N pl → Keeps p I T M t (Meaning pl e)
+    typed_keeps (typed.truth b) pl ns = of_truth b
+    typed_keeps (typed.int z w) pl ns = of_int z (bounds.literal z w)
+    typed_keeps (typed.text k) pl ns = of_text _ (bounds.text k)
+    typed_keeps typed.null pl ns = of_null
+    typed_keeps (typed.this c e) pl ns = of_node c _ (ns.this c e)
+    typed_keeps (typed.variable k t e) pl ns = ns.variables k t e
+    typed_keeps (typed.source k c e) pl ns = of_node c _ (source_known k c (ns.node k c e))
+    typed_keeps (typed.child {e = e} c k x h s g) pl ns =
+        on_receiver c (of_class x.class) (Meaning pl e) (λ r. Gives (Node (child_at (world_of p) k r))) (typed_keeps h pl ns) (λ r o. of_node x.class _ (child_keeps c k x (of_grammar _ ns.grammar c k x s) r o))
+    typed_keeps (typed.element {e = e} {i = i} c k x h s g j) pl ns =
+        on_receiver c (of_class x.class) (Meaning pl e) (λ r. next (Meaning pl i) (λ z. Gives (Node (element_at (world_of p) k r (int z))))) (typed_keeps h pl ns)
+        (λ r o. behind p I T M (types.Of kinds.Int) (of_class x.class) (Meaning pl i) (λ z. Gives (Node (element_at (world_of p) k r (int z)))) (typed_keeps j pl ns) (λ z q. of_node x.class _ (element_keeps c k x (of_grammar _ ns.grammar c k x s) r (int z) o)))
+    typed_keeps (typed.count {e = e} c k x h s g) pl ns = on_receiver c (types.Of kinds.Int) (Meaning pl e) (λ r. Gives (Int (count_at (world_of p) k r))) (typed_keeps h pl ns) (λ r o. count_keeps k r)
+    typed_keeps (typed.has {e = e} c k x h s g) pl ns = on_receiver c (types.Of kinds.Truth) (Meaning pl e) (λ r. Gives (Truth (is_there (child_at (world_of p) k r)))) (typed_keeps h pl ns) (λ r o. of_truth _)
+    typed_keeps (typed.token {e = e} c k x t h s g) pl ns = on_receiver c (types.Of t) (Meaning pl e) (λ r. Gives (token_at (world_of p) t k r)) (typed_keeps h pl ns) (λ r o. token_keeps t k r (token_plain x.shape t g))
+    typed_keeps (typed.call {e = e} c a d h s b) pl ns =
+        on_receiver c (types.Of d.kind) (Meaning pl e) (λ r. call_at (world_of p) a r) (typed_keeps h pl ns)
+        (λ r o. call_keeps a d r (ns.attribute a d s) (node_above p c d.class r (subst (λ (g : List Class). is_sub g c.0 d.class.0 ≡ true) ns.grammar b) o))
+    typed_keeps (typed.cast {e = e} t c h n w) pl ns = behind p I T M t (of_class c) (Meaning pl e) (λ r. Gives (Node (cast_to (world_of p) c (node r)))) (typed_keeps h pl ns) (λ v o. of_node c _ (cast_keeps c (node v)))
+    typed_keeps (typed.instance_of {e = e} t c h n w) pl ns = behind p I T M t (types.Of kinds.Truth) (Meaning pl e) (λ r. Gives (Truth (is_instance (world_of p) c (node r)))) (typed_keeps h pl ns) (λ v o. of_truth _)
+    typed_keeps (typed.quantified {N = N} {e = e} {b = b} q c k x h s g f) pl ns =
+        on_receiver c (quantified_type q x.class) (Meaning pl e) (λ r. over_elements q (elements_at (world_of p) k r) (λ v. meaning_of (world_of p) b (with_name pl v))) (typed_keeps h pl ns)
+        (λ r o. elements_keep q c k x (of_grammar _ ns.grammar c k x s) (λ v. meaning_of (world_of p) b (with_name pl v)) (λ v i. typed_keeps f (with_name pl v) (names_more p I T N pl (kinds.Node x.class) v i ns)) r o)
+    typed_keeps (typed.not {e = e} h) pl ns = behind p I T M (types.Of kinds.Truth) (types.Of kinds.Truth) (Meaning pl e) (λ v. Gives (Truth (not (truth v)))) (typed_keeps h pl ns) (λ v q. of_truth _)
+    typed_keeps (typed.negate {e = e} h) pl ns =
+        behind p I T M (types.Of kinds.Int) (types.Of kinds.Int) (Meaning pl e) (λ v. Gives (Int (int_wrap w32 (neg_ℤ (int v))))) (typed_keeps h pl ns) (λ v q. of_int _ (bounds.wrapped _))
+    typed_keeps (typed.ints {a = a} {b = b} o k q g h) pl ns = on_both (types.Of kinds.Int) (types.Of kinds.Int) (types.Of k) o (Meaning pl a) (Meaning pl b) (typed_keeps g pl ns) (typed_keeps h pl ns) (ints_keep o k q)
+    typed_keeps (typed.equal {a = a} {b = b} t u g h q) pl ns = on_both t u (types.Of kinds.Truth) Equal (Meaning pl a) (Meaning pl b) (typed_keeps g pl ns) (typed_keeps h pl ns) (λ v w. of_truth _)
+    typed_keeps (typed.and {a = a} {b = b} g h) pl ns =
+        let right = next (Meaning pl b) (λ w. Gives (Truth (truth w))) in
+        behind p I T M (types.Of kinds.Truth) (types.Of kinds.Truth) (Meaning pl a) (λ v. cond (truth v) right (Gives (Truth false))) (typed_keeps g pl ns)
+        (λ v q. one_of p I T M (types.Of kinds.Truth) right (Gives (Truth false)) (truth v) (on_truth (Meaning pl b) (typed_keeps h pl ns)) (of_truth false))
+    typed_keeps (typed.or {a = a} {b = b} g h) pl ns =
+        let right = next (Meaning pl b) (λ w. Gives (Truth (truth w))) in
+        behind p I T M (types.Of kinds.Truth) (types.Of kinds.Truth) (Meaning pl a) (λ v. cond (truth v) (Gives (Truth true)) right) (typed_keeps g pl ns)
+        (λ v q. one_of p I T M (types.Of kinds.Truth) (Gives (Truth true)) right (truth v) (of_truth true) (on_truth (Meaning pl b) (typed_keeps h pl ns)))
+    typed_keeps (typed.choice {c = c} {a = a} {b = b} t u w f g h e) pl ns =
+        let same = subst (λ (x : List Class). common x t u ≡ Some w) ns.grammar e in
+        behind p I T M (types.Of kinds.Truth) w (Meaning pl c) (λ v. cond (truth v) (Meaning pl a) (Meaning pl b)) (typed_keeps f pl ns)
+        (λ v q. one_of p I T M w (Meaning pl a) (Meaning pl b) (truth v) (widened p I T M t w (Meaning pl a) (common_left p I T t u w same) (typed_keeps g pl ns)) (widened p I T M u w (Meaning pl b) (common_right p I T t u w same) (typed_keeps h pl ns)))

@@ -103,7 +103,7 @@ is_tree = record {
 }
 
 abbrev root : Place
-root = record { this = At (Source 0) }
+root = record { this = At (Source 0); names = [] }
 
 -- the instances at its source nodes
 instances : source_instances small ≡ at_source 0 0 ∷ at_source 1 1 ∷ at_source 1 2 ∷ at_source 1 3 ∷ Query 0 ∷ []

@@ -1,5 +1,5 @@
 -- The equations of the instances of a program, and the solution.
-use Rattle.std.specs.Prelude.{ℕ, ℤ, pos, negsuc, List, [], false, not, ◌==◌, Option, Some, None, slice_get, slice_index_or}
+use Rattle.std.specs.Prelude.{ℕ, ℤ, pos, negsuc, List, [], Bool, false, not, ◌==◌, Option, Some, None, slice_get, slice_index_or}
 use Rattle.std.specs.Int.{int_wrap}
 use Rattle.std.specs.Option.{option_and_then, option_map}
 use mir.Syntax.{w32}
@@ -9,6 +9,7 @@ use Rattle.attr_rules.specs.declared.kinds.Kind.TheVariants as kinds
 use Rattle.attr_rules.specs.Expression.{Expression}
 use Rattle.attr_rules.specs.Queries.{Query as Asked}
 use Rattle.attr_rules.specs.Rules.{Equation, equation_number}
+use Rattle.attr_rules.specs.Types.{is_below}
 use Rattle.solutions.specs.Asking.{Demands, Gives, next}
 use Rattle.solutions.specs.Rounds.{Equations, HasValue as HasValueOf}
 use Rattle.tree_arena.specs.Nodes.{child_in, count_in, token_in}
@@ -51,6 +52,10 @@ element_of p (Source n) k (negsuc i) = Null
 abbrev pub count_of : Program → NodeName → ℕ → ℕ
 count_of p (Source n) k = count_in p.tree n k
 
+-- a node of the tree, of the class or of a subclass
+abbrev pub is_of_class : Program → ClassId → NodeName → Bool
+is_of_class p c (Source k) = is_below p.grammar (class_of p k) c
+
 -- the text of a number; that of a number that no text has is the empty one
 abbrev pub text_of : Program → ℕ → List ℕ
 text_of p n = slice_index_or p.texts n []
@@ -64,7 +69,7 @@ abbrev pub token_of : Program → Kind → NodeName → ℕ → Value
 token_of p t (Source n) k = decoded (text_of p) t (token_in p.tree n k)
 
 abbrev pub world_of : Program → World
-world_of p = record { kind = attribute_kind p; text = text_of p; source = source_of p; child = child_of p; element = element_of p; count = count_of p; token = token_of p }
+world_of p = record { kind = attribute_kind p; text = text_of p; source = source_of p; child = child_of p; element = element_of p; count = count_of p; is_of = is_of_class p; token = token_of p }
 
 abbrev pub asked_kind : Asked → Kind
 asked_kind q = q.kind
@@ -78,15 +83,19 @@ kind_in p (Query q) = kind_or_truth (option_map asked_kind (slice_get p.queries 
 abbrev pub equation_for : Program → ℕ → ClassId → Option Equation
 equation_for p a c = option_and_then (slice_get p.rules.equations) (equation_number p.rules c a)
 
+-- a source node, without names
+abbrev pub place_at : ℕ → Place
+place_at k = record { this = At (Source k); names = [] }
+
 abbrev pub site_at : Program → ℕ → ℕ → Equation → Site
-site_at p a k e = record { body = e.body; kind = attribute_kind p a; place = record { this = At (Source k) } }
+site_at p a k e = record { body = e.body; kind = attribute_kind p a; place = place_at k }
 
 -- The equation of an instance. That of an attribute at a node is the one of the node's class, read at the node;
 -- that of a query is the query's expression, read at the root.
 abbrev pub equation_of : Program → Instance → Option Site
 equation_of p (Attribute a Null NoArguments) = None
 equation_of p (Attribute a (At (Source k)) NoArguments) = option_map (site_at p a k) (option_and_then (equation_for p a) (class_of p k))
-equation_of p (Query q) = option_map (λ e. record { body = e.body; kind = e.kind; place = record { this = At (Source 0) } }) (slice_get p.queries q)
+equation_of p (Query q) = option_map (λ e. record { body = e.body; kind = e.kind; place = place_at 0 }) (slice_get p.queries q)
 
 -- what an equation demands; an instance that the program doesn't have counts as null
 abbrev pub site_demands : World → Option Site → Demands Instance Value

@@ -1,13 +1,17 @@
 -- The meaning of an expression: what it demands, in order, and the value that comes of it.
-use Rattle.std.specs.Prelude.{ℕ, ℤ, pos, ◌+ℤ◌, ◌-ℤ◌, ◌*ℤ◌, neg_ℤ, int_lt, List, Bool, true, false, not, cond}
+use Rattle.std.specs.Prelude.{ℕ, zero, suc, ℤ, pos, ◌+ℤ◌, ◌-ℤ◌, ◌*ℤ◌, neg_ℤ, int_lt, List, [], ◌∷◌, map, Bool, true, false, not, cond, ◌&&◌, ◌||◌}
 use Rattle.std.specs.Int.{int_wrap}
+use Rattle.std.specs.List.{range_with_len}
 use Rattle.std.specs.Ordering.{int_eq}
 use Rattle.std.specs.Str.{bytes_eq}
 use mir.Syntax.{w32}
 use Rattle.attr_rules.specs.declared.kinds.Kind.{Kind}
+use Rattle.ast_grammar.specs.declared.grammar.ClassId.{ClassId}
 use Rattle.attr_rules.specs.declared.expression.Operator.{Operator}
 use Rattle.attr_rules.specs.declared.expression.Operator.TheVariants.{Add, Subtract, Multiply, Less, AtMost, Greater, AtLeast, Equal}
-use Rattle.attr_rules.specs.Expression.{Expression, Truth as TruthLiteral, Int as IntLiteral, Text as TextLiteral, Null as NullLiteral, This, Source as SourceNode, Child, Element, Count, Has, Token, Call, Not, Negate, Binary, And, Or, If}
+use Rattle.attr_rules.specs.declared.expression.Quantifier.{Quantifier}
+use Rattle.attr_rules.specs.declared.expression.Quantifier.TheVariants.{Any, All, First}
+use Rattle.attr_rules.specs.Expression.{Expression, Truth as TruthLiteral, Int as IntLiteral, Text as TextLiteral, Null as NullLiteral, This, Variable, Source as SourceNode, Child, Element, Count, Has, Token, Call, Cast, InstanceOf, Quantified, Not, Negate, Binary, And, Or, If}
 use Rattle.solutions.specs.Asking.{Demands, Gives, Needs, next}
 use Rattle.equation_law.specs.Names.{NodeName, Reference, Null, At, Instance, Attribute, NoArguments, same_reference}
 use Rattle.equation_law.specs.Values.{Value, Truth, Int, Text, Node, Texts, Nodes, truth, int, text, node, as_kind, default_of}
@@ -25,12 +29,25 @@ pub record World : Type 0 where
   pub element : NodeName → ℕ → ℤ → Reference
   -- how many elements the list has
   pub count : NodeName → ℕ → ℕ
+  -- whether a node is of the class or below
+  pub is_of : ClassId → NodeName → Bool
   -- the token of a node at a component, read at a type
   pub token : Kind → NodeName → ℕ → Value
 
--- where an expression is read: the node of the equation
+-- where an expression is read: the node of the equation, and the values of the names, by their numbers
 pub record Place : Type 0 where
   pub this : Reference
+  pub names : List Value
+
+-- with one name more, which comes first
+abbrev pub with_name : Place → Value → Place
+with_name p v = record { this = p.this; names = v ∷ p.names }
+
+-- the value of a name by its number; where there is none it is null
+abbrev pub named : List Value → ℕ → Value
+named [] k = Node Null
+named (v ∷ vs) zero = v
+named (v ∷ vs) (suc k) = named vs k
 
 -- two truth values, integers, texts or nodes are equal; null equals itself alone
 abbrev pub equal : Value → Value → Bool
@@ -76,6 +93,16 @@ abbrev pub count_at : World → ℕ → Reference → ℤ
 count_at W k Null = pos 0
 count_at W k (At n) = int_wrap w32 (pos (W.count n k))
 
+-- the elements of a list in their order; null has none
+abbrev pub elements_at : World → ℕ → Reference → List Value
+elements_at W k Null = []
+elements_at W k (At n) = map (λ i. Node (W.element n k (pos i))) (range_with_len 0 (W.count n k))
+
+-- the node where it is of the class or below; else null
+abbrev pub cast_to : World → ClassId → Reference → Reference
+cast_to W c Null = Null
+cast_to W c (At n) = cond (W.is_of c n) (At n) Null
+
 abbrev pub is_there : Reference → Bool
 is_there Null = false
 is_there (At n) = true
@@ -85,6 +112,25 @@ abbrev pub token_at : World → Kind → ℕ → Reference → Value
 token_at W t k Null = default_of t
 token_at W t k (At n) = W.token t n k
 
+abbrev pub is_instance : World → ClassId → Reference → Bool
+is_instance W c Null = false
+is_instance W c (At n) = W.is_of c n
+
+-- what a condition says at the elements, all of them, put together from the left
+abbrev pub at_each : (Bool → Bool → Bool) → Bool → List Value → (Value → Demands Instance Value) → Demands Instance Value
+at_each o so_far [] condition = Gives (Truth so_far)
+at_each o so_far (x ∷ xs) condition = next (condition x) (λ v. at_each o (o so_far (truth v)) xs condition)
+
+-- the first element at which a condition is true; where there is none it is null
+abbrev pub first_with : List Value → (Value → Demands Instance Value) → Demands Instance Value
+first_with [] condition = Gives (Node Null)
+first_with (x ∷ xs) condition = next (condition x) (λ v. cond (truth v) (Gives x) (first_with xs condition))
+
+abbrev pub over_elements : Quantifier → List Value → (Value → Demands Instance Value) → Demands Instance Value
+over_elements Any xs condition = at_each (λ a b. a || b) false xs condition
+over_elements All xs condition = at_each (λ a b. a && b) true xs condition
+over_elements First xs condition = first_with xs condition
+
 -- The parts are evaluated from the left. Of `&&`, `||` and `? :` only what is needed is.
 abbrev pub meaning_of : World → Expression → Place → Demands Instance Value
 meaning_of W (TruthLiteral b) p = Gives (Truth b)
@@ -92,6 +138,7 @@ meaning_of W (IntLiteral z) p = Gives (Int z)
 meaning_of W (TextLiteral n) p = Gives (Text (W.text n))
 meaning_of W NullLiteral p = Gives (Node Null)
 meaning_of W This p = Gives (Node p.this)
+meaning_of W (Variable k) p = Gives (named p.names k)
 meaning_of W (SourceNode k) p = Gives (Node (W.source k))
 meaning_of W (Child k e) p = next (meaning_of W e p) (λ r. Gives (Node (child_at W k (node r))))
 meaning_of W (Element k e i) p = next (meaning_of W e p) (λ r. next (meaning_of W i p) (λ z. Gives (Node (element_at W k (node r) (int z)))))
@@ -99,6 +146,9 @@ meaning_of W (Count k e) p = next (meaning_of W e p) (λ r. Gives (Int (count_at
 meaning_of W (Has k e) p = next (meaning_of W e p) (λ r. Gives (Truth (is_there (child_at W k (node r)))))
 meaning_of W (Token t k e) p = next (meaning_of W e p) (λ r. Gives (token_at W t k (node r)))
 meaning_of W (Call a e) p = next (meaning_of W e p) (λ r. call_at W a (node r))
+meaning_of W (Cast c e) p = next (meaning_of W e p) (λ r. Gives (Node (cast_to W c (node r))))
+meaning_of W (InstanceOf c e) p = next (meaning_of W e p) (λ r. Gives (Truth (is_instance W c (node r))))
+meaning_of W (Quantified q k e b) p = next (meaning_of W e p) (λ r. over_elements q (elements_at W k (node r)) (λ x. meaning_of W b (with_name p x)))
 meaning_of W (Not e) p = next (meaning_of W e p) (λ v. Gives (Truth (not (truth v))))
 meaning_of W (Negate e) p = next (meaning_of W e p) (λ v. Gives (Int (int_wrap w32 (neg_ℤ (int v)))))
 meaning_of W (Binary o a b) p = next (meaning_of W a p) (λ v. next (meaning_of W b p) (λ w. Gives (operate o v w)))

@@ -27,7 +27,7 @@ class_of p k = option_map (λ n. n.class) (slice_get p.tree k)
 
 -- what queries may name
 abbrev pub names_in : Program → Names
-names_in p = record { grammar = p.grammar; attribute = declared_of p; node = class_of p; this = class_of p 0 }
+names_in p = record { grammar = p.grammar; attribute = declared_of p; node = class_of p; this = class_of p 0; variables = [] }
 
 -- the nodes of a class and of its subclasses, by their numbers, from the k-th on
 abbrev pub nodes_of : List (Option ℕ) → List Node → ClassId → ℕ → List ℕ

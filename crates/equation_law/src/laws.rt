@@ -45,9 +45,9 @@ pub fn reach_is_demanded()
     ensures { (p : Program) (i j : Instance) (v : Value) → HasValue p i v → Chain p i j ↔ Demanded (equations_of p) i j }
 {}
 
-/// An instance of a program demands only instances of it.
+/// An instance of a program demands only instances of it, as long as the values that it reads are of their types.
 pub fn demands_instances()
-    ensures { (p : Program) → IsProgram p → (i j : Instance) → IsInstance p i → (A : Instance → Option Value) → Meets (Graph A) ((equations_of p).equation i) j → IsInstance p j }
+    ensures { (p : Program) → IsProgram p → (i j : Instance) → IsInstance p i → (A : Instance → Option Value) → Fits p A → Meets (Graph A) ((equations_of p).equation i) j → IsInstance p j }
 {}
 
 /// Well typed equations have values of their types: where the values of an assignment are of their instances' types, an instance of a
