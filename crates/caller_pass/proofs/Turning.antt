@@ -15,6 +15,7 @@ use Rattle.equation_law.specs.Program.{Program}
 use Rattle.equation_law.specs.Systems.{program_of}
 use Rattle.equation_law.specs.Values.{Value}
 use Rattle.equation_law.proofs.Demanded.{met_instances}
+use Rattle.equation_law.proofs.QueryValues.{value_typed}
 use Rattle.equation_law.proofs.Names.{same_instance_self}
 use Rattle.memo_cells.specs.declared.keys.Slot.{Slot}
 use Rattle.memo_cells.specs.declared.view.Frame.{Frame}
@@ -120,7 +121,7 @@ module _ (p : Program) (f : Frame) (good : IsProgram p) (same : p ≡ program_of
     leads = stuck_leads p w1 (instance_of top) (instance_of next) ds halts
 
     pub next_is : IsInstance p (instance_of next)
-    next_is = met_instances p good (instance_of top) (instance_of next) top_is (HasValue p) (halts_meets (λ k x a. a.1) halts)
+    next_is = met_instances p good (instance_of top) (instance_of next) top_is (HasValue p) (λ j v q a. value_typed p good j q v a) (halts_meets (λ k x a. a.1) halts)
 
     pub next_reached : Chain p i (instance_of next)
     next_reached = onwards (last_reached p f w1 i es top slot line) leads

@@ -2,7 +2,8 @@ mod expressions;
 mod program;
 mod rounds;
 
-use attr_rules::{AttrId, Kind, Operator, QueryEq, TExpr};
+use ast_grammar::ClassId;
+use attr_rules::{AttrId, Kind, Operator, Quantifier, QueryEq, TExpr};
 use equation_law::{Instance, NodeRef, Reader, System, Value};
 use program::X;
 use rag_io::{Memory, Place};
@@ -82,6 +83,25 @@ fn token(alloc: Global, kind: Kind, k: u32, receiver: TExpr) -> Result<TExpr, Fa
 
 fn call(alloc: Global, attribute: AttrId, receiver: TExpr) -> Result<TExpr, Failed> {
     Ok(TExpr::Call(attribute, HERE, Box::new(alloc, receiver)?))
+}
+
+fn cast(alloc: Global, class: u16, operand: TExpr) -> Result<TExpr, Failed> {
+    Ok(TExpr::Cast(ClassId(class), Box::new(alloc, operand)?))
+}
+
+fn instance_of(alloc: Global, class: u16, operand: TExpr) -> Result<TExpr, Failed> {
+    Ok(TExpr::InstanceOf(ClassId(class), Box::new(alloc, operand)?))
+}
+
+fn over(
+    alloc: Global,
+    form: Quantifier,
+    k: u32,
+    owner: TExpr,
+    condition: TExpr,
+) -> Result<TExpr, Failed> {
+    let owner = Box::new(alloc, owner)?;
+    Ok(TExpr::Quantified(form, k, owner, Box::new(alloc, condition)?))
 }
 
 // `@0.x()`, which has no value.

@@ -4,23 +4,26 @@ use Rattle.std.specs.Int.{int_wrap}
 use Rattle.std.specs.Result.{IsErr, IsErrAnd}
 use Rattle.std.proofs.lemmas.Result.{err_from_is_err_and}
 use mir.Syntax.{w32}
+use Rattle.ast_grammar.specs.declared.grammar.ClassId.{ClassId}
 use Rattle.attr_rules.specs.declared.expression.Operator.{Operator}
+use Rattle.attr_rules.specs.declared.expression.Quantifier.{Quantifier}
 use Rattle.attr_rules.specs.declared.expression.TExpr.{TExpr}
 use Rattle.attr_rules.specs.declared.kinds.Kind.{Kind}
-use Rattle.attr_rules.specs.Expression.{Expression, Child, Element, Count, Has, Token, Call, Not, Negate, Binary, And, Or, If, expression_of}
+use Rattle.attr_rules.specs.Expression.{Expression, Child, Element, Count, Has, Token, Call, Cast, InstanceOf, Quantified, Not, Negate, Binary, And, Or, If, expression_of}
 use Rattle.solutions.specs.Asking.{Demands, Gives, Ends, Halts, after, asks, at, gives, next}
 use Rattle.solutions.proofs.Runs.{ends_more}
 use Rattle.equation_law.specs.declared.coding.Value.{Value as CodedValue}
 use Rattle.equation_law.specs.declared.coding.Value.TheVariants as coded
 use Rattle.equation_law.specs.Codes.{reference_of, value_of}
 use Rattle.equation_law.specs.Equations.{text_of, world_of}
-use Rattle.equation_law.specs.Meaning.{call_at, child_at, count_at, element_at, is_there, operate, token_at}
+use Rattle.equation_law.specs.Meaning.{Place, call_at, cast_to, child_at, count_at, element_at, elements_at, is_instance, is_there, operate, over_elements, token_at}
 use Rattle.equation_law.specs.Names.{Instance}
 use Rattle.equation_law.specs.Program.{Program}
 use Rattle.equation_law.specs.Reading.{Grows, IsSound, Told}
 use Rattle.equation_law.specs.Values.{Value, Int, Node, Truth, int, node, truth}
 use Rattle.expr_eval.specs.declared.evaluation.Halt.{Halt}
 use Rattle.expr_eval.specs.declared.evaluation.Halt.TheVariants.{Need, Memory}
+use Rattle.expr_eval.specs.Elements.{OverReads, read_with}
 use Rattle.expr_eval.specs.Evaluating.{Answers, CallReads, Given, Reads, read_at}
 
 -- what it has it keeps
@@ -35,7 +38,7 @@ pub ends_next : {A : Instance → Value → Type 0} {c : Demands Instance Value}
 ends_next k gives f = f
 ends_next k (asks a e) f = asks a (ends_next k e f)
 
-halts_next : {A : Instance → Value → Type 0} {c : Demands Instance Value} (k : Value → Demands Instance Value) {v : Value} {j : Instance} {ds es : List Instance} → Ends A c v ds → Halts A (k v) j es → Halts A (next c k) j (ds ++ es)
+pub halts_next : {A : Instance → Value → Type 0} {c : Demands Instance Value} (k : Value → Demands Instance Value) {v : Value} {j : Instance} {ds es : List Instance} → Ends A c v ds → Halts A (k v) j es → Halts A (next c k) j (ds ++ es)
 halts_next k gives f = f
 halts_next k (asks a e) f = after a (halts_next k e f)
 
@@ -69,165 +72,187 @@ ReadsTruth t v = (texts : ℕ → List ℕ) → t ≡ truth (value_of texts v)
 tested : {S : Type 0} (p : Program) (s : Told S) (b t : Bool) (x y : Demands Instance Value) (res : Result CodedValue Halt) → t ≡ b → Answers p s (cond b x y) res → Answers p s (cond t x y) res
 tested p s b t x y res e a = subst (λ z. Answers p s (cond z x y) res) (sym e) a
 
-module _ {p : Program} {this : ℕ} where
+module _ {p : Program} {place : Place} where
   -- an expression that is kept in this form
-  pub said : {S : Type 0} {r s : Told S} {e f : TExpr} {res : Result CodedValue Halt} → e ≡ f → Reads p r s this (expression_of f) res → Reads p r s this (expression_of e) res
-  said {r = r} {s = s} {res = res} h a = subst (λ x. Reads p r s this (expression_of x) res) (sym h) a
+  pub said : {S : Type 0} {r s : Told S} {e f : TExpr} {res : Result CodedValue Halt} → e ≡ f → Reads p r s place (expression_of f) res → Reads p r s place (expression_of e) res
+  said {r = r} {s = s} {res = res} h a = subst (λ x. Reads p r s place (expression_of x) res) (sym h) a
 
   -- a part that lies in a box
-  pub boxed : {S : Type 0} {r s : Told S} {d a : TExpr} {res : Result CodedValue Halt} → d ≡ a → Reads p r s this (expression_of d) res → Reads p r s this (expression_of a) res
-  boxed {r = r} {s = s} {res = res} h a = subst (λ x. Reads p r s this (expression_of x) res) h a
+  pub boxed : {S : Type 0} {r s : Told S} {d a : TExpr} {res : Result CodedValue Halt} → d ≡ a → Reads p r s place (expression_of d) res → Reads p r s place (expression_of a) res
+  boxed {r = r} {s = s} {res = res} h a = subst (λ x. Reads p r s place (expression_of x) res) h a
 
   -- the answer of a part that is handed on
-  pub thrown : {S : Type 0} {r s : Told S} {e : Expression} {h : Halt} {res : Result CodedValue Halt} → IsErr res × IsErrAnd res (λ m. m ≡ h) → Reads p r s this e (Err h) → Reads p r s this e res
-  thrown {r = r} {s = s} {e = e} {res = res} f a = let g = err_from_is_err_and res f.1 in subst (Reads p r s this e) (sym (g.1 ∙ ap Err g.2)) a
+  pub thrown : {S : Type 0} {r s : Told S} {e : Expression} {h : Halt} {res : Result CodedValue Halt} → IsErr res × IsErrAnd res (λ m. m ≡ h) → Reads p r s place e (Err h) → Reads p r s place e res
+  thrown {r = r} {s = s} {e = e} {res = res} f a = let g = err_from_is_err_and res f.1 in subst (Reads p r s place e) (sym (g.1 ∙ ap Err g.2)) a
 
   -- a form without parts
-  pub leaf : {S : Type 0} {r : Told S} {e : Expression} {x : CodedValue} (w : Value) → IsSound p r → read_at p this e ≡ Gives w → value_of (text_of p) x ≡ w → Reads p r r this e (Ok x)
+  pub leaf : {S : Type 0} {r : Told S} {e : Expression} {x : CodedValue} (w : Value) → IsSound p r → read_at p place e ≡ Gives w → value_of (text_of p) x ≡ w → Reads p r r place e (Ok x)
   leaf {r = r} {e = e} {x = x} w h is v = record { kept = grows_self h; is = subst (λ c. Given p r c x) (sym is) (gives_value v) }
 
   -- a whole that begins with the part
-  stops : {S : Type 0} {r s : Told S} (whole part : Expression) (h : Halt) (k : Value → Demands Instance Value) → read_at p this whole ≡ next (read_at p this part) k → Reads p r s this part (Err h) → Reads p r s this whole (Err h)
-  stops {s = s} whole part h k b a = record { kept = a.kept; is = subst (λ c. Answers p s c (Err h)) (sym b) (part_err p s (read_at p this part) k h a.is) }
+  stops : {S : Type 0} {r s : Told S} (whole part : Expression) (h : Halt) (k : Value → Demands Instance Value) → read_at p place whole ≡ next (read_at p place part) k → Reads p r s place part (Err h) → Reads p r s place whole (Err h)
+  stops {s = s} whole part h k b a = record { kept = a.kept; is = subst (λ c. Answers p s c (Err h)) (sym b) (part_err p s (read_at p place part) k h a.is) }
 
   -- a whole goes on behind a part with a value
-  goes : {S : Type 0} {r m s : Told S} (whole part : Expression) (v : CodedValue) (res : Result CodedValue Halt) (k : Value → Demands Instance Value) → read_at p this whole ≡ next (read_at p this part) k → Reads p r m this part (Ok v) → Grows p m s
-      → Answers p s (k (value_of (text_of p) v)) res → Reads p r s this whole res
+  goes : {S : Type 0} {r m s : Told S} (whole part : Expression) (v : CodedValue) (res : Result CodedValue Halt) (k : Value → Demands Instance Value) → read_at p place whole ≡ next (read_at p place part) k → Reads p r m place part (Ok v) → Grows p m s
+      → Answers p s (k (value_of (text_of p) v)) res → Reads p r s place whole res
   goes {s = s} whole part v res k b a g n =
-      record { kept = grows_then a.kept g; is = subst (λ c. Answers p s c res) (sym b) (part_ok p s (read_at p this part) k v res (given_more g a.is) n) }
+      record { kept = grows_then a.kept g; is = subst (λ c. Answers p s c res) (sym b) (part_ok p s (read_at p place part) k v res (given_more g a.is) n) }
 
   -- and ends with a value
-  ends : {S : Type 0} {r s : Told S} (whole part : Expression) (v x : CodedValue) (k : Value → Demands Instance Value) → read_at p this whole ≡ next (read_at p this part) k → Reads p r s this part (Ok v) → (w : Value) → k (value_of (text_of p) v) ≡ Gives w
-      → value_of (text_of p) x ≡ w → Reads p r s this whole (Ok x)
+  ends : {S : Type 0} {r s : Told S} (whole part : Expression) (v x : CodedValue) (k : Value → Demands Instance Value) → read_at p place whole ≡ next (read_at p place part) k → Reads p r s place part (Ok v) → (w : Value) → k (value_of (text_of p) v) ≡ Gives w
+      → value_of (text_of p) x ≡ w → Reads p r s place whole (Ok x)
   ends {s = s} whole part v x k b a w is e = goes whole part v (Ok x) k b a (grows_self a.kept.sound) (subst (λ c. Given p s c x) (sym is) (gives_value e))
 
   -- what follows a first part begins with a second one
-  second_stops : {S : Type 0} {m s : Told S} (part : Expression) (h : Halt) (k : Value → Demands Instance Value) → Reads p m s this part (Err h) → Answers p s (next (read_at p this part) k) (Err h)
-  second_stops {s = s} part h k a = part_err p s (read_at p this part) k h a.is
+  second_stops : {S : Type 0} {m s : Told S} (part : Expression) (h : Halt) (k : Value → Demands Instance Value) → Reads p m s place part (Err h) → Answers p s (next (read_at p place part) k) (Err h)
+  second_stops {s = s} part h k a = part_err p s (read_at p place part) k h a.is
 
-  second_goes : {S : Type 0} {m s : Told S} (part : Expression) (v x : CodedValue) (k : Value → Demands Instance Value) → Reads p m s this part (Ok v) → (w : Value) → k (value_of (text_of p) v) ≡ Gives w → value_of (text_of p) x ≡ w
-      → Answers p s (next (read_at p this part) k) (Ok x)
-  second_goes {s = s} part v x k a w is e = part_ok p s (read_at p this part) k v (Ok x) a.is (subst (λ c. Given p s c x) (sym is) (gives_value e))
+  second_goes : {S : Type 0} {m s : Told S} (part : Expression) (v x : CodedValue) (k : Value → Demands Instance Value) → Reads p m s place part (Ok v) → (w : Value) → k (value_of (text_of p) v) ≡ Gives w → value_of (text_of p) x ≡ w
+      → Answers p s (next (read_at p place part) k) (Ok x)
+  second_goes {s = s} part v x k a w is e = part_ok p s (read_at p place part) k v (Ok x) a.is (subst (λ c. Given p s c x) (sym is) (gives_value e))
 
   -- a call
-  pub call_stops : {S : Type 0} {r s : Told S} {a : Expression} {h : Halt} {t : ℕ} → Reads p r s this a (Err h) → Reads p r s this (Call t a) (Err h)
+  pub call_stops : {S : Type 0} {r s : Told S} {a : Expression} {h : Halt} {t : ℕ} → Reads p r s place a (Err h) → Reads p r s place (Call t a) (Err h)
   call_stops {a = a} {h = h} {t = t} x = stops (Call t a) a h _ refl x
 
-  pub call_goes : {S : Type 0} {r m s : Told S} {a : Expression} {v : CodedValue} {t : ℕ} {res : Result CodedValue Halt} → Reads p r m this a (Ok v) → CallReads p m s t v res → Reads p r s this (Call t a) res
+  pub call_goes : {S : Type 0} {r m s : Told S} {a : Expression} {v : CodedValue} {t : ℕ} {res : Result CodedValue Halt} → Reads p r m place a (Ok v) → CallReads p m s t v res → Reads p r s place (Call t a) res
   call_goes {a = a} {v = v} {t = t} {res = res} x c = goes (Call t a) a v res _ refl x c.kept c.is
 
   -- the child of a receiver
-  pub child_stops : {S : Type 0} {r s : Told S} {a : Expression} {h : Halt} {k : ℕ} → Reads p r s this a (Err h) → Reads p r s this (Child k a) (Err h)
+  pub child_stops : {S : Type 0} {r s : Told S} {a : Expression} {h : Halt} {k : ℕ} → Reads p r s place a (Err h) → Reads p r s place (Child k a) (Err h)
   child_stops {a = a} {h = h} {k = k} x = stops (Child k a) a h _ refl x
 
-  pub child_goes : {S : Type 0} {r s : Told S} {a : Expression} {v x : CodedValue} {k : ℕ} → Reads p r s this a (Ok v) → value_of (text_of p) x ≡ Node (child_at (world_of p) k (node (value_of (text_of p) v))) → Reads p r s this (Child k a) (Ok x)
+  pub child_goes : {S : Type 0} {r s : Told S} {a : Expression} {v x : CodedValue} {k : ℕ} → Reads p r s place a (Ok v) → value_of (text_of p) x ≡ Node (child_at (world_of p) k (node (value_of (text_of p) v))) → Reads p r s place (Child k a) (Ok x)
   child_goes {a = a} {v = v} {x = x} {k = k} y e = ends (Child k a) a v x _ refl y _ refl e
 
+  -- a cast, and a test of a class
+  pub cast_stops : {S : Type 0} {r s : Told S} {a : Expression} {h : Halt} {k : ClassId} → Reads p r s place a (Err h) → Reads p r s place (Cast k a) (Err h)
+  cast_stops {a = a} {h = h} {k = k} x = stops (Cast k a) a h _ refl x
+
+  pub cast_goes : {S : Type 0} {r s : Told S} {a : Expression} {v x : CodedValue} {k : ClassId} → Reads p r s place a (Ok v) → value_of (text_of p) x ≡ Node (cast_to (world_of p) k (node (value_of (text_of p) v))) → Reads p r s place (Cast k a) (Ok x)
+  cast_goes {a = a} {v = v} {x = x} {k = k} y e = ends (Cast k a) a v x _ refl y _ refl e
+
+  pub instance_stops : {S : Type 0} {r s : Told S} {a : Expression} {h : Halt} {k : ClassId} → Reads p r s place a (Err h) → Reads p r s place (InstanceOf k a) (Err h)
+  instance_stops {a = a} {h = h} {k = k} x = stops (InstanceOf k a) a h _ refl x
+
+  pub instance_goes : {S : Type 0} {r s : Told S} {a : Expression} {v x : CodedValue} {k : ClassId} → Reads p r s place a (Ok v) → value_of (text_of p) x ≡ Truth (is_instance (world_of p) k (node (value_of (text_of p) v))) → Reads p r s place (InstanceOf k a) (Ok x)
+  instance_goes {a = a} {v = v} {x = x} {k = k} y e = ends (InstanceOf k a) a v x _ refl y _ refl e
+
+  -- a form over the elements of a receiver's list
+  pub over_stops : {S : Type 0} {r s : Told S} {a b : Expression} {h : Halt} {q : Quantifier} {k : ℕ} → Reads p r s place a (Err h) → Reads p r s place (Quantified q k a b) (Err h)
+  over_stops {a = a} {b = b} {h = h} {q = q} {k = k} x = stops (Quantified q k a b) a h _ refl x
+
+  pub over_goes : {S : Type 0} {r m s : Told S} {a b : Expression} {v : CodedValue} {q : Quantifier} {k : ℕ} {xs : List Value} {res : Result CodedValue Halt} → Reads p r m place a (Ok v) → xs ≡ elements_at (world_of p) k (node (value_of (text_of p) v))
+      → OverReads p m s place (over_elements q xs) b res → Reads p r s place (Quantified q k a b) res
+  over_goes {s = s} {a = a} {b = b} {v = v} {q = q} {k = k} {res = res} x e c =
+      goes (Quantified q k a b) a v res _ refl x c.kept (subst (λ (ys : List Value). Answers p s (over_elements q ys (read_with p place b)) res) e c.is)
+
   -- an element of the list of a receiver
-  pub element_stops : {S : Type 0} {r s : Told S} {a b : Expression} {h : Halt} {k : ℕ} → Reads p r s this a (Err h) → Reads p r s this (Element k a b) (Err h)
+  pub element_stops : {S : Type 0} {r s : Told S} {a b : Expression} {h : Halt} {k : ℕ} → Reads p r s place a (Err h) → Reads p r s place (Element k a b) (Err h)
   element_stops {a = a} {b = b} {h = h} {k = k} x = stops (Element k a b) a h _ refl x
 
-  pub element_stops_at : {S : Type 0} {r m s : Told S} {a b : Expression} {v : CodedValue} {h : Halt} {k : ℕ} → Reads p r m this a (Ok v) → Reads p m s this b (Err h) → Reads p r s this (Element k a b) (Err h)
+  pub element_stops_at : {S : Type 0} {r m s : Told S} {a b : Expression} {v : CodedValue} {h : Halt} {k : ℕ} → Reads p r m place a (Ok v) → Reads p m s place b (Err h) → Reads p r s place (Element k a b) (Err h)
   element_stops_at {a = a} {b = b} {v = v} {h = h} {k = k} x y = goes (Element k a b) a v (Err h) _ refl x y.kept (second_stops b h _ y)
 
-  pub element_goes : {S : Type 0} {r m s : Told S} {a b : Expression} {v w x : CodedValue} {k : ℕ} → Reads p r m this a (Ok v) → Reads p m s this b (Ok w) → value_of (text_of p) x ≡ Node (element_at (world_of p) k (node (value_of (text_of p) v)) (int (value_of (text_of p) w)))
-      → Reads p r s this (Element k a b) (Ok x)
+  pub element_goes : {S : Type 0} {r m s : Told S} {a b : Expression} {v w x : CodedValue} {k : ℕ} → Reads p r m place a (Ok v) → Reads p m s place b (Ok w) → value_of (text_of p) x ≡ Node (element_at (world_of p) k (node (value_of (text_of p) v)) (int (value_of (text_of p) w)))
+      → Reads p r s place (Element k a b) (Ok x)
   element_goes {a = a} {b = b} {v = v} {w = w} {x = x} {k = k} y z e = goes (Element k a b) a v (Ok x) _ refl y z.kept (second_goes b w x _ z _ refl e)
 
   -- how many elements a list has
-  pub count_stops : {S : Type 0} {r s : Told S} {a : Expression} {h : Halt} {k : ℕ} → Reads p r s this a (Err h) → Reads p r s this (Count k a) (Err h)
+  pub count_stops : {S : Type 0} {r s : Told S} {a : Expression} {h : Halt} {k : ℕ} → Reads p r s place a (Err h) → Reads p r s place (Count k a) (Err h)
   count_stops {a = a} {h = h} {k = k} x = stops (Count k a) a h _ refl x
 
-  pub count_goes : {S : Type 0} {r s : Told S} {a : Expression} {v x : CodedValue} {k : ℕ} → Reads p r s this a (Ok v) → value_of (text_of p) x ≡ Int (count_at (world_of p) k (node (value_of (text_of p) v))) → Reads p r s this (Count k a) (Ok x)
+  pub count_goes : {S : Type 0} {r s : Told S} {a : Expression} {v x : CodedValue} {k : ℕ} → Reads p r s place a (Ok v) → value_of (text_of p) x ≡ Int (count_at (world_of p) k (node (value_of (text_of p) v))) → Reads p r s place (Count k a) (Ok x)
   count_goes {a = a} {v = v} {x = x} {k = k} y e = ends (Count k a) a v x _ refl y _ refl e
 
   -- whether there is a child
-  pub has_stops : {S : Type 0} {r s : Told S} {a : Expression} {h : Halt} {k : ℕ} → Reads p r s this a (Err h) → Reads p r s this (Has k a) (Err h)
+  pub has_stops : {S : Type 0} {r s : Told S} {a : Expression} {h : Halt} {k : ℕ} → Reads p r s place a (Err h) → Reads p r s place (Has k a) (Err h)
   has_stops {a = a} {h = h} {k = k} x = stops (Has k a) a h _ refl x
 
-  pub has_goes : {S : Type 0} {r s : Told S} {a : Expression} {v x : CodedValue} {k : ℕ} → Reads p r s this a (Ok v) → value_of (text_of p) x ≡ Truth (is_there (child_at (world_of p) k (node (value_of (text_of p) v)))) → Reads p r s this (Has k a) (Ok x)
+  pub has_goes : {S : Type 0} {r s : Told S} {a : Expression} {v x : CodedValue} {k : ℕ} → Reads p r s place a (Ok v) → value_of (text_of p) x ≡ Truth (is_there (child_at (world_of p) k (node (value_of (text_of p) v)))) → Reads p r s place (Has k a) (Ok x)
   has_goes {a = a} {v = v} {x = x} {k = k} y e = ends (Has k a) a v x _ refl y _ refl e
 
   -- the token of a receiver
-  pub token_stops : {S : Type 0} {r s : Told S} {a : Expression} {h : Halt} {t : Kind} {k : ℕ} → Reads p r s this a (Err h) → Reads p r s this (Token t k a) (Err h)
+  pub token_stops : {S : Type 0} {r s : Told S} {a : Expression} {h : Halt} {t : Kind} {k : ℕ} → Reads p r s place a (Err h) → Reads p r s place (Token t k a) (Err h)
   token_stops {a = a} {h = h} {t = t} {k = k} x = stops (Token t k a) a h _ refl x
 
-  pub token_goes : {S : Type 0} {r s : Told S} {a : Expression} {v x : CodedValue} {t : Kind} {k : ℕ} → Reads p r s this a (Ok v) → value_of (text_of p) x ≡ token_at (world_of p) t k (node (value_of (text_of p) v)) → Reads p r s this (Token t k a) (Ok x)
+  pub token_goes : {S : Type 0} {r s : Told S} {a : Expression} {v x : CodedValue} {t : Kind} {k : ℕ} → Reads p r s place a (Ok v) → value_of (text_of p) x ≡ token_at (world_of p) t k (node (value_of (text_of p) v)) → Reads p r s place (Token t k a) (Ok x)
   token_goes {a = a} {v = v} {x = x} {t = t} {k = k} y e = ends (Token t k a) a v x _ refl y _ refl e
 
   -- a denial
-  pub not_stops : {S : Type 0} {r s : Told S} {a : Expression} {h : Halt} → Reads p r s this a (Err h) → Reads p r s this (Not a) (Err h)
+  pub not_stops : {S : Type 0} {r s : Told S} {a : Expression} {h : Halt} → Reads p r s place a (Err h) → Reads p r s place (Not a) (Err h)
   not_stops {a = a} {h = h} x = stops (Not a) a h _ refl x
 
-  pub not_goes : {S : Type 0} {r s : Told S} {a : Expression} {v x : CodedValue} → Reads p r s this a (Ok v) → ((texts : ℕ → List ℕ) → value_of texts x ≡ Truth (not (truth (value_of texts v)))) → Reads p r s this (Not a) (Ok x)
+  pub not_goes : {S : Type 0} {r s : Told S} {a : Expression} {v x : CodedValue} → Reads p r s place a (Ok v) → ((texts : ℕ → List ℕ) → value_of texts x ≡ Truth (not (truth (value_of texts v)))) → Reads p r s place (Not a) (Ok x)
   not_goes {a = a} {v = v} {x = x} y e = ends (Not a) a v x _ refl y _ refl (e (text_of p))
 
   -- a change of sign
-  pub negate_stops : {S : Type 0} {r s : Told S} {a : Expression} {h : Halt} → Reads p r s this a (Err h) → Reads p r s this (Negate a) (Err h)
+  pub negate_stops : {S : Type 0} {r s : Told S} {a : Expression} {h : Halt} → Reads p r s place a (Err h) → Reads p r s place (Negate a) (Err h)
   negate_stops {a = a} {h = h} x = stops (Negate a) a h _ refl x
 
-  pub negate_goes : {S : Type 0} {r s : Told S} {a : Expression} {v x : CodedValue} → Reads p r s this a (Ok v) → ((texts : ℕ → List ℕ) → value_of texts x ≡ Int (int_wrap w32 (neg_ℤ (int (value_of texts v))))) → Reads p r s this (Negate a) (Ok x)
+  pub negate_goes : {S : Type 0} {r s : Told S} {a : Expression} {v x : CodedValue} → Reads p r s place a (Ok v) → ((texts : ℕ → List ℕ) → value_of texts x ≡ Int (int_wrap w32 (neg_ℤ (int (value_of texts v))))) → Reads p r s place (Negate a) (Ok x)
   negate_goes {a = a} {v = v} {x = x} y e = ends (Negate a) a v x _ refl y _ refl (e (text_of p))
 
   -- a binary operator
-  pub binary_stops : {S : Type 0} {r s : Told S} {a b : Expression} {h : Halt} {o : Operator} → Reads p r s this a (Err h) → Reads p r s this (Binary o a b) (Err h)
+  pub binary_stops : {S : Type 0} {r s : Told S} {a b : Expression} {h : Halt} {o : Operator} → Reads p r s place a (Err h) → Reads p r s place (Binary o a b) (Err h)
   binary_stops {a = a} {b = b} {h = h} {o = o} x = stops (Binary o a b) a h _ refl x
 
-  pub binary_stops_right : {S : Type 0} {r m s : Told S} {a b : Expression} {v : CodedValue} {h : Halt} {o : Operator} → Reads p r m this a (Ok v) → Reads p m s this b (Err h) → Reads p r s this (Binary o a b) (Err h)
+  pub binary_stops_right : {S : Type 0} {r m s : Told S} {a b : Expression} {v : CodedValue} {h : Halt} {o : Operator} → Reads p r m place a (Ok v) → Reads p m s place b (Err h) → Reads p r s place (Binary o a b) (Err h)
   binary_stops_right {a = a} {b = b} {v = v} {h = h} {o = o} x y = goes (Binary o a b) a v (Err h) _ refl x y.kept (second_stops b h _ y)
 
-  pub binary_goes : {S : Type 0} {r m s : Told S} {a b : Expression} {v w x : CodedValue} {o : Operator} → Reads p r m this a (Ok v) → Reads p m s this b (Ok w) → value_of (text_of p) x ≡ operate o (value_of (text_of p) v) (value_of (text_of p) w)
-      → Reads p r s this (Binary o a b) (Ok x)
+  pub binary_goes : {S : Type 0} {r m s : Told S} {a b : Expression} {v w x : CodedValue} {o : Operator} → Reads p r m place a (Ok v) → Reads p m s place b (Ok w) → value_of (text_of p) x ≡ operate o (value_of (text_of p) v) (value_of (text_of p) w)
+      → Reads p r s place (Binary o a b) (Ok x)
   binary_goes {a = a} {b = b} {v = v} {w = w} {x = x} {o = o} y z e = goes (Binary o a b) a v (Ok x) _ refl y z.kept (second_goes b w x _ z _ refl e)
 
   -- `&&`
-  pub and_stops : {S : Type 0} {r s : Told S} {a b : Expression} {h : Halt} → Reads p r s this a (Err h) → Reads p r s this (And a b) (Err h)
+  pub and_stops : {S : Type 0} {r s : Told S} {a b : Expression} {h : Halt} → Reads p r s place a (Err h) → Reads p r s place (And a b) (Err h)
   and_stops {a = a} {b = b} {h = h} x = stops (And a b) a h _ refl x
 
   -- `&&` that ends on the left
-  pub and_ends : {S : Type 0} {r s : Told S} {a b : Expression} {v : CodedValue} {d : Bool} → Reads p r s this a (Ok v) → ReadsTruth d v → d ≡ false → Reads p r s this (And a b) (Ok (coded.Truth d))
+  pub and_ends : {S : Type 0} {r s : Told S} {a b : Expression} {v : CodedValue} {d : Bool} → Reads p r s place a (Ok v) → ReadsTruth d v → d ≡ false → Reads p r s place (And a b) (Ok (coded.Truth d))
   and_ends {s = s} {a = a} {b = b} {v = v} {d = d} x e f =
       goes (And a b) a v (Ok (coded.Truth d)) _ refl x (grows_self x.kept.sound) (tested p s false (truth (value_of (text_of p) v)) _ _ (Ok (coded.Truth d)) (sym (e (text_of p)) ∙ f) (gives_value (ap Truth f)))
 
   -- `&&` that is stuck on the right
-  pub and_stops_right : {S : Type 0} {r m s : Told S} {a b : Expression} {v : CodedValue} {h : Halt} {d : Bool} → Reads p r m this a (Ok v) → ReadsTruth d v → d ≡ true → Reads p m s this b (Err h) → Reads p r s this (And a b) (Err h)
+  pub and_stops_right : {S : Type 0} {r m s : Told S} {a b : Expression} {v : CodedValue} {h : Halt} {d : Bool} → Reads p r m place a (Ok v) → ReadsTruth d v → d ≡ true → Reads p m s place b (Err h) → Reads p r s place (And a b) (Err h)
   and_stops_right {s = s} {a = a} {b = b} {v = v} {h = h} {d = d} x e f y =
       goes (And a b) a v (Err h) _ refl x y.kept (tested p s true (truth (value_of (text_of p) v)) _ _ (Err h) (sym (e (text_of p)) ∙ f) (second_stops b h _ y))
 
   -- `&&` that ends on the right
-  pub and_goes : {S : Type 0} {r m s : Told S} {a b : Expression} {v w : CodedValue} {d t : Bool} → Reads p r m this a (Ok v) → ReadsTruth d v → d ≡ true → Reads p m s this b (Ok w) → ReadsTruth t w → Reads p r s this (And a b) (Ok (coded.Truth t))
+  pub and_goes : {S : Type 0} {r m s : Told S} {a b : Expression} {v w : CodedValue} {d t : Bool} → Reads p r m place a (Ok v) → ReadsTruth d v → d ≡ true → Reads p m s place b (Ok w) → ReadsTruth t w → Reads p r s place (And a b) (Ok (coded.Truth t))
   and_goes {s = s} {a = a} {b = b} {v = v} {w = w} {t = t} x e f y g =
       goes (And a b) a v (Ok (coded.Truth t)) _ refl x y.kept
       (tested p s true (truth (value_of (text_of p) v)) _ _ (Ok (coded.Truth t)) (sym (e (text_of p)) ∙ f) (second_goes b w (coded.Truth t) _ y _ refl (ap Truth (g (text_of p)))))
 
   -- `||`
-  pub or_stops : {S : Type 0} {r s : Told S} {a b : Expression} {h : Halt} → Reads p r s this a (Err h) → Reads p r s this (Or a b) (Err h)
+  pub or_stops : {S : Type 0} {r s : Told S} {a b : Expression} {h : Halt} → Reads p r s place a (Err h) → Reads p r s place (Or a b) (Err h)
   or_stops {a = a} {b = b} {h = h} x = stops (Or a b) a h _ refl x
 
   -- `||` that ends on the left
-  pub or_ends : {S : Type 0} {r s : Told S} {a b : Expression} {v : CodedValue} {d : Bool} → Reads p r s this a (Ok v) → ReadsTruth d v → d ≡ true → Reads p r s this (Or a b) (Ok (coded.Truth d))
+  pub or_ends : {S : Type 0} {r s : Told S} {a b : Expression} {v : CodedValue} {d : Bool} → Reads p r s place a (Ok v) → ReadsTruth d v → d ≡ true → Reads p r s place (Or a b) (Ok (coded.Truth d))
   or_ends {s = s} {a = a} {b = b} {v = v} {d = d} x e f =
       goes (Or a b) a v (Ok (coded.Truth d)) _ refl x (grows_self x.kept.sound) (tested p s true (truth (value_of (text_of p) v)) _ _ (Ok (coded.Truth d)) (sym (e (text_of p)) ∙ f) (gives_value (ap Truth f)))
 
   -- `||` that is stuck on the right
-  pub or_stops_right : {S : Type 0} {r m s : Told S} {a b : Expression} {v : CodedValue} {h : Halt} {d : Bool} → Reads p r m this a (Ok v) → ReadsTruth d v → d ≡ false → Reads p m s this b (Err h) → Reads p r s this (Or a b) (Err h)
+  pub or_stops_right : {S : Type 0} {r m s : Told S} {a b : Expression} {v : CodedValue} {h : Halt} {d : Bool} → Reads p r m place a (Ok v) → ReadsTruth d v → d ≡ false → Reads p m s place b (Err h) → Reads p r s place (Or a b) (Err h)
   or_stops_right {s = s} {a = a} {b = b} {v = v} {h = h} {d = d} x e f y =
       goes (Or a b) a v (Err h) _ refl x y.kept (tested p s false (truth (value_of (text_of p) v)) _ _ (Err h) (sym (e (text_of p)) ∙ f) (second_stops b h _ y))
 
   -- `||` that ends on the right
-  pub or_goes : {S : Type 0} {r m s : Told S} {a b : Expression} {v w : CodedValue} {d t : Bool} → Reads p r m this a (Ok v) → ReadsTruth d v → d ≡ false → Reads p m s this b (Ok w) → ReadsTruth t w → Reads p r s this (Or a b) (Ok (coded.Truth t))
+  pub or_goes : {S : Type 0} {r m s : Told S} {a b : Expression} {v w : CodedValue} {d t : Bool} → Reads p r m place a (Ok v) → ReadsTruth d v → d ≡ false → Reads p m s place b (Ok w) → ReadsTruth t w → Reads p r s place (Or a b) (Ok (coded.Truth t))
   or_goes {s = s} {a = a} {b = b} {v = v} {w = w} {t = t} x e f y g =
       goes (Or a b) a v (Ok (coded.Truth t)) _ refl x y.kept
       (tested p s false (truth (value_of (text_of p) v)) _ _ (Ok (coded.Truth t)) (sym (e (text_of p)) ∙ f) (second_goes b w (coded.Truth t) _ y _ refl (ap Truth (g (text_of p)))))
 
   -- a choice
-  pub if_stops : {S : Type 0} {r s : Told S} {c a b : Expression} {h : Halt} → Reads p r s this c (Err h) → Reads p r s this (If c a b) (Err h)
+  pub if_stops : {S : Type 0} {r s : Told S} {c a b : Expression} {h : Halt} → Reads p r s place c (Err h) → Reads p r s place (If c a b) (Err h)
   if_stops {c = c} {a = a} {b = b} {h = h} x = stops (If c a b) c h _ refl x
 
   -- a choice of the first part
-  pub if_then : {S : Type 0} {r m s : Told S} {c a b : Expression} {v : CodedValue} {res : Result CodedValue Halt} {d : Bool} → Reads p r m this c (Ok v) → ReadsTruth d v → d ≡ true → Reads p m s this a res → Reads p r s this (If c a b) res
+  pub if_then : {S : Type 0} {r m s : Told S} {c a b : Expression} {v : CodedValue} {res : Result CodedValue Halt} {d : Bool} → Reads p r m place c (Ok v) → ReadsTruth d v → d ≡ true → Reads p m s place a res → Reads p r s place (If c a b) res
   if_then {s = s} {c = c} {a = a} {b = b} {v = v} {res = res} x e f y = goes (If c a b) c v res _ refl x y.kept (tested p s true (truth (value_of (text_of p) v)) _ _ res (sym (e (text_of p)) ∙ f) y.is)
 
   -- a choice of the second part
-  pub if_otherwise : {S : Type 0} {r m s : Told S} {c a b : Expression} {v : CodedValue} {res : Result CodedValue Halt} {d : Bool} → Reads p r m this c (Ok v) → ReadsTruth d v → d ≡ false → Reads p m s this b res → Reads p r s this (If c a b) res
+  pub if_otherwise : {S : Type 0} {r m s : Told S} {c a b : Expression} {v : CodedValue} {res : Result CodedValue Halt} {d : Bool} → Reads p r m place c (Ok v) → ReadsTruth d v → d ≡ false → Reads p m s place b res → Reads p r s place (If c a b) res
   if_otherwise {s = s} {c = c} {a = a} {b = b} {v = v} {res = res} x e f y = goes (If c a b) c v res _ refl x y.kept (tested p s false (truth (value_of (text_of p) v)) _ _ res (sym (e (text_of p)) ∙ f) y.is)

@@ -14,8 +14,8 @@ use Rattle.solutions.specs.Asking.{Demands, Ends, Gives, gives}
 use Rattle.equation_law.specs.declared.coding.EqSite.{EqSite}
 use Rattle.equation_law.specs.declared.coding.Value.{Value as CodedValue}
 use Rattle.equation_law.specs.Codes.{reference_of, value_of}
-use Rattle.equation_law.specs.Equations.{Site, attribute_kind, equation_for, equation_of, equations_of, site_at, site_demands, text_of, world_of}
-use Rattle.equation_law.specs.Meaning.{meaning_of}
+use Rattle.equation_law.specs.Equations.{Site, attribute_kind, equation_for, equation_of, equations_of, place_at, site_at, site_demands, text_of, world_of}
+use Rattle.equation_law.specs.Meaning.{Place, meaning_of}
 use Rattle.equation_law.specs.Names.{At, Attribute, Instance, NoArguments, Null, Query, Reference, Source}
 use Rattle.equation_law.specs.Program.{Program, class_of}
 use Rattle.equation_law.specs.Reading.{Grows, IsSound, Told}
@@ -26,8 +26,12 @@ use Rattle.expr_eval.specs.declared.evaluation.Halt.TheVariants.{Need, Memory}
 use Rattle.expr_eval.specs.declared.sites.Turn.{Turn}
 use Rattle.expr_eval.specs.declared.sites.Turn.TheVariants as turns
 use Rattle.expr_eval.specs.Evaluating.{AnswersTurn, Evaluates, Reads, read_at}
-use Rattle.expr_eval.specs.Sites.{IsSite, IsTurned, TurnAs, expression_or_null, query_reads, site_reads}
+use Rattle.expr_eval.specs.Sites.{IsSite, IsTurned, TurnAs, expression_or_null, query_reads, site_place, site_reads}
 use Rattle.expr_eval.proofs.Forms.{ends_next, gives_value, grows_self, halts_first}
+
+-- a place without names
+abbrev at_reference : Reference → Place
+at_reference r = record { this = r; names = [] }
 
 -- the equation of an attribute at a node
 pub site_found : (p : Program) (rules : RuleSet) (a n m e : ℕ) (c : ClassId) → At (Source m) ≡ reference_of n → Some c ≡ class_of p m → rules ≡ p.rules → Some e ≡ equation_number rules c a → e < length rules.equations
@@ -38,7 +42,7 @@ site_found p rules a n m e c at of same number within =
     let whole : equation_of p (Attribute a (At (Source m)) NoArguments) ≡ Some (site_at p a m found.0) =
     ap (λ (o : Option ClassId). option_map (site_at p a m) (option_and_then (equation_for p a) o)) (sym of) ∙ ap (λ (o : Option ℕ). option_map (site_at p a m) (option_and_then (slice_get p.rules.equations) o)) (sym is) ∙ ap (option_map (site_at p a m)) found.1
     in
-    (site_at p a m found.0, subst (λ (r : Reference). equation_of p (Attribute a r NoArguments) ≡ Some (site_at p a m found.0)) at whole, record { body = ap (option_map expression_in) found.1; this = at })
+    (site_at p a m found.0, subst (λ (r : Reference). equation_of p (Attribute a r NoArguments) ≡ Some (site_at p a m found.0)) at whole, record { body = ap (option_map expression_in) found.1; place = ap at_reference at })
 
 -- the type of its value is that of the attribute
 pub attribute_site_kind : (p : Program) (a : ℕ) (r : Reference) (x : Site) → equation_of p (Attribute a r NoArguments) ≡ Some x → attribute_kind p a ≡ x.kind
@@ -52,24 +56,24 @@ module _ {S : Type 0} (p : Program) (r s : Told S) where
   failed c (Err m) g e = record { kept = g; answer = tt }
 
   -- what an evaluation is to callers
-  pub turned_reads : (this : ℕ) (e : Expression) (came : Result CodedValue Halt) (res : Result Turn NoMemory) → Reads p r s this e came → IsTurned came res → Evaluates p r s (read_at p this e) res
-  turned_reads this e (Ok v) res h is = record { kept = h.kept; answer = subst (AnswersTurn p s (read_at p this e)) (sym is) h.is }
-  turned_reads this e (Err (Need i)) res h is = record { kept = h.kept; answer = subst (AnswersTurn p s (read_at p this e)) (sym is) h.is }
-  turned_reads this e (Err Memory) res h is = failed (read_at p this e) res h.kept is
+  pub turned_reads : (place : Place) (e : Expression) (came : Result CodedValue Halt) (res : Result Turn NoMemory) → Reads p r s place e came → IsTurned came res → Evaluates p r s (read_at p place e) res
+  turned_reads place e (Ok v) res h is = record { kept = h.kept; answer = subst (AnswersTurn p s (read_at p place e)) (sym is) h.is }
+  turned_reads place e (Err (Need i)) res h is = record { kept = h.kept; answer = subst (AnswersTurn p s (read_at p place e)) (sym is) h.is }
+  turned_reads place e (Err Memory) res h is = failed (read_at p place e) res h.kept is
 
   -- an equation by its number
-  pub site_evaluated : (site : EqSite) (rules : RuleSet) (e : Expression) (came : Result CodedValue Halt) (res : Result Turn NoMemory) → rules ≡ p.rules → body_at rules site.equation.0 ≡ Some e → Reads p r s site.node.0 e came → IsTurned came res
+  pub site_evaluated : (site : EqSite) (rules : RuleSet) (e : Expression) (came : Result CodedValue Halt) (res : Result Turn NoMemory) → rules ≡ p.rules → body_at rules site.equation.0 ≡ Some e → Reads p r s (site_place site) e came → IsTurned came res
       → Evaluates p r s (site_reads p site) res
   site_evaluated site rules e came res same body h is =
       let at : expression_or_null (body_at p.rules site.equation.0) ≡ e = ap (λ (x : RuleSet). expression_or_null (body_at x site.equation.0)) (sym same) ∙ ap expression_or_null body in
-      subst (λ (x : Expression). Evaluates p r s (read_at p site.node.0 x) res) (sym at) (turned_reads site.node.0 e came res h is)
+      subst (λ (x : Expression). Evaluates p r s (read_at p (site_place site) x) res) (sym at) (turned_reads (site_place site) e came res h is)
 
   -- a query by its number
-  pub query_evaluated : (q x : Asked) (n : ℕ) (e : Expression) (came : Result CodedValue Halt) (res : Result Turn NoMemory) → slice_get p.queries n ≡ Some x → e ≡ x.body → Reads p r s 1 e came → IsTurned came res → slice_get p.queries n ≡ Some q
+  pub query_evaluated : (q x : Asked) (n : ℕ) (e : Expression) (came : Result CodedValue Halt) (res : Result Turn NoMemory) → slice_get p.queries n ≡ Some x → e ≡ x.body → Reads p r s (place_at 0) e came → IsTurned came res → slice_get p.queries n ≡ Some q
       → Evaluates p r s (query_reads p q) res
   query_evaluated q x n e came res at body h is found =
       let same : x ≡ q = cc in
-      subst (λ (y : Expression). Evaluates p r s (read_at p 1 y) res) (body ∙ ap (λ (y : Asked). y.body) same) (turned_reads 1 e came res h is)
+      subst (λ (y : Expression). Evaluates p r s (read_at p (place_at 0) y) res) (body ∙ ap (λ (y : Asked). y.body) same) (turned_reads (place_at 0) e came res h is)
 
   -- the demands of an instance, from those of its equation
   pub instance_evaluated : (i : Instance) (site : Site) (t u : Turn) → text_of p 0 ≡ [] → equation_of p i ≡ Some site → Evaluates p r s (meaning_of (world_of p) site.body site.place) (Ok t) → TurnAs site.kind t u
@@ -95,16 +99,16 @@ pub attribute_evaluated : {S : Type 0} (p : Program) (r s : Told S) (a n : ℕ) 
 attribute_evaluated p r s a n k site t u first kind found h read =
     let x = found.0 in
     let body : expression_or_null (body_at p.rules site.equation.0) ≡ x.body = ap expression_or_null found.2.body in
-    let at : Evaluates p r s (meaning_of (world_of p) x.body (record { this = reference_of site.node.0 })) (Ok t) = subst (λ (e : Expression). Evaluates p r s (read_at p site.node.0 e) (Ok t)) body h in
-    let here : Evaluates p r s (meaning_of (world_of p) x.body x.place) (Ok t) = subst (λ (o : Reference). Evaluates p r s (meaning_of (world_of p) x.body (record { this = o })) (Ok t)) (sym found.2.this) at in
+    let at : Evaluates p r s (meaning_of (world_of p) x.body (site_place site)) (Ok t) = subst (λ (e : Expression). Evaluates p r s (read_at p (site_place site) e) (Ok t)) body h in
+    let here : Evaluates p r s (meaning_of (world_of p) x.body x.place) (Ok t) = subst (λ (o : Place). Evaluates p r s (meaning_of (world_of p) x.body o) (Ok t)) (sym found.2.place) at in
     instance_evaluated p r s (Attribute a (reference_of n) NoArguments) x t u first found.1 here (subst (λ (j : Kind). TurnAs j t u) (kind ∙ attribute_site_kind p a (reference_of n) x found.1) read)
 
 -- a query's, read at the query's type
 pub asked_evaluated : {S : Type 0} (p : Program) (r s : Told S) (q : ℕ) (e : Asked) (k : Kind) (t u : Turn) → text_of p 0 ≡ [] → slice_get p.queries q ≡ Some e → k ≡ e.kind → Evaluates p r s (query_reads p e) (Ok t) → TurnAs k t u
     → Evaluates p r s ((equations_of p).equation (Query q)) (Ok u)
 asked_evaluated p r s q e k t u first at kind h read =
-    let site : Site = record { body = e.body; kind = e.kind; place = record { this = At (Source 0) } } in
-    let is : equation_of p (Query q) ≡ Some site = ap (λ (o : Option Asked). option_map (λ x. record { body = x.body; kind = x.kind; place = record { this = At (Source 0) } }) o) at in
+    let site : Site = record { body = e.body; kind = e.kind; place = place_at 0 } in
+    let is : equation_of p (Query q) ≡ Some site = ap (λ (o : Option Asked). option_map (λ x. record { body = x.body; kind = x.kind; place = place_at 0 }) o) at in
     instance_evaluated p r s (Query q) site t u first is h (subst (λ (j : Kind). TurnAs j t u) kind read)
 
 -- what has no equation counts as null
@@ -114,4 +118,4 @@ none_evaluated p r i x sound none e = record { kept = grows_self sound; answer =
 
 -- as a query that isn't there
 pub past_query : (p : Program) (q : ℕ) → length p.queries ≤ q → equation_of p (Query q) ≡ None
-past_query p q past = ap (λ (o : Option Asked). option_map (λ x. record { body = x.body; kind = x.kind; place = record { this = At (Source 0) } }) o) (slice_get_past p.queries q past)
+past_query p q past = ap (λ (o : Option Asked). option_map (λ x. record { body = x.body; kind = x.kind; place = place_at 0 }) o) (slice_get_past p.queries q past)

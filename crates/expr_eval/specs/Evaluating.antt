@@ -1,19 +1,20 @@
 -- What an evaluation over a reader says.
-use Rattle.std.specs.Prelude.{ℕ, List, Result, Ok, Err}
+use Rattle.std.specs.Prelude.{ℕ, Bool, true, false, List, Result, Ok, Err, map}
 use Rattle.rag_io.specs.declared.Memory.{Memory as NoMemory}
-use Rattle.attr_rules.specs.Expression.{Expression}
+use Rattle.attr_rules.specs.Expression.{Expression, Not, Negate, Binary, And, Or, If}
 use Rattle.solutions.specs.Asking.{Demands, Ends, Halts}
 use Rattle.equation_law.specs.declared.coding.Instance.{Instance as CodedInstance}
 use Rattle.equation_law.specs.declared.coding.Value.{Value as CodedValue}
 use Rattle.equation_law.specs.declared.system.System.{System}
 use Rattle.equation_law.specs.Codes.{instance_of, reference_of, value_of}
 use Rattle.equation_law.specs.Equations.{kind_in, text_of, world_of}
-use Rattle.equation_law.specs.Meaning.{World, call_at, demand, meaning_of}
+use Rattle.equation_law.specs.Meaning.{Place, World, call_at, demand, meaning_of}
 use Rattle.equation_law.specs.Names.{Instance}
 use Rattle.equation_law.specs.Program.{Program}
 use Rattle.equation_law.specs.Reading.{Grows, Told}
 use Rattle.equation_law.specs.Systems.{program_of}
 use Rattle.equation_law.specs.Values.{Value, node}
+use Rattle.expr_eval.specs.declared.evaluation.Context.{Context}
 use Rattle.expr_eval.specs.declared.evaluation.Halt.{Halt}
 use Rattle.expr_eval.specs.declared.evaluation.Halt.TheVariants.{Need, Memory}
 use Rattle.expr_eval.specs.declared.sites.Turn.{Turn}
@@ -41,14 +42,21 @@ Answers p s c (Ok v) = Given p s c v
 Answers p s c (Err (Need i)) = Stopped p s c i
 Answers p s c (Err Memory) = Unit {0}
 
--- what is demanded of an expression that is read at a node
-abbrev pub read_at : Program → ℕ → Expression → Demands Instance Value
-read_at p this e = meaning_of (world_of p) e (record { this = reference_of this })
+-- what is demanded of an expression that is read at a place
+abbrev pub read_at : Program → Place → Expression → Demands Instance Value
+read_at p place e = meaning_of (world_of p) e place
+
+-- the node of an equation, and the values of the names
+abbrev pub place_kept : (ℕ → List ℕ) → ℕ → List CodedValue → Place
+place_kept texts this names = record { this = reference_of this; names = map (value_of texts) names }
+
+abbrev pub place_in : Context → Place
+place_in c = place_kept (texts_in c.system.now) c.this.0 c.names.now
 
 -- the answer to an expression, by what the reader has at the end
-pub record Reads {S : Type 0} (p : Program) (r s : Told S) (this : ℕ) (e : Expression) (result : Result CodedValue Halt) : Type 0 where
+pub record Reads {S : Type 0} (p : Program) (r s : Told S) (place : Place) (e : Expression) (result : Result CodedValue Halt) : Type 0 where
   pub kept : Grows p r s
-  pub is : Answers p s (read_at p this e) result
+  pub is : Answers p s (read_at p place e) result
 
 -- the answer to the demand of an instance
 pub record DemandReads {S : Type 0} (p : Program) (r s : Told S) (i : Instance) (result : Result CodedValue Halt) : Type 0 where
@@ -70,3 +78,13 @@ AnswersTurn p s c (Err m) = Unit {0}
 pub record Evaluates {S : Type 0} (p : Program) (r s : Told S) (c : Demands Instance Value) (result : Result Turn NoMemory) : Type 0 where
   pub kept : Grows p r s
   pub answer : AnswersTurn p s c result
+
+-- an operator with its operands
+abbrev pub is_operation : Expression → Bool
+is_operation (Not e) = true
+is_operation (Negate e) = true
+is_operation (Binary o a b) = true
+is_operation (And a b) = true
+is_operation (Or a b) = true
+is_operation (If c a b) = true
+is_operation _ = false

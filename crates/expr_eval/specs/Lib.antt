@@ -1,2 +1,4 @@
+pub mod Elements
 pub mod Evaluating
+pub mod Going
 pub mod Sites

@@ -10,7 +10,8 @@ use Rattle.solutions.specs.Asking.{Demands}
 use Rattle.equation_law.specs.declared.coding.EqSite.{EqSite}
 use Rattle.equation_law.specs.declared.coding.Value.{Value as CodedValue}
 use Rattle.equation_law.specs.Codes.{reference_of, value_of}
-use Rattle.equation_law.specs.Equations.{Site, equation_of}
+use Rattle.equation_law.specs.Equations.{Site, equation_of, place_at}
+use Rattle.equation_law.specs.Meaning.{Place}
 use Rattle.equation_law.specs.Names.{Instance}
 use Rattle.equation_law.specs.Program.{Program}
 use Rattle.equation_law.specs.Values.{Value, as_kind}
@@ -20,10 +21,14 @@ use Rattle.expr_eval.specs.declared.sites.Turn.{Turn}
 use Rattle.expr_eval.specs.declared.sites.Turn.TheVariants as turns
 use Rattle.expr_eval.specs.Evaluating.{read_at}
 
+-- where the equation of a site is read
+abbrev pub site_place : EqSite → Place
+site_place s = record { this = reference_of s.node.0; names = [] }
+
 -- an equation by its number, with the node at which it is read
 pub record IsSite (p : Program) (s : EqSite) (site : Site) : Type 0 where
   pub body : body_at p.rules s.equation.0 ≡ Some site.body
-  pub this : site.place.this ≡ reference_of s.node.0
+  pub place : site.place ≡ site_place s
 
 -- it is found exactly where the instance has one
 abbrev pub IsEquationOf : Program → Instance → Option EqSite → Type 0
@@ -36,11 +41,11 @@ expression_or_null (Some e) = e
 
 -- what an equation demands that is read at a node
 abbrev pub site_reads : Program → EqSite → Demands Instance Value
-site_reads p s = read_at p s.node.0 (expression_or_null (body_at p.rules s.equation.0))
+site_reads p s = read_at p (site_place s) (expression_or_null (body_at p.rules s.equation.0))
 
 -- what a query demands, which is read at the root
 abbrev pub query_reads : Program → Asked → Demands Instance Value
-query_reads p q = read_at p 1 q.body
+query_reads p q = read_at p (place_at 0) q.body
 
 -- a turn whose value is read at a type
 abbrev pub TurnAs : Kind → Turn → Turn → Type 0

@@ -4,11 +4,12 @@ ghost use Rattle.tree_arena.specs.Nodes.{child_in, count_in, token_in};
 ghost use Rattle.equation_law.specs.Codes.{reference_of, value_of};
 ghost use Rattle.equation_law.specs.Equations.{source_or_null, source_of};
 ghost use Rattle.equation_law.specs.Equations as spec;
-ghost use Rattle.equation_law.specs.Meaning.{child_at as child_on, count_at as count_on, element_at as element_on, is_there, token_at as token_on};
+ghost use Rattle.equation_law.specs.Meaning.{cast_to, child_at as child_on, count_at as count_on, element_at as element_on, is_instance, is_there, token_at as token_on};
 ghost use Rattle.equation_law.specs.Systems.{program_of};
 ghost use Rattle.equation_law.specs.Values.{Int, Node, Truth, int, node};
 ghost use Rattle.expr_eval.specs.Evaluating.{texts_in, world_in};
 
+use ast_grammar::ClassId;
 use attr_rules::Kind;
 use equation_law::{NodeRef, System, Value};
 use tree_arena::Tree;
@@ -88,6 +89,75 @@ pub(crate) fn element(system: &System, k: u32, receiver: Value, place: Value) ->
         (Some(node), Ok(place)) => Value::Node(child_at(system.tree(), node, k, place)),
         _ => Value::Node(NodeRef(0)),
     }
+}
+
+/// The list of a receiver at a component.
+#[derive(Clone, Copy)]
+pub(crate) struct Elements {
+    owner: NodeRef,
+    component: u32,
+    pub(crate) count: u32,
+}
+
+impl Elements {
+    ghost use Rattle.std.specs.Prelude.{pos};
+    ghost use Rattle.equation_law.specs.Meaning.{element_at as element_on, elements_at as elements_on};
+    ghost use Rattle.expr_eval.specs.Elements.{elements_in};
+
+    /// Null has no elements.
+    pub(crate) fn of(system: &System, component: u32, receiver: Value) -> Elements
+        ensures { elements_in system.now result ≡ elements_on (world_in system.now) component (node (value_of (texts_in system.now) receiver)) }
+    {
+        let owner = receiver.node();
+        let count = match owner.source() {
+            Some(node) => count_at(system.tree(), node, component),
+            None => 0,
+        };
+        Elements {
+            owner,
+            component,
+            count,
+        }
+    }
+
+    /// An element by its place, or null where there is none.
+    pub(crate) fn get(self, system: &System, place: u32) -> Value
+        ensures { value_of (texts_in system.now) result ≡ Node (element_on (world_in system.now) self.component (reference_of self.owner.0) (pos place)) }
+    {
+        match self.owner.source() {
+            Some(node) => Value::Node(child_at(system.tree(), node, self.component, place)),
+            None => Value::Node(NodeRef(0)),
+        }
+    }
+}
+
+/// Whether a node is of a class or below.
+fn is_of(system: &System, class: ClassId, node: NodeRef) -> bool
+    ensures { result ≡ is_instance (world_in system.now) class (reference_of node.0) }
+{
+    let tree = system.tree();
+    match node.source() {
+        Some(node) if node < tree.len() => system.grammar().is_sub(tree.class_of(node), class),
+        _ => false,
+    }
+}
+
+/// The receiver where it is of a class or below, or null.
+pub(crate) fn cast(system: &System, class: ClassId, receiver: Value) -> Value
+    ensures { value_of (texts_in system.now) result ≡ Node (cast_to (world_in system.now) class (node (value_of (texts_in system.now) receiver))) }
+{
+    if is_of(system, class, receiver.node()) {
+        Value::Node(receiver.node())
+    } else {
+        Value::Node(NodeRef(0))
+    }
+}
+
+/// Whether a receiver is a node of a class or below.
+pub(crate) fn is_instance(system: &System, class: ClassId, receiver: Value) -> Value
+    ensures { value_of (texts_in system.now) result ≡ Truth (is_instance (world_in system.now) class (node (value_of (texts_in system.now) receiver))) }
+{
+    Value::Truth(is_of(system, class, receiver.node()))
 }
 
 /// How many elements a receiver's list has; on null there are none.

@@ -1,24 +1,29 @@
 // The meaning of an expression under what a reader has.
-ghost use Rattle.std.specs.Prelude.{◌≡◌};
+ghost use Rattle.std.specs.Prelude.{◌≡◌, IfOk, true};
 ghost use Rattle.attr_rules.specs.Expression.{expression_of};
-ghost use Rattle.equation_law.specs.Codes.{instance_of};
+ghost use Rattle.equation_law.specs.Codes.{instance_of, value_of};
 ghost use Rattle.equation_law.specs.Equations.{attribute_kind as kind_of};
+ghost use Rattle.equation_law.specs.Meaning.{at_each, first_with, named, over_elements};
 ghost use Rattle.equation_law.specs.Reading.{IsSound};
 ghost use Rattle.equation_law.specs.Systems.{program_of};
-ghost use Rattle.expr_eval.specs.Evaluating.{CallReads, DemandReads, Reads};
+ghost use Rattle.expr_eval.specs.Elements.{OverReads, ReadsAt, Rooms, elements_in, put};
+ghost use Rattle.expr_eval.specs.Evaluating.{CallReads, DemandReads, Reads, is_operation, place_in, texts_in};
 
-use crate::accessors::{child, count, element, has, source, token};
+use crate::accessors::{Elements, cast, child, count, element, has, is_instance, source, token};
 use crate::operators::{deny, negate, operate};
-use attr_rules::{AttrId, Kind, TExpr};
+use attr_rules::{AttrId, Kind, Quantifier, TExpr};
 use equation_law::{Instance, NodeRef, Reader, System, Value};
+use rag_io::Memory;
 use std::alloc::Global;
 
-/// What an expression is evaluated in: the program, and the node at which the equation is read.
+/// What an expression is evaluated in: the program, the node at which the equation is read, and the values of the names, the innermost
+/// first.
 #[derive(Clone, Copy)]
 pub(crate) struct Context<'a> {
     pub(crate) alloc: Global,
     pub(crate) system: &'a System,
     pub(crate) this: NodeRef,
+    pub(crate) names: &'a [Value],
 }
 
 /// Why an expression has no value.
@@ -28,6 +33,17 @@ pub(crate) enum Halt {
     Need(Instance),
     /// The reader had not enough memory.
     Memory,
+}
+
+impl From<Memory> for Halt {
+    ghost use Rattle.std.specs.Prelude.{◌≡◌};
+    ghost use Rattle.expr_eval.specs.declared.evaluation.Halt.TheVariants.{Memory as NoMemory};
+
+    ghost from_gives = { λ _ halt. halt ≡ NoMemory };
+
+    fn from(_: Memory) -> Halt {
+        Halt::Memory
+    }
 }
 
 /// The type of an attribute; of one that isn't declared, `boolean`.
@@ -76,39 +92,136 @@ fn call<R: Reader>(
     demand(context, Instance::Attr { attr, node }, reader)
 }
 
-/// The value of an expression, or the first demand for which the reader has none. It walks down the expression, which has at most 400
-/// tokens.
-pub(crate) fn meaning<R: Reader>(
+/// The value of a name by its number.
+fn variable(context: &Context<'_>, number: usize) -> Value
+    ensures { value_of (texts_in context.now.system.now) result ≡ named (place_in context.now).names number }
+{
+    match context.names.get(number) {
+        Some(value) => *value,
+        None => Value::Node(NodeRef(0)),
+    }
+}
+
+/// The names with room for one more in front.
+fn with_room(context: &Context<'_>) -> Result<Vec<Value>, Memory>
+    ensures { IfOk result (λ names. Rooms context.now.names.now names.items) }
+{
+    let mut names = Vec::new(context.alloc);
+    names.push(Value::Node(NodeRef(0))).map_err(|_| Memory)?;
+    names.extend_from_slice(context.names).map_err(|_| Memory)?;
+    Ok(names)
+}
+
+/// What a condition says at an element, which stands in front of the names.
+#[cycle(meaning)]
+fn at_element<R: Reader>(
+    context: &Context<'_>,
+    names: &mut Vec<Value>,
+    element: Value,
+    condition: &TExpr,
+    reader: &mut R,
+) -> Result<bool, Halt>
+    requires sound { IsSound (program_of context.now.system.now) (R.tells reader.old) }
+    requires room { Rooms context.now.names.now names.old.items }
+    ensures room { Rooms context.now.names.now names.new.items }
+    ensures reads { ReadsAt (program_of context.now.system.now) (R.tells reader.old) (R.tells reader.new) (place_in context.now) (value_of (texts_in context.now.system.now) element) (expression_of condition.now) result }
+{
+    names[0] = element;
+    let inner = Context {
+        alloc: context.alloc,
+        system: context.system,
+        this: context.this,
+        names,
+    };
+    Ok(meaning(&inner, condition, reader)?.truth())
+}
+
+/// Whether both hold, or one of them.
+fn put_together(all: bool, so_far: bool, holds: bool) -> bool
+    ensures { result ≡ put all so_far holds }
+{
+    if all {
+        so_far && holds
+    } else {
+        so_far || holds
+    }
+}
+
+/// What a condition says at all elements of a receiver's list, put together: whether it holds at all of them, or at any.
+#[cycle(meaning)]
+fn at_all_elements<R: Reader>(
+    context: &Context<'_>,
+    all: bool,
+    list: Elements,
+    condition: &TExpr,
+    reader: &mut R,
+) -> Result<Value, Halt>
+    requires { IsSound (program_of context.now.system.now) (R.tells reader.old) }
+    ensures { OverReads (program_of context.now.system.now) (R.tells reader.old) (R.tells reader.new) (place_in context.now) (λ f. at_each (put all) all (elements_in context.now.system.now list) f) (expression_of condition.now) result }
+{
+    let mut names = with_room(context)?;
+    let mut so_far = all;
+    'elements: for i in 0..list.count {
+        let element = list.get(context.system, i);
+        let holds = at_element(context, &mut names, element, condition, reader)?;
+        so_far = put_together(all, so_far, holds);
+    }
+    Ok(Value::Truth(so_far))
+}
+
+/// The first element of a receiver's list at which a condition holds, or null.
+#[cycle(meaning)]
+fn first_element<R: Reader>(
+    context: &Context<'_>,
+    list: Elements,
+    condition: &TExpr,
+    reader: &mut R,
+) -> Result<Value, Halt>
+    requires { IsSound (program_of context.now.system.now) (R.tells reader.old) }
+    ensures { OverReads (program_of context.now.system.now) (R.tells reader.old) (R.tells reader.new) (place_in context.now) (λ f. first_with (elements_in context.now.system.now list) f) (expression_of condition.now) result }
+{
+    let mut names = with_room(context)?;
+    'elements: for i in 0..list.count {
+        let element = list.get(context.system, i);
+        if at_element(context, &mut names, element, condition, reader)? {
+            return Ok(element);
+        }
+    }
+    Ok(Value::Node(NodeRef(0)))
+}
+
+/// A form over a list.
+#[cycle(meaning)]
+fn over_elements<R: Reader>(
+    context: &Context<'_>,
+    quantifier: Quantifier,
+    list: Elements,
+    condition: &TExpr,
+    reader: &mut R,
+) -> Result<Value, Halt>
+    requires { IsSound (program_of context.now.system.now) (R.tells reader.old) }
+    ensures { OverReads (program_of context.now.system.now) (R.tells reader.old) (R.tells reader.new) (place_in context.now) (over_elements quantifier (elements_in context.now.system.now list)) (expression_of condition.now) result }
+{
+    match quantifier {
+        Quantifier::Any => at_all_elements(context, false, list, condition, reader),
+        Quantifier::All => at_all_elements(context, true, list, condition, reader),
+        Quantifier::First => first_element(context, list, condition, reader),
+    }
+}
+
+/// The value of an operator's form.
+#[cycle(meaning)]
+fn operation<R: Reader>(
     context: &Context<'_>,
     expression: &TExpr,
     reader: &mut R,
 ) -> Result<Value, Halt>
-    requires { IsSound (program_of context.now.system.now) (R.tells reader.old) }
-    ensures { Reads (program_of context.now.system.now) (R.tells reader.old) (R.tells reader.new) context.now.this.0 (expression_of expression.now) result }
+    requires sound { IsSound (program_of context.now.system.now) (R.tells reader.old) }
+    requires operation { is_operation (expression_of expression.now) ≡ true }
+    ensures { Reads (program_of context.now.system.now) (R.tells reader.old) (R.tells reader.new) (place_in context.now) (expression_of expression.now) result }
 {
     let system = context.system;
     match expression {
-        TExpr::Truth(b) => Ok(Value::Truth(*b)),
-        TExpr::Int(z) => Ok(Value::Int(*z)),
-        TExpr::Text(number) => Ok(Value::Text(*number)),
-        TExpr::Null => Ok(Value::Node(NodeRef(0))),
-        TExpr::This => Ok(Value::Node(context.this)),
-        TExpr::Source(number) => Ok(source(system, *number)),
-        TExpr::Child(k, receiver) => Ok(child(system, *k, meaning(context, receiver, reader)?)),
-        TExpr::Element(k, receiver, place) => {
-            let receiver = meaning(context, receiver, reader)?;
-            Ok(element(system, *k, receiver, meaning(context, place, reader)?))
-        }
-        TExpr::Count(k, receiver) => Ok(count(system, *k, meaning(context, receiver, reader)?)),
-        TExpr::Has(k, receiver) => Ok(has(system, *k, meaning(context, receiver, reader)?)),
-        TExpr::Token(kind, k, receiver) => {
-            let receiver = meaning(context, receiver, reader)?;
-            Ok(token(system, *kind, *k, receiver))
-        }
-        TExpr::Call(called, _, receiver) => {
-            let receiver = meaning(context, receiver, reader)?;
-            call(context, *called, receiver, reader)
-        }
         TExpr::Not(operand) => Ok(deny(meaning(context, operand, reader)?)),
         TExpr::Negate(operand) => Ok(negate(meaning(context, operand, reader)?)),
         TExpr::Binary(operator, left, right) => {
@@ -125,5 +238,52 @@ pub(crate) fn meaning<R: Reader>(
             let holds = meaning(context, condition, reader)?.truth();
             meaning(context, if holds { then } else { otherwise }, reader)
         }
+        _ => unreachable!(),
+    }
+}
+
+/// The value of an expression, or the first demand for which the reader has none. It walks down the expression, which has at most 400
+/// tokens.
+#[cycle(meaning)]
+pub(crate) fn meaning<R: Reader>(
+    context: &Context<'_>,
+    expression: &TExpr,
+    reader: &mut R,
+) -> Result<Value, Halt>
+    requires { IsSound (program_of context.now.system.now) (R.tells reader.old) }
+    ensures { Reads (program_of context.now.system.now) (R.tells reader.old) (R.tells reader.new) (place_in context.now) (expression_of expression.now) result }
+{
+    let system = context.system;
+    match expression {
+        TExpr::Truth(b) => Ok(Value::Truth(*b)),
+        TExpr::Int(z) => Ok(Value::Int(*z)),
+        TExpr::Text(number) => Ok(Value::Text(*number)),
+        TExpr::Null => Ok(Value::Node(NodeRef(0))),
+        TExpr::This => Ok(Value::Node(context.this)),
+        TExpr::Variable(number) => Ok(variable(context, *number)),
+        TExpr::Source(number) => Ok(source(system, *number)),
+        TExpr::Child(k, receiver) => Ok(child(system, *k, meaning(context, receiver, reader)?)),
+        TExpr::Element(k, receiver, place) => {
+            let receiver = meaning(context, receiver, reader)?;
+            Ok(element(system, *k, receiver, meaning(context, place, reader)?))
+        }
+        TExpr::Count(k, receiver) => Ok(count(system, *k, meaning(context, receiver, reader)?)),
+        TExpr::Has(k, receiver) => Ok(has(system, *k, meaning(context, receiver, reader)?)),
+        TExpr::Token(of, k, node) => Ok(token(system, *of, *k, meaning(context, node, reader)?)),
+        TExpr::Call(called, _, receiver) => {
+            let receiver = meaning(context, receiver, reader)?;
+            call(context, *called, receiver, reader)
+        }
+        TExpr::Cast(class, operand) => Ok(cast(system, *class, meaning(context, operand, reader)?)),
+        TExpr::InstanceOf(class, e) => Ok(is_instance(
+            system,
+            *class,
+            meaning(context, e, reader)?,
+        )),
+        TExpr::Quantified(quantifier, k, receiver, condition) => {
+            let list = Elements::of(system, *k, meaning(context, receiver, reader)?);
+            over_elements(context, *quantifier, list, condition, reader)
+        }
+        _ => operation(context, expression, reader),
     }
 }

@@ -110,6 +110,7 @@ pub fn evaluate<R: Reader>(
         alloc,
         system,
         this: site.node,
+        names: &[],
     };
     turned(meaning(&context, system.rules().body(site.equation), reader))
 }
@@ -129,6 +130,7 @@ pub fn evaluate_query<R: Reader>(
         alloc,
         system,
         this: NodeRef(1),
+        names: &[],
     };
     turned(meaning(&context, system.query(query).expression(), reader))
 }

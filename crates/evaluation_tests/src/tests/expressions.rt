@@ -179,6 +179,29 @@ const TOKENS: &[(Option<u32>, Kind, u32, Value)] = &[
     (None, Kind::Truth, 2, Value::Truth(false)),
 ];
 
+// A node, a class, and whether the node is of the class or below.
+const CLASSES: &[(Option<u32>, u16, bool)] = &[
+    (Some(1), 1, true),
+    (Some(1), 2, true),
+    (Some(1), 3, false),
+    (Some(1), 4, false),
+    (Some(3), 1, true),
+    (Some(3), 2, true),
+    (Some(3), 3, false),
+    (Some(3), 4, true),
+    (Some(0), 1, false),
+    (Some(9), 1, false),
+    (None, 0, false),
+];
+
+// An integer, and at which elements of the list `s` it is the least that `V` may be: at any, at all, and the first one.
+const LEAST: &[(i32, bool, bool, Option<u32>)] = &[
+    (0, true, true, Some(3)),
+    (1, true, true, Some(3)),
+    (2, true, false, Some(4)),
+    (3, false, false, None),
+];
+
 fn add_integers(alloc: Global, rows: &mut Rows) -> Result<(), Fail> {
     for (a, operator, b, sum) in INTEGERS {
         rows.add_int(binary(alloc, int(*a), *operator, int(*b))?, *sum)?;
@@ -250,6 +273,127 @@ fn add_accessors(alloc: Global, rows: &mut Rows) -> Result<(), Fail> {
     rows.add_node(TExpr::This, Some(0))
 }
 
+// Casts and tests of classes.
+fn add_classes(alloc: Global, rows: &mut Rows) -> Result<(), Fail> {
+    for (n, class, is) in CLASSES {
+        rows.add_node(cast(alloc, *class, node(*n))?, if *is { *n } else { None })?;
+        rows.add_truth(instance_of(alloc, *class, node(*n))?, *is)?;
+    }
+    rows.add_node(TExpr::Variable(0), None)
+}
+
+// `V` of a bound name.
+fn bound(alloc: Global, number: usize) -> Result<TExpr, Failed> {
+    token(alloc, Kind::Int, 0, TExpr::Variable(number))
+}
+
+// A form over a list: that `V` of an element is at least this.
+fn over_least(
+    alloc: Global,
+    form: Quantifier,
+    list: (u32, Option<u32>),
+    least: i32,
+) -> Result<TExpr, Failed> {
+    let (k, owner) = list;
+    let condition = binary(alloc, bound(alloc, 0)?, Operator::AtLeast, int(least))?;
+    over(alloc, form, k, node(owner), condition)
+}
+
+// `any`, `all` and `first` over a list.
+fn add_over(
+    alloc: Global,
+    rows: &mut Rows,
+    list: (u32, Option<u32>),
+    least: i32,
+    wanted: (bool, bool, Option<u32>),
+) -> Result<(), Fail> {
+    let (any, all, first) = wanted;
+    rows.add_truth(over_least(alloc, Quantifier::Any, list, least)?, any)?;
+    rows.add_truth(over_least(alloc, Quantifier::All, list, least)?, all)?;
+    rows.add_node(over_least(alloc, Quantifier::First, list, least)?, first)
+}
+
+// Forms over a list; and over an empty one, on null and on what has no list, where there is no element.
+fn add_forms(alloc: Global, rows: &mut Rows) -> Result<(), Fail> {
+    for (least, any, all, first) in LEAST {
+        add_over(alloc, rows, (3, Some(0)), *least, (*any, *all, *first))?;
+        for empty in [(4, Some(0)), (3, None), (3, Some(1))] {
+            add_over(alloc, rows, empty, *least, (false, true, None))?;
+        }
+    }
+    Ok(())
+}
+
+// A form inside a form: that it holds of all or of any `b` that `V` of `b` is less than that of `a`, or the same.
+fn nested(
+    alloc: Global,
+    outer: Quantifier,
+    inner: Quantifier,
+    operator: Operator,
+) -> Result<TExpr, Failed> {
+    let condition = binary(alloc, bound(alloc, 0)?, operator, bound(alloc, 1)?)?;
+    let inside = over(alloc, inner, 3, node(Some(0)), condition)?;
+    over(alloc, outer, 3, node(Some(0)), inside)
+}
+
+const NESTED: &[(Quantifier, Quantifier, Operator, Value)] = &[
+    (
+        Quantifier::Any,
+        Quantifier::Any,
+        Operator::Less,
+        Value::Truth(true),
+    ),
+    (
+        Quantifier::All,
+        Quantifier::Any,
+        Operator::Less,
+        Value::Truth(false),
+    ),
+    (
+        Quantifier::First,
+        Quantifier::Any,
+        Operator::Less,
+        Value::Node(NodeRef(5)),
+    ),
+    (
+        Quantifier::Any,
+        Quantifier::All,
+        Operator::Less,
+        Value::Truth(false),
+    ),
+    (
+        Quantifier::Any,
+        Quantifier::All,
+        Operator::AtMost,
+        Value::Truth(true),
+    ),
+    (
+        Quantifier::All,
+        Quantifier::All,
+        Operator::AtMost,
+        Value::Truth(false),
+    ),
+    (
+        Quantifier::First,
+        Quantifier::All,
+        Operator::AtMost,
+        Value::Node(NodeRef(5)),
+    ),
+    (
+        Quantifier::First,
+        Quantifier::All,
+        Operator::Less,
+        Value::Node(NodeRef(0)),
+    ),
+];
+
+fn add_nested(alloc: Global, rows: &mut Rows) -> Result<(), Fail> {
+    for (outer, inner, operator, value) in NESTED {
+        rows.add_value(nested(alloc, *outer, *inner, *operator)?, *value)?;
+    }
+    Ok(())
+}
+
 const X_FIRST: Turn = Turn::Need(Instance::Attr {
     attr: X,
     node: NodeRef(1),
@@ -275,6 +419,44 @@ fn add_stuck_parts(alloc: Global, rows: &mut Rows) -> Result<(), Fail> {
     rows.add(element(alloc, 3, x(alloc)?, y)?, X_FIRST)?;
     rows.add(count(alloc, 3, x(alloc)?)?, X_FIRST)?;
     rows.add(has(alloc, 1, x(alloc)?)?, X_FIRST)
+}
+
+// `V` of the element is this, or else what is stuck.
+fn is_or_stuck(alloc: Global, value: i32) -> Result<TExpr, Failed> {
+    let is = binary(alloc, bound(alloc, 0)?, Operator::Equal, int(value))?;
+    or(alloc, is, x(alloc)?)
+}
+
+// Forms over a list whose condition is stuck at an element: `any` and `all` evaluate it at every element, `first` stops.
+fn add_stuck_forms(alloc: Global, rows: &mut Rows) -> Result<(), Fail> {
+    for form in [Quantifier::Any, Quantifier::All] {
+        rows.add(
+            over(alloc, form, 3, node(Some(0)), is_or_stuck(alloc, 1)?)?,
+            X_FIRST,
+        )?;
+        rows.add(over(alloc, form, 3, x(alloc)?, truth(true))?, X_FIRST)?;
+    }
+    let second = not(alloc, is_or_stuck(alloc, 1)?)?;
+    rows.add(
+        over(alloc, Quantifier::All, 3, node(Some(0)), second)?,
+        X_FIRST,
+    )?;
+    let first = over(
+        alloc,
+        Quantifier::First,
+        3,
+        node(Some(0)),
+        is_or_stuck(alloc, 1)?,
+    )?;
+    rows.add_node(first, Some(3))?;
+    let stuck = over(
+        alloc,
+        Quantifier::First,
+        3,
+        node(Some(0)),
+        is_or_stuck(alloc, 2)?,
+    )?;
+    rows.add(stuck, X_FIRST)
 }
 
 // Calls on null and on an absent child, which demand nothing.
@@ -303,8 +485,12 @@ fn all_rows(alloc: Global) -> Result<Rows, Fail> {
     add_texts(alloc, &mut rows)?;
     add_lists(alloc, &mut rows)?;
     add_accessors(alloc, &mut rows)?;
+    add_classes(alloc, &mut rows)?;
+    add_forms(alloc, &mut rows)?;
+    add_nested(alloc, &mut rows)?;
     add_stuck_operators(alloc, &mut rows)?;
     add_stuck_parts(alloc, &mut rows)?;
+    add_stuck_forms(alloc, &mut rows)?;
     add_calls_on_null(alloc, &mut rows)?;
     Ok(rows)
 }

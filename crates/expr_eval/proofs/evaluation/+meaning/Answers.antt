@@ -1,155 +1,287 @@
 -- What the forms' parts that were evaluated give.
-use Rattle.std.proofs.Common.{Bor, refl, rules, ap, ◌∙◌}
+use Rattle.std.proofs.Common.{◌≡◌, ◌<◌, ◌≤◌, ◌+◌, Bor, Ok, refl, rules, ap, arith, subst, sym, ◌∙◌}
 use Rattle.attr_rules.specs.declared.expression.TExpr.{TExpr}
+use Rattle.attr_rules.specs.Expression.{expression_of}
+use Rattle.equation_law.specs.Systems.{program_of}
 use Rattle.equation_law.specs.Values.{Int}
-use Rattle.expr_eval.proofs.Forms.{said, boxed, thrown, leaf, child_stops, child_goes, element_stops, element_stops_at, element_goes, count_stops, count_goes, has_stops, has_goes, token_stops, token_goes, call_stops, call_goes, not_stops, not_goes, negate_stops, negate_goes, binary_stops, binary_stops_right, binary_goes, and_stops, and_ends, and_stops_right, and_goes, or_stops, or_ends, or_stops_right, or_goes, if_stops, if_then, if_otherwise}
+use Rattle.expr_eval.proofs.Forms.{said, boxed, thrown, leaf, cast_stops, cast_goes, instance_stops, instance_goes, over_stops, over_goes, grows_self, grows_then, child_stops, child_goes, element_stops, element_stops_at, element_goes, count_stops, count_goes, has_stops, has_goes, token_stops, token_goes, call_stops, call_goes, not_stops, not_goes, negate_stops, negate_goes, binary_stops, binary_stops_right, binary_goes, and_stops, and_ends, and_stops_right, and_goes, or_stops, or_ends, or_stops_right, or_goes, if_stops, if_then, if_otherwise}
+use Rattle.expr_eval.specs.Elements.{ReadsAt, element_in, put, read_with}
+use Rattle.expr_eval.specs.Evaluating.{place_in}
+use Rattle.expr_eval.specs.Going.{Went, none, nowhere}
+use Rattle.expr_eval.proofs.Over.{at_value, boxed_over, each_ended, each_further, each_stopped, first_ended, first_found, first_further, first_stopped, thrown_over}
 use Rattle.expr_eval.proofs.evaluation.+meaning.Goals as goal
-use Rattle.expr_eval.proofs.evaluation.+meaning.Goals.{else-holds, then-holds}
+use Rattle.expr_eval.proofs.evaluation.+meaning.Goals.{operation-else-holds, operation-then-holds}
 
-pub returns-in-Truth : goal.returns-in-Truth
-returns-in-Truth g t c =
+pub meaning-returns-in-Truth : goal.meaning-returns-in-Truth
+meaning-returns-in-Truth g t c =
     said c.in-Truth.is (leaf _ c.requires refl refl)
 
-pub returns-in-Int : goal.returns-in-Int
-returns-in-Int g t c =
+pub meaning-returns-in-Int : goal.meaning-returns-in-Int
+meaning-returns-in-Int g t c =
     said c.in-Int.is (leaf (Int c.in-Int.z) c.requires refl (search rules))
 
-pub returns-in-Text : goal.returns-in-Text
-returns-in-Text g t c =
+pub meaning-returns-in-Text : goal.meaning-returns-in-Text
+meaning-returns-in-Text g t c =
     said c.in-Text.is (leaf _ c.requires refl refl)
 
-pub returns-in-Null : goal.returns-in-Null
-returns-in-Null g t c =
+pub meaning-returns-in-Null : goal.meaning-returns-in-Null
+meaning-returns-in-Null g t c =
     said c.in-Null.is (leaf _ c.requires refl refl)
 
-pub returns-in-This : goal.returns-in-This
-returns-in-This g t c =
+pub meaning-returns-in-This : goal.meaning-returns-in-This
+meaning-returns-in-This g t c =
     said c.in-This.is (leaf _ c.requires refl refl)
 
-pub returns-in-Source : goal.returns-in-Source
-returns-in-Source g t c =
+pub meaning-returns-in-Source : goal.meaning-returns-in-Source
+meaning-returns-in-Source g t c =
     said c.in-Source.is (leaf _ c.requires refl c.source.ensures)
 
-pub returns-in_err-meaning-in-Child : goal.returns-in_err-meaning-in-Child
-returns-in_err-meaning-in-Child g t c =
+pub meaning-returns-in_err-meaning-in-Child : goal.meaning-returns-in_err-meaning-in-Child
+meaning-returns-in_err-meaning-in-Child g t c =
     thrown c.from_residual.ensures (said c.in-Child.is (child_stops (boxed c.deref.ensures c.in_err-meaning-in-Child.ensures)))
 
-pub returns-in_ok-meaning-in-Child : goal.returns-in_ok-meaning-in-Child
-returns-in_ok-meaning-in-Child g t c =
+pub meaning-returns-in_ok-meaning-in-Child : goal.meaning-returns-in_ok-meaning-in-Child
+meaning-returns-in_ok-meaning-in-Child g t c =
     said c.in-Child.is (child_goes (boxed c.deref.ensures c.in_ok-meaning-in-Child.ensures) c.child.ensures)
 
-pub returns-in_err-receiver-in-Element : goal.returns-in_err-receiver-in-Element
-returns-in_err-receiver-in-Element g t c =
+pub meaning-returns-in_err-receiver-in-Element : goal.meaning-returns-in_err-receiver-in-Element
+meaning-returns-in_err-receiver-in-Element g t c =
     thrown c.from_residual-in_err-receiver-in-Element.ensures (said c.in-Element.is (element_stops (boxed c.deref-in-Element.ensures c.in_err-receiver-in-Element.ensures)))
 
-pub returns-in_err-meaning-in-Element : goal.returns-in_err-meaning-in-Element
-returns-in_err-meaning-in-Element g t c =
+pub meaning-returns-in_err-meaning-in-Element : goal.meaning-returns-in_err-meaning-in-Element
+meaning-returns-in_err-meaning-in-Element g t c =
     thrown c.from_residual-in_err-meaning-in-Element.ensures (said c.in-Element.is (element_stops_at (boxed c.deref-in-Element.ensures c.in_ok-receiver-in-Element.ensures) (boxed c.deref-in-Element-2.ensures c.in_err-meaning-in-Element.ensures)))
 
-pub returns-in_ok-meaning-in-Element : goal.returns-in_ok-meaning-in-Element
-returns-in_ok-meaning-in-Element g t c =
+pub meaning-returns-in_ok-meaning-in-Element : goal.meaning-returns-in_ok-meaning-in-Element
+meaning-returns-in_ok-meaning-in-Element g t c =
     said c.in-Element.is (element_goes (boxed c.deref-in-Element.ensures c.in_ok-receiver-in-Element.ensures) (boxed c.deref-in-Element-2.ensures c.in_ok-meaning-in-Element.ensures) c.element.ensures)
 
-pub returns-in_err-meaning-in-Count : goal.returns-in_err-meaning-in-Count
-returns-in_err-meaning-in-Count g t c =
+pub meaning-returns-in_err-meaning-in-Count : goal.meaning-returns-in_err-meaning-in-Count
+meaning-returns-in_err-meaning-in-Count g t c =
     thrown c.from_residual-in_err-meaning-in-Count.ensures (said c.in-Count.is (count_stops (boxed c.deref-in-Count.ensures c.in_err-meaning-in-Count.ensures)))
 
-pub returns-in_ok-meaning-in-Count : goal.returns-in_ok-meaning-in-Count
-returns-in_ok-meaning-in-Count g t c =
+pub meaning-returns-in_ok-meaning-in-Count : goal.meaning-returns-in_ok-meaning-in-Count
+meaning-returns-in_ok-meaning-in-Count g t c =
     said c.in-Count.is (count_goes (boxed c.deref-in-Count.ensures c.in_ok-meaning-in-Count.ensures) c.count.ensures)
 
-pub returns-in_err-meaning-in-Has : goal.returns-in_err-meaning-in-Has
-returns-in_err-meaning-in-Has g t c =
+pub meaning-returns-in_err-meaning-in-Has : goal.meaning-returns-in_err-meaning-in-Has
+meaning-returns-in_err-meaning-in-Has g t c =
     thrown c.from_residual-in_err-meaning-in-Has.ensures (said c.in-Has.is (has_stops (boxed c.deref-in-Has.ensures c.in_err-meaning-in-Has.ensures)))
 
-pub returns-in_ok-meaning-in-Has : goal.returns-in_ok-meaning-in-Has
-returns-in_ok-meaning-in-Has g t c =
+pub meaning-returns-in_ok-meaning-in-Has : goal.meaning-returns-in_ok-meaning-in-Has
+meaning-returns-in_ok-meaning-in-Has g t c =
     said c.in-Has.is (has_goes (boxed c.deref-in-Has.ensures c.in_ok-meaning-in-Has.ensures) c.has.ensures)
 
-pub returns-in_err-receiver-in-Token : goal.returns-in_err-receiver-in-Token
-returns-in_err-receiver-in-Token g t c =
-    thrown c.from_residual-in_err-receiver-in-Token.ensures (said c.in-Token.is (token_stops (boxed c.deref-in-Token.ensures c.in_err-receiver-in-Token.ensures)))
+pub meaning-returns-in_err-meaning-in-Token : goal.meaning-returns-in_err-meaning-in-Token
+meaning-returns-in_err-meaning-in-Token g t c =
+    thrown c.from_residual-in_err-meaning-in-Token.ensures (said c.in-Token.is (token_stops (boxed c.deref-in-Token.ensures c.in_err-meaning-in-Token.ensures)))
 
-pub returns-in_ok-receiver-in-Token : goal.returns-in_ok-receiver-in-Token
-returns-in_ok-receiver-in-Token g t c =
-    said c.in-Token.is (token_goes (boxed c.deref-in-Token.ensures c.in_ok-receiver-in-Token.ensures) c.token.ensures)
+pub meaning-returns-in_ok-meaning-in-Token : goal.meaning-returns-in_ok-meaning-in-Token
+meaning-returns-in_ok-meaning-in-Token g t c =
+    said c.in-Token.is (token_goes (boxed c.deref-in-Token.ensures c.in_ok-meaning-in-Token.ensures) c.token.ensures)
 
-pub returns-in_err-receiver-in-Call : goal.returns-in_err-receiver-in-Call
-returns-in_err-receiver-in-Call g t c =
+pub meaning-returns-in_err-receiver-in-Call : goal.meaning-returns-in_err-receiver-in-Call
+meaning-returns-in_err-receiver-in-Call g t c =
     thrown c.from_residual-in_err-receiver-in-Call.ensures (said c.in-Call.is (call_stops (boxed c.deref-in-Call.ensures c.in_err-receiver-in-Call.ensures)))
 
-pub returns-in_ok-receiver-in-Call : goal.returns-in_ok-receiver-in-Call
-returns-in_ok-receiver-in-Call g t c =
+pub meaning-returns-in_ok-receiver-in-Call : goal.meaning-returns-in_ok-receiver-in-Call
+meaning-returns-in_ok-receiver-in-Call g t c =
     said c.in-Call.is (call_goes (boxed c.deref-in-Call.ensures c.in_ok-receiver-in-Call.ensures) c.call.ensures)
 
-pub returns-in_err-meaning-in-Not : goal.returns-in_err-meaning-in-Not
-returns-in_err-meaning-in-Not g t c =
-    thrown c.from_residual-in_err-meaning-in-Not.ensures (said c.in-Not.is (not_stops (boxed c.deref-in-Not.ensures c.in_err-meaning-in-Not.ensures)))
+pub operation-returns-in_err-meaning-in-Not : goal.operation-returns-in_err-meaning-in-Not
+operation-returns-in_err-meaning-in-Not g t c =
+    thrown c.from_residual.ensures (said c.in-Not.is (not_stops (boxed c.deref.ensures c.in_err-meaning-in-Not.ensures)))
 
-pub returns-in_ok-meaning-in-Not : goal.returns-in_ok-meaning-in-Not
-returns-in_ok-meaning-in-Not g t c =
-    said c.in-Not.is (not_goes (boxed c.deref-in-Not.ensures c.in_ok-meaning-in-Not.ensures) c.deny.ensures)
+pub operation-returns-in_ok-meaning-in-Not : goal.operation-returns-in_ok-meaning-in-Not
+operation-returns-in_ok-meaning-in-Not g t c =
+    said c.in-Not.is (not_goes (boxed c.deref.ensures c.in_ok-meaning-in-Not.ensures) c.deny.ensures)
 
-pub returns-in_err-meaning-in-Negate : goal.returns-in_err-meaning-in-Negate
-returns-in_err-meaning-in-Negate g t c =
+pub operation-returns-in_err-meaning-in-Negate : goal.operation-returns-in_err-meaning-in-Negate
+operation-returns-in_err-meaning-in-Negate g t c =
     thrown c.from_residual-in_err-meaning-in-Negate.ensures (said c.in-Negate.is (negate_stops (boxed c.deref-in-Negate.ensures c.in_err-meaning-in-Negate.ensures)))
 
-pub returns-in_ok-meaning-in-Negate : goal.returns-in_ok-meaning-in-Negate
-returns-in_ok-meaning-in-Negate g t c =
+pub operation-returns-in_ok-meaning-in-Negate : goal.operation-returns-in_ok-meaning-in-Negate
+operation-returns-in_ok-meaning-in-Negate g t c =
     said c.in-Negate.is (negate_goes (boxed c.deref-in-Negate.ensures c.in_ok-meaning-in-Negate.ensures) c.negate.ensures)
 
-pub returns-in_err-left-in-Binary : goal.returns-in_err-left-in-Binary
-returns-in_err-left-in-Binary g t c =
+pub operation-returns-in_err-left-in-Binary : goal.operation-returns-in_err-left-in-Binary
+operation-returns-in_err-left-in-Binary g t c =
     thrown c.from_residual-in_err-left-in-Binary.ensures (said c.in-Binary.is (binary_stops (boxed c.deref-in-Binary.ensures c.in_err-left-in-Binary.ensures)))
 
-pub returns-in_err-meaning-in-Binary : goal.returns-in_err-meaning-in-Binary
-returns-in_err-meaning-in-Binary g t c =
+pub operation-returns-in_err-meaning-in-Binary : goal.operation-returns-in_err-meaning-in-Binary
+operation-returns-in_err-meaning-in-Binary g t c =
     thrown c.from_residual-in_err-meaning-in-Binary.ensures (said c.in-Binary.is (binary_stops_right (boxed c.deref-in-Binary.ensures c.in_ok-left-in-Binary.ensures) (boxed c.deref-in-Binary-2.ensures c.in_err-meaning-in-Binary.ensures)))
 
-pub returns-in_ok-meaning-in-Binary : goal.returns-in_ok-meaning-in-Binary
-returns-in_ok-meaning-in-Binary g t c =
+pub operation-returns-in_ok-meaning-in-Binary : goal.operation-returns-in_ok-meaning-in-Binary
+operation-returns-in_ok-meaning-in-Binary g t c =
     said c.in-Binary.is (binary_goes (boxed c.deref-in-Binary.ensures c.in_ok-left-in-Binary.ensures) (boxed c.deref-in-Binary-2.ensures c.in_ok-meaning-in-Binary.ensures) c.operate.ensures)
 
-pub returns-in_err-meaning-in-And : goal.returns-in_err-meaning-in-And
-returns-in_err-meaning-in-And g t c =
+pub operation-returns-in_err-meaning-in-And : goal.operation-returns-in_err-meaning-in-And
+operation-returns-in_err-meaning-in-And g t c =
     thrown c.from_residual-in_err-meaning-in-And.ensures (said c.in-And.is (and_stops (boxed c.deref-in-And.ensures c.in_err-meaning-in-And.ensures)))
 
-pub returns-in_err-meaning-in-And-2 : goal.returns-in_err-meaning-in-And-2
-returns-in_err-meaning-in-And-2 g t c =
+pub operation-returns-in_err-meaning-in-And-2 : goal.operation-returns-in_err-meaning-in-And-2
+operation-returns-in_err-meaning-in-And-2 g t c =
     thrown c.from_residual-in_err-meaning-in-And-2.ensures (said c.in-And.is (and_stops_right (boxed c.deref-in-And.ensures c.in_ok-meaning-in-And.ensures) c.truth.ensures c.if-truth.true (boxed c.deref-then-truth.ensures c.in_err-meaning-in-And-2.ensures)))
 
-pub returns-in_ok-meaning-in-And-2 : goal.returns-in_ok-meaning-in-And-2
-returns-in_ok-meaning-in-And-2 g t c =
+pub operation-returns-in_ok-meaning-in-And-2 : goal.operation-returns-in_ok-meaning-in-And-2
+operation-returns-in_ok-meaning-in-And-2 g t c =
     said c.in-And.is (and_goes (boxed c.deref-in-And.ensures c.in_ok-meaning-in-And.ensures) c.truth.ensures c.if-truth.true (boxed c.deref-then-truth.ensures c.in_ok-meaning-in-And-2.ensures) c.truth-then-truth.ensures)
 
-pub returns-else-truth : goal.returns-else-truth
-returns-else-truth g t c =
+pub operation-returns-else-truth : goal.operation-returns-else-truth
+operation-returns-else-truth g t c =
     said c.in-And.is (and_ends (boxed c.deref-in-And.ensures c.in_ok-meaning-in-And.ensures) c.truth.ensures c.if-truth.false)
 
-pub returns-in_err-meaning-in-Or : goal.returns-in_err-meaning-in-Or
-returns-in_err-meaning-in-Or g t c =
+pub operation-returns-in_err-meaning-in-Or : goal.operation-returns-in_err-meaning-in-Or
+operation-returns-in_err-meaning-in-Or g t c =
     thrown c.from_residual-in_err-meaning-in-Or.ensures (said c.in-Or.is (or_stops (boxed c.deref-in-Or.ensures c.in_err-meaning-in-Or.ensures)))
 
-pub returns-in_err-meaning-in-Or-2 : goal.returns-in_err-meaning-in-Or-2
-returns-in_err-meaning-in-Or-2 g t c =
+pub operation-returns-in_err-meaning-in-Or-2 : goal.operation-returns-in_err-meaning-in-Or-2
+operation-returns-in_err-meaning-in-Or-2 g t c =
     thrown c.from_residual-in_err-meaning-in-Or-2.ensures (said c.in-Or.is (or_stops_right (boxed c.deref-in-Or.ensures c.in_ok-meaning-in-Or.ensures) c.truth-in-Or.ensures c.if-truth-2.false (boxed c.deref-else-truth-2.ensures c.in_err-meaning-in-Or-2.ensures)))
 
-pub returns-in_ok-meaning-in-Or-2 : goal.returns-in_ok-meaning-in-Or-2
-returns-in_ok-meaning-in-Or-2 g t c =
+pub operation-returns-in_ok-meaning-in-Or-2 : goal.operation-returns-in_ok-meaning-in-Or-2
+operation-returns-in_ok-meaning-in-Or-2 g t c =
     said c.in-Or.is (or_goes (boxed c.deref-in-Or.ensures c.in_ok-meaning-in-Or.ensures) c.truth-in-Or.ensures c.if-truth-2.false (boxed c.deref-else-truth-2.ensures c.in_ok-meaning-in-Or-2.ensures) c.truth-else-truth-2.ensures)
 
-pub returns-then-truth-2 : goal.returns-then-truth-2
-returns-then-truth-2 g t c =
+pub operation-returns-then-truth-2 : goal.operation-returns-then-truth-2
+operation-returns-then-truth-2 g t c =
     said c.in-Or.is (or_ends (boxed c.deref-in-Or.ensures c.in_ok-meaning-in-Or.ensures) c.truth-in-Or.ensures c.if-truth-2.true)
 
-pub returns-in_err-meaning-in-If : goal.returns-in_err-meaning-in-If
-returns-in_err-meaning-in-If g t c =
+pub operation-returns-in_err-meaning-in-If : goal.operation-returns-in_err-meaning-in-If
+operation-returns-in_err-meaning-in-If g t c =
     thrown c.from_residual-in_err-meaning-in-If.ensures (said c.in-If.is (if_stops (boxed c.deref-in-If.ensures c.in_err-meaning-in-If.ensures)))
 
-pub returns-after-holds : goal.returns-after-holds
-returns-after-holds g t c = elim c.if-holds.branch [
-  | then-holds w ↦
+pub operation-returns-after-holds : goal.operation-returns-after-holds
+operation-returns-after-holds g t c = elim c.if-holds.branch [
+  | operation-then-holds w ↦
       said c.in-If.is (if_then (boxed c.deref-in-If.ensures c.in_ok-meaning-in-If.ensures) c.truth-holds.ensures w.if-holds.true (boxed (ap (λ (b : Bor TExpr). b.now) w.meaning-is ∙ w.deref-then-holds.ensures) c.meaning-in-If-2.ensures))
-  | else-holds w ↦
+  | operation-else-holds w ↦
       said c.in-If.is (if_otherwise (boxed c.deref-in-If.ensures c.in_ok-meaning-in-If.ensures) c.truth-holds.ensures w.if-holds.false (boxed (ap (λ (b : Bor TExpr). b.now) w.meaning-is ∙ w.deref-else-holds.ensures) c.meaning-in-If-2.ensures))
 ]
+
+pub meaning-returns-in-Variable : goal.meaning-returns-in-Variable
+meaning-returns-in-Variable g t c =
+    said c.in-Variable.is (leaf _ c.requires refl c.variable.ensures)
+
+pub meaning-returns-in_err-meaning-in-Cast : goal.meaning-returns-in_err-meaning-in-Cast
+meaning-returns-in_err-meaning-in-Cast g t c =
+    thrown c.from_residual-in_err-meaning-in-Cast.ensures (said c.in-Cast.is (cast_stops (boxed c.deref-in-Cast.ensures c.in_err-meaning-in-Cast.ensures)))
+
+pub meaning-returns-in_ok-meaning-in-Cast : goal.meaning-returns-in_ok-meaning-in-Cast
+meaning-returns-in_ok-meaning-in-Cast g t c =
+    said c.in-Cast.is (cast_goes (boxed c.deref-in-Cast.ensures c.in_ok-meaning-in-Cast.ensures) c.cast.ensures)
+
+pub meaning-returns-in_err-meaning-in-InstanceOf : goal.meaning-returns-in_err-meaning-in-InstanceOf
+meaning-returns-in_err-meaning-in-InstanceOf g t c =
+    thrown c.from_residual-in_err-meaning-in-InstanceOf.ensures (said c.in-InstanceOf.is (instance_stops (boxed c.deref-in-InstanceOf.ensures c.in_err-meaning-in-InstanceOf.ensures)))
+
+pub meaning-returns-in_ok-meaning-in-InstanceOf : goal.meaning-returns-in_ok-meaning-in-InstanceOf
+meaning-returns-in_ok-meaning-in-InstanceOf g t c =
+    said c.in-InstanceOf.is (instance_goes (boxed c.deref-in-InstanceOf.ensures c.in_ok-meaning-in-InstanceOf.ensures) c.is_instance.ensures)
+
+pub meaning-returns-in_err-meaning-in-Quantified : goal.meaning-returns-in_err-meaning-in-Quantified
+meaning-returns-in_err-meaning-in-Quantified g t c =
+    thrown c.from_residual-in_err-meaning-in-Quantified.ensures (said c.in-Quantified.is (over_stops (boxed c.deref-in-Quantified.ensures c.in_err-meaning-in-Quantified.ensures)))
+
+pub at_all_elements-returns-in_err-holds : goal.at_all_elements-returns-in_err-holds
+at_all_elements-returns-in_err-holds g t c =
+    let p = program_of c.args.context.now.system.now in
+    let tells = g.R.Reader.tells in
+    let element = element_in c.args.context.now.system.now c.args.list in
+    let place = place_in c.args.context.now in
+    let e = expression_of c.args.condition.now in
+    let so_far = c.elements.invariant in
+    let within : c.elements.i < c.args.list.count = omega (arith, c.elements-test.true) in
+    thrown_over c.from_residual-in_err-holds.ensures
+    (each_stopped p (tells c.args.reader.now) (tells c.elements.reader) (tells c.at_element.new.reader) place e element (put c.args.all) c.args.all c.args.list.count c.elements.i c.elements.so_far c.in_err-holds.field-0.0 within so_far.1 so_far.2 (at_value c.get-element.ensures c.in_err-holds.ensures.reads))
+
+pub at_all_elements-elements-preserved : goal.at_all_elements-elements-preserved
+at_all_elements-elements-preserved g t c =
+    let p = program_of c.args.context.now.system.now in
+    let tells = g.R.Reader.tells in
+    let element = element_in c.args.context.now.system.now c.args.list in
+    let place = place_in c.args.context.now in
+    let e = expression_of c.args.condition.now in
+    let so_far = c.elements.invariant in
+    let within : c.elements.i < c.args.list.count = omega (arith, c.elements-test.true) in (
+      c.in_ok-holds.ensures.room,
+      grows_then so_far.1 c.in_ok-holds.ensures.reads.kept,
+      subst (λ b. Went (tells c.at_element.new.reader).has element (read_with p place e) (put c.args.all) c.args.all (c.elements.i + 1) b) (sym c.put_together-so_far.ensures)
+          (each_further p (tells c.args.reader.now) (tells c.elements.reader) (tells c.at_element.new.reader) place e element (put c.args.all) c.args.all c.args.list.count c.elements.i c.elements.so_far c.in_ok-holds.holds so_far.2 (at_value c.get-element.ensures c.in_ok-holds.ensures.reads)),
+      omega (arith, within),
+    )
+
+pub at_all_elements-returns : goal.at_all_elements-returns
+at_all_elements-returns g t c =
+    let p = program_of c.args.context.now.system.now in
+    let tells = g.R.Reader.tells in
+    let element = element_in c.args.context.now.system.now c.args.list in
+    let place = place_in c.args.context.now in
+    let e = expression_of c.args.condition.now in
+    let so_far = c.elements.invariant in
+    let all : c.elements.i ≡ c.args.list.count = omega (arith, c.elements-test.false, so_far.3) in
+    each_ended p (tells c.args.reader.now) (tells c.elements.reader) (tells c.elements.reader) place e element (put c.args.all) c.args.all c.args.list.count c.elements.i c.elements.so_far _ all so_far.1 so_far.2 refl
+
+pub first_element-returns-in_err-at_element : goal.first_element-returns-in_err-at_element
+first_element-returns-in_err-at_element g t c =
+    let p = program_of c.args.context.now.system.now in
+    let tells = g.R.Reader.tells in
+    let element = element_in c.args.context.now.system.now c.args.list in
+    let place = place_in c.args.context.now in
+    let e = expression_of c.args.condition.now in
+    let so_far = c.elements.invariant in
+    let within : c.elements.i < c.args.list.count = omega (arith, c.elements-test.true) in
+    thrown_over c.from_residual-in_err-at_element.ensures
+    (first_stopped p (tells c.args.reader.now) (tells c.elements.reader) (tells c.at_element.new.reader) place e element c.args.list.count c.elements.i c.in_err-at_element.field-0.0 within so_far.1 so_far.2 (at_value c.get-element.ensures c.in_err-at_element.ensures.reads))
+
+pub first_element-returns-then-branch : goal.first_element-returns-then-branch
+first_element-returns-then-branch g t c =
+    let p = program_of c.args.context.now.system.now in
+    let tells = g.R.Reader.tells in
+    let element = element_in c.args.context.now.system.now c.args.list in
+    let place = place_in c.args.context.now in
+    let e = expression_of c.args.condition.now in
+    let so_far = c.elements.invariant in
+    let within : c.elements.i < c.args.list.count = omega (arith, c.elements-test.true) in
+    let reads = subst (λ b. ReadsAt p (tells c.elements.reader) (tells c.at_element.new.reader) place (element c.elements.i) e (Ok b)) c.if-branch.true (at_value c.get-element.ensures c.in_ok-at_element.ensures.reads) in
+    first_found p (tells c.args.reader.now) (tells c.elements.reader) (tells c.at_element.new.reader) place e element c.args.list.count c.elements.i c.get-element.result within so_far.1 so_far.2 reads c.get-element.ensures
+
+pub first_element-elements-preserved : goal.first_element-elements-preserved
+first_element-elements-preserved g t c =
+    let p = program_of c.args.context.now.system.now in
+    let tells = g.R.Reader.tells in
+    let element = element_in c.args.context.now.system.now c.args.list in
+    let place = place_in c.args.context.now in
+    let e = expression_of c.args.condition.now in
+    let so_far = c.elements.invariant in
+    let within : c.elements.i < c.args.list.count = omega (arith, c.elements-test.true) in
+    let reads = subst (λ b. ReadsAt p (tells c.elements.reader) (tells c.at_element.new.reader) place (element c.elements.i) e (Ok b)) c.if-branch.false (at_value c.get-element.ensures c.in_ok-at_element.ensures.reads) in (
+      c.in_ok-at_element.ensures.room,
+      grows_then so_far.1 c.in_ok-at_element.ensures.reads.kept,
+      first_further p (tells c.args.reader.now) (tells c.elements.reader) (tells c.at_element.new.reader) place e element c.args.list.count c.elements.i so_far.2 reads,
+      omega (arith, within),
+    )
+
+pub first_element-returns : goal.first_element-returns
+first_element-returns g t c =
+    let p = program_of c.args.context.now.system.now in
+    let tells = g.R.Reader.tells in
+    let element = element_in c.args.context.now.system.now c.args.list in
+    let place = place_in c.args.context.now in
+    let e = expression_of c.args.condition.now in
+    let so_far = c.elements.invariant in
+    let all : c.elements.i ≡ c.args.list.count = omega (arith, c.elements-test.false, so_far.3) in
+    first_ended p (tells c.args.reader.now) (tells c.elements.reader) (tells c.elements.reader) place e element c.args.list.count c.elements.i _ all so_far.1 so_far.2 refl
+
+pub meaning-returns-in_ok-meaning-in-Quantified : goal.meaning-returns-in_ok-meaning-in-Quantified
+meaning-returns-in_ok-meaning-in-Quantified g t c =
+    said c.in-Quantified.is (over_goes (boxed c.deref-in-Quantified.ensures c.in_ok-meaning-in-Quantified.ensures) c.of-list.ensures (boxed_over c.deref-in-Quantified-2.ensures c.over_elements.ensures))
+
+pub at_all_elements-elements-init : goal.at_all_elements-elements-init
+at_all_elements-elements-init g t c =
+    (c.in_ok-names.ensures, grows_self c.requires, nowhere, omega arith)
+
+pub first_element-elements-init : goal.first_element-elements-init
+first_element-elements-init g t c =
+    (c.in_ok-names.ensures, grows_self c.requires, none, omega arith)

@@ -1,0 +1,115 @@
+-- What a form over a list says, from what its condition says at the elements.
+use Rattle.std.proofs.Common.{◌≡◌, ℕ, suc, ◌+◌, ◌-◌, ◌<◌, ◌≤◌, Bool, true, false, cond, List, [], map, Result, Ok, Err, refl, sym, ap, subst, ◌∙◌, arith}
+use Rattle.std.specs.List.{range_with_len}
+use Rattle.std.specs.Result.{IsErr, IsErrAnd}
+use Rattle.std.proofs.lemmas.Result.{err_from_is_err_and}
+use Rattle.attr_rules.specs.declared.expression.TExpr.{TExpr}
+use Rattle.attr_rules.specs.Expression.{Expression, expression_of}
+use Rattle.solutions.specs.Asking.{Demands, Ends, Halts, Gives, gives, next}
+use Rattle.equation_law.specs.declared.coding.Value.{Value as CodedValue}
+use Rattle.equation_law.specs.Codes.{value_of}
+use Rattle.equation_law.specs.Equations.{text_of}
+use Rattle.equation_law.specs.Meaning.{Place, at_each, first_with}
+use Rattle.equation_law.specs.Names.{Instance, Null}
+use Rattle.equation_law.specs.Program.{Program}
+use Rattle.equation_law.specs.Reading.{Grows, Told}
+use Rattle.equation_law.specs.Values.{Value, Node, Truth, truth}
+use Rattle.expr_eval.specs.declared.evaluation.Halt.{Halt}
+use Rattle.expr_eval.specs.declared.evaluation.Halt.TheVariants.{Need, Memory}
+use Rattle.expr_eval.specs.Elements.{OverReads, ReadsAt, read_with}
+use Rattle.expr_eval.specs.Evaluating.{Answers}
+use Rattle.expr_eval.specs.Going.{Passed, Went, further, more}
+use Rattle.expr_eval.proofs.Forms.{ends_next, grows_then, halts_first}
+use Rattle.expr_eval.proofs.Going.{passed_ends, passed_halts, passed_more, went_ends, went_halts, went_more}
+
+-- the answer at a value
+pub at_value : {S : Type 0} {p : Program} {r s : Told S} {place : Place} {x y : Value} {e : Expression} {res : Result Bool Halt} → x ≡ y → ReadsAt p r s place x e res → ReadsAt p r s place y e res
+at_value {p = p} {r = r} {s = s} {place = place} {e = e} {res = res} same a = subst (λ (z : Value). ReadsAt p r s place z e res) same a
+
+-- the fault that is handed on
+pub thrown_over : {S : Type 0} {p : Program} {r s : Told S} {place : Place} {o : (Value → Demands Instance Value) → Demands Instance Value} {e : Expression} {h : Halt} {res : Result CodedValue Halt} → IsErr res × IsErrAnd res (λ m. m ≡ h) → OverReads p r s place o e (Err h) → OverReads p r s place o e res
+thrown_over {p = p} {r = r} {s = s} {place = place} {o = o} {e = e} {res = res} f a = let g = err_from_is_err_and res f.1 in subst (OverReads p r s place o e) (sym (g.1 ∙ ap Err g.2)) a
+
+-- a condition that lies in a box
+pub boxed_over : {S : Type 0} {p : Program} {r s : Told S} {place : Place} {o : (Value → Demands Instance Value) → Demands Instance Value} {d a : TExpr} {res : Result CodedValue Halt} → d ≡ a → OverReads p r s place o (expression_of d) res → OverReads p r s place o (expression_of a) res
+boxed_over {p = p} {r = r} {s = s} {place = place} {o = o} {res = res} same x = subst (λ (z : TExpr). OverReads p r s place o (expression_of z) res) same x
+
+-- the elements that are left behind one
+rest_of : (n count : ℕ) → n < count → n + suc (count - suc n) ≡ count
+rest_of n count h = omega (arith, h)
+
+module _ {S : Type 0} (p : Program) (r m s : Told S) (place : Place) (e : Expression) (element : ℕ → Value) where
+  abbrev condition : Value → Demands Instance Value
+  condition = read_with p place e
+
+  module _ (put : Bool → Bool → Bool) (start : Bool) (count : ℕ) where
+    abbrev over : (Value → Demands Instance Value) → Demands Instance Value
+    over f = at_each put start (map element (range_with_len 0 count)) f
+
+    pub each_stopped : (n : ℕ) (b : Bool) (h : Halt) → n < count → Grows p r m → Went m.has element condition put start n b → ReadsAt p m s place (element n) e (Err h) → OverReads p r s place over e (Err h)
+    each_stopped n b (Need j) within before went a =
+        let halts = halts_first (λ v. at_each put (put b (truth v)) (map element (range_with_len (n + 1) (count - suc n))) condition) a.is.halts in
+        let whole = went_halts element condition put start (went_more a.kept.values went) (suc (count - suc n)) halts in
+        record {
+          kept = grows_then before a.kept;
+          is = subst (λ k. Answers p s (at_each put start (map element (range_with_len 0 k)) condition) (Err (Need j))) (rest_of n count within) (record { demands = whole.0; halts = whole.1 });
+        }
+    each_stopped n b Memory within before went a = record { kept = grows_then before a.kept; is = tt }
+
+    pub each_ended : (n : ℕ) (b : Bool) (x : CodedValue) → n ≡ count → Grows p r m → Went m.has element condition put start n b → value_of (text_of p) x ≡ Truth b → OverReads p r m place over e (Ok x)
+    each_ended n b x all before went is =
+        let whole = went_ends element condition put start went 0 (subst (λ v. Ends m.has (Gives (Truth b)) v []) (sym is) ended) in
+        let same : n + 0 ≡ count = omega (arith, all) in
+        record {
+          kept = before;
+          is = subst (λ k. Answers p m (at_each put start (map element (range_with_len 0 k)) condition) (Ok x)) same (record { demands = whole.0; ends = whole.1 });
+        }
+      where
+        ended : Ends m.has (Gives (Truth b)) (Truth b) []
+        ended = gives
+
+    pub each_further : (n : ℕ) (b c : Bool) → Went m.has element condition put start n b → ReadsAt p m s place (element n) e (Ok c) → Went s.has element condition put start (n + 1) (put b c)
+    each_further n b c went a =
+        let here = further (went_more a.kept.values went) a.is.1.ends in
+        subst (λ d. Went s.has element condition put start (n + 1) (put b d)) (sym a.is.2) here
+
+  module _ (count : ℕ) where
+    abbrev first : (Value → Demands Instance Value) → Demands Instance Value
+    first f = first_with (map element (range_with_len 0 count)) f
+
+    pub first_stopped : (n : ℕ) (h : Halt) → n < count → Grows p r m → Passed m.has element condition n → ReadsAt p m s place (element n) e (Err h) → OverReads p r s place first e (Err h)
+    first_stopped n (Need j) within before passed a =
+        let halts = halts_first (λ v. cond (truth v) (Gives (element n)) (first_with (map element (range_with_len (n + 1) (count - suc n))) condition)) a.is.halts in
+        let whole = passed_halts element condition (passed_more a.kept.values passed) (suc (count - suc n)) halts in
+        record {
+          kept = grows_then before a.kept;
+          is = subst (λ k. Answers p s (first_with (map element (range_with_len 0 k)) condition) (Err (Need j))) (rest_of n count within) (record { demands = whole.0; halts = whole.1 });
+        }
+    first_stopped n Memory within before passed a = record { kept = grows_then before a.kept; is = tt }
+
+    pub first_found : (n : ℕ) (x : CodedValue) → n < count → Grows p r m → Passed m.has element condition n → ReadsAt p m s place (element n) e (Ok true) → value_of (text_of p) x ≡ element n → OverReads p r s place first e (Ok x)
+    first_found n x within before passed a is =
+        let rest = first_with (map element (range_with_len (n + 1) (count - suc n))) condition in
+        let taken : cond (truth (value_of (text_of p) a.is.0)) (Gives (element n)) rest ≡ Gives (value_of (text_of p) x) = ap (λ b. cond b (Gives (element n)) rest) (sym a.is.2) ∙ ap Gives (sym is) in
+        let ends = ends_next (λ v. cond (truth v) (Gives (element n)) rest) a.is.1.ends (subst (λ c. Ends s.has c (value_of (text_of p) x) []) (sym taken) gives) in
+        let whole = passed_ends element condition (passed_more a.kept.values passed) (suc (count - suc n)) ends in
+        record {
+          kept = grows_then before a.kept;
+          is = subst (λ k. Answers p s (first_with (map element (range_with_len 0 k)) condition) (Ok x)) (rest_of n count within) (record { demands = whole.0; ends = whole.1 });
+        }
+
+    pub first_ended : (n : ℕ) (x : CodedValue) → n ≡ count → Grows p r m → Passed m.has element condition n → value_of (text_of p) x ≡ Node Null → OverReads p r m place first e (Ok x)
+    first_ended n x all before passed is =
+        let whole = passed_ends element condition passed 0 (subst (λ v. Ends m.has (Gives (Node Null)) v []) (sym is) null) in
+        let same : n + 0 ≡ count = omega (arith, all) in
+        record {
+          kept = before;
+          is = subst (λ k. Answers p m (first_with (map element (range_with_len 0 k)) condition) (Ok x)) same (record { demands = whole.0; ends = whole.1 });
+        }
+      where
+        null : Ends m.has (Gives (Node Null)) (Node Null) []
+        null = gives
+
+    pub first_further : (n : ℕ) → Passed m.has element condition n → ReadsAt p m s place (element n) e (Ok false) → Passed s.has element condition (n + 1)
+    first_further n passed a =
+        more (passed_more a.kept.values passed) a.is.1.ends (sym a.is.2)

@@ -1,0 +1,44 @@
+-- The calls go down the expression; how far a form over a list has gone.
+use Rattle.std.proofs.Common.{ℕ, ◌+◌, ◌*◌, ◌≤◌}
+use Rattle.attr_rules.proofs.expression.TExpr.TheLaws.{the_size}
+use Rattle.attr_rules.specs.Expression.{expression_of}
+use Rattle.equation_law.specs.Reading.{Grows}
+use Rattle.equation_law.specs.Systems.{program_of}
+use Rattle.expr_eval.specs.Elements.{Rooms, element_in, put, read_with}
+use Rattle.expr_eval.specs.Evaluating.{place_in}
+use Rattle.expr_eval.specs.Going.{Passed, Went}
+use Rattle.expr_eval.proofs.evaluation.+meaning.Given as goal
+
+abbrev pub decreases-meaning : goal.decreases-meaning
+decreases-meaning g a = 5 * the_size a.expression.now + 3
+
+abbrev pub decreases-operation : goal.decreases-operation
+decreases-operation g a = 5 * the_size a.expression.now + 2
+
+abbrev pub decreases-over_elements : goal.decreases-over_elements
+decreases-over_elements g a = 5 * the_size a.condition.now + 6
+
+abbrev pub decreases-at_all_elements : goal.decreases-at_all_elements
+decreases-at_all_elements g a = 5 * the_size a.condition.now + 5
+
+abbrev pub decreases-first_element : goal.decreases-first_element
+decreases-first_element g a = 5 * the_size a.condition.now + 5
+
+abbrev pub decreases-at_element : goal.decreases-at_element
+decreases-at_element g a = 5 * the_size a.condition.now + 4
+
+abbrev pub invariant-at_all_elements-elements : goal.invariant-at_all_elements-elements
+invariant-at_all_elements-elements g l =
+    let system = l.context.system.now in
+    Rooms l.context.names.now l.names.items
+    × Grows (program_of system) (g.R.Reader.tells l.initial.reader) (g.R.Reader.tells l.reader)
+    × Went (g.R.Reader.tells l.reader).has (element_in system l.list) (read_with (program_of system) (place_in l.context) (expression_of l.condition)) (put l.all) l.all l.i l.so_far
+    × (l.i ≤ l.list.count)
+
+abbrev pub invariant-first_element-elements : goal.invariant-first_element-elements
+invariant-first_element-elements g l =
+    let system = l.context.system.now in
+    Rooms l.context.names.now l.names.items
+    × Grows (program_of system) (g.R.Reader.tells l.initial.reader) (g.R.Reader.tells l.reader)
+    × Passed (g.R.Reader.tells l.reader).has (element_in system l.list) (read_with (program_of system) (place_in l.context) (expression_of l.condition)) l.i
+    × (l.i ≤ l.list.count)

@@ -1,0 +1,55 @@
+-- The elements of a list that is gone over.
+use Rattle.std.specs.Prelude.{◌≡◌, ℕ, pos, Bool, true, false, ◌&&◌, ◌||◌, List, ◌∷◌, Result, Ok, Err, map}
+use Rattle.std.specs.List.{range_with_len}
+use Rattle.attr_rules.specs.Expression.{Expression}
+use Rattle.solutions.specs.Asking.{Demands}
+use Rattle.equation_law.specs.declared.coding.Value.{Value as CodedValue}
+use Rattle.equation_law.specs.declared.system.System.{System}
+use Rattle.equation_law.specs.Codes.{reference_of, value_of}
+use Rattle.equation_law.specs.Equations.{text_of}
+use Rattle.equation_law.specs.Meaning.{Place, element_at, with_name}
+use Rattle.equation_law.specs.Names.{Instance}
+use Rattle.equation_law.specs.Program.{Program}
+use Rattle.equation_law.specs.Reading.{Grows, Told}
+use Rattle.equation_law.specs.Values.{Value, Node, truth}
+use Rattle.expr_eval.specs.declared.accessors.Elements.{Elements}
+use Rattle.expr_eval.specs.declared.evaluation.Halt.{Halt}
+use Rattle.expr_eval.specs.Evaluating.{Answers, Given, read_at, world_in}
+
+-- the element at a place
+abbrev pub element_in : System → Elements → ℕ → Value
+element_in s e i = Node (element_at (world_in s) e.component (reference_of e.owner.0) (pos i))
+
+-- so many of them from the i-th on
+abbrev pub elements_from : System → Elements → ℕ → ℕ → List Value
+elements_from s e i n = map (element_in s e) (range_with_len i n)
+
+abbrev pub elements_in : System → Elements → List Value
+elements_in s e = elements_from s e 0 e.count
+
+-- a value stands in front of the names
+abbrev pub Rooms : List CodedValue → List CodedValue → Type 0
+Rooms names more = (v : CodedValue) × (more ≡ v ∷ names)
+
+-- whether all hold, or any
+abbrev pub put : Bool → Bool → Bool → Bool
+put true = λ a b. a && b
+put false = λ a b. a || b
+
+-- what a condition demands at an element
+abbrev pub read_with : Program → Place → Expression → Value → Demands Instance Value
+read_with p place e x = read_at p (with_name place x) e
+
+abbrev pub AnswersTruth : {S : Type 0} → Program → Told S → Demands Instance Value → Result Bool Halt → Type 0
+AnswersTruth p s c (Ok b) = (v : CodedValue) × Given p s c v × (b ≡ truth (value_of (text_of p) v))
+AnswersTruth p s c (Err h) = Answers p s c (Err h)
+
+-- the answer to a condition at an element
+pub record ReadsAt {S : Type 0} (p : Program) (r s : Told S) (place : Place) (element : Value) (e : Expression) (result : Result Bool Halt) : Type 0 where
+  pub kept : Grows p r s
+  pub is : AnswersTruth p s (read_with p place e element) result
+
+-- the answer to a condition at the elements of a list, by what is demanded of them
+pub record OverReads {S : Type 0} (p : Program) (r s : Told S) (place : Place) (over : (Value → Demands Instance Value) → Demands Instance Value) (e : Expression) (result : Result CodedValue Halt) : Type 0 where
+  pub kept : Grows p r s
+  pub is : Answers p s (over (read_with p place e)) result

@@ -1,0 +1,16 @@
+-- How far a form over a list has gone.
+use Rattle.std.specs.Prelude.{◌≡◌, ℕ, ◌+◌, Bool, false, List}
+use Rattle.solutions.specs.Asking.{Demands, Ends}
+use Rattle.equation_law.specs.Names.{Instance}
+use Rattle.equation_law.specs.Values.{Value, truth}
+
+module _ (A : Instance → Value → Type 0) (element : ℕ → Value) (condition : Value → Demands Instance Value) where
+  -- the condition was evaluated at so many elements, and what it said put together
+  pub data Went (put : Bool → Bool → Bool) (start : Bool) : ℕ → Bool → Type 0 where
+    nowhere : Went put start 0 start
+    further : {n : ℕ} {b : Bool} {v : Value} {ds : List Instance} → Went put start n b → Ends A (condition (element n)) v ds → Went put start (n + 1) (put b (truth v))
+
+  -- it was false at so many elements
+  pub data Passed : ℕ → Type 0 where
+    none : Passed 0
+    more : {n : ℕ} {v : Value} {ds : List Instance} → Passed n → Ends A (condition (element n)) v ds → truth v ≡ false → Passed (n + 1)
