@@ -1,12 +1,21 @@
--- Which items and expressions are built so far: those that plain synthesized attributes need.
+-- Which items and expressions are built so far: those that synthesized attributes of single values without parameters need.
 use Rattle.std.specs.Prelude.{ℕ, List, [], ◌∷◌, Bool, true, false, not, ◌&&◌, Option, Some, None, codes}
 use Rattle.rag_io.specs.Words.{is_one_of}
+use Rattle.jrag_reader.specs.declared.expression.Quantifier.{Quantifier}
+use Rattle.jrag_reader.specs.declared.expression.Quantifier.TheVariants as forms
 use Rattle.jrag_reader.specs.Expressions.{Expr, Arguments, no_more, argument, Truth, Null, Empty, This, Int, Text, Source, Variable, Call, Member, New, Quantified, Group, Cast, Not, Negate, Binary, InstanceOf, If}
-use Rattle.jrag_reader.specs.Items.{TypeName, Boolean, Integer, String, Class, WrittenType, Parameter, Signature, Circular, Synthesized, Equation, Item, Declared, Inherits, Equates, Collects, Contributes}
+use Rattle.jrag_reader.specs.Items.{WrittenType, Parameter, Signature, Circular, Synthesized, Equation, Item, Declared, Inherits, Equates, Collects, Contributes}
 
 -- the words of the forms on sets, which are calls without receiver
 abbrev pub set_forms : List (List ℕ)
 set_forms = codes "single" ∷ codes "union" ∷ codes "inter" ∷ codes "minus" ∷ codes "contains" ∷ codes "size" ∷ []
+
+-- a form over a list that gives no set
+abbrev pub gives_one : Quantifier → Bool
+gives_one forms.Each = false
+gives_one forms.Any = true
+gives_one forms.All = true
+gives_one forms.First = true
 
 abbrev mutual
   pub is_built : Expr → Bool
@@ -21,28 +30,22 @@ abbrev mutual
   is_built (Call n es) = not (is_one_of set_forms n.text) && are_built es
   is_built (Member e n es) = is_built e && are_built es
   is_built (New p n es) = false
-  is_built (Quantified q p n range e) = false
+  is_built (Quantified q p n range e) = gives_one q && (is_built range && is_built e)
   is_built (Group p e) = is_built e
-  is_built (Cast p n e) = false
+  is_built (Cast p n e) = is_built e
   is_built (Not p e) = is_built e
   is_built (Negate p e) = is_built e
   is_built (Binary o a b) = is_built a && is_built b
-  is_built (InstanceOf e n) = false
+  is_built (InstanceOf e n) = is_built e
   is_built (If c a b) = is_built c && (is_built a && is_built b)
 
   pub are_built : Arguments → Bool
   are_built no_more = true
   are_built (argument e es) = is_built e && are_built es
 
--- `boolean`, `int` or `String`
-abbrev pub is_plain_name : TypeName → Bool
-is_plain_name Boolean = true
-is_plain_name Integer = true
-is_plain_name String = true
-is_plain_name (Class name) = false
-
+-- a type that is no set
 abbrev pub is_plain : WrittenType → Bool
-is_plain t = not t.set && is_plain_name t.name
+is_plain t = not t.set
 
 abbrev pub are_none : List Parameter → Bool
 are_none [] = true
@@ -63,7 +66,7 @@ abbrev pub has_no_path : Option Signature → Bool
 has_no_path None = true
 has_no_path (Some s) = false
 
--- a declaration without `nta`, `circular` and parameters, of a plain type
+-- a declaration without `nta`, `circular` and parameters, of a type that is no set
 abbrev pub is_built_declaration : Synthesized → Bool
 is_built_declaration s = not s.higher_order && (is_plain s.of && (has_none s.signature && (is_not_circular s.circular && is_built_body s.body)))
 

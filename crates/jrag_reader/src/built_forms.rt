@@ -1,13 +1,13 @@
-// Which items are built so far: those that plain synthesized attributes need.
+// Which items are built so far: those that synthesized attributes of single values without parameters need.
 ghost use Rattle.std.specs.Prelude.{◌≡◌, map};
 ghost use Rattle.rag_io.specs.Words.{is_one_of};
-ghost use Rattle.jrag_reader.specs.Built.{all_built, are_built, has_none, is_built, is_built_declaration, is_built_equation, is_built_item, is_plain, set_forms};
+ghost use Rattle.jrag_reader.specs.Built.{all_built, are_built, has_none, is_built, is_built_declaration, is_built_equation, is_built_item, is_plain, gives_one, set_forms};
 ghost use Rattle.jrag_reader.specs.Expressions.{arguments_of, seen_expr};
 ghost use Rattle.jrag_reader.specs.Items.{seen_aspects, seen_equation, seen_item, seen_signature, seen_synthesized, seen_type};
 
 use crate::aspects::Aspects;
-use crate::expression::Expr;
-use crate::items::{Equation, Item, Signature, Synthesized, Type, TypeName};
+use crate::expression::{Expr, Quantifier};
+use crate::items::{Equation, Item, Signature, Synthesized, Type};
 
 // The word of a form on sets, which is a call without receiver.
 fn is_set_form(text: &[u8]) -> bool
@@ -19,6 +19,16 @@ fn is_set_form(text: &[u8]) -> bool
         || text == b"minus".as_slice()
         || text == b"contains".as_slice()
         || text == b"size".as_slice()
+}
+
+// A form over a list that gives no set.
+fn gives_one(form: Quantifier) -> bool
+    ensures { result ≡ gives_one form }
+{
+    match form {
+        Quantifier::Each => false,
+        Quantifier::Any | Quantifier::All | Quantifier::First => true,
+    }
 }
 
 // It goes down the expression, which has at most 400 tokens.
@@ -34,18 +44,19 @@ fn is_built_expr(expr: &Expr) -> bool
         | Expr::Text(..)
         | Expr::Source(..)
         | Expr::Variable(_) => true,
-        Expr::Empty(_)
-        | Expr::New(..)
-        | Expr::Quantified(..)
-        | Expr::Cast(..)
-        | Expr::InstanceOf(..) => false,
+        Expr::Empty(_) | Expr::New(..) => false,
         Expr::Call(name, arguments) => { !is_set_form(&name.text) && are_built_exprs(arguments) }
         Expr::Member(receiver, _, arguments) => {
             is_built_expr(receiver) && are_built_exprs(arguments)
         }
-        Expr::Group(_, inner) | Expr::Not(_, inner) | Expr::Negate(_, inner) => {
-            is_built_expr(inner)
+        Expr::Quantified(form, _, _, range, condition) => {
+            gives_one(*form) && is_built_expr(range) && is_built_expr(condition)
         }
+        Expr::Group(_, inner)
+        | Expr::Cast(_, _, inner)
+        | Expr::Not(_, inner)
+        | Expr::Negate(_, inner)
+        | Expr::InstanceOf(inner, _) => is_built_expr(inner),
         Expr::Binary(_, left, right) => is_built_expr(left) && is_built_expr(right),
         Expr::If(condition, then, otherwise) => {
             is_built_expr(condition) && is_built_expr(then) && is_built_expr(otherwise)
@@ -65,14 +76,11 @@ fn are_built_exprs(exprs: &[Expr]) -> bool
     true
 }
 
+// A type that is no set.
 fn is_plain(of: &Type) -> bool
     ensures { result ≡ is_plain (seen_type of.now) }
 {
     !of.set
-        && match of.name {
-            TypeName::Boolean | TypeName::Int | TypeName::String => true,
-            TypeName::Class(_) => false,
-        }
 }
 
 fn has_none(signature: &Signature) -> bool
@@ -110,8 +118,8 @@ fn is_built_item(item: &Item) -> bool
     }
 }
 
-/// Whether every form is one that plain synthesized attributes need: items `syn` without `nta`, `circular` and parameters, of type `boolean`, `int` or `String`, and
-/// `eq` without path and parameters; expressions without `new`, `empty`, casts, `instanceof`, quantifiers and the forms on sets.
+/// Whether every form is built so far: items `syn` without `nta`, `circular` and parameters, of any type but sets, and `eq` without path and
+/// parameters; expressions without `new`, `empty`, `each` and the forms on sets.
 pub fn built(aspects: &Aspects) -> bool
     ensures { result ≡ all_built (seen_aspects aspects.now) }
 {

@@ -2,7 +2,7 @@
 use super::*;
 use jrag_reader::built;
 
-const BUILT: [&str; 17] = [
+const BUILT: [&str; 27] = [
     "",
     "syn int N.v();",
     "syn int N.v() = 1;",
@@ -20,15 +20,24 @@ const BUILT: [&str; 17] = [
     "eq N.v() = Size(sizes(), first(any()));",
     "eq N.v() = size;",
     "syn int N.v() = 1; eq N.v() = 2; eq M.v() = 3;",
+    "eq N.v() = (C) x;",
+    "eq N.v() = x instanceof C;",
+    "eq N.v() = any(x : r | b);",
+    "eq N.v() = all(x : r | b);",
+    "eq N.v() = first(x : r | b);",
+    "syn N N.v();",
+    "eq N.v() = x == (N) y;",
+    "eq N.v() = (x instanceof N) == y;",
+    "eq N.v() = !any(x : r | b);",
+    "eq N.v() = all(x : any(y : r | b) | c);",
 ];
 
-const NOT_BUILT: [&str; 56] = [
+const NOT_BUILT: [&str; 53] = [
     // Declarations and items.
     "syn nta N N.v();",
     "syn nta int N.v();",
     "syn int N.v(int i);",
     "syn int N.v(int i) = 1;",
-    "syn N N.v();",
     "syn Set<int> N.v();",
     "syn Set<N> N.v();",
     "syn boolean N.v() circular [false];",
@@ -43,12 +52,7 @@ const NOT_BUILT: [&str; 56] = [
     // Expressions.
     "eq N.v() = empty;",
     "eq N.v() = new C();",
-    "eq N.v() = (C) x;",
-    "eq N.v() = x instanceof C;",
     "eq N.v() = each(x : r | b);",
-    "eq N.v() = any(x : r | b);",
-    "eq N.v() = all(x : r | b);",
-    "eq N.v() = first(x : r | b);",
     "eq N.v() = single(1);",
     "eq N.v() = union(a, b);",
     "eq N.v() = inter(a, b);",
@@ -74,10 +78,13 @@ const NOT_BUILT: [&str; 56] = [
     "eq N.v() = x.v(empty);",
     "eq N.v() = x.v(1, empty);",
     "eq N.v() = x.v(w(y.z(empty)));",
-    "eq N.v() = x == (N) y;",
-    "eq N.v() = (x instanceof N) == y;",
-    "eq N.v() = !any(x : r | b);",
     "eq N.v() = 1 + size(x);",
+    "eq N.v() = (C) empty;",
+    "eq N.v() = empty instanceof C;",
+    "eq N.v() = any(x : empty | b);",
+    "eq N.v() = any(x : r | empty);",
+    "eq N.v() = all(x : size(a) | b);",
+    "eq N.v() = first(x : r | each(y : s | b) == c);",
     // Among others.
     "inh int N.v(); eq N.v() = 1;",
     "eq N.v() = 1; inh int N.v();",
