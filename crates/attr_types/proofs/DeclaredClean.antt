@@ -1,20 +1,25 @@
 -- What holds of declarations that break nothing.
-use Rattle.std.proofs.Common.{◌≡◌, ◌==◌, ℕ, ◌+◌, ◌<◌, ◌≤◌, List, [], ◌∷◌, ◌++◌, ◌&&◌, true, false, not, All, Some, is_none, length, slice_get, take, sym, arith, length-append, subst}
+use Rattle.std.proofs.Common.{◌≡◌, ◌==◌, ℕ, ◌+◌, ◌<◌, ◌≤◌, List, [], ◌∷◌, ◌++◌, ◌&&◌, true, false, not, All, Some, None, refl, ◌∙◌, is_none, length, slice_get, take, sym, arith, length-append, subst, ap, if◌then◌else◌}
 use Rattle.std.specs.Str.{bytes_eq}
-use Rattle.std.proofs.lemmas.Bool.{and_parts}
+use Rattle.std.specs.Option.{unwrap_or}
+use Rattle.std.proofs.lemmas.Bool.{and_parts, not-true}
 use Rattle.std.proofs.lemmas.Bool.Decides.{nat_tests}
 use Rattle.std.proofs.lemmas.Option.{slice_get_within}
 use Rattle.broken_rules.specs.Notes.{at, each_after}
-use Rattle.broken_rules.specs.declared.rule.Rule.TheVariants.{J2, J17}
+use Rattle.broken_rules.specs.declared.rule.Rule.TheVariants.{J2, J4, J17}
 use Rattle.broken_rules.proofs.Clean.{append_none, not_broken}
 use Rattle.ast_grammar.specs.Grammar.{Class as ClassOf, class_named}
 use Rattle.jrag_reader.specs.Expressions.{Name}
-use Rattle.jrag_reader.specs.Built.{all_built, has_none, is_built_body, is_built_item, is_not_circular, is_plain as is_plain_type, is_plain_name}
-use Rattle.jrag_reader.specs.Items.{Item, Declared, Inherits, Equates, Collects, Contributes, Synthesized, TypeName, Boolean, Integer, String, Class}
-use Rattle.attr_rules.specs.Rules.{IsAttribute, is_plain, most_attributes}
-use Rattle.attr_types.specs.Heads.{again_broken, attribute_of, attributes_of, class_broken, class_or_first, count_broken, head_broken, heads_broken, kind_named, kind_written}
+use Rattle.jrag_reader.specs.Built.{all_built, has_none, is_built_body, is_built_item, is_not_circular, is_plain}
+use Rattle.jrag_reader.specs.Items.{Item, Declared, Inherits, Equates, Collects, Contributes, Synthesized, TypeName, Boolean, Integer, String, Class, WrittenType}
+use Rattle.attr_rules.specs.Rules.{IsAttribute, is_single, most_attributes}
+use Rattle.attr_rules.specs.Types.{kind_class}
+use Rattle.ast_grammar.specs.declared.grammar.ClassId.{ClassId}
+use Rattle.attr_rules.specs.declared.kinds.Kind.{Kind}
+use Rattle.attr_rules.specs.declared.kinds.Kind.TheVariants as kinds
+use Rattle.attr_types.specs.Heads.{again_broken, attribute_of, attributes_of, class_broken, class_or_first, count_broken, class_numbered, head_broken, heads_broken, kind_written, node_kind, set_named, single_named, type_broken, type_written}
 use Rattle.attr_types.specs.Written.{declarations, declared_in}
-use Rattle.attr_types.proofs.ItemsFound.{after_found, all_found, built_found, map_found, position_found, some_there}
+use Rattle.attr_types.proofs.ItemsFound.{after_found, all_found, built_found, map_found, position_found, some_from, some_there}
 
 -- a class is named, where the name is that of one
 pub class_there : (g : List ClassOf) (n : Name) → class_broken g n ≡ [] → (c : ℕ) × (class_named g n.text ≡ Some c)
@@ -24,36 +29,62 @@ class_there g n none = some_there (class_named g n.text) (not_broken (is_none (c
 pub class_within : (g : List ClassOf) (name : List ℕ) (c : ℕ) → class_named g name ≡ Some c → c < length g
 class_within g name c e = let found = position_found (λ (d : ClassOf). bytes_eq d.name name) g c e in slice_get_within g c found.0 found.1
 
--- the type of a built declaration is plain
-plain_named : (n : TypeName) → is_plain_name n ≡ true → is_plain (kind_named n) ≡ true
-plain_named Boolean e = e
-plain_named Integer e = e
-plain_named String e = e
-plain_named (Class name) e = absurd (cc)
+-- a type that an attribute may have so far: one of single values, and a class is one of the grammar
+record IsKept (g : List ClassOf) (k : Kind) : Type 0 where
+  single : is_single k ≡ true
+  class : (c : ClassId) → kind_class k ≡ Some c → c.0 < length g
 
-plain_in : (item : Item) (s : Synthesized) → is_built_item item ≡ true → declared_in item ≡ Some s → is_plain (kind_written s.of) ≡ true
+module _ (g : List ClassOf) where
+  classless : (k : Kind) {l : Kind} → k ≡ l → is_single k ≡ true → kind_class k ≡ None → IsKept g l
+  classless k is single none = subst (IsKept g) is (record { single = single; class = λ c e. (let never : None ≡ Some c = sym none ∙ e in cc) })
+
+  named_kept : (n : TypeName) (k : Kind) → single_named g n ≡ Some k → IsKept g k
+  named_kept Boolean k e = let same : kinds.Truth ≡ k = cc in classless kinds.Truth same refl refl
+  named_kept Integer k e = let same : kinds.Int ≡ k = cc in classless kinds.Int same refl refl
+  named_kept String k e = let same : kinds.Text ≡ k = cc in classless kinds.Text same refl refl
+  named_kept (Class name) k e =
+      let found = some_from node_kind (class_named g name) k e in
+      let within = class_within g name found.0 found.1 in
+      subst (IsKept g) found.2 (record { single = refl; class = λ c is. (let same : class_numbered found.0 ≡ c = cc in subst (λ (d : ClassId). d.0 < length g) same within) })
+
+  -- the type of a declaration that breaks nothing and is no set
+  type_kept : (t : WrittenType) → t.set ≡ false → type_broken g t ≡ [] → IsKept g (kind_written g t)
+  type_kept t single none =
+      let there = some_there (type_written g t) (not_broken (is_none (type_written g t)) (at t.place J4) none) in
+      let named : single_named g t.name ≡ Some there.0 = ap (λ b. if b then set_named g t.name else single_named g t.name) (sym single) ∙ there.1 in
+      subst (λ o. IsKept g (unwrap_or o kinds.Truth)) (sym there.1) (named_kept t.name there.0 named)
+
+plain_in : (item : Item) (s : Synthesized) → is_built_item item ≡ true → declared_in item ≡ Some s → s.of.set ≡ false
 plain_in (Declared t) s built e =
     let same : t ≡ s = cc in
     let rest = (has_none t.signature && (is_not_circular t.circular && is_built_body t.body)) in
-    let plain = (and_parts (is_plain_type t.of) rest (and_parts (not t.higher_order) (is_plain_type t.of && rest) built).1).0 in
-    subst (λ (u : Synthesized). is_plain (kind_written u.of) ≡ true) same (plain_named t.of.name (and_parts (not t.of.set) (is_plain_name t.of.name) plain).1)
+    let plain = (and_parts (is_plain t.of) rest (and_parts (not t.higher_order) (is_plain t.of && rest) built).1).0 in
+    subst (λ (u : Synthesized). u.of.set ≡ false) same (not-true t.of.set plain)
 plain_in (Inherits i) s built e = absurd (cc)
 plain_in (Equates i) s built e = absurd (cc)
 plain_in (Collects c) s built e = absurd (cc)
 plain_in (Contributes c) s built e = absurd (cc)
 
 module _ (g : List ClassOf) where
-  head_parts : (before : List Synthesized) (s : Synthesized) → head_broken g before s ≡ [] → (class_broken g s.class ≡ []) × (count_broken before s.signature.name ≡ [])
+  -- the rules on a declaration, each for itself
+  record IsHead (before : List Synthesized) (s : Synthesized) : Type 0 where
+    of : type_broken g s.of ≡ []
+    class : class_broken g s.class ≡ []
+    count : count_broken before s.signature.name ≡ []
+
+  head_parts : (before : List Synthesized) (s : Synthesized) → head_broken g before s ≡ [] → IsHead before s
   head_parts before s none =
       let count = count_broken before s.signature.name in
-      let parts = append_none (class_broken g s.class) (again_broken g before s ++ count) none in
-      (parts.0, (append_none (again_broken g before s) count parts.1).1)
+      let named = again_broken g before s ++ count in
+      let of = append_none (type_broken g s.of) (class_broken g s.class ++ named) none in
+      let parts = append_none (class_broken g s.class) named of.1 in
+      record { of = of.0; class = parts.0; count = (append_none (again_broken g before s) count parts.1).1 }
 
   few_after : (before list : List Synthesized) → each_after (head_broken g) before list ≡ [] → length before ≤ most_attributes → length before + length list ≤ most_attributes
   few_after before [] none le = omega arith
   few_after before (s ∷ list) none le =
       let first = append_none (head_broken g before s) (each_after (head_broken g) (before ++ s ∷ []) list) none in
-      let room : (length before == most_attributes) ≡ false = not_broken (length before == most_attributes) (at s.signature.name.place J17) (head_parts before s first.0).1 in
+      let room : (length before == most_attributes) ≡ false = not_broken (length before == most_attributes) (at s.signature.name.place J17) (head_parts before s first.0).count in
       let less : length before < most_attributes = grind (arith, nat_tests) in
       let one : length (before ++ s ∷ []) ≡ length before + 1 = length-append before (s ∷ []) in
       let rest = few_after (before ++ s ∷ []) list first.1 (omega arith) in
@@ -63,14 +94,19 @@ module _ (g : List ClassOf) where
   pub few_declared : (list : List Synthesized) → heads_broken g list ≡ [] → length list ≤ most_attributes
   few_declared list none = omega (arith, few_after [] list none (omega arith))
 
-  -- each is for one of the classes
-  pub declared_there : (list : List Synthesized) (i : ℕ) (s : Synthesized) → heads_broken g list ≡ [] → slice_get list i ≡ Some s → (c : ℕ) × (class_named g s.class.text ≡ Some c)
-  declared_there list i s none e = class_there g s.class (head_parts (take i list) s (after_found (head_broken g) list i s none e)).0
+  -- each breaks nothing
+  head_there : (list : List Synthesized) (i : ℕ) (s : Synthesized) → heads_broken g list ≡ [] → slice_get list i ≡ Some s → IsHead (take i list) s
+  head_there list i s none e = head_parts (take i list) s (after_found (head_broken g) list i s none e)
 
-  declared_attribute : (s : Synthesized) (c : ℕ) → class_named g s.class.text ≡ Some c → is_plain (kind_written s.of) ≡ true → IsAttribute g (attribute_of g s)
-  declared_attribute s c e plain = record {
+  -- and is for one of the classes
+  pub declared_there : (list : List Synthesized) (i : ℕ) (s : Synthesized) → heads_broken g list ≡ [] → slice_get list i ≡ Some s → (c : ℕ) × (class_named g s.class.text ≡ Some c)
+  declared_there list i s none e = class_there g s.class (head_there list i s none e).class
+
+  declared_attribute : (s : Synthesized) (c : ℕ) → class_named g s.class.text ≡ Some c → IsKept g (kind_written g s.of) → IsAttribute g (attribute_of g s)
+  declared_attribute s c e kept = record {
     within = subst (λ o. (class_or_first o).0 < length g) (sym e) (class_within g s.class.text c e);
-    plain = plain;
+    single = kept.single;
+    class = kept.class;
   }
 
   -- and declares an attribute of it
@@ -79,4 +115,5 @@ module _ (g : List ClassOf) where
       let found = map_found (attribute_of g) (declarations items) i x e in
       let class = declared_there (declarations items) i found.0 none found.1 in
       let from = built_found declared_in items i found.0 built found.1 in
-      subst (IsAttribute g) found.2 (declared_attribute found.0 class.0 class.1 (plain_in from.item found.0 from.built from.gives)))
+      let kept = type_kept g found.0.of (plain_in from.item found.0 from.built from.gives) (head_there (declarations items) i found.0 none found.1).of in
+      subst (IsAttribute g) found.2 (declared_attribute found.0 class.0 class.1 kept))

@@ -13,7 +13,8 @@ use Rattle.attr_rules.specs.declared.rules.KeptEquation.{KeptEquation}
 use Rattle.attr_types.specs.declared.written.Given as kept_given
 use Rattle.attr_rules.specs.KeptEquations.{equation_in}
 use Rattle.attr_types.specs.Seen.{seen_given}
-use Rattle.attr_types.specs.Bodies.{most, operand_broken}
+use Rattle.attr_types.specs.declared.standing.Stands.TheVariants.{Anywhere}
+use Rattle.attr_types.specs.Bodies.{operand_broken}
 use Rattle.attr_types.specs.Phases.{equation_broken, equation_of, scope_of, wanted_by}
 use Rattle.attr_rules.specs.Rules.{Attribute, AttributeSet}
 use Rattle.attr_types.specs.Scope.{Scope}
@@ -23,12 +24,12 @@ use Rattle.attr_types.specs.Written.{Given}
 -- what its right side breaks, which stands where the equation is for, and of which that type is wanted
 pub body_noted : (g : List Class) (a : AttributeSet) (e : Given) (t : Target) {k : Kind} {x y : Option Broken}
     → a.superclasses ≡ superclasses_of g → t ≡ target_given g a.attributes e → k ≡ wanted_by a.attributes t
-    → Notes (operand_broken (record { grammar = g; known = a; this = t.class }) most k e.body) x y → Notes (equation_broken g a.attributes e) x y
+    → Notes (operand_broken (record { grammar = g; known = a; this = t.class; variables = [] }) Anywhere k e.body) x y → Notes (equation_broken g a.attributes e) x y
 body_noted g a e t {k} {x} {y} same is wanted h =
-    let here : Scope = record { grammar = g; known = a; this = t.class } in
-    let scope : here ≡ scope_of g a.attributes t = ap (λ s. record { grammar = g; known = record { superclasses = s; attributes = a.attributes }; this = t.class }) same in
-    subst (λ u. Notes (operand_broken (scope_of g a.attributes u) most (wanted_by a.attributes u) e.body) x y) is
-    (subst (λ s. Notes (operand_broken s most (wanted_by a.attributes t) e.body) x y) scope (subst (λ w. Notes (operand_broken here most w e.body) x y) wanted h))
+    let here : Scope = record { grammar = g; known = a; this = t.class; variables = [] } in
+    let scope : here ≡ scope_of g a.attributes t = ap (λ s. record { grammar = g; known = record { superclasses = s; attributes = a.attributes }; this = t.class; variables = [] }) same in
+    subst (λ u. Notes (operand_broken (scope_of g a.attributes u) Anywhere (wanted_by a.attributes u) e.body) x y) is
+    (subst (λ s. Notes (operand_broken s Anywhere (wanted_by a.attributes t) e.body) x y) scope (subst (λ w. Notes (operand_broken here Anywhere w e.body) x y) wanted h))
 
 -- the equations of memory, and what each is for
 module _ (g : List Class) (attributes : List Attribute) (es : List kept_given.Given) (i : ℕ) where

@@ -6,7 +6,8 @@ use Rattle.ast_grammar.specs.Grammar.{Class}
 use Rattle.jrag_reader.specs.Built.{all_built, has_no_path, has_none, is_built, is_built_item, is_built_body, is_not_circular, is_plain}
 use Rattle.jrag_reader.specs.Expressions.{Expr}
 use Rattle.jrag_reader.specs.Items.{Item, Declared, Inherits, Equates, Collects, Contributes, Synthesized}
-use Rattle.attr_types.specs.Bodies.{expr_broken, misfit, most}
+use Rattle.attr_types.specs.declared.standing.Stands.TheVariants.{Anywhere}
+use Rattle.attr_types.specs.Bodies.{expr_broken, misfit}
 use Rattle.attr_types.specs.Phases.{bodies_broken, equation_broken, equation_of, kind_or_truth, scope_of, wanted_by}
 use Rattle.attr_rules.specs.Rules.{Attribute, IsEquation}
 use Rattle.attr_types.specs.Targets.{target_given, targets_broken}
@@ -43,8 +44,8 @@ module _ (g : List Class) (attributes : List Attribute) where
   equation_there e target built none =
       let scope = scope_of g attributes (target_given g attributes e) in
       let wanted = wanted_by attributes (target_given g attributes e) in
-      let parts = append_none (expr_broken scope most e.body) (misfit g wanted (known scope e.body) e.body) none in
-      let body = typed scope (record { superclasses = refl }) e.body most built parts.0 in
+      let parts = append_none (expr_broken scope Anywhere e.body) (misfit g wanted (known scope e.body) e.body) none in
+      let body = typed scope (record { superclasses = refl }) (record { known = λ k v never. absurd (cc) }) e.body Anywhere refl built parts.0 in
       let fits_wanted : fits g body.type wanted ≡ true = fitting (names_in scope) wanted (known scope e.body) body.type e.body body.is parts.1 in
       record {
         within = target.within;

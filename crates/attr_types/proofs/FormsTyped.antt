@@ -1,6 +1,7 @@
 -- The types of forms of expressions that break nothing, from those of their parts.
 use Rattle.std.proofs.Common.{◌≡◌, ℤ, [], true, false, Option, Some, None, refl, ap, sym, ◌∙◌, subst}
 use Rattle.std.specs.Int.{int_wrap}
+use Rattle.std.specs.Option.{option_map}
 use Rattle.std.proofs.lemmas.Bool.{not-false}
 use Rattle.std.proofs.lemmas.Int.{SFits-int_wrap, int_wrap_fits}
 use mir.Syntax.{w32}
@@ -9,7 +10,8 @@ use Rattle.broken_rules.specs.declared.rule.Rule.TheVariants.{J10}
 use Rattle.broken_rules.proofs.Clean.{append_none, not_broken}
 use Rattle.jrag_reader.specs.declared.expression.Operator.{Operator}
 use Rattle.jrag_reader.specs.declared.expression.Operator.TheVariants as signs
-use Rattle.jrag_reader.specs.Expressions.{Expr}
+use Rattle.ast_grammar.specs.Grammar.{class_named}
+use Rattle.jrag_reader.specs.Expressions.{Expr, Name}
 use Rattle.attr_rules.specs.declared.expression.Operator as kept_operator
 use Rattle.attr_rules.specs.declared.expression.Operator.TheVariants as kept
 use Rattle.attr_rules.specs.declared.kinds.Kind.{Kind}
@@ -18,11 +20,13 @@ use Rattle.attr_rules.specs.declared.types.ValueType.{ValueType}
 use Rattle.attr_rules.specs.declared.types.ValueType.TheVariants as types
 use Rattle.attr_rules.specs.Expression as said
 use Rattle.attr_rules.specs.Expression.{Expression}
-use Rattle.attr_rules.specs.Types.{common, comparable, fits, is_int, is_truth}
+use Rattle.attr_rules.specs.Types.{class_of_number, common, comparable, fits, is_int, is_node, is_truth}
 use Rattle.attr_rules.specs.Typing as typing
 use Rattle.attr_rules.specs.Typing.{HasType, Names, TakesInts}
-use Rattle.attr_types.specs.Bodies.{are_apart, both_misfit, choice_broken, equal_broken, have_no_common, is_no_type, is_unfit, misfit, place_of, sides_broken}
-use Rattle.attr_types.specs.Typed.{common_of, int, joined, result_of, truth}
+use Rattle.attr_types.specs.Bodies.{are_apart, both_misfit, choice_broken, equal_broken, have_no_common, is_no_node, is_no_type, is_unfit, misfit, no_node, place_of, sides_broken}
+use Rattle.attr_types.specs.Heads.{class_broken, class_numbered, class_or_first}
+use Rattle.attr_types.specs.Typed.{class_type, common_of, int, joined, result_of, truth}
+use Rattle.attr_types.proofs.DeclaredClean.{class_there, class_within}
 
 -- An expression is typed, and of the type that is known.
 pub record IsTyped (N : Names) (t : Option ValueType) (e : Expression) : Type 0 where
@@ -61,7 +65,7 @@ module _ (N : Names) where
   pub fitting : (wanted : Kind) (t : Option ValueType) (u : ValueType) (e : Expr) → t ≡ Some u → misfit N.grammar wanted t e ≡ [] → fits N.grammar u wanted ≡ true
   fitting wanted t u e is none = not-false (fits N.grammar u wanted) (ap (λ o. is_unfit N.grammar o wanted) (sym is) ∙ not_broken (is_unfit N.grammar t wanted) (at (place_of e) J10) none)
 
-  wanted_truth : (t : Option ValueType) (e : Expr) (a : Expression) → IsTyped N t a → misfit N.grammar kinds.Truth t e ≡ [] → HasType N a (types.Of kinds.Truth)
+  pub wanted_truth : (t : Option ValueType) (e : Expr) (a : Expression) → IsTyped N t a → misfit N.grammar kinds.Truth t e ≡ [] → HasType N a (types.Of kinds.Truth)
   wanted_truth t e a typed none = subst (HasType N a) (truth_is typed.type (fitting kinds.Truth t typed.type e typed.is none)) typed.typed
 
   pub wanted_int : (t : Option ValueType) (e : Expr) (a : Expression) → IsTyped N t a → misfit N.grammar kinds.Int t e ≡ [] → HasType N a (types.Of kinds.Int)
@@ -76,6 +80,27 @@ module _ (N : Names) where
 
   pub negate_typed : (t : Option ValueType) (e : Expr) (a : Expression) → IsTyped N t a → misfit N.grammar kinds.Int t e ≡ [] → IsTyped N int (said.Negate a)
   negate_typed t e a typed none = of_type (types.Of kinds.Int) (said.Negate a) (typing.negate (wanted_int t e a typed none))
+
+  -- a part that is known to be a node or `null`
+  node_there : (t : Option ValueType) (u : ValueType) (e : Expr) → t ≡ Some u → no_node t e ≡ [] → is_node u ≡ true
+  node_there t u e is none = not-false (is_node u) (ap is_no_node (sym is) ∙ not_broken (is_no_node t) (at (place_of e) J10) none)
+
+  -- a cast, and a test of a class
+  pub cast_typed : (n : Name) (t : Option ValueType) (e : Expr) (a : Expression) → IsTyped N t a → class_broken N.grammar n ≡ [] → no_node t e ≡ []
+      → IsTyped N (class_type N.grammar n.text) (said.Cast (class_or_first (class_named N.grammar n.text)) a)
+  cast_typed n t e a typed named node =
+      let class = class_there N.grammar n named in
+      let within = class_within N.grammar n.text class.0 class.1 in
+      subst (λ o. IsTyped N (option_map class_of_number o) (said.Cast (class_or_first o) a)) (sym class.1)
+      (of_type (class_of_number class.0) (said.Cast (class_numbered class.0) a) (typing.cast typed.type (class_numbered class.0) typed.typed (node_there t typed.type e typed.is node) within))
+
+  pub test_typed : (n : Name) (t : Option ValueType) (e : Expr) (a : Expression) → IsTyped N t a → class_broken N.grammar n ≡ [] → no_node t e ≡ []
+      → IsTyped N truth (said.InstanceOf (class_or_first (class_named N.grammar n.text)) a)
+  test_typed n t e a typed named node =
+      let class = class_there N.grammar n named in
+      let within = class_within N.grammar n.text class.0 class.1 in
+      subst (λ o. IsTyped N truth (said.InstanceOf (class_or_first o) a)) (sym class.1)
+      (of_type (types.Of kinds.Truth) (said.InstanceOf (class_numbered class.0) a) (typing.instance_of typed.type (class_numbered class.0) typed.typed (node_there t typed.type e typed.is node) within))
 
   module _ (t : Option ValueType) (e : Expr) (a : Expression) (u : Option ValueType) (f : Expr) (b : Expression) (first : IsTyped N t a) (second : IsTyped N u b) where
     both_ints : (o : kept_operator.Operator) (k : Kind) → TakesInts o k → both_misfit N.grammar kinds.Int t e u f ≡ [] → HasType N (said.Binary o a b) (types.Of k)

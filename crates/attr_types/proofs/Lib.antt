@@ -13,6 +13,7 @@ pub mod FormsTyped
 pub mod Gathering
 pub mod HeadsNoted
 pub mod ItemsFound
+pub mod ListsTyped
 pub mod MembersTyped
 pub mod Seen
 pub mod Sizes
@@ -20,3 +21,4 @@ pub mod TargetsClean
 pub mod TargetsNoted
 pub mod TypedClean
 pub mod TypedForms
+pub mod Variables

@@ -1,5 +1,5 @@
 -- The types of calls that break nothing.
-use Rattle.std.proofs.Common.{◌≡◌, ◌==◌, nat_lt, ℕ, Bool, List, [], ◌∷◌, true, false, not, Option, Some, None, length, if◌then◌else◌, refl, ap, sym, ◌∙◌, subst, eqb-true}
+use Rattle.std.proofs.Common.{◌≡◌, ◌==◌, nat_lt, ℕ, Bool, List, [], ◌∷◌, true, false, not, map, Option, Some, None, length, if◌then◌else◌, refl, ap, sym, ◌∙◌, subst, eqb-true}
 use Rattle.std.specs.Option.{option_and_then, option_map}
 use Rattle.std.proofs.lemmas.Bool.{not-false}
 use Rattle.rag_io.specs.declared.token.Place.{Place}
@@ -22,26 +22,34 @@ use Rattle.attr_rules.specs.Accessors.{accessor_of, arguments_of, type_read}
 use Rattle.attr_rules.specs.Expression as said
 use Rattle.attr_rules.specs.Expression.{Expression}
 use Rattle.attr_rules.specs.Rules.{attribute_named, declared_at}
-use Rattle.attr_rules.specs.Types.{class_in, of_class}
+use Rattle.attr_rules.specs.Types.{class_in, kept_kind, of_class}
 use Rattle.attr_rules.specs.Typing as typing
 use Rattle.attr_rules.specs.Typing.{HasType, Names}
 use Rattle.attr_types.specs.Bodies.{call_broken, member_broken, on_class_broken}
-use Rattle.attr_types.specs.Scope.{Scope, arguments_wanted, attribute_in, calls, either_member, is_elements, is_list, kind_declared, member_of, member_on, type_called, wanted_for}
+use Rattle.attr_types.specs.Scope.{Scope, arguments_wanted, attribute_in, calls, either_member, is_elements, is_list, kind_declared, member_of, member_on, type_called, wanted_for, Variable}
 use Rattle.attr_types.specs.ScopeKept.{IsScope}
 use Rattle.attr_types.specs.Typed.{call_said, read}
 use Rattle.attr_types.proofs.AccessorsFound.{IsAccessor, accessor_found}
 use Rattle.attr_types.proofs.FormsTyped.{IsTyped, of_type}
 use Rattle.attr_types.proofs.TargetsClean.{HasAttribute, named_has}
 
+-- the type at which a name's values are kept
+abbrev pub kind_known : Option ValueType → Kind
+kind_known None = kinds.Truth
+kind_known (Some t) = kept_kind t
+
+abbrev pub variable_kind : Variable → Kind
+variable_kind v = kind_known v.type
+
 -- what may be named in a scope, where there are these source nodes, and at a node of this class
 abbrev pub names_at : Scope → (ℕ → Option ClassId) → Option ClassId → Names
-names_at s node this = record { grammar = s.grammar; attribute = declared_at s.known.attributes; node = node; this = this }
+names_at s node this = record { grammar = s.grammar; attribute = declared_at s.known.attributes; node = node; this = this; variables = map variable_kind s.variables }
 
 -- the same in an equation
 abbrev pub names_in : Scope → Names
 names_in s = names_at s (λ k. None) (Some s.this)
 
-class_is : (t : ValueType) (c : ClassId) → class_in t ≡ Some c → t ≡ of_class c
+pub class_is : (t : ValueType) (c : ClassId) → class_in t ≡ Some c → t ≡ of_class c
 class_is types.Null c e = absurd (cc)
 class_is (types.Of kinds.Truth) c e = absurd (cc)
 class_is (types.Of kinds.Int) c e = absurd (cc)
@@ -109,7 +117,7 @@ module _ (s : Scope) (is_scope : IsScope s) where
     member_says (members.Reads x) n is list count argument = read_typed x.component x.class x.access n is list count argument
     member_says (members.Calls a) n is list count argument = called_typed a is
 
-    member_typed : (o : Option Member) (name : Name) (n : ℕ) (first : Place) → member_of s name.text n c ≡ o → member_broken o name n first ≡ [] → IsPassed (names_at s node this) (wanted_for o n) n i
+    member_typed : (o : Option Member) (name : Name) (n : ℕ) (first : Place) → member_of s name.text n c ≡ o → member_broken false o name n first ≡ [] → IsPassed (names_at s node this) (wanted_for o n) n i
         → IsTyped (names_at s node this) (option_and_then (type_called s) o) (call_said o r i)
     member_typed None name n first is none argument = absurd (cc)
     member_typed (Some m) name n first is none argument =
@@ -121,16 +129,16 @@ module _ (s : Scope) (is_scope : IsScope s) where
         member_says m n (member_found c name.text n m is) list count (subst (λ ks. IsPassed (names_at s node this) ks n i) wanted argument)
 
   module _ (node : ℕ → Option ClassId) (this : Option ClassId) (r i : Expression) (name : Name) (n : ℕ) (first : Place) where
-    class_typed : (t : ValueType) (o : Option ClassId) → class_in t ≡ o → HasType (names_at s node this) r t → on_class_broken s name n first o ≡ []
+    class_typed : (t : ValueType) (o : Option ClassId) → class_in t ≡ o → HasType (names_at s node this) r t → on_class_broken s false name n first o ≡ []
         → IsPassed (names_at s node this) (wanted_for (option_and_then (member_of s name.text n) o) n) n i
         → IsTyped (names_at s node this) (option_and_then (type_called s) (option_and_then (member_of s name.text n) o)) (call_said (option_and_then (member_of s name.text n) o) r i)
     class_typed t None is receiver none argument = absurd (cc)
     class_typed t (Some c) is receiver none argument = member_typed node this c r i (subst (HasType (names_at s node this) r) (class_is t c is) receiver) (member_of s name.text n c) name n first refl none argument
 
     -- what a call says behind a receiver, is typed
-    pub call_typed : (t : Option ValueType) → IsTyped (names_at s node this) t r → call_broken s name n first t ≡ [] → IsPassed (names_at s node this) (wanted_for (member_on s t name.text n) n) n i
+    pub call_typed : (t : Option ValueType) → IsTyped (names_at s node this) t r → call_broken s false name n first t ≡ [] → IsPassed (names_at s node this) (wanted_for (member_on s t name.text n) n) n i
         → IsTyped (names_at s node this) (option_and_then (type_called s) (member_on s t name.text n)) (call_said (member_on s t name.text n) r i)
     call_typed t receiver none argument =
-        subst (λ u. call_broken s name n first u ≡ [] → IsPassed (names_at s node this) (wanted_for (member_on s u name.text n) n) n i
+        subst (λ u. call_broken s false name n first u ≡ [] → IsPassed (names_at s node this) (wanted_for (member_on s u name.text n) n) n i
         → IsTyped (names_at s node this) (option_and_then (type_called s) (member_on s u name.text n)) (call_said (member_on s u name.text n) r i))
         (sym receiver.is) (class_typed receiver.type (class_in receiver.type) refl receiver.typed) none argument

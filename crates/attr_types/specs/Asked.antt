@@ -1,5 +1,5 @@
 -- Queries of one call.
-use Rattle.std.specs.Prelude.{ℕ, ◌==◌, List, Option, Some, None, length, if◌then◌else◌}
+use Rattle.std.specs.Prelude.{ℕ, ◌==◌, List, [], Option, Some, None, length, if◌then◌else◌}
 use Rattle.std.specs.Option.{option_and_then, option_map}
 use Rattle.ast_grammar.specs.declared.grammar.ClassId.{ClassId}
 use Rattle.ast_grammar.specs.Grammar.{Class}
@@ -14,7 +14,7 @@ use Rattle.attr_types.specs.Typed.{call_said}
 
 -- what may be named at nodes of a class
 abbrev pub scope_in : List Class → RuleSet → ClassId → Scope
-scope_in g r c = record { grammar = g; known = record { superclasses = r.superclasses; attributes = r.attributes }; this = c }
+scope_in g r c = record { grammar = g; known = record { superclasses = r.superclasses; attributes = r.attributes }; this = c; variables = [] }
 
 abbrev pub query_with : ℕ → Member → ValueType → Query
 query_with k m t = record { body = call_said (Some m) (said.Source k) said.Null; kind = kept_kind t }

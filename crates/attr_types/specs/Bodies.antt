@@ -1,5 +1,6 @@
 -- The rules on expressions: J9, J10, J11 and J17. A rule that speaks of a type speaks of expressions whose type is known.
-use Rattle.std.specs.Prelude.{ℕ, ◌==◌, nat_lt, List, [], ◌∷◌, ◌++◌, Bool, true, false, not, Option, Some, None, length}
+use Rattle.std.specs.Prelude.{ℕ, ◌==◌, nat_lt, List, [], ◌∷◌, ◌++◌, Bool, true, false, not, ◌&&◌, Option, Some, None, is_none, is_some, length}
+use Rattle.std.specs.Option.{option_and_then}
 use Rattle.rag_io.specs.declared.token.Place.{Place}
 use Rattle.broken_rules.specs.declared.broken.Broken.{Broken}
 use Rattle.broken_rules.specs.declared.rule.Rule.TheVariants.{J9, J10, J11, J17}
@@ -9,13 +10,16 @@ use Rattle.ast_grammar.specs.Grammar.{Class}
 use Rattle.attr_rules.specs.declared.kinds.Kind.{Kind}
 use Rattle.attr_rules.specs.declared.kinds.Kind.TheVariants as kinds
 use Rattle.attr_rules.specs.declared.types.ValueType.{ValueType}
-use Rattle.attr_rules.specs.Types.{class_in, common, comparable, fits, of_class}
+use Rattle.attr_rules.specs.Types.{class_in, common, comparable, fits, is_node, of_class}
 use Rattle.jrag_reader.specs.declared.expression.Operator.{Operator}
 use Rattle.jrag_reader.specs.declared.expression.Operator.TheVariants as signs
 use Rattle.jrag_reader.specs.Expressions.{Expr, Arguments, Name, no_more, argument, Truth, Null, Empty, This, Int, Text, Source, Variable, Call, Member, New, Quantified, Group, Cast, Not, Negate, Binary, InstanceOf, If}
 use Rattle.attr_types.specs.declared.scope.Member as member
-use Rattle.attr_types.specs.Scope.{Scope, arguments_wanted, is_list, member_of, member_on, wanted_for}
-use Rattle.attr_types.specs.Typed.{count, known}
+use Rattle.attr_types.specs.declared.standing.Stands.{Stands}
+use Rattle.attr_types.specs.declared.standing.Stands.TheVariants as stands
+use Rattle.attr_types.specs.Heads.{class_broken}
+use Rattle.attr_types.specs.Scope.{Scope, arguments_wanted, is_list, member_of, member_on, type_called, variable_named, wanted_for}
+use Rattle.attr_types.specs.Typed.{count, inside, known}
 
 -- the place of the first token
 abbrev pub place_of : Expr → Place
@@ -64,21 +68,21 @@ have_no_common g None u = false
 have_no_common g (Some t) None = false
 have_no_common g (Some t) (Some u) = is_no_type (common g t u)
 
--- J9: the name means nothing. J11: another number of arguments. J10: a whole list, which stands in ranges alone; `first` is the place of
--- the first token of the call
-abbrev pub member_broken : Option member.Member → Name → ℕ → Place → List Broken
-member_broken None name n first = at name.place J9 ∷ []
-member_broken (Some m) name n first = broken_if (not (length (arguments_wanted m) == n)) (at name.place J11) ++ broken_if (is_list m) (at first J10)
+-- J9: the name means nothing. J11: another number of arguments. J10: a whole list, where no list is wanted; `first` is the place of the
+-- first token of the call
+abbrev pub member_broken : Bool → Option member.Member → Name → ℕ → Place → List Broken
+member_broken range None name n first = at name.place J9 ∷ []
+member_broken range (Some m) name n first = broken_if (not (length (arguments_wanted m) == n)) (at name.place J11) ++ broken_if (not range && is_list m) (at first J10)
 
 -- J10: the receiver is of no class
-abbrev pub on_class_broken : Scope → Name → ℕ → Place → Option ClassId → List Broken
-on_class_broken s name n first None = at first J10 ∷ []
-on_class_broken s name n first (Some c) = member_broken (member_of s name.text n c) name n first
+abbrev pub on_class_broken : Scope → Bool → Name → ℕ → Place → Option ClassId → List Broken
+on_class_broken s range name n first None = at first J10 ∷ []
+on_class_broken s range name n first (Some c) = member_broken range (member_of s name.text n c) name n first
 
 -- what a call breaks behind a receiver of a type, where that is known
-abbrev pub call_broken : Scope → Name → ℕ → Place → Option ValueType → List Broken
-call_broken s name n first None = []
-call_broken s name n first (Some t) = on_class_broken s name n first (class_in t)
+abbrev pub call_broken : Scope → Bool → Name → ℕ → Place → Option ValueType → List Broken
+call_broken s range name n first None = []
+call_broken s range name n first (Some t) = on_class_broken s range name n first (class_in t)
 
 -- what the two sides of an operator break, which are of these types, where they are known
 abbrev pub both_misfit : List Class → Kind → Option ValueType → Expr → Option ValueType → Expr → List Broken
@@ -104,53 +108,86 @@ sides_broken g signs.Or t a u b = both_misfit g kinds.Truth t a u b
 abbrev pub choice_broken : List Class → Option ValueType → Expr → Option ValueType → Option ValueType → Expr → List Broken
 choice_broken g r c t u b = misfit g kinds.Truth r c ++ broken_if (have_no_common g t u) (at (place_of b) J10)
 
--- the greatest literal, and the greatest directly behind a unary `-`
-abbrev pub most : ℕ
-most = 2147483647
+-- J10: a list over which a form goes has no type, and what has one is no list
+abbrev pub no_list : Option ValueType → Expr → List Broken
+no_list t e = broken_if (is_some t) (at (place_of e) J10)
 
-abbrev pub most_negated : ℕ
-most_negated = 2147483648
+-- J10: the type is known, and is neither a class nor that of `null`
+abbrev pub is_no_node : Option ValueType → Bool
+is_no_node None = false
+is_no_node (Some t) = not (is_node t)
+
+abbrev pub no_node : Option ValueType → Expr → List Broken
+no_node t e = broken_if (is_no_node t) (at (place_of e) J10)
+
+-- the greatest literal: directly behind a unary `-` it is one more
+abbrev pub greatest : Stands → ℕ
+greatest stands.Anywhere = 2147483647
+greatest stands.Negated = 2147483648
+greatest stands.Range = 2147483647
+
+-- a call that gives a whole list stands in ranges alone
+abbrev pub is_range : Stands → Bool
+is_range stands.Anywhere = false
+is_range stands.Negated = false
+is_range stands.Range = true
 
 abbrev mutual
-  -- What an expression breaks, where a literal may be so great. Forms that aren't evaluated so far break nothing.
-  pub expr_broken : Scope → ℕ → Expr → List Broken
-  expr_broken s limit (Truth p b) = []
-  expr_broken s limit (Null p) = []
-  expr_broken s limit (Empty p) = []
-  expr_broken s limit (This p) = []
-  expr_broken s limit (Int p n) = broken_if (nat_lt limit n) (at p J17)
-  expr_broken s limit (Text p n) = []
-  expr_broken s limit (Source p n) = at p J9 ∷ []
-  expr_broken s limit (Variable n) = at n.place J9 ∷ []
-  expr_broken s limit (Call n es) = call_broken s n (count es) n.place (Some (of_class s.this))
+  -- What an expression breaks, by where it stands. Forms that aren't evaluated so far break nothing.
+  pub expr_broken : Scope → Stands → Expr → List Broken
+  expr_broken s w (Truth p b) = []
+  expr_broken s w (Null p) = []
+  expr_broken s w (Empty p) = []
+  expr_broken s w (This p) = []
+  expr_broken s w (Int p n) = broken_if (nat_lt (greatest w) n) (at p J17)
+  expr_broken s w (Text p n) = []
+  expr_broken s w (Source p n) = at p J9 ∷ []
+  expr_broken s w (Variable n) = broken_if (is_none (variable_named s n.text)) (at n.place J9)
+  expr_broken s w (Call n es) = call_broken s (is_range w) n (count es) n.place (Some (of_class s.this))
       ++ arguments_broken s (wanted_for (member_on s (Some (of_class s.this)) n.text (count es)) (count es)) es
-  expr_broken s limit (Member e n es) = expr_broken s most e ++ (call_broken s n (count es) (place_of e) (known s e)
+  expr_broken s w (Member e n es) = expr_broken s stands.Anywhere e ++ (call_broken s (is_range w) n (count es) (place_of e) (known s e)
       ++ arguments_broken s (wanted_for (member_on s (known s e) n.text (count es)) (count es)) es)
-  expr_broken s limit (New p n es) = []
-  expr_broken s limit (Quantified q p n range e) = []
-  expr_broken s limit (Group p e) = expr_broken s most e
-  expr_broken s limit (Cast p n e) = []
-  expr_broken s limit (Not p e) = expr_broken s most e ++ misfit s.grammar kinds.Truth (known s e) e
-  expr_broken s limit (Negate p e) = expr_broken s most_negated e ++ misfit s.grammar kinds.Int (known s e) e
-  expr_broken s limit (Binary o a b) = expr_broken s most a ++ (expr_broken s most b ++ sides_broken s.grammar o (known s a) a (known s b) b)
-  expr_broken s limit (InstanceOf e n) = []
-  expr_broken s limit (If c a b) = expr_broken s most c ++ (expr_broken s most a ++ (expr_broken s most b ++ choice_broken s.grammar (known s c) c (known s a) (known s b) b))
+  expr_broken s w (New p n es) = []
+  expr_broken s w (Quantified q p n range e) = expr_broken s stands.Range range ++ (no_list (known s range) range ++ (expr_broken (inside s n range) stands.Anywhere e ++ misfit s.grammar kinds.Truth (known (inside s n range) e) e))
+  expr_broken s w (Group p e) = expr_broken s stands.Anywhere e
+  expr_broken s w (Cast p n e) = class_broken s.grammar n ++ (expr_broken s stands.Anywhere e ++ no_node (known s e) e)
+  expr_broken s w (Not p e) = expr_broken s stands.Anywhere e ++ misfit s.grammar kinds.Truth (known s e) e
+  expr_broken s w (Negate p e) = expr_broken s stands.Negated e ++ misfit s.grammar kinds.Int (known s e) e
+  expr_broken s w (Binary o a b) = expr_broken s stands.Anywhere a ++ (expr_broken s stands.Anywhere b ++ sides_broken s.grammar o (known s a) a (known s b) b)
+  expr_broken s w (InstanceOf e n) = class_broken s.grammar n ++ (expr_broken s stands.Anywhere e ++ no_node (known s e) e)
+  expr_broken s w (If c a b) = expr_broken s stands.Anywhere c ++ (expr_broken s stands.Anywhere a ++ (expr_broken s stands.Anywhere b ++ choice_broken s.grammar (known s c) c (known s a) (known s b) b))
 
   -- what the arguments of a call break, of which the first are wanted of these types
   pub arguments_broken : Scope → List Kind → Arguments → List Broken
   arguments_broken s wanted no_more = []
-  arguments_broken s [] (argument e es) = expr_broken s most e ++ arguments_broken s [] es
-  arguments_broken s (k ∷ wanted) (argument e es) = expr_broken s most e ++ (misfit s.grammar k (known s e) e ++ arguments_broken s wanted es)
+  arguments_broken s [] (argument e es) = expr_broken s stands.Anywhere e ++ arguments_broken s [] es
+  arguments_broken s (k ∷ wanted) (argument e es) = expr_broken s stands.Anywhere e ++ (misfit s.grammar k (known s e) e ++ arguments_broken s wanted es)
 
--- an expression, where a literal may be so great and this type is wanted
-abbrev pub operand_broken : Scope → ℕ → Kind → Expr → List Broken
-operand_broken s limit wanted e = expr_broken s limit e ++ misfit s.grammar wanted (known s e) e
+-- an expression of which this type is wanted, by where it stands
+abbrev pub operand_broken : Scope → Stands → Kind → Expr → List Broken
+operand_broken s w wanted e = expr_broken s w e ++ misfit s.grammar wanted (known s e) e
 
 -- an argument of a call, of which a type may be wanted
 abbrev pub argument_broken : Scope → Option Kind → Expr → List Broken
-argument_broken s None e = expr_broken s most e
-argument_broken s (Some k) e = operand_broken s most k e
+argument_broken s None e = expr_broken s stands.Anywhere e
+argument_broken s (Some k) e = operand_broken s stands.Anywhere k e
 
 -- a call behind a receiver of a type, where that is known
-abbrev pub calls_break : Scope → Option ValueType → Name → Place → Arguments → List Broken
-calls_break s t n first es = call_broken s n (count es) first t ++ arguments_broken s (wanted_for (member_on s t n.text (count es)) (count es)) es
+abbrev pub calls_break : Scope → Bool → Option ValueType → Name → Place → Arguments → List Broken
+calls_break s range t n first es = call_broken s range n (count es) first t ++ arguments_broken s (wanted_for (member_on s t n.text (count es)) (count es)) es
+
+-- the range of a form over a list
+abbrev pub range_broken : Scope → Expr → List Broken
+range_broken s e = expr_broken s stands.Range e ++ no_list (known s e) e
+
+-- a call as a range
+abbrev pub list_call_broken : Scope → Option ValueType → Name → Place → Arguments → List Broken
+list_call_broken s t n first es = calls_break s true t n first es ++ broken_if (is_some (option_and_then (type_called s) (member_on s t n.text (count es)))) (at first J10)
+
+-- a form over a list
+abbrev pub quantified_broken : Scope → Name → Expr → Expr → List Broken
+quantified_broken s n range e = range_broken s range ++ operand_broken (inside s n range) stands.Anywhere kinds.Truth e
+
+-- the operand of a cast or of `instanceof`
+abbrev pub node_broken : Scope → Expr → List Broken
+node_broken s e = expr_broken s stands.Anywhere e ++ no_node (known s e) e

@@ -1,9 +1,10 @@
--- The rules on declarations: J2, J3 and J17.
-use Rattle.std.specs.Prelude.{ℕ, ◌==◌, List, [], ◌++◌, Bool, false, ◌&&◌, ◌||◌, Option, Some, None, is_none, length, map}
+-- The rules on declarations: J2, J3, J4 and J17.
+use Rattle.std.specs.Prelude.{ℕ, ◌==◌, List, [], ◌++◌, Bool, false, ◌&&◌, ◌||◌, Option, Some, None, is_none, length, map, if◌then◌else◌}
 use Rattle.std.specs.List.{list_any, range_with_len}
+use Rattle.std.specs.Option.{option_map, unwrap_or}
 use Rattle.std.specs.Str.{bytes_eq}
 use Rattle.broken_rules.specs.declared.broken.Broken.{Broken}
-use Rattle.broken_rules.specs.declared.rule.Rule.TheVariants.{J2, J3, J17}
+use Rattle.broken_rules.specs.declared.rule.Rule.TheVariants.{J2, J3, J4, J17}
 use Rattle.broken_rules.specs.Notes.{at, broken_if, each_after}
 use Rattle.ast_grammar.specs.declared.grammar.ClassId.{ClassId}
 use Rattle.ast_grammar.specs.Grammar.{Class, class_named, is_sub}
@@ -47,8 +48,39 @@ again_broken g before s = again_for g before s.signature.name (class_named g s.c
 abbrev pub count_broken : List Synthesized → Name → List Broken
 count_broken before n = broken_if (length before == most_attributes) (at n.place J17)
 
+-- the class of a number
+abbrev pub class_numbered : ℕ → ClassId
+class_numbered c = record { 0 = c }
+
+abbrev pub node_kind : ℕ → Kind
+node_kind c = kinds.Node (class_numbered c)
+
+abbrev pub nodes_kind : ℕ → Kind
+nodes_kind c = kinds.Nodes (class_numbered c)
+
+-- the type that a name means, if it means one
+abbrev pub single_named : List Class → TypeName → Option Kind
+single_named g Boolean = Some kinds.Truth
+single_named g Integer = Some kinds.Int
+single_named g String = Some kinds.Text
+single_named g (Named name) = option_map node_kind (class_named g name)
+
+-- the type of the sets whose elements a name means: these are texts, or nodes of a class
+abbrev pub set_named : List Class → TypeName → Option Kind
+set_named g Boolean = None
+set_named g Integer = None
+set_named g String = Some kinds.Texts
+set_named g (Named name) = option_map nodes_kind (class_named g name)
+
+abbrev pub type_written : List Class → WrittenType → Option Kind
+type_written g t = if t.set then set_named g t.name else single_named g t.name
+
+-- J4: what is written is no type
+abbrev pub type_broken : List Class → WrittenType → List Broken
+type_broken g t = broken_if (is_none (type_written g t)) (at t.place J4)
+
 abbrev pub head_broken : List Class → List Synthesized → Synthesized → List Broken
-head_broken g before s = class_broken g s.class ++ (again_broken g before s ++ count_broken before s.signature.name)
+head_broken g before s = type_broken g s.of ++ (class_broken g s.class ++ (again_broken g before s ++ count_broken before s.signature.name))
 
 -- what the declarations break
 abbrev pub heads_broken : List Class → List Synthesized → List Broken
@@ -56,22 +88,16 @@ heads_broken g list = each_after (head_broken g) [] list
 
 -- the class of a number, and the first one where there is none
 abbrev pub class_or_first : Option ℕ → ClassId
-class_or_first None = record { 0 = 0 }
-class_or_first (Some c) = record { 0 = c }
+class_or_first None = class_numbered 0
+class_or_first (Some c) = class_numbered c
 
--- a type by its name; those of classes and of sets aren't evaluated so far, and count as `boolean`
-abbrev pub kind_named : TypeName → Kind
-kind_named Boolean = kinds.Truth
-kind_named Integer = kinds.Int
-kind_named String = kinds.Text
-kind_named (Named name) = kinds.Truth
-
-abbrev pub kind_written : WrittenType → Kind
-kind_written t = kind_named t.name
+-- what is no type counts as `boolean`
+abbrev pub kind_written : List Class → WrittenType → Kind
+kind_written g t = unwrap_or (type_written g t) kinds.Truth
 
 -- what a declaration declares
 abbrev pub attribute_of : List Class → Synthesized → Attribute
-attribute_of g s = record { name = s.signature.name.text; declared = plain_attribute (class_or_first (class_named g s.class.text)) (kind_written s.of) }
+attribute_of g s = record { name = s.signature.name.text; declared = plain_attribute (class_or_first (class_named g s.class.text)) (kind_written g s.of) }
 
 abbrev pub attributes_of : List Class → List Synthesized → List Attribute
 attributes_of g list = map (attribute_of g) list

@@ -8,7 +8,8 @@ use Rattle.attr_rules.specs.declared.kinds.Attr.{Attr}
 use Rattle.attr_rules.specs.declared.kinds.Kind.{Kind}
 use Rattle.attr_rules.specs.declared.kinds.Kind.TheVariants as kinds
 use Rattle.attr_rules.specs.Rules.{Attribute, Equation, RuleSet, declared_at}
-use Rattle.attr_types.specs.Bodies.{most, operand_broken}
+use Rattle.attr_types.specs.Bodies.{operand_broken}
+use Rattle.attr_types.specs.declared.standing.Stands.TheVariants.{Anywhere}
 use Rattle.attr_types.specs.Completeness.{complete_broken}
 use Rattle.attr_types.specs.Heads.{attributes_of, heads_broken}
 use Rattle.attr_types.specs.Scope.{Scope}
@@ -19,7 +20,7 @@ use Rattle.jrag_reader.specs.Items.{Item}
 
 -- where the right side of an equation stands
 abbrev pub scope_of : List Class → List Attribute → Target → Scope
-scope_of g attributes t = record { grammar = g; known = record { superclasses = superclasses_of g; attributes = attributes }; this = t.class }
+scope_of g attributes t = record { grammar = g; known = record { superclasses = superclasses_of g; attributes = attributes }; this = t.class; variables = [] }
 
 abbrev pub kind_or_truth : Option Attr → Kind
 kind_or_truth None = kinds.Truth
@@ -30,7 +31,7 @@ abbrev pub wanted_by : List Attribute → Target → Kind
 wanted_by attributes t = kind_or_truth (declared_at attributes t.attribute.0)
 
 abbrev pub equation_broken : List Class → List Attribute → Given → List Broken
-equation_broken g attributes e = operand_broken (scope_of g attributes (target_given g attributes e)) most (wanted_by attributes (target_given g attributes e)) e.body
+equation_broken g attributes e = operand_broken (scope_of g attributes (target_given g attributes e)) Anywhere (wanted_by attributes (target_given g attributes e)) e.body
 
 abbrev pub bodies_broken : List Class → List Attribute → List Given → List Broken
 bodies_broken g attributes list = flat_map (equation_broken g attributes) list

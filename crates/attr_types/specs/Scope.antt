@@ -1,6 +1,7 @@
 -- What may be named where an expression stands, and what a call means there.
-use Rattle.std.specs.Prelude.{ℕ, ◌==◌, nat_lt, List, [], Bool, true, false, Option, Some, None, length, if◌then◌else◌}
+use Rattle.std.specs.Prelude.{ℕ, ◌==◌, nat_lt, List, [], ◌∷◌, Bool, true, false, Option, Some, None, length, position, slice_get, if◌then◌else◌}
 use Rattle.std.specs.Option.{option_and_then, option_map}
+use Rattle.std.specs.Str.{bytes_eq}
 use Rattle.ast_grammar.specs.declared.grammar.ClassId.{ClassId}
 use Rattle.ast_grammar.specs.Grammar.{Class}
 use Rattle.attr_rules.specs.declared.accessors.Access.{Access}
@@ -16,11 +17,35 @@ use Rattle.attr_rules.specs.Types.{class_in}
 use Rattle.attr_types.specs.declared.scope.Member.{Member}
 use Rattle.attr_types.specs.declared.scope.Member.TheVariants as members
 
--- where an expression stands: in an equation of a class
+-- a name that stands for a value, and the type of its values, where that is known
+pub record Variable : Type 0 where
+  pub name : List ℕ
+  pub type : Option ValueType
+
+-- where an expression stands: in an equation of a class, with some names, the innermost first
 pub record Scope : Type 0 where
   pub grammar : List Class
   pub known : AttributeSet
   pub this : ClassId
+  pub variables : List Variable
+
+-- with one name more
+abbrev pub with_variable : Scope → Variable → Scope
+with_variable s v = record { grammar = s.grammar; known = s.known; this = s.this; variables = v ∷ s.variables }
+
+abbrev pub is_named : List ℕ → Variable → Bool
+is_named name v = bytes_eq v.name name
+
+-- the number of a name: that of the innermost one
+abbrev pub variable_named : Scope → List ℕ → Option ℕ
+variable_named s name = position (is_named name) s.variables
+
+abbrev pub variable_type : Variable → Option ValueType
+variable_type v = v.type
+
+-- the type of a name's values
+abbrev pub type_named : Scope → List ℕ → Option ValueType
+type_named s name = option_and_then variable_type (option_and_then (slice_get s.variables) (variable_named s name))
 
 abbrev pub calls : ℕ → Member
 calls a = members.Calls (record { 0 = a })
@@ -72,3 +97,15 @@ is_elements access.Element = false
 abbrev pub is_list : Member → Bool
 is_list (members.Reads x) = is_elements x.access
 is_list (members.Calls a) = false
+
+-- an accessor of a whole list
+abbrev pub list_read : Accessor → Option Accessor
+list_read x = if is_elements x.access then Some x else None
+
+abbrev pub list_in : Member → Option Accessor
+list_in (members.Reads x) = list_read x
+list_in (members.Calls a) = None
+
+-- the list that a call gives, where it takes so many arguments
+abbrev pub list_called : ℕ → Member → Option Accessor
+list_called n m = if length (arguments_wanted m) == n then list_in m else None

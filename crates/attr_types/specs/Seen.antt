@@ -1,21 +1,26 @@
 -- Equations and expressions without where they lie in memory.
-use Rattle.std.specs.Prelude.{Option}
+use Rattle.std.specs.Prelude.{Option, map}
 use Rattle.std.specs.Option.{option_and_then}
 use Rattle.attr_rules.specs.declared.types.ValueType.{ValueType}
 use Rattle.attr_rules.specs.Expression.{Expression, expression_of}
+use Rattle.jrag_reader.specs.declared.expression.Quantifier.{Quantifier}
 use Rattle.jrag_reader.specs.Expressions.{Arguments, Expr, Name, seen_expr, seen_name}
 use Rattle.attr_types.specs.declared.scope.Scope as kept_scope
+use Rattle.attr_types.specs.declared.scope.Variable as kept_variable
 use Rattle.attr_types.specs.declared.typed.Typed as kept_typed
 use Rattle.attr_types.specs.declared.written.Given as kept_given
-use Rattle.attr_types.specs.Scope.{Scope, member_on, type_called}
-use Rattle.attr_types.specs.Typed.{body_of, call_said, count, first_of, known}
+use Rattle.attr_types.specs.Scope.{Scope, Variable, member_on, type_called}
+use Rattle.attr_types.specs.Typed.{body_of, call_said, count, first_of, inside, known, list_of, over_said, owner_of, quantified_type}
 use Rattle.attr_types.specs.Written.{Given}
 
 abbrev pub seen_given : kept_given.Given → Given
 seen_given e = record { class = seen_name e.class.now; attribute = seen_name e.attribute.now; body = seen_expr e.body.now }
 
+abbrev pub seen_variable : kept_variable.Variable → Variable
+seen_variable v = record { name = v.name.now; type = v.value_type }
+
 abbrev pub seen_scope : kept_scope.Scope → Scope
-seen_scope s = record { grammar = s.grammar.now; known = s.attributes.now; this = s.class }
+seen_scope s = record { grammar = s.grammar.now; known = s.attributes.now; this = s.class; variables = map seen_variable s.variables.now }
 
 -- what an expression says: its type, where that is known, and its typed form
 pub record Said : Type 0 where
@@ -32,3 +37,7 @@ said_by s e = record { type = known s e; body = body_of s e }
 -- what a call says behind what a receiver says
 abbrev pub call_says : Scope → Said → Name → Arguments → Said
 call_says s r n es = record { type = option_and_then (type_called s) (member_on s r.type n.text (count es)); body = call_said (member_on s r.type n.text (count es)) r.body (first_of s es) }
+
+-- what a form over a list says
+abbrev pub quantified_says : Scope → Quantifier → Name → Expr → Expr → Said
+quantified_says s q n range e = record { type = quantified_type q (list_of s range); body = over_said q (list_of s range) (owner_of s range) (body_of (inside s n range) e) }

@@ -31,6 +31,7 @@ pub fn query_of_call(
         grammar,
         attributes: rules.attributes(),
         class,
+        variables: &[],
     };
     let Some(member) = scope.member_of(name, 0, class) else {
         return Ok(None);

@@ -1,39 +1,45 @@
 // The rules on expressions: J9, J10, J11 and J17.
-ghost use Rattle.std.specs.Prelude.{◌≡◌, ◌++◌, ◌∷◌, [], Some, IfOk, OnOk, map, length, pos};
+ghost use Rattle.std.specs.Prelude.{◌≡◌, ◌++◌, ◌∷◌, [], None, Some, IfOk, OnOk, map, length, nat_lt, pos, is_none, true};
+ghost use Rattle.std.specs.Option.{option_and_then};
 ghost use Rattle.std.specs.Int.{int_wrap, w32};
 ghost use Rattle.ast_grammar.specs.Grammar.{superclasses_of};
 ghost use Rattle.broken_rules.specs.Answers.{Ends};
 ghost use Rattle.broken_rules.specs.Notes.{Notes};
-ghost use Rattle.attr_rules.specs.Expression.{If, Int, Negate, Not, This, expression_of};
+ghost use Rattle.attr_rules.specs.Expression.{Cast, If, InstanceOf, Int, Negate, Not, Null, This, expression_of};
 ghost use Rattle.attr_rules.specs.declared.kinds.Kind.TheVariants as kinds;
 ghost use Rattle.attr_rules.specs.KeptEquations.{equation_in};
 ghost use Rattle.attr_rules.specs.Types.{of_class};
-ghost use Rattle.attr_types.specs.Bodies.{argument_broken, arguments_broken, calls_break, choice_broken, expr_broken, most, most_negated, operand_broken, place_of, sides_broken};
+ghost use Rattle.broken_rules.specs.Notes.{at, broken_if};
+ghost use Rattle.broken_rules.specs.declared.rule.Rule.TheVariants.{J9, J17};
+ghost use Rattle.ast_grammar.specs.Grammar.{class_named};
+ghost use Rattle.attr_types.specs.Bodies.{argument_broken, arguments_broken, calls_break, choice_broken, expr_broken, greatest, is_range, list_call_broken, node_broken, operand_broken, place_of, quantified_broken, range_broken, sides_broken};
+ghost use Rattle.attr_types.specs.declared.standing.Stands.TheVariants.{Anywhere, Negated};
+ghost use Rattle.attr_types.specs.Heads.{class_broken, class_or_first};
+ghost use Rattle.attr_types.specs.Scope.{list_called, member_on, variable_named};
 ghost use Rattle.attr_types.specs.Calls.{first_place};
 ghost use Rattle.attr_types.specs.Phases.{bodies_broken, equation_broken, equation_of, wanted_by};
 ghost use Rattle.attr_types.specs.ScopeKept.{IsScope};
-ghost use Rattle.attr_types.specs.Seen.{call_says, said_by, seen_given, seen_scope, seen_typed};
+ghost use Rattle.attr_types.specs.Seen.{call_says, quantified_says, said_by, seen_given, seen_scope, seen_typed, seen_variable};
 ghost use Rattle.attr_types.specs.Targets.{target_given, targets_of};
-ghost use Rattle.attr_types.specs.Typed.{body_of, common_of, first_of, int, joined, result_of, truth};
-ghost use Rattle.jrag_reader.specs.Expressions.{Call, arguments_of, seen_expr, seen_name};
+ghost use Rattle.attr_types.specs.Typed.{body_of, class_type, common_of, first_of, int, joined, list_of, owner_of, result_of, truth};
+ghost use Rattle.jrag_reader.specs.Expressions.{Call, Variable as Named, arguments_of, seen_expr, seen_name};
 
-use crate::calls::{Called, check_call};
-use crate::scope::{Scope, wanted_for};
-use crate::sides::{Part, check_choice, check_fit, check_sides, place_of};
-use crate::typed::{Typed, called, chosen, common_of, denied, joined, negated, result_of};
+use crate::calls::{Called, check_call, check_list_type};
+use crate::heads::check_class;
+use crate::scope::{Member, Scope, Variable, list_called, wanted_for};
+use crate::sides::{Part, check_choice, check_fit, check_node, check_range, check_sides, place_of};
+use crate::standing::Stands;
+use crate::typed::{
+    Typed, called, cast, chosen, common_of, denied, element_type, joined, negated, over_said,
+    quantified_type, result_of, tested, type_of_class,
+};
 use crate::written::Given;
-use ast_grammar::Grammar;
-use attr_rules::{Attributes, KeptEquation, Kind, TExpr, Target, ValueType};
+use ast_grammar::{ClassId, Grammar};
+use attr_rules::{Accessor, Attributes, KeptEquation, Kind, TExpr, Target, ValueType};
 use broken_rules::{Earliest, ReadFault, Rule};
-use jrag_reader::{Expr, Name, Operator};
-use rag_io::Memory;
+use jrag_reader::{Expr, Name, Operator, Quantifier};
+use rag_io::{Memory, Place};
 use std::alloc::Global;
-
-/// The greatest integer literal.
-const MOST: u32 = 2_147_483_647;
-
-/// The greatest literal directly behind a unary `-`.
-const MOST_NEGATED: u32 = 2_147_483_648;
 
 const TRUTH: Option<ValueType> = Some(ValueType::Of(Kind::Truth));
 
@@ -61,6 +67,24 @@ fn literal(number: u32) -> TExpr
     ensures { expression_of result ≡ Int (int_wrap w32 (pos number)) }
 {
     TExpr::Int(number.cast_signed())
+}
+
+// A literal, by where it stands.
+fn type_literal(stands: Stands, place: Place, number: u32, faults: &mut Earliest) -> Typed
+    ensures noted { Notes (broken_if (nat_lt (greatest stands) number) (at place J17)) faults.old faults.new }
+    ensures says { seen_typed result ≡ record { type = int; body = Int (int_wrap w32 (pos number)) } }
+{
+    faults.note_if(stands.greatest() < number, Rule::J17, place);
+    typed(INT, literal(number))
+}
+
+// What means nothing.
+fn unknown(place: Place, faults: &mut Earliest) -> Typed
+    ensures noted { Notes (at place J9 ∷ []) faults.old faults.new }
+    ensures says { seen_typed result ≡ record { type = None; body = Null } }
+{
+    faults.note(Rule::J9, place);
+    typed(None, TExpr::Null)
 }
 
 // A part of an expression: how it is written, and what it says.
@@ -138,11 +162,11 @@ fn type_part<'a>(
     faults: &mut Earliest,
 ) -> Result<TypedPart<'a>, Memory>
     requires { IsScope (seen_scope scope.now) }
-    ensures noted { OnOk result (Notes (expr_broken (seen_scope scope.now) most (seen_expr written.now)) faults.old faults.new) }
+    ensures noted { OnOk result (Notes (expr_broken (seen_scope scope.now) Anywhere (seen_expr written.now)) faults.old faults.new) }
     ensures written { IfOk result (λ p. p.written.now ≡ written.now) }
     ensures says { IfOk result (λ p. seen_typed p.typed ≡ said_by (seen_scope scope.now) (seen_expr written.now)) }
 {
-    let typed = type_expr(alloc, scope, written, MOST, faults)?;
+    let typed = type_expr(alloc, scope, written, Stands::Anywhere, faults)?;
     Ok(TypedPart { written, typed })
 }
 
@@ -160,8 +184,8 @@ fn type_argument(
     ensures says { IfOk result (λ e. expression_of e ≡ body_of (seen_scope scope.now) (seen_expr argument.now)) }
 {
     match wanted {
-        Some(kind) => type_operand(alloc, scope, argument, MOST, kind, faults),
-        None => Ok(type_expr(alloc, scope, argument, MOST, faults)?.body),
+        Some(kind) => type_operand(alloc, scope, argument, Stands::Anywhere, kind, faults),
+        None => Ok(type_expr(alloc, scope, argument, Stands::Anywhere, faults)?.body),
     }
 }
 
@@ -187,6 +211,29 @@ fn type_arguments(
     Ok(first.unwrap_or(TExpr::Null))
 }
 
+// What a name means in a call behind a receiver of a type, and what the first argument says.
+#[cycle(types)]
+fn type_called(
+    alloc: Global,
+    scope: &Scope<'_>,
+    receiver: Option<ValueType>,
+    call: Called<'_>,
+    arguments: &[Expr],
+    faults: &mut Earliest,
+) -> Result<(Option<Member>, TExpr), Memory>
+    requires scope { IsScope (seen_scope scope.now) }
+    requires count { call.count ≡ length arguments.now }
+    ensures noted { OnOk result (Notes (calls_break (seen_scope scope.now) call.entry.range receiver (seen_name call.entry.name.now) (first_place call.entry) (arguments_of (map seen_expr arguments.now))) faults.old faults.new) }
+    ensures member { IfOk result (λ r. r.0 ≡ member_on (seen_scope scope.now) receiver (seen_name call.entry.name.now).text call.entry.count) }
+    ensures says { IfOk result (λ r. expression_of r.1 ≡ first_of (seen_scope scope.now) (arguments_of (map seen_expr arguments.now))) }
+{
+    let member = scope.member_on(receiver, &call.name.text, call.count);
+    check_call(call, receiver, member, faults);
+    let wanted = wanted_for(member, call.count);
+    let argument = type_arguments(alloc, scope, wanted, arguments, faults)?;
+    Ok((member, argument))
+}
+
 // A call behind a receiver.
 #[cycle(types)]
 fn type_call(
@@ -199,33 +246,37 @@ fn type_call(
 ) -> Result<Typed, Memory>
     requires scope { IsScope (seen_scope scope.now) }
     requires count { call.count ≡ length arguments.now }
-    ensures noted { OnOk result (Notes (calls_break (seen_scope scope.now) receiver.value_type (seen_name call.entry.name.now) (first_place call.entry) (arguments_of (map seen_expr arguments.now))) faults.old faults.new) }
+    ensures noted { OnOk result (Notes (calls_break (seen_scope scope.now) call.entry.range receiver.value_type (seen_name call.entry.name.now) (first_place call.entry) (arguments_of (map seen_expr arguments.now))) faults.old faults.new) }
     ensures says { IfOk result (λ t. seen_typed t ≡ call_says (seen_scope scope.now) (seen_typed receiver) (seen_name call.entry.name.now) (arguments_of (map seen_expr arguments.now))) }
 {
-    let member = scope.member_on(receiver.value_type, &call.name.text, call.count);
-    check_call(call, receiver.value_type, member, faults);
-    let wanted = wanted_for(member, call.count);
-    let argument = type_arguments(alloc, scope, wanted, arguments, faults)?;
+    let (member, argument) = type_called(
+        alloc,
+        scope,
+        receiver.value_type,
+        call,
+        arguments,
+        faults,
+    )?;
     let body = called(alloc, member, receiver.body, argument, call.name.place)?;
     let value_type = scope.type_of(member);
     Ok(Typed { value_type, body })
 }
 
-// A part of which a type is wanted, where a literal may be so great.
+// A part of which a type is wanted, by where it stands.
 #[cycle(types)]
 fn type_operand(
     alloc: Global,
     scope: &Scope<'_>,
     operand: &Expr,
-    limit: u32,
+    stands: Stands,
     wanted: Kind,
     faults: &mut Earliest,
 ) -> Result<TExpr, Memory>
     requires { IsScope (seen_scope scope.now) }
-    ensures noted { OnOk result (Notes (operand_broken (seen_scope scope.now) limit wanted (seen_expr operand.now)) faults.old faults.new) }
+    ensures noted { OnOk result (Notes (operand_broken (seen_scope scope.now) stands wanted (seen_expr operand.now)) faults.old faults.new) }
     ensures says { IfOk result (λ e. expression_of e ≡ body_of (seen_scope scope.now) (seen_expr operand.now)) }
 {
-    let typed = type_expr(alloc, scope, operand, limit, faults)?;
+    let typed = type_expr(alloc, scope, operand, stands, faults)?;
     let part = Part {
         written: operand,
         value_type: typed.value_type,
@@ -243,10 +294,10 @@ fn type_denied(
     faults: &mut Earliest,
 ) -> Result<Typed, Memory>
     requires { IsScope (seen_scope scope.now) }
-    ensures noted { OnOk result (Notes (operand_broken (seen_scope scope.now) most kinds.Truth (seen_expr operand.now)) faults.old faults.new) }
+    ensures noted { OnOk result (Notes (operand_broken (seen_scope scope.now) Anywhere kinds.Truth (seen_expr operand.now)) faults.old faults.new) }
     ensures says { IfOk result (λ t. seen_typed t ≡ record { type = truth; body = Not (body_of (seen_scope scope.now) (seen_expr operand.now)) }) }
 {
-    let operand = type_operand(alloc, scope, operand, MOST, Kind::Truth, faults)?;
+    let operand = type_operand(alloc, scope, operand, Stands::Anywhere, Kind::Truth, faults)?;
     Ok(typed(TRUTH, denied(alloc, operand)?))
 }
 
@@ -259,10 +310,10 @@ fn type_negated(
     faults: &mut Earliest,
 ) -> Result<Typed, Memory>
     requires { IsScope (seen_scope scope.now) }
-    ensures noted { OnOk result (Notes (operand_broken (seen_scope scope.now) most_negated kinds.Int (seen_expr operand.now)) faults.old faults.new) }
+    ensures noted { OnOk result (Notes (operand_broken (seen_scope scope.now) Negated kinds.Int (seen_expr operand.now)) faults.old faults.new) }
     ensures says { IfOk result (λ t. seen_typed t ≡ record { type = int; body = Negate (body_of (seen_scope scope.now) (seen_expr operand.now)) }) }
 {
-    let operand = type_operand(alloc, scope, operand, MOST_NEGATED, Kind::Int, faults)?;
+    let operand = type_operand(alloc, scope, operand, Stands::Negated, Kind::Int, faults)?;
     Ok(typed(INT, negated(alloc, operand)?))
 }
 
@@ -271,18 +322,20 @@ fn type_negated(
 fn type_call_alone(
     alloc: Global,
     scope: &Scope<'_>,
+    stands: Stands,
     name: &Name,
     arguments: &[Expr],
     faults: &mut Earliest,
 ) -> Result<Typed, Memory>
     requires { IsScope (seen_scope scope.now) }
-    ensures noted { OnOk result (Notes (expr_broken (seen_scope scope.now) most (Call (seen_name name.now) (arguments_of (map seen_expr arguments.now)))) faults.old faults.new) }
+    ensures noted { OnOk result (Notes (expr_broken (seen_scope scope.now) stands (Call (seen_name name.now) (arguments_of (map seen_expr arguments.now)))) faults.old faults.new) }
     ensures says { IfOk result (λ t. seen_typed t ≡ said_by (seen_scope scope.now) (Call (seen_name name.now) (arguments_of (map seen_expr arguments.now)))) }
 {
     let call = Called {
         receiver: None,
         name,
         count: arguments.len(),
+        range: stands.is_range(),
     };
     type_call(alloc, scope, this_of(scope), call, arguments, faults)
 }
@@ -292,56 +345,276 @@ fn type_call_alone(
 fn type_member(
     alloc: Global,
     scope: &Scope<'_>,
+    stands: Stands,
     receiver: TypedPart<'_>,
     name: &Name,
     arguments: &[Expr],
     faults: &mut Earliest,
 ) -> Result<Typed, Memory>
     requires { IsScope (seen_scope scope.now) }
-    ensures noted { OnOk result (Notes (calls_break (seen_scope scope.now) receiver.entry.typed.value_type (seen_name name.now) (place_of (seen_expr receiver.entry.written.now)) (arguments_of (map seen_expr arguments.now))) faults.old faults.new) }
+    ensures noted { OnOk result (Notes (calls_break (seen_scope scope.now) (is_range stands) receiver.entry.typed.value_type (seen_name name.now) (place_of (seen_expr receiver.entry.written.now)) (arguments_of (map seen_expr arguments.now))) faults.old faults.new) }
     ensures says { IfOk result (λ t. seen_typed t ≡ call_says (seen_scope scope.now) (seen_typed receiver.entry.typed) (seen_name name.now) (arguments_of (map seen_expr arguments.now))) }
 {
     let call = Called {
         receiver: Some(receiver.written),
         name,
         count: arguments.len(),
+        range: stands.is_range(),
     };
     type_call(alloc, scope, receiver.typed, call, arguments, faults)
 }
 
-// What a written expression says, where a literal may be so great, and what it breaks. It goes down the expression, which has at most 400
+// The list that a call gives, and the node that has it.
+#[cycle(types)]
+fn type_list(
+    alloc: Global,
+    scope: &Scope<'_>,
+    owner: Typed,
+    call: Called<'_>,
+    arguments: &[Expr],
+    faults: &mut Earliest,
+) -> Result<(Option<Accessor>, TExpr), Memory>
+    requires scope { IsScope (seen_scope scope.now) }
+    requires count { call.count ≡ length arguments.now }
+    requires range { call.range ≡ true }
+    ensures noted { OnOk result (Notes (list_call_broken (seen_scope scope.now) owner.value_type (seen_name call.entry.name.now) (first_place call.entry) (arguments_of (map seen_expr arguments.now))) faults.old faults.new) }
+    ensures list { IfOk result (λ r. r.0 ≡ option_and_then (list_called call.entry.count) (member_on (seen_scope scope.now) owner.value_type (seen_name call.entry.name.now).text call.entry.count)) }
+    ensures owner { IfOk result (λ r. expression_of r.1 ≡ expression_of owner.body) }
+{
+    let (member, _) = type_called(alloc, scope, owner.value_type, call, arguments, faults)?;
+    check_list_type(call, scope.type_of(member), faults);
+    let list = match member {
+        Some(member) => list_called(member, call.count),
+        None => None,
+    };
+    Ok((list, owner.body))
+}
+
+// The list that a call without a receiver gives, and the node that has it.
+#[cycle(types)]
+fn type_list_alone(
+    alloc: Global,
+    scope: &Scope<'_>,
+    name: &Name,
+    arguments: &[Expr],
+    faults: &mut Earliest,
+) -> Result<(Option<Accessor>, TExpr), Memory>
+    requires { IsScope (seen_scope scope.now) }
+    ensures noted { OnOk result (Notes (range_broken (seen_scope scope.now) (Call (seen_name name.now) (arguments_of (map seen_expr arguments.now)))) faults.old faults.new) }
+    ensures list { IfOk result (λ r. r.0 ≡ list_of (seen_scope scope.now) (Call (seen_name name.now) (arguments_of (map seen_expr arguments.now)))) }
+    ensures owner { IfOk result (λ r. expression_of r.1 ≡ This) }
+{
+    let call = Called {
+        receiver: None,
+        name,
+        count: arguments.len(),
+        range: true,
+    };
+    type_list(alloc, scope, this_of(scope), call, arguments, faults)
+}
+
+// The list over which a form goes, and the node that has it.
+#[cycle(types)]
+fn type_range(
+    alloc: Global,
+    scope: &Scope<'_>,
+    range: &Expr,
+    faults: &mut Earliest,
+) -> Result<(Option<Accessor>, TExpr), Memory>
+    requires { IsScope (seen_scope scope.now) }
+    ensures noted { OnOk result (Notes (range_broken (seen_scope scope.now) (seen_expr range.now)) faults.old faults.new) }
+    ensures list { IfOk result (λ r. r.0 ≡ list_of (seen_scope scope.now) (seen_expr range.now)) }
+    ensures owner { IfOk result (λ r. expression_of r.1 ≡ owner_of (seen_scope scope.now) (seen_expr range.now)) }
+{
+    match range {
+        Expr::Call(name, arguments) => type_list_alone(alloc, scope, name, arguments, faults),
+        Expr::Member(receiver, name, arguments) => {
+            let owner = type_expr(alloc, scope, receiver, Stands::Anywhere, faults)?;
+            let call = Called {
+                receiver: Some(receiver),
+                name,
+                count: arguments.len(),
+                range: true,
+            };
+            type_list(alloc, scope, owner, call, arguments, faults)
+        }
+        Expr::Truth(..)
+        | Expr::Null(_)
+        | Expr::Empty(_)
+        | Expr::This(_)
+        | Expr::Int(..)
+        | Expr::Text(..)
+        | Expr::Source(..)
+        | Expr::Variable(_)
+        | Expr::New(..)
+        | Expr::Quantified(..)
+        | Expr::Group(..)
+        | Expr::Cast(..)
+        | Expr::Not(..)
+        | Expr::Negate(..)
+        | Expr::Binary(..)
+        | Expr::InstanceOf(..)
+        | Expr::If(..) => {
+            let typed = type_expr(alloc, scope, range, Stands::Range, faults)?;
+            check_range(range, typed.value_type, faults);
+            Ok((None, TExpr::This))
+        }
+    }
+}
+
+// The names of a scope with one more, the innermost first.
+fn with_name<'a>(
+    alloc: Global,
+    scope: &Scope<'a>,
+    variable: Variable<'a>,
+) -> Result<Vec<Variable<'a>>, Memory>
+    ensures { IfOk result (λ list. map seen_variable list.items ≡ seen_variable variable.entry ∷ (seen_scope scope.now).variables) }
+{
+    let mut list = Vec::new(alloc);
+    list.push(variable).map_err(|_| Memory)?;
+    list.extend_from_slice(scope.variables).map_err(|_| Memory)?;
+    Ok(list)
+}
+
+// A form over a list.
+#[cycle(types)]
+fn type_quantified(
+    alloc: Global,
+    scope: &Scope<'_>,
+    form: Quantifier,
+    name: &Name,
+    range: &Expr,
+    condition: &Expr,
+    faults: &mut Earliest,
+) -> Result<Typed, Memory>
+    requires { IsScope (seen_scope scope.now) }
+    ensures noted { OnOk result (Notes (quantified_broken (seen_scope scope.now) (seen_name name.now) (seen_expr range.now) (seen_expr condition.now)) faults.old faults.new) }
+    ensures says { IfOk result (λ t. seen_typed t ≡ quantified_says (seen_scope scope.now) form (seen_name name.now) (seen_expr range.now) (seen_expr condition.now)) }
+{
+    let (list, owner) = type_range(alloc, scope, range, faults)?;
+    let value_type = element_type(list);
+    let variable = Variable {
+        name: &name.text,
+        value_type,
+    };
+    let variables = with_name(alloc, &*scope, variable)?;
+    let inner = Scope {
+        grammar: &*scope.grammar,
+        attributes: &*scope.attributes,
+        class: scope.class,
+        variables: &variables,
+    };
+    let anywhere = Stands::Anywhere;
+    let condition = type_operand(alloc, &inner, condition, anywhere, Kind::Truth, faults)?;
+    let body = over_said(alloc, form, list, owner, condition)?;
+    Ok(typed(quantified_type(form, list), body))
+}
+
+// The operand of a cast or of `instanceof`.
+#[cycle(types)]
+fn type_node(
+    alloc: Global,
+    scope: &Scope<'_>,
+    operand: &Expr,
+    faults: &mut Earliest,
+) -> Result<TExpr, Memory>
+    requires { IsScope (seen_scope scope.now) }
+    ensures noted { OnOk result (Notes (node_broken (seen_scope scope.now) (seen_expr operand.now)) faults.old faults.new) }
+    ensures says { IfOk result (λ e. expression_of e ≡ body_of (seen_scope scope.now) (seen_expr operand.now)) }
+{
+    let typed = type_expr(alloc, scope, operand, Stands::Anywhere, faults)?;
+    let part = Part {
+        written: operand,
+        value_type: typed.value_type,
+    };
+    check_node(part, faults);
+    Ok(typed.body)
+}
+
+// A cast of a part.
+#[cycle(types)]
+fn type_cast(
+    alloc: Global,
+    scope: &Scope<'_>,
+    name: &Name,
+    operand: &Expr,
+    faults: &mut Earliest,
+) -> Result<Typed, Memory>
+    requires { IsScope (seen_scope scope.now) }
+    ensures noted { OnOk result (Notes (class_broken (seen_scope scope.now).grammar (seen_name name.now) ++ node_broken (seen_scope scope.now) (seen_expr operand.now)) faults.old faults.new) }
+    ensures says { IfOk result (λ t. seen_typed t ≡ record { type = class_type (seen_scope scope.now).grammar (seen_name name.now).text; body = Cast (class_or_first (class_named (seen_scope scope.now).grammar (seen_name name.now).text)) (body_of (seen_scope scope.now) (seen_expr operand.now)) }) }
+{
+    let class = check_class(scope.grammar, name, faults);
+    let operand = type_node(alloc, scope, operand, faults)?;
+    let body = cast(alloc, class.unwrap_or(ClassId(0)), operand)?;
+    Ok(typed(type_of_class(class), body))
+}
+
+// A test of a part's class.
+#[cycle(types)]
+fn type_test(
+    alloc: Global,
+    scope: &Scope<'_>,
+    name: &Name,
+    operand: &Expr,
+    faults: &mut Earliest,
+) -> Result<Typed, Memory>
+    requires { IsScope (seen_scope scope.now) }
+    ensures noted { OnOk result (Notes (class_broken (seen_scope scope.now).grammar (seen_name name.now) ++ node_broken (seen_scope scope.now) (seen_expr operand.now)) faults.old faults.new) }
+    ensures says { IfOk result (λ t. seen_typed t ≡ record { type = truth; body = InstanceOf (class_or_first (class_named (seen_scope scope.now).grammar (seen_name name.now).text)) (body_of (seen_scope scope.now) (seen_expr operand.now)) }) }
+{
+    let class = check_class(scope.grammar, name, faults);
+    let operand = type_node(alloc, scope, operand, faults)?;
+    let body = tested(alloc, class.unwrap_or(ClassId(0)), operand)?;
+    Ok(typed(TRUTH, body))
+}
+
+// A name that stands for a value.
+fn type_variable(scope: &Scope<'_>, name: &Name, faults: &mut Earliest) -> Typed
+    ensures noted { Notes (broken_if (is_none (variable_named (seen_scope scope.now) (seen_name name.now).text)) (at (seen_name name.now).place J9)) faults.old faults.new }
+    ensures says { seen_typed result ≡ said_by (seen_scope scope.now) (Named (seen_name name.now)) }
+{
+    match scope.variable(&name.text) {
+        Some(number) => typed(scope.variable_type(&name.text), TExpr::Variable(number)),
+        None => unknown(name.place, faults),
+    }
+}
+
+// What a written expression says, and what it breaks, by where it stands. It goes down the expression, which has at most 400
 // tokens.
 #[cycle(types)]
 fn type_expr(
     alloc: Global,
     scope: &Scope<'_>,
     expr: &Expr,
-    limit: u32,
+    stands: Stands,
     faults: &mut Earliest,
 ) -> Result<Typed, Memory>
     requires { IsScope (seen_scope scope.now) }
-    ensures noted { OnOk result (Notes (expr_broken (seen_scope scope.now) limit (seen_expr expr.now)) faults.old faults.new) }
+    ensures noted { OnOk result (Notes (expr_broken (seen_scope scope.now) stands (seen_expr expr.now)) faults.old faults.new) }
     ensures says { IfOk result (λ t. seen_typed t ≡ said_by (seen_scope scope.now) (seen_expr expr.now)) }
 {
     match expr {
         Expr::Truth(_, b) => Ok(typed(TRUTH, TExpr::Truth(*b))),
         Expr::Null(_) => Ok(typed(NULL, TExpr::Null)),
         Expr::This(_) => Ok(this_of(scope)),
-        Expr::Int(place, number) => {
-            faults.note_if(limit < *number, Rule::J17, *place);
-            Ok(typed(INT, literal(*number)))
-        }
+        Expr::Int(place, number) => Ok(type_literal(stands, *place, *number, faults)),
         Expr::Text(_, number) => Ok(typed(TEXT, TExpr::Text(*number))),
-        Expr::Variable(Name { place, .. }) | Expr::Source(place, _) => {
-            faults.note(Rule::J9, *place);
-            Ok(typed(None, TExpr::Null))
+        Expr::Variable(name) => Ok(type_variable(scope, name, faults)),
+        Expr::Quantified(form, _, name, range, condition) => {
+            type_quantified(alloc, scope, *form, name, range, condition, faults)
         }
-        Expr::Call(name, arguments) => type_call_alone(alloc, scope, name, arguments, faults),
+        Expr::Cast(_, name, operand) => type_cast(alloc, scope, name, operand, faults),
+        Expr::InstanceOf(operand, name) => type_test(alloc, scope, name, operand, faults),
+        Expr::Source(place, _) => Ok(unknown(*place, faults)),
+        Expr::Call(name, arguments) => {
+            type_call_alone(alloc, scope, stands, name, arguments, faults)
+        }
         Expr::Member(receiver, name, arguments) => {
             let receiver = type_part(alloc, scope, receiver, faults)?;
-            type_member(alloc, scope, receiver, name, arguments, faults)
+            type_member(alloc, scope, stands, receiver, name, arguments, faults)
         }
-        Expr::Group(_, inner) => type_expr(alloc, scope, inner, MOST, faults),
+        Expr::Group(_, inner) => type_expr(alloc, scope, inner, Stands::Anywhere, faults),
         Expr::Not(_, operand) => type_denied(alloc, scope, operand, faults),
         Expr::Negate(_, operand) => type_negated(alloc, scope, operand, faults),
         Expr::Binary(operator, left, right) => {
@@ -355,11 +628,7 @@ fn type_expr(
             let otherwise = type_part(alloc, scope, otherwise, faults)?;
             choice(alloc, scope.grammar, condition, then, otherwise, faults)
         }
-        Expr::Empty(_)
-        | Expr::New(..)
-        | Expr::Quantified(..)
-        | Expr::Cast(..)
-        | Expr::InstanceOf(..) => Ok(typed(None, TExpr::Null)),
+        Expr::Empty(_) | Expr::New(..) => Ok(typed(None, TExpr::Null)),
     }
 }
 
@@ -392,9 +661,17 @@ fn check_body(
         grammar,
         attributes,
         class: target.class,
+        variables: &[],
     };
     let wanted = wanted_by(attributes, target);
-    let body = type_operand(alloc, &scope, equation.body, MOST, wanted, faults)?;
+    let body = type_operand(
+        alloc,
+        &scope,
+        equation.body,
+        Stands::Anywhere,
+        wanted,
+        faults,
+    )?;
     Ok(KeptEquation { target, body })
 }
 

@@ -1,5 +1,5 @@
 // The rules on calls: J9, J10 and J11.
-ghost use Rattle.std.specs.Prelude.{◌≡◌, ◌==◌, length, not};
+ghost use Rattle.std.specs.Prelude.{◌≡◌, ◌==◌, ◌&&◌, is_some, length, not};
 ghost use Rattle.broken_rules.specs.Notes.{Notes, at, broken_if};
 ghost use Rattle.broken_rules.specs.declared.rule.Rule.TheVariants.{J10, J11};
 ghost use Rattle.attr_types.specs.Bodies.{call_broken, member_broken};
@@ -20,6 +20,8 @@ pub(crate) struct Called<'a> {
     pub receiver: Option<&'a Expr>,
     pub name: &'a Name,
     pub count: usize,
+    /// Whether it may give a whole list.
+    pub range: bool,
 }
 
 impl Called<'_> {
@@ -42,18 +44,18 @@ fn check_count(call: Called<'_>, member: Member, faults: &mut Earliest)
     faults.note_if(is_other, Rule::J11, call.name.place);
 }
 
-// J10 at a whole list, which stands in ranges alone.
+// J10 at a whole list, where none is wanted.
 fn check_list(call: Called<'_>, member: Member, faults: &mut Earliest)
-    ensures { Notes (broken_if (is_list member) (at (first_place call.entry) J10)) faults.old faults.new }
+    ensures { Notes (broken_if (not call.entry.range && is_list member) (at (first_place call.entry) J10)) faults.old faults.new }
 {
-    if member.is_list() {
+    if !call.range && member.is_list() {
         faults.note(Rule::J10, call.place());
     }
 }
 
 // J9 at a name that means nothing, and J10 and J11 at one that means something.
 fn check_member(call: Called<'_>, member: Option<Member>, faults: &mut Earliest)
-    ensures { Notes (member_broken member (seen_name call.entry.name.now) call.entry.count (first_place call.entry)) faults.old faults.new }
+    ensures { Notes (member_broken call.entry.range member (seen_name call.entry.name.now) call.entry.count (first_place call.entry)) faults.old faults.new }
 {
     match member {
         None => faults.note(Rule::J9, call.name.place),
@@ -71,7 +73,7 @@ pub(crate) fn check_call(
     member: Option<Member>,
     faults: &mut Earliest,
 )
-    ensures { (s : Scope) → member ≡ member_on s receiver (seen_name call.entry.name.now).text call.entry.count → Notes (call_broken s (seen_name call.entry.name.now) call.entry.count (first_place call.entry) receiver) faults.old faults.new }
+    ensures { (s : Scope) → member ≡ member_on s receiver (seen_name call.entry.name.now).text call.entry.count → Notes (call_broken s call.entry.range (seen_name call.entry.name.now) call.entry.count (first_place call.entry) receiver) faults.old faults.new }
 {
     let Some(receiver) = receiver else { return };
     if receiver.class().is_none() {
@@ -79,4 +81,11 @@ pub(crate) fn check_call(
         return;
     }
     check_member(call, member, faults);
+}
+
+/// J10 at a call as a range that has a type: lists have none.
+pub(crate) fn check_list_type(call: Called<'_>, of: Option<ValueType>, faults: &mut Earliest)
+    ensures { Notes (broken_if (is_some of) (at (first_place call.entry) J10)) faults.old faults.new }
+{
+    faults.note_if(of.is_some(), Rule::J10, call.place());
 }

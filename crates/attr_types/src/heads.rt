@@ -1,4 +1,4 @@
-// The rules on declarations: J2, J3 and J17.
+// The rules on declarations: J2, J3, J4 and J17.
 ghost use Rattle.std.specs.Prelude.{◌≡◌, ◌<◌, ◌++◌, ◌∷◌, [], List, Some, IfOk, IfSome, OnOk, length, map};
 ghost use Rattle.std.specs.Option.{option_map};
 ghost use Rattle.ast_grammar.specs.Grammar.{class_named, number_of, superclasses_of};
@@ -6,7 +6,7 @@ ghost use Rattle.broken_rules.specs.Answers.{Ends};
 ghost use Rattle.broken_rules.specs.Notes.{Notes};
 ghost use Rattle.attr_rules.specs.KeptEquations.{seen_attribute};
 ghost use Rattle.attr_types.specs.DeclaredNames.{Adds, IsEven, Tells};
-ghost use Rattle.attr_types.specs.Heads.{again_for, attribute_of, attributes_of, class_broken, head_broken, heads_broken, is_taken, kind_written};
+ghost use Rattle.attr_types.specs.Heads.{again_for, attribute_of, attributes_of, class_broken, head_broken, heads_broken, is_taken, kind_written, type_broken, type_written};
 ghost use Rattle.jrag_reader.specs.Expressions.{seen_name};
 ghost use Rattle.jrag_reader.specs.Items as read;
 ghost use Rattle.jrag_reader.specs.Items.{seen_synthesized, seen_type};
@@ -64,7 +64,36 @@ fn check_again<'a>(
     declared.insert(alloc, class, &name.text)
 }
 
-// J2, J3 and J17 of a declaration, before which there are so many.
+// The type that is written, if it is one: sets are of texts or of nodes of a class.
+fn type_written(grammar: &Grammar, of: &Type) -> Option<Kind>
+    ensures { result ≡ type_written grammar.now (seen_type of.now) }
+{
+    match (&of.name, of.set) {
+        (TypeName::Boolean, false) => Some(Kind::Truth),
+        (TypeName::Int, false) => Some(Kind::Int),
+        (TypeName::String, false) => Some(Kind::Text),
+        (TypeName::Class(name), false) => Some(Kind::Node(grammar.find_class(name)?)),
+        (TypeName::Boolean | TypeName::Int, true) => None,
+        (TypeName::String, true) => Some(Kind::Texts),
+        (TypeName::Class(name), true) => Some(Kind::Nodes(grammar.find_class(name)?)),
+    }
+}
+
+// J4 at what is no type.
+fn check_type(grammar: &Grammar, of: &Type, faults: &mut Earliest)
+    ensures { Notes (type_broken grammar.now (seen_type of.now)) faults.old faults.new }
+{
+    faults.note_if(type_written(grammar, of).is_none(), Rule::J4, of.place);
+}
+
+// What is no type counts as `boolean`.
+fn kind_written(grammar: &Grammar, of: &Type) -> Kind
+    ensures { result ≡ kind_written grammar.now (seen_type of.now) }
+{
+    type_written(grammar, of).unwrap_or(Kind::Truth)
+}
+
+// J2, J3, J4 and J17 of a declaration, before which there are so many.
 fn check_head<'a>(
     alloc: Global,
     grammar: &Grammar,
@@ -77,22 +106,12 @@ fn check_head<'a>(
     ensures told { (before : List read.Synthesized) → Tells grammar.now before declared.old → OnOk result (Tells grammar.now (before ++ seen_synthesized head.now ∷ []) declared.new) }
 {
     let name = &head.signature.name;
+    check_type(grammar, &head.of, faults);
     if let Some(class) = check_class(grammar, &head.class, faults) {
         check_again(alloc, grammar, declared, class, name, faults)?;
     }
     faults.note_if(count == MOST_ATTRIBUTES, Rule::J17, name.place);
     Ok(())
-}
-
-// A type that is evaluated so far; any other counts as `boolean`.
-fn kind_written(of: &Type) -> Kind
-    ensures { result ≡ kind_written (seen_type of.now) }
-{
-    match of.name {
-        TypeName::Boolean | TypeName::Class(_) => Kind::Truth,
-        TypeName::Int => Kind::Int,
-        TypeName::String => Kind::Text,
-    }
 }
 
 /// What a declaration declares. A class that there isn't counts as the first.
@@ -102,7 +121,7 @@ pub(crate) fn attribute_of<'a>(grammar: &Grammar, head: &'a Synthesized) -> Name
     let class = grammar.find_class(&head.class.text).unwrap_or(ClassId(0));
     NamedAttr {
         name: &head.signature.name.text,
-        declared: Attr::plain(class, kind_written(&head.of)),
+        declared: Attr::plain(class, kind_written(grammar, &head.of)),
     }
 }
 

@@ -11,6 +11,7 @@ mod heads;
 mod laws;
 mod scope;
 mod sides;
+mod standing;
 mod targets;
 mod typed;
 mod written;

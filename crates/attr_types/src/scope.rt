@@ -1,8 +1,9 @@
 // What may be named where an expression stands, and what a call means there.
-ghost use Rattle.std.specs.Prelude.{◌≡◌};
+ghost use Rattle.std.specs.Prelude.{◌≡◌, position};
+ghost use Rattle.std.specs.Str.{bytes_eq};
 ghost use Rattle.std.specs.Option.{option_and_then};
 ghost use Rattle.attr_types.specs.Scope as spec;
-ghost use Rattle.attr_types.specs.Scope.{arguments_wanted, member_of, member_on, type_called, wanted_for};
+ghost use Rattle.attr_types.specs.Scope.{arguments_wanted, list_called, member_of, member_on, type_called, type_named, variable_named, wanted_for};
 ghost use Rattle.attr_types.specs.ScopeKept.{IsScope};
 ghost use Rattle.attr_types.specs.Seen.{seen_scope};
 
@@ -43,6 +44,18 @@ impl Member {
     }
 }
 
+/// The list that a call with so many arguments gives, where it takes so many.
+pub(crate) fn list_called(member: Member, count: usize) -> Option<Accessor>
+    ensures { result ≡ list_called count member }
+{
+    match member {
+        Member::Reads(accessor)
+            if accessor.access == Access::Elements && accessor.access.arguments().len() == count =>
+            { Some(accessor) }
+        _ => None,
+    }
+}
+
 /// The types of the arguments of a call with so many, where it takes so many.
 pub(crate) fn wanted_for(member: Option<Member>, count: usize) -> &'static [Kind]
     ensures { result.now ≡ wanted_for member count }
@@ -53,15 +66,45 @@ pub(crate) fn wanted_for(member: Option<Member>, count: usize) -> &'static [Kind
     }
 }
 
-/// Where an expression stands: in an equation of a class.
+/// A name that stands for a value, and the type of its values, where that is known.
+#[derive(Clone, Copy, Debug)]
+pub(crate) struct Variable<'a> {
+    pub name: &'a [u8],
+    pub value_type: Option<ValueType>,
+}
+
+// The place of the first of this name.
+fn place_of(variables: &[Variable<'_>], name: &[u8]) -> Option<usize>
+    ensures { result ≡ position (λ v. bytes_eq v.name.now name.now) variables.now }
+{
+    variables.iter().position(|variable| variable.name == name)
+}
+
+/// Where an expression stands: in an equation of a class, with some names, the innermost first.
 #[derive(Clone, Copy)]
 pub(crate) struct Scope<'a> {
     pub grammar: &'a Grammar,
     pub attributes: &'a Attributes,
     pub class: ClassId,
+    pub variables: &'a [Variable<'a>],
 }
 
 impl Scope<'_> {
+    /// The number of a name: that of the innermost one.
+    pub(crate) fn variable(&self, name: &[u8]) -> Option<usize>
+        ensures { result ≡ variable_named (seen_scope self.now) name.now }
+    {
+        place_of(self.variables, name)
+    }
+
+    /// The type of a name's values, where that is known.
+    pub(crate) fn variable_type(&self, name: &[u8]) -> Option<ValueType>
+        ensures { result ≡ type_named (seen_scope self.now) name.now }
+    {
+        let number = self.variable(name)?;
+        self.variables.get(number)?.value_type
+    }
+
     /// What a name means behind a receiver of a class, called with so many arguments.
     pub(crate) fn member_of(&self, name: &[u8], count: usize, class: ClassId) -> Option<Member>
         requires { IsScope (seen_scope self.now) }

@@ -2,7 +2,7 @@
 ghost use Rattle.std.specs.Prelude.{◌≡◌};
 ghost use Rattle.broken_rules.specs.Notes.{Notes, at, broken_if};
 ghost use Rattle.broken_rules.specs.declared.rule.Rule.TheVariants.{J10};
-ghost use Rattle.attr_types.specs.Bodies.{are_apart, both_misfit, choice_broken, equal_broken, have_no_common, is_unfit, misfit, place_of, sides_broken};
+ghost use Rattle.attr_types.specs.Bodies.{are_apart, both_misfit, choice_broken, equal_broken, have_no_common, is_no_node, is_unfit, misfit, no_list, no_node, place_of, sides_broken};
 ghost use Rattle.jrag_reader.specs.Expressions.{seen_expr};
 
 use ast_grammar::Grammar;
@@ -46,6 +46,15 @@ fn is_unfit(grammar: &Grammar, of: Option<ValueType>, wanted: Kind) -> bool
     }
 }
 
+fn is_no_node(of: Option<ValueType>) -> bool
+    ensures { result ≡ is_no_node of }
+{
+    match of {
+        None => false,
+        Some(of) => !of.is_node(),
+    }
+}
+
 fn are_apart(left: Option<ValueType>, right: Option<ValueType>) -> bool
     ensures { result ≡ are_apart left right }
 {
@@ -78,6 +87,22 @@ pub(crate) fn check_fit(grammar: &Grammar, part: Part<'_>, wanted: Kind, faults:
     if is_unfit(grammar, part.value_type, wanted) {
         faults.note(Rule::J10, place_of(part.written));
     }
+}
+
+/// J10 at a part that is known to be no node.
+pub(crate) fn check_node(part: Part<'_>, faults: &mut Earliest)
+    ensures { Notes (no_node part.entry.value_type (seen_expr part.entry.written.now)) faults.old faults.new }
+{
+    if is_no_node(part.value_type) {
+        faults.note(Rule::J10, place_of(part.written));
+    }
+}
+
+/// J10 at a range that has a type: lists have none.
+pub(crate) fn check_range(range: &Expr, of: Option<ValueType>, faults: &mut Earliest)
+    ensures { Notes (no_list of (seen_expr range.now)) faults.old faults.new }
+{
+    faults.note_if(of.is_some(), Rule::J10, place_of(range));
 }
 
 // J10 at the right one of two sides that can't be compared.

@@ -2,12 +2,14 @@
 ghost use Rattle.std.specs.Prelude.{◌≡◌, IfOk};
 ghost use Rattle.attr_rules.specs.Expression as said;
 ghost use Rattle.attr_rules.specs.Expression.{expression_of};
-ghost use Rattle.attr_types.specs.Typed.{call_said, common_of, joined, read, result_of};
+ghost use Rattle.std.specs.Option.{option_map};
+ghost use Rattle.attr_rules.specs.Types.{of_class};
+ghost use Rattle.attr_types.specs.Typed.{call_said, common_of, element_type, joined, over, over_said, quantified_type, read, result_of};
 
 use crate::scope::Member;
-use ast_grammar::Grammar;
-use attr_rules::{Access, Accessor, Kind, Operator, TExpr, ValueType, common};
-use jrag_reader::Operator as Sign;
+use ast_grammar::{ClassId, Grammar};
+use attr_rules::{Access, Accessor, Kind, Operator, Quantifier, TExpr, ValueType, common};
+use jrag_reader::{Operator as Sign, Quantifier as Form};
 use rag_io::{Memory, Place};
 use std::alloc::Global;
 
@@ -119,6 +121,79 @@ pub(crate) fn chosen(
     let condition = boxed(alloc, condition)?;
     let then = boxed(alloc, then)?;
     Ok(TExpr::If(condition, then, place, boxed(alloc, otherwise)?))
+}
+
+/// A cast of a part.
+pub(crate) fn cast(alloc: Global, class: ClassId, part: TExpr) -> Result<TExpr, Memory>
+    ensures { IfOk result (λ e. expression_of e ≡ said.Cast class (expression_of part)) }
+{
+    Ok(TExpr::Cast(class, boxed(alloc, part)?))
+}
+
+/// A test of a part's class.
+pub(crate) fn tested(alloc: Global, class: ClassId, part: TExpr) -> Result<TExpr, Memory>
+    ensures { IfOk result (λ e. expression_of e ≡ said.InstanceOf class (expression_of part)) }
+{
+    Ok(TExpr::InstanceOf(class, boxed(alloc, part)?))
+}
+
+fn over(
+    alloc: Global,
+    quantifier: Quantifier,
+    list: Option<Accessor>,
+    owner: TExpr,
+    condition: TExpr,
+) -> Result<TExpr, Memory>
+    ensures { IfOk result (λ e. expression_of e ≡ over quantifier list (expression_of owner) (expression_of condition)) }
+{
+    let Some(list) = list else {
+        return Ok(TExpr::Null)
+    };
+    let owner = boxed(alloc, owner)?;
+    Ok(TExpr::Quantified(quantifier, list.component, owner, boxed(alloc, condition)?))
+}
+
+/// A form over a list, with the node that has the list and the condition.
+pub(crate) fn over_said(
+    alloc: Global,
+    form: Form,
+    list: Option<Accessor>,
+    owner: TExpr,
+    condition: TExpr,
+) -> Result<TExpr, Memory>
+    ensures { IfOk result (λ e. expression_of e ≡ over_said form list (expression_of owner) (expression_of condition)) }
+{
+    match form {
+        Form::Each => Ok(TExpr::Null),
+        Form::Any => over(alloc, Quantifier::Any, list, owner, condition),
+        Form::All => over(alloc, Quantifier::All, list, owner, condition),
+        Form::First => over(alloc, Quantifier::First, list, owner, condition),
+    }
+}
+
+/// The type of a form over a list.
+pub(crate) fn quantified_type(form: Form, list: Option<Accessor>) -> Option<ValueType>
+    ensures { result ≡ quantified_type form list }
+{
+    match form {
+        Form::Each => None,
+        Form::Any | Form::All => Some(ValueType::Of(Kind::Truth)),
+        Form::First => element_type(list),
+    }
+}
+
+/// The type of a class, where there is one.
+pub(crate) fn type_of_class(class: Option<ClassId>) -> Option<ValueType>
+    ensures { result ≡ option_map of_class class }
+{
+    Some(ValueType::of_class(class?))
+}
+
+/// The type of the elements of a list.
+pub(crate) fn element_type(list: Option<Accessor>) -> Option<ValueType>
+    ensures { result ≡ option_map element_type list }
+{
+    Some(ValueType::of_class(list?.class))
 }
 
 // What an accessor says behind a receiver, with the argument that it may have.

@@ -4,6 +4,7 @@ mod accessors;
 mod expressions;
 mod heads;
 mod limits;
+mod nodes;
 mod typed_forms;
 
 ghost use Rattle.std.specs.Prelude.{◌≡◌, ◌≤◌, IfSome, length, true};

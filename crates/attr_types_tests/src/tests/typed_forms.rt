@@ -3,7 +3,7 @@ use super::*;
 use attr_rules::{EqId, Rules};
 
 // A type, an expression of it, and its typed form, written out.
-const FORMS: [(&str, &str, &str); 28] = [
+const FORMS: [(&str, &str, &str); 34] = [
     ("int", "2147483647", "Int(2147483647)"),
     ("int", "002147483647", "Int(2147483647)"),
     ("int", "-2147483648", "Negate(Int(-2147483648))"),
@@ -96,6 +96,28 @@ const FORMS: [(&str, &str, &str); 28] = [
     ),
     ("int", "getl().getNumX()", "Count(5, Child(0, This))"),
     ("String", "getS()", "Token(Text, 6, This)"),
+    ("M", "(M) this", "Cast(ClassId(1), This)"),
+    ("N", "(N) getr()", "Cast(ClassId(0), Child(1, This))"),
+    (
+        "boolean",
+        "this instanceof M",
+        "InstanceOf(ClassId(1), This)",
+    ),
+    (
+        "boolean",
+        "any(x : getXList() | x == null)",
+        "Quantified(Any, 5, This, Binary(Equal, Variable(0), Null))",
+    ),
+    (
+        "M",
+        "first(x : getl().getXList() | any(y : getXList() | x == y))",
+        "Quantified(First, 5, Child(0, This), Quantified(Any, 5, This, Binary(Equal, Variable(1), Variable(0))))",
+    ),
+    (
+        "boolean",
+        "all(x : getXList() | all(x : getXList() | x == this))",
+        "Quantified(All, 5, This, Quantified(All, 5, This, Binary(Equal, Variable(0), This)))",
+    ),
 ];
 
 // The rules of an attribute with this body at `N`, beside an attribute `w` of `M`.

@@ -1,13 +1,15 @@
 -- Calls and their arguments, and the forms of several parts.
-use Rattle.std.proofs.Common.{◌∙◌, arith}
-use Rattle.std.proofs.lemmas.Result.{on_ok_weaker}
+use Rattle.std.proofs.Common.{◌∙◌, ap, arith, map, refl, sym}
+use Rattle.std.proofs.Math.Nat.{le-max_left, le-max_right}
+use Rattle.jrag_reader.proofs.expression.Expr.TheLaws.{the_size}
+use Rattle.std.proofs.lemmas.Result.{IfOk-weaker, on_ok_weaker}
 use Rattle.broken_rules.proofs.Noting.{notes_then}
 use Rattle.jrag_reader.specs.Expressions.{seen_expr, seen_name}
 use Rattle.attr_types.specs.Calls.{first_place}
-use Rattle.attr_types.specs.Seen.{seen_scope}
-use Rattle.attr_types.proofs.ArgumentSteps.{copied_is, one_noted, one_said}
-use Rattle.attr_types.proofs.Sizes.{arguments_smaller}
-use Rattle.attr_types.proofs.TypedForms.{binary_noted, call_noted, call_tells, choice_noted, known_type, member_noted}
+use Rattle.attr_types.specs.Seen.{seen_scope, seen_variable}
+use Rattle.attr_types.proofs.ArgumentSteps.{copied_is, first_said, one_noted, one_said}
+use Rattle.attr_types.proofs.Sizes.{arguments_smaller, parts_smaller}
+use Rattle.attr_types.proofs.TypedForms.{binary_noted, call_noted, call_tells, cast_noted, cast_says, choice_noted, known_type, list_alone, list_behind, list_noted, member_noted, no_call, other_noted, over_noted, quantified_noted, range_noted, scope_inside, test_noted, test_says}
 use Rattle.attr_types.proofs.bodies.+types.Goals as goal
 
 pub type_arguments-loop-i-preserved : goal.type_arguments-loop-i-preserved
@@ -20,16 +22,16 @@ type_arguments-loop-i-preserved t c =
       says = one_said s arguments c.loop-i.i c.in_ok-body.body c.loop-i.first c.index-arguments-i.is c.loop-i-test.true c.in_ok-body.ensures.says c.or-first.ensures c.loop-i.invariant.says;
     }
 
-pub type_call-returns-clause-noted : goal.type_call-returns-clause-noted
-type_call-returns-clause-noted t c =
+pub type_called-returns-clause-noted : goal.type_called-returns-clause-noted
+type_called-returns-clause-noted t c =
     let s = seen_scope c.args.scope.now in
-    call_noted s c.args.receiver.value_type (seen_name c.args.call.name.now) (first_place c.args.call) c.args.arguments.now c.requires.count c.deref.ensures.value c.member_on-member.ensures c.wanted_for-wanted.ensures (c.check_call.ensures s)
+    call_noted s c.args.call.range c.args.receiver (seen_name c.args.call.name.now) (first_place c.args.call) c.args.arguments.now c.requires.count c.deref.ensures.value c.member_on-member.ensures c.wanted_for-wanted.ensures (c.check_call.ensures s)
     c.in_ok-argument.ensures.noted
 
 pub type_call-returns-clause-says : goal.type_call-returns-clause-says
 type_call-returns-clause-says t c =
-    call_tells (seen_scope c.args.scope.now) c.args.receiver (seen_name c.args.call.name.now) c.args.arguments.now c.in_ok-body.body c.in_ok-argument.argument c.requires.count c.deref.ensures.value c.member_on-member.ensures
-    c.in_ok-argument.ensures.says c.type_of-value_type.ensures c.in_ok-body.ensures
+    call_tells (seen_scope c.args.scope.now) c.args.receiver (seen_name c.args.call.name.now) c.args.arguments.now c.in_ok-body.body c.in_ok-member.argument c.requires.count refl c.in_ok-member.ensures.member
+    c.in_ok-member.ensures.says c.type_of-value_type.ensures c.in_ok-body.ensures
 
 pub type_operand-returns-clause-noted : goal.type_operand-returns-clause-noted
 type_operand-returns-clause-noted t c =
@@ -44,20 +46,122 @@ type_expr-type_member-requires t c =
 pub type_expr-returns-in_ok-receiver-in-Member-clause-noted : goal.type_expr-returns-in_ok-receiver-in-Member-clause-noted
 type_expr-returns-in_ok-receiver-in-Member-clause-noted t c =
     on_ok_weaker c.type_member.result
-    (member_noted (seen_scope c.args.scope.now) c.args.limit c.in-Member.arguments c.deref-in-Member.result.now c.deref-in-Member-2.result.now c.in_ok-receiver-in-Member.receiver c.in-Member.is c.deref-in-Member.ensures c.deref-in-Member-2.ensures.value
+    (member_noted (seen_scope c.args.scope.now) c.args.stands c.in-Member.arguments c.deref-in-Member.result.now c.deref-in-Member-2.result.now c.in_ok-receiver-in-Member.receiver c.in-Member.is c.deref-in-Member.ensures c.deref-in-Member-2.ensures.value
     c.in_ok-receiver-in-Member.ensures)
     c.type_member.ensures.noted
 
 pub type_expr-returns-in_ok-right-in-Binary-clause-noted : goal.type_expr-returns-in_ok-right-in-Binary-clause-noted
 type_expr-returns-in_ok-right-in-Binary-clause-noted t c =
     on_ok_weaker c.combined.result
-    (binary_noted (seen_scope c.args.scope.now) c.args.limit c.deref-in-Binary.result.now c.deref-in-Binary-2.result.now c.in_ok-left-in-Binary.left c.in_ok-right-in-Binary.right c.in-Binary.is c.deref-in-Binary.ensures c.deref-in-Binary-2.ensures
+    (binary_noted (seen_scope c.args.scope.now) c.args.stands c.deref-in-Binary.result.now c.deref-in-Binary-2.result.now c.in_ok-left-in-Binary.left c.in_ok-right-in-Binary.right c.in-Binary.is c.deref-in-Binary.ensures c.deref-in-Binary-2.ensures
     c.in_ok-left-in-Binary.ensures c.in_ok-right-in-Binary.ensures)
     c.combined.ensures.noted
 
 pub type_expr-returns-in_ok-otherwise-in-If-clause-noted : goal.type_expr-returns-in_ok-otherwise-in-If-clause-noted
 type_expr-returns-in_ok-otherwise-in-If-clause-noted t c =
     on_ok_weaker c.choice.result
-    (choice_noted (seen_scope c.args.scope.now) c.args.limit c.deref-in-If.result.now c.deref-in-If-2.result.now c.deref-in-If-3.result.now c.in_ok-condition-in-If.condition c.in_ok-then-in-If.then c.in_ok-otherwise-in-If.otherwise c.in-If.is
+    (choice_noted (seen_scope c.args.scope.now) c.args.stands c.deref-in-If.result.now c.deref-in-If-2.result.now c.deref-in-If-3.result.now c.in_ok-condition-in-If.condition c.in_ok-then-in-If.then c.in_ok-otherwise-in-If.otherwise c.in-If.is
     c.deref-in-If.ensures c.deref-in-If-2.ensures c.deref-in-If-3.ensures c.in_ok-condition-in-If.ensures c.in_ok-then-in-If.ensures c.in_ok-otherwise-in-If.ensures)
     c.choice.ensures.noted
+
+pub type_node-returns-clause-noted : goal.type_node-returns-clause-noted
+type_node-returns-clause-noted t c =
+    let operand = known_type (seen_scope c.args.scope.now) (seen_expr c.args.operand.now) c.in_ok-typed.typed c.in_ok-typed.ensures.says in
+    notes_then c.in_ok-typed.ensures.noted (rw operand at c.check_node.ensures)
+
+pub type_cast-returns-clause-noted : goal.type_cast-returns-clause-noted
+type_cast-returns-clause-noted t c = notes_then c.check_class-class.ensures.noted c.in_ok-operand.ensures.noted
+
+pub type_test-returns-clause-noted : goal.type_test-returns-clause-noted
+type_test-returns-clause-noted t c = notes_then c.check_class-class.ensures.noted c.in_ok-operand.ensures.noted
+
+pub type_expr-returns-in-Cast-clause-noted : goal.type_expr-returns-in-Cast-clause-noted
+type_expr-returns-in-Cast-clause-noted t c =
+    on_ok_weaker c.type_cast.result (cast_noted (seen_scope c.args.scope.now) c.args.stands c.deref-in-Cast.result.now c.in-Cast.is c.deref-in-Cast.ensures) c.type_cast.ensures.noted
+
+pub type_expr-returns-in-InstanceOf-clause-noted : goal.type_expr-returns-in-InstanceOf-clause-noted
+type_expr-returns-in-InstanceOf-clause-noted t c =
+    on_ok_weaker c.type_test.result (test_noted (seen_scope c.args.scope.now) c.args.stands c.deref-in-InstanceOf.result.now c.in-InstanceOf.is c.deref-in-InstanceOf.ensures) c.type_test.ensures.noted
+
+pub type_arguments-returns-clause-says : goal.type_arguments-returns-clause-says
+type_arguments-returns-clause-says t c =
+    first_said (seen_scope c.args.scope.now) c.args.arguments.now c.loop-i.i c.loop-i.first c.loop-i-test.false c.unwrap_or.ensures c.loop-i.invariant.says
+
+pub type_expr-returns-in-Cast-clause-says : goal.type_expr-returns-in-Cast-clause-says
+type_expr-returns-in-Cast-clause-says t c =
+    IfOk-weaker c.type_cast.result _ _ (λ said. cast_says (seen_scope c.args.scope.now) c.deref-in-Cast.result.now said c.in-Cast.is c.deref-in-Cast.ensures) c.type_cast.ensures.says
+
+pub type_expr-returns-in-InstanceOf-clause-says : goal.type_expr-returns-in-InstanceOf-clause-says
+type_expr-returns-in-InstanceOf-clause-says t c =
+    IfOk-weaker c.type_test.result _ _ (λ said. test_says (seen_scope c.args.scope.now) c.deref-in-InstanceOf.result.now said c.in-InstanceOf.is c.deref-in-InstanceOf.ensures) c.type_test.ensures.says
+
+pub type_list-returns-clause-noted : goal.type_list-returns-clause-noted
+type_list-returns-clause-noted t c =
+    list_noted (seen_scope c.args.scope.now) c.args.owner.value_type (seen_name c.args.call.name.now) (first_place c.args.call) c.args.arguments.now c.requires.range c.requires.count c.in_ok-member.ensures.member c.type_of.ensures
+    c.in_ok-member.ensures.noted c.check_list_type.ensures
+
+pub type_range-type_list-requires : goal.type_range-type_list-requires
+type_range-type_list-requires t c =
+    let smaller = arguments_smaller c.args.range.now c.in-Member.receiver c.in-Member.name c.in-Member.arguments c.deref-in-Member-3.result.now c.in-Member.is c.deref-in-Member-3.ensures.value in
+    (omega arith, (c.requires, (c.len.ensures ∙ sym c.deref-in-Member-3.ensures.len, refl)))
+
+pub type_quantified-type_operand-requires : goal.type_quantified-type_operand-requires
+type_quantified-type_operand-requires t c =
+    let within = le-max_right (the_size c.args.range.now) (the_size c.args.condition.now) in
+    (omega (arith, within), record { superclasses = c.requires.superclasses })
+
+pub type_quantified-type_range-requires : goal.type_quantified-type_range-requires
+type_quantified-type_range-requires t c =
+    let within = le-max_left (the_size c.args.range.now) (the_size c.args.condition.now) in
+    (omega (arith, within), c.requires)
+
+pub type_quantified-returns-clause-noted : goal.type_quantified-returns-clause-noted
+type_quantified-returns-clause-noted t c =
+    let s = seen_scope c.args.scope.now in
+    let name = seen_name c.args.name.now in
+    let range = seen_expr c.args.range.now in
+    let inner = scope_inside s name range c.deref.ensures.value c.element_type-value_type.ensures c.in_ok-list.ensures.list c.in_ok-variables.ensures (ap (map seen_variable) c.deref-2.ensures.value) in
+    over_noted s name range (seen_expr c.args.condition.now) _ inner c.in_ok-list.ensures.noted c.in_ok-condition.ensures.noted
+
+pub type_expr-type_quantified-requires : goal.type_expr-type_quantified-requires
+type_expr-type_quantified-requires t c =
+    let smaller = parts_smaller c.args.expr.now c.in-Quantified.form c.in-Quantified.field-1 c.in-Quantified.name c.in-Quantified.range c.in-Quantified.condition c.deref.result.now c.deref-in-Quantified.result.now c.in-Quantified.is
+    c.deref.ensures c.deref-in-Quantified.ensures
+    in
+    (omega arith, c.requires)
+
+pub type_expr-returns-in-Quantified-clause-noted : goal.type_expr-returns-in-Quantified-clause-noted
+type_expr-returns-in-Quantified-clause-noted t c =
+    on_ok_weaker c.type_quantified.result
+    (quantified_noted (seen_scope c.args.scope.now) c.args.stands c.deref.result.now c.deref-in-Quantified.result.now c.in-Quantified.is c.deref.ensures c.deref-in-Quantified.ensures)
+    c.type_quantified.ensures.noted
+
+pub type_list_alone-returns-clause-list : goal.type_list_alone-returns-clause-list
+type_list_alone-returns-clause-list t c =
+    IfOk-weaker c.type_list.result _ _
+    (λ r. list_alone (seen_scope c.args.scope.now) (seen_name c.args.name.now) c.args.arguments.now c.this_of.result.value_type r.0 refl (ap (λ r. r.type) c.this_of.ensures))
+    c.type_list.ensures.list
+
+pub type_range-returns-in_ok-owner-in-Member-clause-noted : goal.type_range-returns-in_ok-owner-in-Member-clause-noted
+type_range-returns-in_ok-owner-in-Member-clause-noted t c =
+    on_ok_weaker c.type_list.result
+    (range_noted (seen_scope c.args.scope.now) c.in-Member.arguments c.deref-in-Member.result.now c.deref-in-Member-2.result.now c.deref-in-Member-3.result.now c.in_ok-owner-in-Member.owner c.in-Member.is c.deref-in-Member.ensures c.deref-in-Member-2.ensures c.deref-in-Member-3.ensures.value
+    c.in_ok-owner-in-Member.ensures.noted c.in_ok-owner-in-Member.ensures.says)
+    c.type_list.ensures.noted
+
+pub type_range-returns-in_ok-owner-in-Member-clause-list : goal.type_range-returns-in_ok-owner-in-Member-clause-list
+type_range-returns-in_ok-owner-in-Member-clause-list t c =
+    IfOk-weaker c.type_list.result _ _
+    (λ r. list_behind (seen_scope c.args.scope.now) c.in-Member.arguments c.deref-in-Member.result.now c.deref-in-Member-3.result.now c.in_ok-owner-in-Member.owner r.0 c.in-Member.is c.deref-in-Member.ensures c.deref-in-Member-3.ensures.value
+    (c.len.ensures ∙ sym c.deref-in-Member-3.ensures.len) c.in_ok-owner-in-Member.ensures.says)
+    c.type_list.ensures.list
+
+pub type_range-returns-in_ok-typed-in-Truth-clause-noted : goal.type_range-returns-in_ok-typed-in-Truth-clause-noted
+type_range-returns-in_ok-typed-in-Truth-clause-noted t c =
+    other_noted (seen_scope c.args.scope.now) c.args.range.now c.in_ok-typed-in-Truth.typed c.in_ok-typed-in-Truth.ensures.noted c.in_ok-typed-in-Truth.ensures.says c.check_range.ensures
+
+pub type_range-returns-in_ok-typed-in-Truth-clause-list : goal.type_range-returns-in_ok-typed-in-Truth-clause-list
+type_range-returns-in_ok-typed-in-Truth-clause-list t c = sym (no_call (seen_scope c.args.scope.now) c.args.range.now c.in-Truth.is).0
+
+pub type_range-returns-in_ok-typed-in-Truth-clause-owner : goal.type_range-returns-in_ok-typed-in-Truth-clause-owner
+type_range-returns-in_ok-typed-in-Truth-clause-owner t c = sym (no_call (seen_scope c.args.scope.now) c.args.range.now c.in-Truth.is).1

@@ -1,13 +1,69 @@
--- What the arguments so far break, and what the first of them says.
-use Rattle.std.proofs.Common.{◌≡◌, map, take}
+-- The calls go down the expression; what the arguments so far break, and what the first of them says.
+use Rattle.std.proofs.Common.{◌≡◌, ◌+◌, ◌*◌, map, max, take}
+use denote.Param.Weighed.{most}
 use Rattle.std.specs.Option.{option_map}
 use Rattle.broken_rules.specs.Notes.{Notes}
 use Rattle.attr_types.specs.Bodies.{arguments_broken}
 use Rattle.attr_rules.specs.Expression.{expression_of}
 use Rattle.attr_types.specs.Seen.{seen_scope}
 use Rattle.jrag_reader.specs.Expressions.{arguments_of, seen_expr}
+use Rattle.jrag_reader.proofs.expression.Expr.TheLaws.{the_size}
 use Rattle.attr_types.proofs.ArgumentSteps.{said_first}
 use Rattle.attr_types.proofs.bodies.+types.Given as goal
+
+abbrev pub decreases-type_expr : goal.decreases-type_expr
+decreases-type_expr a = 7 * the_size a.expr.now
+
+abbrev pub decreases-type_part : goal.decreases-type_part
+decreases-type_part a = 7 * the_size a.written.now + 1
+
+abbrev pub decreases-type_operand : goal.decreases-type_operand
+decreases-type_operand a = 7 * the_size a.operand.now + 1
+
+abbrev pub decreases-type_node : goal.decreases-type_node
+decreases-type_node a = 7 * the_size a.operand.now + 1
+
+abbrev pub decreases-type_range : goal.decreases-type_range
+decreases-type_range a = 7 * the_size a.range.now + 1
+
+abbrev pub decreases-type_argument : goal.decreases-type_argument
+decreases-type_argument a = 7 * the_size a.argument.now + 2
+
+abbrev pub decreases-type_denied : goal.decreases-type_denied
+decreases-type_denied a = 7 * the_size a.operand.now + 2
+
+abbrev pub decreases-type_negated : goal.decreases-type_negated
+decreases-type_negated a = 7 * the_size a.operand.now + 2
+
+abbrev pub decreases-type_cast : goal.decreases-type_cast
+decreases-type_cast a = 7 * the_size a.operand.now + 2
+
+abbrev pub decreases-type_test : goal.decreases-type_test
+decreases-type_test a = 7 * the_size a.operand.now + 2
+
+abbrev pub decreases-type_quantified : goal.decreases-type_quantified
+decreases-type_quantified a = 7 * max (the_size a.range.now) (the_size a.condition.now) + 2
+
+abbrev pub decreases-type_arguments : goal.decreases-type_arguments
+decreases-type_arguments a = 7 * most the_size a.arguments.now + 3
+
+abbrev pub decreases-type_called : goal.decreases-type_called
+decreases-type_called a = 7 * most the_size a.arguments.now + 4
+
+abbrev pub decreases-type_call : goal.decreases-type_call
+decreases-type_call a = 7 * most the_size a.arguments.now + 5
+
+abbrev pub decreases-type_list : goal.decreases-type_list
+decreases-type_list a = 7 * most the_size a.arguments.now + 5
+
+abbrev pub decreases-type_list_alone : goal.decreases-type_list_alone
+decreases-type_list_alone a = 7 * most the_size a.arguments.now + 6
+
+abbrev pub decreases-type_call_alone : goal.decreases-type_call_alone
+decreases-type_call_alone a = 7 * most the_size a.arguments.now + 6
+
+abbrev pub decreases-type_member : goal.decreases-type_member
+decreases-type_member a = 7 * most the_size a.arguments.now + 6
 
 abbrev pub invariant-type_arguments-loop-i : goal.invariant-type_arguments-loop-i
 invariant-type_arguments-loop-i l = record {

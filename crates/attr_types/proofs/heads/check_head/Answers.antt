@@ -15,10 +15,10 @@ returns-clause-noted c = λ before told long.
     let s = seen_synthesized c.args.head.now in
     elim c.match-check_class.branch [
       | in-Some+in_ok-check_again w ↦
-          head_noted g before s (ap (option_map number_of) (sym w.in-Some.is) ∙ c.check_class.ensures.class) long c.check_class.ensures.noted
+          head_noted g before s (ap (option_map number_of) (sym w.in-Some.is) ∙ c.check_class.ensures.class) long c.check_type.ensures c.check_class.ensures.noted
           (subst (Notes (again_for g before s.signature.name (Some w.in-Some.class.0)) _) (sym w.faults-is) (w.in_ok-check_again.ensures.noted before told)) c.note_if.ensures
       | in_default w ↦
-          head_noted g before s (ap (option_map number_of) (sym w.in_default.is) ∙ c.check_class.ensures.class) long c.check_class.ensures.noted
+          head_noted g before s (ap (option_map number_of) (sym w.in_default.is) ∙ c.check_class.ensures.class) long c.check_type.ensures c.check_class.ensures.noted
           (subst (Notes [] _) (sym w.faults-is) notes_none) c.note_if.ensures
     ]
 
