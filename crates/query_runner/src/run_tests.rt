@@ -256,7 +256,7 @@ const CASES: [Row; 9] = [
         "a.jrag:1:43: J1\n",
     ),
     (
-        "aspect A { syn boolean N.v() = true && this instanceof N; }",
+        "aspect A { syn boolean N.v() = true && contains(this, this); }",
         "@0.v() + 1",
         1,
         "a.jrag: not built\n",

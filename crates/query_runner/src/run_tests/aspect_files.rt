@@ -39,8 +39,7 @@ const BROKEN: [(&str, &str); 17] = [
 ];
 
 // Aspects that break no rule of the syntax, and have a form that isn't evaluated so far.
-const UNBUILT: [&str; 15] = [
-    "aspect A { syn int N.v() = ((N) this).getV(); }",
+const UNBUILT: [&str; 11] = [
     "aspect A { syn int N.v() = new N(\"a\", 1).getV(); }",
     "aspect A { inh int N.v(); }",
     "aspect A { coll Set<N> N.v() [empty] with add root N; }",
@@ -49,18 +48,16 @@ const UNBUILT: [&str; 15] = [
     "aspect A { syn nta N N.v() = new N(\"a\", 1); }",
     "aspect A { syn int N.v() circular [0] = 1; }",
     "aspect A { syn int N.v(int k) = k; }",
-    "aspect A { syn boolean N.v() = any(x : all() | true); }",
-    "aspect A { syn N N.v() = first(x : all() | true); }",
+    "aspect A { syn boolean N.v() = each(x : all() | x) == this; }",
     "aspect A { syn Set<N> N.v() = single(this); }",
     "aspect A { syn int N.v() = size(union(empty, empty)); }",
-    "aspect A { syn boolean N.v() = this instanceof N; }",
-    "aspect A { syn N N.v() = this; }",
 ];
 
 // Aspects that break a rule over the grammar, and the line of the first broken one.
-const CHECKED: [(&str, &str); 9] = [
+const CHECKED: [(&str, &str); 12] = [
     ("aspect A { syn int X.v() = 5; }", "a.jrag:1:20: J2\n"),
     ("aspect A { syn int N.getl() = 5; }", "a.jrag:1:22: J3\n"),
+    ("aspect A { syn Foo N.v() = 1; }", "a.jrag:1:16: J4\n"),
     ("aspect A { eq N.v() = 5; }", "a.jrag:1:17: J5\n"),
     (
         "aspect A { syn int N.v() = 5; eq N.v() = 6; }",
@@ -68,6 +65,11 @@ const CHECKED: [(&str, &str); 9] = [
     ),
     ("aspect A { syn int N.v(); }", "a.jrag:1:22: J7\n"),
     ("aspect A { syn int N.v() = w; }", "a.jrag:1:28: J9\n"),
+    (
+        "aspect A { syn boolean N.v() = any(x : all() | true); }",
+        "a.jrag:1:40: J9\n",
+    ),
+    ("aspect A { syn N N.v() = (M) this; }", "a.jrag:1:27: J2\n"),
     ("aspect A { syn int N.v() = getS(); }", "a.jrag:1:28: J10\n"),
     (
         "aspect A { syn int N.v() = this.getV(1); }",

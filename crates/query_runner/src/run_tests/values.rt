@@ -9,7 +9,7 @@ const FULL: &str = "P([A(3), B(4, \"x\"), A(-5)], [O(\"o\\n\")], \"a\\\"b\", \"\
 const EMPTY: &str = "P([], [], \"t\", \"t\")";
 
 // Aspects and queries over the full tree.
-const ON_FULL: [Row; 13] = [
+const ON_FULL: [Row; 19] = [
     // Texts are printed with their escapes, and are equal by their bytes.
     (
         "",
@@ -69,6 +69,45 @@ const ON_FULL: [Row; 13] = [
         0,
         "\"a\\\"b\"\n",
     ),
+    // References, casts and tests of classes.
+    (
+        "aspect A { syn A P.a() = getA(0); syn B P.b() = (B) getA(1); syn B P.c() = (B) getA(0); syn A P.n() = null; syn A A.me() = this; syn int P.v() = b().getV() + c().getV(); }",
+        "@0.a()\n@0.b()\n@0.c()\n@0.n()\n@2.me()\n@0.v()",
+        0,
+        "@1\n@2\nnull\nnull\n@2\n4\n",
+    ),
+    (
+        "aspect A { syn boolean A.b() = this instanceof B; syn boolean P.a() = this instanceof A; syn boolean P.n() = (B) getA(0) instanceof A; syn boolean P.o() = getO() instanceof O; syn String P.s() = ((B) getA(0)).getS(); }",
+        "@1.b()\n@2.b()\n@0.a()\n@0.n()\n@0.o()\n@0.s()",
+        0,
+        "false\ntrue\nfalse\nfalse\ntrue\n\"\"\n",
+    ),
+    // Forms over a list, one inside another, and a name that hides another.
+    (
+        "aspect A { syn boolean P.a() = any(a : getAList() | a.getV() < 0); syn boolean P.b() = all(a : getAList() | a.getV() < 4); syn A P.c() = first(a : getAList() | a.getV() != 3); syn A P.d() = first(a : getAList() | a.getV() == 7); }",
+        "@0.a()\n@0.b()\n@0.c()\n@0.d()",
+        0,
+        "true\nfalse\n@2\nnull\n",
+    ),
+    (
+        "aspect A { syn A P.a() = first(a : getAList() | all(b : getAList() | a.getV() <= b.getV())); syn boolean P.b() = any(a : getAList() | any(a : getAList() | a instanceof B) && !(a instanceof B)); syn B P.c() = (B) first(a : getAList() | a.b() != null); syn B A.b() = (B) this; }",
+        "@0.a()\n@0.b()\n@0.c()",
+        0,
+        "@3\ntrue\n@2\n",
+    ),
+    // `any` and `all` evaluate every element, and `first` stops at the one that it finds.
+    (
+        "aspect A { syn boolean P.a() = any(a : getAList() | a.getV() == 3 || a.w()); syn boolean P.b() = all(a : getAList() | a.getV() == 4 && a.w()); syn A P.c() = first(a : getAList() | a.getV() == 3 || a.w()); syn boolean A.w() = w(); }",
+        "@0.a()\n@0.b()\n@0.c()",
+        0,
+        "circular\ncircular\n@1\n",
+    ),
+    (
+        "aspect A { syn A P.a() = getA(0).b(); syn A A.b() = c().b(); syn A A.c() = this instanceof B ? null : this; }",
+        "@0.a()\n@1.c()\n@2.b()",
+        0,
+        "circular\n@1\nnull\n",
+    ),
     // What takes an argument, or is a whole list, is no query.
     ("", "@0.getA()", 1, "q.txt: not built\n"),
     ("", "@0.getAList()", 1, "q.txt: not built\n"),
@@ -76,7 +115,7 @@ const ON_FULL: [Row; 13] = [
 ];
 
 // The same over the empty one.
-const ON_EMPTY: [Row; 3] = [
+const ON_EMPTY: [Row; 4] = [
     (
         "",
         "@0.getNumA()\n@0.hasO()\n@0.getO()",
@@ -94,6 +133,12 @@ const ON_EMPTY: [Row; 3] = [
         "@0.a()\n@0.b()",
         0,
         "true\nfalse\n",
+    ),
+    (
+        "aspect A { syn boolean P.a() = any(a : getAList() | true); syn boolean P.b() = all(a : getAList() | false); syn A P.c() = first(a : getAList() | true); }",
+        "@0.a()\n@0.b()\n@0.c()",
+        0,
+        "false\ntrue\nnull\n",
     ),
 ];
 
