@@ -64,7 +64,7 @@ position_from_push p n (x ∷ xs) y =
       | false ↦ position_from_push p (n + 1) xs y ∙ ap (λ k. option_or (position_from p (n + 1) xs) (cond (p y) (Some k) None)) later
     ]
 
-position_push : {Y : Type 0} (p : Y → Bool) (ys : List Y) (y : Y) → position p (ys ++ y ∷ []) ≡ option_or (position p ys) (cond (p y) (Some (length ys)) None)
+pub position_push : {Y : Type 0} (p : Y → Bool) (ys : List Y) (y : Y) → position p (ys ++ y ∷ []) ≡ option_or (position p ys) (cond (p y) (Some (length ys)) None)
 position_push p ys y =
     let end : 0 + length ys ≡ length ys = omega arith in
     position_from-zero p (ys ++ y ∷ []) ∙ position_from_push p 0 ys y ∙ ap (λ k. option_or (position_from p 0 ys) (cond (p y) (Some k) None)) end

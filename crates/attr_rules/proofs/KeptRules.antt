@@ -1,17 +1,20 @@
 -- Equations that are found for nodes of a class.
 use Rattle.std.proofs.Common.{◌≡◌, ℕ, ◌<◌, List, [], ◌∷◌, Option, Some, None, IfSome, length, map, refl, sym, ap, subst, ◌∙◌}
-use Rattle.std.specs.Option.{option_map, option_or}
+use Rattle.std.specs.Option.{option_and_then, option_map, option_or}
 use Rattle.std.proofs.lemmas.List.{length-map}
 use Rattle.std.proofs.lemmas.List.Quantifiers.{position-Some}
 use Rattle.superclasses.specs.Superclasses.{upwards}
 use Rattle.attr_rules.specs.declared.dispatch.Dispatch.{Dispatch}
+use Rattle.attr_rules.specs.declared.dispatch.Reach.{Reach}
+use Rattle.attr_rules.specs.declared.dispatch.Reach.TheVariants.{Own, Component as AtComponent, Children}
 use Rattle.attr_rules.specs.declared.dispatch.Target.{Target}
+use Rattle.attr_rules.specs.declared.kinds.AttrId.{AttrId}
 use Rattle.attr_rules.specs.declared.kinds.EqId.{EqId}
 use Rattle.attr_rules.specs.declared.rules.KeptEquation.{KeptEquation}
 use Rattle.attr_rules.specs.Dispatching.{Dispatches}
 use Rattle.attr_rules.specs.KeptEquations.{equation_in, kept_target}
 use Rattle.attr_rules.specs.RowsKept.{at_row}
-use Rattle.attr_rules.specs.Rules.{first_of_line, is_target, nearest_equation, number_of_equation, own_equation, target_in}
+use Rattle.attr_rules.specs.Rules.{covering_equation, equation_at, first_of_line, is_target, nearest_equation, number_of_attribute, number_of_equation, own_covering, own_equation, target_in}
 
 same_targets : (equations : List KeptEquation) → map kept_target equations ≡ map target_in (map equation_in equations)
 same_targets [] = refl
@@ -26,22 +29,48 @@ first_within : (f : ℕ → Option ℕ) (n e : ℕ) (line : List ℕ) → ((c : 
 first_within f n e [] h is = absurd cc
 first_within f n e (c ∷ cs) h is = or_within n e (f c) (first_of_line f cs) (h c) (first_within f n e cs h) is
 
-own_within : (targets : List Target) (a c e : ℕ) → own_equation targets a c ≡ Some e → e < length targets
-own_within [] a c e is = absurd cc
-own_within (t ∷ targets) a c e is = (position-Some (is_target c a) (t ∷ targets) e t is).0
+at_within : (targets : List Target) (c : ℕ) (r : Reach) (a e : ℕ) → equation_at targets c r a ≡ Some e → e < length targets
+at_within [] c r a e is = absurd cc
+at_within (t ∷ targets) c r a e is = (position-Some (is_target c r a) (t ∷ targets) e t is).0
 
-number_within : (s : List (Option ℕ)) (targets : List Target) (class a : ℕ) (o : Option EqId) → option_map number_of_equation o ≡ nearest_equation s targets class a → IfSome o (λ e. e.0 < length targets)
-number_within s targets class a None is = tt
-number_within s targets class a (Some e) is = first_within (own_equation targets a) (length targets) e.0 (upwards s class) (λ c. own_within targets a c e.0) (sym is)
+own_within : (targets : List Target) (k a c e : ℕ) → own_covering targets k a c ≡ Some e → e < length targets
+own_within targets k a c e is =
+    or_within (length targets) e (equation_at targets c (AtComponent k) a) (equation_at targets c Children a) (at_within targets c (AtComponent k) a e) (at_within targets c Children a e) is
 
-module _ (s : List (Option ℕ)) (equations : List KeptEquation) (d : Dispatch) (dispatches : Dispatches s (map kept_target equations) d) (class a : ℕ) {o : Option EqId} (is : o ≡ at_row d.rows.items class a) where
-  found : option_map number_of_equation o ≡ nearest_equation s (map kept_target equations) class a
-  found = ap (option_map number_of_equation) is ∙ dispatches.each class a
+-- so is the equation that is found by its number
+number_within : (n : ℕ) (f : ℕ → Option ℕ) (line : List ℕ) (o : Option EqId) → ((c e : ℕ) → f c ≡ Some e → e < n) → option_map number_of_equation o ≡ first_of_line f line → IfSome o (λ e. e.0 < n)
+number_within n f line None h is = tt
+number_within n f line (Some e) h is = first_within f n e.0 line (λ c. h c e.0) (sym is)
 
-  pub equation_found : option_map number_of_equation o ≡ nearest_equation s (map target_in (map equation_in equations)) class a
-  equation_found = found ∙ ap (λ targets. nearest_equation s targets class a) (same_targets equations)
+module _ (s : List (Option ℕ)) (equations : List KeptEquation) (d : Dispatch) (dispatches : Dispatches s (map kept_target equations) d) where
+  long : length (map kept_target equations) ≡ length (map equation_in equations)
+  long = length-map equations kept_target ∙ sym (length-map equations equation_in)
 
-  pub equation_within : IfSome o (λ e. e.0 < length (map equation_in equations))
-  equation_within =
-      let long : length (map kept_target equations) ≡ length (map equation_in equations) = length-map equations kept_target ∙ sym (length-map equations equation_in) in
-      subst (λ n. IfSome o (λ e. e.0 < n)) long (number_within s (map kept_target equations) class a o found)
+  module _ (class a : ℕ) {o : Option EqId} (is : o ≡ at_row d.rows.items class a) where
+    found : option_map number_of_equation o ≡ nearest_equation s (map kept_target equations) class a
+    found = ap (option_map number_of_equation) is ∙ dispatches.each class a
+
+    pub equation_found : option_map number_of_equation o ≡ nearest_equation s (map target_in (map equation_in equations)) class a
+    equation_found = found ∙ ap (λ targets. nearest_equation s targets class a) (same_targets equations)
+
+    pub equation_within : IfSome o (λ e. e.0 < length (map equation_in equations))
+    equation_within =
+        let targets = map kept_target equations in
+        subst (λ n. IfSome o (λ e. e.0 < n)) long
+        (number_within (length targets) (own_equation targets a) (upwards s class) o (λ c. at_within targets c Own a) found)
+
+  -- the equation that covers what hangs at a component, for the first attribute of a name
+  module _ (class k : ℕ) (first : AttrId) (o : Option EqId) (above : List (Option ℕ)) (same : above ≡ s)
+      (finds : (targets : List Target) → Dispatches above targets d → option_map number_of_equation o ≡ covering_equation above targets class k first.0) where
+    covering : option_map number_of_equation o ≡ covering_equation s (map kept_target equations) class k first.0
+    covering = subst (λ r. Dispatches r (map kept_target equations) d → option_map number_of_equation o ≡ covering_equation r (map kept_target equations) class k first.0) same (finds (map kept_target equations)) dispatches
+
+    pub covering_found : (n : Option ℕ) → option_map number_of_attribute (Some first) ≡ n → option_map number_of_equation o ≡ option_and_then (covering_equation s (map target_in (map equation_in equations)) class k) n
+    covering_found n of_name =
+        covering ∙ ap (λ targets. covering_equation s targets class k first.0) (same_targets equations)
+        ∙ ap (option_and_then (covering_equation s (map target_in (map equation_in equations)) class k)) of_name
+
+    pub covering_within : IfSome o (λ e. e.0 < length (map equation_in equations))
+    covering_within =
+        let targets = map kept_target equations in
+        subst (λ n. IfSome o (λ e. e.0 < n)) long (number_within (length targets) (own_covering targets k first.0) (upwards s class) o (own_within targets k first.0) covering)

@@ -1,5 +1,7 @@
+pub mod CoveringLines
 pub mod Dispatched
 pub mod FirstPlaces
+pub mod KeptPaths
 pub mod KeptRules
 pub mod NamedAttributes
 pub mod NearestRows

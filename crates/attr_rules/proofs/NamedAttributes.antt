@@ -1,14 +1,14 @@
 -- Attributes with the numbers of their names.
-use Rattle.std.proofs.Common.{◌≡◌, ◌==◌, ◌&&◌, ℕ, zero, suc, ◌+◌, ◌<◌, ◌≤◌, true, false, List, [], ◌∷◌, ◌++◌, Option, Some, None, Vec, All, length, map, position, take, get_or, slice_get, inl, inr, refl, ap, sym, ◌∙◌, arith}
+use Rattle.std.proofs.Common.{◌≡◌, ◌==◌, ◌&&◌, ℕ, zero, suc, ◌+◌, ◌<◌, ◌≤◌, true, false, List, [], ◌∷◌, ◌++◌, Option, Some, None, Vec, All, length, map, position, take, get_or, slice_get, inl, inr, refl, ap, sym, subst, ◌∙◌, arith}
 use Rattle.std.specs.declared.alloc.Global.{Global}
-use Rattle.std.specs.Option.{option_map}
+use Rattle.std.specs.Option.{option_and_then, option_map}
 use Rattle.std.specs.Str.{bytes_eq}
 use Rattle.std.proofs.Math.ListN.{length-append}
 use Rattle.std.proofs.lemmas.Bool.{and_right, false_from_ne_true}
 use Rattle.std.proofs.lemmas.Bool.Decides.{eqb_tells}
 use Rattle.std.proofs.lemmas.List.{map_push, take_more}
 use Rattle.std.proofs.lemmas.List.Elements.{All-head, All-push, All-tail, All-weaker}
-use Rattle.std.proofs.lemmas.Option.{slice_get-get_or, slice_get_within}
+use Rattle.std.proofs.lemmas.Option.{get_or_from_slice_get, slice_get-get_or, slice_get-map, slice_get_past, slice_get_within}
 use Rattle.std.proofs.lemmas.Slice.Eq.{bytes_eq-Decides}
 use Rattle.rag_io.specs.Pool.{ArePooled, number_of}
 use Rattle.rag_io.proofs.Numbers.{number_at, text_at as text_of_number}
@@ -20,8 +20,8 @@ use Rattle.attr_rules.specs.declared.attributes.NamedAttr.{NamedAttr}
 use Rattle.attr_rules.specs.declared.kinds.AttrId.{AttrId}
 use Rattle.attr_rules.specs.KeptAttributes.{AreKept, Extends, attribute_in, attributes_in, text_at, text_or_empty}
 use Rattle.attr_rules.specs.KeptEquations.{seen_attribute}
-use Rattle.attr_rules.specs.RowsKept.{at_row}
-use Rattle.attr_rules.specs.Rules.{AttributeSet, attribute_named, number_of_attribute}
+use Rattle.attr_rules.specs.RowsKept.{at_place, at_row}
+use Rattle.attr_rules.specs.Rules.{Attribute, AttributeSet, attribute_named, first_inherited, first_of_name, is_inherited, number_of_attribute}
 
 slice_get_front : {X : Type 0} (xs ys : List X) (n : ℕ) → n < length xs → slice_get (xs ++ ys) n ≡ slice_get xs n
 slice_get_front [] ys n h = absurd (omega arith)
@@ -77,7 +77,7 @@ module _ (names : List (List ℕ)) (pooled : ArePooled names) (name : List ℕ) 
     | inr t ↦ false_from_ne_true _ (λ same. let other = numbered n within same in let equal : n ≡ m = cc in t.1 equal) ∙ sym t.0
   ]
 
-module _ (superclasses : List (Option ℕ)) (names : List (List ℕ)) (kept : List KeptAttr) (rows : List (Vec (Option AttrId) Global)) (are : AreKept superclasses names kept rows) (class : ClassId) (name : List ℕ) where
+module _ (superclasses : List (Option ℕ)) (names : List (List ℕ)) (kept : List KeptAttr) (rows : List (Vec (Option AttrId) Global)) (inherited : List (Option AttrId)) (are : AreKept superclasses names kept rows inherited) (class : ClassId) (name : List ℕ) where
   -- the first attribute, by the texts of the names
   first_by_text : attribute_named superclasses (attributes_in names kept) class name ≡ position (λ a. is_sub superclasses class.0 a.declared.class.0 && bytes_eq (text_at names a.name) name) kept
   first_by_text = position-map (attribute_in names) (λ a. is_sub superclasses class.0 a.declared.class.0 && bytes_eq a.name name) kept
@@ -102,3 +102,32 @@ module _ (superclasses : List (Option ℕ)) (names : List (List ℕ)) (kept : Li
     known_name m {o} is some known =
         let inside : class.0 < length superclasses = omega (arith, ap (λ (a : AttributeSet). length a.superclasses) seen) in
         ap (option_map number_of_attribute) is ∙ found_named m some inside ∙ ap (λ (a : AttributeSet). attribute_named a.superclasses a.attributes class name) seen
+
+-- the first inherited attribute of the name of a kept one
+module _ (superclasses : List (Option ℕ)) (names : List (List ℕ)) (kept : List KeptAttr) (rows : List (Vec (Option AttrId) Global)) (inherited : List (Option AttrId)) (are : AreKept superclasses names kept rows inherited) where
+  own_number : (n : ℕ) → n < length names → number_of names (text_at names n) ≡ Some n
+  own_number n within = numbered names are.numbered.pooled (text_at names n) n within ((bytes_eq-Decides (text_at names n) (text_at names n)).1 refl)
+
+  -- it is found by its number
+  first_of_number : (n : ℕ) → n < length names → option_map number_of_attribute (at_place inherited n) ≡ first_inherited (attributes_in names kept) (text_at names n)
+  first_of_number n within =
+      are.firsts.each n within
+      ∙ sym (position-map (attribute_in names) (λ a. is_inherited a.declared.sort && bytes_eq a.name (text_at names n)) kept
+      ∙ position_agree (λ a. is_inherited a.declared.sort && bytes_eq (text_at names a.name) (text_at names n)) (λ a. is_inherited a.declared.sort && (a.name == n)) kept (λ k d h.
+      ap (λ b. is_inherited (get_or kept k d).declared.sort && b) (same_text names are.numbered.pooled (text_at names n) (get_or kept k d).name n (are.numbered.within k d h) (own_number n within))))
+
+  name_within : (a : ℕ) (d : KeptAttr) → slice_get kept a ≡ Some d → d.name < length names
+  name_within a d here = subst (λ (x : KeptAttr). x.name < length names) (get_or_from_slice_get kept a d d here) (are.numbered.within a d (slice_get_within kept a d here))
+
+  module _ (set : AttributeSet) (seen : record { superclasses = superclasses; attributes = attributes_in names kept } ≡ set) (a : ℕ) where
+    -- what is kept of the attribute of this number, if there is one
+    first_there : {x : Option KeptAttr} → slice_get kept a ≡ x → option_and_then (λ (y : Attribute). first_inherited (attributes_in names kept) y.name) (option_map (attribute_in names) x) ≡ first_of_name set.attributes a
+    first_there {x} here =
+        ap (option_and_then (λ (y : Attribute). first_inherited (attributes_in names kept) y.name)) (ap (option_map (attribute_in names)) (sym here) ∙ sym (slice_get-map (attribute_in names) kept a))
+        ∙ ap (λ (s : AttributeSet). first_of_name s.attributes a) seen
+
+    pub first_unknown : {o : Option AttrId} → o ≡ None → length kept ≤ a → option_map number_of_attribute o ≡ first_of_name set.attributes a
+    first_unknown {o} is past = ap (option_map number_of_attribute) is ∙ first_there (slice_get_past kept a past)
+
+    pub first_known : (d : KeptAttr) {o : Option AttrId} → slice_get kept a ≡ Some d → o ≡ at_place inherited d.name → option_map number_of_attribute o ≡ first_of_name set.attributes a
+    first_known d {o} here is = ap (option_map number_of_attribute) is ∙ first_of_number d.name (name_within a d here) ∙ first_there here

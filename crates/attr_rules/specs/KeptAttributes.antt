@@ -7,7 +7,7 @@ use Rattle.superclasses.specs.Superclasses.{is_sub}
 use Rattle.attr_rules.specs.declared.attributes.KeptAttr.{KeptAttr}
 use Rattle.attr_rules.specs.declared.kinds.AttrId.{AttrId}
 use Rattle.attr_rules.specs.RowsKept.{at_place, at_row}
-use Rattle.attr_rules.specs.Rules.{Attribute, most_attributes, number_of_attribute}
+use Rattle.attr_rules.specs.Rules.{Attribute, is_inherited, most_attributes, number_of_attribute}
 
 -- the text of a number
 abbrev pub text_or_empty : Option (List ℕ) → List ℕ
@@ -47,7 +47,13 @@ pub record AreRows (superclasses : List (Option ℕ)) (classes names : ℕ) (kep
   pub long : length rows ≡ classes
   pub each : (class n : ℕ) → class < classes → n < names → option_map number_of_attribute (at_row rows class n) ≡ first_named superclasses kept class n
 
-pub record AreKept (superclasses : List (Option ℕ)) (names : List (List ℕ)) (kept : List KeptAttr) (rows : List (Vec (Option AttrId) Global)) : Type 0 where
+-- for each name, of which there are so many, the first inherited attribute
+pub record AreFirstInherited (names : ℕ) (kept : List KeptAttr) (row : List (Option AttrId)) : Type 0 where
+  pub long : length row ≡ names
+  pub each : (n : ℕ) → n < names → option_map number_of_attribute (at_place row n) ≡ position (λ a. is_inherited a.declared.sort && (a.name == n)) kept
+
+pub record AreKept (superclasses : List (Option ℕ)) (names : List (List ℕ)) (kept : List KeptAttr) (rows : List (Vec (Option AttrId) Global)) (inherited : List (Option AttrId)) : Type 0 where
   pub few : length kept ≤ most_attributes
   pub numbered : AreNumbered names kept
   pub placed : AreRows superclasses (length superclasses) (length names) kept rows
+  pub firsts : AreFirstInherited (length names) kept inherited

@@ -1,10 +1,14 @@
 -- The rules of a grammar: which attributes are declared, and which equation gives which attribute its value.
 use Rattle.std.specs.Prelude.{◌≡◌, ℕ, ◌<◌, ◌≤◌, List, [], ◌∷◌, Bool, true, false, ◌&&◌, ◌==◌, Option, Some, None, IsSome, All, map, length, position, slice_get}
-use Rattle.std.specs.Option.{option_map, option_or}
+use Rattle.std.specs.Option.{option_and_then, option_map, option_or}
 use Rattle.std.specs.Str.{bytes_eq}
 use Rattle.ast_grammar.specs.declared.grammar.ClassId.{ClassId}
 use Rattle.superclasses.specs.Superclasses.{is_sub as is_below, upwards}
-use Rattle.ast_grammar.specs.Grammar.{Class, abstract_in, is_sub, superclasses_of}
+use Rattle.ast_grammar.specs.declared.grammar.Shape.{Shape}
+use Rattle.ast_grammar.specs.declared.grammar.Shape.TheVariants as shapes
+use Rattle.ast_grammar.specs.Grammar.{Class, Component, abstract_in, component_at, is_sub, superclasses_of}
+use Rattle.attr_rules.specs.declared.dispatch.Reach.{Reach}
+use Rattle.attr_rules.specs.declared.dispatch.Reach.TheVariants.{Own, Component as AtComponent, Children}
 use Rattle.attr_rules.specs.declared.dispatch.Target.{Target}
 use Rattle.attr_rules.specs.declared.kinds.AttrId.{AttrId}
 use Rattle.attr_rules.specs.declared.kinds.EqId.{EqId}
@@ -12,7 +16,8 @@ use Rattle.attr_rules.specs.declared.kinds.Kind.{Kind}
 use Rattle.attr_rules.specs.declared.kinds.Kind.TheVariants as kinds
 use Rattle.attr_rules.specs.declared.kinds.Attr.{Attr}
 use Rattle.attr_rules.specs.declared.kinds.Params.{Params}
-use Rattle.attr_rules.specs.declared.kinds.Sort.TheVariants.{Syn}
+use Rattle.attr_rules.specs.declared.kinds.Sort.{Sort}
+use Rattle.attr_rules.specs.declared.kinds.Sort.TheVariants.{Syn, Inh, Nta, Coll}
 use Rattle.attr_rules.specs.declared.kinds.Start.TheVariants.{Plain}
 use Rattle.attr_rules.specs.declared.types.ValueType.{ValueType}
 use Rattle.attr_rules.specs.Expression.{Expression}
@@ -29,7 +34,7 @@ pub record AttributeSet : Type 0 where
   pub superclasses : List (Option ℕ)
   pub attributes : List Attribute
 
--- an equation: of which class it is and which attribute it gives a value, and its right side
+-- an equation: of which class it is and which attribute it gives a value at which nodes, and its right side
 pub record Equation : Type 0 where
   pub target : Target
   pub body : Expression
@@ -54,12 +59,32 @@ most_attributes = 1024
 abbrev pub attribute_named : List (Option ℕ) → List Attribute → ClassId → List ℕ → Option ℕ
 attribute_named superclasses attributes class name = position (λ a. is_below superclasses class.0 a.declared.class.0 && bytes_eq a.name name) attributes
 
-abbrev pub is_target : ℕ → ℕ → Target → Bool
-is_target class a t = (t.class.0 == class) && (t.attribute.0 == a)
+-- two are for the same nodes
+abbrev pub same_reach : Reach → Reach → Bool
+same_reach Own Own = true
+same_reach Own (AtComponent k) = false
+same_reach Own Children = false
+same_reach (AtComponent j) Own = false
+same_reach (AtComponent j) (AtComponent k) = j == k
+same_reach (AtComponent j) Children = false
+same_reach Children Own = false
+same_reach Children (AtComponent k) = false
+same_reach Children Children = true
+
+abbrev pub is_target : ℕ → Reach → ℕ → Target → Bool
+is_target class r a t = same_reach t.reach r && ((t.class.0 == class) && (t.attribute.0 == a))
+
+-- the equation of exactly this class for these nodes
+abbrev pub equation_at : List Target → ℕ → Reach → ℕ → Option ℕ
+equation_at targets class r a = position (is_target class r a) targets
 
 -- the equation that gives an attribute its value at nodes of exactly this class
 abbrev pub own_equation : List Target → ℕ → ℕ → Option ℕ
-own_equation targets a class = position (is_target class a) targets
+own_equation targets a class = equation_at targets class Own a
+
+-- the equation of exactly this class that covers what hangs at a component: one for the component comes before one for every child
+abbrev pub own_covering : List Target → ℕ → ℕ → ℕ → Option ℕ
+own_covering targets k a class = option_or (equation_at targets class (AtComponent k) a) (equation_at targets class Children a)
 
 -- what the first of some classes that has something has
 abbrev pub first_of_line : (ℕ → Option ℕ) → List ℕ → Option ℕ
@@ -70,11 +95,33 @@ first_of_line f (c ∷ cs) = option_or (f c) (first_of_line f cs)
 abbrev pub nearest_equation : List (Option ℕ) → List Target → ℕ → ℕ → Option ℕ
 nearest_equation superclasses targets class a = first_of_line (own_equation targets a) (upwards superclasses class)
 
+-- the equation of an attribute that covers what hangs at a component of nodes of a class: that of the nearest class, from this one upwards
+abbrev pub covering_equation : List (Option ℕ) → List Target → ℕ → ℕ → ℕ → Option ℕ
+covering_equation superclasses targets class k a = first_of_line (own_covering targets k a) (upwards superclasses class)
+
+abbrev pub is_inherited : Sort → Bool
+is_inherited Syn = false
+is_inherited Inh = true
+is_inherited Nta = false
+is_inherited Coll = false
+
+-- the first inherited attribute of a name
+abbrev pub first_inherited : List Attribute → List ℕ → Option ℕ
+first_inherited attributes name = position (λ a. is_inherited a.declared.sort && bytes_eq a.name name) attributes
+
+-- the first inherited attribute that has the name of the attribute of this number: equations with a path are for it, and so for all of its name
+abbrev pub first_of_name : List Attribute → ℕ → Option ℕ
+first_of_name attributes a = option_and_then (λ (x : Attribute). first_inherited attributes x.name) (slice_get attributes a)
+
 abbrev pub target_in : Equation → Target
 target_in e = e.target
 
 abbrev pub equation_number : RuleSet → ClassId → ℕ → Option ℕ
 equation_number rules class a = nearest_equation rules.superclasses (map target_in rules.equations) class.0 a
+
+-- the equation that covers, for an inherited attribute, what hangs at a component of nodes of a class
+abbrev pub covering_number : RuleSet → ClassId → ℕ → ℕ → Option ℕ
+covering_number rules class k a = option_and_then (covering_equation rules.superclasses (map target_in rules.equations) class.0 k) (first_of_name rules.attributes a)
 
 abbrev pub declared_of : Attribute → Attr
 declared_of a = a.declared
@@ -108,9 +155,15 @@ is_single (kinds.Node c) = true
 is_single kinds.Texts = false
 is_single (kinds.Nodes c) = false
 
--- what an equation may name at nodes of a class
-abbrev pub names_for : List Class → List Attribute → ClassId → Names
-names_for g attributes c = record { grammar = g; attribute = declared_at attributes; node = λ k. None; this = Some c; variables = [] }
+-- the types of what a path binds: over a component it is the place of the node among those that hang there
+abbrev pub bound_kinds : Reach → List Kind
+bound_kinds Own = []
+bound_kinds (AtComponent k) = kinds.Int ∷ []
+bound_kinds Children = []
+
+-- what an equation of a class may name
+abbrev pub names_for : List Class → List Attribute → ClassId → Reach → Names
+names_for g attributes c r = record { grammar = g; attribute = declared_at attributes; node = λ k. None; this = Some c; variables = bound_kinds r }
 
 -- An attribute of a class of the grammar.
 pub record IsAttribute (g : List Class) (x : Attribute) : Type 0 where
@@ -118,24 +171,50 @@ pub record IsAttribute (g : List Class) (x : Attribute) : Type 0 where
   pub single : is_single x.declared.kind ≡ true
   pub class : (c : ClassId) → kind_class x.declared.kind ≡ Some c → c.0 < length g
 
--- An equation of a class that has the attribute: its right side is well typed and fits.
+-- An equation without a path gives a value to an attribute that its class has and that isn't inherited, one with a path to inherited ones of
+-- any class.
+abbrev pub GivesValue : List Class → ClassId → Reach → Attr → Type 0
+GivesValue g c Own d = (is_sub g c.0 d.class.0 ≡ true) × (is_inherited d.sort ≡ false)
+GivesValue g c (AtComponent k) d = is_inherited d.sort ≡ true
+GivesValue g c Children d = is_inherited d.sort ≡ true
+
+-- An equation: its right side is well typed and fits the attribute.
 pub record IsEquation (g : List Class) (attributes : List Attribute) (e : Equation) : Type 0 where
   pub within : e.target.class.0 < length g
   pub attribute : Attr
   pub declared : declared_at attributes e.target.attribute.0 ≡ Some attribute
-  pub has : is_sub g e.target.class.0 attribute.class.0 ≡ true
+  pub gives : GivesValue g e.target.class e.target.reach attribute
   pub type : ValueType
-  pub typed : HasType (names_for g attributes e.target.class) e.body type
+  pub typed : HasType (names_for g attributes e.target.class e.target.reach) e.body type
   pub fit : fits g type attribute.kind ≡ true
 
 -- a class of which there are nodes
 abbrev pub IsConcrete : List Class → ℕ → Type 0
 IsConcrete g c = option_map abstract_in (slice_get g c) ≡ Some false
 
--- Rules of a grammar that break nothing: each equation is well typed, and each concrete class has an equation for each of its attributes.
+-- nodes may hang at a component of this shape
+abbrev pub is_for_nodes : Shape → Bool
+is_for_nodes shapes.Child = true
+is_for_nodes shapes.List = true
+is_for_nodes shapes.Optional = true
+is_for_nodes shapes.Text = false
+is_for_nodes shapes.Int = false
+is_for_nodes shapes.Truth = false
+
+-- A class of which there can be a node at which no equation gives a value to an inherited attribute, were it declared there: the root may be of
+-- such a class, and so may what hangs at a component that no equation covers, of a node of such a class.
+pub data Uncovered (g : List Class) (r : RuleSet) (a : ℕ) : ℕ → Type 0 where
+  root : {c : ℕ} → IsConcrete g c → is_sub g c 0 ≡ true → Uncovered g r a c
+  below : {p c : ℕ} (k : ℕ) (x : Component) → Uncovered g r a p → component_at g p k ≡ Some x → is_for_nodes x.shape ≡ true → covering_number r (record { 0 = p }) k a ≡ None
+      → IsConcrete g c → is_sub g c x.class.0 ≡ true → Uncovered g r a c
+
+-- Rules of a grammar that break nothing: each equation is well typed, each concrete class has an equation for each of its attributes that
+-- aren't inherited, the inherited ones of one name are of one type, and none of them can be met uncovered.
 pub record AreRules (g : List Class) (r : RuleSet) : Type 0 where
   pub superclasses : r.superclasses ≡ superclasses_of g
   pub few : length r.attributes ≤ most_attributes
   pub attributes : All (IsAttribute g) r.attributes
   pub equations : All (IsEquation g r.attributes) r.equations
-  pub complete : (c : ClassId) (a : ℕ) (d : Attr) → IsConcrete g c.0 → attribute_at r a ≡ Some d → is_sub g c.0 d.class.0 ≡ true → IsSome (equation_number r c a)
+  pub complete : (c : ClassId) (a : ℕ) (d : Attr) → IsConcrete g c.0 → attribute_at r a ≡ Some d → is_inherited d.sort ≡ false → is_sub g c.0 d.class.0 ≡ true → IsSome (equation_number r c a)
+  pub alike : (a b : ℕ) (d e : Attr) → attribute_at r a ≡ Some d → is_inherited d.sort ≡ true → first_of_name r.attributes a ≡ Some b → attribute_at r b ≡ Some e → d.kind ≡ e.kind
+  pub covered : (c : ClassId) (a : ℕ) (d : Attr) → attribute_at r a ≡ Some d → is_inherited d.sort ≡ true → IsConcrete g c.0 → is_sub g c.0 d.class.0 ≡ true → Uncovered g r a c.0 → ⊥

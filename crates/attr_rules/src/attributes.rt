@@ -4,11 +4,11 @@ ghost use Rattle.std.specs.Option.{option_map};
 ghost use Rattle.attr_rules.specs.KeptEquations.{seen_attribute};
 ghost use Rattle.rag_io.specs.Pool.{most_texts};
 ghost use Rattle.ast_grammar.specs.Grammar.{superclasses_of};
-ghost use Rattle.attr_rules.specs.KeptAttributes.{AreNumbered, AreRows, Extends, IsRow, attributes_in};
-ghost use Rattle.attr_rules.specs.Rules.{attribute_named, declared_at, most_attributes, number_of_attribute};
+ghost use Rattle.attr_rules.specs.KeptAttributes.{AreFirstInherited, AreNumbered, AreRows, Extends, IsRow, attributes_in};
+ghost use Rattle.attr_rules.specs.Rules.{attribute_named, declared_at, first_of_name, most_attributes, number_of_attribute};
 
 use crate::kinds::{Attr, AttrId};
-use crate::rows::{at_row, put_first};
+use crate::rows::{at_place, at_row, put_first};
 use ast_grammar::{ClassId, Grammar};
 use rag_io::{Memory, Pool, PoolFault};
 use std::alloc::Global;
@@ -37,6 +37,7 @@ pub struct Attributes {
     names: Pool,
     kept: Vec<KeptAttr>,
     rows: Vec<Vec<Option<AttrId>>>,
+    inherited: Vec<Option<AttrId>>,
 }
 
 impl Model for Attributes {
@@ -47,7 +48,7 @@ impl Model for Attributes {
 
     ghost view = { λ a. record { superclasses = a.subclasses; attributes = attributes_in a.names a.kept.items } };
 
-    ghost invariant = { λ a. AreKept a.subclasses a.names a.kept.items a.rows.items };
+    ghost invariant = { λ a. AreKept a.subclasses a.names a.kept.items a.rows.items a.inherited.items };
 }
 
 // The number of a name, which is added where it isn't there. There is room for it.
@@ -129,6 +130,24 @@ fn rows_of(
     Ok(rows)
 }
 
+// For each of so many names the first inherited attribute.
+fn first_inherited(
+    alloc: Global,
+    names: u32,
+    kept: &[KeptAttr],
+) -> Result<Vec<Option<AttrId>>, Memory>
+    requires { length kept.now ≤ most_attributes }
+    ensures { IfOk result (λ row. AreFirstInherited names kept.now row.items) }
+{
+    let mut row = vec![in alloc; None; names as usize].map_err(|_| Memory)?;
+    for (i, attribute) in kept.iter().enumerate() {
+        if attribute.declared.sort.is_inherited() {
+            put_first(&mut row, attribute.name as usize, AttrId(i as u16));
+        }
+    }
+    Ok(row)
+}
+
 impl Attributes {
     /// The attributes of this list, by their places in it. It takes time in proportion to the classes times the attributes.
     pub fn of_list(
@@ -144,11 +163,13 @@ impl Attributes {
         let kept = numbered(alloc, &mut names, list)?;
         let classes = grammar.classes() as usize;
         let rows = rows_of(alloc, &subclasses, classes, names.len(), &kept)?;
+        let inherited = first_inherited(alloc, names.len(), &kept)?;
         Ok(Attributes {
             subclasses,
             names,
             kept,
             rows,
+            inherited,
         })
     }
 
@@ -173,6 +194,21 @@ impl Attributes {
         ensures { declared_at self.now.attributes a.0 ≡ Some result.now }
     {
         &self.kept[a.0 as usize].declared
+    }
+
+    /// The first inherited attribute that has the name of this one, or None where none has. It takes constant time.
+    pub fn first_of_name(&self, a: AttrId) -> Option<AttrId>
+        ensures { option_map number_of_attribute result ≡ first_of_name self.now.attributes a.0 }
+    {
+        let attribute = self.kept.get(a.0 as usize)?;
+        at_place(&self.inherited, attribute.name as usize)
+    }
+
+    /// Which classes are subclasses of which.
+    pub fn subclasses(&self) -> &Subclasses
+        ensures { result.now ≡ self.now.superclasses }
+    {
+        &self.subclasses
     }
 
     /// The attribute of this name that is declared for the class or a superclass, or None where none is. It takes the time of one look-up.

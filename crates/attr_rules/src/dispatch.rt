@@ -1,29 +1,58 @@
 // Which equation gives an attribute its value at nodes of a class.
-ghost use Rattle.std.specs.Prelude.{◌≡◌, ◌<◌, ◌^◌, All, IfOk, length};
+ghost use Rattle.std.specs.Prelude.{◌≡◌, ◌<◌, ◌^◌, List, All, IfOk, length};
 ghost use Rattle.std.specs.Option.{option_map};
 ghost use Rattle.ast_grammar.specs.Grammar.{superclasses_of};
 ghost use Rattle.attr_rules.specs.Dispatching.{AreEmptyRows, AreOwnRows, Dispatches, IsNearestRow, IsTarget, PutsFirst, filled};
-ghost use Rattle.attr_rules.specs.Rules.{nearest_equation, number_of_equation};
+ghost use Rattle.attr_rules.specs.Rules.{covering_equation, number_of_equation};
 ghost use Rattle.attr_rules.specs.RowsKept.{at_row};
 
 use crate::kinds::{AttrId, EqId};
+use crate::paths::Paths;
 use crate::rows::{at_row, put_first};
 use ast_grammar::{ClassId, Grammar};
 use rag_io::Memory;
 use std::alloc::Global;
+use superclasses::Subclasses;
 
-/// What an equation is for: an attribute, at nodes of a class.
+/// At which nodes an equation of a class gives a value: at those of the class (`eq C.y() = ..`), at what hangs at a component of them
+/// (`eq C.getX().y() = ..`), or at whatever hangs at them (`eq C.getChild().y() = ..`).
+#[derive(Clone, Copy, Debug, PartialEq, Eq, Hash)]
+pub enum Reach {
+    Own,
+    Component(u32),
+    Children,
+}
+
+impl Reach {
+    ghost use Rattle.attr_rules.specs.Rules.{same_reach};
+    ghost use Rattle.attr_rules.specs.declared.dispatch.Reach.TheVariants.{Own};
+
+    /// Whether it is the nodes of the class: the equation has no path.
+    pub(crate) fn is_own(self) -> bool
+        ensures { result ≡ same_reach self Own }
+    {
+        match self {
+            Reach::Own => true,
+            Reach::Component(_) | Reach::Children => false,
+        }
+    }
+}
+
+/// What an equation is for: of which class it is, at which nodes it gives a value, and to which attribute. With a path this is the first
+/// inherited attribute of the name, and stands for all of them.
 #[derive(Clone, Copy, Debug, PartialEq, Eq)]
 pub struct Target {
     pub class: ClassId,
+    pub reach: Reach,
     pub attribute: AttrId,
 }
 
 /// The equation of each attribute at nodes of each class: that of the nearest class, from the node's class upwards. A row for each class has
-/// a place for each attribute, so it is found in constant time.
+/// a place for each attribute, so it is found in constant time. Equations with a path are found class by class.
 #[derive(Drop)]
 pub struct Dispatch {
     rows: Vec<Vec<Option<EqId>>>,
+    paths: Paths,
 }
 
 // Equations go by numbers of 32 bits. A file has no room for more.
@@ -52,12 +81,12 @@ fn empty_rows(
     Ok(rows)
 }
 
-// Puts an equation at the place of its class and attribute, where there is none yet.
+// Puts an equation without a path at the place of its class and attribute, where there is none yet.
 fn put(rows: &mut [Vec<Option<EqId>>], target: Target, equation: EqId)
     ensures { PutsFirst target equation rows.old rows.new }
 {
     let class = target.class.0 as usize;
-    if class < rows.len() {
+    if target.reach.is_own() && class < rows.len() {
         put_first(&mut rows[class], target.attribute.0 as usize, equation);
     }
 }
@@ -132,7 +161,8 @@ impl Dispatch {
             let row = nearest_row(alloc, grammar, &own, class)?;
             rows.push(row).map_err(|_| Memory)?;
         }
-        Ok(Dispatch { rows })
+        let paths = Paths::of_targets(alloc, targets)?;
+        Ok(Dispatch { rows, paths })
     }
 
     /// The equation of an attribute at nodes of a class, or None where there is none. It takes constant time.
@@ -140,5 +170,29 @@ impl Dispatch {
         ensures { result ≡ at_row self.now.rows.items class.0 attribute.0 }
     {
         at_row(&self.rows, class.0 as usize, attribute.0 as usize)
+    }
+
+    /// The equation with a path that covers what hangs at a component of nodes of a class, for the first inherited attribute of a name, or
+    /// None where there is none: that of the nearest class, from this one upwards, and in a class one for the component before one for
+    /// every child. It takes time in proportion to the superclasses.
+    pub fn find_covering(
+        &self,
+        subclasses: &Subclasses,
+        class: ClassId,
+        component: u32,
+        attribute: AttrId,
+    ) -> Option<EqId>
+        ensures { (targets : List Target) → Dispatches subclasses.now targets self.now → option_map number_of_equation result ≡ covering_equation subclasses.now targets class.0 component attribute.0 }
+    {
+        let mut next = Some(class.0 as usize);
+        for _ in 0..=self.rows.len() {
+            let number = next?;
+            let covering = self.paths.covering(number, component, attribute);
+            if covering.is_some() {
+                return covering;
+            }
+            next = subclasses.superclass(number);
+        }
+        None
     }
 }

@@ -62,6 +62,20 @@ pub struct Attr {
     pub start: Start,
 }
 
+impl Sort {
+    ghost use Rattle.attr_rules.specs.Rules.{is_inherited};
+
+    /// Whether it is inherited.
+    pub fn is_inherited(self) -> bool
+        ensures { result ≡ is_inherited self }
+    {
+        match self {
+            Sort::Inh => true,
+            Sort::Syn | Sort::Nta | Sort::Coll => false,
+        }
+    }
+}
+
 impl Attr {
     ghost use Rattle.attr_rules.specs.Rules.{plain_attribute};
 

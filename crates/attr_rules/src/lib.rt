@@ -6,6 +6,7 @@ mod attributes;
 mod dispatch;
 mod expression;
 mod kinds;
+mod paths;
 mod queries;
 mod rows;
 mod rules;
@@ -15,7 +16,7 @@ mod types;
 
 pub use accessors::{Access, Accessor, accessor_of, is_spelled};
 pub use attributes::{Attributes, NamedAttr};
-pub use dispatch::{Dispatch, Target};
+pub use dispatch::{Dispatch, Reach, Target};
 pub use expression::{Operator, Quantifier, TExpr};
 pub use kinds::{Attr, AttrId, EqId, Kind, Params, Sort, Start};
 pub use queries::QueryEq;

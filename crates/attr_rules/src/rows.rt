@@ -1,6 +1,6 @@
 // Rows, with a place for each of some numbers.
 ghost use Rattle.std.specs.Prelude.{◌≡◌};
-ghost use Rattle.attr_rules.specs.RowsKept.{at_row, with_first};
+ghost use Rattle.attr_rules.specs.RowsKept.{at_place, at_row, with_first};
 
 /// Puts an item at a place of a row, where there is none yet.
 pub(crate) fn put_first<T: Copy>(row: &mut [Option<T>], place: usize, item: T)
@@ -11,10 +11,17 @@ pub(crate) fn put_first<T: Copy>(row: &mut [Option<T>], place: usize, item: T)
     }
 }
 
+/// What stands at a place of a row.
+pub(crate) fn at_place<T: Copy>(row: &[Option<T>], place: usize) -> Option<T>
+    ensures { result ≡ at_place row.now place }
+{
+    row.get(place).copied().flatten()
+}
+
 /// What stands at a place of one of some rows.
 pub(crate) fn at_row<T: Copy>(rows: &[Vec<Option<T>>], row: usize, place: usize) -> Option<T>
     ensures { result ≡ at_row rows.now row place }
 {
     let row = rows.get(row)?;
-    row.get(place).copied().flatten()
+    at_place(row, place)
 }

@@ -1,10 +1,10 @@
 // The rules of a grammar.
-ghost use Rattle.std.specs.Prelude.{◌≡◌, ◌≤◌, ◌<◌, length, map, Some, IfSome};
+ghost use Rattle.std.specs.Prelude.{◌≡◌, ◌≤◌, ◌<◌, length, map, slice_get, Some, IfSome};
 ghost use Rattle.std.specs.Option.{option_map};
 ghost use Rattle.attr_rules.specs.Dispatching.{Dispatches};
 ghost use Rattle.attr_rules.specs.Expression.{expression_of};
 ghost use Rattle.attr_rules.specs.KeptEquations.{equation_in, kept_target};
-ghost use Rattle.attr_rules.specs.Rules.{attribute_at, attribute_named, body_at, equation_number, most_attributes, number_of_attribute, number_of_equation};
+ghost use Rattle.attr_rules.specs.Rules.{attribute_at, attribute_named, body_at, covering_number, equation_number, most_attributes, number_of_attribute, number_of_equation, target_in};
 
 use crate::attributes::Attributes;
 use crate::dispatch::{Dispatch, Target};
@@ -93,6 +93,27 @@ impl Rules {
         ensures within { IfSome result (λ e. e.0 < length (rules_in self.now).equations) }
     {
         self.dispatch.find(class, a)
+    }
+
+    /// The equation that gives an inherited attribute its value at what hangs at a component of nodes of a class: that of the nearest
+    /// class, from this one upwards, and in a class one for the component before one for every child. None where there is none. It
+    /// takes time in proportion to the superclasses.
+    pub fn inh_equation(&self, class: ClassId, component: u32, a: AttrId) -> Option<EqId>
+        ensures number { option_map number_of_equation result ≡ covering_number (rules_in self.now) class component a.0 }
+        ensures within { IfSome result (λ e. e.0 < length (rules_in self.now).equations) }
+    {
+        let first = self.attributes.first_of_name(a)?;
+        let subclasses = self.attributes.subclasses();
+        self.dispatch
+            .find_covering(subclasses, class, component, first)
+    }
+
+    /// What an equation is for.
+    pub fn target(&self, e: EqId) -> Target
+        requires { e.0 < length (rules_in self.now).equations }
+        ensures { option_map target_in (slice_get (rules_in self.now).equations e.0) ≡ Some result }
+    {
+        self.equations[e.0 as usize].target
     }
 
     /// The right side of an equation.

@@ -1,6 +1,7 @@
 ghost use Rattle.std.specs.Prelude.{◌≡◌, ◌<◌, ◌≤◌, ◌↔◌, ◌∷◌, [], All, IfOk, IsTrue, length, map};
 ghost use Rattle.rag_io.specs.Outside.{longest_file};
 ghost use Rattle.ast_grammar.specs.Grammar.{superclasses_of};
+ghost use Rattle.attr_rules.specs.declared.dispatch.Reach.TheVariants.{Own};
 ghost use Rattle.attr_rules.specs.Dispatching.{IsTarget};
 ghost use Rattle.attr_rules.specs.Kept.{rules_in};
 ghost use Rattle.attr_rules.specs.KeptEquations.{kept_target};
@@ -280,10 +281,11 @@ fn attributes_are_found(rt: HostRuntime) -> Result<(), Fail> {
 }
 
 fn target(class: u16, attribute: u16) -> Target
-    ensures { result ≡ record { class = record { 0 = class }; attribute = record { 0 = attribute } } }
+    ensures { result ≡ record { class = record { 0 = class }; reach = Own; attribute = record { 0 = attribute } } }
 {
     Target {
         class: ClassId(class),
+        reach: Reach::Own,
         attribute: AttrId(attribute),
     }
 }
@@ -342,11 +344,15 @@ fn targets(alloc: Global, equations: &[KeptEquation]) -> Result<Vec<Target>, All
     Ok(targets)
 }
 
-fn rules(alloc: Global, grammar: &Grammar) -> Result<Rules, Fail>
+fn rules(
+    alloc: Global,
+    grammar: &Grammar,
+    attributes: Attributes,
+    equations: Vec<KeptEquation>,
+) -> Result<Rules, Fail>
+    requires { attributes.superclasses ≡ superclasses_of grammar.now }
     ensures { IfOk result (λ r. (rules_in r).superclasses ≡ superclasses_of grammar.now) }
 {
-    let attributes = attributes(alloc, grammar)?;
-    let equations = equations(alloc)?;
     let targets = targets(alloc, &equations)?;
     if !are_targets(grammar, attributes.len(), &targets) {
         return Err("no targets".into());
@@ -393,8 +399,141 @@ fn check_rules(rt: &impl Abort, grammar: &Grammar, rules: &Rules)
 #[test]
 fn rules_answer(rt: HostRuntime) -> Result<(), Fail> {
     let grammar = grammar(rt.alloc(), CLASSES)?;
-    let rules = rules(rt.alloc(), &grammar)?;
+    let attributes = attributes(rt.alloc(), &grammar)?;
+    let equations = equations(rt.alloc())?;
+    let rules = rules(rt.alloc(), &grammar, attributes, equations)?;
     check_rules(&rt, &grammar, &rules);
+    Ok(())
+}
+
+// Two components of P and its subclass Q, and a third one of the subclass R of Q.
+const PARTS: &[u8] = b"P ::= A:X B:X; Q : P; R : Q ::= C:X; X; Y : X;";
+
+fn inherited(name: &[u8], class: u16) -> NamedAttr<'_> {
+    let mut declared = Attr::plain(ClassId(class), Kind::Int);
+    declared.sort = Sort::Inh;
+    NamedAttr { name, declared }
+}
+
+// The attribute v is synthesized at P and inherited at X and Y, w is inherited at X and synthesized at P, and u is synthesized.
+fn inherited_attributes(alloc: Global, grammar: &Grammar) -> Result<Attributes, Memory>
+    ensures { IfOk result (λ a. a.superclasses ≡ superclasses_of grammar.now) }
+{
+    let list = [
+        named(b"v", 0, Kind::Int),
+        inherited(b"v", 3),
+        inherited(b"v", 4),
+        inherited(b"w", 3),
+        named(b"w", 0, Kind::Int),
+        named(b"u", 0, Kind::Int),
+    ];
+    Attributes::of_list(alloc, grammar, &list)
+}
+
+// An attribute, and the first inherited one of its name.
+const FIRST_OF_NAME: &[(u16, Option<u16>)] = &[
+    (0, Some(1)),
+    (1, Some(1)),
+    (2, Some(1)),
+    (3, Some(3)),
+    (4, Some(3)),
+    (5, None),
+    (6, None),
+];
+
+fn check_first_of_name(rt: &impl Abort, attributes: &Attributes) {
+    for (attribute, want) in FIRST_OF_NAME {
+        let first = attributes.first_of_name(AttrId(*attribute));
+        assert_eq!(rt; first, want.map(AttrId), "{attribute}");
+    }
+}
+
+#[test]
+fn names_have_first_attributes(rt: HostRuntime) -> Result<(), Fail> {
+    let grammar = grammar(rt.alloc(), PARTS)?;
+    let attributes = inherited_attributes(rt.alloc(), &grammar)?;
+    check_first_of_name(&rt, &attributes);
+    Ok(())
+}
+
+// Equations of v for every child of P and of Q, for A of P and for B of R, and one of w for A of P. The last three are for the same as ones
+// before, and for w at nodes of R.
+const PATHS: &[(u16, Reach, u16)] = &[
+    (0, Reach::Children, 1),
+    (0, Reach::Component(0), 1),
+    (1, Reach::Children, 1),
+    (2, Reach::Component(1), 1),
+    (0, Reach::Component(0), 3),
+    (0, Reach::Component(0), 1),
+    (1, Reach::Children, 1),
+    (2, Reach::Own, 3),
+];
+
+fn path_equations(alloc: Global) -> Result<Vec<KeptEquation>, AllocError> {
+    let mut equations = Vec::new(alloc);
+    for (class, reach, attribute) in PATHS {
+        equations.push(KeptEquation {
+            target: Target {
+                class: ClassId(*class),
+                reach: *reach,
+                attribute: AttrId(*attribute),
+            },
+            body: TExpr::This,
+        })?;
+    }
+    Ok(equations)
+}
+
+// A class, a component and an attribute, and the equation that covers what hangs there.
+const COVERED: &[(u16, u32, u16, Option<u32>)] = &[
+    // The component before every child.
+    (0, 0, 1, Some(1)),
+    // A component that is covered as every child alone.
+    (0, 1, 1, Some(0)),
+    // Every child of the nearest class before a component of one further up.
+    (1, 0, 1, Some(2)),
+    (1, 1, 1, Some(2)),
+    (2, 0, 1, Some(2)),
+    (2, 1, 1, Some(3)),
+    (2, 2, 1, Some(2)),
+    // Another attribute of the same name.
+    (0, 0, 2, Some(1)),
+    (2, 1, 2, Some(3)),
+    (0, 0, 0, Some(1)),
+    // A class further up.
+    (0, 0, 3, Some(4)),
+    (1, 0, 3, Some(4)),
+    (2, 0, 3, Some(4)),
+    // None for the component, none for the class, and no inherited attribute of the name.
+    (0, 1, 3, None),
+    (2, 1, 3, None),
+    (3, 0, 1, None),
+    (9, 0, 1, None),
+    (0, 0, 5, None),
+    (0, 0, 9, None),
+];
+
+fn check_covered(rt: &impl Abort, rules: &Rules) {
+    for (class, component, attribute, want) in COVERED {
+        let found = rules.inh_equation(ClassId(*class), *component, AttrId(*attribute));
+        assert_eq!(rt; found, want.map(EqId), "{class} {component} {attribute}");
+    }
+}
+
+fn check_target(rt: &impl Abort, rules: &Rules) {
+    let found = rules.inh_equation(ClassId(2), 1, AttrId(1));
+    let reach = found.map(|e| rules.target(e).reach);
+    assert_eq!(rt; reach, Some(Reach::Component(1)));
+}
+
+#[test]
+fn paths_are_covered(rt: HostRuntime) -> Result<(), Fail> {
+    let grammar = grammar(rt.alloc(), PARTS)?;
+    let attributes = inherited_attributes(rt.alloc(), &grammar)?;
+    let equations = path_equations(rt.alloc())?;
+    let rules = rules(rt.alloc(), &grammar, attributes, equations)?;
+    check_covered(&rt, &rules);
+    check_target(&rt, &rules);
     Ok(())
 }
 
