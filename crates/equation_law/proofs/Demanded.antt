@@ -1,75 +1,41 @@
 -- The equation of an instance of a program demands only instances of it, and comes to a value of the instance's type.
-use Rattle.std.proofs.Common.{◌≡◌, ℕ, ℤ, true, ◌||◌, List, [], ◌∷◌, eqb, get_or, map, Contains, Option, Some, None, All, IsSome, length, slice_get, refl, sym, ap, subst, ◌∙◌}
+use Rattle.std.proofs.Common.{◌≡◌, ℕ, zero, suc, ℤ, Bool, true, false, cond, List, map, Contains, Option, Some, IsSome, length, slice_get, refl, sym, ap, subst, ◌∙◌}
 use Rattle.std.specs.Int.{int_wrap}
-use Rattle.std.specs.List.{list_any}
-use Rattle.std.specs.Option.{option_and_then, option_map, option_or}
-use Rattle.std.proofs.lemmas.Bool.{eq-eqb, or_right}
+use Rattle.std.specs.Option.{option_and_then, option_map}
 use Rattle.std.proofs.lemmas.Int.{SFits-int_wrap, int_wrap_fits}
-use Rattle.std.proofs.lemmas.List.Quantifiers.{position-Some}
-use Rattle.std.proofs.lemmas.Option.{get_or_from_slice_get, slice_get-get_or, slice_get-map, slice_get_within}
 use mir.Syntax.{w32}
-use Rattle.superclasses.specs.Superclasses.{is_sub as is_below, upwards}
+use Rattle.superclasses.specs.Superclasses.{is_sub as is_below}
 use Rattle.superclasses.proofs.Lines.{sub_itself}
 use Rattle.ast_grammar.specs.declared.grammar.ClassId.{ClassId}
 use Rattle.ast_grammar.specs.Grammar.{is_sub, superclasses_of}
-use Rattle.attr_rules.specs.declared.dispatch.Target.{Target}
+use Rattle.attr_rules.specs.declared.dispatch.Reach.{Reach}
+use Rattle.attr_rules.specs.declared.dispatch.Reach.TheVariants.{Own, Component, Children}
 use Rattle.attr_rules.specs.declared.kinds.Attr.{Attr}
 use Rattle.attr_rules.specs.declared.kinds.Kind.{Kind}
 use Rattle.attr_rules.specs.declared.kinds.Kind.TheVariants as kinds
-use Rattle.attr_rules.specs.declared.types.ValueType.{ValueType}
 use Rattle.attr_rules.specs.declared.types.ValueType.TheVariants as types
 use Rattle.attr_rules.specs.Queries.{Query as Asked}
-use Rattle.attr_rules.specs.Rules.{Attribute as DeclaredAttribute, Equation, IsAttribute, IsEquation, declared_at, equation_number, first_of_line, is_single, is_target, names_for, nearest_equation, own_equation, target_in}
+use Rattle.attr_rules.specs.Rules.{Attribute as DeclaredAttribute, Equation, IsAttribute, IsEquation, bound_kinds, declared_at, equation_number, is_inherited, is_single, names_for, same_reach, target_in}
 use Rattle.attr_rules.specs.Types.{kept_kind}
 use Rattle.solutions.specs.Asking.{Demands, Ends, Gives, Needs, Meets, asks, gives, here, later, next}
 use Rattle.solutions.specs.Rounds.{Graph}
 use Rattle.equation_law.specs.Checked.{Fits, IsAt, IsInstance, IsProgram, IsTyped, IsValue, at, of_attribute, of_query, int, node, text, truth}
-use Rattle.equation_law.specs.Equations.{Site, asked_kind, attribute_kind, equation_for, equation_of, equations_of, kind_in, kind_or_truth, place_at, site_at, site_demands, world_of}
-use Rattle.equation_law.specs.Meaning.{meaning_of}
+use Rattle.equation_law.specs.Equations.{Site, asked_kind, attribute_kind, bound_values, equation_for, equation_of, equations_of, inherited_site, inherits, kind_in, kind_or_truth, place_among, place_at, site_at, site_demands, synthesized_site, world_of}
+use Rattle.equation_law.specs.Meaning.{Place, meaning_of, named}
 use Rattle.equation_law.specs.Names.{At, Instance, Source}
 use Rattle.equation_law.specs.Program.{Program, class_of, declared_of, names_in}
 use Rattle.equation_law.specs.Values.{Value, as_kind}
-use Rattle.equation_law.proofs.Keys.{both_equal}
+use Rattle.equation_law.proofs.Above.{each_of, inherited_above, inherited_there, nearest_above, target_found, there_is}
 use Rattle.equation_law.proofs.Lists.{some_of}
 use Rattle.equation_law.proofs.Pooled.{empty_there, text_there}
 use Rattle.equation_law.proofs.Preordered.{node_concrete}
 use Rattle.equation_law.proofs.Typed.{AreBounds, AreNames, IsOf, Keeps, behind, fitting, kept, of_int, of_node, of_text, of_truth, typed_keeps}
 
--- what holds of all elements holds of each
-pub each_of : {A : Type 0} (P : A → Type 0) (xs : List A) (k : ℕ) (x : A) → All P xs → slice_get xs k ≡ Some x → P x
-each_of P xs k x all e = subst P (get_or_from_slice_get xs k x x e) (all k x (slice_get_within xs k x e))
-
--- what is there is something
-there_is : {A : Type 0} (o : Option A) → IsSome o → (x : A) × (o ≡ Some x)
-there_is None h = cc
-there_is (Some x) h = (x, refl)
-
--- what is reached through something was there
-through : {A B : Type 0} (f : A → Option B) (o : Option A) (y : B) → option_and_then f o ≡ Some y → (x : A) × (o ≡ Some x) × (f x ≡ Some y)
-through f None y e = cc
-through f (Some x) y e = (x, refl, e)
-
--- what the first of a line has, one of the line has
-on_line : (f : ℕ → Option ℕ) (line : List ℕ) (k : ℕ) → first_of_line f line ≡ Some k → (b : ℕ) × (list_any (λ c. eqb c b) line ≡ true) × (f b ≡ Some k)
-on_line f [] k e = cc
-on_line f (c ∷ cs) k e = elim (f c) as (λ o. f c ≡ o → option_or o (first_of_line f cs) ≡ Some k → (b : ℕ) × (list_any (λ x. eqb x b) (c ∷ cs) ≡ true) × (f b ≡ Some k)) [
-  | None ↦ λ none later. let r = on_line f cs k later in (r.0, or_right (eqb c r.0) _ r.1, r.2)
-  | Some j ↦ λ some same. (c, ap (λ b. b || list_any (λ x. eqb x c) cs) (eq-eqb c c refl), some ∙ same)
-] refl e
-
--- the class whose equation is the nearest one is the class itself or above it
-nearest_above : (s : List (Option ℕ)) (targets : List Target) (c a k : ℕ) → nearest_equation s targets c a ≡ Some k → (b : ℕ) × (is_below s c b ≡ true) × (own_equation targets a b ≡ Some k)
-nearest_above s targets c a k e = on_line (own_equation targets a) (upwards s c) k e
-
--- what an equation of a class is for
-own_target : (equations : List Equation) (a b k : ℕ) → own_equation (map target_in equations) a b ≡ Some k → (q : Equation) × (slice_get equations k ≡ Some q) × (q.target.class.0 ≡ b) × (q.target.attribute.0 ≡ a)
-own_target equations a b k e =
-    let none : Target = record { class = record { 0 = 0 }; attribute = record { 0 = 0 } } in
-    let at = position-Some (is_target b a) (map target_in equations) k none e in
-    let found = some_of target_in (slice_get equations k) (get_or (map target_in equations) k none) (sym (slice_get-map target_in equations k) ∙ slice_get-get_or (map target_in equations) k none at.0) in
-    let test = subst (λ (t : Target). is_target b a t ≡ true) (sym found.2) at.1 in
-    let same = both_equal found.0.target.class.0 b found.0.target.attribute.0 a test in
-    (found.0, found.1, same.0, same.1)
+-- nodes of the class itself
+reach_own : (r : Reach) → same_reach r Own ≡ true → r ≡ Own
+reach_own Own e = refl
+reach_own (Component k) e = cc
+reach_own Children e = cc
 
 module _ (p : Program) (good : IsProgram p) where
   -- no attribute is a set
@@ -83,16 +49,6 @@ module _ (p : Program) (good : IsProgram p) where
   at_class k c e = record { class = c; of = e; below = sub_itself (superclasses_of p.grammar) c.0 }
 
   module _ (I : ℤ → Type 0) (T : List ℕ → Type 0) where
-    -- what an equation names at a node of its class or of a subclass
-    names_of_equation : (c : ClassId) (n : ℕ) → IsAt p n c → AreNames p I T (names_for p.grammar p.rules.attributes c) (place_at n)
-    names_of_equation c n stands = record {
-      grammar = refl;
-      attribute = λ a d e. e;
-      node = λ k b e. absurd (cc);
-      this = λ b e. let same : c ≡ b = cc in at (subst (IsAt p n) same stands);
-      variables = λ k t e. absurd (cc);
-    }
-
     -- what a query names
     names_of_query : AreNames p I T (names_in p) (place_at 0)
     names_of_query = record {
@@ -109,40 +65,119 @@ module _ (p : Program) (good : IsProgram p) where
     is : equation_for p a c ≡ Some equation
     allowed : IsEquation p.grammar p.rules.attributes equation
     attribute : equation.target.attribute.0 ≡ a
+    own : equation.target.reach ≡ Own
     above : is_sub p.grammar c.0 equation.target.class.0 ≡ true
 
   -- there is one for each attribute of the class of a node
-  equation_is : (a k : ℕ) (c : ClassId) (d : Attr) → class_of p k ≡ Some c → declared_of p a ≡ Some d → is_sub p.grammar c.0 d.class.0 ≡ true → IsFor a c
-  equation_is a k c d f e b =
-      let number = there_is (equation_number p.rules c a) (good.rules.complete c a d (node_concrete p.grammar (length p.texts) p.tree good.tree k c f) e b) in
+  equation_is : (a k : ℕ) (c : ClassId) (d : Attr) → class_of p k ≡ Some c → declared_of p a ≡ Some d → is_inherited d.sort ≡ false → is_sub p.grammar c.0 d.class.0 ≡ true → IsFor a c
+  equation_is a k c d f e s b =
+      let number = there_is (equation_number p.rules c a) (good.rules.complete c a d (node_concrete p.grammar (length p.texts) p.tree good.tree k c f) e s b) in
       let near = nearest_above p.rules.superclasses (map target_in p.rules.equations) c.0 a number.0 number.1 in
-      let own = own_target p.rules.equations a near.0 number.0 near.2 in
+      let own = target_found p.rules.equations near.0 Own a number.0 near.2 in
       record {
         equation = own.0;
         is = ap (option_and_then (slice_get p.rules.equations)) number.1 ∙ own.1;
         allowed = each_of (IsEquation p.grammar p.rules.attributes) p.rules.equations number.0 own.0 good.rules.equations own.1;
         attribute = own.3;
+        own = reach_own own.0.target.reach own.4;
         above = subst (λ (s : List (Option ℕ)). is_below s c.0 own.0.target.class.0 ≡ true) good.rules.superclasses (subst (λ (x : ℕ). is_below p.rules.superclasses c.0 x ≡ true) (sym own.2) near.1);
       }
 
+  -- each attribute of a node's class has an equation
+  attribute_site : (a k : ℕ) (c : ClassId) (d : Attr) → class_of p k ≡ Some c → declared_of p a ≡ Some d → is_sub p.grammar c.0 d.class.0 ≡ true → IsSome (cond (inherits (declared_of p a)) (inherited_site p a k) (synthesized_site p a k))
+  attribute_site a k c d f e b =
+      subst (λ (o : Option Attr). IsSome (cond (inherits o) (inherited_site p a k) (synthesized_site p a k))) (sym e)
+      (elim (is_inherited d.sort) as (λ x. is_inherited d.sort ≡ x → IsSome (cond x (inherited_site p a k) (synthesized_site p a k))) [
+        | true ↦ λ s. inherited_there p good a k c d f e s b
+        | false ↦ λ s.
+            let q = equation_is a k c d f e s b in
+            let there : synthesized_site p a k ≡ Some (site_at p a k q.equation) =
+            ap (λ (o : Option ClassId). option_map (site_at p a k) (option_and_then (equation_for p a) o)) f ∙ ap (λ (o : Option Equation). option_map (site_at p a k) o) q.is
+            in
+            subst (λ (o : Option Site). IsSome o) (sym there) refl
+      ] refl)
+
+  abbrev query_site : Asked → Site
+  query_site x = record { body = x.body; kind = x.kind; place = place_at 0 }
+
+  -- and so has each instance
+  pub has_equation : (i : Instance) → IsInstance p i → IsSome (equation_of p i)
+  has_equation i (of_attribute {a = a} {k = k} d c e f b) = attribute_site a k c d f e b
+  has_equation i (of_query {q = q} e o) = subst (λ (x : Option Asked). IsSome (option_map query_site x)) (sym o) refl
+
   module _ (I : ℤ → Type 0) (T : List ℕ → Type 0) (M : Instance → Value → Type 0) (bounds : AreBounds p I T M) where
-    -- the equation of an attribute, read at a node
-    attribute_keeps : (a k : ℕ) (c : ClassId) (d : Attr) → class_of p k ≡ Some c → declared_of p a ≡ Some d → (q : IsFor a c) → Keeps p I T M (types.Of (attribute_kind p a)) (site_demands (world_of p) (Some (site_at p a k q.equation)))
-    attribute_keeps a k c d f e q =
-        let stands : IsAt p k q.equation.target.class = record { class = c; of = f; below = q.above } in
-        let typed = typed_keeps p I T M bounds good.grammar good.tree q.allowed.typed (place_at k) (names_of_equation I T q.equation.target.class k stands) in
-        let declared : declared_of p a ≡ Some q.allowed.attribute = ap (declared_at p.rules.attributes) (sym q.attribute) ∙ q.allowed.declared in
-        let kind : attribute_kind p a ≡ q.allowed.attribute.kind = ap (λ (o : Option Attr). kind_or_truth (option_map (λ x. x.kind) o)) declared in
-        let fit = fitting p I T q.allowed.attribute.kind q.allowed.type (single a q.allowed.attribute declared) q.allowed.fit in
-        let reads : Kind → Type 0 = λ x. Keeps p I T M (types.Of x) (next (meaning_of (world_of p) q.equation.body (place_at k)) (λ v. Gives (as_kind x v))) in
+    -- what a path binds is of its types
+    bound_typed : (r : Reach) (i k : ℕ) (t : Kind) → slice_get (bound_kinds r) k ≡ Some t → IsOf p I T (types.Of t) (named (bound_values r i) k)
+    bound_typed Own i k t e = absurd (cc)
+    bound_typed (Component c) i zero t e = let same : kinds.Int ≡ t = cc in subst (λ (x : Kind). IsOf p I T (types.Of x) (named (bound_values (Component c) i) 0)) same (of_int _ (bounds.wrapped _))
+    bound_typed (Component c) i (suc k) t e = absurd (cc)
+    bound_typed Children i k t e = absurd (cc)
+
+    abbrev bound_place : ℕ → Reach → ℕ → Place
+    bound_place n r i = record { this = At (Source n); names = bound_values r i }
+
+    -- what an equation names at a node of its class or of a subclass
+    names_of_equation : (c : ClassId) (r : Reach) (n i : ℕ) → IsAt p n c → AreNames p I T (names_for p.grammar p.rules.attributes c r) (bound_place n r i)
+    names_of_equation c r n i stands = record {
+      grammar = refl;
+      attribute = λ a d e. e;
+      node = λ k b e. absurd (cc);
+      this = λ b e. let same : c ≡ b = cc in at (subst (IsAt p n) same stands);
+      variables = bound_typed r i;
+    }
+
+    -- an equation, read at a node, for an attribute of the type for which it is
+    equation_keeps : (a n i : ℕ) (q : Equation) (allowed : IsEquation p.grammar p.rules.attributes q) → attribute_kind p a ≡ allowed.attribute.kind → IsAt p n q.target.class
+        → Keeps p I T M (types.Of (attribute_kind p a)) (site_demands (world_of p) (Some (record { body = q.body; kind = attribute_kind p a; place = bound_place n q.target.reach i })))
+    equation_keeps a n i q allowed kind stands =
+        let place = bound_place n q.target.reach i in
+        let typed = typed_keeps p I T M bounds good.grammar good.tree allowed.typed place (names_of_equation q.target.class q.target.reach n i stands) in
+        let fit = fitting p I T allowed.attribute.kind allowed.type (single q.target.attribute.0 allowed.attribute allowed.declared) allowed.fit in
+        let reads : Kind → Type 0 = λ x. Keeps p I T M (types.Of x) (next (meaning_of (world_of p) q.body place) (λ v. Gives (as_kind x v))) in
         subst reads (sym kind)
-        (behind p I T M q.allowed.type (types.Of q.allowed.attribute.kind) (meaning_of (world_of p) q.equation.body (place_at k)) (λ v. Gives (as_kind q.allowed.attribute.kind v)) typed
-        (λ v o. kept p I T (types.Of q.allowed.attribute.kind) v (fit v o)))
+        (behind p I T M allowed.type (types.Of allowed.attribute.kind) (meaning_of (world_of p) q.body place) (λ v. Gives (as_kind allowed.attribute.kind v)) typed (λ v o. kept p I T (types.Of allowed.attribute.kind) v (fit v o)))
+
+    kind_declared : (a : ℕ) (d : Attr) → declared_of p a ≡ Some d → attribute_kind p a ≡ d.kind
+    kind_declared a d e = ap (λ (o : Option Attr). kind_or_truth (option_map (λ x. x.kind) o)) e
+
+    -- the equation of a synthesized attribute, read at a node
+    synthesized_keeps : (a k : ℕ) (c : ClassId) → class_of p k ≡ Some c → (q : IsFor a c) → Keeps p I T M (types.Of (attribute_kind p a)) (site_demands (world_of p) (synthesized_site p a k))
+    synthesized_keeps a k c f q =
+        let there : synthesized_site p a k ≡ Some (site_at p a k q.equation) =
+        ap (λ (o : Option ClassId). option_map (site_at p a k) (option_and_then (equation_for p a) o)) f ∙ ap (λ (o : Option Equation). option_map (site_at p a k) o) q.is
+        in
+        let declared : declared_of p a ≡ Some q.allowed.attribute = ap (declared_at p.rules.attributes) (sym q.attribute) ∙ q.allowed.declared in
+        let keeps = equation_keeps a k 0 q.equation q.allowed (kind_declared a q.allowed.attribute declared) (record { class = c; of = f; below = q.above }) in
+        subst (λ (o : Option Site). Keeps p I T M (types.Of (attribute_kind p a)) (site_demands (world_of p) o)) (sym there)
+        (subst (λ (r : Reach). Keeps p I T M (types.Of (attribute_kind p a)) (site_demands (world_of p) (Some (record { body = q.equation.body; kind = attribute_kind p a; place = bound_place k r 0 })))) q.own keeps)
+
+    -- the equation of an inherited attribute, read above a node
+    inherited_keeps : (a k : ℕ) (c : ClassId) (d : Attr) → class_of p k ≡ Some c → declared_of p a ≡ Some d → is_inherited d.sort ≡ true → is_sub p.grammar c.0 d.class.0 ≡ true
+        → Keeps p I T M (types.Of (attribute_kind p a)) (site_demands (world_of p) (inherited_site p a k))
+    inherited_keeps a k c d f e s b =
+        let site = there_is (inherited_site p a k) (inherited_there p good a k c d f e s b) in
+        let up = inherited_above p a k site.0 site.1 in
+        let q = up.found in
+        let allowed = each_of (IsEquation p.grammar p.rules.attributes) p.rules.equations up.number q.equation good.rules.equations q.is in
+        let first : declared_of p q.first ≡ Some allowed.attribute = ap (declared_at p.rules.attributes) (sym q.attribute) ∙ allowed.declared in
+        let kind : attribute_kind p a ≡ allowed.attribute.kind = kind_declared a d e ∙ good.rules.alike a q.first d allowed.attribute e s q.named first in
+        let below = subst (λ (x : List (Option ℕ)). is_below x up.class.0 q.equation.target.class.0 ≡ true) good.rules.superclasses q.above in
+        let keeps = equation_keeps a up.node (place_among p up.child) q.equation allowed kind (record { class = up.class; of = up.of; below = below }) in
+        subst (λ (o : Option Site). Keeps p I T M (types.Of (attribute_kind p a)) (site_demands (world_of p) o)) (sym site.1)
+        (subst (λ (x : Site). Keeps p I T M (types.Of (attribute_kind p a)) (site_demands (world_of p) (Some x))) up.is keeps)
+
+    -- the equation of an attribute
+    attribute_keeps : (a k : ℕ) (c : ClassId) (d : Attr) → class_of p k ≡ Some c → declared_of p a ≡ Some d → is_sub p.grammar c.0 d.class.0 ≡ true
+        → Keeps p I T M (types.Of (attribute_kind p a)) (site_demands (world_of p) (cond (inherits (declared_of p a)) (inherited_site p a k) (synthesized_site p a k)))
+    attribute_keeps a k c d f e b =
+        let holds : Bool → Type 0 = λ x. Keeps p I T M (types.Of (attribute_kind p a)) (site_demands (world_of p) (cond x (inherited_site p a k) (synthesized_site p a k))) in
+        subst holds (sym (ap inherits e))
+        (elim (is_inherited d.sort) as (λ x. is_inherited d.sort ≡ x → holds x) [
+          | true ↦ λ s. inherited_keeps a k c d f e s b
+          | false ↦ λ s. synthesized_keeps a k c f (equation_is a k c d f e s b)
+        ] refl)
 
     -- the expression of a query, read at the root
-    abbrev query_site : Asked → Site
-    query_site x = record { body = x.body; kind = x.kind; place = place_at 0 }
-
     query_keeps : (e : Asked) → IsTyped p e → Keeps p I T M (types.Of e.kind) (site_demands (world_of p) (Some (query_site e)))
     query_keeps e t =
         let typed = typed_keeps p I T M bounds good.grammar good.tree t.typed (place_at 0) (names_of_query I T) in
@@ -152,12 +187,7 @@ module _ (p : Program) (good : IsProgram p) where
 
     -- the equation of each instance
     site_keeps : (i : Instance) → IsInstance p i → Keeps p I T M (types.Of (kind_in p i)) (site_demands (world_of p) (equation_of p i))
-    site_keeps i (of_attribute {a = a} {k = k} d c e f b) =
-        let q = equation_is a k c d f e b in
-        let there : option_map (site_at p a k) (option_and_then (equation_for p a) (class_of p k)) ≡ Some (site_at p a k q.equation) =
-        ap (λ (o : Option ClassId). option_map (site_at p a k) (option_and_then (equation_for p a) o)) f ∙ ap (λ (o : Option Equation). option_map (site_at p a k) o) q.is
-        in
-        subst (λ (o : Option Site). Keeps p I T M (types.Of (attribute_kind p a)) (site_demands (world_of p) o)) (sym there) (attribute_keeps a k c d f e q)
+    site_keeps i (of_attribute {a = a} {k = k} d c e f b) = attribute_keeps a k c d f e b
     site_keeps i (of_query {q = q} e o) =
         subst (λ (x : Option Asked). Keeps p I T M (types.Of (kind_or_truth (option_map asked_kind x))) (site_demands (world_of p) (option_map query_site x))) (sym o)
         (query_keeps e (each_of (IsTyped p) p.queries q e good.queries o))

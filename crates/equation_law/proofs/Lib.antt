@@ -1,3 +1,4 @@
+pub mod Above
 pub mod Codes
 pub mod Deciding
 pub mod Demanded
@@ -16,3 +17,4 @@ pub mod Solution
 pub mod Typed
 mod Worked
 mod WorkedLoops
+mod WorkedPaths

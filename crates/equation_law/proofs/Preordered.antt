@@ -4,10 +4,12 @@ use Rattle.std.specs.Option.{option_map}
 use Rattle.std.proofs.lemmas.List.{length-append}
 use Rattle.std.proofs.lemmas.Option.{slice_get_past}
 use Rattle.ast_grammar.specs.declared.grammar.ClassId.{ClassId}
+use Rattle.ast_grammar.specs.declared.grammar.Shape.{Shape}
+use Rattle.ast_grammar.specs.declared.grammar.Shape.TheVariants as shapes
 use Rattle.ast_grammar.specs.Grammar.{Class, Component, component_at, components_of, is_sub}
-use Rattle.attr_rules.specs.Rules.{IsConcrete}
+use Rattle.attr_rules.specs.Rules.{IsConcrete, is_for_nodes}
 use Rattle.tree_arena.specs.Nodes.{Node, child_in, class_in, count_in, hanging, hanging_from}
-use Rattle.tree_arena.specs.Terms.{Empty, Fits, Forest, Hangs, IsTerm, IsTree, IsTreeOf, Tree, element, nodes_from, nodes_of, none, one, over, root, size, token}
+use Rattle.tree_arena.specs.Terms.{Empty, Fits, Forest, Hangs, IsTerm, IsTree, IsTreeOf, MayHaveOne, Tree, element, nodes_from, nodes_of, none, one, over, root, size, token}
 use Rattle.equation_law.proofs.Keys.{both_equal}
 
 -- how many nodes trees have
@@ -27,6 +29,15 @@ beside_at n below = ap (λ (l : ℕ). suc n + l) (nodes_length n (suc n) below)
 abbrev hangs : ℕ → ℕ → Node → Bool
 hangs n k x = eqb x.parent n && eqb x.component k
 
+-- a tree may hang at a child and at an optional
+one_for_nodes : (s : Shape) → MayHaveOne s → is_for_nodes s ≡ true
+one_for_nodes shapes.Child m = refl
+one_for_nodes shapes.List m = refl
+one_for_nodes shapes.Optional m = refl
+one_for_nodes shapes.Text m = absurd m
+one_for_nodes shapes.Int m = absurd m
+one_for_nodes shapes.Truth m = absurd m
+
 module _ (g : List Class) (cls : ℕ → Option ClassId) where
   -- A node of the class c that hangs at a component of a node is of the component's class or of a subclass, and of no abstract class.
   pub record IsPlaced (c : ClassId) (n k : ℕ) : Type 0 where
@@ -34,6 +45,7 @@ module _ (g : List Class) (cls : ℕ → Option ClassId) where
     pub component : Component
     pub of : cls n ≡ Some parent
     pub has : component_at g parent.0 k ≡ Some component
+    pub shape : is_for_nodes component.shape ≡ true
     pub below : is_sub g c.0 component.class.0 ≡ true
     pub concrete : IsConcrete g c.0
 
@@ -79,21 +91,21 @@ module _ (g : List Class) (cls : ℕ → Option ClassId) where
   later c k x xs at j q l = at (suc j) q (omega (arith, l))
 
   -- a tree at the first of some components of a node
-  root_placed : (p k : ℕ) (c b : ClassId) (x : Component) (xs : List Component) → cls p ≡ Some c → AreFrom c k (x ∷ xs) → Fits g x.class b → IsPlaced b p k
-  root_placed p k c b x xs o at f = record { parent = c; component = x; of = o; has = at 0 k (omega arith); below = f.below; concrete = f.concrete }
+  root_placed : (p k : ℕ) (c b : ClassId) (x : Component) (xs : List Component) → cls p ≡ Some c → AreFrom c k (x ∷ xs) → is_for_nodes x.shape ≡ true → Fits g x.class b → IsPlaced b p k
+  root_placed p k c b x xs o at s f = record { parent = c; component = x; of = o; has = at 0 k (omega arith); shape = s; below = f.below; concrete = f.concrete }
 
   -- the nodes of trees at the components of a node hang where they should
   trees_placed : {texts : ℕ} {xs : List Component} {k : ℕ} {trees : Forest} {codes : List ℕ} → Hangs g texts xs k trees codes → (p n : ℕ) (c : ClassId) → cls p ≡ Some c → AreFrom c k xs → AreOf n (nodes_from p n trees) → ArePlaced (nodes_from p n trees)
   trees_placed over p n c o at a = tt
   trees_placed (token {x = x} {xs = xs} {k = k} i h) p n c o at a = trees_placed h p n c o (later c k x xs at) a
   trees_placed (one {x = x} {xs = xs} {k = k} {c = b} {tokens = tokens} {below = below} {beside = beside} m f h t) p n c o at a = (
-    root_placed p k c b x xs o at f,
+    root_placed p k c b x xs o at (one_for_nodes x.shape m) f,
     both_placed (nodes_from n (suc n) below) (nodes_from p (suc n + size below) beside) (trees_placed h n (suc n) b a.0 (whole_class b) (of_below p n k b tokens below beside a))
         (trees_placed t p (suc n + size below) c o (later c k x xs at) (of_beside p n k b tokens below beside a)),
   )
   trees_placed (none {x = x} {xs = xs} {k = k} m h) p n c o at a = trees_placed h p n c o (later c k x xs at) a
   trees_placed (element {x = x} {xs = xs} {k = k} {c = b} {tokens = tokens} {below = below} {beside = beside} i f h t) p n c o at a = (
-    root_placed p k c b x xs o at f,
+    root_placed p k c b x xs o at (ap is_for_nodes i) f,
     both_placed (nodes_from n (suc n) below) (nodes_from p (suc n + size below) beside) (trees_placed h n (suc n) b a.0 (whole_class b) (of_below p n k b tokens below beside a))
         (trees_placed t p (suc n + size below) c o at (of_beside p n k b tokens below beside a)),
   )
@@ -140,6 +152,7 @@ record AreGrown (g : List Class) (nodes : List Node) : Type 0 where
   rest : List Node
   are : nodes ≡ first ∷ rest
   concrete : IsConcrete g first.class.0
+  below : is_sub g first.class.0 0 ≡ true
   of : AreOf g (class_in (first ∷ rest)) 1 rest
   placed : ArePlaced g (class_in (first ∷ rest)) rest
 
@@ -154,6 +167,7 @@ term_grown {g} (root {c = c} {tokens = tokens} {below = below} f h) =
       rest = rest;
       are = refl;
       concrete = f.concrete;
+      below = f.below;
       of = of;
       placed = both_placed g cls (nodes_from 0 1 below) [] (trees_placed g cls h 0 1 c refl (whole_class g cls c) (of_left g cls 1 (nodes_from 0 1 below) [] of)) tt;
     }
@@ -196,3 +210,24 @@ child_below g texts nodes t n k i m c x y e h =
     let parent : placed.parent ≡ c = let o = placed.of in cc in
     let component : placed.component ≡ x = let o = subst (λ (z : ClassId). component_at g z.0 k ≡ Some placed.component) parent placed.has in cc in
     (f.0, ap (λ (xs : List Node). class_in xs m) a.are ∙ f.1, subst (λ (z : Component). is_sub g f.0.0 z.class.0 ≡ true) component placed.below)
+
+-- each of some placed nodes is placed
+placed_node : (g : List Class) (cls : ℕ → Option ClassId) (xs : List Node) (j : ℕ) (x : Node) → ArePlaced g cls xs → slice_get xs j ≡ Some x → IsPlaced g cls x.class x.parent x.component
+placed_node g cls [] j x a e = cc
+placed_node g cls (y ∷ xs) zero x a e = let same : y ≡ x = cc in subst (λ (z : Node). IsPlaced g cls z.class z.parent z.component) same a.0
+placed_node g cls (y ∷ xs) (suc j) x a e = placed_node g cls xs j x a.1 e
+
+-- a node that isn't the root hangs at a component of its parent's class
+pub node_placed : (g : List Class) (texts : ℕ) (nodes : List Node) → IsTreeOf g texts nodes → (n : ℕ) (x : Node) → slice_get nodes (suc n) ≡ Some x → IsPlaced g (class_in nodes) x.class x.parent x.component
+node_placed g texts nodes t n x e =
+    let a = tree_grown g texts nodes t in
+    let there : slice_get (a.first ∷ a.rest) (suc n) ≡ Some x = subst (λ (xs : List Node). slice_get xs (suc n) ≡ Some x) a.are e in
+    subst (λ (xs : List Node). IsPlaced g (class_in xs) x.class x.parent x.component) (sym a.are) (placed_node g (class_in (a.first ∷ a.rest)) a.rest n x a.placed there)
+
+-- the root is of the first class or of a subclass
+pub root_below : (g : List Class) (texts : ℕ) (nodes : List Node) → IsTreeOf g texts nodes → (c : ClassId) → class_in nodes 0 ≡ Some c → is_sub g c.0 0 ≡ true
+root_below g texts nodes t c e =
+    let a = tree_grown g texts nodes t in
+    let there : class_in (a.first ∷ a.rest) 0 ≡ Some c = subst (λ (xs : List Node). class_in xs 0 ≡ Some c) a.are e in
+    let same : a.first.class ≡ c = cc in
+    subst (λ (z : ClassId). is_sub g z.0 0 ≡ true) same a.below

@@ -5,6 +5,7 @@ use Rattle.std.specs.Int.{int_wrap}
 use Rattle.ast_grammar.specs.declared.grammar.Shape.TheVariants as shapes
 use Rattle.superclasses.specs.Superclasses.{line_of}
 use Rattle.ast_grammar.specs.Grammar.{Class, superclasses_of}
+use Rattle.attr_rules.specs.declared.dispatch.Reach.TheVariants.{Own}
 use Rattle.attr_rules.specs.declared.expression.Operator.TheVariants.{Add, Subtract, Multiply, Less, AtMost, Greater, AtLeast, Equal}
 use Rattle.attr_rules.specs.declared.kinds.Kind.TheVariants as kinds
 use Rattle.attr_rules.specs.Expression.{Expression, Truth as TruthLiteral, Int as IntLiteral, Text as TextLiteral, Null as NullLiteral, This, Source as SourceNode, Child, Element, Count, Has, Token, Call, Negate, Binary, And, Or, If}
@@ -27,8 +28,8 @@ attributes =
 
 abbrev equations : List Equation
 equations =
-    record { target = record { class = record { 0 = 0 }; attribute = record { 0 = 0 } }; body = IntLiteral (pos 5) } ∷
-    record { target = record { class = record { 0 = 1 }; attribute = record { 0 = 1 } }; body = TruthLiteral true } ∷
+    record { target = record { class = record { 0 = 0 }; reach = Own; attribute = record { 0 = 0 } }; body = IntLiteral (pos 5) } ∷
+    record { target = record { class = record { 0 = 1 }; reach = Own; attribute = record { 0 = 1 } }; body = TruthLiteral true } ∷
     []
 
 -- the calls `@0.v()` and `@0.w()`; no rule of the notation allows the latter

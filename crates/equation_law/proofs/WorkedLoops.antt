@@ -3,6 +3,7 @@
 use Rattle.std.proofs.Common.{◌≡◌, ℕ, pos, true, false, cond, ◌||◌, List, [], ◌∷◌, Option, None, codes, refl, sym, subst}
 use Rattle.superclasses.specs.Superclasses.{line_of}
 use Rattle.ast_grammar.specs.Grammar.{Class, superclasses_of}
+use Rattle.attr_rules.specs.declared.dispatch.Reach.TheVariants.{Own}
 use Rattle.attr_rules.specs.declared.kinds.Kind.TheVariants as kinds
 use Rattle.attr_rules.specs.Expression.{Expression, Truth as TruthLiteral, Int as IntLiteral, This, Call, And, Or}
 use Rattle.attr_rules.specs.Rules.{Attribute as Declared, Equation, plain_attribute}
@@ -35,7 +36,7 @@ attributes =
 
 -- the equation of an attribute at N
 abbrev at_n : ℕ → Expression → Equation
-at_n a body = record { target = record { class = record { 0 = 0 }; attribute = record { 0 = a } }; body = body }
+at_n a body = record { target = record { class = record { 0 = 0 }; reach = Own; attribute = record { 0 = a } }; body = body }
 
 abbrev equations : List Equation
 equations =

@@ -1,21 +1,24 @@
 -- The equations of the instances of a program, and the solution.
-use Rattle.std.specs.Prelude.{ℕ, ℤ, pos, negsuc, List, [], Bool, false, not, ◌==◌, Option, Some, None, slice_get, slice_index_or}
+use Rattle.std.specs.Prelude.{ℕ, zero, suc, ℤ, pos, negsuc, List, [], ◌∷◌, Bool, false, cond, Option, Some, None, slice_get, slice_index_or}
 use Rattle.std.specs.Int.{int_wrap}
-use Rattle.std.specs.Option.{option_and_then, option_map}
+use Rattle.std.specs.Option.{option_and_then, option_map, option_or}
 use mir.Syntax.{w32}
 use Rattle.ast_grammar.specs.declared.grammar.ClassId.{ClassId}
+use Rattle.attr_rules.specs.declared.dispatch.Reach.{Reach}
+use Rattle.attr_rules.specs.declared.dispatch.Reach.TheVariants.{Own, Component, Children}
+use Rattle.attr_rules.specs.declared.kinds.Attr.{Attr}
 use Rattle.attr_rules.specs.declared.kinds.Kind.{Kind}
 use Rattle.attr_rules.specs.declared.kinds.Kind.TheVariants as kinds
 use Rattle.attr_rules.specs.Expression.{Expression}
 use Rattle.attr_rules.specs.Queries.{Query as Asked}
-use Rattle.attr_rules.specs.Rules.{Equation, equation_number}
+use Rattle.attr_rules.specs.Rules.{Equation, covering_number, equation_number, is_inherited}
 use Rattle.attr_rules.specs.Types.{is_below}
 use Rattle.solutions.specs.Asking.{Demands, Gives, next}
 use Rattle.solutions.specs.Rounds.{Equations, HasValue as HasValueOf}
-use Rattle.tree_arena.specs.Nodes.{child_in, count_in, token_in}
+use Rattle.tree_arena.specs.Nodes.{Node as TreeNode, child_in, component_in, count_in, index_in, parent_in, token_in}
 use Rattle.equation_law.specs.Codes.{value_at}
 use Rattle.equation_law.specs.Names.{NodeName, Source, Reference, Null, At, NoArguments, Instance, Attribute, Query, same_instance}
-use Rattle.equation_law.specs.Values.{Value, Truth, Int, Text, Node, as_kind, default_of}
+use Rattle.equation_law.specs.Values.{Value, Int, Node, as_kind, default_of}
 use Rattle.equation_law.specs.Program.{Program, declared_of, class_of}
 use Rattle.equation_law.specs.Meaning.{World, Place, meaning_of}
 
@@ -24,6 +27,10 @@ pub record Site : Type 0 where
   pub body : Expression
   pub kind : Kind
   pub place : Place
+
+abbrev pub number_or_zero : Option ℕ → ℕ
+number_or_zero None = 0
+number_or_zero (Some n) = n
 
 abbrev pub kind_or_truth : Option Kind → Kind
 kind_or_truth None = kinds.Truth
@@ -90,11 +97,59 @@ place_at k = record { this = At (Source k); names = [] }
 abbrev pub site_at : Program → ℕ → ℕ → Equation → Site
 site_at p a k e = record { body = e.body; kind = attribute_kind p a; place = place_at k }
 
--- The equation of an instance. That of an attribute at a node is the one of the node's class, read at the node;
--- that of a query is the query's expression, read at the root.
+-- the equation of a synthesized attribute at a node: that of the node's class, read at the node
+abbrev pub synthesized_site : Program → ℕ → ℕ → Option Site
+synthesized_site p a k = option_map (site_at p a k) (option_and_then (equation_for p a) (class_of p k))
+
+abbrev pub followed : Option ℕ → (ℕ → List ℕ) → List ℕ
+followed None further = []
+followed (Some n) further = further n
+
+-- a node and its ancestors, the closest first; they are at most so many and one, and a node has no more of them than its number says
+abbrev pub upwards_from : ℕ → List TreeNode → ℕ → List ℕ
+upwards_from zero tree n = n ∷ []
+upwards_from (suc most) tree n = n ∷ followed (parent_in tree n) (upwards_from most tree)
+
+-- the place of a node among those that hang at the same component
+abbrev pub place_among : Program → ℕ → ℕ
+place_among p n = number_or_zero (index_in p.tree n)
+
+-- what a path binds: over a component it is the place of the node among those that hang there, which has 32 bits
+abbrev pub bound_values : Reach → ℕ → List Value
+bound_values Own i = []
+bound_values (Component k) i = Int (int_wrap w32 (pos i)) ∷ []
+bound_values Children i = []
+
+-- the equation that covers, for an inherited attribute, what hangs at the component of node n: that of the class of node u
+abbrev pub covering_for : Program → ℕ → ℕ → ℕ → Option Equation
+covering_for p a n u = option_and_then (slice_get p.rules.equations) (option_and_then (λ c. option_and_then (λ k. covering_number p.rules c k a) (component_in p.tree n)) (class_of p u))
+
+-- it is read at node u
+abbrev pub site_above : Program → ℕ → ℕ → ℕ → Equation → Site
+site_above p a n u e = record { body = e.body; kind = attribute_kind p a; place = record { this = At (Source u); names = bound_values e.target.reach (place_among p n) } }
+
+-- the equation that covers a node at its parent
+abbrev pub covering_site : Program → ℕ → ℕ → Option Site
+covering_site p a n = option_and_then (λ u. option_map (site_above p a n u) (covering_for p a n u)) (parent_in p.tree n)
+
+-- what the first of some nodes that has something has
+abbrev pub first_site : (ℕ → Option Site) → List ℕ → Option Site
+first_site f [] = None
+first_site f (n ∷ ns) = option_or (f n) (first_site f ns)
+
+-- the equation of an inherited attribute at a node: from the node upwards, that of the closest ancestor which has one that covers the way to it
+abbrev pub inherited_site : Program → ℕ → ℕ → Option Site
+inherited_site p a n = first_site (covering_site p a) (upwards_from n p.tree n)
+
+abbrev pub inherits : Option Attr → Bool
+inherits None = false
+inherits (Some d) = is_inherited d.sort
+
+-- The equation of an instance. That of a synthesized attribute at a node is the one of the node's class, that of an inherited one is found
+-- above the node, and that of a query is the query's expression, read at the root.
 abbrev pub equation_of : Program → Instance → Option Site
 equation_of p (Attribute a Null NoArguments) = None
-equation_of p (Attribute a (At (Source k)) NoArguments) = option_map (site_at p a k) (option_and_then (equation_for p a) (class_of p k))
+equation_of p (Attribute a (At (Source k)) NoArguments) = cond (inherits (declared_of p a)) (inherited_site p a k) (synthesized_site p a k)
 equation_of p (Query q) = option_map (λ e. record { body = e.body; kind = e.kind; place = place_at 0 }) (slice_get p.queries q)
 
 -- what an equation demands; an instance that the program doesn't have counts as null

@@ -32,11 +32,12 @@ pub enum Value {
     NoNodes,
 }
 
-/// An equation with the node at which it is read.
+/// An equation with the node at which it is read, and what its path binds: the place of a node in a list.
 #[derive(Clone, Copy, Debug, PartialEq, Eq)]
 pub struct EqSite {
     pub equation: EqId,
     pub node: NodeRef,
+    pub index: Option<i32>,
 }
 
 impl NodeRef {

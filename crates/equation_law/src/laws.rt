@@ -1,5 +1,5 @@
 // The laws of the solution and of the instances of a program, over the definitions alone.
-ghost use Rattle.std.specs.Prelude.{◌≡◌, ◌↔◌, ◌⊎◌, List, Option, true};
+ghost use Rattle.std.specs.Prelude.{◌≡◌, ◌↔◌, ◌⊎◌, List, Option, IsSome, true};
 ghost use Rattle.solutions.specs.Asking.{Ends, Halts, Meets};
 ghost use Rattle.solutions.specs.Rounds.{Equations, Graph, HasFinalValue, is_in};
 ghost use Rattle.solutions.specs.Leading.{Demanded};
@@ -7,7 +7,7 @@ ghost use Rattle.equation_law.specs.Checked.{Fits, IsInstance, IsProgram, IsValu
 ghost use Rattle.equation_law.specs.Names.{Instance, same_instance};
 ghost use Rattle.equation_law.specs.Values.{Value};
 ghost use Rattle.equation_law.specs.Program.{Program, source_instances};
-ghost use Rattle.equation_law.specs.Equations.{HasValue, equations_of, kind_in};
+ghost use Rattle.equation_law.specs.Equations.{HasValue, equation_of, equations_of, kind_in};
 ghost use Rattle.equation_law.specs.Loops.{Chain, HasLoop};
 
 /// One solution: two lists of instances that give an instance a value give it the same one.
@@ -54,6 +54,12 @@ pub fn demands_instances()
 /// program whose equation ends has a value of its own type. It is stuck otherwise, at an instance that has no value.
 pub fn well_typed_values()
     ensures { (p : Program) → IsProgram p → (i : Instance) → IsInstance p i → (A : Instance → Option Value) → Fits p A → (v : Value) (demands : List Instance) → Ends (Graph A) ((equations_of p).equation i) v demands → IsValue p (kind_in p i) v }
+{}
+
+/// Each instance of a program has an equation. So an inherited attribute is met uncovered in no tree of the grammar: above each node whose
+/// class has it stands an ancestor with an equation that covers the way to the node.
+pub fn instances_have_equations()
+    ensures { (p : Program) → IsProgram p → (i : Instance) → IsInstance p i → IsSome (equation_of p i) }
 {}
 
 /// The instances that are listed are those of the program.

@@ -10,8 +10,9 @@ mod system;
 
 pub use coding::{Code, EqSite, Instance, NodeRef, Value};
 pub use laws::{
-    demands_instances, ended_has_value, finished_rounds, listed_instances, loop_has_no_value,
-    one_solution, reach_is_demanded, stuck_has_none, value_or_loop, well_typed_values,
+    demands_instances, ended_has_value, finished_rounds, instances_have_equations,
+    listed_instances, loop_has_no_value, one_solution, reach_is_demanded, stuck_has_none,
+    value_or_loop, well_typed_values,
 };
 pub use reader::Reader;
 pub use system::{Queries, System};
