@@ -1,53 +1,42 @@
 -- The equation of an instance, from where it is found, and what it comes to.
-use Rattle.std.proofs.Common.{◌≡◌, ℕ, ◌<◌, ◌≤◌, [], ◌++◌, length, Option, Some, None, Result, Ok, Err, sym, ap, subst, ◌∙◌, slice_get}
+use Rattle.std.proofs.Common.{◌≡◌, ℕ, ◌≤◌, true, false, cond, [], ◌++◌, length, Option, Some, None, Result, Ok, Err, sym, ap, subst, ◌∙◌, slice_get}
 use Rattle.std.specs.Option.{option_and_then, option_map}
 use Rattle.std.specs.Result.{IsErr}
 use Rattle.std.proofs.lemmas.Option.{slice_get_past}
 use Rattle.rag_io.specs.declared.Memory.{Memory as NoMemory}
-use Rattle.ast_grammar.specs.declared.grammar.ClassId.{ClassId}
 use Rattle.attr_rules.specs.declared.kinds.Kind.{Kind}
 use Rattle.attr_rules.specs.Expression.{Expression}
 use Rattle.attr_rules.specs.Queries.{Query as Asked}
-use Rattle.attr_rules.specs.Rules.{RuleSet, body_at, equation_number, expression_in}
-use Rattle.attr_rules.proofs.RowLists.{there}
+use Rattle.attr_rules.specs.Rules.{RuleSet, body_at}
 use Rattle.solutions.specs.Asking.{Demands, Ends, Gives, gives}
 use Rattle.equation_law.specs.declared.coding.EqSite.{EqSite}
 use Rattle.equation_law.specs.declared.coding.Value.{Value as CodedValue}
 use Rattle.equation_law.specs.Codes.{reference_of, value_of}
-use Rattle.equation_law.specs.Equations.{Site, attribute_kind, equation_for, equation_of, equations_of, place_at, site_at, site_demands, text_of, world_of}
+use Rattle.equation_law.specs.Equations.{Site, attribute_kind, equation_for, equation_of, equations_of, inherited_site, inherits, place_at, site_at, site_demands, synthesized_site, text_of, world_of}
 use Rattle.equation_law.specs.Meaning.{Place, meaning_of}
 use Rattle.equation_law.specs.Names.{At, Attribute, Instance, NoArguments, Null, Query, Reference, Source}
-use Rattle.equation_law.specs.Program.{Program, class_of}
+use Rattle.equation_law.specs.Program.{Program, class_of, declared_of}
 use Rattle.equation_law.specs.Reading.{Grows, IsSound, Told}
 use Rattle.equation_law.specs.Values.{Node, Value, as_kind}
+use Rattle.equation_law.proofs.Above.{inherited_above}
 use Rattle.equation_law.proofs.Lists.{some_of}
+use Rattle.inherited_walk.specs.Sites.{IsSite, site_place}
 use Rattle.expr_eval.specs.declared.evaluation.Halt.{Halt}
 use Rattle.expr_eval.specs.declared.evaluation.Halt.TheVariants.{Need, Memory}
 use Rattle.expr_eval.specs.declared.sites.Turn.{Turn}
 use Rattle.expr_eval.specs.declared.sites.Turn.TheVariants as turns
 use Rattle.expr_eval.specs.Evaluating.{AnswersTurn, Evaluates, Reads, read_at}
-use Rattle.expr_eval.specs.Sites.{IsSite, IsTurned, TurnAs, expression_or_null, query_reads, site_place, site_reads}
+use Rattle.expr_eval.specs.Sites.{IsTurned, TurnAs, expression_or_null, query_reads, site_reads}
 use Rattle.expr_eval.proofs.Forms.{ends_next, gives_value, grows_self, halts_first}
-
--- a place without names
-abbrev at_reference : Reference → Place
-at_reference r = record { this = r; names = [] }
-
--- the equation of an attribute at a node
-pub site_found : (p : Program) (rules : RuleSet) (a n m e : ℕ) (c : ClassId) → At (Source m) ≡ reference_of n → Some c ≡ class_of p m → rules ≡ p.rules → Some e ≡ equation_number rules c a → e < length rules.equations
-    → (x : Site) × (equation_of p (Attribute a (reference_of n) NoArguments) ≡ Some x) × IsSite p (record { equation = record { 0 = e }; node = record { 0 = n } }) x
-site_found p rules a n m e c at of same number within =
-    let found = there p.rules.equations e (subst (λ (r : RuleSet). e < length r.equations) same within) in
-    let is : Some e ≡ equation_number p.rules c a = subst (λ (r : RuleSet). Some e ≡ equation_number r c a) same number in
-    let whole : equation_of p (Attribute a (At (Source m)) NoArguments) ≡ Some (site_at p a m found.0) =
-    ap (λ (o : Option ClassId). option_map (site_at p a m) (option_and_then (equation_for p a) o)) (sym of) ∙ ap (λ (o : Option ℕ). option_map (site_at p a m) (option_and_then (slice_get p.rules.equations) o)) (sym is) ∙ ap (option_map (site_at p a m)) found.1
-    in
-    (site_at p a m found.0, subst (λ (r : Reference). equation_of p (Attribute a r NoArguments) ≡ Some (site_at p a m found.0)) at whole, record { body = ap (option_map expression_in) found.1; place = ap at_reference at })
 
 -- the type of its value is that of the attribute
 pub attribute_site_kind : (p : Program) (a : ℕ) (r : Reference) (x : Site) → equation_of p (Attribute a r NoArguments) ≡ Some x → attribute_kind p a ≡ x.kind
 attribute_site_kind p a Null x e = cc
-attribute_site_kind p a (At (Source k)) x e = let found = some_of (site_at p a k) (option_and_then (equation_for p a) (class_of p k)) x e in ap (λ (s : Site). s.kind) found.2
+attribute_site_kind p a (At (Source k)) x e =
+    elim (inherits (declared_of p a)) as (λ b. cond b (inherited_site p a k) (synthesized_site p a k) ≡ Some x → attribute_kind p a ≡ x.kind) [
+      | true ↦ λ h. let above = inherited_above p a k x h in ap (λ (s : Site). s.kind) above.is
+      | false ↦ λ h. let found = some_of (site_at p a k) (option_and_then (equation_for p a) (class_of p k)) x h in ap (λ (s : Site). s.kind) found.2
+    ] e
 
 module _ {S : Type 0} (p : Program) (r s : Told S) where
   -- want of memory says nothing

@@ -9,9 +9,9 @@ use Rattle.attr_rules.specs.Rules.{body_at}
 use Rattle.solutions.specs.Asking.{Demands}
 use Rattle.equation_law.specs.declared.coding.EqSite.{EqSite}
 use Rattle.equation_law.specs.declared.coding.Value.{Value as CodedValue}
-use Rattle.equation_law.specs.Codes.{reference_of, value_of}
-use Rattle.equation_law.specs.Equations.{Site, equation_of, place_at}
-use Rattle.equation_law.specs.Meaning.{Place}
+use Rattle.equation_law.specs.Codes.{value_of}
+use Rattle.equation_law.specs.Equations.{place_at}
+use Rattle.inherited_walk.specs.Sites.{site_place}
 use Rattle.equation_law.specs.Names.{Instance}
 use Rattle.equation_law.specs.Program.{Program}
 use Rattle.equation_law.specs.Values.{Value, as_kind}
@@ -21,25 +21,11 @@ use Rattle.expr_eval.specs.declared.sites.Turn.{Turn}
 use Rattle.expr_eval.specs.declared.sites.Turn.TheVariants as turns
 use Rattle.expr_eval.specs.Evaluating.{read_at}
 
--- where the equation of a site is read
-abbrev pub site_place : EqSite → Place
-site_place s = record { this = reference_of s.node.0; names = [] }
-
--- an equation by its number, with the node at which it is read
-pub record IsSite (p : Program) (s : EqSite) (site : Site) : Type 0 where
-  pub body : body_at p.rules s.equation.0 ≡ Some site.body
-  pub place : site.place ≡ site_place s
-
--- it is found exactly where the instance has one
-abbrev pub IsEquationOf : Program → Instance → Option EqSite → Type 0
-IsEquationOf p i None = equation_of p i ≡ None
-IsEquationOf p i (Some s) = (site : Site) × (equation_of p i ≡ Some site) × IsSite p s site
-
 abbrev pub expression_or_null : Option Expression → Expression
 expression_or_null None = NullLiteral
 expression_or_null (Some e) = e
 
--- what an equation demands that is read at a node
+-- what an equation demands where it is read
 abbrev pub site_reads : Program → EqSite → Demands Instance Value
 site_reads p s = read_at p (site_place s) (expression_or_null (body_at p.rules s.equation.0))
 

@@ -7,4 +7,4 @@ mod evaluation;
 mod operators;
 mod sites;
 
-pub use sites::{Turn, equation_of, evaluate, evaluate_instance, evaluate_query, kind_of};
+pub use sites::{Turn, evaluate, evaluate_instance, evaluate_query, kind_of};

@@ -6,16 +6,15 @@ ghost use Rattle.attr_rules.specs.Rules.{body_at};
 ghost use Rattle.equation_law.specs.Codes.{instance_of, reference_of};
 ghost use Rattle.equation_law.specs.Equations.{equations_of, kind_in};
 ghost use Rattle.equation_law.specs.Names.{Attribute, NoArguments, Query};
-ghost use Rattle.equation_law.specs.Program.{class_of};
 ghost use Rattle.equation_law.specs.Reading.{IsSound};
 ghost use Rattle.equation_law.specs.Systems.{program_of};
 ghost use Rattle.expr_eval.specs.Evaluating.{Evaluates};
-ghost use Rattle.expr_eval.specs.Sites.{IsEquationOf, IsTurned, TurnAs, query_reads, site_reads};
+ghost use Rattle.expr_eval.specs.Sites.{IsTurned, TurnAs, query_reads, site_reads};
 
 use crate::evaluation::{Context, Halt, attribute_kind, meaning};
-use ast_grammar::ClassId;
 use attr_rules::{AttrId, Kind};
 use equation_law::{EqSite, Instance, NodeRef, Reader, System, Value};
+use inherited_walk::find_equation;
 use rag_io::Memory;
 use std::alloc::Global;
 
@@ -61,28 +60,6 @@ pub fn kind_of(system: &System, i: &Instance) -> Kind
     }
 }
 
-/// The class of a source node, if there is one of this number.
-fn class_at(system: &System, node: u32) -> Option<ClassId>
-    ensures { result ≡ class_of (program_of system.now) node }
-{
-    let tree = system.tree();
-    if node < tree.len() {
-        Some(tree.class_of(node))
-    } else {
-        None
-    }
-}
-
-/// The equation of an attribute at a node: that of the nearest class, from the node's class upwards, read at the node. It takes constant
-/// time and no memory, and answers None where the node's class doesn't have the attribute, or lacks an equation for it.
-pub fn equation_of(system: &System, attr: AttrId, node: NodeRef) -> Option<EqSite>
-    ensures { IsEquationOf (program_of system.now) (Attribute attr.0 (reference_of node.0) NoArguments) result }
-{
-    let class = class_at(system, node.source()?)?;
-    let equation = system.rules().syn_equation(class, attr)?;
-    Some(EqSite { equation, node })
-}
-
 /// What an evaluation of an expression is to callers.
 fn turned(came: Result<Value, Halt>) -> Result<Turn, Memory>
     ensures { IsTurned came result }
@@ -106,11 +83,16 @@ pub fn evaluate<R: Reader>(
     requires sound { IsSound (program_of system.now) (R.tells reader.old) }
     ensures { Evaluates (program_of system.now) (R.tells reader.old) (R.tells reader.new) (site_reads (program_of system.now) site.now) result }
 {
+    let bound = [Value::Int(site.index.unwrap_or(0))];
+    let names: &[Value] = match site.index {
+        Some(_) => &bound,
+        None => &[],
+    };
     let context = Context {
         alloc,
         system,
         this: site.node,
-        names: &[],
+        names,
     };
     turned(meaning(&context, system.rules().body(site.equation), reader))
 }
@@ -146,7 +128,7 @@ fn evaluate_attribute<R: Reader>(
     requires { IsSound (program_of system.now) (R.tells reader.old) }
     ensures { Evaluates (program_of system.now) (R.tells reader.old) (R.tells reader.new) ((equations_of (program_of system.now)).equation (Attribute attr.0 (reference_of node.0) NoArguments)) result }
 {
-    match equation_of(system, attr, node) {
+    match find_equation(system, attr, node) {
         None => Ok(Turn::Done(Value::Node(NodeRef(0)))),
         Some(site) => {
             let turn = evaluate(alloc, system, &site, reader)?;

@@ -1,0 +1,18 @@
+use Rattle.std.proofs.Common.{◌≡◌, Option, Some, None, IsSome}
+use Rattle.equation_law.specs.Equations.{Site, equation_of}
+use Rattle.equation_law.specs.Names.{Attribute, NoArguments}
+use Rattle.equation_law.specs.Codes.{reference_of}
+use Rattle.equation_law.specs.Systems.{program_of}
+use Rattle.equation_law.proofs.Demanded.{has_equation}
+use Rattle.inherited_walk.proofs.walk.equation_of.Goals as goal
+
+-- what is something isn't nothing
+not_nothing : (o : Option Site) → IsSome o → o ≡ None → ⊥
+not_nothing None h e = absurd (cc)
+not_nothing (Some s) h e = absurd (cc)
+
+pub unreachable-requires : goal.unreachable-requires
+unreachable-requires c =
+    let p = program_of c.args.system.now in
+    let i = Attribute c.args.attr.0 (reference_of c.args.node.0) NoArguments in
+    not_nothing (equation_of p i) (has_equation p c.requires.program i c.requires.instance) c.in-None.ensures
