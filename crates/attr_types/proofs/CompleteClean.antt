@@ -10,7 +10,7 @@ use Rattle.ast_grammar.specs.declared.grammar.ClassId.{ClassId}
 use Rattle.ast_grammar.specs.Grammar.{Class, abstract_in, is_sub, superclasses_of}
 use Rattle.attr_rules.specs.declared.dispatch.Target.{Target}
 use Rattle.attr_rules.specs.declared.kinds.Attr.{Attr}
-use Rattle.attr_rules.specs.Rules.{IsConcrete, attribute_at, declared_at, declared_of, equation_number, nearest_equation, target_in}
+use Rattle.attr_rules.specs.Rules.{IsConcrete, attribute_at, declared_at, declared_of, equation_number, is_inherited, nearest_equation, target_in}
 use Rattle.attr_types.specs.Completeness.{complete_broken, is_concrete, is_concrete_of, is_missing, missing_broken}
 use Rattle.attr_types.specs.Heads.{attribute_of, attributes_of, class_numbers}
 use Rattle.attr_types.specs.Phases.{equation_of, rules_of}
@@ -54,9 +54,9 @@ module _ (g : List Class) (targets : List Target) where
       some_is nearest (there_is (is_concrete g c) (is_sub g c (attribute_of g s).declared.class.0) (is_none nearest) (ap is_concrete_of concrete) is_below not_here)
 
 pub complete_rules : (g : List Class) (items : List Item) → complete_broken g (targets_of g (attributes_of g (declarations items)) (givens items)) (declarations items) ≡ []
-    → (c : ClassId) (a : ℕ) (d : Attr) → IsConcrete g c.0 → attribute_at (rules_of g items) a ≡ Some d → is_sub g c.0 d.class.0 ≡ true → IsSome (equation_number (rules_of g items) c a)
+    → (c : ClassId) (a : ℕ) (d : Attr) → IsConcrete g c.0 → attribute_at (rules_of g items) a ≡ Some d → is_inherited d.sort ≡ false → is_sub g c.0 d.class.0 ≡ true → IsSome (equation_number (rules_of g items) c a)
 unfolding rules_of
-complete_rules g items none c a d concrete declared below =
+complete_rules g items none c a d concrete declared sort below =
     let attributes = attributes_of g (declarations items) in
     let same = same_targets (equation_of g attributes) target_in (target_given g attributes) (givens items) (λ e. refl) in
     subst (λ targets. IsSome (nearest_equation (superclasses_of g) targets c.0 a)) (sym same)

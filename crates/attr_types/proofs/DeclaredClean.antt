@@ -12,7 +12,8 @@ use Rattle.ast_grammar.specs.Grammar.{Class as ClassOf, class_named}
 use Rattle.jrag_reader.specs.Expressions.{Name}
 use Rattle.jrag_reader.specs.Built.{all_built, has_none, is_built_body, is_built_item, is_not_circular, is_plain}
 use Rattle.jrag_reader.specs.Items.{Item, Declared, Inherits, Equates, Collects, Contributes, Synthesized, TypeName, Boolean, Integer, String, Class, WrittenType}
-use Rattle.attr_rules.specs.Rules.{IsAttribute, is_single, most_attributes}
+use Rattle.attr_rules.specs.declared.kinds.Attr.{Attr}
+use Rattle.attr_rules.specs.Rules.{IsAttribute, declared_at, declared_of, is_inherited, is_single, most_attributes}
 use Rattle.attr_rules.specs.Types.{kind_class}
 use Rattle.ast_grammar.specs.declared.grammar.ClassId.{ClassId}
 use Rattle.attr_rules.specs.declared.kinds.Kind.{Kind}
@@ -117,3 +118,10 @@ module _ (g : List ClassOf) where
       let from = built_found declared_in items i found.0 built found.1 in
       let kept = type_kept g found.0.of (plain_in from.item found.0 from.built from.gives) (head_there (declarations items) i found.0 none found.1).of in
       subst (IsAttribute g) found.2 (declared_attribute found.0 class.0 class.1 kept))
+
+-- none of them is inherited
+pub none_inherited : (g : List ClassOf) (list : List Synthesized) (a : ℕ) (d : Attr) → declared_at (attributes_of g list) a ≡ Some d → is_inherited d.sort ≡ false
+none_inherited g list a d e =
+    let at = some_from declared_of (slice_get (attributes_of g list) a) d e in
+    let found = map_found (attribute_of g) list a at.0 at.1 in
+    subst (λ (x : Attr). is_inherited x.sort ≡ false) (ap declared_of found.2 ∙ at.2) refl

@@ -1,5 +1,5 @@
 -- What holds of equations of built items that break nothing.
-use Rattle.std.proofs.Common.{◌≡◌, List, [], All, ◌&&◌, true, not, Option, Some, None, map, option_map, refl, ap, sym, ◌∙◌, subst}
+use Rattle.std.proofs.Common.{◌≡◌, ℕ, List, [], All, ◌&&◌, true, false, not, Option, Some, None, map, option_map, refl, ap, sym, ◌∙◌, subst}
 use Rattle.std.proofs.lemmas.Bool.{and_parts}
 use Rattle.broken_rules.proofs.Clean.{append_none, flat_map_found}
 use Rattle.ast_grammar.specs.Grammar.{Class}
@@ -9,7 +9,9 @@ use Rattle.jrag_reader.specs.Items.{Item, Declared, Inherits, Equates, Collects,
 use Rattle.attr_types.specs.declared.standing.Stands.TheVariants.{Anywhere}
 use Rattle.attr_types.specs.Bodies.{expr_broken, misfit}
 use Rattle.attr_types.specs.Phases.{bodies_broken, equation_broken, equation_of, kind_or_truth, scope_of, wanted_by}
-use Rattle.attr_rules.specs.Rules.{Attribute, IsEquation}
+use Rattle.attr_rules.specs.declared.kinds.Attr.{Attr}
+use Rattle.attr_rules.specs.Rules.{Attribute, GivesValue, IsEquation, declared_at, is_inherited, names_for}
+use Rattle.attr_rules.specs.Typing.{HasType}
 use Rattle.attr_types.specs.Targets.{target_given, targets_broken}
 use Rattle.attr_types.specs.Typed.{known}
 use Rattle.attr_rules.specs.Types.{fits}
@@ -39,7 +41,7 @@ built_in (Equates f) e built is =
 built_in (Collects c) e built is = absurd (cc)
 built_in (Contributes c) e built is = absurd (cc)
 
-module _ (g : List Class) (attributes : List Attribute) where
+module _ (g : List Class) (attributes : List Attribute) (none_inherited : (a : ℕ) (d : Attr) → declared_at attributes a ≡ Some d → is_inherited d.sort ≡ false) where
   equation_there : (e : Given) → IsFound g attributes (target_given g attributes e) → is_built e.body ≡ true → equation_broken g attributes e ≡ [] → IsEquation g attributes (equation_of g attributes e)
   equation_there e target built none =
       let scope = scope_of g attributes (target_given g attributes e) in
@@ -51,9 +53,9 @@ module _ (g : List Class) (attributes : List Attribute) where
         within = target.within;
         attribute = target.has.attribute;
         declared = target.has.declared;
-        has = target.has.has;
+        gives = subst (λ r. GivesValue g (target_given g attributes e).class r target.has.attribute) (sym target.reach) (target.has.has, none_inherited (target_given g attributes e).attribute.0 target.has.attribute target.has.declared);
         type = body.type;
-        typed = body.typed;
+        typed = subst (λ r. HasType (names_for g attributes (target_given g attributes e).class r) (equation_of g attributes e).body body.type) (sym target.reach) body.typed;
         fit = ap (λ o. fits g body.type (kind_or_truth o)) (sym target.has.declared) ∙ fits_wanted;
       }
 

@@ -1,5 +1,5 @@
 -- What holds of equations whose heads break nothing.
-use Rattle.std.proofs.Common.{◌≡◌, ℕ, ◌<◌, List, [], ◌&&◌, true, Some, is_none, All, length, slice_get, take, ap, sym, ◌∙◌, subst, arith}
+use Rattle.std.proofs.Common.{◌≡◌, ℕ, ◌<◌, List, [], ◌&&◌, true, Some, is_none, All, length, slice_get, take, refl, ap, sym, ◌∙◌, subst, arith}
 use Rattle.std.specs.Option.{option_and_then, option_map}
 use Rattle.std.specs.Str.{bytes_eq}
 use Rattle.std.proofs.lemmas.Bool.{and_parts}
@@ -12,6 +12,7 @@ use Rattle.ast_grammar.proofs.Inherited.{length-superclasses_of}
 use Rattle.ast_grammar.specs.declared.grammar.ClassId.{ClassId}
 use Rattle.ast_grammar.specs.Grammar.{Class, class_named, is_sub, superclasses_of}
 use Rattle.attr_rules.specs.Dispatching.{IsTarget}
+use Rattle.attr_rules.specs.declared.dispatch.Reach.TheVariants.{Own}
 use Rattle.attr_rules.specs.declared.dispatch.Target.{Target}
 use Rattle.attr_rules.specs.declared.kinds.Attr.{Attr}
 use Rattle.attr_rules.specs.Rules.{Attribute, attribute_named, declared_at, declared_of}
@@ -30,6 +31,7 @@ pub record HasAttribute (g : List Class) (attributes : List Attribute) (c a : �
 -- A target is that of an attribute which a class of the grammar has.
 pub record IsFound (g : List Class) (attributes : List Attribute) (t : Target) : Type 0 where
   pub within : t.class.0 < length g
+  pub reach : t.reach ≡ Own
   pub has : HasAttribute g attributes t.class.0 t.attribute.0
 
 module _ (g : List Class) (attributes : List Attribute) where
@@ -58,6 +60,7 @@ module _ (g : List Class) (attributes : List Attribute) where
       let is : target_of g attributes e ≡ Some (target c attribute.0) = ap (option_and_then (target_for g attributes e.attribute.text)) class.1 ∙ ap (option_map (target c)) attribute.1 in
       subst (λ o. IsFound g attributes (target_or_first o)) (sym is) (record {
         within = class_within g e.class.text c class.1;
+        reach = refl;
         has = named_has (record { 0 = c }) e.attribute.text attribute.0 attribute.1;
       })
 

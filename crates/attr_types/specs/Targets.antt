@@ -1,13 +1,14 @@
 -- The rules on what equations are for: J2, J5 and J6.
-use Rattle.std.specs.Prelude.{ℕ, List, [], ◌++◌, Bool, false, Option, Some, None, is_none, map}
+use Rattle.std.specs.Prelude.{ℕ, ◌==◌, ◌&&◌, List, [], ◌++◌, Bool, false, Option, Some, None, is_none, map}
 use Rattle.std.specs.List.{list_any}
 use Rattle.std.specs.Option.{option_and_then, option_map}
 use Rattle.broken_rules.specs.declared.broken.Broken.{Broken}
 use Rattle.broken_rules.specs.declared.rule.Rule.TheVariants.{J5, J6}
 use Rattle.broken_rules.specs.Notes.{at, broken_if, each_after}
 use Rattle.ast_grammar.specs.Grammar.{Class, class_named, superclasses_of}
+use Rattle.attr_rules.specs.declared.dispatch.Reach.TheVariants.{Own}
 use Rattle.attr_rules.specs.declared.dispatch.Target.{Target}
-use Rattle.attr_rules.specs.Rules.{Attribute, attribute_named, is_target}
+use Rattle.attr_rules.specs.Rules.{Attribute, attribute_named}
 use Rattle.attr_types.specs.Heads.{class_broken}
 use Rattle.jrag_reader.specs.Expressions.{Name}
 use Rattle.attr_types.specs.Written.{Given}
@@ -17,7 +18,7 @@ abbrev pub attribute_for : List Class → List Attribute → List ℕ → ℕ �
 attribute_for g attributes name c = attribute_named (superclasses_of g) attributes (record { 0 = c }) name
 
 abbrev pub target : ℕ → ℕ → Target
-target c a = record { class = record { 0 = c }; attribute = record { 0 = a } }
+target c a = record { class = record { 0 = c }; reach = Own; attribute = record { 0 = a } }
 
 -- what an equation is for, where there is such a class, and it has such an attribute
 abbrev pub target_for : List Class → List Attribute → List ℕ → ℕ → Option Target
@@ -28,7 +29,7 @@ target_of g attributes e = option_and_then (target_for g attributes e.attribute.
 
 abbrev pub is_same : Target → Option Target → Bool
 is_same t None = false
-is_same t (Some u) = is_target t.class.0 t.attribute.0 u
+is_same t (Some u) = (u.class.0 == t.class.0) && (u.attribute.0 == t.attribute.0)
 
 -- J5: the class has no such attribute
 abbrev pub lacking_broken : List Class → List Attribute → Name → Option ℕ → List Broken

@@ -13,7 +13,7 @@ ghost use Rattle.jrag_reader.specs.Expressions.{seen_name};
 use crate::heads::check_class;
 use crate::written::Given;
 use ast_grammar::{ClassId, Grammar};
-use attr_rules::{AttrId, Attributes, Target};
+use attr_rules::{AttrId, Attributes, Reach, Target};
 use broken_rules::{Earliest, ReadFault, Rule};
 use jrag_reader::Name;
 use rag_io::Memory;
@@ -23,6 +23,7 @@ use std::collections::HashSet;
 // What stands for what a refused equation is for.
 const FIRST: Target = Target {
     class: ClassId(0),
+    reach: Reach::Own,
     attribute: AttrId(0),
 };
 
@@ -49,6 +50,7 @@ fn check_target(
     faults.note_if(attribute.is_none(), Rule::J5, equation.attribute.place);
     Some(Target {
         class,
+        reach: Reach::Own,
         attribute: attribute?,
     })
 }

@@ -1,4 +1,5 @@
 mod expressions;
+mod inherited;
 mod program;
 mod rounds;
 

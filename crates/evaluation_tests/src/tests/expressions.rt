@@ -10,7 +10,7 @@ use expr_eval::{Turn, evaluate, evaluate_query};
 
 // A reader that has no value.
 #[derive(Clone, Copy)]
-struct Nothing;
+pub(super) struct Nothing;
 
 impl Reader for Nothing {
     ghost use Rattle.evaluation_tests.specs.Nothing.{nothing};
@@ -518,6 +518,7 @@ fn check_sites(rt: &impl Abort, alloc: Global, system: &System) -> Result<(), Fa
         let site = EqSite {
             equation: EqId(4),
             node: NodeRef(node),
+            index: None,
         };
         let turn = evaluate(alloc, system, &site, &mut nothing)?;
         assert_eq!(rt; turn, Turn::Done(Value::Text(text)), "node {node}");

@@ -6,6 +6,7 @@ ghost use Rattle.attr_rules.specs.Dispatching.{IsTarget};
 ghost use Rattle.attr_rules.specs.KeptEquations.{kept_target};
 ghost use Rattle.tree_arena.specs.Kept.{node_of};
 ghost use Rattle.tree_arena.specs.Terms.{IsTree};
+ghost use Rattle.rag_io.specs.Outside.{longest_file};
 ghost use Rattle.equation_law.specs.Program.{most_replies};
 ghost use Rattle.attr_rules.specs.Queries.{query_of};
 ghost use Rattle.equation_law.specs.Systems.{program_of};
@@ -13,8 +14,8 @@ ghost use Rattle.equation_law.specs.Systems.{program_of};
 use super::*;
 use ast_grammar::{ClassId, Grammar, read_ast};
 use attr_rules::{
-    Attr, AttrId, Attributes, Dispatch, KeptEquation, Kind, NamedAttr, Operator, QueryEq, Rules,
-    TExpr, Target,
+    Attr, AttrId, Attributes, Dispatch, KeptEquation, Kind, NamedAttr, Operator, QueryEq, Reach,
+    Rules, TExpr, Target,
 };
 use equation_law::Queries;
 use rag_io::{Memory, Pool, scan};
@@ -61,7 +62,11 @@ fn push_equation(
 ) -> Result<(), Fail> {
     let class = ClassId(class);
     list.push(KeptEquation {
-        target: Target { class, attribute },
+        target: Target {
+            class,
+            reach: Reach::Own,
+            attribute,
+        },
         body,
     })?;
     Ok(())
@@ -120,9 +125,15 @@ fn are_targets(grammar: &Grammar, attributes: u32, targets: &[Target]) -> bool
     true
 }
 
-fn rules(alloc: Global, grammar: &Grammar) -> Result<Rules, Fail> {
-    let attributes = attributes(alloc, grammar)?;
-    let equations = equations(alloc)?;
+// The rules of these attributes and equations.
+pub(super) fn rules_of(
+    alloc: Global,
+    grammar: &Grammar,
+    attributes: Attributes,
+    equations: Vec<KeptEquation>,
+) -> Result<Rules, Fail>
+    requires { attributes.superclasses ≡ superclasses_of grammar.now }
+{
     let targets = targets(alloc, &equations)?;
     if !are_targets(grammar, attributes.len(), &targets) {
         return Err("no targets".into());
@@ -131,20 +142,26 @@ fn rules(alloc: Global, grammar: &Grammar) -> Result<Rules, Fail> {
     Ok(Rules::of_parts(attributes, dispatch, equations))
 }
 
-// Adds a node that hangs at the root: its class, the component at which it hangs, and its codes.
-fn add_node(
+fn rules(alloc: Global, grammar: &Grammar) -> Result<Rules, Fail> {
+    let attributes = attributes(alloc, grammar)?;
+    rules_of(alloc, grammar, attributes, equations(alloc)?)
+}
+
+// Adds a node: its class, the node and the component at which it hangs, and its codes.
+pub(super) fn add_node(
     alloc: Global,
     list: &mut Vec<FirstNode>,
     class: u16,
+    parent: u32,
     component: u32,
     codes: &[u32],
 ) -> Result<(), Fail>
-    ensures { OnOk result (map node_of list.new.items ≡ map node_of list.old.items ++ record { class = record { 0 = class }; parent = 0; component = component; tokens = codes.now } ∷ []) }
+    ensures { OnOk result (map node_of list.new.items ≡ map node_of list.old.items ++ record { class = record { 0 = class }; parent = parent; component = component; tokens = codes.now } ∷ []) }
 {
     let tokens = Tokens::of(Vec::from_slice(alloc, codes)?);
     list.push(FirstNode {
         class: ClassId(class),
-        parent: 0,
+        parent,
         component,
         tokens,
     })?;
@@ -156,11 +173,11 @@ fn nodes(alloc: Global) -> Result<Vec<FirstNode>, Fail>
     ensures { IfOk result (λ list. IsTree (map node_of list.items)) }
 {
     let mut list = Vec::new(alloc);
-    add_node(alloc, &mut list, 0, 0, &[0, 0, 0, 0, 0])?;
-    add_node(alloc, &mut list, 2, 0, &[4294967291, 1, 1])?;
-    add_node(alloc, &mut list, 3, 1, &[7, 2, 0])?;
-    add_node(alloc, &mut list, 4, 3, &[1, 1, 0])?;
-    add_node(alloc, &mut list, 3, 3, &[2, 0, 1])?;
+    add_node(alloc, &mut list, 0, 0, 0, &[0, 0, 0, 0, 0])?;
+    add_node(alloc, &mut list, 2, 0, 0, &[4294967291, 1, 1])?;
+    add_node(alloc, &mut list, 3, 0, 1, &[7, 2, 0])?;
+    add_node(alloc, &mut list, 4, 0, 3, &[1, 1, 0])?;
+    add_node(alloc, &mut list, 3, 0, 3, &[2, 0, 1])?;
     Ok(list)
 }
 
@@ -169,12 +186,18 @@ fn tree(alloc: Global) -> Result<Tree, Fail> {
     Ok(Tree::of_nodes(alloc, nodes)?)
 }
 
+pub(super) fn grammar_of(alloc: Global, text: &[u8]) -> Result<Grammar, Fail>
+    requires { length text.now ≤ longest_file }
+{
+    let tokens = scan(alloc, text)?;
+    Ok(read_ast(alloc, &tokens).ok().ok_or("no grammar")?)
+}
+
 fn grammar(alloc: Global) -> Result<Grammar, Fail> {
-    let tokens = scan(
+    grammar_of(
         alloc,
         b"P ::= l:E [o:E] [n:E] s:E* e:E*; abstract E ::= <V:int> <T:String> <F:boolean>; A : E; B : E; C : A;".as_slice(),
-    )?;
-    Ok(read_ast(alloc, &tokens).ok().ok_or("no grammar")?)
+    )
 }
 
 // The empty text, "x" and "y".

@@ -1,4 +1,4 @@
-use Rattle.std.proofs.Common.{◌≡◌, List, [], ◌∷◌, ◌++◌, Some, None, true, false, arith, map, codes, refl, sym, ap, subst, ◌∙◌}
+use Rattle.std.proofs.Common.{List, [], ◌∷◌, Some, None, true, false, arith, map, codes, refl, sym, ap, subst}
 use Rattle.superclasses.specs.Superclasses.{line_of}
 use Rattle.ast_grammar.specs.declared.grammar.Shape.TheVariants as shapes
 use Rattle.ast_grammar.specs.Grammar.{Class, Component, superclasses_of}
@@ -7,6 +7,7 @@ use Rattle.tree_arena.specs.Kept.{node_of}
 use Rattle.tree_arena.specs.Nodes.{Node}
 use Rattle.tree_arena.specs.Terms.{Empty, Fits, Forest, IsTree, Tree, element, none, one, over, root, token}
 use Rattle.tree_arena.proofs.Counted.{few_tested}
+use Rattle.evaluation_tests.proofs.Adding.{more}
 use Rattle.evaluation_tests.proofs.tests.program.nodes.Goals as goal
 
 -- `P ::= l:E [o:E] [n:E] s:E* e:E*; abstract E ::= <V:int> <T:String> <F:boolean>; A : E; B : E; C : A;`
@@ -88,10 +89,6 @@ five_nodes = record {
     few = omega arith;
   };
 }
-
--- a node more
-more : (old new : List FirstNode) {seen : List Node} (x : Node) → map node_of new ≡ map node_of old ++ x ∷ [] → map node_of old ≡ seen → map node_of new ≡ seen ++ x ∷ []
-more old new x e h = e ∙ ap (λ (xs : List Node). xs ++ x ∷ []) h
 
 pub returns : goal.returns
 returns c =
