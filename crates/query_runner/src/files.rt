@@ -292,8 +292,9 @@ pub(crate) fn counts_text(alloc: Global, contents: &PairContents) -> Result<Vec<
         Ok(aspects) => aspects,
         Err(fault) => return Err(broken_file(FileKind::Jrag, fault)),
     };
-    match read_rules(alloc, &grammar, &aspects) {
-        Ok(rules) => Ok(line_of(alloc, counted(&grammar, &rules, &aspects))?),
-        Err(unread) => Err(refusal_of(FileKind::Jrag, unread)),
-    }
+    let counts = match read_rules(alloc, &grammar, &aspects) {
+        Ok(rules) => counted(&grammar, &rules, &aspects),
+        Err(unread) => return Err(refusal_of(FileKind::Jrag, unread)),
+    };
+    Ok(line_of(alloc, counts)?)
 }

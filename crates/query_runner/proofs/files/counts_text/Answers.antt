@@ -17,8 +17,8 @@ returns-in-Err-read_written-clause-refused c =
     (written_there c.read_written.new.pool c.in_ok-pool.ensures.said c.deref-2.ensures.value (Err fault) c.in-Err-read_written.ensures)
     c.broken_file-in-Err-read_written.ensures
 
-pub returns-clause-refused : goal.returns-clause-refused
-returns-clause-refused c =
+pub returns-in-Err-read_rules-clause-refused : goal.returns-in-Err-read_rules-clause-refused
+returns-in-Err-read_rules-clause-refused c =
     check_rules_refused (seen_pair c.args.contents.now) c.refusal_of.result c.in-Err-read_rules.unread
     (subst (λ (b : List ℕ). ReadsGrammar b c.in-Ok.grammar) c.deref.ensures.value c.in-Ok.ensures)
     (written_there c.read_written.new.pool c.in_ok-pool.ensures.said c.deref-2.ensures.value (Ok c.in-Ok-read_written.aspects) c.in-Ok-read_written.ensures)
