@@ -16,7 +16,7 @@ use Rattle.attr_rules.specs.Dispatching.{ArePaths, KeepsFirst, kept_path}
 use Rattle.attr_rules.specs.Rules.{is_target, number_of_equation, same_reach}
 use Rattle.attr_rules.proofs.FirstPlaces.{or_none, position_push}
 
-same_as : (r q : Reach) → reaches.ghosts.eq r q ≡ same_reach r q
+pub same_as : (r q : Reach) → reaches.ghosts.eq r q ≡ same_reach r q
 same_as Own Own = refl
 same_as Own (AtComponent k) = refl
 same_as Own Children = refl
@@ -27,11 +27,11 @@ same_as Children Own = refl
 same_as Children (AtComponent k) = refl
 same_as Children Children = refl
 
-turned : (a b : ℕ) → (a == b) ≡ (b == a)
+pub turned : (a b : ℕ) → (a == b) ≡ (b == a)
 turned a b = grind (arith, nat_tests)
 
 -- which of two comes first makes no difference
-reach_turned : (r q : Reach) → same_reach r q ≡ same_reach q r
+pub reach_turned : (r q : Reach) → same_reach r q ≡ same_reach q r
 reach_turned Own Own = refl
 reach_turned Own (AtComponent k) = refl
 reach_turned Own Children = refl
@@ -53,7 +53,7 @@ same_reach_is Children Own e = absurd cc
 same_reach_is Children (AtComponent k) e = absurd cc
 same_reach_is Children Children e = refl
 
-swap : (a b c : Bool) → (a && (b && c)) ≡ (b && (a && c))
+pub swap : (a b c : Bool) → (a && (b && c)) ≡ (b && (a && c))
 swap true true c = refl
 swap true false c = refl
 swap false true c = refl

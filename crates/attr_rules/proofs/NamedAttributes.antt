@@ -131,3 +131,20 @@ module _ (superclasses : List (Option ℕ)) (names : List (List ℕ)) (kept : Li
 
     pub first_known : (d : KeptAttr) {o : Option AttrId} → slice_get kept a ≡ Some d → o ≡ at_place inherited d.name → option_map number_of_attribute o ≡ first_of_name set.attributes a
     first_known d {o} here is = ap (option_map number_of_attribute) is ∙ first_of_number d.name (name_within a d here) ∙ first_there here
+
+  module _ (set : AttributeSet) (seen : record { superclasses = superclasses; attributes = attributes_in names kept } ≡ set) (name : List ℕ) where
+    -- the first inherited attribute of a name, by its number, if it has one
+    none_inherited : number_of names name ≡ None → first_inherited (attributes_in names kept) name ≡ None
+    none_inherited none =
+        position-map (attribute_in names) (λ a. is_inherited a.declared.sort && bytes_eq a.name name) kept
+        ∙ position_none (λ a. is_inherited a.declared.sort && bytes_eq (text_at names a.name) name) kept (λ k d h.
+        and_right (is_inherited (get_or kept k d).declared.sort) _ (other_text names are.numbered.pooled name (get_or kept k d).name (are.numbered.within k d h) none))
+
+    pub unknown_inherited : {o : Option AttrId} → o ≡ None → number_of names name ≡ None → option_map number_of_attribute o ≡ first_inherited set.attributes name
+    unknown_inherited {o} is none = ap (option_map number_of_attribute) is ∙ sym (none_inherited none) ∙ ap (λ (s : AttributeSet). first_inherited s.attributes name) seen
+
+    pub known_inherited : (m : ℕ) {o : Option AttrId} → o ≡ at_place inherited m → number_of names name ≡ Some m → option_map number_of_attribute o ≡ first_inherited set.attributes name
+    known_inherited m {o} is some =
+        let there : slice_get names m ≡ Some name = text_of_number name names m some in
+        ap (option_map number_of_attribute) is ∙ first_of_number m (slice_get_within names m name there) ∙ ap (first_inherited (attributes_in names kept)) (ap text_or_empty there)
+        ∙ ap (λ (s : AttributeSet). first_inherited s.attributes name) seen

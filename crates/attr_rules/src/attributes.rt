@@ -5,7 +5,7 @@ ghost use Rattle.attr_rules.specs.KeptEquations.{seen_attribute};
 ghost use Rattle.rag_io.specs.Pool.{most_texts};
 ghost use Rattle.ast_grammar.specs.Grammar.{superclasses_of};
 ghost use Rattle.attr_rules.specs.KeptAttributes.{AreFirstInherited, AreNumbered, AreRows, Extends, IsRow, attributes_in};
-ghost use Rattle.attr_rules.specs.Rules.{attribute_named, declared_at, first_of_name, most_attributes, number_of_attribute};
+ghost use Rattle.attr_rules.specs.Rules.{attribute_named, declared_at, first_inherited, first_of_name, most_attributes, number_of_attribute};
 
 use crate::kinds::{Attr, AttrId};
 use crate::rows::{at_place, at_row, put_first};
@@ -202,6 +202,14 @@ impl Attributes {
     {
         let attribute = self.kept.get(a.0 as usize)?;
         at_place(&self.inherited, attribute.name as usize)
+    }
+
+    /// The first inherited attribute of this name, or None where there is none. It takes the time of one look-up.
+    pub fn find_inherited(&self, name: &[u8]) -> Option<AttrId>
+        ensures { option_map number_of_attribute result ≡ first_inherited self.now.attributes name.now }
+    {
+        let name = self.names.find(name)?;
+        at_place(&self.inherited, name as usize)
     }
 
     /// Which classes are subclasses of which.
