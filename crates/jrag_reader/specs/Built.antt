@@ -1,10 +1,11 @@
--- Which items and expressions are built so far: those that synthesized attributes of single values without parameters need.
+-- Which items and expressions are built so far: those that synthesized and inherited attributes of single values without parameters need.
 use Rattle.std.specs.Prelude.{ℕ, List, [], ◌∷◌, Bool, true, false, not, ◌&&◌, Option, Some, None, codes}
+use Rattle.std.specs.Option.{unwrap_or}
 use Rattle.rag_io.specs.Words.{is_one_of}
 use Rattle.jrag_reader.specs.declared.expression.Quantifier.{Quantifier}
 use Rattle.jrag_reader.specs.declared.expression.Quantifier.TheVariants as forms
 use Rattle.jrag_reader.specs.Expressions.{Expr, Arguments, no_more, argument, Truth, Null, Empty, This, Int, Text, Source, Variable, Call, Member, New, Quantified, Group, Cast, Not, Negate, Binary, InstanceOf, If}
-use Rattle.jrag_reader.specs.Items.{WrittenType, Parameter, Signature, Circular, Synthesized, Equation, Item, Declared, Inherits, Equates, Collects, Contributes}
+use Rattle.jrag_reader.specs.Items.{WrittenType, Parameter, Signature, Circular, Synthesized, Inherited, Equation, Item, Declared, Inherits, Equates, Collects, Contributes}
 
 -- the words of the forms on sets, which are calls without receiver
 abbrev pub set_forms : List (List ℕ)
@@ -62,21 +63,25 @@ abbrev pub is_not_circular : Option Circular → Bool
 is_not_circular None = true
 is_not_circular (Some c) = false
 
-abbrev pub has_no_path : Option Signature → Bool
-has_no_path None = true
-has_no_path (Some s) = false
-
 -- a declaration without `nta`, `circular` and parameters, of a type that is no set
 abbrev pub is_built_declaration : Synthesized → Bool
 is_built_declaration s = not s.higher_order && (is_plain s.of && (has_none s.signature && (is_not_circular s.circular && is_built_body s.body)))
 
--- an equation without path and parameters
+-- the same of an inherited attribute
+abbrev pub is_built_inherited : Inherited → Bool
+is_built_inherited i = is_plain i.of && (has_none i.signature && is_not_circular i.circular)
+
+-- the signature of the attribute that an equation gives a value to: of the inherited attribute, where there is a path to it
+abbrev pub own_signature : Equation → Signature
+own_signature e = unwrap_or e.inherited e.signature
+
+-- an equation of an attribute without parameters; a path may have them
 abbrev pub is_built_equation : Equation → Bool
-is_built_equation e = has_none e.signature && (has_no_path e.inherited && is_built e.body)
+is_built_equation e = has_none (own_signature e) && is_built e.body
 
 abbrev pub is_built_item : Item → Bool
 is_built_item (Declared s) = is_built_declaration s
-is_built_item (Inherits i) = false
+is_built_item (Inherits i) = is_built_inherited i
 is_built_item (Equates e) = is_built_equation e
 is_built_item (Collects c) = false
 is_built_item (Contributes c) = false

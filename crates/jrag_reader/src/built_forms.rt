@@ -1,13 +1,13 @@
-// Which items are built so far: those that synthesized attributes of single values without parameters need.
+// Which items are built so far: those that synthesized and inherited attributes of single values without parameters need.
 ghost use Rattle.std.specs.Prelude.{◌≡◌, map};
 ghost use Rattle.rag_io.specs.Words.{is_one_of};
-ghost use Rattle.jrag_reader.specs.Built.{all_built, are_built, has_none, is_built, is_built_declaration, is_built_equation, is_built_item, is_plain, gives_one, set_forms};
+ghost use Rattle.jrag_reader.specs.Built.{all_built, are_built, has_none, is_built, is_built_declaration, is_built_equation, is_built_inherited, is_built_item, is_plain, gives_one, own_signature, set_forms};
 ghost use Rattle.jrag_reader.specs.Expressions.{arguments_of, seen_expr};
-ghost use Rattle.jrag_reader.specs.Items.{seen_aspects, seen_equation, seen_item, seen_signature, seen_synthesized, seen_type};
+ghost use Rattle.jrag_reader.specs.Items.{seen_aspects, seen_equation, seen_inherited, seen_item, seen_signature, seen_synthesized, seen_type};
 
 use crate::aspects::Aspects;
 use crate::expression::{Expr, Quantifier};
-use crate::items::{Equation, Item, Signature, Synthesized, Type};
+use crate::items::{Equation, Inherited, Item, Signature, Synthesized, Type};
 
 // The word of a form on sets, which is a call without receiver.
 fn is_set_form(text: &[u8]) -> bool
@@ -102,10 +102,24 @@ fn is_built_declaration(declared: &Synthesized) -> bool
         }
 }
 
+fn is_built_inherited(declared: &Inherited) -> bool
+    ensures { result ≡ is_built_inherited (seen_inherited declared.now) }
+{
+    is_plain(&declared.of) && has_none(&declared.signature) && declared.circular.is_none()
+}
+
+// The signature of the attribute that the equation gives a value to.
+fn own_signature(equation: &Equation) -> &Signature
+    ensures { seen_signature result.now ≡ own_signature (seen_equation equation.now) }
+{
+    equation.inherited.as_ref().unwrap_or(&equation.signature)
+}
+
+// An equation of an attribute without parameters; a path may have them.
 fn is_built_equation(equation: &Equation) -> bool
     ensures { result ≡ is_built_equation (seen_equation equation.now) }
 {
-    has_none(&equation.signature) && equation.inherited.is_none() && is_built_expr(&equation.body)
+    has_none(own_signature(equation)) && is_built_expr(&equation.body)
 }
 
 fn is_built_item(item: &Item) -> bool
@@ -113,13 +127,15 @@ fn is_built_item(item: &Item) -> bool
 {
     match item {
         Item::Synthesized(declared) => is_built_declaration(declared),
+        Item::Inherited(declared) => is_built_inherited(declared),
         Item::Equation(equation) => is_built_equation(equation),
-        Item::Inherited(_) | Item::Collection(_) | Item::Contribution(_) => false,
+        Item::Collection(_) | Item::Contribution(_) => false,
     }
 }
 
-/// Whether every form is built so far: items `syn` without `nta`, `circular` and parameters, of any type but sets, and `eq` without path and
-/// parameters; expressions without `new`, `empty`, `each` and the forms on sets.
+/// Whether every form is built so far: items `syn` and `inh` without `nta`, `circular` and parameters, of any type but sets; `eq` of an
+/// attribute without parameters, without a path or with one, which may have parameters; expressions without `new`, `empty`, `each` and the
+/// forms on sets.
 pub fn built(aspects: &Aspects) -> bool
     ensures { result ≡ all_built (seen_aspects aspects.now) }
 {

@@ -2,7 +2,7 @@
 use super::*;
 use jrag_reader::built;
 
-const BUILT: [&str; 27] = [
+const BUILT: [&str; 36] = [
     "",
     "syn int N.v();",
     "syn int N.v() = 1;",
@@ -30,9 +30,19 @@ const BUILT: [&str; 27] = [
     "eq N.v() = (x instanceof N) == y;",
     "eq N.v() = !any(x : r | b);",
     "eq N.v() = all(x : any(y : r | b) | c);",
+    // Inherited attributes and paths.
+    "inh int N.v();",
+    "inh lazy boolean N.v();",
+    "inh N N.v();",
+    "eq N.getM().v() = 1;",
+    "eq N.getM(int i).v() = i;",
+    "eq N.getM(Set<N> s, M m).v() = 1;",
+    "eq N.getChild().v() = 1;",
+    "inh int N.v(); eq N.v() = 1;",
+    "eq N.v() = 1; inh int N.v(); eq N.getM(int i).v() = i; inh N M.w();",
 ];
 
-const NOT_BUILT: [&str; 53] = [
+const NOT_BUILT: [&str; 61] = [
     // Declarations and items.
     "syn nta N N.v();",
     "syn nta int N.v();",
@@ -42,11 +52,15 @@ const NOT_BUILT: [&str; 53] = [
     "syn Set<N> N.v();",
     "syn boolean N.v() circular [false];",
     "syn boolean N.v() circular [false] = true;",
-    "inh int N.v();",
+    "inh int N.v(int i);",
+    "inh Set<String> N.v();",
+    "inh Set<N> N.v();",
+    "inh boolean N.v() circular [false];",
+    "inh lazy Set<N> N.v(N n) circular [empty];",
     "eq N.v(int i) = 1;",
-    "eq N.getM().v() = 1;",
-    "eq N.getM(int i).v() = 1;",
     "eq N.getM().v(int i) = 1;",
+    "eq N.getM(int i).v(int j) = 1;",
+    "eq N.getChild().v(int i) = 1;",
     "coll int N.v() [0];",
     "N contributes 1 to M.v() for this;",
     // Expressions.
@@ -61,6 +75,8 @@ const NOT_BUILT: [&str; 53] = [
     "eq N.v() = size(a);",
     "eq N.v() = size();",
     "syn int N.v() = empty;",
+    "eq N.getM().v() = empty;",
+    "eq N.getM(int i).v() = empty;",
     // The same inside of others.
     "eq N.v() = (empty);",
     "eq N.v() = !empty;",
@@ -86,8 +102,10 @@ const NOT_BUILT: [&str; 53] = [
     "eq N.v() = all(x : size(a) | b);",
     "eq N.v() = first(x : r | each(y : s | b) == c);",
     // Among others.
-    "inh int N.v(); eq N.v() = 1;",
-    "eq N.v() = 1; inh int N.v();",
+    "inh int N.v(int i); inh int N.w();",
+    "inh int N.w(); inh int N.v(int i);",
+    "coll int N.v() [0]; eq N.v() = 1;",
+    "eq N.v() = 1; coll int N.v() [0];",
     "eq N.v() = 1; eq N.v() = empty; eq N.v() = 1;",
     "eq N.v() = 1; } aspect B { eq N.v() = empty;",
 ];
