@@ -10,8 +10,9 @@ use Rattle.attr_types.specs.Heads.{attribute_of, attributes_of}
 use Rattle.attr_types.specs.Phases.{phases_of, rules_of}
 use Rattle.attr_rules.specs.Rules.{AreRules}
 use Rattle.attr_types.specs.Written.{declarations}
-use Rattle.attr_types.proofs.CompleteClean.{complete_rules}
-use Rattle.attr_types.proofs.DeclaredClean.{declared_attributes, few_declared, none_inherited}
+use Rattle.attr_types.proofs.CompleteClean.{complete_rules, covered_rules}
+use Rattle.attr_types.proofs.DeclaredClean.{declared_attributes, few_declared}
+use Rattle.attr_types.proofs.AlikeClean.{alike}
 use Rattle.attr_types.proofs.EquationsClean.{equations_there}
 
 pub accepted : (g : List Class) (items : List Item) → IsGrammar g → all_built items ≡ true → Answers (phases_of g items) None → AreRules g (rules_of g items)
@@ -25,8 +26,8 @@ accepted g items grammar built answer =
       superclasses = refl;
       few = omega (arith, few_declared g (declarations items) heads.0, length-map (declarations items) (attribute_of g));
       attributes = declared_attributes g items built heads.0;
-      equations = equations_there g (attributes_of g (declarations items)) (none_inherited g (declarations items)) items built targets.0 bodies.0;
+      equations = equations_there g (attributes_of g (declarations items)) items built targets.0 bodies.0;
       complete = complete_rules g items complete.0;
-      alike = λ a b d e declared inherited named other. let never = none_inherited g (declarations items) a d declared in absurd (cc);
-      covered = λ c a d declared inherited concrete has uncovered. let never = none_inherited g (declarations items) a d declared in absurd (cc);
+      alike = alike g (declarations items) heads.0;
+      covered = covered_rules g items complete.0;
     }

@@ -1,7 +1,7 @@
 -- What a check of aspects says, by what its phases gave.
 use Rattle.std.proofs.Common.{◌≡◌, ℕ, All, List, [], ◌∷◌, map, length, Option, None, sym, ap, subst, ◌∙◌}
-use Rattle.std.specs.Borrow.{Bor}
 use Rattle.std.proofs.lemmas.Simd.{map-map}
+use Rattle.rag_io.specs.declared.token.Place.{Place}
 use Rattle.ast_grammar.specs.Grammar.{Class, superclasses_of}
 use Rattle.broken_rules.specs.declared.broken.Broken.{Broken}
 use Rattle.broken_rules.specs.declared.broken.ReadFault.{ReadFault}
@@ -12,21 +12,21 @@ use Rattle.broken_rules.proofs.Exits.{refuses_here, refuses_later}
 use Rattle.broken_rules.proofs.Order.{none_is}
 use Rattle.jrag_reader.specs.declared.aspects.Aspects as memory
 use Rattle.jrag_reader.specs.declared.items.Item as memory_item
-use Rattle.jrag_reader.specs.declared.items.Synthesized as memory_head
-use Rattle.jrag_reader.specs.Items.{Item, Synthesized, seen_aspects, seen_item, seen_synthesized}
+use Rattle.jrag_reader.specs.Items.{Item, seen_aspects, seen_item}
 use Rattle.attr_rules.specs.declared.dispatch.Dispatch.{Dispatch}
 use Rattle.attr_rules.specs.declared.dispatch.Target.{Target}
 use Rattle.attr_rules.specs.declared.rules.KeptEquation.{KeptEquation}
 use Rattle.attr_types.specs.declared.written.Given as kept_given
-use Rattle.attr_types.specs.Completeness.{complete_broken}
+use Rattle.attr_types.specs.declared.written.Head as kept_head
+use Rattle.attr_types.specs.Completeness.{complete_broken, places_of}
 use Rattle.attr_rules.specs.Dispatching.{Dispatches, IsTarget}
 use Rattle.attr_types.specs.Heads.{attributes_of, heads_broken}
 use Rattle.attr_rules.specs.KeptEquations.{equation_in, kept_target}
 use Rattle.attr_types.specs.Phases.{bodies_broken, equation_of, phases_of, rules_of}
 use Rattle.attr_rules.specs.Rules.{Attribute, AttributeSet, Equation, RuleSet}
-use Rattle.attr_types.specs.Seen.{seen_given}
+use Rattle.attr_types.specs.Seen.{seen_given, seen_head}
 use Rattle.attr_types.specs.Targets.{targets_broken, targets_of}
-use Rattle.attr_types.specs.Written.{Given, declarations, givens}
+use Rattle.attr_types.specs.Written.{Given, Head, declarations, givens}
 use Rattle.attr_types.proofs.TargetsClean.{targets_within}
 
 -- the same list of broken rules
@@ -38,7 +38,7 @@ stops_too e is h = subst (λ bs. Stops bs e) is h
 
 module _ (g : List Class) (items : List Item) where
   -- what the items say
-  abbrev pub all_heads : List Synthesized
+  abbrev pub all_heads : List Head
   all_heads = declarations items
 
   abbrev pub all_attributes : List Attribute
@@ -58,19 +58,19 @@ module _ (g : List Class) (items : List Item) where
   second_list = targets_broken g all_attributes all_givens
 
   abbrev third_list : List Broken
-  third_list = complete_broken g all_targets all_heads
+  third_list = complete_broken g all_attributes all_targets (places_of all_heads)
 
   abbrev fourth_list : List Broken
   fourth_list = bodies_broken g all_attributes all_givens
 
-  pub first_is : {hs : List Synthesized} → hs ≡ all_heads → heads_broken g hs ≡ first_list
+  pub first_is : {hs : List Head} → hs ≡ all_heads → heads_broken g hs ≡ first_list
   first_is heads = ap (heads_broken g) heads
 
   pub second_is : {attributes : List Attribute} {es : List Given} → attributes ≡ all_attributes → es ≡ all_givens → targets_broken g attributes es ≡ second_list
   second_is attributes es = (λ i. targets_broken g (attributes i) (es i))
 
-  pub third_is : {ts : List Target} {hs : List Synthesized} → ts ≡ all_targets → hs ≡ all_heads → complete_broken g ts hs ≡ third_list
-  third_is ts hs = (λ i. complete_broken g (ts i) (hs i))
+  pub third_is : {attributes : List Attribute} {ts : List Target} {hs : List Head} {places : List Place} → attributes ≡ all_attributes → ts ≡ all_targets → hs ≡ all_heads → places ≡ places_of hs → complete_broken g attributes ts places ≡ third_list
+  third_is attributes ts hs places = (λ i. complete_broken g (attributes i) (ts i) ((places ∙ ap places_of hs) i))
 
   pub fourth_is : {attributes : List Attribute} {es : List Given} → attributes ≡ all_attributes → es ≡ all_givens → bodies_broken g attributes es ≡ fourth_list
   fourth_is attributes es = (λ i. bodies_broken g (attributes i) (es i))
@@ -109,9 +109,9 @@ module _ (g : List Class) (items : List Item) where
       is ∙ (λ i. record { superclasses = (known i).superclasses; attributes = (known i).attributes; equations = (bodies ∙ (λ j. map (equation_of g (known j).attributes) (given j))) i })
 
 -- what was read of the items, through copies of the lists
-pub heads_read : (aspects : memory.Aspects) {items : List memory_item.Item} {list heads : List (Bor memory_head.Synthesized)}
-    → items ≡ aspects.items.items → map (λ (s : Bor memory_head.Synthesized). seen_synthesized s.now) list ≡ declarations (map seen_item items) → heads ≡ list → map (λ (s : Bor memory_head.Synthesized). seen_synthesized s.now) heads ≡ declarations (seen_aspects aspects)
-heads_read aspects copied are copied_again = ap (map (λ (s : Bor memory_head.Synthesized). seen_synthesized s.now)) copied_again ∙ are ∙ ap (λ items. declarations (map seen_item items)) copied
+pub heads_read : (aspects : memory.Aspects) {items : List memory_item.Item} {list heads : List kept_head.Head}
+    → items ≡ aspects.items.items → map seen_head list ≡ declarations (map seen_item items) → heads ≡ list → map seen_head heads ≡ declarations (seen_aspects aspects)
+heads_read aspects copied are copied_again = ap (map seen_head) copied_again ∙ are ∙ ap (λ items. declarations (map seen_item items)) copied
 
 pub givens_read : (aspects : memory.Aspects) {items : List memory_item.Item} {list given : List kept_given.Given} → items ≡ aspects.items.items → map seen_given list ≡ givens (map seen_item items) → given ≡ list → map seen_given given ≡ givens (seen_aspects aspects)
 givens_read aspects copied are copied_again = ap (map seen_given) copied_again ∙ are ∙ ap (λ items. givens (map seen_item items)) copied

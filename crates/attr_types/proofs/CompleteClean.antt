@@ -1,23 +1,28 @@
 -- What holds of equations that lack none.
-use Rattle.std.proofs.Common.{◌≡◌, ℕ, ◌<◌, List, [], ◌∷◌, ◌&&◌, Bool, true, false, Option, Some, None, IsSome, is_none, length, map, slice_get, refl, ap, sym, ◌∙◌, subst, zero-add}
+use Rattle.std.proofs.Common.{◌≡◌, ℕ, ◌<◌, List, [], ◌∷◌, ◌&&◌, Bool, true, false, Option, Some, None, IsSome, is_none, length, get_or, map, slice_get, refl, ap, sym, ◌∙◌, subst, zero-add, arith}
 use Rattle.std.specs.List.{list_any}
-use Rattle.std.specs.Option.{option_map}
-use Rattle.std.proofs.lemmas.Option.{slice_get_within}
+use Rattle.std.proofs.lemmas.List.{length-map}
+use Rattle.std.proofs.lemmas.Option.{slice_get-get_or, slice_get_within}
+use Rattle.rag_io.specs.declared.token.Place.{Place}
 use Rattle.broken_rules.specs.Notes.{at}
-use Rattle.broken_rules.specs.declared.rule.Rule.TheVariants.{J7}
+use Rattle.broken_rules.specs.declared.rule.Rule.TheVariants.{J7, J8}
 use Rattle.broken_rules.proofs.Clean.{each_from_found, not_broken}
 use Rattle.ast_grammar.specs.declared.grammar.ClassId.{ClassId}
-use Rattle.ast_grammar.specs.Grammar.{Class, abstract_in, is_sub, superclasses_of}
+use Rattle.ast_grammar.specs.Grammar.{Class, is_sub, superclasses_of}
 use Rattle.attr_rules.specs.declared.dispatch.Target.{Target}
 use Rattle.attr_rules.specs.declared.kinds.Attr.{Attr}
-use Rattle.attr_rules.specs.Rules.{IsConcrete, attribute_at, declared_at, declared_of, equation_number, is_inherited, nearest_equation, target_in}
-use Rattle.attr_types.specs.Completeness.{complete_broken, is_concrete, is_concrete_of, is_missing, missing_broken}
+use Rattle.attr_rules.specs.Rules.{Attribute, IsConcrete, Uncovered, attribute_at, declared_at, declared_of, equation_number, first_of_name, is_inherited, nearest_equation, target_in}
+use Rattle.attr_types.specs.Completeness.{complete_broken, is_missing, is_open, lacking, missing_broken, open_broken, place_of, places_of}
+use Rattle.attr_types.specs.Covering.{covers, is_concrete, is_concrete_of, is_covered, is_uncovered}
 use Rattle.attr_types.specs.Heads.{attribute_of, attributes_of, class_numbers}
 use Rattle.attr_types.specs.Phases.{equation_of, rules_of}
 use Rattle.attr_types.specs.Targets.{target_given, targets_of}
 use Rattle.attr_types.specs.Written.{declarations, givens}
-use Rattle.jrag_reader.specs.Items.{Item, Synthesized}
-use Rattle.attr_types.proofs.ItemsFound.{map_found, range_fails, some_from}
+use Rattle.jrag_reader.specs.Items.{Item}
+use Rattle.attr_types.proofs.Completing.{lacking_by}
+use Rattle.attr_types.proofs.ItemsFound.{range_fails, some_from}
+use Rattle.attr_types.proofs.Rounds.{concrete_within}
+use Rattle.attr_types.proofs.UncoveredClasses.{all_found}
 
 -- the targets of equations are those that the list gives
 same_targets : {X Y Z : Type 0} (f : X → Y) (t : Y → Z) (h : X → Z) (xs : List X) → ((x : X) → t (f x) ≡ h x) → map t (map f xs) ≡ map h xs
@@ -32,32 +37,68 @@ some_is : {X : Type 0} (o : Option X) → is_none o ≡ false → IsSome o
 some_is None e = absurd (cc)
 some_is (Some x) e = refl
 
-concrete_within : (g : List Class) (c : ℕ) (o : Option Class) → slice_get g c ≡ o → option_map abstract_in o ≡ Some false → c < length g
-concrete_within g c None e concrete = absurd (cc)
-concrete_within g c (Some x) e concrete = slice_get_within g c x e
+-- nor can one that is uncovered
+there_is_none : (sub uncovered : Bool) → sub ≡ true → uncovered ≡ true → (sub && uncovered) ≡ false → ⊥
+there_is_none sub uncovered s u e = let never : true ≡ false = sym (λ i. s i && u i) ∙ e in absurd (cc)
 
-module _ (g : List Class) (targets : List Target) where
-  -- each concrete class has an equation for each of its attributes
-  nearest_there : (list : List Synthesized) (c a : ℕ) (d : Attr) → complete_broken g targets list ≡ [] → IsConcrete g c → declared_at (attributes_of g list) a ≡ Some d → is_sub g c d.class.0 ≡ true
-      → IsSome (nearest_equation (superclasses_of g) targets c a)
-  nearest_there list c a d none concrete declared below =
-      let attribute = some_from declared_of (slice_get (attributes_of g list) a) d declared in
-      let found = map_found (attribute_of g) list a attribute.0 attribute.1 in
-      let s = found.0 in
-      let missing = is_missing g targets a (attribute_of g s).declared.class.0 in
-      let nowhere : list_any missing (class_numbers g) ≡ false =
-      not_broken (list_any missing (class_numbers g)) (at s.signature.name.place J7) (each_from_found (missing_broken g targets) list a s none found.1) in
-      let not_here : missing c ≡ false = subst (λ n. missing n ≡ false) (zero-add c) (range_fails missing 0 (length g) c nowhere (concrete_within g c (slice_get g c) refl concrete)) in
-      let declares : (attribute_of g s).declared ≡ d = ap declared_of found.2 ∙ attribute.2 in
-      let is_below : is_sub g c (attribute_of g s).declared.class.0 ≡ true = ap (λ (x : Attr). is_sub g c x.class.0) declares ∙ below in
+module _ (g : List Class) (attributes : List Attribute) (targets : List Target) (places : List Place) (even : length attributes ≡ length places) (none : complete_broken g attributes targets places ≡ []) where
+  abbrev nowhere : Place
+  nowhere = record { line = 0; column = 0 }
+
+  -- an attribute lacks nothing
+  lacks_none : (a : ℕ) (d : Attr) → declared_at attributes a ≡ Some d → (place : Place) × (lacking g attributes targets a place ≡ [])
+  lacks_none a d declared =
+      let attribute = some_from declared_of (slice_get attributes a) d declared in
+      let within : a < length places = omega (arith, slice_get_within attributes a attribute.0 attribute.1) in
+      (get_or places a nowhere, each_from_found (lacking g attributes targets) places a (get_or places a nowhere) none (slice_get-get_or places a nowhere within))
+
+  -- a test that no class passes
+  no_class : (test : ℕ → Bool) (c : ℕ) → list_any test (class_numbers g) ≡ false → IsConcrete g c → test c ≡ false
+  no_class test c none concrete = subst (λ n. test n ≡ false) (zero-add c) (range_fails test 0 (length g) c none (concrete_within g c (ap is_concrete_of concrete)))
+
+  -- each concrete class has an equation for each of its attributes that aren't inherited
+  nearest_there : (c a : ℕ) (d : Attr) → IsConcrete g c → declared_at attributes a ≡ Some d → is_inherited d.sort ≡ false → is_sub g c d.class.0 ≡ true → IsSome (nearest_equation (superclasses_of g) targets c a)
+  nearest_there c a d concrete declared sort below =
+      let lacks = lacks_none a d declared in
+      let missing = is_missing g targets a d.class.0 in
+      let nothing : missing_broken g targets a d.class.0 lacks.0 ≡ [] = sym (lacking_by g attributes targets a lacks.0 d declared sort) ∙ lacks.1 in
+      let not_here = no_class missing c (not_broken (list_any missing (class_numbers g)) (at lacks.0 J7) nothing) concrete in
       let nearest = nearest_equation (superclasses_of g) targets c a in
-      some_is nearest (there_is (is_concrete g c) (is_sub g c (attribute_of g s).declared.class.0) (is_none nearest) (ap is_concrete_of concrete) is_below not_here)
+      some_is nearest (there_is (is_concrete g c) (is_sub g c d.class.0) (is_none nearest) (ap is_concrete_of concrete) below not_here)
 
-pub complete_rules : (g : List Class) (items : List Item) → complete_broken g (targets_of g (attributes_of g (declarations items)) (givens items)) (declarations items) ≡ []
-    → (c : ClassId) (a : ℕ) (d : Attr) → IsConcrete g c.0 → attribute_at (rules_of g items) a ≡ Some d → is_inherited d.sort ≡ false → is_sub g c.0 d.class.0 ≡ true → IsSome (equation_number (rules_of g items) c a)
-unfolding rules_of
-complete_rules g items none c a d concrete declared sort below =
-    let attributes = attributes_of g (declarations items) in
-    let same = same_targets (equation_of g attributes) target_in (target_given g attributes) (givens items) (λ e. refl) in
-    subst (λ targets. IsSome (nearest_equation (superclasses_of g) targets c.0 a)) (sym same)
-    (nearest_there g (targets_of g attributes (givens items)) (declarations items) c.0 a d none concrete declared below)
+  -- and none of them has an inherited one that can be met uncovered there
+  none_open : (c a : ℕ) (d : Attr) → IsConcrete g c → declared_at attributes a ≡ Some d → is_inherited d.sort ≡ true → is_sub g c d.class.0 ≡ true
+      → is_uncovered g (is_covered (superclasses_of g) targets (first_of_name attributes a)) c ≡ true → ⊥
+  none_open c a d concrete declared sort below uncovered =
+      let lacks = lacks_none a d declared in
+      let first = first_of_name attributes a in
+      let test = is_open g targets first d.class.0 in
+      let nothing : open_broken g targets first d.class.0 lacks.0 ≡ [] = sym (lacking_by g attributes targets a lacks.0 d declared sort) ∙ lacks.1 in
+      let not_here = no_class test c (not_broken (list_any test (class_numbers g)) (at lacks.0 J8) nothing) concrete in
+      there_is_none (is_sub g c d.class.0) (is_uncovered g (is_covered (superclasses_of g) targets first) c) below uncovered not_here
+
+module _ (g : List Class) (items : List Item) where
+  -- nothing is broken of the attributes and equations of some items
+  abbrev pub IsComplete : Type 0
+  IsComplete = complete_broken g (attributes_of g (declarations items)) (targets_of g (attributes_of g (declarations items)) (givens items)) (places_of (declarations items)) ≡ []
+
+  a_place_each : length (attributes_of g (declarations items)) ≡ length (places_of (declarations items))
+  a_place_each = length-map (declarations items) (attribute_of g) ∙ sym (length-map (declarations items) place_of)
+
+  targets_again : map target_in (map (equation_of g (attributes_of g (declarations items))) (givens items)) ≡ targets_of g (attributes_of g (declarations items)) (givens items)
+  targets_again = same_targets (equation_of g (attributes_of g (declarations items))) target_in (target_given g (attributes_of g (declarations items))) (givens items) (λ e. refl)
+
+  pub complete_rules : IsComplete → (c : ClassId) (a : ℕ) (d : Attr) → IsConcrete g c.0 → attribute_at (rules_of g items) a ≡ Some d → is_inherited d.sort ≡ false → is_sub g c.0 d.class.0 ≡ true → IsSome (equation_number (rules_of g items) c a)
+  unfolding rules_of
+  complete_rules none c a d concrete declared sort below =
+      let attributes = attributes_of g (declarations items) in
+      subst (λ targets. IsSome (nearest_equation (superclasses_of g) targets c.0 a)) (sym targets_again)
+      (nearest_there g attributes (targets_of g attributes (givens items)) (places_of (declarations items)) a_place_each none c.0 a d concrete declared sort below)
+
+  pub covered_rules : IsComplete → (c : ClassId) (a : ℕ) (d : Attr) → attribute_at (rules_of g items) a ≡ Some d → is_inherited d.sort ≡ true → IsConcrete g c.0 → is_sub g c.0 d.class.0 ≡ true → Uncovered g (rules_of g items) a c.0 → ⊥
+  unfolding rules_of
+  covered_rules none c a d declared sort concrete below uncovered =
+      let attributes = attributes_of g (declarations items) in
+      let met : is_uncovered g (covers (rules_of g items) a) c.0 ≡ true = all_found g (rules_of g items) a c.0 uncovered in
+      let open_there = subst (λ targets. is_uncovered g (is_covered (superclasses_of g) targets (first_of_name attributes a)) c.0 ≡ true) targets_again met in
+      none_open g attributes (targets_of g attributes (givens items)) (places_of (declarations items)) a_place_each none c.0 a d concrete declared sort below open_there

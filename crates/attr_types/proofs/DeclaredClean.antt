@@ -11,15 +11,14 @@ use Rattle.broken_rules.proofs.Clean.{append_none, not_broken}
 use Rattle.ast_grammar.specs.Grammar.{Class as ClassOf, class_named}
 use Rattle.jrag_reader.specs.Expressions.{Name}
 use Rattle.jrag_reader.specs.Built.{all_built, has_none, is_built_body, is_built_item, is_not_circular, is_plain}
-use Rattle.jrag_reader.specs.Items.{Item, Declared, Inherits, Equates, Collects, Contributes, Synthesized, TypeName, Boolean, Integer, String, Class, WrittenType}
-use Rattle.attr_rules.specs.declared.kinds.Attr.{Attr}
-use Rattle.attr_rules.specs.Rules.{IsAttribute, declared_at, declared_of, is_inherited, is_single, most_attributes}
+use Rattle.jrag_reader.specs.Items.{Item, Declared, Inherits, Equates, Collects, Contributes, TypeName, Boolean, Integer, String, Class, WrittenType}
+use Rattle.attr_rules.specs.Rules.{IsAttribute, is_single, most_attributes}
 use Rattle.attr_rules.specs.Types.{kind_class}
 use Rattle.ast_grammar.specs.declared.grammar.ClassId.{ClassId}
 use Rattle.attr_rules.specs.declared.kinds.Kind.{Kind}
 use Rattle.attr_rules.specs.declared.kinds.Kind.TheVariants as kinds
-use Rattle.attr_types.specs.Heads.{again_broken, attribute_of, attributes_of, class_broken, class_or_first, count_broken, class_numbered, head_broken, heads_broken, kind_written, node_kind, set_named, single_named, type_broken, type_written}
-use Rattle.attr_types.specs.Written.{declarations, declared_in}
+use Rattle.attr_types.specs.Heads.{again_broken, attribute_of, attributes_of, class_broken, class_or_first, count_broken, class_numbered, head_broken, heads_broken, kind_written, named_broken, node_kind, other_broken, set_named, single_named, type_broken, type_written}
+use Rattle.attr_types.specs.Written.{Head, declarations, declared_in, inherited_head, synthesized_head}
 use Rattle.attr_types.proofs.ItemsFound.{after_found, all_found, built_found, map_found, position_found, some_from, some_there}
 
 -- a class is named, where the name is that of one
@@ -55,33 +54,38 @@ module _ (g : List ClassOf) where
       let named : single_named g t.name ≡ Some there.0 = ap (λ b. if b then set_named g t.name else single_named g t.name) (sym single) ∙ there.1 in
       subst (λ o. IsKept g (unwrap_or o kinds.Truth)) (sym there.1) (named_kept t.name there.0 named)
 
-plain_in : (item : Item) (s : Synthesized) → is_built_item item ≡ true → declared_in item ≡ Some s → s.of.set ≡ false
-plain_in (Declared t) s built e =
-    let same : t ≡ s = cc in
+plain_in : (item : Item) (h : Head) → is_built_item item ≡ true → declared_in item ≡ Some h → h.of.set ≡ false
+plain_in (Declared t) h built e =
+    let same : synthesized_head t ≡ h = cc in
     let rest = (has_none t.signature && (is_not_circular t.circular && is_built_body t.body)) in
     let plain = (and_parts (is_plain t.of) rest (and_parts (not t.higher_order) (is_plain t.of && rest) built).1).0 in
-    subst (λ (u : Synthesized). u.of.set ≡ false) same (not-true t.of.set plain)
-plain_in (Inherits i) s built e = absurd (cc)
-plain_in (Equates i) s built e = absurd (cc)
-plain_in (Collects c) s built e = absurd (cc)
-plain_in (Contributes c) s built e = absurd (cc)
+    subst (λ (u : Head). u.of.set ≡ false) same (not-true t.of.set plain)
+plain_in (Inherits i) h built e =
+    let same : inherited_head i ≡ h = cc in
+    let plain = (and_parts (is_plain i.of) (has_none i.signature && is_not_circular i.circular) built).0 in
+    subst (λ (u : Head). u.of.set ≡ false) same (not-true i.of.set plain)
+plain_in (Equates i) h built e = absurd (cc)
+plain_in (Collects c) h built e = absurd (cc)
+plain_in (Contributes c) h built e = absurd (cc)
 
 module _ (g : List ClassOf) where
   -- the rules on a declaration, each for itself
-  record IsHead (before : List Synthesized) (s : Synthesized) : Type 0 where
-    of : type_broken g s.of ≡ []
-    class : class_broken g s.class ≡ []
-    count : count_broken before s.signature.name ≡ []
+  pub record IsHead (before : List Head) (s : Head) : Type 0 where
+    pub of : type_broken g s.of ≡ []
+    pub class : class_broken g s.class ≡ []
+    pub count : count_broken before s.signature.name ≡ []
+    pub other : other_broken g before s ≡ []
 
-  head_parts : (before : List Synthesized) (s : Synthesized) → head_broken g before s ≡ [] → IsHead before s
+  head_parts : (before : List Head) (s : Head) → head_broken g before s ≡ [] → IsHead before s
   head_parts before s none =
       let count = count_broken before s.signature.name in
       let named = again_broken g before s ++ count in
-      let of = append_none (type_broken g s.of) (class_broken g s.class ++ named) none in
+      let all = append_none (named_broken g before s) (other_broken g before s) none in
+      let of = append_none (type_broken g s.of) (class_broken g s.class ++ named) all.0 in
       let parts = append_none (class_broken g s.class) named of.1 in
-      record { of = of.0; class = parts.0; count = (append_none (again_broken g before s) count parts.1).1 }
+      record { of = of.0; class = parts.0; count = (append_none (again_broken g before s) count parts.1).1; other = all.1 }
 
-  few_after : (before list : List Synthesized) → each_after (head_broken g) before list ≡ [] → length before ≤ most_attributes → length before + length list ≤ most_attributes
+  few_after : (before list : List Head) → each_after (head_broken g) before list ≡ [] → length before ≤ most_attributes → length before + length list ≤ most_attributes
   few_after before [] none le = omega arith
   few_after before (s ∷ list) none le =
       let first = append_none (head_broken g before s) (each_after (head_broken g) (before ++ s ∷ []) list) none in
@@ -92,18 +96,18 @@ module _ (g : List ClassOf) where
       omega (arith, rest)
 
   -- there are few declarations
-  pub few_declared : (list : List Synthesized) → heads_broken g list ≡ [] → length list ≤ most_attributes
+  pub few_declared : (list : List Head) → heads_broken g list ≡ [] → length list ≤ most_attributes
   few_declared list none = omega (arith, few_after [] list none (omega arith))
 
   -- each breaks nothing
-  head_there : (list : List Synthesized) (i : ℕ) (s : Synthesized) → heads_broken g list ≡ [] → slice_get list i ≡ Some s → IsHead (take i list) s
+  pub head_there : (list : List Head) (i : ℕ) (s : Head) → heads_broken g list ≡ [] → slice_get list i ≡ Some s → IsHead (take i list) s
   head_there list i s none e = head_parts (take i list) s (after_found (head_broken g) list i s none e)
 
   -- and is for one of the classes
-  pub declared_there : (list : List Synthesized) (i : ℕ) (s : Synthesized) → heads_broken g list ≡ [] → slice_get list i ≡ Some s → (c : ℕ) × (class_named g s.class.text ≡ Some c)
+  pub declared_there : (list : List Head) (i : ℕ) (s : Head) → heads_broken g list ≡ [] → slice_get list i ≡ Some s → (c : ℕ) × (class_named g s.class.text ≡ Some c)
   declared_there list i s none e = class_there g s.class (head_there list i s none e).class
 
-  declared_attribute : (s : Synthesized) (c : ℕ) → class_named g s.class.text ≡ Some c → IsKept g (kind_written g s.of) → IsAttribute g (attribute_of g s)
+  declared_attribute : (s : Head) (c : ℕ) → class_named g s.class.text ≡ Some c → IsKept g (kind_written g s.of) → IsAttribute g (attribute_of g s)
   declared_attribute s c e kept = record {
     within = subst (λ o. (class_or_first o).0 < length g) (sym e) (class_within g s.class.text c e);
     single = kept.single;
@@ -118,10 +122,3 @@ module _ (g : List ClassOf) where
       let from = built_found declared_in items i found.0 built found.1 in
       let kept = type_kept g found.0.of (plain_in from.item found.0 from.built from.gives) (head_there (declarations items) i found.0 none found.1).of in
       subst (IsAttribute g) found.2 (declared_attribute found.0 class.0 class.1 kept))
-
--- none of them is inherited
-pub none_inherited : (g : List ClassOf) (list : List Synthesized) (a : ℕ) (d : Attr) → declared_at (attributes_of g list) a ≡ Some d → is_inherited d.sort ≡ false
-none_inherited g list a d e =
-    let at = some_from declared_of (slice_get (attributes_of g list) a) d e in
-    let found = map_found (attribute_of g) list a at.0 at.1 in
-    subst (λ (x : Attr). is_inherited x.sort ≡ false) (ap declared_of found.2 ∙ at.2) refl

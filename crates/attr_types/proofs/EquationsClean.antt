@@ -1,24 +1,30 @@
 -- What holds of equations of built items that break nothing.
-use Rattle.std.proofs.Common.{◌≡◌, ℕ, List, [], All, ◌&&◌, true, false, not, Option, Some, None, map, option_map, refl, ap, sym, ◌∙◌, subst}
+use Rattle.std.proofs.Common.{◌≡◌, ℕ, zero, suc, List, [], All, ◌&&◌, true, not, Option, Some, None, map, slice_get, option_map, refl, ap, sym, ◌∙◌, subst}
 use Rattle.std.proofs.lemmas.Bool.{and_parts}
 use Rattle.broken_rules.proofs.Clean.{append_none, flat_map_found}
 use Rattle.ast_grammar.specs.Grammar.{Class}
-use Rattle.jrag_reader.specs.Built.{all_built, has_no_path, has_none, is_built, is_built_item, is_built_body, is_not_circular, is_plain}
+use Rattle.jrag_reader.specs.Built.{all_built, has_none, is_built, is_built_item, is_built_body, is_not_circular, is_plain, own_signature}
 use Rattle.jrag_reader.specs.Expressions.{Expr}
-use Rattle.jrag_reader.specs.Items.{Item, Declared, Inherits, Equates, Collects, Contributes, Synthesized}
+use Rattle.jrag_reader.specs.Items.{Item, Declared, Inherits, Equates, Collects, Contributes, Signature, Synthesized}
 use Rattle.attr_types.specs.declared.standing.Stands.TheVariants.{Anywhere}
 use Rattle.attr_types.specs.Bodies.{expr_broken, misfit}
 use Rattle.attr_types.specs.Phases.{bodies_broken, equation_broken, equation_of, kind_or_truth, scope_of, wanted_by}
-use Rattle.attr_rules.specs.declared.kinds.Attr.{Attr}
-use Rattle.attr_rules.specs.Rules.{Attribute, GivesValue, IsEquation, declared_at, is_inherited, names_for}
+use Rattle.attr_rules.specs.declared.dispatch.Reach.{Reach}
+use Rattle.attr_rules.specs.declared.dispatch.Reach.TheVariants.{Own, Component as AtComponent, Children}
+use Rattle.attr_rules.specs.declared.kinds.Kind.{Kind}
+use Rattle.attr_rules.specs.declared.kinds.Kind.TheVariants as kinds
+use Rattle.attr_rules.specs.declared.types.ValueType.TheVariants as types
+use Rattle.attr_rules.specs.Rules.{Attribute, IsEquation, bound_kinds, declared_at}
 use Rattle.attr_rules.specs.Typing.{HasType}
+use Rattle.attr_types.specs.Paths.{bound_names, index_name, index_named}
+use Rattle.attr_types.specs.Scope.{Variable, variable_type}
 use Rattle.attr_types.specs.Targets.{target_given, targets_broken}
 use Rattle.attr_types.specs.Typed.{known}
 use Rattle.attr_rules.specs.Types.{fits}
 use Rattle.attr_types.specs.Written.{Given, given_by, given_in, given_with, givens}
 use Rattle.attr_types.proofs.FormsTyped.{fitting}
 use Rattle.attr_types.proofs.ItemsFound.{all_found, built_found, map_found}
-use Rattle.attr_types.proofs.MembersTyped.{names_in}
+use Rattle.attr_types.proofs.MembersTyped.{names_in, variable_kind}
 use Rattle.attr_types.proofs.TargetsClean.{IsFound, given_target}
 use Rattle.attr_types.proofs.TypedClean.{typed}
 
@@ -36,27 +42,40 @@ built_in (Declared s) e built is =
 built_in (Inherits i) e built is = absurd (cc)
 built_in (Equates f) e built is =
     let same : given_by f ≡ e = cc in
-    let rest = (has_no_path f.inherited && is_built f.body) in
-    subst (λ (h : Given). is_built h.body ≡ true) same (and_parts (has_no_path f.inherited) (is_built f.body) (and_parts (has_none f.signature) rest built).1).1
+    subst (λ (h : Given). is_built h.body ≡ true) same (and_parts (has_none (own_signature f)) (is_built f.body) built).1
 built_in (Collects c) e built is = absurd (cc)
 built_in (Contributes c) e built is = absurd (cc)
 
-module _ (g : List Class) (attributes : List Attribute) (none_inherited : (a : ℕ) (d : Attr) → declared_at attributes a ≡ Some d → is_inherited d.sort ≡ false) where
+-- the type of what a path binds is known, and is that of its place
+bound_known : (p : Option Signature) (r : Reach) (k : ℕ) (v : Variable) → slice_get (bound_names p r) k ≡ Some v → (t : Kind) × (v.type ≡ Some (types.Of t))
+bound_known p Own k v e = absurd (cc)
+bound_known p (AtComponent j) zero v e = (kinds.Int, (let same : index_named (index_name p) ≡ v = cc in sym (ap variable_type same)))
+bound_known p (AtComponent j) (suc k) v e = absurd (cc)
+bound_known p Children k v e = absurd (cc)
+
+bound_same : (p : Option Signature) (r : Reach) → map variable_kind (bound_names p r) ≡ bound_kinds r
+bound_same p Own = refl
+bound_same p (AtComponent j) = refl
+bound_same p Children = refl
+
+module _ (g : List Class) (attributes : List Attribute) where
   equation_there : (e : Given) → IsFound g attributes (target_given g attributes e) → is_built e.body ≡ true → equation_broken g attributes e ≡ [] → IsEquation g attributes (equation_of g attributes e)
   equation_there e target built none =
-      let scope = scope_of g attributes (target_given g attributes e) in
+      let scope = scope_of g attributes e.path (target_given g attributes e) in
+      let class = (target_given g attributes e).class in
+      let reach = (target_given g attributes e).reach in
       let wanted = wanted_by attributes (target_given g attributes e) in
       let parts = append_none (expr_broken scope Anywhere e.body) (misfit g wanted (known scope e.body) e.body) none in
-      let body = typed scope (record { superclasses = refl }) (record { known = λ k v never. absurd (cc) }) e.body Anywhere refl built parts.0 in
+      let body = typed scope (record { superclasses = refl }) (record { known = bound_known e.path reach }) e.body Anywhere refl built parts.0 in
       let fits_wanted : fits g body.type wanted ≡ true = fitting (names_in scope) wanted (known scope e.body) body.type e.body body.is parts.1 in
       record {
         within = target.within;
-        attribute = target.has.attribute;
-        declared = target.has.declared;
-        gives = subst (λ r. GivesValue g (target_given g attributes e).class r target.has.attribute) (sym target.reach) (target.has.has, none_inherited (target_given g attributes e).attribute.0 target.has.attribute target.has.declared);
+        attribute = target.attribute;
+        declared = target.declared;
+        gives = target.gives;
         type = body.type;
-        typed = subst (λ r. HasType (names_for g attributes (target_given g attributes e).class r) (equation_of g attributes e).body body.type) (sym target.reach) body.typed;
-        fit = ap (λ o. fits g body.type (kind_or_truth o)) (sym target.has.declared) ∙ fits_wanted;
+        typed = subst (λ vs. HasType (record { grammar = g; attribute = declared_at attributes; node = λ k. None; this = Some class; variables = vs }) (equation_of g attributes e).body body.type) (bound_same e.path reach) body.typed;
+        fit = ap (λ o. fits g body.type (kind_or_truth o)) (sym target.declared) ∙ fits_wanted;
       }
 
   -- each is well typed and fits

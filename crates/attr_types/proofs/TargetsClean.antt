@@ -1,23 +1,28 @@
 -- What holds of equations whose heads break nothing.
-use Rattle.std.proofs.Common.{◌≡◌, ℕ, ◌<◌, List, [], ◌&&◌, true, Some, is_none, All, length, slice_get, take, refl, ap, sym, ◌∙◌, subst, arith}
+use Rattle.std.proofs.Common.{◌≡◌, ℕ, ◌<◌, List, [], ◌++◌, ◌&&◌, true, false, Option, Some, None, is_none, All, bytes_eq, codes, length, slice_get, take, if◌then◌else◌, refl, ap, sym, ◌∙◌, subst, arith}
 use Rattle.std.specs.Option.{option_and_then, option_map}
-use Rattle.std.specs.Str.{bytes_eq}
 use Rattle.std.proofs.lemmas.Bool.{and_parts}
 use Rattle.std.proofs.lemmas.Option.{slice_get_within}
+use Rattle.std.proofs.lemmas.Slice.Eq.{bytes_eq-Decides}
 use Rattle.broken_rules.specs.Notes.{at}
 use Rattle.broken_rules.specs.declared.rule.Rule.TheVariants.{J5}
 use Rattle.broken_rules.proofs.Clean.{append_none, not_broken}
 use Rattle.superclasses.specs.Superclasses.{is_sub as is_below}
 use Rattle.ast_grammar.proofs.Inherited.{length-superclasses_of}
 use Rattle.ast_grammar.specs.declared.grammar.ClassId.{ClassId}
-use Rattle.ast_grammar.specs.Grammar.{Class, class_named, is_sub, superclasses_of}
+use Rattle.ast_grammar.specs.Grammar.{Class, Component, component_at, component_named, is_sub, superclasses_of}
+use Rattle.attr_rules.specs.Accessors.{behind}
 use Rattle.attr_rules.specs.Dispatching.{IsTarget}
-use Rattle.attr_rules.specs.declared.dispatch.Reach.TheVariants.{Own}
+use Rattle.attr_rules.specs.declared.dispatch.Reach.{Reach}
+use Rattle.attr_rules.specs.declared.dispatch.Reach.TheVariants.{Own, Component as AtComponent, Children}
 use Rattle.attr_rules.specs.declared.dispatch.Target.{Target}
 use Rattle.attr_rules.specs.declared.kinds.Attr.{Attr}
-use Rattle.attr_rules.specs.Rules.{Attribute, attribute_named, declared_at, declared_of}
+use Rattle.attr_rules.specs.Rules.{Attribute, GivesValue, attribute_named, declared_at, declared_of, first_inherited, first_of_name, is_for_nodes, is_inherited}
+use Rattle.jrag_reader.specs.Expressions.{Name}
+use Rattle.jrag_reader.specs.Items.{Signature}
 use Rattle.attr_types.specs.Heads.{class_broken}
-use Rattle.attr_types.specs.Targets.{attribute_for, given_broken, lacking_broken, second_broken, target, target_for, target_given, target_of, target_or_first, targets_broken, targets_of, unknown_broken}
+use Rattle.attr_types.specs.Paths.{if_for_nodes, node_component, node_component_named, parameters_broken, path_broken, reach_broken, reach_named, reach_of, way_broken}
+use Rattle.attr_types.specs.Targets.{attribute_for, class_of, given_broken, if_own, inherits, lacking_broken, own_attribute, second_broken, target, target_by, target_given, target_of, target_or_first, targets_broken, targets_of, unknown_broken}
 use Rattle.attr_types.specs.Written.{Given}
 use Rattle.attr_types.proofs.DeclaredClean.{class_there, class_within}
 use Rattle.attr_types.proofs.ItemsFound.{after_found, all_found, map_found, position_found, some_from, some_there}
@@ -28,11 +33,73 @@ pub record HasAttribute (g : List Class) (attributes : List Attribute) (c a : �
   pub declared : declared_at attributes a ≡ Some attribute
   pub has : is_sub g c attribute.class.0 ≡ true
 
--- A target is that of an attribute which a class of the grammar has.
+-- Nodes of the class have what a path leads to.
+abbrev pub IsReached : List Class → ℕ → Reach → Type 0
+IsReached g c Own = Unit {0}
+IsReached g c (AtComponent k) = (x : Component) × (component_at g c k ≡ Some x) × (is_for_nodes x.shape ≡ true)
+IsReached g c Children = Unit {0}
+
+-- A path leads to the first inherited attribute of a name.
+abbrev pub IsFirst : List Attribute → Reach → ℕ → Type 0
+IsFirst attributes Own a = Unit {0}
+IsFirst attributes (AtComponent k) a = first_of_name attributes a ≡ Some a
+IsFirst attributes Children a = first_of_name attributes a ≡ Some a
+
+-- A target is that of an attribute to which an equation of a class of the grammar gives a value.
 pub record IsFound (g : List Class) (attributes : List Attribute) (t : Target) : Type 0 where
   pub within : t.class.0 < length g
-  pub reach : t.reach ≡ Own
-  pub has : HasAttribute g attributes t.class.0 t.attribute.0
+  pub attribute : Attr
+  pub declared : declared_at attributes t.attribute.0 ≡ Some attribute
+  pub gives : GivesValue g t.class t.reach attribute
+  pub first : IsFirst attributes t.reach t.attribute.0
+  pub reached : IsReached g t.class.0 t.reach
+
+and_then_from : {X Y : Type 0} (f : X → Option Y) (o : Option X) (y : Y) → option_and_then f o ≡ Some y → (x : X) × (o ≡ Some x) × (f x ≡ Some y)
+and_then_from f None y e = absurd (cc)
+and_then_from f (Some x) y e = (x, refl, e)
+
+-- a reach that a path has
+abbrev IsPath : Reach → Type 0
+IsPath Own = ⊥
+IsPath (AtComponent k) = Unit {0}
+IsPath Children = Unit {0}
+
+module _ (g : List Class) (c : ℕ) where
+  component_there : (k n : ℕ) → node_component g c n ≡ Some k → IsReached g c (AtComponent k)
+  component_there k n e =
+      let at = and_then_from (if_for_nodes n) (component_at g c n) k e in
+      let x = at.0 in
+      elim (is_for_nodes x.shape) as (λ b. is_for_nodes x.shape ≡ b → (if b then Some n else None) ≡ Some k → IsReached g c (AtComponent k)) [
+        | true ↦ λ nodes same. (let here : n ≡ k = cc in subst (λ m. IsReached g c (AtComponent m)) here (x, at.1, nodes))
+        | false ↦ λ nodes same. absurd (cc)
+      ] refl at.2
+
+  reach_there : (name : List ℕ) (r : Reach) → reach_named g c name ≡ Some r → IsPath r × IsReached g c r
+  reach_there name r e =
+      let component = option_and_then (node_component_named g c) (behind (codes "get") name) in
+      elim (bytes_eq name (codes "getChild")) as (λ b. (if b then Some Children else option_map AtComponent component) ≡ Some r → IsPath r × IsReached g c r) [
+        | true ↦ λ h. (let same : Children ≡ r = cc in subst (λ q. IsPath q × IsReached g c q) same (tt, tt))
+        | false ↦ λ h. (
+            let k = some_from AtComponent component r h in
+            let named = and_then_from (node_component_named g c) (behind (codes "get") name) k.0 k.1 in
+            let number = and_then_from (node_component g c) (component_named g c named.0) k.0 named.2 in
+            subst (λ q. IsPath q × IsReached g c q) k.2 (tt, component_there k.0 number.0 number.2)
+            )
+      ] e
+
+  reach_known : (p : Signature) (o : Option Reach) → reach_broken g c p o ≡ [] → (r : Reach) × (o ≡ Some r)
+  reach_known p None e = absurd (cc)
+  reach_known p (Some r) e = (r, refl)
+
+  gives_path : (r : Reach) (d : Attr) → IsPath r → is_inherited d.sort ≡ true → GivesValue g (record { 0 = c }) r d
+  gives_path Own d path inherited = absurd path
+  gives_path (AtComponent k) d path inherited = inherited
+  gives_path Children d path inherited = inherited
+
+first_path : (attributes : List Attribute) (r : Reach) (a : ℕ) → IsPath r → first_of_name attributes a ≡ Some a → IsFirst attributes r a
+first_path attributes Own a path first = absurd path
+first_path attributes (AtComponent k) a path first = first
+first_path attributes Children a path first = first
 
 module _ (g : List Class) (attributes : List Attribute) where
   -- what is found by name is an attribute of the class
@@ -45,24 +112,72 @@ module _ (g : List Class) (attributes : List Attribute) where
         has = (and_parts (is_sub g c.0 found.0.declared.class.0) (bytes_eq found.0.name name) found.2).0;
       }
 
-  unknown_parts : (before : List Given) (e : Given) → given_broken g attributes before e ≡ [] → (class_broken g e.class ≡ []) × (lacking_broken g attributes e.attribute (class_named g e.class.text) ≡ [])
-  unknown_parts before e none =
-      append_none (class_broken g e.class) (lacking_broken g attributes e.attribute (class_named g e.class.text))
-      (append_none (unknown_broken g attributes e) (second_broken g attributes before e.attribute (target_of g attributes e)) none).0
+  own_found : (o : Option ℕ) (a : ℕ) → option_and_then (if_own attributes) o ≡ Some a → (o ≡ Some a) × (inherits (declared_at attributes a) ≡ false)
+  own_found None a e = absurd (cc)
+  own_found (Some b) a e =
+      elim (inherits (declared_at attributes b)) as (λ t. inherits (declared_at attributes b) ≡ t → (if t then None else Some b) ≡ Some a → (Some b ≡ Some a) × (inherits (declared_at attributes a) ≡ false)) [
+        | true ↦ λ h same. absurd (cc)
+        | false ↦ λ h same. (let here : b ≡ a = cc in (same, subst (λ n. inherits (declared_at attributes n) ≡ false) here h))
+      ] refl e
+
+  -- an inherited attribute that is the first of its name
+  record IsFirstNamed (a : ℕ) : Type 0 where
+    attribute : Attr
+    declared : declared_at attributes a ≡ Some attribute
+    inherited : is_inherited attribute.sort ≡ true
+    first : first_of_name attributes a ≡ Some a
+
+  first_found : (name : List ℕ) (a : ℕ) → first_inherited attributes name ≡ Some a → IsFirstNamed a
+  first_found name a e =
+      let found = position_found (λ (x : Attribute). is_inherited x.declared.sort && bytes_eq x.name name) attributes a e in
+      let parts = and_parts (is_inherited found.0.declared.sort) (bytes_eq found.0.name name) found.2 in
+      record {
+        attribute = found.0.declared;
+        declared = ap (option_map declared_of) found.1;
+        inherited = parts.0;
+        first = ap (option_and_then (λ (x : Attribute). first_inherited attributes x.name)) found.1 ∙ ap (first_inherited attributes) ((bytes_eq-Decides found.0.name name).0 parts.1) ∙ e;
+      }
+
+  -- what an equation of a class is for, with a path or without
+  found_by : (c : ℕ) (path : Option Signature) (n : Name) → c < length g → path_broken g (Some c) path ≡ [] → lacking_broken g attributes path (Some c) n ≡ []
+      → (t : Target) × (target_by (Some c) (reach_of g (Some c) path) (attribute_for g attributes (Some c) path n.text) ≡ Some t) × IsFound g attributes t
+  found_by c None n within way lacking =
+      let own = some_there (own_attribute g attributes n.text c) (not_broken (is_none (own_attribute g attributes n.text c)) (at n.place J5) lacking) in
+      let named = own_found (attribute_named (superclasses_of g) attributes (record { 0 = c }) n.text) own.0 own.1 in
+      let has = named_has (record { 0 = c }) n.text own.0 named.0 in (
+        target c Own own.0,
+        ap (target_by (Some c) (Some Own)) own.1,
+        record { within = within; attribute = has.attribute; declared = has.declared; gives = (has.has, ap inherits (sym has.declared) ∙ named.1); first = tt; reached = tt },
+      )
+  found_by c (Some p) n within way lacking =
+      let parts = append_none (way_broken g (Some c) p) (parameters_broken g p.parameters) way in
+      let reach = reach_known g c p (reach_named g c p.name.text) parts.0 in
+      let there = reach_there g c p.name.text reach.0 reach.1 in
+      let attribute = some_there (first_inherited attributes n.text) (not_broken (is_none (first_inherited attributes n.text)) (at n.place J5) lacking) in
+      let first = first_found n.text attribute.0 attribute.1 in (
+        target c reach.0 attribute.0,
+        (λ i. target_by (Some c) (reach.1 i) (attribute.1 i)),
+        record {
+          within = within;
+          attribute = first.attribute;
+          declared = first.declared;
+          gives = gives_path g c reach.0 first.attribute there.0 first.inherited;
+          first = first_path attributes reach.0 attribute.0 there.0 first.first;
+          reached = there.1;
+        },
+      )
 
   target_there : (before : List Given) (e : Given) → given_broken g attributes before e ≡ [] → IsFound g attributes (target_given g attributes e)
   target_there before e none =
-      let parts = unknown_parts before e none in
-      let class = class_there g e.class parts.0 in
-      let c = class.0 in
-      let lacking : lacking_broken g attributes e.attribute (Some c) ≡ [] = ap (lacking_broken g attributes e.attribute) (sym class.1) ∙ parts.1 in
-      let attribute = some_there (attribute_for g attributes e.attribute.text c) (not_broken (is_none (attribute_for g attributes e.attribute.text c)) (at e.attribute.place J5) lacking) in
-      let is : target_of g attributes e ≡ Some (target c attribute.0) = ap (option_and_then (target_for g attributes e.attribute.text)) class.1 ∙ ap (option_map (target c)) attribute.1 in
-      subst (λ o. IsFound g attributes (target_or_first o)) (sym is) (record {
-        within = class_within g e.class.text c class.1;
-        reach = refl;
-        has = named_has (record { 0 = c }) e.attribute.text attribute.0 attribute.1;
-      })
+      let unknown = (append_none (unknown_broken g attributes e) (second_broken g attributes before e.attribute (target_of g attributes e)) none).0 in
+      let way = path_broken g (class_of g e) e.path in
+      let lacking = lacking_broken g attributes e.path (class_of g e) e.attribute in
+      let named = append_none (class_broken g e.class) (way ++ lacking) unknown in
+      let parts = append_none way lacking named.1 in
+      let class = class_there g e.class named.0 in
+      let found = found_by class.0 e.path e.attribute (class_within g e.class.text class.0 class.1) (ap (λ o. path_broken g o e.path) (sym class.1) ∙ parts.0) (ap (λ o. lacking_broken g attributes e.path o e.attribute) (sym class.1) ∙ parts.1) in
+      let is : target_of g attributes e ≡ Some found.0 = ap (λ o. target_by o (reach_of g o e.path) (attribute_for g attributes o e.path e.attribute.text)) class.1 ∙ found.1 in
+      subst (λ o. IsFound g attributes (target_or_first o)) (sym is) found.2
 
   -- what an equation is for, is there
   pub given_target : (list : List Given) (i : ℕ) (e : Given) → targets_broken g attributes list ≡ [] → slice_get list i ≡ Some e → IsFound g attributes (target_given g attributes e)
@@ -72,7 +187,7 @@ module _ (g : List Class) (attributes : List Attribute) where
   target_within t found = record {
     class = omega (arith, length-superclasses_of g, found.within);
     attribute =
-        let at = some_from declared_of (slice_get attributes t.attribute.0) found.has.attribute found.has.declared in
+        let at = some_from declared_of (slice_get attributes t.attribute.0) found.attribute found.declared in
         slice_get_within attributes t.attribute.0 at.0 at.1;
   }
 

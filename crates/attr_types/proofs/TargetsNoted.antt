@@ -1,9 +1,7 @@
 -- What is noted of what equations are for, and what is kept of the equations before.
 use Rattle.std.proofs.Common.{◌≡◌, ℕ, ◌<◌, ◌==◌, ◌||◌, ◌&&◌, Bool, true, false, cond, not, List, [], ◌∷◌, ◌++◌, Option, Some, None, is_none, is_some, length, refl, sym, ap, subst, ◌∙◌, arith, option_map}
 use Rattle.std.specs.HashSet.{HashSet, Updates, contains, contains_by}
-use Rattle.std.specs.Option.{option_and_then}
 use Rattle.std.proofs.Math.Bool.{or-false}
-use Rattle.std.proofs.lemmas.Bool.Decides.{nat_tests}
 use Rattle.std.proofs.lemmas.List.Folds.{list_any-append}
 use Rattle.ast_grammar.specs.declared.grammar.ClassId.{ClassId}
 use Rattle.ast_grammar.specs.Grammar.{Class, class_named, superclasses_of}
@@ -13,48 +11,37 @@ use Rattle.broken_rules.specs.declared.rule.Rule.TheVariants.{J5, J6}
 use Rattle.broken_rules.specs.Notes.{Notes, at, broken_if}
 use Rattle.broken_rules.proofs.Noting.{notes_then}
 use Rattle.jrag_reader.specs.Expressions.{Name}
+use Rattle.jrag_reader.specs.Items.{Signature}
 use Rattle.attr_types.specs.contracts.targets.KeyPartialEq.TheImpl as equality
+use Rattle.attr_rules.specs.contracts.dispatch.ReachPartialEq.TheImpl as reaches
+use Rattle.attr_rules.specs.declared.dispatch.Reach.{Reach}
 use Rattle.attr_rules.specs.declared.dispatch.Target.{Target}
 use Rattle.attr_rules.specs.declared.kinds.AttrId.{AttrId}
 use Rattle.attr_types.specs.declared.targets.Key.{Key}
 use Rattle.attr_types.specs.Heads.{class_broken}
-use Rattle.attr_rules.specs.Rules.{Attribute, attribute_named, number_of_attribute}
-use Rattle.attr_types.specs.Targets.{given_broken, is_given, is_same, lacking_broken, second_broken, target, target_for, target_of, unknown_broken}
-use Rattle.attr_types.specs.TargetsKept.{Holds}
+use Rattle.attr_rules.specs.Rules.{Attribute, first_inherited, is_target}
+use Rattle.attr_rules.proofs.KeptPaths.{reach_turned, same_as, swap, turned}
+use Rattle.attr_types.specs.Paths.{path_broken}
+use Rattle.attr_types.specs.Targets.{class_of, given_broken, is_given, is_same, lacking_broken, second_broken, target, target_of, unknown_broken}
+use Rattle.attr_types.specs.TargetsKept.{Holds, is_key}
 use Rattle.attr_types.specs.Written.{Given}
 
 pub within_superclasses : (g : List Class) {superclasses : List (Option ℕ)} {c : ℕ} → superclasses ≡ superclasses_of g → c < length g → c < length superclasses
 within_superclasses g {superclasses} {c} is lt = omega (arith, length-superclasses_of g, ap length is)
 
--- where the class that an equation names is known
-module _ (g : List Class) (attributes : List Attribute) (e : Given) {superclasses : List (Option ℕ)} {class : ClassId} {name : List ℕ} (found : Option AttrId)
-    (is : Some class.0 ≡ class_named g e.class.text) (above : superclasses ≡ superclasses_of g) (spelled : name ≡ e.attribute.text) (number : option_map number_of_attribute found ≡ attribute_named superclasses attributes class name) where
-  attribute_there : option_map number_of_attribute found ≡ attribute_named (superclasses_of g) attributes class e.attribute.text
-  attribute_there = number ∙ (λ i. attribute_named (above i) attributes class (spelled i))
+abbrev key : ℕ → Reach → ℕ → Key
+key c r a = record { class = c; reach = r; attribute = a }
 
-  -- it has no such attribute
-  pub no_target : found ≡ None → target_of g attributes e ≡ None
-  no_target none =
-      sym (ap (option_and_then (target_for g attributes e.attribute.text)) is) ∙ ap (option_map (target class.0)) (sym attribute_there ∙ ap (option_map number_of_attribute) none)
+key_test : (q k : Key) → equality.ghosts.eq q k ≡ is_key q.class q.reach q.attribute k
+key_test q k =
+    swap (q.class == k.class) (reaches.ghosts.eq q.reach k.reach) (q.attribute == k.attribute)
+    ∙ (λ i. (same_as q.reach k.reach ∙ reach_turned q.reach k.reach) i && (turned q.class k.class i && turned q.attribute k.attribute i))
 
-  none_there : (o : Option AttrId) (b : Bool) → is_some o ≡ not b → b ≡ is_none (option_map number_of_attribute o)
-  none_there None true h = refl
-  none_there None false h = cc
-  none_there (Some a) true h = cc
-  none_there (Some a) false h = refl
+abbrev key_of : Target → Key
+key_of t = key t.class.0 t.reach t.attribute.0
 
-  pub unknown_noted : (b : Bool) {x y z : Option Broken} → is_some found ≡ not b → Notes (class_broken g e.class) x y → Notes (broken_if b (at e.attribute.place J5)) y z → Notes (unknown_broken g attributes e) x z
-  unknown_noted b {x} {y} {z} test h k =
-      notes_then h (
-      subst (λ o. Notes (lacking_broken g attributes e.attribute o) y z) is
-      (subst (λ b. Notes (broken_if b (at e.attribute.place J5)) y z) (none_there found b test ∙ ap is_none attribute_there) k)
-      )
-
-turned : (a b : ℕ) → (a == b) ≡ (b == a)
-turned a b = grind (arith, nat_tests)
-
-abbrev for_key : ℕ → ℕ → Key → Bool
-for_key c a k = (k.class == c) && (k.attribute == a)
+target_test : (t : Target) (c : ℕ) (r : Reach) (a : ℕ) → equality.ghosts.eq (key_of t) (key c r a) ≡ is_target c r a t
+target_test t c r a = swap (t.class.0 == c) (reaches.ghosts.eq t.reach r) (t.attribute.0 == a) ∙ ap (λ b. b && ((t.class.0 == c) && (t.attribute.0 == a))) (same_as t.reach r)
 
 one_more : (g : List Class) (attributes : List Attribute) (t : Target) (before : List Given) (e : Given) → is_given g attributes t (before ++ e ∷ []) ≡ (is_given g attributes t before || is_same t (target_of g attributes e))
 one_more g attributes t before e =
@@ -72,26 +59,40 @@ not_not true = refl
 not_not false = refl
 
 module _ {S : Type 0} (g : List Class) (attributes : List Attribute) (before : List Given) where
-  by_key : (set : HashSet Key S) (c a : ℕ) → contains equality.ghosts.eq set (record { class = c; attribute = a }) ≡ contains_by (for_key c a) set
-  by_key set c a = ap (λ (test : Key → Bool). contains_by test set) (λ i k. turned c k.class i && turned a k.attribute i)
+  by_key : (set : HashSet Key S) (c : ℕ) (r : Reach) (a : ℕ) → contains equality.ghosts.eq set (key c r a) ≡ contains_by (is_key c r a) set
+  by_key set c r a = ap (λ (test : Key → Bool). contains_by test set) (λ i k. key_test (key c r a) k i)
 
   -- J6 is noted by whether the key was new
   pub second_noted : {set : HashSet Key S} {t : Option Target} {u : Target} (n : Name) {new : Bool} {x y : Option Broken} → t ≡ Some u → Holds g attributes before set
-      → new ≡ not (contains equality.ghosts.eq set (record { class = u.class.0; attribute = u.attribute.0 })) → Notes (broken_if (not new) (at n.place J6)) x y → Notes (second_broken g attributes before n t) x y
+      → new ≡ not (contains equality.ghosts.eq set (key_of u)) → Notes (broken_if (not new) (at n.place J6)) x y → Notes (second_broken g attributes before n t) x y
   second_noted {set} {t} {u} n {new} {x} {y} is held fresh h =
-      let twice = ap not fresh ∙ not_not (contains equality.ghosts.eq set (record { class = u.class.0; attribute = u.attribute.0 })) ∙ by_key set u.class.0 u.attribute.0 ∙ held.holds u.class.0 u.attribute.0 in
+      let twice = ap not fresh ∙ not_not (contains equality.ghosts.eq set (key_of u)) ∙ by_key set u.class.0 u.reach u.attribute.0 ∙ held.holds u.class.0 u.reach u.attribute.0 in
       subst (λ o. Notes (second_broken g attributes before n o) x y) (sym is) (subst (λ b. Notes (broken_if b (at n.place J6)) x y) twice h)
 
   pub held_more : {old new : HashSet Key S} (e : Given) {t : Option Target} {u : Target} → t ≡ Some u → t ≡ target_of g attributes e → Holds g attributes before old
-      → Updates equality.ghosts.eq old new (record { class = u.class.0; attribute = u.attribute.0 }) true → Holds g attributes (before ++ e ∷ []) new
+      → Updates equality.ghosts.eq old new (key_of u) true → Holds g attributes (before ++ e ∷ []) new
   held_more {old} {new} e {t} {u} there is held updates =
       let at : Some u ≡ target_of g attributes e = sym there ∙ is in
       record {
-        holds = λ c a.
-            sym (by_key new c a) ∙ updates.0 (record { class = c; attribute = a }) ∙ ap (cond (for_key c a (record { class = u.class.0; attribute = u.attribute.0 })) true) (by_key old c a ∙ held.holds c a)
-            ∙ added (for_key c a (record { class = u.class.0; attribute = u.attribute.0 })) (is_given g attributes (target c a) before) ∙ ap (λ o. is_given g attributes (target c a) before || is_same (target c a) o) at
-            ∙ sym (one_more g attributes (target c a) before e);
+        holds = λ c r a.
+            sym (by_key new c r a) ∙ updates.0 (key c r a) ∙ (λ i. cond (target_test u c r a i) true ((by_key old c r a ∙ held.holds c r a) i))
+            ∙ added (is_target c r a u) (is_given g attributes (target c r a) before) ∙ ap (λ o. is_given g attributes (target c r a) before || is_same (target c r a) o) at
+            ∙ sym (one_more g attributes (target c r a) before e);
       }
+
+-- J5 of an equation without a path, and with one
+module _ (g : List Class) (attributes : List Attribute) (n : Name) (class : Option ℕ) {p : Option Signature} {x y : Option Broken} where
+  pub lacking_own : p ≡ None → Notes (lacking_broken g attributes None class n) x y → Notes (lacking_broken g attributes p class n) x y
+  lacking_own is h = subst (λ q. Notes (lacking_broken g attributes q class n) x y) (sym is) h
+
+  pub lacking_inherited : {s : Signature} → p ≡ Some s → Notes (broken_if (is_none (first_inherited attributes n.text)) (at n.place J5)) x y → Notes (lacking_broken g attributes p class n) x y
+  lacking_inherited {s} is h = subst (λ q. Notes (lacking_broken g attributes q class n) x y) (sym is) h
+
+-- J2 and J5 of an equation, and what its path breaks
+pub unknown_noted : (g : List Class) (attributes : List Attribute) (e : Given) {class : Option ℕ} {w x y z : Option Broken} → class ≡ class_of g e → Notes (class_broken g e.class) w x → Notes (path_broken g class e.path) x y
+    → Notes (lacking_broken g attributes e.path class e.attribute) y z → Notes (unknown_broken g attributes e) w z
+unknown_noted g attributes e {class} {w} {x} {y} {z} is f h k =
+    notes_then f (subst (λ o. Notes (path_broken g o e.path ++ lacking_broken g attributes e.path o e.attribute) x z) is (notes_then h k))
 
 -- J2, J5 and J6 of an equation
 pub given_noted : (g : List Class) (attributes : List Attribute) (before : List Given) (e : Given) {t : Option Target} {x y z : Option Broken} → t ≡ target_of g attributes e → Notes (unknown_broken g attributes e) x y → Notes (second_broken g attributes before e.attribute t) y z

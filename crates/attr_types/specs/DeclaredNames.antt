@@ -8,7 +8,7 @@ use Rattle.ast_grammar.specs.declared.grammar.ClassId.{ClassId}
 use Rattle.ast_grammar.specs.Grammar.{Class, is_sub}
 use Rattle.attr_types.specs.declared.declared.Declared.{Declared}
 use Rattle.attr_types.specs.Heads.{is_declared}
-use Rattle.jrag_reader.specs.Items.{Synthesized}
+use Rattle.attr_types.specs.Written.{Head}
 
 -- one of the two classes is the other or below it
 abbrev pub relates : List Class → ℕ → ClassId → Bool
@@ -38,6 +38,6 @@ pub record Adds (old : Declared) (class : ClassId) (name : List ℕ) (new : Decl
   pub adds : (f : ClassId → Bool) (q : List ℕ) → list_any f (declaring new q) ≡ (list_any f (declaring old q) || (bytes_eq q name && f class))
 
 -- what is kept tells which names the declarations declare
-pub record Tells (g : List Class) (list : List Synthesized) (d : Declared) : Type 0 where
+pub record Tells (g : List Class) (list : List Head) (d : Declared) : Type 0 where
   pub even : IsEven d
   pub tells : (c : ℕ) (name : List ℕ) → list_any (relates g c) (declaring d name) ≡ is_declared g c name list

@@ -1,19 +1,22 @@
--- The rules on declarations: J2, J3, J4 and J17.
-use Rattle.std.specs.Prelude.{ℕ, ◌==◌, List, [], ◌++◌, Bool, false, ◌&&◌, ◌||◌, Option, Some, None, is_none, length, map, if◌then◌else◌}
+-- The rules on declarations: J2, J3, J4, J15 and J17.
+use Rattle.std.specs.Prelude.{ℕ, ◌==◌, List, [], ◌++◌, Bool, true, false, not, ◌&&◌, ◌||◌, Option, Some, None, find, is_none, length, map, if◌then◌else◌}
 use Rattle.std.specs.List.{list_any, range_with_len}
-use Rattle.std.specs.Option.{option_map, unwrap_or}
+use Rattle.std.specs.Option.{option_and_then, option_map, unwrap_or}
 use Rattle.std.specs.Str.{bytes_eq}
 use Rattle.broken_rules.specs.declared.broken.Broken.{Broken}
-use Rattle.broken_rules.specs.declared.rule.Rule.TheVariants.{J2, J3, J4, J17}
+use Rattle.broken_rules.specs.declared.rule.Rule.TheVariants.{J2, J3, J4, J15, J17}
 use Rattle.broken_rules.specs.Notes.{at, broken_if, each_after}
 use Rattle.ast_grammar.specs.declared.grammar.ClassId.{ClassId}
 use Rattle.ast_grammar.specs.Grammar.{Class, class_named, is_sub}
+use Rattle.attr_rules.specs.declared.kinds.Attr.{Attr}
 use Rattle.attr_rules.specs.declared.kinds.Kind.{Kind}
 use Rattle.attr_rules.specs.declared.kinds.Kind.TheVariants as kinds
+use Rattle.attr_rules.specs.declared.kinds.Sort.{Sort}
 use Rattle.attr_rules.specs.Accessors.{is_spelled}
-use Rattle.attr_rules.specs.Rules.{Attribute, most_attributes, plain_attribute}
+use Rattle.attr_rules.specs.Rules.{Attribute, is_inherited, most_attributes, plain_attribute}
 use Rattle.jrag_reader.specs.Expressions.{Name}
-use Rattle.jrag_reader.specs.Items.{Synthesized, TypeName, Boolean, Integer, String, Class as Named, WrittenType}
+use Rattle.jrag_reader.specs.Items.{TypeName, Boolean, Integer, String, Class as Named, WrittenType}
+use Rattle.attr_types.specs.Written.{Head}
 
 -- J2: the name is that of no class
 abbrev pub class_broken : List Class → Name → List Broken
@@ -25,8 +28,8 @@ are_related g None c = false
 are_related g (Some d) c = is_sub g d c || is_sub g c d
 
 -- one of the declarations is of this name, for the class, a superclass or a subclass
-abbrev pub is_declared : List Class → ℕ → List ℕ → List Synthesized → Bool
-is_declared g c name list = list_any (λ s. are_related g (class_named g s.class.text) c && bytes_eq s.signature.name.text name) list
+abbrev pub is_declared : List Class → ℕ → List ℕ → List Head → Bool
+is_declared g c name list = list_any (λ h. are_related g (class_named g h.class.text) c && bytes_eq h.signature.name.text name) list
 
 -- the numbers of the classes
 abbrev pub class_numbers : List Class → List ℕ
@@ -37,15 +40,15 @@ abbrev pub is_taken : List Class → ℕ → List ℕ → Bool
 is_taken g c name = list_any (λ d. is_sub g d c && is_spelled g d name) (class_numbers g)
 
 -- J3: the attribute is declared a second time, or has an accessor's name
-abbrev pub again_for : List Class → List Synthesized → Name → Option ℕ → List Broken
+abbrev pub again_for : List Class → List Head → Name → Option ℕ → List Broken
 again_for g before n None = []
 again_for g before n (Some c) = broken_if (is_declared g c n.text before || is_taken g c n.text) (at n.place J3)
 
-abbrev pub again_broken : List Class → List Synthesized → Synthesized → List Broken
-again_broken g before s = again_for g before s.signature.name (class_named g s.class.text)
+abbrev pub again_broken : List Class → List Head → Head → List Broken
+again_broken g before h = again_for g before h.signature.name (class_named g h.class.text)
 
 -- J17: there are so many declarations before
-abbrev pub count_broken : List Synthesized → Name → List Broken
+abbrev pub count_broken : List Head → Name → List Broken
 count_broken before n = broken_if (length before == most_attributes) (at n.place J17)
 
 -- the class of a number
@@ -79,11 +82,43 @@ type_written g t = if t.set then set_named g t.name else single_named g t.name
 abbrev pub type_broken : List Class → WrittenType → List Broken
 type_broken g t = broken_if (is_none (type_written g t)) (at t.place J4)
 
-abbrev pub head_broken : List Class → List Synthesized → Synthesized → List Broken
-head_broken g before s = type_broken g s.of ++ (class_broken g s.class ++ (again_broken g before s ++ count_broken before s.signature.name))
+-- J4, J2, J3 and J17 of a declaration
+abbrev pub named_broken : List Class → List Head → Head → List Broken
+named_broken g before h = type_broken g h.of ++ (class_broken g h.class ++ (again_broken g before h ++ count_broken before h.signature.name))
+
+-- the first inherited attribute of a name among some declarations
+abbrev pub first_inherited : List Head → List ℕ → Option Head
+first_inherited list name = find (λ h. is_inherited h.sort && bytes_eq h.signature.name.text name) list
+
+abbrev pub type_in : List Class → Head → Option Kind
+type_in g h = type_written g h.of
+
+-- two types are one
+abbrev pub equal_kinds : Kind → Kind → Bool
+equal_kinds kinds.Truth kinds.Truth = true
+equal_kinds kinds.Int kinds.Int = true
+equal_kinds kinds.Text kinds.Text = true
+equal_kinds (kinds.Node c) (kinds.Node d) = c.0 == d.0
+equal_kinds kinds.Texts kinds.Texts = true
+equal_kinds (kinds.Nodes c) (kinds.Nodes d) = c.0 == d.0
+equal_kinds k l = false
+
+-- two types are one, as far as both are known
+abbrev pub same_kind : Option Kind → Option Kind → Bool
+same_kind None l = true
+same_kind (Some k) None = true
+same_kind (Some k) (Some l) = equal_kinds k l
+
+-- J15: an inherited attribute is of another type than the first one of its name
+abbrev pub other_broken : List Class → List Head → Head → List Broken
+other_broken g before h = broken_if (is_inherited h.sort && not (same_kind (option_and_then (type_in g) (first_inherited before h.signature.name.text)) (type_in g h))) (at h.signature.name.place J15)
+
+-- what a declaration breaks
+abbrev pub head_broken : List Class → List Head → Head → List Broken
+head_broken g before h = named_broken g before h ++ other_broken g before h
 
 -- what the declarations break
-abbrev pub heads_broken : List Class → List Synthesized → List Broken
+abbrev pub heads_broken : List Class → List Head → List Broken
 heads_broken g list = each_after (head_broken g) [] list
 
 -- the class of a number, and the first one where there is none
@@ -95,9 +130,13 @@ class_or_first (Some c) = class_numbered c
 abbrev pub kind_written : List Class → WrittenType → Kind
 kind_written g t = unwrap_or (type_written g t) kinds.Truth
 
--- what a declaration declares
-abbrev pub attribute_of : List Class → Synthesized → Attribute
-attribute_of g s = record { name = s.signature.name.text; declared = plain_attribute (class_or_first (class_named g s.class.text)) (kind_written g s.of) }
+-- what is declared of an attribute of this sort, without parameters
+abbrev pub declared_as : Sort → ClassId → Kind → Attr
+declared_as s class kind = record (plain_attribute class kind) { sort = s }
 
-abbrev pub attributes_of : List Class → List Synthesized → List Attribute
+-- what a declaration declares
+abbrev pub attribute_of : List Class → Head → Attribute
+attribute_of g h = record { name = h.signature.name.text; declared = declared_as h.sort (class_or_first (class_named g h.class.text)) (kind_written g h.of) }
+
+abbrev pub attributes_of : List Class → List Head → List Attribute
 attributes_of g list = map (attribute_of g) list

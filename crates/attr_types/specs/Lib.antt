@@ -1,8 +1,12 @@
 pub mod Bodies
 pub mod Calls
 pub mod Completeness
+pub mod Covering
+pub mod CoveringKept
 pub mod DeclaredNames
 pub mod Heads
+pub mod InheritedTypes
+pub mod Paths
 pub mod Phases
 pub mod Asked
 pub mod Scope

@@ -10,17 +10,18 @@ use Rattle.attr_rules.specs.declared.kinds.Kind.TheVariants as kinds
 use Rattle.attr_rules.specs.Rules.{Attribute, Equation, RuleSet, declared_at}
 use Rattle.attr_types.specs.Bodies.{operand_broken}
 use Rattle.attr_types.specs.declared.standing.Stands.TheVariants.{Anywhere}
-use Rattle.attr_types.specs.Completeness.{complete_broken}
+use Rattle.attr_types.specs.Completeness.{complete_broken, places_of}
 use Rattle.attr_types.specs.Heads.{attributes_of, heads_broken}
+use Rattle.attr_types.specs.Paths.{bound_names}
 use Rattle.attr_types.specs.Scope.{Scope}
 use Rattle.attr_types.specs.Targets.{target_given, targets_broken, targets_of}
 use Rattle.attr_types.specs.Typed.{body_of}
 use Rattle.attr_types.specs.Written.{Given, declarations, givens}
-use Rattle.jrag_reader.specs.Items.{Item}
+use Rattle.jrag_reader.specs.Items.{Item, Signature}
 
--- where the right side of an equation stands
-abbrev pub scope_of : List Class → List Attribute → Target → Scope
-scope_of g attributes t = record { grammar = g; known = record { superclasses = superclasses_of g; attributes = attributes }; this = t.class; variables = [] }
+-- where the right side of an equation with a path, or without one, stands
+abbrev pub scope_of : List Class → List Attribute → Option Signature → Target → Scope
+scope_of g attributes p t = record { grammar = g; known = record { superclasses = superclasses_of g; attributes = attributes }; this = t.class; variables = bound_names p t.reach }
 
 abbrev pub kind_or_truth : Option Attr → Kind
 kind_or_truth None = kinds.Truth
@@ -31,7 +32,7 @@ abbrev pub wanted_by : List Attribute → Target → Kind
 wanted_by attributes t = kind_or_truth (declared_at attributes t.attribute.0)
 
 abbrev pub equation_broken : List Class → List Attribute → Given → List Broken
-equation_broken g attributes e = operand_broken (scope_of g attributes (target_given g attributes e)) Anywhere (wanted_by attributes (target_given g attributes e)) e.body
+equation_broken g attributes e = operand_broken (scope_of g attributes e.path (target_given g attributes e)) Anywhere (wanted_by attributes (target_given g attributes e)) e.body
 
 abbrev pub bodies_broken : List Class → List Attribute → List Given → List Broken
 bodies_broken g attributes list = flat_map (equation_broken g attributes) list
@@ -41,12 +42,12 @@ abbrev pub phases_of : List Class → List Item → List (List Broken)
 phases_of g items =
     heads_broken g (declarations items)
     ∷ targets_broken g (attributes_of g (declarations items)) (givens items)
-    ∷ complete_broken g (targets_of g (attributes_of g (declarations items)) (givens items)) (declarations items)
+    ∷ complete_broken g (attributes_of g (declarations items)) (targets_of g (attributes_of g (declarations items)) (givens items)) (places_of (declarations items))
     ∷ bodies_broken g (attributes_of g (declarations items)) (givens items)
     ∷ []
 
 abbrev pub equation_of : List Class → List Attribute → Given → Equation
-equation_of g attributes e = record { target = target_given g attributes e; body = body_of (scope_of g attributes (target_given g attributes e)) e.body }
+equation_of g attributes e = record { target = target_given g attributes e; body = body_of (scope_of g attributes e.path (target_given g attributes e)) e.body }
 
 -- attributes and equations are numbered in the order of the items
 unfoldable pub rules_of : List Class → List Item → RuleSet

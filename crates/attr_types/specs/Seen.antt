@@ -1,20 +1,25 @@
--- Equations and expressions without where they lie in memory.
+-- Declarations, equations and expressions without where they lie in memory.
 use Rattle.std.specs.Prelude.{Option, map}
-use Rattle.std.specs.Option.{option_and_then}
+use Rattle.std.specs.Option.{option_and_then, option_map}
 use Rattle.attr_rules.specs.declared.types.ValueType.{ValueType}
 use Rattle.attr_rules.specs.Expression.{Expression, expression_of}
 use Rattle.jrag_reader.specs.declared.expression.Quantifier.{Quantifier}
 use Rattle.jrag_reader.specs.Expressions.{Arguments, Expr, Name, seen_expr, seen_name}
+use Rattle.jrag_reader.specs.Items.{seen_signature, seen_type}
 use Rattle.attr_types.specs.declared.scope.Scope as kept_scope
 use Rattle.attr_types.specs.declared.scope.Variable as kept_variable
 use Rattle.attr_types.specs.declared.typed.Typed as kept_typed
 use Rattle.attr_types.specs.declared.written.Given as kept_given
+use Rattle.attr_types.specs.declared.written.Head as kept_head
 use Rattle.attr_types.specs.Scope.{Scope, Variable, member_on, type_called}
 use Rattle.attr_types.specs.Typed.{body_of, call_said, count, first_of, inside, known, list_of, over_said, owner_of, quantified_type}
-use Rattle.attr_types.specs.Written.{Given}
+use Rattle.attr_types.specs.Written.{Given, Head}
+
+abbrev pub seen_head : kept_head.Head → Head
+seen_head h = record { sort = h.sort; of = seen_type h.of.now; class = seen_name h.class.now; signature = seen_signature h.signature.now }
 
 abbrev pub seen_given : kept_given.Given → Given
-seen_given e = record { class = seen_name e.class.now; attribute = seen_name e.attribute.now; body = seen_expr e.body.now }
+seen_given e = record { class = seen_name e.class.now; path = option_map (λ s. seen_signature s.now) e.path; attribute = seen_name e.attribute.now; body = seen_expr e.body.now }
 
 abbrev pub seen_variable : kept_variable.Variable → Variable
 seen_variable v = record { name = v.name.now; type = v.value_type }

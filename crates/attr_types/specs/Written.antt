@@ -2,32 +2,50 @@
 use Rattle.std.specs.Prelude.{List, Option, Some, None}
 use Rattle.std.specs.List.{filter_map}
 use Rattle.std.specs.Option.{option_map}
+use Rattle.jrag_reader.specs.Built.{own_signature}
 use Rattle.jrag_reader.specs.Expressions.{Expr, Name}
-use Rattle.jrag_reader.specs.Items.{Item, Declared, Inherits, Equates, Collects, Contributes, Equation, Synthesized}
+use Rattle.attr_rules.specs.declared.kinds.Sort.{Sort}
+use Rattle.attr_rules.specs.declared.kinds.Sort.TheVariants.{Syn, Inh}
+use Rattle.jrag_reader.specs.Items.{Item, Declared, Inherits, Equates, Collects, Contributes, Equation, Inherited, Signature, Synthesized, WrittenType}
 
--- the declaration of a synthesized attribute that an item is, if it is one
-abbrev pub declared_in : Item → Option Synthesized
-declared_in (Declared s) = Some s
-declared_in (Inherits i) = None
+-- the declaration of an attribute: its sort, its type, the class that has it, and its name with the parameters
+pub record Head : Type 0 where
+  pub sort : Sort
+  pub of : WrittenType
+  pub class : Name
+  pub signature : Signature
+
+abbrev pub synthesized_head : Synthesized → Head
+synthesized_head s = record { sort = Syn; of = s.of; class = s.class; signature = s.signature }
+
+abbrev pub inherited_head : Inherited → Head
+inherited_head i = record { sort = Inh; of = i.of; class = i.class; signature = i.signature }
+
+-- the declaration that an item is, if it is one
+abbrev pub declared_in : Item → Option Head
+declared_in (Declared s) = Some (synthesized_head s)
+declared_in (Inherits i) = Some (inherited_head i)
 declared_in (Equates e) = None
 declared_in (Collects c) = None
 declared_in (Contributes c) = None
 
 -- the declarations among some items, in their order
-abbrev pub declarations : List Item → List Synthesized
+abbrev pub declarations : List Item → List Head
 declarations items = filter_map declared_in items
 
--- an equation: the name of the class, that of the attribute, and the right side
+-- an equation: the name of the class, the path to the nodes, if it has one, the name of the attribute, and the right side
 pub record Given : Type 0 where
   pub class : Name
+  pub path : Option Signature
   pub attribute : Name
   pub body : Expr
 
 abbrev pub given_with : Synthesized → Expr → Given
-given_with s e = record { class = s.class; attribute = s.signature.name; body = e }
+given_with s e = record { class = s.class; path = None; attribute = s.signature.name; body = e }
 
+-- with an inherited attribute behind it, the first name is a path
 abbrev pub given_by : Equation → Given
-given_by e = record { class = e.class; attribute = e.signature.name; body = e.body }
+given_by e = record { class = e.class; path = option_map (λ s. e.signature) e.inherited; attribute = (own_signature e).name; body = e.body }
 
 -- the equation that an item gives, if it gives one: that of `eq`, or the one that stands in a declaration
 abbrev pub given_in : Item → Option Given

@@ -26,6 +26,7 @@ ghost use Rattle.jrag_reader.specs.Expressions.{Call, Variable as Named, argumen
 
 use crate::calls::{Called, check_call, check_list_type};
 use crate::heads::check_class;
+use crate::paths::bound_names;
 use crate::scope::{Member, Scope, Variable, list_called, wanted_for};
 use crate::sides::{Part, check_choice, check_fit, check_node, check_range, check_sides, place_of};
 use crate::standing::Stands;
@@ -657,11 +658,12 @@ fn check_body(
     ensures noted { OnOk result (Notes (equation_broken grammar.now attributes.now.attributes (seen_given equation.now)) faults.old faults.new) }
     ensures says { IfOk result (λ e. equation_in e ≡ equation_of grammar.now attributes.now.attributes (seen_given equation.now)) }
 {
+    let variables = bound_names(alloc, equation.path, target.reach)?;
     let scope = Scope {
         grammar,
         attributes,
         class: target.class,
-        variables: &[],
+        variables: &variables,
     };
     let wanted = wanted_by(attributes, target);
     let body = type_operand(

@@ -7,7 +7,7 @@ ghost use Rattle.jrag_reader.specs.Built.{all_built};
 ghost use Rattle.jrag_reader.specs.Items.{seen_aspects};
 
 use crate::bodies::check_bodies;
-use crate::completeness::check_completeness;
+use crate::completeness::{check_completeness, places_of};
 use crate::heads::check_heads;
 use crate::targets::check_targets;
 use crate::written::{declarations, givens};
@@ -24,7 +24,7 @@ use std::alloc::Global;
 /// is declared a second time for a class, a superclass or a subclass, or has the spelling of an accessor there (J3); there are at most
 /// 1,024 (J17). What equations are for: the class is one of the grammar (J2) and has the attribute (J5), and no equation before is for
 /// the same class and attribute (J6). Completeness: each concrete class has an equation for each of its attributes, of its own or of
-/// a superclass (J7). Expressions: names mean something (J9), types fit (J10), calls have as many arguments as are wanted (J11), and
+/// a superclass (J7), and no inherited attribute can be met uncovered (J8). Expressions: names mean something (J9), types fit (J10), calls have as many arguments as are wanted (J11), and
 /// integer literals have 32 bits (J17).
 pub fn check(alloc: Global, grammar: &Grammar, aspects: &Aspects) -> Result<Rules, ReadFault>
     requires { all_built (seen_aspects aspects.now) ≡ true }
@@ -36,7 +36,8 @@ pub fn check(alloc: Global, grammar: &Grammar, aspects: &Aspects) -> Result<Rule
     let equations = givens(alloc, &aspects.items)?;
     let targets = check_targets(alloc, grammar, &attributes, &equations)?;
     let dispatch = Dispatch::of_targets(alloc, grammar, attributes.len(), &targets)?;
-    check_completeness(grammar, &dispatch, &heads)?;
+    let places = places_of(alloc, &heads)?;
+    check_completeness(alloc, grammar, &attributes, &dispatch, &places)?;
     let list = check_bodies(alloc, grammar, &attributes, &equations, &targets)?;
     Ok(Rules::of_parts(attributes, dispatch, list))
 }

@@ -1,29 +1,27 @@
-// The rule that each concrete class has an equation for each of its attributes: J7.
-ghost use Rattle.std.specs.Prelude.{◌≡◌, ◌&&◌, ◌≤◌, List, is_none, length, map};
+// The rules that each concrete class has an equation for each of its attributes, and that no inherited one can be met uncovered: J7 and J8.
+ghost use Rattle.std.specs.Prelude.{◌≡◌, ◌&&◌, ◌<◌, List, IfOk, OnOk, is_none, length, map};
 ghost use Rattle.std.specs.List.{list_any};
+ghost use Rattle.std.specs.Option.{option_map};
 ghost use Rattle.ast_grammar.specs.Grammar.{is_sub, superclasses_of};
 ghost use Rattle.broken_rules.specs.Answers.{Ends};
 ghost use Rattle.broken_rules.specs.Notes.{Notes};
 ghost use Rattle.attr_rules.specs.declared.dispatch.Target.{Target};
 ghost use Rattle.attr_rules.specs.Dispatching.{Dispatches};
-ghost use Rattle.attr_types.specs.Heads.{class_numbers};
 ghost use Rattle.attr_rules.specs.RowsKept.{at_row};
-ghost use Rattle.attr_rules.specs.Rules.{most_attributes};
-ghost use Rattle.attr_types.specs.Completeness.{complete_broken, is_concrete, missing_broken};
-ghost use Rattle.jrag_reader.specs.Items.{seen_synthesized};
+ghost use Rattle.attr_rules.specs.Rules.{number_of_attribute};
+ghost use Rattle.attr_types.specs.Completeness.{complete_broken, is_open, lacking, place_of, places_of};
+ghost use Rattle.attr_types.specs.Covering.{is_concrete};
+ghost use Rattle.attr_types.specs.CoveringKept.{mark_at};
+ghost use Rattle.attr_types.specs.Heads.{class_numbers};
+ghost use Rattle.attr_types.specs.Seen.{seen_head};
 
-use crate::heads::attribute_of;
+use crate::covering::{is_concrete, is_marked, uncovered_classes};
+use crate::written::Head;
 use ast_grammar::{ClassId, Grammar};
-use attr_rules::{AttrId, Dispatch};
+use attr_rules::{AttrId, Attributes, Dispatch};
 use broken_rules::{Earliest, ReadFault, Rule};
-use jrag_reader::Synthesized;
-
-// There are nodes of the class.
-fn is_concrete(grammar: &Grammar, class: ClassId) -> bool
-    ensures { result ≡ is_concrete grammar.now class.0 }
-{
-    u32::from(class.0) < grammar.classes() && !grammar.is_abstract(class)
-}
+use rag_io::{Memory, Place};
+use std::alloc::Global;
 
 // Nodes of some class have the attribute, which is declared for a class, and no equation gives it a value there.
 fn lacks_equation(
@@ -42,33 +40,98 @@ fn lacks_equation(
     })
 }
 
-// J7 of a declaration.
-fn check_complete(
-    grammar: &Grammar,
-    dispatch: &Dispatch,
-    attribute: AttrId,
-    head: &Synthesized,
-    faults: &mut Earliest,
-)
-    ensures { (targets : List Target) → Dispatches (superclasses_of grammar.now) targets dispatch.now → Notes (missing_broken grammar.now targets attribute.0 (seen_synthesized head.now)) faults.old faults.new }
+// One of the marked classes has the attribute, which is declared for a class.
+fn is_marked_below(grammar: &Grammar, marks: &[bool], declared: ClassId) -> bool
+    ensures { result ≡ list_any (λ c. is_sub grammar.now c declared.0 && mark_at marks.now c) (class_numbers grammar.now) }
 {
-    let declared = attribute_of(grammar, head).declared.class;
-    let is_missing = lacks_equation(grammar, dispatch, attribute, declared);
-    faults.note_if(is_missing, Rule::J7, head.signature.name.place);
+    (0..grammar.classes()).any(|number| {
+        let class = ClassId(number as u16);
+        grammar.is_sub(class, declared) && is_marked(marks, class)
+    })
 }
 
-/// The phase of completeness, among the equations for these.
-pub(crate) fn check_completeness(
+// An inherited attribute can be met uncovered, which is declared for a class.
+fn is_open(
+    alloc: Global,
     grammar: &Grammar,
     dispatch: &Dispatch,
-    heads: &[&Synthesized],
+    first: Option<AttrId>,
+    declared: ClassId,
+) -> Result<bool, Memory>
+    ensures { (targets : List Target) → Dispatches (superclasses_of grammar.now) targets dispatch.now → IfOk result (λ b. b ≡ list_any (is_open grammar.now targets (option_map number_of_attribute first) declared.0) (class_numbers grammar.now)) }
+{
+    let marks = uncovered_classes(alloc, grammar, dispatch, first)?;
+    Ok(is_marked_below(grammar, &marks, declared))
+}
+
+// J7 or J8 of an attribute, whose name in the declaration stands at a place.
+fn check_attribute(
+    alloc: Global,
+    grammar: &Grammar,
+    attributes: &Attributes,
+    dispatch: &Dispatch,
+    attribute: AttrId,
+    place: Place,
+    faults: &mut Earliest,
+) -> Result<(), Memory>
+    requires { attribute.0 < length attributes.now.attributes }
+    ensures { (targets : List Target) → Dispatches (superclasses_of grammar.now) targets dispatch.now → OnOk result (Notes (lacking grammar.now attributes.now.attributes targets attribute.0 place) faults.old faults.new) }
+{
+    let declared = attributes.attr(attribute);
+    if declared.sort.is_inherited() {
+        let first = attributes.first_of_name(attribute);
+        let is_open = is_open(alloc, grammar, dispatch, first, declared.class)?;
+        faults.note_if(is_open, Rule::J8, place);
+        return Ok(());
+    }
+    let is_missing = lacks_equation(grammar, dispatch, attribute, declared.class);
+    faults.note_if(is_missing, Rule::J7, place);
+    Ok(())
+}
+
+// Where the name in a declaration stands.
+fn place_of(head: &Head<'_>) -> Place
+    ensures { result ≡ place_of (seen_head head.now) }
+{
+    head.signature.name.place
+}
+
+/// Where the names in the declarations stand.
+pub(crate) fn places_of(alloc: Global, heads: &[Head<'_>]) -> Result<Vec<Place>, Memory>
+    ensures { IfOk result (λ list. list.items ≡ places_of (map seen_head heads.now)) }
+{
+    let mut list = Vec::new(alloc);
+    for head in heads {
+        list.push(place_of(head)).map_err(|_| Memory)?;
+    }
+    Ok(list)
+}
+
+/// The phase of completeness, among the equations for these: of each attribute, whose name in the declaration stands at the place of its
+/// number.
+pub(crate) fn check_completeness(
+    alloc: Global,
+    grammar: &Grammar,
+    attributes: &Attributes,
+    dispatch: &Dispatch,
+    places: &[Place],
 ) -> Result<(), ReadFault>
-    requires { length heads.now ≤ most_attributes }
-    ensures { (targets : List Target) → Dispatches (superclasses_of grammar.now) targets dispatch.now → Ends (complete_broken grammar.now targets (map (λ s. seen_synthesized s.now) heads.now)) result }
+    requires { length places.now ≡ length attributes.now.attributes }
+    ensures { (targets : List Target) → Dispatches (superclasses_of grammar.now) targets dispatch.now → Ends (complete_broken grammar.now attributes.now.attributes targets places.now) result }
 {
     let mut faults = Earliest::new();
-    for (i, head) in heads.iter().enumerate() {
-        check_complete(grammar, dispatch, AttrId(i as u16), head, &mut faults);
+    for i in 0..attributes.len() {
+        let attribute = AttrId(i as u16);
+        let place = places[i as usize];
+        check_attribute(
+            alloc,
+            grammar,
+            attributes,
+            dispatch,
+            attribute,
+            place,
+            &mut faults,
+        )?;
     }
     faults.answer()
 }

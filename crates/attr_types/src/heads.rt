@@ -1,4 +1,4 @@
-// The rules on declarations: J2, J3, J4 and J17.
+// The rules on declarations: J2, J3, J4, J15 and J17.
 ghost use Rattle.std.specs.Prelude.{◌≡◌, ◌<◌, ◌++◌, ◌∷◌, [], List, Some, IfOk, IfSome, OnOk, length, map};
 ghost use Rattle.std.specs.Option.{option_map};
 ghost use Rattle.ast_grammar.specs.Grammar.{class_named, number_of, superclasses_of};
@@ -6,16 +6,20 @@ ghost use Rattle.broken_rules.specs.Answers.{Ends};
 ghost use Rattle.broken_rules.specs.Notes.{Notes};
 ghost use Rattle.attr_rules.specs.KeptEquations.{seen_attribute};
 ghost use Rattle.attr_types.specs.DeclaredNames.{Adds, IsEven, Tells};
-ghost use Rattle.attr_types.specs.Heads.{again_for, attribute_of, attributes_of, class_broken, head_broken, heads_broken, is_taken, kind_written, type_broken, type_written};
+ghost use Rattle.attr_types.specs.Heads.{again_for, attribute_of, attributes_of, class_broken, heads_broken, is_taken, kind_written, named_broken, other_broken, same_kind, type_broken, type_written};
+ghost use Rattle.attr_types.specs.InheritedTypes.{TellsFirst};
+ghost use Rattle.attr_types.specs.Seen.{seen_head};
+ghost use Rattle.attr_types.specs.Written as written;
 ghost use Rattle.jrag_reader.specs.Expressions.{seen_name};
-ghost use Rattle.jrag_reader.specs.Items as read;
-ghost use Rattle.jrag_reader.specs.Items.{seen_synthesized, seen_type};
+ghost use Rattle.jrag_reader.specs.Items.{seen_type};
 
 use crate::declared::Declared;
+use crate::inheriting::Inheriting;
+use crate::written::Head;
 use ast_grammar::{ClassId, Grammar};
 use attr_rules::{Attr, Attributes, Kind, NamedAttr, is_spelled};
 use broken_rules::{Earliest, ReadFault, Rule};
-use jrag_reader::{Name, Synthesized, Type, TypeName};
+use jrag_reader::{Name, Type, TypeName};
 use rag_io::Memory;
 use std::alloc::Global;
 
@@ -52,8 +56,8 @@ fn check_again<'a>(
     name: &'a Name,
     faults: &mut Earliest,
 ) -> Result<(), Memory>
-    ensures noted { (before : List read.Synthesized) → Tells grammar.now before declared.old → OnOk result (Notes (again_for grammar.now before (seen_name name.now) (Some class.0)) faults.old faults.new) }
-    ensures kept { (before : List read.Synthesized) → Tells grammar.now before declared.old → OnOk result (IsEven declared.new × Adds declared.old class (seen_name name.now).text declared.new) }
+    ensures noted { (before : List written.Head) → Tells grammar.now before declared.old → OnOk result (Notes (again_for grammar.now before (seen_name name.now) (Some class.0)) faults.old faults.new) }
+    ensures kept { (before : List written.Head) → Tells grammar.now before declared.old → OnOk result (IsEven declared.new × Adds declared.old class (seen_name name.now).text declared.new) }
 {
     let is_again = declared.contains(grammar, class, &name.text);
     faults.note_if(
@@ -64,8 +68,8 @@ fn check_again<'a>(
     declared.insert(alloc, class, &name.text)
 }
 
-// The type that is written, if it is one: sets are of texts or of nodes of a class.
-fn type_written(grammar: &Grammar, of: &Type) -> Option<Kind>
+/// The type that is written, if it is one: sets are of texts or of nodes of a class.
+pub(crate) fn type_written(grammar: &Grammar, of: &Type) -> Option<Kind>
     ensures { result ≡ type_written grammar.now (seen_type of.now) }
 {
     match (&of.name, of.set) {
@@ -94,34 +98,68 @@ fn kind_written(grammar: &Grammar, of: &Type) -> Kind
 }
 
 // J2, J3, J4 and J17 of a declaration, before which there are so many.
-fn check_head<'a>(
+fn check_named<'a>(
     alloc: Global,
     grammar: &Grammar,
     declared: &mut Declared<'a>,
     count: usize,
-    head: &'a Synthesized,
+    head: &Head<'a>,
     faults: &mut Earliest,
 ) -> Result<(), Memory>
-    ensures noted { (before : List read.Synthesized) → Tells grammar.now before declared.old → count ≡ length before → OnOk result (Notes (head_broken grammar.now before (seen_synthesized head.now)) faults.old faults.new) }
-    ensures told { (before : List read.Synthesized) → Tells grammar.now before declared.old → OnOk result (Tells grammar.now (before ++ seen_synthesized head.now ∷ []) declared.new) }
+    ensures noted { (before : List written.Head) → Tells grammar.now before declared.old → count ≡ length before → OnOk result (Notes (named_broken grammar.now before (seen_head head.now)) faults.old faults.new) }
+    ensures told { (before : List written.Head) → Tells grammar.now before declared.old → OnOk result (Tells grammar.now (before ++ seen_head head.now ∷ []) declared.new) }
 {
     let name = &head.signature.name;
-    check_type(grammar, &head.of, faults);
-    if let Some(class) = check_class(grammar, &head.class, faults) {
+    check_type(grammar, head.of, faults);
+    if let Some(class) = check_class(grammar, head.class, faults) {
         check_again(alloc, grammar, declared, class, name, faults)?;
     }
     faults.note_if(count == MOST_ATTRIBUTES, Rule::J17, name.place);
     Ok(())
 }
 
+/// Two types are one, as far as both are known.
+pub(crate) fn same_kind(left: Option<Kind>, right: Option<Kind>) -> bool
+    ensures { result ≡ same_kind left right }
+{
+    match (left, right) {
+        (Some(left), Some(right)) => left == right,
+        _ => true,
+    }
+}
+
+// J15 of a declaration. The type of an inherited attribute is kept, where it is the first of its name.
+fn check_other<'a>(
+    grammar: &Grammar,
+    inheriting: &mut Inheriting<'a>,
+    head: &Head<'a>,
+    faults: &mut Earliest,
+) -> Result<(), Memory>
+    ensures noted { (before : List written.Head) → TellsFirst grammar.now before inheriting.old.types → OnOk result (Notes (other_broken grammar.now before (seen_head head.now)) faults.old faults.new) }
+    ensures told { (before : List written.Head) → TellsFirst grammar.now before inheriting.old.types → OnOk result (TellsFirst grammar.now (before ++ seen_head head.now ∷ []) inheriting.new.types) }
+{
+    if !head.sort.is_inherited() {
+        return Ok(());
+    }
+    let name = &head.signature.name;
+    let kind = type_written(grammar, head.of);
+    let first = inheriting.first(&name.text);
+    faults.note_if(!same_kind(first, kind), Rule::J15, name.place);
+    inheriting.insert(&name.text, kind)
+}
+
 /// What a declaration declares. A class that there isn't counts as the first.
-pub(crate) fn attribute_of<'a>(grammar: &Grammar, head: &'a Synthesized) -> NamedAttr<'a>
-    ensures { seen_attribute result ≡ attribute_of grammar.now (seen_synthesized head.now) }
+pub(crate) fn attribute_of<'a>(grammar: &Grammar, head: &Head<'a>) -> NamedAttr<'a>
+    ensures { seen_attribute result ≡ attribute_of grammar.now (seen_head head.now) }
 {
     let class = grammar.find_class(&head.class.text).unwrap_or(ClassId(0));
+    let plain = Attr::plain(class, kind_written(grammar, head.of));
     NamedAttr {
         name: &head.signature.name.text,
-        declared: Attr::plain(class, kind_written(grammar, &head.of)),
+        declared: Attr {
+            sort: head.sort,
+            ..plain
+        },
     }
 }
 
@@ -129,9 +167,9 @@ pub(crate) fn attribute_of<'a>(grammar: &Grammar, head: &'a Synthesized) -> Name
 fn named_attributes<'a>(
     alloc: Global,
     grammar: &Grammar,
-    heads: &[&'a Synthesized],
+    heads: &[Head<'a>],
 ) -> Result<Vec<NamedAttr<'a>>, Memory>
-    ensures { IfOk result (λ list. map seen_attribute list.items ≡ attributes_of grammar.now (map (λ s. seen_synthesized s.now) heads.now)) }
+    ensures { IfOk result (λ list. map seen_attribute list.items ≡ attributes_of grammar.now (map seen_head heads.now)) }
 {
     let mut list = Vec::new(alloc);
     for head in heads {
@@ -144,15 +182,17 @@ fn named_attributes<'a>(
 pub(crate) fn check_heads(
     alloc: Global,
     grammar: &Grammar,
-    heads: &[&Synthesized],
+    heads: &[Head<'_>],
 ) -> Result<Attributes, ReadFault>
-    ensures phase { Ends (heads_broken grammar.now (map (λ s. seen_synthesized s.now) heads.now)) result }
-    ensures attributes { IfOk result (λ a. a ≡ record { superclasses = superclasses_of grammar.now; attributes = attributes_of grammar.now (map (λ s. seen_synthesized s.now) heads.now) }) }
+    ensures phase { Ends (heads_broken grammar.now (map seen_head heads.now)) result }
+    ensures attributes { IfOk result (λ a. a ≡ record { superclasses = superclasses_of grammar.now; attributes = attributes_of grammar.now (map seen_head heads.now) }) }
 {
     let mut faults = Earliest::new();
     let mut declared = Declared::new(alloc);
+    let mut inheriting = Inheriting::new(alloc);
     for (count, head) in heads.iter().enumerate() {
-        check_head(alloc, grammar, &mut declared, count, head, &mut faults)?;
+        check_named(alloc, grammar, &mut declared, count, head, &mut faults)?;
+        check_other(grammar, &mut inheriting, head, &mut faults)?;
     }
     faults.answer()?;
     let list = named_attributes(alloc, grammar, heads)?;

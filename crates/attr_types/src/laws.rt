@@ -1,8 +1,9 @@
 // What holds of aspects that break no rule.
-ghost use Rattle.std.specs.Prelude.{◌≡◌, List, None, true};
+ghost use Rattle.std.specs.Prelude.{◌≡◌, ◌↔◌, ℕ, List, None, true};
 ghost use Rattle.ast_grammar.specs.Grammar.{Class, IsGrammar};
 ghost use Rattle.broken_rules.specs.Answers.{Answers};
-ghost use Rattle.attr_rules.specs.Rules.{AreRules};
+ghost use Rattle.attr_rules.specs.Rules.{AreRules, RuleSet, Uncovered};
+ghost use Rattle.attr_types.specs.Covering.{covers, is_uncovered};
 ghost use Rattle.attr_types.specs.Phases.{phases_of, rules_of};
 ghost use Rattle.jrag_reader.specs.Built.{all_built};
 ghost use Rattle.jrag_reader.specs.Items.{Item};
@@ -11,4 +12,10 @@ ghost use Rattle.jrag_reader.specs.Items.{Item};
 /// typed and fits, and each concrete class has an equation for each of its attributes.
 pub fn accepted_rules()
     ensures { (g : List Class) (items : List Item) → IsGrammar g → all_built items ≡ true → Answers (phases_of g items) None → AreRules g (rules_of g items) }
+{}
+
+/// The classes that the rounds of `is_uncovered` find are exactly those of which there can be a node at which no equation gives a value to
+/// an inherited attribute.
+pub fn uncovered_classes_are_found()
+    ensures { (g : List Class) (r : RuleSet) (a c : ℕ) → (is_uncovered g (covers r a) c ≡ true) ↔ Uncovered g r a c }
 {}

@@ -6,9 +6,12 @@ mod bodies;
 mod calls;
 mod checking;
 mod completeness;
+mod covering;
 mod declared;
 mod heads;
+mod inheriting;
 mod laws;
+mod paths;
 mod scope;
 mod sides;
 mod standing;
@@ -18,4 +21,4 @@ mod written;
 
 pub use asked::query_of_call;
 pub use checking::check;
-pub use laws::accepted_rules;
+pub use laws::{accepted_rules, uncovered_classes_are_found};

@@ -1,16 +1,20 @@
-// The rules on what equations are for: J2, J5 and J6.
-ghost use Rattle.std.specs.Prelude.{◌≡◌, ◌++◌, ◌∷◌, [], List, IfOk, OnOk, map};
-ghost use Rattle.ast_grammar.specs.Grammar.{Class, superclasses_of};
-ghost use Rattle.attr_rules.specs.Rules.{Attribute};
+// The rules on what equations are for: J2, J5 and J6, beside those on paths.
+ghost use Rattle.std.specs.Prelude.{◌≡◌, ◌<◌, ◌++◌, ◌∷◌, [], List, IfOk, IfSome, None, OnOk, is_none, length, map};
+ghost use Rattle.std.specs.Option.{option_map};
+ghost use Rattle.ast_grammar.specs.Grammar.{Class, number_of, superclasses_of};
+ghost use Rattle.attr_rules.specs.Rules.{Attribute, first_inherited, number_of_attribute};
 ghost use Rattle.broken_rules.specs.Answers.{Ends};
-ghost use Rattle.broken_rules.specs.Notes.{Notes};
+ghost use Rattle.broken_rules.specs.Notes.{Notes, at, broken_if};
+ghost use Rattle.broken_rules.specs.declared.rule.Rule.TheVariants.{J5};
 ghost use Rattle.attr_types.specs.Seen.{seen_given};
-ghost use Rattle.attr_types.specs.Targets.{second_broken, target_of, target_or_first, targets_broken, targets_of, unknown_broken};
+ghost use Rattle.attr_types.specs.Targets.{attribute_for, lacking_broken, own_attribute, second_broken, target_by, target_of, target_or_first, targets_broken, targets_of, unknown_broken};
 ghost use Rattle.attr_types.specs.TargetsKept.{Holds};
 ghost use Rattle.attr_types.specs.Written as written;
 ghost use Rattle.jrag_reader.specs.Expressions.{seen_name};
+ghost use Rattle.jrag_reader.specs.Items.{seen_signature};
 
 use crate::heads::check_class;
+use crate::paths::check_path;
 use crate::written::Given;
 use ast_grammar::{ClassId, Grammar};
 use attr_rules::{AttrId, Attributes, Reach, Target};
@@ -31,28 +35,85 @@ const FIRST: Target = Target {
 #[derive(Clone, Copy, Debug, PartialEq, Eq, Hash)]
 struct Key {
     class: u16,
+    reach: Reach,
     attribute: u16,
 }
 
-// What an equation is for. Notes J2 where there is no such class, and J5 where the class has no such attribute.
+// The attribute that a class has by a name, where it isn't inherited.
+fn own_attribute(attributes: &Attributes, class: ClassId, name: &[u8]) -> Option<AttrId>
+    requires { class.0 < length attributes.now.superclasses }
+    ensures { (g : List Class) → attributes.now.superclasses ≡ superclasses_of g → option_map number_of_attribute result ≡ own_attribute g attributes.now.attributes name.now class.0 }
+{
+    let attribute = attributes.find(class, name)?;
+    if attributes.attr(attribute).sort.is_inherited() {
+        None
+    } else {
+        Some(attribute)
+    }
+}
+
+// The attribute of an equation without a path, where its class is known, which has it. Notes J5 where it hasn't.
+fn check_own(
+    grammar: &Grammar,
+    attributes: &Attributes,
+    class: Option<ClassId>,
+    name: &Name,
+    faults: &mut Earliest,
+) -> Option<AttrId>
+    requires within { IfSome class (λ c. c.0 < length grammar.now) }
+    requires superclasses { attributes.now.superclasses ≡ superclasses_of grammar.now }
+    ensures attribute { option_map number_of_attribute result ≡ attribute_for grammar.now attributes.now.attributes (option_map number_of class) None (seen_name name.now).text }
+    ensures noted { Notes (lacking_broken grammar.now attributes.now.attributes None (option_map number_of class) (seen_name name.now)) faults.old faults.new }
+{
+    let attribute = own_attribute(attributes, class?, &name.text);
+    faults.note_if(attribute.is_none(), Rule::J5, name.place);
+    attribute
+}
+
+// The inherited attribute of an equation with a path. Notes J5 where there is none.
+fn check_inherited(attributes: &Attributes, name: &Name, faults: &mut Earliest) -> Option<AttrId>
+    ensures attribute { option_map number_of_attribute result ≡ first_inherited attributes.now.attributes (seen_name name.now).text }
+    ensures noted { Notes (broken_if (is_none (first_inherited attributes.now.attributes (seen_name name.now).text)) (at (seen_name name.now).place J5)) faults.old faults.new }
+{
+    let attribute = attributes.find_inherited(&name.text);
+    faults.note_if(attribute.is_none(), Rule::J5, name.place);
+    attribute
+}
+
+// What an equation is for, by its class, its reach and its attribute, where these are known.
+fn target_by(
+    class: Option<ClassId>,
+    reach: Option<Reach>,
+    attribute: Option<AttrId>,
+) -> Option<Target>
+    ensures { result ≡ target_by (option_map number_of class) reach (option_map number_of_attribute attribute) }
+{
+    Some(Target {
+        class: class?,
+        reach: reach?,
+        attribute: attribute?,
+    })
+}
+
+// What an equation is for. Notes J2 where there is no such class, what the path breaks, and J5 where there is no such attribute.
 fn check_target(
+    alloc: Global,
     grammar: &Grammar,
     attributes: &Attributes,
     equation: &Given<'_>,
     faults: &mut Earliest,
-) -> Option<Target>
+) -> Result<Option<Target>, Memory>
     requires { attributes.now.superclasses ≡ superclasses_of grammar.now }
-    ensures target { result ≡ target_of grammar.now attributes.now.attributes (seen_given equation.now) }
-    ensures noted { Notes (unknown_broken grammar.now attributes.now.attributes (seen_given equation.now)) faults.old faults.new }
+    ensures target { IfOk result (λ t. t ≡ target_of grammar.now attributes.now.attributes (seen_given equation.now)) }
+    ensures noted { OnOk result (Notes (unknown_broken grammar.now attributes.now.attributes (seen_given equation.now)) faults.old faults.new) }
 {
-    let class = check_class(grammar, equation.class, faults)?;
-    let attribute = attributes.find(class, &equation.attribute.text);
-    faults.note_if(attribute.is_none(), Rule::J5, equation.attribute.place);
-    Some(Target {
-        class,
-        reach: Reach::Own,
-        attribute: attribute?,
-    })
+    let class = check_class(grammar, equation.class, faults);
+    let reach = check_path(alloc, grammar, class, equation.path, faults)?;
+    let attribute = match equation.path {
+        None => check_own(grammar, attributes, class, equation.attribute, faults),
+        Some(_) => check_inherited(attributes, equation.attribute, faults),
+    };
+    Ok(target_by(class, reach, attribute))
 }
 
 // The same where there is one, and else the first attribute of the first class.
@@ -62,7 +123,7 @@ fn target_or_first(target: Option<Target>) -> Target
     target.unwrap_or(FIRST)
 }
 
-// Notes J6 where an equation before is for the same class and attribute.
+// Notes J6 where an equation before is for the same class, reach and attribute.
 fn check_second(
     given: &mut HashSet<Key>,
     target: Option<Target>,
@@ -75,6 +136,7 @@ fn check_second(
     let Some(target) = target else { return Ok(()) };
     let key = Key {
         class: target.class.0,
+        reach: target.reach,
         attribute: target.attribute.0,
     };
     let Ok(is_new) = given.insert(key) else {
@@ -84,7 +146,7 @@ fn check_second(
     Ok(())
 }
 
-/// The phase of what equations are for: the class and the attribute of each, where no rule on these is broken.
+/// The phase of what equations are for: the class, the reach and the attribute of each, where no rule on these is broken.
 pub(crate) fn check_targets(
     alloc: Global,
     grammar: &Grammar,
@@ -99,7 +161,7 @@ pub(crate) fn check_targets(
     let mut given = HashSet::new(alloc);
     let mut targets = Vec::new(alloc);
     for equation in equations {
-        let target = check_target(grammar, attributes, equation, &mut faults);
+        let target = check_target(alloc, grammar, attributes, equation, &mut faults)?;
         check_second(&mut given, target, equation.attribute, &mut faults)?;
         targets.push(target_or_first(target)).map_err(|_| Memory)?;
     }

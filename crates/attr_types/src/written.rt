@@ -1,36 +1,57 @@
 // What aspects declare, and the equations that they give, as they are written.
 ghost use Rattle.std.specs.Prelude.{◌≡◌, IfOk, map};
 ghost use Rattle.std.specs.Option.{option_map};
-ghost use Rattle.attr_types.specs.Seen.{seen_given};
-ghost use Rattle.attr_types.specs.Written.{declarations, declared_in, given_in, givens};
-ghost use Rattle.jrag_reader.specs.Items.{seen_item, seen_synthesized};
+ghost use Rattle.attr_types.specs.Seen.{seen_given, seen_head};
+ghost use Rattle.attr_types.specs.Written.{declarations, declared_in, given_by, given_in, givens};
+ghost use Rattle.jrag_reader.specs.Items.{seen_equation, seen_item};
 
-use jrag_reader::{Expr, Item, Name, Synthesized};
+use attr_rules::Sort;
+use jrag_reader::{Equation, Expr, Item, Name, Signature, Type};
 use rag_io::Memory;
 use std::alloc::Global;
 
-/// An equation: the name of the class, that of the attribute, and the right side.
+/// The declaration of an attribute: its sort, its type, the class that has it, and its name with the parameters.
+#[derive(Clone, Copy, Debug)]
+pub(crate) struct Head<'a> {
+    pub sort: Sort,
+    pub of: &'a Type,
+    pub class: &'a Name,
+    pub signature: &'a Signature,
+}
+
+/// An equation: the name of the class, the path to the nodes, if it has one, the name of the attribute, and the right side.
 #[derive(Clone, Copy, Debug)]
 pub(crate) struct Given<'a> {
     pub class: &'a Name,
+    pub path: Option<&'a Signature>,
     pub attribute: &'a Name,
     pub body: &'a Expr,
 }
 
-// The declaration of a synthesized attribute that an item is, if it is one.
-fn declared_in(item: &Item) -> Option<&Synthesized>
-    ensures { option_map (λ s. seen_synthesized s.now) result ≡ declared_in (seen_item item.now) }
+// The declaration that an item is, if it is one.
+fn declared_in(item: &Item) -> Option<Head<'_>>
+    ensures { option_map seen_head result ≡ declared_in (seen_item item.now) }
 {
     match item {
-        Item::Synthesized(declared) => Some(declared),
-        Item::Inherited(_) | Item::Equation(_) | Item::Collection(_) | Item::Contribution(_) =>
-            None,
+        Item::Synthesized(declared) => Some(Head {
+            sort: Sort::Syn,
+            of: &declared.of,
+            class: &declared.class,
+            signature: &declared.signature,
+        }),
+        Item::Inherited(declared) => Some(Head {
+            sort: Sort::Inh,
+            of: &declared.of,
+            class: &declared.class,
+            signature: &declared.signature,
+        }),
+        Item::Equation(_) | Item::Collection(_) | Item::Contribution(_) => None,
     }
 }
 
-/// The declarations of synthesized attributes among some items, in their order.
-pub(crate) fn declarations(alloc: Global, items: &[Item]) -> Result<Vec<&Synthesized>, Memory>
-    ensures { IfOk result (λ list. map (λ s. seen_synthesized s.now) list.items ≡ declarations (map seen_item items.now)) }
+/// The declarations among some items, in their order.
+pub(crate) fn declarations(alloc: Global, items: &[Item]) -> Result<Vec<Head<'_>>, Memory>
+    ensures { IfOk result (λ list. map seen_head list.items ≡ declarations (map seen_item items.now)) }
 {
     let mut list = Vec::new(alloc);
     for item in items {
@@ -41,6 +62,22 @@ pub(crate) fn declarations(alloc: Global, items: &[Item]) -> Result<Vec<&Synthes
     Ok(list)
 }
 
+// What an `eq` gives. With an inherited attribute behind it, the first name is a path.
+fn given_by(equation: &Equation) -> Given<'_>
+    ensures { seen_given result ≡ given_by (seen_equation equation.now) }
+{
+    let (path, attribute) = match &equation.inherited {
+        Some(inherited) => (Some(&equation.signature), &inherited.name),
+        None => (None, &equation.signature.name),
+    };
+    Given {
+        class: &equation.class,
+        path,
+        attribute,
+        body: &equation.body,
+    }
+}
+
 // The equation that an item gives, if it gives one: that of `eq`, or the one that stands in a declaration.
 fn given_in(item: &Item) -> Option<Given<'_>>
     ensures { option_map seen_given result ≡ given_in (seen_item item.now) }
@@ -48,14 +85,11 @@ fn given_in(item: &Item) -> Option<Given<'_>>
     match item {
         Item::Synthesized(declared) => Some(Given {
             class: &declared.class,
+            path: None,
             attribute: &declared.signature.name,
             body: declared.body.as_ref()?,
         }),
-        Item::Equation(equation) => Some(Given {
-            class: &equation.class,
-            attribute: &equation.signature.name,
-            body: &equation.body,
-        }),
+        Item::Equation(equation) => Some(given_by(equation)),
         Item::Inherited(_) | Item::Collection(_) | Item::Contribution(_) => None,
     }
 }

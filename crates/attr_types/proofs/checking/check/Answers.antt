@@ -43,8 +43,9 @@ returns-in_err-check_completeness-clause-phases c =
     let equations = givens_read aspects c.deref-3.ensures.value c.in_ok-equations.ensures c.deref-4.ensures.value in
     let targets = c.deref-5.ensures.value ∙ c.in_ok-targets.ensures.targets ∙ (λ i. targets_of g (attributes i) (equations i)) in
     let heads_again = heads_read aspects c.deref.ensures.value c.in_ok-heads.ensures c.deref-6.ensures.value in
+    let places = c.deref-7.ensures.value ∙ c.in_ok-places.ensures in
     says_passed (phases_of g items) c.from_residual-in_err-check_completeness.result e c.from_residual-in_err-check_completeness.ensures.1
-    (third_stops g items e (first_is g items heads) (second_is g items attributes equations) (third_is g items targets heads_again) c.in_ok-attributes.ensures.phase c.in_ok-targets.ensures.phase (c.in_err-check_completeness.ensures c.deref-5.result.now c.in_ok-dispatch.ensures))
+    (third_stops g items e (first_is g items heads) (second_is g items attributes equations) (third_is g items attributes targets heads_again places) c.in_ok-attributes.ensures.phase c.in_ok-targets.ensures.phase (c.in_err-check_completeness.ensures c.deref-5.result.now c.in_ok-dispatch.ensures))
 
 pub returns-in_err-list-clause-phases : goal.returns-in_err-list-clause-phases
 returns-in_err-list-clause-phases c =
@@ -57,9 +58,10 @@ returns-in_err-list-clause-phases c =
     let equations = givens_read aspects c.deref-3.ensures.value c.in_ok-equations.ensures c.deref-4.ensures.value in
     let targets = c.deref-5.ensures.value ∙ c.in_ok-targets.ensures.targets ∙ (λ i. targets_of g (attributes i) (equations i)) in
     let heads_again = heads_read aspects c.deref.ensures.value c.in_ok-heads.ensures c.deref-6.ensures.value in
-    let equations_again = givens_read aspects c.deref-3.ensures.value c.in_ok-equations.ensures c.deref-7.ensures.value in
+    let places = c.deref-7.ensures.value ∙ c.in_ok-places.ensures in
+    let equations_again = givens_read aspects c.deref-3.ensures.value c.in_ok-equations.ensures c.deref-8.ensures.value in
     says_passed (phases_of g items) c.from_residual-in_err-list.result e c.from_residual-in_err-list.ensures.1
-    (fourth_stops g items e (first_is g items heads) (second_is g items attributes equations) (third_is g items targets heads_again) (fourth_is g items attributes equations_again) c.in_ok-attributes.ensures.phase c.in_ok-targets.ensures.phase (c.in_ok-check_completeness.ensures c.deref-5.result.now c.in_ok-dispatch.ensures) c.in_err-list.ensures.phase)
+    (fourth_stops g items e (first_is g items heads) (second_is g items attributes equations) (third_is g items attributes targets heads_again places) (fourth_is g items attributes equations_again) c.in_ok-attributes.ensures.phase c.in_ok-targets.ensures.phase (c.in_ok-check_completeness.ensures c.deref-5.result.now c.in_ok-dispatch.ensures) c.in_err-list.ensures.phase)
 
 pub of_targets-requires : goal.of_targets-requires
 of_targets-requires c =
@@ -70,9 +72,9 @@ of_parts-requires c =
     let g = c.args.grammar.now in
     let attributes = c.in_ok-attributes.attributes.attributes in
     let above = ap (λ (a : AttributeSet). a.superclasses) c.in_ok-attributes.ensures.attributes in
-    let copied = c.deref-4.ensures.value ∙ sym c.deref-7.ensures.value in
+    let copied = c.deref-4.ensures.value ∙ sym c.deref-8.ensures.value in
     let targets = c.deref-5.ensures.value ∙ c.in_ok-targets.ensures.targets ∙ ap (λ es. targets_of g attributes (map seen_given es)) copied in
-    dispatches_same (sym above) (targets ∙ sym (kept_targets g attributes c.in_ok-list.list.items (map seen_given c.deref-7.result.now) c.in_ok-list.ensures.says)) c.in_ok-dispatch.ensures
+    dispatches_same (sym above) (targets ∙ sym (kept_targets g attributes c.in_ok-list.list.items (map seen_given c.deref-8.result.now) c.in_ok-list.ensures.says)) c.in_ok-dispatch.ensures
 
 pub returns-clause-phases : goal.returns-clause-phases
 returns-clause-phases c =
@@ -84,8 +86,9 @@ returns-clause-phases c =
     let equations = givens_read aspects c.deref-3.ensures.value c.in_ok-equations.ensures c.deref-4.ensures.value in
     let targets = c.deref-5.ensures.value ∙ c.in_ok-targets.ensures.targets ∙ (λ i. targets_of g (attributes i) (equations i)) in
     let heads_again = heads_read aspects c.deref.ensures.value c.in_ok-heads.ensures c.deref-6.ensures.value in
-    let equations_again = givens_read aspects c.deref-3.ensures.value c.in_ok-equations.ensures c.deref-7.ensures.value in
-    none_broken g items (first_is g items heads) (second_is g items attributes equations) (third_is g items targets heads_again) (fourth_is g items attributes equations_again) c.in_ok-attributes.ensures.phase c.in_ok-targets.ensures.phase (c.in_ok-check_completeness.ensures c.deref-5.result.now c.in_ok-dispatch.ensures) c.in_ok-list.ensures.phase
+    let places = c.deref-7.ensures.value ∙ c.in_ok-places.ensures in
+    let equations_again = givens_read aspects c.deref-3.ensures.value c.in_ok-equations.ensures c.deref-8.ensures.value in
+    none_broken g items (first_is g items heads) (second_is g items attributes equations) (third_is g items attributes targets heads_again places) (fourth_is g items attributes equations_again) c.in_ok-attributes.ensures.phase c.in_ok-targets.ensures.phase (c.in_ok-check_completeness.ensures c.deref-5.result.now c.in_ok-dispatch.ensures) c.in_ok-list.ensures.phase
 
 pub returns-clause-rules : goal.returns-clause-rules
 returns-clause-rules c =
@@ -93,6 +96,6 @@ returns-clause-rules c =
     let aspects = c.args.aspects.now in
     let items = seen_aspects aspects in
     let heads = heads_read aspects c.deref.ensures.value c.in_ok-heads.ensures c.deref-2.ensures.value in
-    let equations_again = givens_read aspects c.deref-3.ensures.value c.in_ok-equations.ensures c.deref-7.ensures.value in
+    let equations_again = givens_read aspects c.deref-3.ensures.value c.in_ok-equations.ensures c.deref-8.ensures.value in
     let known = c.in_ok-attributes.ensures.attributes ∙ ap (λ hs. record { superclasses = superclasses_of g; attributes = attributes_of g hs }) heads in
     rules_made g items c.in_ok-list.list.items c.of_parts.ensures known equations_again c.in_ok-list.ensures.says

@@ -1,17 +1,28 @@
-use Rattle.std.proofs.Common.{sym, ◌∙◌}
+use Rattle.std.proofs.Common.{◌≡◌, Option, ap, option_map, subst, sym}
+use Rattle.std.specs.Borrow.{Bor}
+use Rattle.ast_grammar.specs.Grammar.{number_of}
+use Rattle.broken_rules.specs.Notes.{Notes}
+use Rattle.jrag_reader.specs.declared.items.Signature as memory
+use Rattle.jrag_reader.specs.Items.{Signature, seen_signature}
 use Rattle.attr_types.specs.Seen.{seen_given}
-use Rattle.attr_types.proofs.TargetsNoted.{no_target, unknown_noted, within_superclasses}
+use Rattle.attr_types.specs.Targets.{lacking_broken}
+use Rattle.attr_types.proofs.TargetsNoted.{lacking_inherited, lacking_own, unknown_noted}
 use Rattle.attr_types.proofs.targets.check_target.Goals as goal
+use Rattle.attr_types.proofs.targets.check_target.Goals.{in-None, in-Some}
 
-pub find-attribute-requires : goal.find-attribute-requires
-find-attribute-requires c = within_superclasses c.args.grammar.now c.requires c.in_ok-class.ensures.within
+abbrev seen : Bor memory.Signature → Signature
+seen s = seen_signature s.now
 
-pub returns-in_err-attribute-clause-target : goal.returns-in_err-attribute-clause-target
-returns-in_err-attribute-clause-target c =
-    c.from_residual-in_err-attribute.ensures
-    ∙ sym (no_target c.args.grammar.now c.args.attributes.now.attributes (seen_given c.args.equation.now) c.find-attribute.result c.in_ok-class.ensures.class c.requires c.deref.ensures.value c.find-attribute.ensures.number c.in_err-attribute.was)
-
-pub returns-in_err-attribute-clause-noted : goal.returns-in_err-attribute-clause-noted
-returns-in_err-attribute-clause-noted c =
-    unknown_noted c.args.grammar.now c.args.attributes.now.attributes (seen_given c.args.equation.now) c.find-attribute.result c.in_ok-class.ensures.class c.requires c.deref.ensures.value c.find-attribute.ensures.number c.is_none.result c.is_none.ensures
-    c.check_class.ensures.noted c.note_if.ensures
+pub returns-clause-noted : goal.returns-clause-noted
+returns-clause-noted c =
+    let g = c.args.grammar.now in
+    let attributes = c.args.attributes.now.attributes in
+    let e = seen_given c.args.equation.now in
+    let class = option_map number_of c.check_class-class.result in
+    let lacking : Notes (lacking_broken g attributes e.path class e.attribute) c.check_path.new.faults c.match-equation.faults =
+    elim c.match-equation.branch [
+      | in-None w ↦ subst (Notes (lacking_broken g attributes e.path class e.attribute) _) (sym w.faults-is) (lacking_own g attributes e.attribute class (ap (option_map seen) w.in-None.is) w.check_own-attribute.ensures.noted)
+      | in-Some w ↦ subst (Notes (lacking_broken g attributes e.path class e.attribute) _) (sym w.faults-is) (lacking_inherited g attributes e.attribute class (ap (option_map seen) w.in-Some.is) w.check_inherited-attribute.ensures.noted)
+    ]
+    in
+    unknown_noted g attributes e c.check_class-class.ensures.class c.check_class-class.ensures.noted c.in_ok-reach.ensures.noted lacking

@@ -16,10 +16,10 @@ loop-equation-preserved c =
     let before = take i (map seen_given xs) in
     let e = seen_given c.equation-item.result in
     let held = c.loop-equation.invariant.held in
-    let target = c.check_target-target.ensures.target in
+    let target = c.in_ok-target.ensures.target in
     record {
       noted = notes_each_after_seen seen_given xs i (given_broken g attributes) c.equation-item.is c.loop-equation-test.true c.loop-equation.invariant.noted
-          (given_noted g attributes before e target c.check_target-target.ensures.noted (c.in_ok-check_second.ensures.noted g attributes before held));
+          (given_noted g attributes before e target c.in_ok-target.ensures.noted (c.in_ok-check_second.ensures.noted g attributes before held));
       held = subst (λ zs. Holds g attributes zs c.check_second.new.given) (sym (taken seen_given xs i c.equation-item.is c.loop-equation-test.true)) (c.in_ok-check_second.ensures.held g attributes before e held target);
       targets =
           let made : c.target_or_first.result ≡ target_given g attributes e = c.target_or_first.ensures ∙ ap target_or_first target in

@@ -1,0 +1,5 @@
+use Rattle.attr_types.proofs.UncoveredClasses.{decided}
+use Rattle.attr_types.proofs.laws.uncovered_classes_are_found.Goals as goal
+
+pub returns : goal.returns
+returns c = decided
