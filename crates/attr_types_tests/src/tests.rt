@@ -3,6 +3,7 @@
 mod accessors;
 mod expressions;
 mod heads;
+mod inherited;
 mod limits;
 mod nodes;
 mod typed_forms;
