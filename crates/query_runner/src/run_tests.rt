@@ -5,6 +5,7 @@ mod aspect_files;
 mod checks;
 mod demands;
 mod grammars;
+mod inherited;
 mod programs;
 mod subclasses;
 mod texts;

@@ -31,20 +31,22 @@ const BROKEN: [(&str, &str); 17] = [
     ("aspect A { syn int N.v() = ;\n/*", "a.jrag:2:1: J1\n"),
     // The whole syntax is tested before a form that isn't evaluated.
     (
-        "aspect A { inh int N.v(); syn int N.w() = ; }",
-        "a.jrag:1:43: J1\n",
+        "aspect A { syn nta N N.v(); syn int N.w() = ; }",
+        "a.jrag:1:45: J1\n",
     ),
     // And before a class that isn't there.
     ("aspect A { syn int X.v() = ; }", "a.jrag:1:28: J1\n"),
 ];
 
 // Aspects that break no rule of the syntax, and have a form that isn't evaluated so far.
-const UNBUILT: [&str; 11] = [
+const UNBUILT: [&str; 13] = [
     "aspect A { syn int N.v() = new N(\"a\", 1).getV(); }",
-    "aspect A { inh int N.v(); }",
+    "aspect A { inh int N.v(int k); }",
+    "aspect A { inh Set<N> N.v(); }",
+    "aspect A { inh boolean N.v() circular [false]; }",
     "aspect A { coll Set<N> N.v() [empty] with add root N; }",
     "aspect A { N contributes this when true to N.v() for this; }",
-    "aspect A { eq N.getl().v() = 1; }",
+    "aspect A { eq N.getl().v(int k) = 1; }",
     "aspect A { syn nta N N.v() = new N(\"a\", 1); }",
     "aspect A { syn int N.v() circular [0] = 1; }",
     "aspect A { syn int N.v(int k) = k; }",
@@ -86,14 +88,14 @@ const REFUSED: [(&str, &str, &str, &str); 6] = [
     ("N", "aspect A {", "N(", "g.ast:1:2: G1\n"),
     (
         "N; N;",
-        "aspect A { inh int N.v(); }",
+        "aspect A { syn nta N N.v(); }",
         "N(",
         "g.ast:1:4: G2\n",
     ),
     ("N;", "aspect A {", "N(", "a.jrag:1:11: J1\n"),
     (
         "N;",
-        "aspect A { inh int N.v(); }",
+        "aspect A { syn nta N N.v(); }",
         "N(",
         "a.jrag: not built\n",
     ),

@@ -39,7 +39,7 @@ const TEXTS: [Row; 11] = [
     ),
     (
         "N;",
-        "aspect A { inh int N.v(); }",
+        "aspect A { syn nta N N.v(); }",
         1,
         "a.jrag: not built\n",
     ),
@@ -48,15 +48,15 @@ const TEXTS: [Row; 11] = [
     // A form that isn't evaluated comes before what breaks a rule over the grammar, and behind the syntax.
     (
         "N;",
-        "aspect A { syn int Q.v() = 1; inh int N.w(); }",
+        "aspect A { syn int Q.v() = 1; syn nta N N.w(); }",
         1,
         "a.jrag: not built\n",
     ),
     (
         "N;",
-        "aspect A { inh int N.w(); syn int N.v() = ; }",
+        "aspect A { syn nta N N.w(); syn int N.v() = ; }",
         1,
-        "a.jrag:1:43: J1\n",
+        "a.jrag:1:45: J1\n",
     ),
 ];
 
