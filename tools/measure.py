@@ -86,6 +86,13 @@ def asked(count):
     return {**demanded(count), "q.txt": (b"@%d.d()\n" % number for number in reversed(range(count)))}
 
 
+def inherited(count):
+    """A chain of so many nodes, of which the last has an attribute to which the first gives the value."""
+    aspects = [b"aspect A { inh int L.d(); eq R.getL().d() = 1; }"]
+    tree = [b"R(", *deep(count - 1), b")"]
+    return {"g.ast": [b"R ::= L; L ::= [L];"], "a.jrag": aspects, "t.tree": tree, "q.txt": [b"@%d.d()\n" % (count - 1)]}
+
+
 def full():
     """Five attributes at each of 60,000 nodes."""
     calls = b"".join(b"syn int L.%c() = %c(); " % (a, b) for a, b in zip(b"efg", b"fgh"))
@@ -186,6 +193,7 @@ CASES = [
     ("1,024 attributes, each calls the next", {"a.jrag": chained(1024), "q.txt": [b"@0.v0()"]}),
     *[(f"demand: a chain of {count:,} nodes", demanded(count)) for count in [1000, 4000, 16000, 32000, 50001, 64000]],
     *[(f"demand: {count:,} nodes, each asked for", asked(count)) for count in [1000, 4000, 16000, 32000, 65536]],
+    *[(f"inherited: {count - 1:,} ancestors", inherited(count)) for count in [1000, 8000, 65536]],
     ("demand: more instances than cells", full()),
     ("queries: line feeds", {"q.txt": filled(b"\n")}),
     ("queries: 65,536", {"q.txt": repeated(b"@0.v()\n", 65536)}),
