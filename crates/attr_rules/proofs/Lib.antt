@@ -3,6 +3,7 @@ pub mod Dispatched
 pub mod FirstPlaces
 pub mod KeptPaths
 pub mod KeptRules
+pub mod LeftOut
 pub mod NamedAttributes
 pub mod NearestRows
 pub mod OwnRows

@@ -6,64 +6,77 @@ use Rattle.attr_rules.specs.declared.expression.Operator.{Operator}
 use Rattle.attr_rules.specs.declared.expression.Quantifier.{Quantifier}
 use Rattle.attr_rules.specs.declared.expression.TExpr.{TExpr}
 use Rattle.attr_rules.specs.declared.expression.TExpr.TheVariants as kept
+use Rattle.attr_rules.specs.declared.expression.TArgs.{TArgs}
+use Rattle.attr_rules.specs.declared.expression.TArgs.TheVariants as kept_arguments
 
-pub data Expression : Type 0 where
-  Truth : Bool → Expression
-  Int : ℤ → Expression
-  -- the text of this number
-  Text : ℕ → Expression
-  Null : Expression
-  -- the node at which the equation is read
-  This : Expression
-  -- the value of a name, by its number: bound names come first, the innermost as 0
-  Variable : ℕ → Expression
-  -- the source node of this number
-  Source : ℕ → Expression
-  -- the child, or the optional child, of a receiver at the component of this number
-  Child : ℕ → Expression → Expression
-  -- the element of a receiver's list at the component of this number, by its place in the list
-  Element : ℕ → Expression → Expression → Expression
-  -- how many elements that list has
-  Count : ℕ → Expression → Expression
-  -- whether a receiver has the optional child at the component of this number
-  Has : ℕ → Expression → Expression
-  -- the token of a receiver, of this type, at the component of this number
-  Token : Kind → ℕ → Expression → Expression
-  -- the call of the attribute of this number on a receiver
-  Call : ℕ → Expression → Expression
-  -- the node where it is of the class or below, and null else
-  Cast : ClassId → Expression → Expression
-  -- whether there is a node of the class or below
-  InstanceOf : ClassId → Expression → Expression
-  -- a condition at the elements of a receiver's list at the component of this number; name 0 in it is the element
-  Quantified : Quantifier → ℕ → Expression → Expression → Expression
-  Not : Expression → Expression
-  Negate : Expression → Expression
-  Binary : Operator → Expression → Expression → Expression
-  And : Expression → Expression → Expression
-  Or : Expression → Expression → Expression
-  If : Expression → Expression → Expression → Expression
+mutual
+  pub data Expression : Type 0 where
+    Truth : Bool → Expression
+    Int : ℤ → Expression
+    -- the text of this number
+    Text : ℕ → Expression
+    Null : Expression
+    -- the node at which the equation is read
+    This : Expression
+    -- the value of a name, by its number: bound names come first, the innermost as 0
+    Variable : ℕ → Expression
+    -- the source node of this number
+    Source : ℕ → Expression
+    -- the child, or the optional child, of a receiver at the component of this number
+    Child : ℕ → Expression → Expression
+    -- the element of a receiver's list at the component of this number, by its place in the list
+    Element : ℕ → Expression → Expression → Expression
+    -- how many elements that list has
+    Count : ℕ → Expression → Expression
+    -- whether a receiver has the optional child at the component of this number
+    Has : ℕ → Expression → Expression
+    -- the token of a receiver, of this type, at the component of this number
+    Token : Kind → ℕ → Expression → Expression
+    -- the call of the attribute of this number on a receiver, with arguments
+    Call : ℕ → Expression → Arguments → Expression
+    -- the node where it is of the class or below, and null else
+    Cast : ClassId → Expression → Expression
+    -- whether there is a node of the class or below
+    InstanceOf : ClassId → Expression → Expression
+    -- a condition at the elements of a receiver's list at the component of this number; name 0 in it is the element
+    Quantified : Quantifier → ℕ → Expression → Expression → Expression
+    Not : Expression → Expression
+    Negate : Expression → Expression
+    Binary : Operator → Expression → Expression → Expression
+    And : Expression → Expression → Expression
+    Or : Expression → Expression → Expression
+    If : Expression → Expression → Expression → Expression
 
-abbrev pub expression_of : TExpr → Expression
-expression_of (kept.Truth b) = Truth b
-expression_of (kept.Int z) = Int z
-expression_of (kept.Text n) = Text n
-expression_of kept.Null = Null
-expression_of kept.This = This
-expression_of (kept.Variable k) = Variable k
-expression_of (kept.Source k) = Source k
-expression_of (kept.Child' k p e) = Child k (expression_of e)
-expression_of (kept.Element' k p e q i) = Element k (expression_of e) (expression_of i)
-expression_of (kept.Count' k p e) = Count k (expression_of e)
-expression_of (kept.Has' k p e) = Has k (expression_of e)
-expression_of (kept.Token' t k p e) = Token t k (expression_of e)
-expression_of (kept.Call' a at p e) = Call a.0 (expression_of e)
-expression_of (kept.Cast' c p e) = Cast c (expression_of e)
-expression_of (kept.InstanceOf' c p e) = InstanceOf c (expression_of e)
-expression_of (kept.Quantified' q k p e r b) = Quantified q k (expression_of e) (expression_of b)
-expression_of (kept.Not' p e) = Not (expression_of e)
-expression_of (kept.Negate' p e) = Negate (expression_of e)
-expression_of (kept.Binary' o p a q b) = Binary o (expression_of a) (expression_of b)
-expression_of (kept.And' p a q b) = And (expression_of a) (expression_of b)
-expression_of (kept.Or' p a q b) = Or (expression_of a) (expression_of b)
-expression_of (kept.If' p c q a at r b) = If (expression_of c) (expression_of a) (expression_of b)
+  -- the arguments of a call, from the left
+  pub data Arguments : Type 0 where
+    no_more : Arguments
+    argument : Expression → Arguments → Arguments
+
+abbrev mutual
+  pub expression_of : TExpr → Expression
+  expression_of (kept.Truth b) = Truth b
+  expression_of (kept.Int z) = Int z
+  expression_of (kept.Text n) = Text n
+  expression_of kept.Null = Null
+  expression_of kept.This = This
+  expression_of (kept.Variable k) = Variable k
+  expression_of (kept.Source k) = Source k
+  expression_of (kept.Child' k p e) = Child k (expression_of e)
+  expression_of (kept.Element' k p e q i) = Element k (expression_of e) (expression_of i)
+  expression_of (kept.Count' k p e) = Count k (expression_of e)
+  expression_of (kept.Has' k p e) = Has k (expression_of e)
+  expression_of (kept.Token' t k p e) = Token t k (expression_of e)
+  expression_of (kept.Call' a at p e xs) = Call a.0 (expression_of e) (arguments_of xs)
+  expression_of (kept.Cast' c p e) = Cast c (expression_of e)
+  expression_of (kept.InstanceOf' c p e) = InstanceOf c (expression_of e)
+  expression_of (kept.Quantified' q k p e r b) = Quantified q k (expression_of e) (expression_of b)
+  expression_of (kept.Not' p e) = Not (expression_of e)
+  expression_of (kept.Negate' p e) = Negate (expression_of e)
+  expression_of (kept.Binary' o p a q b) = Binary o (expression_of a) (expression_of b)
+  expression_of (kept.And' p a q b) = And (expression_of a) (expression_of b)
+  expression_of (kept.Or' p a q b) = Or (expression_of a) (expression_of b)
+  expression_of (kept.If' p c q a at r b) = If (expression_of c) (expression_of a) (expression_of b)
+
+  pub arguments_of : TArgs → Arguments
+  arguments_of kept_arguments.End = no_more
+  arguments_of (kept_arguments.More' p e q xs) = argument (expression_of e) (arguments_of xs)

@@ -1,5 +1,5 @@
 -- The rules of a grammar: which attributes are declared, and which equation gives which attribute its value.
-use Rattle.std.specs.Prelude.{◌≡◌, ℕ, ◌<◌, ◌≤◌, List, [], ◌∷◌, Bool, true, false, ◌&&◌, ◌==◌, Option, Some, None, IsSome, All, map, length, position, slice_get}
+use Rattle.std.specs.Prelude.{◌≡◌, ℕ, ◌<◌, ◌≤◌, List, [], ◌∷◌, ◌++◌, Bool, true, false, ◌&&◌, ◌==◌, Option, Some, None, IsSome, All, map, length, position, slice_get}
 use Rattle.std.specs.Option.{option_and_then, option_map, option_or}
 use Rattle.std.specs.Str.{bytes_eq}
 use Rattle.ast_grammar.specs.declared.grammar.ClassId.{ClassId}
@@ -21,7 +21,7 @@ use Rattle.attr_rules.specs.declared.kinds.Sort.TheVariants.{Syn, Inh, Nta, Coll
 use Rattle.attr_rules.specs.declared.kinds.Start.TheVariants.{Plain}
 use Rattle.attr_rules.specs.declared.types.ValueType.{ValueType}
 use Rattle.attr_rules.specs.Expression.{Expression}
-use Rattle.attr_rules.specs.Types.{fits, kind_class}
+use Rattle.attr_rules.specs.Types.{fits, kind_class, parameter_kinds}
 use Rattle.attr_rules.specs.Typing.{HasType, Names}
 
 -- an attribute: its name, and what is declared of it
@@ -54,6 +54,9 @@ plain_attribute class kind = record { class = class; sort = Syn; kind = kind; pa
 
 abbrev pub most_attributes : ℕ
 most_attributes = 1024
+
+abbrev pub most_parameters : ℕ
+most_parameters = 3
 
 -- the number of the attribute of this name that is declared for the class or a superclass
 abbrev pub attribute_named : List (Option ℕ) → List Attribute → ClassId → List ℕ → Option ℕ
@@ -161,15 +164,22 @@ bound_kinds Own = []
 bound_kinds (AtComponent k) = kinds.Int ∷ []
 bound_kinds Children = []
 
--- what an equation of a class may name
-abbrev pub names_for : List Class → List Attribute → ClassId → Reach → Names
-names_for g attributes c r = record { grammar = g; attribute = declared_at attributes; node = λ k. None; this = Some c; variables = bound_kinds r }
+-- what an equation of a class may name: the parameters of the attribute, and then what its path binds
+abbrev pub names_for : List Class → List Attribute → ClassId → Reach → Params → Names
+names_for g attributes c r ps = record { grammar = g; attribute = declared_at attributes; node = λ k. None; this = Some c; variables = parameter_kinds ps ++ bound_kinds r }
+
+-- A type of a parameter: no set, and a class is one of the grammar.
+pub record IsParameter (g : List Class) (k : Kind) : Type 0 where
+  pub single : is_single k ≡ true
+  pub class : (c : ClassId) → kind_class k ≡ Some c → c.0 < length g
 
 -- An attribute of a class of the grammar.
 pub record IsAttribute (g : List Class) (x : Attribute) : Type 0 where
   pub within : x.declared.class.0 < length g
   pub single : is_single x.declared.kind ≡ true
   pub class : (c : ClassId) → kind_class x.declared.kind ≡ Some c → c.0 < length g
+  pub few : x.declared.params.count ≤ most_parameters
+  pub parameters : All (IsParameter g) (parameter_kinds x.declared.params)
 
 -- An equation without a path gives a value to an attribute that its class has and that isn't inherited, one with a path to inherited ones of
 -- any class.
@@ -185,7 +195,7 @@ pub record IsEquation (g : List Class) (attributes : List Attribute) (e : Equati
   pub declared : declared_at attributes e.target.attribute.0 ≡ Some attribute
   pub gives : GivesValue g e.target.class e.target.reach attribute
   pub type : ValueType
-  pub typed : HasType (names_for g attributes e.target.class e.target.reach) e.body type
+  pub typed : HasType (names_for g attributes e.target.class e.target.reach attribute.params) e.body type
   pub fit : fits g type attribute.kind ≡ true
 
 -- a class of which there are nodes
@@ -216,5 +226,5 @@ pub record AreRules (g : List Class) (r : RuleSet) : Type 0 where
   pub attributes : All (IsAttribute g) r.attributes
   pub equations : All (IsEquation g r.attributes) r.equations
   pub complete : (c : ClassId) (a : ℕ) (d : Attr) → IsConcrete g c.0 → attribute_at r a ≡ Some d → is_inherited d.sort ≡ false → is_sub g c.0 d.class.0 ≡ true → IsSome (equation_number r c a)
-  pub alike : (a b : ℕ) (d e : Attr) → attribute_at r a ≡ Some d → is_inherited d.sort ≡ true → first_of_name r.attributes a ≡ Some b → attribute_at r b ≡ Some e → d.kind ≡ e.kind
+  pub alike : (a b : ℕ) (d e : Attr) → attribute_at r a ≡ Some d → is_inherited d.sort ≡ true → first_of_name r.attributes a ≡ Some b → attribute_at r b ≡ Some e → (d.kind ≡ e.kind) × (d.params ≡ e.params)
   pub covered : (c : ClassId) (a : ℕ) (d : Attr) → attribute_at r a ≡ Some d → is_inherited d.sort ≡ true → IsConcrete g c.0 → is_sub g c.0 d.class.0 ≡ true → Uncovered g r a c.0 → ⊥

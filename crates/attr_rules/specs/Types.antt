@@ -1,10 +1,11 @@
 -- Types of what expressions say, and which of them fit where.
-use Rattle.std.specs.Prelude.{ℕ, List, Bool, true, false, ◌&&◌, ◌||◌, Option, Some, None, if◌then◌else◌}
+use Rattle.std.specs.Prelude.{ℕ, List, [], ◌∷◌, take, Bool, true, false, ◌&&◌, ◌||◌, Option, Some, None, if◌then◌else◌}
 use Rattle.std.specs.Option.{option_map}
 use Rattle.superclasses.specs.Superclasses.{nearest_common}
 use Rattle.ast_grammar.specs.declared.grammar.ClassId.{ClassId}
 use Rattle.ast_grammar.specs.Grammar.{Class, is_sub, superclasses_of}
 use Rattle.attr_rules.specs.declared.kinds.Kind.{Kind}
+use Rattle.attr_rules.specs.declared.kinds.Params.{Params}
 use Rattle.attr_rules.specs.declared.kinds.Kind.TheVariants as kinds
 use Rattle.attr_rules.specs.declared.types.ValueType.{ValueType}
 use Rattle.attr_rules.specs.declared.types.ValueType.TheVariants as types
@@ -35,6 +36,10 @@ text_kind kinds.Text = true
 text_kind (kinds.Node c) = false
 text_kind kinds.Texts = false
 text_kind (kinds.Nodes c) = false
+
+-- the types of the parameters, which are at most three
+abbrev pub parameter_kinds : Params → List Kind
+parameter_kinds p = take p.count (p.first ∷ p.second ∷ p.third ∷ [])
 
 -- the class of a type that is one
 abbrev pub kind_class : Kind → Option ClassId

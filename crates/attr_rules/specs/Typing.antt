@@ -1,5 +1,5 @@
 -- The rules of types: which typed expressions are of which type.
-use Rattle.std.specs.Prelude.{◌≡◌, ℕ, ℤ, ◌<◌, Bool, true, List, ◌∷◌, Option, Some, length, slice_get}
+use Rattle.std.specs.Prelude.{◌≡◌, ℕ, ℤ, ◌<◌, Bool, true, List, [], ◌∷◌, Option, Some, length, slice_get}
 use Rattle.std.specs.Int.{int_wrap}
 use mir.Syntax.{w32}
 use Rattle.ast_grammar.specs.declared.grammar.ClassId.{ClassId}
@@ -16,8 +16,8 @@ use Rattle.attr_rules.specs.declared.types.ValueType.{ValueType}
 use Rattle.attr_rules.specs.declared.types.ValueType.TheVariants as types
 use Rattle.attr_rules.specs.declared.accessors.Access.TheVariants as access
 use Rattle.attr_rules.specs.Accessors.{got}
-use Rattle.attr_rules.specs.Expression.{Expression, Truth, Int, Text, Null, This, Variable, Source, Child, Element, Count, Has, Token, Call, Cast, InstanceOf, Quantified, Not, Negate, Binary, And, Or, If}
-use Rattle.attr_rules.specs.Types.{common, comparable, is_node, of_class}
+use Rattle.attr_rules.specs.Expression.{Expression, Arguments, no_more, argument, Truth, Int, Text, Null, This, Variable, Source, Child, Element, Count, Has, Token, Call, Cast, InstanceOf, Quantified, Not, Negate, Binary, And, Or, If}
+use Rattle.attr_rules.specs.Types.{common, comparable, fits, is_node, of_class, parameter_kinds}
 
 -- what an expression may name: the grammar's classes with their components, attributes, source nodes, the class of the node at which
 -- it is read, and the types of the names, by their numbers
@@ -49,28 +49,34 @@ pub data TakesInts : Operator → Kind → Type 0 where
   at_least : TakesInts AtLeast kinds.Truth
 
 -- The expression is well typed and of this type. A receiver is of a class, and may be null all the same.
-pub data HasType : Names → Expression → ValueType → Type 0 where
-  truth : {N : Names} → (b : Bool) → HasType N (Truth b) (types.Of kinds.Truth)
-  -- a literal has 32 bits
-  int : {N : Names} → (z : ℤ) → int_wrap w32 z ≡ z → HasType N (Int z) (types.Of kinds.Int)
-  text : {N : Names} → (n : ℕ) → HasType N (Text n) (types.Of kinds.Text)
-  null : {N : Names} → HasType N Null types.Null
-  this : {N : Names} → (c : ClassId) → N.this ≡ Some c → HasType N This (of_class c)
-  variable : {N : Names} → (k : ℕ) (t : Kind) → slice_get N.variables k ≡ Some t → HasType N (Variable k) (types.Of t)
-  source : {N : Names} → (k : ℕ) (c : ClassId) → N.node k ≡ Some c → HasType N (Source k) (of_class c)
-  child : {N : Names} {e : Expression} (c : ClassId) (k : ℕ) (x : Component) → HasType N e (of_class c) → component_at N.grammar c.0 k ≡ Some x → got x.shape ≡ Some access.Child → HasType N (Child k e) (of_class x.class)
-  element : {N : Names} {e i : Expression} (c : ClassId) (k : ℕ) (x : Component) → HasType N e (of_class c) → component_at N.grammar c.0 k ≡ Some x → x.shape ≡ shapes.List → HasType N i (types.Of kinds.Int) → HasType N (Element k e i) (of_class x.class)
-  count : {N : Names} {e : Expression} (c : ClassId) (k : ℕ) (x : Component) → HasType N e (of_class c) → component_at N.grammar c.0 k ≡ Some x → x.shape ≡ shapes.List → HasType N (Count k e) (types.Of kinds.Int)
-  has : {N : Names} {e : Expression} (c : ClassId) (k : ℕ) (x : Component) → HasType N e (of_class c) → component_at N.grammar c.0 k ≡ Some x → x.shape ≡ shapes.Optional → HasType N (Has k e) (types.Of kinds.Truth)
-  token : {N : Names} {e : Expression} (c : ClassId) (k : ℕ) (x : Component) (t : Kind) → HasType N e (of_class c) → component_at N.grammar c.0 k ≡ Some x → got x.shape ≡ Some (access.Token t) → HasType N (Token t k e) (types.Of t)
-  call : {N : Names} {e : Expression} (c : ClassId) (a : ℕ) (d : Attr) → HasType N e (of_class c) → N.attribute a ≡ Some d → is_sub N.grammar c.0 d.class.0 ≡ true → HasType N (Call a e) (types.Of d.kind)
-  cast : {N : Names} {e : Expression} (t : ValueType) (c : ClassId) → HasType N e t → is_node t ≡ true → c.0 < length N.grammar → HasType N (Cast c e) (of_class c)
-  instance_of : {N : Names} {e : Expression} (t : ValueType) (c : ClassId) → HasType N e t → is_node t ≡ true → c.0 < length N.grammar → HasType N (InstanceOf c e) (types.Of kinds.Truth)
-  quantified : {N : Names} {e b : Expression} (q : Quantifier) (c : ClassId) (k : ℕ) (x : Component) → HasType N e (of_class c) → component_at N.grammar c.0 k ≡ Some x → x.shape ≡ shapes.List → HasType (with_variable N (kinds.Node x.class)) b (types.Of kinds.Truth) → HasType N (Quantified q k e b) (quantified_type q x.class)
-  not : {N : Names} {e : Expression} → HasType N e (types.Of kinds.Truth) → HasType N (Not e) (types.Of kinds.Truth)
-  negate : {N : Names} {e : Expression} → HasType N e (types.Of kinds.Int) → HasType N (Negate e) (types.Of kinds.Int)
-  ints : {N : Names} {a b : Expression} (o : Operator) (k : Kind) → TakesInts o k → HasType N a (types.Of kinds.Int) → HasType N b (types.Of kinds.Int) → HasType N (Binary o a b) (types.Of k)
-  equal : {N : Names} {a b : Expression} (t u : ValueType) → HasType N a t → HasType N b u → comparable t u ≡ true → HasType N (Binary Equal a b) (types.Of kinds.Truth)
-  and : {N : Names} {a b : Expression} → HasType N a (types.Of kinds.Truth) → HasType N b (types.Of kinds.Truth) → HasType N (And a b) (types.Of kinds.Truth)
-  or : {N : Names} {a b : Expression} → HasType N a (types.Of kinds.Truth) → HasType N b (types.Of kinds.Truth) → HasType N (Or a b) (types.Of kinds.Truth)
-  choice : {N : Names} {c a b : Expression} (t u v : ValueType) → HasType N c (types.Of kinds.Truth) → HasType N a t → HasType N b u → common N.grammar t u ≡ Some v → HasType N (If c a b) v
+mutual
+  pub data HasType : Names → Expression → ValueType → Type 0 where
+    truth : {N : Names} → (b : Bool) → HasType N (Truth b) (types.Of kinds.Truth)
+    -- a literal has 32 bits
+    int : {N : Names} → (z : ℤ) → int_wrap w32 z ≡ z → HasType N (Int z) (types.Of kinds.Int)
+    text : {N : Names} → (n : ℕ) → HasType N (Text n) (types.Of kinds.Text)
+    null : {N : Names} → HasType N Null types.Null
+    this : {N : Names} → (c : ClassId) → N.this ≡ Some c → HasType N This (of_class c)
+    variable : {N : Names} → (k : ℕ) (t : Kind) → slice_get N.variables k ≡ Some t → HasType N (Variable k) (types.Of t)
+    source : {N : Names} → (k : ℕ) (c : ClassId) → N.node k ≡ Some c → HasType N (Source k) (of_class c)
+    child : {N : Names} {e : Expression} (c : ClassId) (k : ℕ) (x : Component) → HasType N e (of_class c) → component_at N.grammar c.0 k ≡ Some x → got x.shape ≡ Some access.Child → HasType N (Child k e) (of_class x.class)
+    element : {N : Names} {e i : Expression} (c : ClassId) (k : ℕ) (x : Component) → HasType N e (of_class c) → component_at N.grammar c.0 k ≡ Some x → x.shape ≡ shapes.List → HasType N i (types.Of kinds.Int) → HasType N (Element k e i) (of_class x.class)
+    count : {N : Names} {e : Expression} (c : ClassId) (k : ℕ) (x : Component) → HasType N e (of_class c) → component_at N.grammar c.0 k ≡ Some x → x.shape ≡ shapes.List → HasType N (Count k e) (types.Of kinds.Int)
+    has : {N : Names} {e : Expression} (c : ClassId) (k : ℕ) (x : Component) → HasType N e (of_class c) → component_at N.grammar c.0 k ≡ Some x → x.shape ≡ shapes.Optional → HasType N (Has k e) (types.Of kinds.Truth)
+    token : {N : Names} {e : Expression} (c : ClassId) (k : ℕ) (x : Component) (t : Kind) → HasType N e (of_class c) → component_at N.grammar c.0 k ≡ Some x → got x.shape ≡ Some (access.Token t) → HasType N (Token t k e) (types.Of t)
+    call : {N : Names} {e : Expression} {es : Arguments} (c : ClassId) (a : ℕ) (d : Attr) → HasType N e (of_class c) → N.attribute a ≡ Some d → is_sub N.grammar c.0 d.class.0 ≡ true → Fit N es (parameter_kinds d.params) → HasType N (Call a e es) (types.Of d.kind)
+    cast : {N : Names} {e : Expression} (t : ValueType) (c : ClassId) → HasType N e t → is_node t ≡ true → c.0 < length N.grammar → HasType N (Cast c e) (of_class c)
+    instance_of : {N : Names} {e : Expression} (t : ValueType) (c : ClassId) → HasType N e t → is_node t ≡ true → c.0 < length N.grammar → HasType N (InstanceOf c e) (types.Of kinds.Truth)
+    quantified : {N : Names} {e b : Expression} (q : Quantifier) (c : ClassId) (k : ℕ) (x : Component) → HasType N e (of_class c) → component_at N.grammar c.0 k ≡ Some x → x.shape ≡ shapes.List → HasType (with_variable N (kinds.Node x.class)) b (types.Of kinds.Truth) → HasType N (Quantified q k e b) (quantified_type q x.class)
+    not : {N : Names} {e : Expression} → HasType N e (types.Of kinds.Truth) → HasType N (Not e) (types.Of kinds.Truth)
+    negate : {N : Names} {e : Expression} → HasType N e (types.Of kinds.Int) → HasType N (Negate e) (types.Of kinds.Int)
+    ints : {N : Names} {a b : Expression} (o : Operator) (k : Kind) → TakesInts o k → HasType N a (types.Of kinds.Int) → HasType N b (types.Of kinds.Int) → HasType N (Binary o a b) (types.Of k)
+    equal : {N : Names} {a b : Expression} (t u : ValueType) → HasType N a t → HasType N b u → comparable t u ≡ true → HasType N (Binary Equal a b) (types.Of kinds.Truth)
+    and : {N : Names} {a b : Expression} → HasType N a (types.Of kinds.Truth) → HasType N b (types.Of kinds.Truth) → HasType N (And a b) (types.Of kinds.Truth)
+    or : {N : Names} {a b : Expression} → HasType N a (types.Of kinds.Truth) → HasType N b (types.Of kinds.Truth) → HasType N (Or a b) (types.Of kinds.Truth)
+    choice : {N : Names} {c a b : Expression} (t u v : ValueType) → HasType N c (types.Of kinds.Truth) → HasType N a t → HasType N b u → common N.grammar t u ≡ Some v → HasType N (If c a b) v
+
+  -- The arguments are as many as the parameters, and each fits its one.
+  pub data Fit : Names → Arguments → List Kind → Type 0 where
+    end : {N : Names} → Fit N no_more []
+    more : {N : Names} {e : Expression} {es : Arguments} {k : Kind} {ks : List Kind} (t : ValueType) → HasType N e t → fits N.grammar t k ≡ true → Fit N es ks → Fit N (argument e es) (k ∷ ks)

@@ -30,6 +30,7 @@ pub enum Quantifier {
 /// A typed expression. Its calls name attributes by number and its accessors name components by number, and
 /// `a != b` is the denial of `a == b`. The forms and their meaning are this project's own, after Java's
 /// expressions on `boolean` and `int`. It keeps the places that the rules on rising equations name.
+#[cycle(expressions)]
 #[derive(Debug, Drop)]
 pub enum TExpr {
     /// `true` or `false`.
@@ -57,8 +58,8 @@ pub enum TExpr {
     Has(u32, Box<TExpr>),
     /// The token of a receiver, read at this type, at the component of this number.
     Token(Kind, u32, Box<TExpr>),
-    /// The call of an attribute without arguments, with the place of its name, on a receiver.
-    Call(AttrId, Place, Box<TExpr>),
+    /// The call of an attribute, with the place of its name, on a receiver, with arguments.
+    Call(AttrId, Place, Box<TExpr>, TArgs),
     /// `(C) e`: the node where it is of the class or below, and null else.
     Cast(ClassId, Box<TExpr>),
     /// `e instanceof C`: whether there is a node, and it is of the class or below.
@@ -77,4 +78,12 @@ pub enum TExpr {
     /// `condition ? then : otherwise`, with the place at which the last part begins: only the part that the condition
     /// chooses is evaluated.
     If(Box<TExpr>, Box<TExpr>, Place, Box<TExpr>),
+}
+
+/// The arguments of a call, from the left.
+#[cycle(expressions)]
+#[derive(Debug, Drop)]
+pub enum TArgs {
+    End,
+    More(Box<TExpr>, Box<TArgs>),
 }

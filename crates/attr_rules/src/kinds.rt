@@ -62,6 +62,34 @@ pub struct Attr {
     pub start: Start,
 }
 
+impl Params {
+    ghost use Rattle.std.specs.Prelude.{drop, slice_get};
+    ghost use Rattle.attr_rules.specs.Types.{parameter_kinds};
+
+    /// The type of the first parameter, or None where there is none.
+    pub fn first_kind(&self) -> Option<Kind>
+        ensures { result ≡ slice_get (parameter_kinds self.now) 0 }
+    {
+        if self.count == 0 {
+            None
+        } else {
+            Some(self.first)
+        }
+    }
+
+    /// The parameters behind the first.
+    pub fn rest(&self) -> Params
+        ensures { parameter_kinds result ≡ drop 1 (parameter_kinds self.now) }
+    {
+        Params {
+            count: self.count.min(3).saturating_sub(1),
+            first: self.second,
+            second: self.third,
+            third: Kind::Truth,
+        }
+    }
+}
+
 impl Sort {
     ghost use Rattle.attr_rules.specs.Rules.{is_inherited};
 

@@ -17,7 +17,7 @@ mod types;
 pub use accessors::{Access, Accessor, accessor_of, is_spelled};
 pub use attributes::{Attributes, NamedAttr};
 pub use dispatch::{Dispatch, Reach, Target};
-pub use expression::{Operator, Quantifier, TExpr};
+pub use expression::{Operator, Quantifier, TArgs, TExpr};
 pub use kinds::{Attr, AttrId, EqId, Kind, Params, Sort, Start};
 pub use queries::QueryEq;
 pub use rules::{KeptEquation, Rules};

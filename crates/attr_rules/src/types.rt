@@ -1,5 +1,5 @@
 // Types of what expressions say.
-ghost use Rattle.std.specs.Prelude.{◌≡◌, IsTrue};
+ghost use Rattle.std.specs.Prelude.{◌≡◌};
 ghost use Rattle.attr_rules.specs.Types as spec;
 
 use crate::kinds::Kind;
