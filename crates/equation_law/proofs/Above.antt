@@ -20,6 +20,7 @@ use Rattle.tree_arena.specs.Terms.{HasFew, IsTree}
 use Rattle.tree_arena.proofs.Seen.{hung_at}
 use Rattle.equation_law.specs.Checked.{IsProgram}
 use Rattle.equation_law.specs.Equations.{Site, covering_for, covering_site, first_site, followed, inherited_site, site_above, upwards_from}
+use Rattle.equation_law.specs.Names.{Argument}
 use Rattle.equation_law.specs.Program.{Program, class_of}
 use Rattle.equation_law.proofs.Keys.{both_equal}
 use Rattle.equation_law.proofs.Lists.{some_of}
@@ -152,25 +153,25 @@ pub first_found : (f : ℕ → Option Site) (ns : List ℕ) (s : Site) → first
 first_found f [] s e = cc
 first_found f (n ∷ ns) s e = or_either ((m : ℕ) × (f m ≡ Some s)) (f n) (first_site f ns) s (λ h. (n, h)) (first_found f ns s) e
 
-module _ (p : Program) (a : ℕ) where
+module _ (p : Program) (a : ℕ) (xs : List Argument) where
   -- the equation of an inherited attribute at a node is the one that covers it at its parent, and else that at the parent
-  pub inherited_step : Falls p.tree → (n u : ℕ) → parent_in p.tree n ≡ Some u → inherited_site p a n ≡ option_or (covering_site p a n) (inherited_site p a u)
-  inherited_step falls n u e = ap (first_site (covering_site p a)) (upwards_step p.tree falls n u e)
+  pub inherited_step : Falls p.tree → (n u : ℕ) → parent_in p.tree n ≡ Some u → inherited_site p a xs n ≡ option_or (covering_site p a xs n) (inherited_site p a xs u)
+  inherited_step falls n u e = ap (first_site (covering_site p a xs)) (upwards_step p.tree falls n u e)
 
   -- the root has none
-  pub inherited_end : (n : ℕ) → parent_in p.tree n ≡ None → Falls p.tree → inherited_site p a n ≡ None
+  pub inherited_end : (n : ℕ) → parent_in p.tree n ≡ None → Falls p.tree → inherited_site p a xs n ≡ None
   inherited_end n e falls =
-      ap (first_site (covering_site p a)) (upwards_end p.tree falls n e) ∙ ap (λ (o : Option ℕ). option_or (option_and_then (λ u. option_map (site_above p a n u) (covering_for p a n u)) o) None) e
+      ap (first_site (covering_site p a xs)) (upwards_end p.tree falls n e) ∙ ap (λ (o : Option ℕ). option_or (option_and_then (λ u. option_map (site_above p a xs n u) (covering_for p a n u)) o) None) e
 
   -- where nothing covers a node at its parent, no equation of the parent's class covers what hangs there
-  pub covering_none : (n u k : ℕ) (c : ClassId) → parent_in p.tree n ≡ Some u → class_of p u ≡ Some c → component_in p.tree n ≡ Some k → covering_site p a n ≡ None → covering_number p.rules c k a ≡ None
+  pub covering_none : (n u k : ℕ) (c : ClassId) → parent_in p.tree n ≡ Some u → class_of p u ≡ Some c → component_in p.tree n ≡ Some k → covering_site p a xs n ≡ None → covering_number p.rules c k a ≡ None
   covering_none n u k c up of at none =
-      let here : option_map (site_above p a n u) (covering_for p a n u) ≡ None = sym (ap (option_and_then (λ v. option_map (site_above p a n v) (covering_for p a n v))) up) ∙ none in
+      let here : option_map (site_above p a xs n u) (covering_for p a n u) ≡ None = sym (ap (option_and_then (λ v. option_map (site_above p a xs n v) (covering_for p a n v))) up) ∙ none in
       let number = covering_number p.rules c k a in
       let equation : option_and_then (slice_get p.rules.equations) number ≡ None =
       sym (ap (λ (o : Option ℕ). option_and_then (slice_get p.rules.equations) (option_and_then (λ j. covering_number p.rules c j a) o)) at)
       ∙ sym (ap (λ (o : Option ClassId). option_and_then (slice_get p.rules.equations) (option_and_then (λ d. option_and_then (λ j. covering_number p.rules d j a) (component_in p.tree n)) o)) of)
-      ∙ map_nothing (site_above p a n u) (covering_for p a n u) here
+      ∙ map_nothing (site_above p a xs n u) (covering_for p a n u) here
       in
       elim number as (λ o. number ≡ o → option_and_then (slice_get p.rules.equations) o ≡ None → o ≡ None) [
         | None ↦ λ e h. refl
@@ -190,9 +191,9 @@ module _ (p : Program) (good : IsProgram p) where
   pub falls : Falls p.tree
   falls = tree_falls p.tree program_tree
 
-  module _ (a : ℕ) where
+  module _ (a : ℕ) (xs : List Argument) where
     -- a node at which an inherited attribute has no equation is of a class that is uncovered
-    uncovered : (most n : ℕ) (c : ClassId) → n ≤ most → class_of p n ≡ Some c → inherited_site p a n ≡ None → Uncovered p.grammar p.rules a c.0
+    uncovered : (most n : ℕ) (c : ClassId) → n ≤ most → class_of p n ≡ Some c → inherited_site p a xs n ≡ None → Uncovered p.grammar p.rules a c.0
     uncovered most zero c l of none = root (node_concrete p.grammar (length p.texts) p.tree good.tree 0 c of) (root_below p.grammar (length p.texts) p.tree good.tree c of)
     uncovered zero (suc m) c l of none = absurd (omega (arith, l))
     uncovered (suc most) (suc m) c l of none =
@@ -202,37 +203,37 @@ module _ (p : Program) (good : IsProgram p) where
         let at : component_in p.tree (suc m) ≡ Some x.0.component = ap (option_map (λ (y : TreeNode). y.component)) x.1 in
         let placed = node_placed p.grammar (length p.texts) p.tree good.tree m x.0 x.1 in
         let smaller = falls (suc m) u up in
-        let both = or_nothing (covering_site p a (suc m)) (inherited_site p a u) (sym (inherited_step p a falls (suc m) u up) ∙ none) in
+        let both = or_nothing (covering_site p a xs (suc m)) (inherited_site p a xs u) (sym (inherited_step p a xs falls (suc m) u up) ∙ none) in
         let higher = uncovered most u placed.parent (omega (arith, l, smaller)) placed.of both.1 in
         subst (λ (d : ClassId). Uncovered p.grammar p.rules a d.0) x.2
-        (below x.0.component placed.component higher placed.has placed.shape (covering_none p a (suc m) u x.0.component placed.parent up placed.of at both.0) placed.concrete placed.below)
+        (below x.0.component placed.component higher placed.has placed.shape (covering_none p a xs (suc m) u x.0.component placed.parent up placed.of at both.0) placed.concrete placed.below)
 
     is_some_where : (o : Option Site) → (o ≡ None → ⊥) → IsSome o
     is_some_where None h = absurd (h refl)
     is_some_where (Some s) h = refl
 
     -- an inherited attribute has an equation at each node whose class has the attribute
-    pub inherited_there : (k : ℕ) (c : ClassId) (d : Attr) → class_of p k ≡ Some c → attribute_at p.rules a ≡ Some d → is_inherited d.sort ≡ true → is_sub p.grammar c.0 d.class.0 ≡ true → IsSome (inherited_site p a k)
+    pub inherited_there : (k : ℕ) (c : ClassId) (d : Attr) → class_of p k ≡ Some c → attribute_at p.rules a ≡ Some d → is_inherited d.sort ≡ true → is_sub p.grammar c.0 d.class.0 ≡ true → IsSome (inherited_site p a xs k)
     inherited_there k c d of declared is b =
-        is_some_where (inherited_site p a k) (λ none. good.rules.covered c a d declared is (node_concrete p.grammar (length p.texts) p.tree good.tree k c of) b (uncovered k k c (omega arith) of none))
+        is_some_where (inherited_site p a xs k) (λ none. good.rules.covered c a d declared is (node_concrete p.grammar (length p.texts) p.tree good.tree k c of) b (uncovered k k c (omega arith) of none))
 
 -- An equation that is read above a node.
-pub record IsAbove (p : Program) (a : ℕ) (s : Site) : Type 0 where
+pub record IsAbove (p : Program) (a : ℕ) (xs : List Argument) (s : Site) : Type 0 where
   pub child : ℕ
   pub node : ℕ
   pub class : ClassId
   pub of : class_of p node ≡ Some class
   pub number : ℕ
   pub found : Covers p.rules a class number
-  pub is : site_above p a child node found.equation ≡ s
+  pub is : site_above p a xs child node found.equation ≡ s
 
-pub inherited_above : (p : Program) (a n : ℕ) (s : Site) → inherited_site p a n ≡ Some s → IsAbove p a s
-inherited_above p a n s e =
-    let at = first_found (covering_site p a) (upwards_from n p.tree n) s e in
+pub inherited_above : (p : Program) (a : ℕ) (xs : List Argument) (n : ℕ) (s : Site) → inherited_site p a xs n ≡ Some s → IsAbove p a xs s
+inherited_above p a xs n s e =
+    let at = first_found (covering_site p a xs) (upwards_from n p.tree n) s e in
     let m = at.0 in
-    let up = through (λ u. option_map (site_above p a m u) (covering_for p a m u)) (parent_in p.tree m) s at.1 in
+    let up = through (λ u. option_map (site_above p a xs m u) (covering_for p a m u)) (parent_in p.tree m) s at.1 in
     let u = up.0 in
-    let q = some_of (site_above p a m u) (covering_for p a m u) s up.2 in
+    let q = some_of (site_above p a xs m u) (covering_for p a m u) s up.2 in
     let number = through (slice_get p.rules.equations) (option_and_then (λ c. option_and_then (λ k. covering_number p.rules c k a) (component_in p.tree m)) (class_of p u)) q.0 q.1 in
     let class = through (λ c. option_and_then (λ k. covering_number p.rules c k a) (component_in p.tree m)) (class_of p u) number.0 number.1 in
     let component = through (λ k. covering_number p.rules class.0 k a) (component_in p.tree m) number.0 class.2 in
@@ -245,5 +246,5 @@ inherited_above p a n s e =
       of = class.1;
       number = number.0;
       found = c;
-      is = ap (site_above p a m u) same ∙ q.2;
+      is = ap (site_above p a xs m u) same ∙ q.2;
     }

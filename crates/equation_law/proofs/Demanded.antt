@@ -1,7 +1,8 @@
 -- The equation of an instance of a program demands only instances of it, and comes to a value of the instance's type.
-use Rattle.std.proofs.Common.{◌≡◌, ℕ, zero, suc, ℤ, Bool, true, false, cond, List, map, Contains, Option, Some, IsSome, length, slice_get, refl, sym, ap, subst, ◌∙◌}
+use Rattle.std.proofs.Common.{◌≡◌, ℕ, zero, suc, ℤ, Bool, true, false, cond, List, map, Contains, Option, Some, IsSome, length, slice_get, refl, sym, ap, subst, ◌∙◌, ◌++◌, ◌∷◌, append-nil, All, []}
 use Rattle.std.specs.Int.{int_wrap}
 use Rattle.std.specs.Option.{option_and_then, option_map}
+use Rattle.std.proofs.lemmas.List.Elements.{All-head, All-tail}
 use Rattle.std.proofs.lemmas.Int.{SFits-int_wrap, int_wrap_fits}
 use mir.Syntax.{w32}
 use Rattle.superclasses.specs.Superclasses.{is_sub as is_below}
@@ -13,23 +14,24 @@ use Rattle.attr_rules.specs.declared.dispatch.Reach.TheVariants.{Own, Component,
 use Rattle.attr_rules.specs.declared.kinds.Attr.{Attr}
 use Rattle.attr_rules.specs.declared.kinds.Kind.{Kind}
 use Rattle.attr_rules.specs.declared.kinds.Kind.TheVariants as kinds
+use Rattle.attr_rules.specs.declared.kinds.Params.{Params}
 use Rattle.attr_rules.specs.declared.types.ValueType.TheVariants as types
 use Rattle.attr_rules.specs.Queries.{Query as Asked}
-use Rattle.attr_rules.specs.Rules.{Attribute as DeclaredAttribute, Equation, IsAttribute, IsEquation, bound_kinds, declared_at, equation_number, is_inherited, is_single, names_for, same_reach, target_in}
-use Rattle.attr_rules.specs.Types.{kept_kind}
+use Rattle.attr_rules.specs.Rules.{Attribute as DeclaredAttribute, Equation, IsAttribute, IsEquation, IsParameter, bound_kinds, declared_at, equation_number, is_inherited, is_single, names_for, same_reach, target_in}
+use Rattle.attr_rules.specs.Types.{kept_kind, parameter_kinds}
 use Rattle.solutions.specs.Asking.{Demands, Ends, Gives, Needs, Meets, asks, gives, here, later, next}
 use Rattle.solutions.specs.Rounds.{Graph}
-use Rattle.equation_law.specs.Checked.{Fits, IsAt, IsInstance, IsProgram, IsTyped, IsValue, at, of_attribute, of_query, int, node, text, truth}
-use Rattle.equation_law.specs.Equations.{Site, asked_kind, attribute_kind, bound_values, equation_for, equation_of, equations_of, inherited_site, inherits, kind_in, kind_or_truth, place_among, place_at, site_at, site_demands, synthesized_site, world_of}
+use Rattle.equation_law.specs.Checked.{AreArguments, Fits, IsAt, IsInstance, IsProgram, IsTyped, IsValue, at, of_attribute, of_query, int, node, text, truth}
+use Rattle.equation_law.specs.Equations.{Site, asked_kind, attribute_kind, bound_values, equation_for, equation_of, equations_of, inherited_site, inherits, kind_in, kind_or_truth, place_among, place_at, site_at, site_demands, synthesized_site, world_of, place_with}
 use Rattle.equation_law.specs.Meaning.{Place, meaning_of, named}
-use Rattle.equation_law.specs.Names.{At, Instance, Source}
+use Rattle.equation_law.specs.Names.{Argument, At, Instance, Source}
 use Rattle.equation_law.specs.Program.{Program, class_of, declared_of, names_in}
-use Rattle.equation_law.specs.Values.{Value, as_kind}
+use Rattle.equation_law.specs.Values.{Value, argument_value, as_kind}
 use Rattle.equation_law.proofs.Above.{each_of, inherited_above, inherited_there, nearest_above, target_found, there_is}
 use Rattle.equation_law.proofs.Lists.{some_of}
 use Rattle.equation_law.proofs.Pooled.{empty_there, text_there}
 use Rattle.equation_law.proofs.Preordered.{node_concrete}
-use Rattle.equation_law.proofs.Typed.{AreBounds, AreNames, IsOf, Keeps, behind, fitting, kept, of_int, of_node, of_text, of_truth, typed_keeps}
+use Rattle.equation_law.proofs.Typed.{AreBounds, AreNames, AreSingle, IsOf, Keeps, behind, fitting, kept, of_argument, of_int, of_node, of_text, of_truth, typed_keeps}
 
 -- nodes of the class itself
 reach_own : (r : Reach) → same_reach r Own ≡ true → r ≡ Own
@@ -43,6 +45,16 @@ module _ (p : Program) (good : IsProgram p) where
   single a d e =
       let s = some_of (λ (x : DeclaredAttribute). x.declared) (slice_get p.rules.attributes a) d e in
       subst (λ (x : Attr). is_single x.kind ≡ true) s.2 (each_of (IsAttribute p.grammar) p.rules.attributes a s.0 good.rules.attributes s.1).single
+
+  -- nor is a parameter
+  all_single : (ks : List Kind) → All (IsParameter p.grammar) ks → AreSingle ks
+  all_single [] h = tt
+  all_single (k ∷ ks) h = ((All-head (IsParameter p.grammar) k ks h).single, all_single ks (All-tail (IsParameter p.grammar) k ks h))
+
+  single_parameters : (a : ℕ) (d : Attr) → declared_of p a ≡ Some d → AreSingle (parameter_kinds d.params)
+  single_parameters a d e =
+      let s = some_of (λ (x : DeclaredAttribute). x.declared) (slice_get p.rules.attributes a) d e in
+      subst (λ (x : Attr). AreSingle (parameter_kinds x.params)) s.2 (all_single (parameter_kinds s.0.declared.params) (each_of (IsAttribute p.grammar) p.rules.attributes a s.0 good.rules.attributes s.1).parameters)
 
   -- a node of a class
   at_class : (k : ℕ) (c : ClassId) → class_of p k ≡ Some c → IsAt p k c
@@ -84,15 +96,15 @@ module _ (p : Program) (good : IsProgram p) where
       }
 
   -- each attribute of a node's class has an equation
-  attribute_site : (a k : ℕ) (c : ClassId) (d : Attr) → class_of p k ≡ Some c → declared_of p a ≡ Some d → is_sub p.grammar c.0 d.class.0 ≡ true → IsSome (cond (inherits (declared_of p a)) (inherited_site p a k) (synthesized_site p a k))
-  attribute_site a k c d f e b =
-      subst (λ (o : Option Attr). IsSome (cond (inherits o) (inherited_site p a k) (synthesized_site p a k))) (sym e)
-      (elim (is_inherited d.sort) as (λ x. is_inherited d.sort ≡ x → IsSome (cond x (inherited_site p a k) (synthesized_site p a k))) [
-        | true ↦ λ s. inherited_there p good a k c d f e s b
+  attribute_site : (a k : ℕ) (xs : List Argument) (c : ClassId) (d : Attr) → class_of p k ≡ Some c → declared_of p a ≡ Some d → is_sub p.grammar c.0 d.class.0 ≡ true → IsSome (cond (inherits (declared_of p a)) (inherited_site p a xs k) (synthesized_site p a k xs))
+  attribute_site a k xs c d f e b =
+      subst (λ (o : Option Attr). IsSome (cond (inherits o) (inherited_site p a xs k) (synthesized_site p a k xs))) (sym e)
+      (elim (is_inherited d.sort) as (λ x. is_inherited d.sort ≡ x → IsSome (cond x (inherited_site p a xs k) (synthesized_site p a k xs))) [
+        | true ↦ λ s. inherited_there p good a xs k c d f e s b
         | false ↦ λ s.
             let q = equation_is a k c d f e s b in
-            let there : synthesized_site p a k ≡ Some (site_at p a k q.equation) =
-            ap (λ (o : Option ClassId). option_map (site_at p a k) (option_and_then (equation_for p a) o)) f ∙ ap (λ (o : Option Equation). option_map (site_at p a k) o) q.is
+            let there : synthesized_site p a k xs ≡ Some (site_at p a k xs q.equation) =
+            ap (λ (o : Option ClassId). option_map (site_at p a k xs) (option_and_then (equation_for p a) o)) f ∙ ap (λ (o : Option Equation). option_map (site_at p a k xs) o) q.is
             in
             subst (λ (o : Option Site). IsSome o) (sym there) refl
       ] refl)
@@ -102,7 +114,7 @@ module _ (p : Program) (good : IsProgram p) where
 
   -- and so has each instance
   pub has_equation : (i : Instance) → IsInstance p i → IsSome (equation_of p i)
-  has_equation i (of_attribute {a = a} {k = k} d c e f b) = attribute_site a k c d f e b
+  has_equation i (of_attribute {a = a} {k = k} {xs = xs} d c e f b q) = attribute_site a k xs c d f e b
   has_equation i (of_query {q = q} e o) = subst (λ (x : Option Asked). IsSome (option_map query_site x)) (sym o) refl
 
   module _ (I : ℤ → Type 0) (T : List ℕ → Type 0) (M : Instance → Value → Type 0) (bounds : AreBounds p I T M) where
@@ -113,25 +125,34 @@ module _ (p : Program) (good : IsProgram p) where
     bound_typed (Component c) i (suc k) t e = absurd (cc)
     bound_typed Children i k t e = absurd (cc)
 
-    abbrev bound_place : ℕ → Reach → ℕ → Place
-    bound_place n r i = record { this = At (Source n); names = bound_values r i }
+    -- what is named by arguments and then by others
+    arguments_typed : (ks : List Kind) (xs : List Argument) → AreArguments p ks xs → (ts : List Kind) (ws : List Value) → ((k : ℕ) (t : Kind) → slice_get ts k ≡ Some t → IsOf p I T (types.Of t) (named ws k))
+        → (k : ℕ) (t : Kind) → slice_get (ks ++ ts) k ≡ Some t → IsOf p I T (types.Of t) (named (map argument_value xs ++ ws) k)
+    arguments_typed [] [] are ts ws h k t e = h k t e
+    arguments_typed [] (x ∷ xs) are ts ws h k t e = absurd are
+    arguments_typed (u ∷ ks) [] are ts ws h k t e = absurd are
+    arguments_typed (u ∷ ks) (x ∷ xs) are ts ws h zero t e = let same : u ≡ t = cc in subst (λ (y : Kind). IsOf p I T (types.Of y) (argument_value x)) same (of_argument p I T M bounds u (argument_value x) are.0)
+    arguments_typed (u ∷ ks) (x ∷ xs) are ts ws h (suc k) t e = arguments_typed ks xs are.1 ts ws h k t e
+
+    abbrev bound_place : ℕ → List Argument → Reach → ℕ → Place
+    bound_place n xs r i = record { this = At (Source n); names = map argument_value xs ++ bound_values r i }
 
     -- what an equation names at a node of its class or of a subclass
-    names_of_equation : (c : ClassId) (r : Reach) (n i : ℕ) → IsAt p n c → AreNames p I T (names_for p.grammar p.rules.attributes c r) (bound_place n r i)
-    names_of_equation c r n i stands = record {
+    names_of_equation : (c : ClassId) (r : Reach) (ps : Params) (n i : ℕ) (xs : List Argument) → AreArguments p (parameter_kinds ps) xs → IsAt p n c → AreNames p I T (names_for p.grammar p.rules.attributes c r ps) (bound_place n xs r i)
+    names_of_equation c r ps n i xs are stands = record {
       grammar = refl;
       attribute = λ a d e. e;
       node = λ k b e. absurd (cc);
       this = λ b e. let same : c ≡ b = cc in at (subst (IsAt p n) same stands);
-      variables = bound_typed r i;
+      variables = arguments_typed (parameter_kinds ps) xs are (bound_kinds r) (bound_values r i) (bound_typed r i);
     }
 
-    -- an equation, read at a node, for an attribute of the type for which it is
-    equation_keeps : (a n i : ℕ) (q : Equation) (allowed : IsEquation p.grammar p.rules.attributes q) → attribute_kind p a ≡ allowed.attribute.kind → IsAt p n q.target.class
-        → Keeps p I T M (types.Of (attribute_kind p a)) (site_demands (world_of p) (Some (record { body = q.body; kind = attribute_kind p a; place = bound_place n q.target.reach i })))
-    equation_keeps a n i q allowed kind stands =
-        let place = bound_place n q.target.reach i in
-        let typed = typed_keeps p I T M bounds good.grammar good.tree allowed.typed place (names_of_equation q.target.class q.target.reach n i stands) in
+    -- an equation, read at a node with arguments, for an attribute of the type for which it is
+    equation_keeps : (a n i : ℕ) (xs : List Argument) (q : Equation) (allowed : IsEquation p.grammar p.rules.attributes q) → attribute_kind p a ≡ allowed.attribute.kind → AreArguments p (parameter_kinds allowed.attribute.params) xs → IsAt p n q.target.class
+        → Keeps p I T M (types.Of (attribute_kind p a)) (site_demands (world_of p) (Some (record { body = q.body; kind = attribute_kind p a; place = bound_place n xs q.target.reach i })))
+    equation_keeps a n i xs q allowed kind are stands =
+        let place = bound_place n xs q.target.reach i in
+        let typed = typed_keeps p I T M bounds good.grammar good.tree allowed.typed place (names_of_equation q.target.class q.target.reach allowed.attribute.params n i xs are stands) in
         let fit = fitting p I T allowed.attribute.kind allowed.type (single q.target.attribute.0 allowed.attribute allowed.declared) allowed.fit in
         let reads : Kind → Type 0 = λ x. Keeps p I T M (types.Of x) (next (meaning_of (world_of p) q.body place) (λ v. Gives (as_kind x v))) in
         subst reads (sym kind)
@@ -140,41 +161,50 @@ module _ (p : Program) (good : IsProgram p) where
     kind_declared : (a : ℕ) (d : Attr) → declared_of p a ≡ Some d → attribute_kind p a ≡ d.kind
     kind_declared a d e = ap (λ (o : Option Attr). kind_or_truth (option_map (λ x. x.kind) o)) e
 
+    -- a place without what a path binds
+    unbound : (k : ℕ) (xs : List Argument) → bound_place k xs Own 0 ≡ place_with k xs
+    unbound k xs = ap (λ (vs : List Value). record { this = At (Source k); names = vs }) (append-nil (map argument_value xs))
+
     -- the equation of a synthesized attribute, read at a node
-    synthesized_keeps : (a k : ℕ) (c : ClassId) → class_of p k ≡ Some c → (q : IsFor a c) → Keeps p I T M (types.Of (attribute_kind p a)) (site_demands (world_of p) (synthesized_site p a k))
-    synthesized_keeps a k c f q =
-        let there : synthesized_site p a k ≡ Some (site_at p a k q.equation) =
-        ap (λ (o : Option ClassId). option_map (site_at p a k) (option_and_then (equation_for p a) o)) f ∙ ap (λ (o : Option Equation). option_map (site_at p a k) o) q.is
+    synthesized_keeps : (a k : ℕ) (xs : List Argument) (c : ClassId) (d : Attr) → class_of p k ≡ Some c → declared_of p a ≡ Some d → AreArguments p (parameter_kinds d.params) xs → (q : IsFor a c)
+        → Keeps p I T M (types.Of (attribute_kind p a)) (site_demands (world_of p) (synthesized_site p a k xs))
+    synthesized_keeps a k xs c d f e are q =
+        let there : synthesized_site p a k xs ≡ Some (site_at p a k xs q.equation) =
+        ap (λ (o : Option ClassId). option_map (site_at p a k xs) (option_and_then (equation_for p a) o)) f ∙ ap (λ (o : Option Equation). option_map (site_at p a k xs) o) q.is
         in
         let declared : declared_of p a ≡ Some q.allowed.attribute = ap (declared_at p.rules.attributes) (sym q.attribute) ∙ q.allowed.declared in
-        let keeps = equation_keeps a k 0 q.equation q.allowed (kind_declared a q.allowed.attribute declared) (record { class = c; of = f; below = q.above }) in
+        let same : d ≡ q.allowed.attribute = cc in
+        let fit = subst (λ (x : Attr). AreArguments p (parameter_kinds x.params) xs) same are in
+        let keeps = equation_keeps a k 0 xs q.equation q.allowed (kind_declared a q.allowed.attribute declared) fit (record { class = c; of = f; below = q.above }) in
+        let reads : Place → Type 0 = λ x. Keeps p I T M (types.Of (attribute_kind p a)) (site_demands (world_of p) (Some (record { body = q.equation.body; kind = attribute_kind p a; place = x }))) in
         subst (λ (o : Option Site). Keeps p I T M (types.Of (attribute_kind p a)) (site_demands (world_of p) o)) (sym there)
-        (subst (λ (r : Reach). Keeps p I T M (types.Of (attribute_kind p a)) (site_demands (world_of p) (Some (record { body = q.equation.body; kind = attribute_kind p a; place = bound_place k r 0 })))) q.own keeps)
+        (subst reads (ap (λ (r : Reach). bound_place k xs r 0) q.own ∙ unbound k xs) keeps)
 
     -- the equation of an inherited attribute, read above a node
-    inherited_keeps : (a k : ℕ) (c : ClassId) (d : Attr) → class_of p k ≡ Some c → declared_of p a ≡ Some d → is_inherited d.sort ≡ true → is_sub p.grammar c.0 d.class.0 ≡ true
-        → Keeps p I T M (types.Of (attribute_kind p a)) (site_demands (world_of p) (inherited_site p a k))
-    inherited_keeps a k c d f e s b =
-        let site = there_is (inherited_site p a k) (inherited_there p good a k c d f e s b) in
-        let up = inherited_above p a k site.0 site.1 in
+    inherited_keeps : (a k : ℕ) (xs : List Argument) (c : ClassId) (d : Attr) → class_of p k ≡ Some c → declared_of p a ≡ Some d → is_inherited d.sort ≡ true → is_sub p.grammar c.0 d.class.0 ≡ true → AreArguments p (parameter_kinds d.params) xs
+        → Keeps p I T M (types.Of (attribute_kind p a)) (site_demands (world_of p) (inherited_site p a xs k))
+    inherited_keeps a k xs c d f e s b are =
+        let site = there_is (inherited_site p a xs k) (inherited_there p good a xs k c d f e s b) in
+        let up = inherited_above p a xs k site.0 site.1 in
         let q = up.found in
         let allowed = each_of (IsEquation p.grammar p.rules.attributes) p.rules.equations up.number q.equation good.rules.equations q.is in
         let first : declared_of p q.first ≡ Some allowed.attribute = ap (declared_at p.rules.attributes) (sym q.attribute) ∙ allowed.declared in
-        let kind : attribute_kind p a ≡ allowed.attribute.kind = kind_declared a d e ∙ good.rules.alike a q.first d allowed.attribute e s q.named first in
+        let alike = good.rules.alike a q.first d allowed.attribute e s q.named first in
         let below = subst (λ (x : List (Option ℕ)). is_below x up.class.0 q.equation.target.class.0 ≡ true) good.rules.superclasses q.above in
-        let keeps = equation_keeps a up.node (place_among p up.child) q.equation allowed kind (record { class = up.class; of = up.of; below = below }) in
+        let fit = subst (λ (x : Params). AreArguments p (parameter_kinds x) xs) alike.1 are in
+        let keeps = equation_keeps a up.node (place_among p up.child) xs q.equation allowed (kind_declared a d e ∙ alike.0) fit (record { class = up.class; of = up.of; below = below }) in
         subst (λ (o : Option Site). Keeps p I T M (types.Of (attribute_kind p a)) (site_demands (world_of p) o)) (sym site.1)
         (subst (λ (x : Site). Keeps p I T M (types.Of (attribute_kind p a)) (site_demands (world_of p) (Some x))) up.is keeps)
 
     -- the equation of an attribute
-    attribute_keeps : (a k : ℕ) (c : ClassId) (d : Attr) → class_of p k ≡ Some c → declared_of p a ≡ Some d → is_sub p.grammar c.0 d.class.0 ≡ true
-        → Keeps p I T M (types.Of (attribute_kind p a)) (site_demands (world_of p) (cond (inherits (declared_of p a)) (inherited_site p a k) (synthesized_site p a k)))
-    attribute_keeps a k c d f e b =
-        let holds : Bool → Type 0 = λ x. Keeps p I T M (types.Of (attribute_kind p a)) (site_demands (world_of p) (cond x (inherited_site p a k) (synthesized_site p a k))) in
+    attribute_keeps : (a k : ℕ) (xs : List Argument) (c : ClassId) (d : Attr) → class_of p k ≡ Some c → declared_of p a ≡ Some d → is_sub p.grammar c.0 d.class.0 ≡ true → AreArguments p (parameter_kinds d.params) xs
+        → Keeps p I T M (types.Of (attribute_kind p a)) (site_demands (world_of p) (cond (inherits (declared_of p a)) (inherited_site p a xs k) (synthesized_site p a k xs)))
+    attribute_keeps a k xs c d f e b are =
+        let holds : Bool → Type 0 = λ x. Keeps p I T M (types.Of (attribute_kind p a)) (site_demands (world_of p) (cond x (inherited_site p a xs k) (synthesized_site p a k xs))) in
         subst holds (sym (ap inherits e))
         (elim (is_inherited d.sort) as (λ x. is_inherited d.sort ≡ x → holds x) [
-          | true ↦ λ s. inherited_keeps a k c d f e s b
-          | false ↦ λ s. synthesized_keeps a k c f (equation_is a k c d f e s b)
+          | true ↦ λ s. inherited_keeps a k xs c d f e s b are
+          | false ↦ λ s. synthesized_keeps a k xs c d f e are (equation_is a k c d f e s b)
         ] refl)
 
     -- the expression of a query, read at the root
@@ -187,7 +217,7 @@ module _ (p : Program) (good : IsProgram p) where
 
     -- the equation of each instance
     site_keeps : (i : Instance) → IsInstance p i → Keeps p I T M (types.Of (kind_in p i)) (site_demands (world_of p) (equation_of p i))
-    site_keeps i (of_attribute {a = a} {k = k} d c e f b) = attribute_keeps a k c d f e b
+    site_keeps i (of_attribute {a = a} {k = k} {xs = xs} d c e f b q) = attribute_keeps a k xs c d f e b q
     site_keeps i (of_query {q = q} e o) =
         subst (λ (x : Option Asked). Keeps p I T M (types.Of (kind_or_truth (option_map asked_kind x))) (site_demands (world_of p) (option_map query_site x))) (sym o)
         (query_keeps e (each_of (IsTyped p) p.queries q e good.queries o))
@@ -216,7 +246,11 @@ module _ (p : Program) (good : IsProgram p) where
     text = text_there p.texts good.texts;
     empty = empty_there p.texts good.texts;
     single = single;
-    read = λ a d r v e m. read_value d.kind v (subst (λ (o : Option Attr). IsValue p (kind_or_truth (option_map (λ x. x.kind) o)) v) e m);
+    parameters = single_parameters;
+    int_value = λ z e. e;
+    text_value = λ t e. e;
+    value_text = λ t e. e;
+    read = λ a d r xs v e m. read_value d.kind v (subst (λ (o : Option Attr). IsValue p (kind_or_truth (option_map (λ x. x.kind) o)) v) e m);
   }
 
   -- a value of a type

@@ -1,11 +1,25 @@
 -- Tests that are equal, and which codes stand for one instance.
-use Rattle.std.proofs.Common.{◌≡◌, ℕ, zero, suc, Bool, true, false, ◌&&◌, refl, sym, ap, subst, ◌∙◌, eqb}
-use Rattle.std.proofs.lemmas.Bool.{eqb-true, eq-eqb}
+use Rattle.std.proofs.Common.{◌≡◌, ℕ, zero, suc, ◌≤◌, ℤ, pos, Bool, true, false, not, ◌==◌, ◌&&◌, List, [], ◌∷◌, get_or, take, of_z, refl, sym, ap, subst, ◌∙◌, eqb, arith}
+use Rattle.std.specs.Int.{int_wrap}
+use Rattle.std.proofs.lemmas.Bool.{and_parts, eqb-true, eq-eqb}
+use Rattle.std.proofs.lemmas.Bool.Decides.{nat_tests}
+use Rattle.std.proofs.lemmas.Int.{of_z-to_z}
+use Rattle.std.proofs.lemmas.Option.{slice_get-get_or}
+use mir.Syntax.{w32}
+use Rattle.rag_io.specs.Pool.{ArePooled}
+use Rattle.rag_io.proofs.Numbers.{same_number}
+use Rattle.attr_rules.specs.declared.kinds.Kind.{Kind}
+use Rattle.attr_rules.specs.declared.kinds.Kind.TheVariants as kinds
+use Rattle.equation_law.specs.declared.coding.Args.{Args}
 use Rattle.equation_law.specs.declared.coding.Instance.{Instance as CodedInstance}
 use Rattle.equation_law.specs.declared.coding.Instance.TheVariants as coded
+use Rattle.equation_law.specs.contracts.coding.ArgsPartialEq.TheImpl as arguments
 use Rattle.equation_law.specs.contracts.coding.InstancePartialEq.TheImpl as equality
-use Rattle.equation_law.specs.Names.{Instance, Attribute, Query, NoArguments, same_instance}
-use Rattle.equation_law.specs.Codes.{instance_of, reference_of}
+use Rattle.equation_law.specs.Codes.{AreCodes, IsCode, IsCoded, IsRow, arguments_at, codes_in, instance_of, reference_of, value_at}
+use Rattle.equation_law.specs.Names.{Argument, OfInt, OfNode, OfText, OfTruth, Instance, Null, Reference, same_instance}
+use Rattle.equation_law.specs.Program.{Program, attribute_parameters, text_of}
+use Rattle.equation_law.specs.Values.{as_argument}
+use Rattle.equation_law.proofs.Codes.{signed}
 use Rattle.equation_law.proofs.Names.{same_instance_is, same_instance_self}
 
 -- two tests that imply each other are one
@@ -35,53 +49,135 @@ pub equal_both : (a b n m : ℕ) → a ≡ b → n ≡ m → (eqb a b && eqb n m
 equal_both a b n m e f = ap (λ x. x && eqb n m) (eq-eqb a b e) ∙ eq-eqb n m f
 
 -- a node has one code
-one_reference : (n m : ℕ) → reference_of n ≡ reference_of m → n ≡ m
+pub one_reference : (n m : ℕ) → reference_of n ≡ reference_of m → n ≡ m
 one_reference zero zero e = refl
 one_reference zero (suc m) e = cc
 one_reference (suc n) zero e = cc
 one_reference (suc n) (suc m) e = cc
 
--- two attribute instances are the same where their numbers and codes are equal
-same_attribute : (a b n m : ℕ) → (eqb a b && eqb n m) ≡ same_instance (Attribute a (reference_of n) NoArguments) (Attribute b (reference_of m) NoArguments)
-same_attribute a b n m =
-    both_ways (eqb a b && eqb n m) (same_instance (Attribute a (reference_of n) NoArguments) (Attribute b (reference_of m) NoArguments))
-    (λ e.
-    let h = both_equal a b n m e in
-    let f = h.0 in
-    let g = h.1 in
-    let i : Attribute a (reference_of n) NoArguments ≡ Attribute b (reference_of m) NoArguments = cc in
-    same_as (Attribute a (reference_of n) NoArguments) (Attribute b (reference_of m) NoArguments) i
-    )
-    (λ e.
-    let h = same_instance_is (Attribute a (reference_of n) NoArguments) (Attribute b (reference_of m) NoArguments) e in
-    let f : a ≡ b = cc in
-    let g : reference_of n ≡ reference_of m = cc in
-    equal_both a b n m f (one_reference n m g)
-    )
+-- what the test of four numbers says
+all_equal : (a b c d x y z w : ℕ) → (eqb a x && (eqb b y && (eqb c z && eqb d w))) ≡ true → (a ≡ x) × (b ≡ y) × (c ≡ z) × (d ≡ w)
+all_equal a b c d x y z w e =
+    let one = and_parts (eqb a x) _ e in
+    let two = and_parts (eqb b y) _ one.1 in
+    let three = both_equal c z d w two.1 in
+    (eqb-true a x one.0, eqb-true b y two.0, three.0, three.1)
 
--- and two queries
-same_query : (p q : ℕ) → eqb p q ≡ same_instance (Query p) (Query q)
-same_query p q =
-    both_ways (eqb p q) (same_instance (Query p) (Query q))
-    (λ e. same_as (Query p) (Query q) (ap Query (eqb-true p q e)))
-    (λ e.
-    let h = same_instance_is (Query p) (Query q) e in
-    let f : p ≡ q = cc in
-    eq-eqb p q f
-    )
+-- equal arguments
+args_is : (xs ys : Args) → arguments.ghosts.eq xs ys ≡ true → xs ≡ ys
+args_is xs ys e =
+    let h = all_equal xs.count xs.first xs.second xs.third ys.count ys.first ys.second ys.third e in
+    (λ i. record { count = h.0 i; first = h.1 i; second = h.2 i; third = h.3 i })
 
--- a query is no attribute
-same_other : (a n q : ℕ) → false ≡ same_instance (Attribute a (reference_of n) NoArguments) (Query q)
-same_other a zero q = refl
-same_other a (suc n) q = refl
+args_self : (xs : Args) → arguments.ghosts.eq xs xs ≡ true
+args_self xs = (λ i. eq-eqb xs.count xs.count refl i && (eq-eqb xs.first xs.first refl i && (eq-eqb xs.second xs.second refl i && eq-eqb xs.third xs.third refl i)))
 
-other_same : (a n q : ℕ) → false ≡ same_instance (Query q) (Attribute a (reference_of n) NoArguments)
-other_same a zero q = refl
-other_same a (suc n) q = refl
+-- coded instances that are equal are one
+pub key_is : (a b : CodedInstance) → equality.ghosts.eq a b ≡ true → a ≡ b
+key_is (coded.Attr a n xs) (coded.Attr b m ys) e =
+    let one = and_parts (eqb a.0 b.0) _ e in
+    let two = and_parts (eqb n.0 m.0) _ one.1 in
+    (λ i. coded.Attr (record { 0 = eqb-true a.0 b.0 one.0 i }) (record { 0 = eqb-true n.0 m.0 two.0 i }) (args_is xs ys two.1 i))
+key_is (coded.Attr a n xs) (coded.Query q) e = cc
+key_is (coded.Query p) (coded.Attr b m ys) e = cc
+key_is (coded.Query p) (coded.Query q) e = ap coded.Query (eqb-true p q e)
 
--- two coded instances are equal where they stand for one instance
-pub key_same : (a b : CodedInstance) → equality.ghosts.eq a b ≡ same_instance (instance_of a) (instance_of b)
-key_same (coded.Attr a n) (coded.Attr b m) = same_attribute a.0 b.0 n.0 m.0
-key_same (coded.Attr a n) (coded.Query q) = same_other a.0 n.0 q
-key_same (coded.Query p) (coded.Attr b m) = other_same b.0 m.0 p
-key_same (coded.Query p) (coded.Query q) = same_query p q
+pub key_self : (a : CodedInstance) → equality.ghosts.eq a a ≡ true
+key_self (coded.Attr a n xs) = (λ i. eq-eqb a.0 a.0 refl i && (eq-eqb n.0 n.0 refl i && args_self xs i))
+key_self (coded.Query q) = eq-eqb q q refl
+
+-- what an argument holds
+abbrev truth_in : Argument → Bool
+truth_in (OfTruth b) = b
+truth_in (OfInt z) = false
+truth_in (OfText t) = false
+truth_in (OfNode n) = false
+
+abbrev int_in : Argument → ℤ
+int_in (OfTruth b) = pos 0
+int_in (OfInt z) = z
+int_in (OfText t) = pos 0
+int_in (OfNode n) = pos 0
+
+abbrev text_in : Argument → List ℕ
+text_in (OfTruth b) = []
+text_in (OfInt z) = []
+text_in (OfText t) = t
+text_in (OfNode n) = []
+
+abbrev node_in : Argument → Reference
+node_in (OfTruth b) = Null
+node_in (OfInt z) = Null
+node_in (OfText t) = Null
+node_in (OfNode n) = n
+
+-- two codes of one truth value
+one_truth : (c d : ℕ) → c ≤ 1 → d ≤ 1 → not (c == 0) ≡ not (d == 0) → c ≡ d
+one_truth c d v w e = grind (arith, nat_tests)
+
+-- a value of a type has one code
+module _ (p : Program) (pooled : ArePooled p.texts) where
+  one_code : (k : Kind) (c d : ℕ) → IsCode p k c → IsCode p k d → as_argument k (value_at (text_of p) k c) ≡ as_argument k (value_at (text_of p) k d) → c ≡ d
+  one_code kinds.Truth c d v w e = one_truth c d v w (ap truth_in e)
+  one_code kinds.Int c d v w e =
+      let wraps : int_wrap w32 (pos c) ≡ int_wrap w32 (pos d) = ap int_in e in
+      sym (of_z-to_z w32 c v) ∙ ap (of_z w32) (signed c v ∙ wraps ∙ sym (signed d w)) ∙ of_z-to_z w32 d w
+  one_code kinds.Text c d v w e =
+      let texts : get_or p.texts c [] ≡ get_or p.texts d [] = ap text_in e in
+      (same_number p.texts c d (get_or p.texts c []) (get_or p.texts d []) pooled (slice_get-get_or p.texts c [] v) (slice_get-get_or p.texts d [] w)).0 texts
+  one_code (kinds.Node b) c d v w e = one_reference c d (ap node_in e)
+  one_code kinds.Texts c d v w e = v ∙ sym w
+  one_code (kinds.Nodes b) c d v w e = v ∙ sym w
+
+  -- and some arguments have one list of codes
+  pub one_list : (ks : List Kind) (cs ds : List ℕ) → AreCodes p ks cs → AreCodes p ks ds → arguments_at (text_of p) ks cs ≡ arguments_at (text_of p) ks ds → cs ≡ ds
+  one_list [] [] [] v w e = refl
+  one_list [] [] (d ∷ ds) v w e = absurd w
+  one_list [] (c ∷ cs) ds v w e = absurd v
+  one_list (k ∷ ks) [] [] v w e = refl
+  one_list (k ∷ ks) [] (d ∷ ds) v w e = cc
+  one_list (k ∷ ks) (c ∷ cs) [] v w e = cc
+  one_list (k ∷ ks) (c ∷ cs) (d ∷ ds) v w e =
+      let head : as_argument k (value_at (text_of p) k c) ≡ as_argument k (value_at (text_of p) k d) = cc in
+      let tail : arguments_at (text_of p) ks cs ≡ arguments_at (text_of p) ks ds = cc in
+      (λ i. one_code k c d v.0 w.0 head i ∷ one_list ks cs ds v.1 w.1 tail i)
+
+  -- arguments are told apart by their codes
+  row_first : (n m a b c x y z : ℕ) → n ≤ 3 → m ≤ 3 → (n ≤ 0 → a ≡ 0) → (n ≤ 1 → b ≡ 0) → (n ≤ 2 → c ≡ 0) → (m ≤ 0 → x ≡ 0) → (m ≤ 1 → y ≡ 0) → (m ≤ 2 → z ≡ 0)
+      → take n (a ∷ b ∷ c ∷ []) ≡ take m (x ∷ y ∷ z ∷ []) → (n ≡ m) × (a ≡ x) × (b ≡ y) × (c ≡ z)
+  row_first zero zero a b c x y z l r f g h u v w e = (refl, f (omega arith) ∙ sym (u (omega arith)), g (omega arith) ∙ sym (v (omega arith)), h (omega arith) ∙ sym (w (omega arith)))
+  row_first zero (suc m) a b c x y z l r f g h u v w e = cc
+  row_first (suc n) zero a b c x y z l r f g h u v w e = cc
+  row_first (suc zero) (suc zero) a b c x y z l r f g h u v w e = (refl, cc, g (omega arith) ∙ sym (v (omega arith)), h (omega arith) ∙ sym (w (omega arith)))
+  row_first (suc zero) (suc (suc m)) a b c x y z l r f g h u v w e = cc
+  row_first (suc (suc n)) (suc zero) a b c x y z l r f g h u v w e = cc
+  row_first (suc (suc zero)) (suc (suc zero)) a b c x y z l r f g h u v w e = (refl, cc, cc, h (omega arith) ∙ sym (w (omega arith)))
+  row_first (suc (suc zero)) (suc (suc (suc m))) a b c x y z l r f g h u v w e = cc
+  row_first (suc (suc (suc n))) (suc (suc zero)) a b c x y z l r f g h u v w e = cc
+  row_first (suc (suc (suc n))) (suc (suc (suc m))) a b c x y z l r f g h u v w e = let left : n ≡ m = omega (arith, l, r) in ((λ i. suc (suc (suc (left i)))), cc, cc, cc)
+
+  one_row : (xs ys : Args) → IsRow xs → IsRow ys → codes_in xs ≡ codes_in ys → xs ≡ ys
+  one_row xs ys v w e =
+      let h = row_first xs.count ys.count xs.first xs.second xs.third ys.first ys.second ys.third v.few w.few v.first v.second v.third w.first w.second w.third e in
+      (λ i. record { count = h.0 i; first = h.1 i; second = h.2 i; third = h.3 i })
+
+  -- coded instances that stand for one are one
+  pub one_key : (a b : CodedInstance) → IsCoded p a → IsCoded p b → instance_of p a ≡ instance_of p b → a ≡ b
+  one_key (coded.Attr a n xs) (coded.Attr b m ys) v w e =
+      let attribute : a.0 ≡ b.0 = cc in
+      let node : n.0 ≡ m.0 = (let same : reference_of n.0 ≡ reference_of m.0 = cc in one_reference n.0 m.0 same) in
+      let arguments : arguments_at (text_of p) (attribute_parameters p a.0) (codes_in xs) ≡ arguments_at (text_of p) (attribute_parameters p b.0) (codes_in ys) = cc in
+      let there : AreCodes p (attribute_parameters p a.0) (codes_in ys) = subst (λ (k : ℕ). AreCodes p (attribute_parameters p k) (codes_in ys)) (sym attribute) w.1 in
+      let codes : codes_in xs ≡ codes_in ys =
+      one_list (attribute_parameters p a.0) (codes_in xs) (codes_in ys) v.1 there (arguments ∙ ap (λ (k : ℕ). arguments_at (text_of p) (attribute_parameters p k) (codes_in ys)) (sym attribute))
+      in
+      (λ i. coded.Attr (record { 0 = attribute i }) (record { 0 = node i }) (one_row xs ys v.0 w.0 codes i))
+  one_key (coded.Attr a n xs) (coded.Query q) v w e = cc
+  one_key (coded.Query q) (coded.Attr b m ys) v w e = cc
+  one_key (coded.Query q) (coded.Query r) v w e = cc
+
+  -- well coded instances are equal where they stand for one instance
+  pub key_same : (a b : CodedInstance) → IsCoded p a → IsCoded p b → equality.ghosts.eq a b ≡ same_instance (instance_of p a) (instance_of p b)
+  key_same a b v w =
+      both_ways (equality.ghosts.eq a b) (same_instance (instance_of p a) (instance_of p b)) (λ e. same_as (instance_of p a) (instance_of p b) (ap (instance_of p) (key_is a b e)))
+      (λ e. let one = one_key a b v w (same_instance_is (instance_of p a) (instance_of p b) e) in subst (λ (x : CodedInstance). equality.ghosts.eq a x ≡ true) one (key_self a))

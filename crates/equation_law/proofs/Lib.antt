@@ -1,8 +1,11 @@
 pub mod Above
+mod AllInstances
+pub mod Checked
 pub mod Codes
 pub mod Deciding
 pub mod Demanded
 pub mod Ended
+mod Finite
 pub mod Heights
 pub mod Keys
 pub mod Listed

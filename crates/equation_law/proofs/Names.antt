@@ -1,12 +1,12 @@
 -- Names and instances are told apart by their writing.
-use Rattle.std.proofs.Common.{◌≡◌, ℕ, true, List, [], ◌∷◌, refl, ap, arith}
+use Rattle.std.proofs.Common.{◌≡◌, ℕ, suc, ℤ, pos, negsuc, Bool, true, false, List, [], ◌∷◌, refl, ap, arith}
 use Rattle.std.specs.declared.cmp.Ordering.{Ordering}
 use Rattle.std.specs.declared.cmp.Ordering.TheVariants.{Less, Equal, Greater}
 use Rattle.std.specs.Ordering.{nat_cmp, is_eq}
 use Rattle.std.specs.Cmp.{tied_itself}
 use Rattle.std.specs.Cmp.Lexicographic.{slice_cmp, nat_list_cmp_total}
 use Rattle.std.specs.FinMap.{IsAntisymmetric, slice_cmp-IsAntisymmetric, nat_cmp-IsAntisymmetric}
-use Rattle.equation_law.specs.Names.{NodeName, Source, Reference, Null, At, Arguments, NoArguments, Instance, Attribute, Query, node_code, reference_code, arguments_code, instance_code, node_cmp, same_instance}
+use Rattle.equation_law.specs.Names.{NodeName, Source, Reference, Null, At, Argument, OfInt, OfNode, OfText, OfTruth, Instance, Attribute, Query, argument_code, arguments_code, int_code, text_code, truth_code, node_code, reference_code, instance_code, node_cmp, same_instance}
 
 -- two writings that begin with different numbers differ
 tags : {A : Type 0} (a b : ℕ) (x y : List ℕ) → (a ≡ b → ⊥) → a ∷ x ≡ b ∷ y → A
@@ -23,9 +23,52 @@ reference_same Null (At n) x y e = tags 0 1 _ _ (λ h. omega arith) e
 reference_same (At m) Null x y e = tags 1 0 _ _ (λ h. omega arith) e
 reference_same (At m) (At n) x y e = let r = node_same m n x y cc in let h = r.0 in (cc, r.1)
 
--- that of arguments
-arguments_same : (a b : Arguments) (x y : List ℕ) → arguments_code a x ≡ arguments_code b y → (a ≡ b) × (x ≡ y)
-arguments_same NoArguments NoArguments x y e = (refl, cc)
+-- that of an integer and of a text
+int_same : (a b : ℤ) (x y : List ℕ) → int_code a x ≡ int_code b y → (a ≡ b) × (x ≡ y)
+int_same (negsuc n) (negsuc m) x y e = (cc, cc)
+int_same (negsuc n) (pos m) x y e = tags 0 1 _ _ (λ h. omega arith) e
+int_same (pos n) (negsuc m) x y e = tags 1 0 _ _ (λ h. omega arith) e
+int_same (pos n) (pos m) x y e = (cc, cc)
+
+text_same : (a b x y : List ℕ) → text_code a x ≡ text_code b y → (a ≡ b) × (x ≡ y)
+text_same [] [] x y e = (refl, cc)
+text_same [] (c ∷ b) x y e = tags 0 (suc c) _ _ (λ h. omega (arith, h)) e
+text_same (c ∷ a) [] x y e = tags (suc c) 0 _ _ (λ h. omega (arith, h)) e
+text_same (c ∷ a) (d ∷ b) x y e = let r = text_same a b x y cc in let h = r.0 in (cc, r.1)
+
+truth_same : (a b : Bool) (x y : List ℕ) → truth_code a x ≡ truth_code b y → (a ≡ b) × (x ≡ y)
+truth_same true true x y e = (refl, cc)
+truth_same true false x y e = tags 1 0 _ _ (λ h. omega arith) e
+truth_same false true x y e = tags 0 1 _ _ (λ h. omega arith) e
+truth_same false false x y e = (refl, cc)
+
+-- that of an argument, and of some
+argument_same : (a b : Argument) (x y : List ℕ) → argument_code a x ≡ argument_code b y → (a ≡ b) × (x ≡ y)
+argument_same (OfTruth a) (OfTruth b) x y e = let r = truth_same a b x y cc in (ap OfTruth r.0, r.1)
+argument_same (OfTruth a) (OfInt b) x y e = tags 0 1 _ _ (λ h. omega arith) e
+argument_same (OfTruth a) (OfText b) x y e = tags 0 2 _ _ (λ h. omega arith) e
+argument_same (OfTruth a) (OfNode b) x y e = tags 0 3 _ _ (λ h. omega arith) e
+argument_same (OfInt a) (OfTruth b) x y e = tags 1 0 _ _ (λ h. omega arith) e
+argument_same (OfInt a) (OfInt b) x y e = let r = int_same a b x y cc in (ap OfInt r.0, r.1)
+argument_same (OfInt a) (OfText b) x y e = tags 1 2 _ _ (λ h. omega arith) e
+argument_same (OfInt a) (OfNode b) x y e = tags 1 3 _ _ (λ h. omega arith) e
+argument_same (OfText a) (OfTruth b) x y e = tags 2 0 _ _ (λ h. omega arith) e
+argument_same (OfText a) (OfInt b) x y e = tags 2 1 _ _ (λ h. omega arith) e
+argument_same (OfText a) (OfText b) x y e = let r = text_same a b x y cc in (ap OfText r.0, r.1)
+argument_same (OfText a) (OfNode b) x y e = tags 2 3 _ _ (λ h. omega arith) e
+argument_same (OfNode a) (OfTruth b) x y e = tags 3 0 _ _ (λ h. omega arith) e
+argument_same (OfNode a) (OfInt b) x y e = tags 3 1 _ _ (λ h. omega arith) e
+argument_same (OfNode a) (OfText b) x y e = tags 3 2 _ _ (λ h. omega arith) e
+argument_same (OfNode a) (OfNode b) x y e = let r = reference_same a b x y cc in (ap OfNode r.0, r.1)
+
+arguments_same : (a b : List Argument) (x y : List ℕ) → arguments_code a x ≡ arguments_code b y → (a ≡ b) × (x ≡ y)
+arguments_same [] [] x y e = (refl, cc)
+arguments_same [] (d ∷ b) x y e = tags 0 1 _ _ (λ h. omega arith) e
+arguments_same (c ∷ a) [] x y e = tags 1 0 _ _ (λ h. omega arith) e
+arguments_same (c ∷ a) (d ∷ b) x y e =
+    let r = argument_same c d (arguments_code a x) (arguments_code b y) cc in
+    let s = arguments_same a b x y r.1 in
+    ((λ i. r.0 i ∷ s.0 i), s.1)
 
 -- that of an instance
 instance_same : (a b : Instance) (x y : List ℕ) → instance_code a x ≡ instance_code b y → (a ≡ b) × (x ≡ y)

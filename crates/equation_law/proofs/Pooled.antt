@@ -9,7 +9,7 @@ use Rattle.std.proofs.lemmas.Slice.Eq.{bytes_eq-Decides}
 use Rattle.rag_io.specs.Pool.{ArePooled}
 use Rattle.rag_io.proofs.Numbers.{same_number}
 use Rattle.equation_law.specs.declared.system.System.{System}
-use Rattle.equation_law.specs.Equations.{text_of}
+use Rattle.equation_law.specs.Program.{text_of}
 use Rattle.equation_law.specs.Systems.{program_of}
 use Rattle.equation_law.proofs.Keys.{both_ways}
 
@@ -28,7 +28,11 @@ text_there texts h n = elim (cases_lt n (length texts)) [
   | inr w ↦ subst (λ (t : List ℕ). Contains texts t) (sym (get_or-eq_default texts [] w)) (empty_there texts h)
 ]
 
--- of a program that is kept
+-- the texts of a program that is kept
+pub texts_pooled : (s : System) → ArePooled (program_of s).texts
+unfolding program_of
+texts_pooled s = s.pooled
+
 pub first_text : (s : System) → text_of (program_of s) 0 ≡ []
 unfolding program_of
 first_text s = first_empty s.pool s.pooled

@@ -1,5 +1,5 @@
 -- A well typed expression demands instances of its program alone, and its value is of its type.
-use Rattle.std.proofs.Common.{◌≡◌, ℕ, zero, suc, ℤ, pos, negsuc, neg_ℤ, Bool, true, false, not, cond, ◌&&◌, ◌||◌, List, [], ◌∷◌, map, Option, Some, None, length, slice_get, refl, sym, ap, subst, ◌∙◌}
+use Rattle.std.proofs.Common.{◌≡◌, ℕ, zero, suc, ℤ, pos, negsuc, neg_ℤ, Bool, true, false, not, cond, ◌&&◌, ◌||◌, List, [], ◌∷◌, map, Contains, Option, Some, None, length, slice_get, refl, sym, ap, subst, ◌∙◌}
 use Rattle.std.specs.Int.{int_wrap}
 use Rattle.std.specs.List.{range_with_len}
 use Rattle.std.specs.Option.{option_map}
@@ -22,20 +22,20 @@ use Rattle.attr_rules.specs.declared.kinds.Kind.TheVariants as kinds
 use Rattle.attr_rules.specs.declared.types.ValueType.{ValueType}
 use Rattle.attr_rules.specs.declared.types.ValueType.TheVariants as types
 use Rattle.attr_rules.specs.Accessors.{got}
-use Rattle.attr_rules.specs.Expression.{Expression}
+use Rattle.attr_rules.specs.Expression.{Arguments, Expression}
 use Rattle.attr_rules.specs.Rules.{is_single}
-use Rattle.attr_rules.specs.Types.{class_of_number, common, common_class, common_node, fits, fits_class, is_below, is_int, is_node, is_text, is_truth, kept_kind, kind_class, of_class, type_where}
-use Rattle.attr_rules.specs.Typing.{HasType, Names, TakesInts, quantified_type, with_variable}
+use Rattle.attr_rules.specs.Types.{class_of_number, common, common_class, common_node, fits, fits_class, is_below, is_int, is_node, is_text, is_truth, kept_kind, kind_class, of_class, parameter_kinds, type_where}
+use Rattle.attr_rules.specs.Typing.{Fit, HasType, Names, TakesInts, quantified_type, with_variable}
 use Rattle.attr_rules.specs.Typing as typed
 use Rattle.solutions.specs.Asking.{Demands, Gives, Needs, next}
 use Rattle.tree_arena.specs.Nodes.{Node as TreeNode, child_in, token_in}
 use Rattle.tree_arena.specs.Terms.{IsTreeOf}
-use Rattle.equation_law.specs.Checked.{IsAt, IsInstance, IsNodeOf, at, null, of_attribute}
-use Rattle.equation_law.specs.Equations.{attribute_kind, count_of, decoded, element_of, kind_or_truth, source_of, source_or_null, text_of, world_of}
-use Rattle.equation_law.specs.Meaning.{Place, at_each, call_at, cast_to, child_at, count_at, element_at, elements_at, first_with, is_instance, is_there, meaning_of, named, operate, over_elements, token_at, with_name}
-use Rattle.equation_law.specs.Names.{At, Attribute, Instance, NoArguments, Null, Reference, Source}
-use Rattle.equation_law.specs.Program.{Program, class_of, declared_of}
-use Rattle.equation_law.specs.Values.{Value, Truth, Int, Text, Node, as_kind, default_of, int, node, truth}
+use Rattle.equation_law.specs.Checked.{AreArguments, IsAt, IsInstance, IsNodeOf, IsValue, at, null, of_attribute, int as int_value, node as node_value, text as text_value, truth as truth_value}
+use Rattle.equation_law.specs.Equations.{attribute_kind, count_of, decoded, element_of, kind_or_truth, source_of, source_or_null, world_of}
+use Rattle.equation_law.specs.Meaning.{Place, at_each, call_at, cast_to, child_at, count_at, element_at, elements_at, first_with, is_instance, is_there, meaning_of, named, operate, over_elements, token_at, with_arguments, with_name}
+use Rattle.equation_law.specs.Names.{Argument, At, Attribute, Instance, Null, Reference, Source}
+use Rattle.equation_law.specs.Program.{Program, class_of, declared_of, kinds_or_none, text_of}
+use Rattle.equation_law.specs.Values.{Value, Truth, Int, Text, Node, argument_value, as_argument, as_arguments, as_kind, default_of, int, node, truth}
 use Rattle.equation_law.proofs.Lists.{some_of}
 use Rattle.equation_law.proofs.Preordered.{child_below}
 
@@ -217,6 +217,11 @@ module _ (p : Program) (I : ℤ → Type 0) (T : List ℕ → Type 0) where
     variables = variable_more N.variables q.names t v is names.variables;
   }
 
+-- none of some types is a set
+abbrev pub AreSingle : List Kind → Type 0
+AreSingle [] = Unit {0}
+AreSingle (k ∷ ks) = (is_single k ≡ true) × AreSingle ks
+
 -- What is demanded are instances, and what comes of all demands is of a type, as long as each value that is demanded is admitted.
 module _ (p : Program) (I : ℤ → Type 0) (T : List ℕ → Type 0) (M : Instance → Value → Type 0) where
   abbrev pub Keeps : ValueType → Demands Instance Value → Type 0
@@ -245,7 +250,12 @@ module _ (p : Program) (I : ℤ → Type 0) (T : List ℕ → Type 0) (M : Insta
     pub text : (n : ℕ) → T (text_of p n)
     pub empty : T []
     pub single : (a : ℕ) (d : Attr) → declared_of p a ≡ Some d → is_single d.kind ≡ true
-    pub read : (a : ℕ) (d : Attr) (r : Reference) (v : Value) → declared_of p a ≡ Some d → M (Attribute a r NoArguments) v → IsOf p I T (types.Of d.kind) (as_kind d.kind v)
+    pub parameters : (a : ℕ) (d : Attr) → declared_of p a ≡ Some d → AreSingle (parameter_kinds d.params)
+    pub read : (a : ℕ) (d : Attr) (r : Reference) (xs : List Argument) (v : Value) → declared_of p a ≡ Some d → M (Attribute a r xs) v → IsOf p I T (types.Of d.kind) (as_kind d.kind v)
+    -- they are values
+    pub int_value : (z : ℤ) → I z → int_wrap w32 z ≡ z
+    pub text_value : (t : List ℕ) → T t → Contains p.texts t
+    pub value_text : (t : List ℕ) → Contains p.texts t → T t
 
 -- nothing is an integer of 32 bits
 zero_wrapped : int_wrap w32 (pos 0) ≡ pos 0
@@ -295,9 +305,25 @@ module _ (p : Program) (I : ℤ → Type 0) (T : List ℕ → Type 0) (M : Insta
   read_at_kind : (a : ℕ) (d : Attr) (i : Instance) → declared_of p a ≡ Some d → IsInstance p i → ((v : Value) → M i v → IsOf p I T (types.Of d.kind) (as_kind d.kind v)) → Keeps p I T M (types.Of d.kind) (Needs i (λ v. Gives (as_kind (attribute_kind p a) v)))
   read_at_kind a d i e h f = (h, λ v m. subst (λ (o : Option Attr). IsOf p I T (types.Of d.kind) (as_kind (kind_or_truth (option_map (λ x. x.kind) o)) v)) (sym e) (f v m))
 
-  call_keeps : (a : ℕ) (d : Attr) (r : Reference) → declared_of p a ≡ Some d → IsNodeOf p d.class r → Keeps p I T M (types.Of d.kind) (call_at (world_of p) a r)
-  call_keeps a d _ e null = subst (λ (o : Option Attr). IsOf p I T (types.Of d.kind) (default_of (kind_or_truth (option_map (λ x. x.kind) o)))) (sym e) (default_keeps d.kind (bounds.single a d e))
-  call_keeps a d _ e (at {k = k} h) = read_at_kind a d (Attribute a (At (Source k)) NoArguments) e (of_attribute d h.class e h.of h.below) (λ v m. bounds.read a d (At (Source k)) v e m)
+  -- a value of a type is an argument of it, and an argument a value
+  argument_of : (k : Kind) (v : Value) → IsOf p I T (types.Of k) v → IsValue p k (argument_value (as_argument k v))
+  argument_of _ _ (of_truth b) = truth_value b
+  argument_of _ _ (of_int z h) = int_value z (bounds.int_value z h)
+  argument_of _ _ (of_text t h) = text_value t (bounds.text_value t h)
+  argument_of _ _ (of_node c r h) = node_value c r h
+
+  pub of_argument : (k : Kind) (v : Value) → IsValue p k v → IsOf p I T (types.Of k) v
+  of_argument _ _ (truth_value b) = of_truth b
+  of_argument _ _ (int_value z h) = of_int z (bounds.literal z h)
+  of_argument _ _ (text_value t h) = of_text t (bounds.value_text t h)
+  of_argument _ _ (node_value c r h) = of_node c r h
+
+  call_keeps : (a : ℕ) (d : Attr) (r : Reference) (vs : List Value) → declared_of p a ≡ Some d → AreArguments p (parameter_kinds d.params) (as_arguments (parameter_kinds d.params) vs) → IsNodeOf p d.class r → Keeps p I T M (types.Of d.kind) (call_at (world_of p) a r vs)
+  call_keeps a d _ vs e q null = subst (λ (o : Option Attr). IsOf p I T (types.Of d.kind) (default_of (kind_or_truth (option_map (λ x. x.kind) o)))) (sym e) (default_keeps d.kind (bounds.single a d e))
+  call_keeps a d _ vs e q (at {k = k} h) =
+      let xs = as_arguments (parameter_kinds d.params) vs in
+      subst (λ (o : Option Attr). Keeps p I T M (types.Of d.kind) (Needs (Attribute a (At (Source k)) (as_arguments (kinds_or_none o) vs)) (λ v. Gives (as_kind (attribute_kind p a) v)))) (sym e)
+      (read_at_kind a d (Attribute a (At (Source k)) xs) e (of_attribute d h.class e h.of h.below q) (λ v m. bounds.read a d (At (Source k)) xs v e m))
 
   -- a source node that the tree has
   source_known : (k : ℕ) (c : ClassId) → IsAt p k c → IsNodeOf p c (source_of p k)
@@ -377,45 +403,56 @@ module _ (p : Program) (I : ℤ → Type 0) (T : List ℕ → Type 0) (M : Insta
     on_truth : (d : Demands Instance Value) → Keeps p I T M (types.Of kinds.Truth) d → Keeps p I T M (types.Of kinds.Truth) (next d (λ w. Gives (Truth (truth w))))
     on_truth d h = behind p I T M (types.Of kinds.Truth) (types.Of kinds.Truth) d (λ w. Gives (Truth (truth w))) h (λ v q. of_truth (truth v))
 
-    -- an expression, by the rule of its type
-    pub typed_keeps : {N : Names} {e : Expression} {t : ValueType} → HasType N e t → (pl : Place) → AreNames p I T N pl → Keeps p I T M t (Meaning pl e)
-    typed_keeps (typed.truth b) pl ns = of_truth b
-    typed_keeps (typed.int z w) pl ns = of_int z (bounds.literal z w)
-    typed_keeps (typed.text k) pl ns = of_text _ (bounds.text k)
-    typed_keeps typed.null pl ns = of_null
-    typed_keeps (typed.this c e) pl ns = of_node c _ (ns.this c e)
-    typed_keeps (typed.variable k t e) pl ns = ns.variables k t e
-    typed_keeps (typed.source k c e) pl ns = of_node c _ (source_known k c (ns.node k c e))
-    typed_keeps (typed.child {e = e} c k x h s g) pl ns =
-        on_receiver c (of_class x.class) (Meaning pl e) (λ r. Gives (Node (child_at (world_of p) k r))) (typed_keeps h pl ns) (λ r o. of_node x.class _ (child_keeps c k x (of_grammar _ ns.grammar c k x s) r o))
-    typed_keeps (typed.element {e = e} {i = i} c k x h s g j) pl ns =
-        on_receiver c (of_class x.class) (Meaning pl e) (λ r. next (Meaning pl i) (λ z. Gives (Node (element_at (world_of p) k r (int z))))) (typed_keeps h pl ns)
-        (λ r o. behind p I T M (types.Of kinds.Int) (of_class x.class) (Meaning pl i) (λ z. Gives (Node (element_at (world_of p) k r (int z)))) (typed_keeps j pl ns) (λ z q. of_node x.class _ (element_keeps c k x (of_grammar _ ns.grammar c k x s) r (int z) o)))
-    typed_keeps (typed.count {e = e} c k x h s g) pl ns = on_receiver c (types.Of kinds.Int) (Meaning pl e) (λ r. Gives (Int (count_at (world_of p) k r))) (typed_keeps h pl ns) (λ r o. count_keeps k r)
-    typed_keeps (typed.has {e = e} c k x h s g) pl ns = on_receiver c (types.Of kinds.Truth) (Meaning pl e) (λ r. Gives (Truth (is_there (child_at (world_of p) k r)))) (typed_keeps h pl ns) (λ r o. of_truth _)
-    typed_keeps (typed.token {e = e} c k x t h s g) pl ns = on_receiver c (types.Of t) (Meaning pl e) (λ r. Gives (token_at (world_of p) t k r)) (typed_keeps h pl ns) (λ r o. token_keeps t k r (token_plain x.shape t g))
-    typed_keeps (typed.call {e = e} c a d h s b) pl ns =
-        on_receiver c (types.Of d.kind) (Meaning pl e) (λ r. call_at (world_of p) a r) (typed_keeps h pl ns)
-        (λ r o. call_keeps a d r (ns.attribute a d s) (node_above p c d.class r (subst (λ (g : List Class). is_sub g c.0 d.class.0 ≡ true) ns.grammar b) o))
-    typed_keeps (typed.cast {e = e} t c h n w) pl ns = behind p I T M t (of_class c) (Meaning pl e) (λ r. Gives (Node (cast_to (world_of p) c (node r)))) (typed_keeps h pl ns) (λ v o. of_node c _ (cast_keeps c (node v)))
-    typed_keeps (typed.instance_of {e = e} t c h n w) pl ns = behind p I T M t (types.Of kinds.Truth) (Meaning pl e) (λ r. Gives (Truth (is_instance (world_of p) c (node r)))) (typed_keeps h pl ns) (λ v o. of_truth _)
-    typed_keeps (typed.quantified {N = N} {e = e} {b = b} q c k x h s g f) pl ns =
-        on_receiver c (quantified_type q x.class) (Meaning pl e) (λ r. over_elements q (elements_at (world_of p) k r) (λ v. meaning_of (world_of p) b (with_name pl v))) (typed_keeps h pl ns)
-        (λ r o. elements_keep q c k x (of_grammar _ ns.grammar c k x s) (λ v. meaning_of (world_of p) b (with_name pl v)) (λ v i. typed_keeps f (with_name pl v) (names_more p I T N pl (kinds.Node x.class) v i ns)) r o)
-    typed_keeps (typed.not {e = e} h) pl ns = behind p I T M (types.Of kinds.Truth) (types.Of kinds.Truth) (Meaning pl e) (λ v. Gives (Truth (not (truth v)))) (typed_keeps h pl ns) (λ v q. of_truth _)
-    typed_keeps (typed.negate {e = e} h) pl ns =
-        behind p I T M (types.Of kinds.Int) (types.Of kinds.Int) (Meaning pl e) (λ v. Gives (Int (int_wrap w32 (neg_ℤ (int v))))) (typed_keeps h pl ns) (λ v q. of_int _ (bounds.wrapped _))
-    typed_keeps (typed.ints {a = a} {b = b} o k q g h) pl ns = on_both (types.Of kinds.Int) (types.Of kinds.Int) (types.Of k) o (Meaning pl a) (Meaning pl b) (typed_keeps g pl ns) (typed_keeps h pl ns) (ints_keep o k q)
-    typed_keeps (typed.equal {a = a} {b = b} t u g h q) pl ns = on_both t u (types.Of kinds.Truth) Equal (Meaning pl a) (Meaning pl b) (typed_keeps g pl ns) (typed_keeps h pl ns) (λ v w. of_truth _)
-    typed_keeps (typed.and {a = a} {b = b} g h) pl ns =
-        let right = next (Meaning pl b) (λ w. Gives (Truth (truth w))) in
-        behind p I T M (types.Of kinds.Truth) (types.Of kinds.Truth) (Meaning pl a) (λ v. cond (truth v) right (Gives (Truth false))) (typed_keeps g pl ns)
-        (λ v q. one_of p I T M (types.Of kinds.Truth) right (Gives (Truth false)) (truth v) (on_truth (Meaning pl b) (typed_keeps h pl ns)) (of_truth false))
-    typed_keeps (typed.or {a = a} {b = b} g h) pl ns =
-        let right = next (Meaning pl b) (λ w. Gives (Truth (truth w))) in
-        behind p I T M (types.Of kinds.Truth) (types.Of kinds.Truth) (Meaning pl a) (λ v. cond (truth v) (Gives (Truth true)) right) (typed_keeps g pl ns)
-        (λ v q. one_of p I T M (types.Of kinds.Truth) (Gives (Truth true)) right (truth v) (of_truth true) (on_truth (Meaning pl b) (typed_keeps h pl ns)))
-    typed_keeps (typed.choice {c = c} {a = a} {b = b} t u w f g h e) pl ns =
-        let same = subst (λ (x : List Class). common x t u ≡ Some w) ns.grammar e in
-        behind p I T M (types.Of kinds.Truth) w (Meaning pl c) (λ v. cond (truth v) (Meaning pl a) (Meaning pl b)) (typed_keeps f pl ns)
-        (λ v q. one_of p I T M w (Meaning pl a) (Meaning pl b) (truth v) (widened p I T M t w (Meaning pl a) (common_left p I T t u w same) (typed_keeps g pl ns)) (widened p I T M u w (Meaning pl b) (common_right p I T t u w same) (typed_keeps h pl ns)))
+    mutual
+      -- arguments, each of which fits its parameter
+      arguments_keep : {N : Names} {es : Arguments} {ks : List Kind} → Fit N es ks → (pl : Place) → AreNames p I T N pl → AreSingle ks → (u : ValueType) (f : List Value → Demands Instance Value) → ((vs : List Value) → AreArguments p ks (as_arguments ks vs) → Keeps p I T M u (f vs)) → Keeps p I T M u (with_arguments (world_of p) es pl f)
+      arguments_keep typed.end pl ns single u f g = g [] tt
+      arguments_keep (typed.more {e = e} {es = es} {k = k} {ks = ks} t h w rest) pl ns single u f g =
+          let same = subst (λ (x : List Class). fits x t k ≡ true) ns.grammar w in
+          behind p I T M t u (Meaning pl e) (λ v. with_arguments (world_of p) es pl (λ vs. f (v ∷ vs))) (typed_keeps h pl ns)
+          (λ v o. arguments_keep rest pl ns single.1 u (λ vs. f (v ∷ vs)) (λ vs q. g (v ∷ vs) (argument_of k v (fitting p I T k t single.0 same v o), q)))
+
+      -- an expression, by the rule of its type
+      pub typed_keeps : {N : Names} {e : Expression} {t : ValueType} → HasType N e t → (pl : Place) → AreNames p I T N pl → Keeps p I T M t (Meaning pl e)
+      typed_keeps (typed.truth b) pl ns = of_truth b
+      typed_keeps (typed.int z w) pl ns = of_int z (bounds.literal z w)
+      typed_keeps (typed.text k) pl ns = of_text _ (bounds.text k)
+      typed_keeps typed.null pl ns = of_null
+      typed_keeps (typed.this c e) pl ns = of_node c _ (ns.this c e)
+      typed_keeps (typed.variable k t e) pl ns = ns.variables k t e
+      typed_keeps (typed.source k c e) pl ns = of_node c _ (source_known k c (ns.node k c e))
+      typed_keeps (typed.child {e = e} c k x h s g) pl ns =
+          on_receiver c (of_class x.class) (Meaning pl e) (λ r. Gives (Node (child_at (world_of p) k r))) (typed_keeps h pl ns) (λ r o. of_node x.class _ (child_keeps c k x (of_grammar _ ns.grammar c k x s) r o))
+      typed_keeps (typed.element {e = e} {i = i} c k x h s g j) pl ns =
+          on_receiver c (of_class x.class) (Meaning pl e) (λ r. next (Meaning pl i) (λ z. Gives (Node (element_at (world_of p) k r (int z))))) (typed_keeps h pl ns)
+          (λ r o. behind p I T M (types.Of kinds.Int) (of_class x.class) (Meaning pl i) (λ z. Gives (Node (element_at (world_of p) k r (int z)))) (typed_keeps j pl ns) (λ z q. of_node x.class _ (element_keeps c k x (of_grammar _ ns.grammar c k x s) r (int z) o)))
+      typed_keeps (typed.count {e = e} c k x h s g) pl ns = on_receiver c (types.Of kinds.Int) (Meaning pl e) (λ r. Gives (Int (count_at (world_of p) k r))) (typed_keeps h pl ns) (λ r o. count_keeps k r)
+      typed_keeps (typed.has {e = e} c k x h s g) pl ns = on_receiver c (types.Of kinds.Truth) (Meaning pl e) (λ r. Gives (Truth (is_there (child_at (world_of p) k r)))) (typed_keeps h pl ns) (λ r o. of_truth _)
+      typed_keeps (typed.token {e = e} c k x t h s g) pl ns = on_receiver c (types.Of t) (Meaning pl e) (λ r. Gives (token_at (world_of p) t k r)) (typed_keeps h pl ns) (λ r o. token_keeps t k r (token_plain x.shape t g))
+      typed_keeps (typed.call {e = e} {es = es} c a d h s b fit) pl ns =
+          on_receiver c (types.Of d.kind) (Meaning pl e) (λ r. with_arguments (world_of p) es pl (λ vs. call_at (world_of p) a r vs)) (typed_keeps h pl ns)
+          (λ r o.
+          let stands = node_above p c d.class r (subst (λ (g : List Class). is_sub g c.0 d.class.0 ≡ true) ns.grammar b) o in
+          arguments_keep fit pl ns (bounds.parameters a d (ns.attribute a d s)) (types.Of d.kind) (λ vs. call_at (world_of p) a r vs) (λ vs q. call_keeps a d r vs (ns.attribute a d s) q stands))
+      typed_keeps (typed.cast {e = e} t c h n w) pl ns = behind p I T M t (of_class c) (Meaning pl e) (λ r. Gives (Node (cast_to (world_of p) c (node r)))) (typed_keeps h pl ns) (λ v o. of_node c _ (cast_keeps c (node v)))
+      typed_keeps (typed.instance_of {e = e} t c h n w) pl ns = behind p I T M t (types.Of kinds.Truth) (Meaning pl e) (λ r. Gives (Truth (is_instance (world_of p) c (node r)))) (typed_keeps h pl ns) (λ v o. of_truth _)
+      typed_keeps (typed.quantified {N = N} {e = e} {b = b} q c k x h s g f) pl ns =
+          on_receiver c (quantified_type q x.class) (Meaning pl e) (λ r. over_elements q (elements_at (world_of p) k r) (λ v. meaning_of (world_of p) b (with_name pl v))) (typed_keeps h pl ns)
+          (λ r o. elements_keep q c k x (of_grammar _ ns.grammar c k x s) (λ v. meaning_of (world_of p) b (with_name pl v)) (λ v i. typed_keeps f (with_name pl v) (names_more p I T N pl (kinds.Node x.class) v i ns)) r o)
+      typed_keeps (typed.not {e = e} h) pl ns = behind p I T M (types.Of kinds.Truth) (types.Of kinds.Truth) (Meaning pl e) (λ v. Gives (Truth (not (truth v)))) (typed_keeps h pl ns) (λ v q. of_truth _)
+      typed_keeps (typed.negate {e = e} h) pl ns =
+          behind p I T M (types.Of kinds.Int) (types.Of kinds.Int) (Meaning pl e) (λ v. Gives (Int (int_wrap w32 (neg_ℤ (int v))))) (typed_keeps h pl ns) (λ v q. of_int _ (bounds.wrapped _))
+      typed_keeps (typed.ints {a = a} {b = b} o k q g h) pl ns = on_both (types.Of kinds.Int) (types.Of kinds.Int) (types.Of k) o (Meaning pl a) (Meaning pl b) (typed_keeps g pl ns) (typed_keeps h pl ns) (ints_keep o k q)
+      typed_keeps (typed.equal {a = a} {b = b} t u g h q) pl ns = on_both t u (types.Of kinds.Truth) Equal (Meaning pl a) (Meaning pl b) (typed_keeps g pl ns) (typed_keeps h pl ns) (λ v w. of_truth _)
+      typed_keeps (typed.and {a = a} {b = b} g h) pl ns =
+          let right = next (Meaning pl b) (λ w. Gives (Truth (truth w))) in
+          behind p I T M (types.Of kinds.Truth) (types.Of kinds.Truth) (Meaning pl a) (λ v. cond (truth v) right (Gives (Truth false))) (typed_keeps g pl ns)
+          (λ v q. one_of p I T M (types.Of kinds.Truth) right (Gives (Truth false)) (truth v) (on_truth (Meaning pl b) (typed_keeps h pl ns)) (of_truth false))
+      typed_keeps (typed.or {a = a} {b = b} g h) pl ns =
+          let right = next (Meaning pl b) (λ w. Gives (Truth (truth w))) in
+          behind p I T M (types.Of kinds.Truth) (types.Of kinds.Truth) (Meaning pl a) (λ v. cond (truth v) (Gives (Truth true)) right) (typed_keeps g pl ns)
+          (λ v q. one_of p I T M (types.Of kinds.Truth) (Gives (Truth true)) right (truth v) (of_truth true) (on_truth (Meaning pl b) (typed_keeps h pl ns)))
+      typed_keeps (typed.choice {c = c} {a = a} {b = b} t u w f g h e) pl ns =
+          let same = subst (λ (x : List Class). common x t u ≡ Some w) ns.grammar e in
+          behind p I T M (types.Of kinds.Truth) w (Meaning pl c) (λ v. cond (truth v) (Meaning pl a) (Meaning pl b)) (typed_keeps f pl ns)
+          (λ v q. one_of p I T M w (Meaning pl a) (Meaning pl b) (truth v) (widened p I T M t w (Meaning pl a) (common_left p I T t u w same) (typed_keeps g pl ns)) (widened p I T M u w (Meaning pl b) (common_right p I T t u w same) (typed_keeps h pl ns)))

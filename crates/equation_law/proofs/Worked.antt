@@ -8,12 +8,12 @@ use Rattle.ast_grammar.specs.Grammar.{Class, superclasses_of}
 use Rattle.attr_rules.specs.declared.dispatch.Reach.TheVariants.{Own}
 use Rattle.attr_rules.specs.declared.expression.Operator.TheVariants.{Add, Subtract, Multiply, Less, AtMost, Greater, AtLeast, Equal}
 use Rattle.attr_rules.specs.declared.kinds.Kind.TheVariants as kinds
-use Rattle.attr_rules.specs.Expression.{Expression, Truth as TruthLiteral, Int as IntLiteral, Text as TextLiteral, Null as NullLiteral, This, Source as SourceNode, Child, Element, Count, Has, Token, Call, Negate, Binary, And, Or, If}
+use Rattle.attr_rules.specs.Expression.{Expression, Truth as TruthLiteral, Int as IntLiteral, Text as TextLiteral, Null as NullLiteral, This, Source as SourceNode, Child, Element, Count, Has, Token, Call, no_more, Negate, Binary, And, Or, If}
 use Rattle.attr_rules.specs.Rules.{Attribute as Declared, Equation, plain_attribute}
 use Rattle.solutions.specs.Asking.{Gives, Needs}
 use Rattle.tree_arena.specs.Nodes.{Node as TreeNode}
 use Rattle.tree_arena.specs.Terms.{Empty, Fits, Forest, IsTreeOf, Tree, element, none, one, over, root as whole, token}
-use Rattle.equation_law.specs.Names.{At, Attribute, NoArguments, Null, Query, Source}
+use Rattle.equation_law.specs.Names.{At, Attribute, Null, Query, Source}
 use Rattle.equation_law.specs.Values.{Int, Node, Text, Truth, as_kind, truth}
 use Rattle.equation_law.specs.Meaning.{Place, meaning_of, operate}
 use Rattle.equation_law.specs.Program.{Program, at_source, source_instances}
@@ -34,10 +34,10 @@ equations =
 
 -- the calls `@0.v()` and `@0.w()`; no rule of the notation allows the latter
 abbrev v : Expression
-v = Call 0 (SourceNode 0)
+v = Call 0 (SourceNode 0) no_more
 
 abbrev w : Expression
-w = Call 1 (SourceNode 0)
+w = Call 1 (SourceNode 0) no_more
 
 abbrev classes : List Class
 classes =
@@ -141,7 +141,7 @@ of_no_query : equation_of small (Query 1) ≡ None
 of_no_query = refl
 
 -- and nothing at null
-of_null : equation_of small (Attribute 0 Null NoArguments) ≡ None
+of_null : equation_of small (Attribute 0 Null []) ≡ None
 of_null = refl
 
 -- what has no equation counts as null
@@ -229,7 +229,7 @@ unfolding int_wrap
 tokens = (refl, refl)
 
 -- on null a token and a call are defaults, and demand nothing
-on_null : (meaning_of (world_of small) (Token kinds.Int 0 (Child 1 This)) root ≡ Gives (Int (pos 0))) × (meaning_of (world_of small) (Token kinds.Text 2 NullLiteral) root ≡ Gives (Text [])) × (meaning_of (world_of small) (Call 1 (Child 1 This)) root ≡ Gives (Truth false))
+on_null : (meaning_of (world_of small) (Token kinds.Int 0 (Child 1 This)) root ≡ Gives (Int (pos 0))) × (meaning_of (world_of small) (Token kinds.Text 2 NullLiteral) root ≡ Gives (Text [])) × (meaning_of (world_of small) (Call 1 (Child 1 This) no_more) root ≡ Gives (Truth false))
 unfolding superclasses_of line_of
 on_null = (refl, refl, refl)
 
@@ -262,7 +262,7 @@ unfolding superclasses_of line_of
 place_first = refl
 
 -- a call on the child
-on_child : meaning_of (world_of small) (Call 1 (Child 0 This)) root ≡ Needs (at_source 1 1) (λ x. Gives (Truth (truth x)))
+on_child : meaning_of (world_of small) (Call 1 (Child 0 This) no_more) root ≡ Needs (at_source 1 1) (λ x. Gives (Truth (truth x)))
 unfolding superclasses_of line_of
 on_child = refl
 

@@ -5,7 +5,7 @@ use Rattle.superclasses.specs.Superclasses.{line_of}
 use Rattle.ast_grammar.specs.Grammar.{Class, superclasses_of}
 use Rattle.attr_rules.specs.declared.dispatch.Reach.TheVariants.{Own}
 use Rattle.attr_rules.specs.declared.kinds.Kind.TheVariants as kinds
-use Rattle.attr_rules.specs.Expression.{Expression, Truth as TruthLiteral, Int as IntLiteral, This, Call, And, Or}
+use Rattle.attr_rules.specs.Expression.{Expression, Truth as TruthLiteral, Int as IntLiteral, This, Call, no_more, And, Or}
 use Rattle.attr_rules.specs.Rules.{Attribute as Declared, Equation, plain_attribute}
 use Rattle.solutions.specs.Asking.{Demands, Gives, Needs, Meets, here, later, next}
 use Rattle.solutions.specs.Rounds.{Graph, RoundsEnd, is_in, outer_rounds}
@@ -22,7 +22,7 @@ use Rattle.equation_law.proofs.Solution.{loopless}
 
 -- a call at the root
 abbrev call : ℕ → Expression
-call a = Call a This
+call a = Call a This no_more
 
 abbrev attributes : List Declared
 attributes =

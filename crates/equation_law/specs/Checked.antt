@@ -1,5 +1,5 @@
 -- Programs that break no rule, their instances, and the values of each type.
-use Rattle.std.specs.Prelude.{◌≡◌, ℕ, ℤ, true, Bool, List, Option, Some, All, length, slice_get}
+use Rattle.std.specs.Prelude.{◌≡◌, ℕ, ℤ, true, Bool, List, [], ◌∷◌, Option, Some, All, length, slice_get}
 use Rattle.std.specs.Int.{int_wrap}
 use Rattle.std.specs.List.{Contains}
 use mir.Syntax.{w32}
@@ -12,13 +12,13 @@ use Rattle.attr_rules.specs.declared.kinds.Kind.TheVariants as kinds
 use Rattle.attr_rules.specs.declared.types.ValueType.{ValueType}
 use Rattle.attr_rules.specs.Queries.{Query as Asked}
 use Rattle.attr_rules.specs.Rules.{AreRules}
-use Rattle.attr_rules.specs.Types.{kept_kind}
+use Rattle.attr_rules.specs.Types.{kept_kind, parameter_kinds}
 use Rattle.attr_rules.specs.Typing.{HasType}
 use Rattle.tree_arena.specs.Terms.{IsTreeOf}
-use Rattle.equation_law.specs.Names.{Source, Reference, Null, At, Instance, Attribute, Query, NoArguments}
+use Rattle.equation_law.specs.Names.{Source, Reference, Null, At, Argument, Instance, Attribute, Query}
 use Rattle.equation_law.specs.Program.{Program, class_of, declared_of, names_in}
 use Rattle.equation_law.specs.Equations.{kind_in}
-use Rattle.equation_law.specs.Values.{Value, Truth, Int, Text, Node}
+use Rattle.equation_law.specs.Values.{Value, Truth, Int, Text, Node, argument_value}
 
 -- a query is well typed: what it asks is an attribute or an accessor of the node's class
 pub record IsTyped (p : Program) (q : Asked) : Type 0 where
@@ -33,11 +33,6 @@ pub record IsProgram (p : Program) : Type 0 where
   pub texts : ArePooled p.texts
   pub tree : IsTreeOf p.grammar (length p.texts) p.tree
   pub queries : All (IsTyped p) p.queries
-
--- An instance of a program: an attribute at a source node, which is of the attribute's class or of a subclass, or a query.
-pub data IsInstance (p : Program) : Instance → Type 0 where
-  of_attribute : {a k : ℕ} (d : Attr) (c : ClassId) → declared_of p a ≡ Some d → class_of p k ≡ Some c → is_sub p.grammar c.0 d.class.0 ≡ true → IsInstance p (Attribute a (At (Source k)) NoArguments)
-  of_query : {q : ℕ} (e : Asked) → slice_get p.queries q ≡ Some e → IsInstance p (Query q)
 
 -- a source node of the class or of a subclass
 pub record IsAt (p : Program) (k : ℕ) (c : ClassId) : Type 0 where
@@ -56,6 +51,24 @@ pub data IsValue (p : Program) : Kind → Value → Type 0 where
   int : (z : ℤ) → int_wrap w32 z ≡ z → IsValue p kinds.Int (Int z)
   text : (t : List ℕ) → Contains p.texts t → IsValue p kinds.Text (Text t)
   node : (c : ClassId) (r : Reference) → IsNodeOf p c r → IsValue p (kinds.Node c) (Node r)
+
+-- arguments that are as many as the parameters, and values of their types
+abbrev pub AreArguments : Program → List Kind → List Argument → Type 0
+AreArguments p [] [] = Unit {0}
+AreArguments p [] (x ∷ xs) = ⊥
+AreArguments p (k ∷ ks) [] = ⊥
+AreArguments p (k ∷ ks) (x ∷ xs) = IsValue p k (argument_value x) × AreArguments p ks xs
+
+-- An instance of a program: an attribute at a source node, which is of the attribute's class or of a subclass, with arguments for its
+-- parameters, or a query.
+pub data IsInstance (p : Program) : Instance → Type 0 where
+  of_attribute : {a k : ℕ} {xs : List Argument} (d : Attr) (c : ClassId) → declared_of p a ≡ Some d → class_of p k ≡ Some c → is_sub p.grammar c.0 d.class.0 ≡ true → AreArguments p (parameter_kinds d.params) xs → IsInstance p (Attribute a (At (Source k)) xs)
+  of_query : {q : ℕ} (e : Asked) → slice_get p.queries q ≡ Some e → IsInstance p (Query q)
+
+-- a query, or an attribute without arguments
+abbrev pub HasNoArguments : Instance → Type 0
+HasNoArguments (Attribute a n xs) = xs ≡ []
+HasNoArguments (Query q) = Unit {0}
 
 -- an assignment whose values are of their instances' types
 pub record Fits (p : Program) (A : Instance → Option Value) : Type 0 where

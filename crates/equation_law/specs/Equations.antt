@@ -1,5 +1,5 @@
 -- The equations of the instances of a program, and the solution.
-use Rattle.std.specs.Prelude.{ℕ, zero, suc, ℤ, pos, negsuc, List, [], ◌∷◌, Bool, false, cond, Option, Some, None, slice_get, slice_index_or}
+use Rattle.std.specs.Prelude.{ℕ, zero, suc, ℤ, pos, negsuc, List, [], ◌∷◌, Bool, false, cond, Option, Some, None, slice_get, ◌++◌, map}
 use Rattle.std.specs.Int.{int_wrap}
 use Rattle.std.specs.Option.{option_and_then, option_map, option_or}
 use mir.Syntax.{w32}
@@ -17,9 +17,9 @@ use Rattle.solutions.specs.Asking.{Demands, Gives, next}
 use Rattle.solutions.specs.Rounds.{Equations, HasValue as HasValueOf}
 use Rattle.tree_arena.specs.Nodes.{Node as TreeNode, child_in, component_in, count_in, index_in, parent_in, token_in}
 use Rattle.equation_law.specs.Codes.{value_at}
-use Rattle.equation_law.specs.Names.{NodeName, Source, Reference, Null, At, NoArguments, Instance, Attribute, Query, same_instance}
-use Rattle.equation_law.specs.Values.{Value, Int, Node, as_kind, default_of}
-use Rattle.equation_law.specs.Program.{Program, declared_of, class_of}
+use Rattle.equation_law.specs.Names.{NodeName, Source, Reference, Null, At, Argument, Instance, Attribute, Query, same_instance}
+use Rattle.equation_law.specs.Values.{Int, Node, Value, argument_value, as_kind, default_of}
+use Rattle.equation_law.specs.Program.{Program, attribute_parameters, declared_of, class_of, text_of}
 use Rattle.equation_law.specs.Meaning.{World, Place, meaning_of}
 
 -- an equation as it is read: an expression of a type, with the node at which it is read
@@ -63,10 +63,6 @@ count_of p (Source n) k = count_in p.tree n k
 abbrev pub is_of_class : Program → ClassId → NodeName → Bool
 is_of_class p c (Source k) = is_below p.grammar (class_of p k) c
 
--- the text of a number; that of a number that no text has is the empty one
-abbrev pub text_of : Program → ℕ → List ℕ
-text_of p n = slice_index_or p.texts n []
-
 -- the value that a code stands for, by the texts; a missing one is the type's default
 abbrev pub decoded : (ℕ → List ℕ) → Kind → Option ℕ → Value
 decoded texts t None = default_of t
@@ -76,7 +72,7 @@ abbrev pub token_of : Program → Kind → NodeName → ℕ → Value
 token_of p t (Source n) k = decoded (text_of p) t (token_in p.tree n k)
 
 abbrev pub world_of : Program → World
-world_of p = record { kind = attribute_kind p; text = text_of p; source = source_of p; child = child_of p; element = element_of p; count = count_of p; is_of = is_of_class p; token = token_of p }
+world_of p = record { kind = attribute_kind p; parameters = attribute_parameters p; text = text_of p; source = source_of p; child = child_of p; element = element_of p; count = count_of p; is_of = is_of_class p; token = token_of p }
 
 abbrev pub asked_kind : Asked → Kind
 asked_kind q = q.kind
@@ -90,16 +86,20 @@ kind_in p (Query q) = kind_or_truth (option_map asked_kind (slice_get p.queries 
 abbrev pub equation_for : Program → ℕ → ClassId → Option Equation
 equation_for p a c = option_and_then (slice_get p.rules.equations) (equation_number p.rules c a)
 
+-- a source node, with the values of some arguments
+abbrev pub place_with : ℕ → List Argument → Place
+place_with k xs = record { this = At (Source k); names = map argument_value xs }
+
 -- a source node, without names
 abbrev pub place_at : ℕ → Place
-place_at k = record { this = At (Source k); names = [] }
+place_at k = place_with k []
 
-abbrev pub site_at : Program → ℕ → ℕ → Equation → Site
-site_at p a k e = record { body = e.body; kind = attribute_kind p a; place = place_at k }
+abbrev pub site_at : Program → ℕ → ℕ → List Argument → Equation → Site
+site_at p a k xs e = record { body = e.body; kind = attribute_kind p a; place = place_with k xs }
 
--- the equation of a synthesized attribute at a node: that of the node's class, read at the node
-abbrev pub synthesized_site : Program → ℕ → ℕ → Option Site
-synthesized_site p a k = option_map (site_at p a k) (option_and_then (equation_for p a) (class_of p k))
+-- the equation of a synthesized attribute at a node: that of the node's class, read at the node with the arguments
+abbrev pub synthesized_site : Program → ℕ → ℕ → List Argument → Option Site
+synthesized_site p a k xs = option_map (site_at p a k xs) (option_and_then (equation_for p a) (class_of p k))
 
 abbrev pub followed : Option ℕ → (ℕ → List ℕ) → List ℕ
 followed None further = []
@@ -124,13 +124,13 @@ bound_values Children i = []
 abbrev pub covering_for : Program → ℕ → ℕ → ℕ → Option Equation
 covering_for p a n u = option_and_then (slice_get p.rules.equations) (option_and_then (λ c. option_and_then (λ k. covering_number p.rules c k a) (component_in p.tree n)) (class_of p u))
 
--- it is read at node u
-abbrev pub site_above : Program → ℕ → ℕ → ℕ → Equation → Site
-site_above p a n u e = record { body = e.body; kind = attribute_kind p a; place = record { this = At (Source u); names = bound_values e.target.reach (place_among p n) } }
+-- it is read at node u with the arguments, and then what its path binds
+abbrev pub site_above : Program → ℕ → List Argument → ℕ → ℕ → Equation → Site
+site_above p a xs n u e = record { body = e.body; kind = attribute_kind p a; place = record { this = At (Source u); names = map argument_value xs ++ bound_values e.target.reach (place_among p n) } }
 
 -- the equation that covers a node at its parent
-abbrev pub covering_site : Program → ℕ → ℕ → Option Site
-covering_site p a n = option_and_then (λ u. option_map (site_above p a n u) (covering_for p a n u)) (parent_in p.tree n)
+abbrev pub covering_site : Program → ℕ → List Argument → ℕ → Option Site
+covering_site p a xs n = option_and_then (λ u. option_map (site_above p a xs n u) (covering_for p a n u)) (parent_in p.tree n)
 
 -- what the first of some nodes that has something has
 abbrev pub first_site : (ℕ → Option Site) → List ℕ → Option Site
@@ -138,8 +138,8 @@ first_site f [] = None
 first_site f (n ∷ ns) = option_or (f n) (first_site f ns)
 
 -- the equation of an inherited attribute at a node: from the node upwards, that of the closest ancestor which has one that covers the way to it
-abbrev pub inherited_site : Program → ℕ → ℕ → Option Site
-inherited_site p a n = first_site (covering_site p a) (upwards_from n p.tree n)
+abbrev pub inherited_site : Program → ℕ → List Argument → ℕ → Option Site
+inherited_site p a xs n = first_site (covering_site p a xs) (upwards_from n p.tree n)
 
 abbrev pub inherits : Option Attr → Bool
 inherits None = false
@@ -148,8 +148,8 @@ inherits (Some d) = is_inherited d.sort
 -- The equation of an instance. That of a synthesized attribute at a node is the one of the node's class, that of an inherited one is found
 -- above the node, and that of a query is the query's expression, read at the root.
 abbrev pub equation_of : Program → Instance → Option Site
-equation_of p (Attribute a Null NoArguments) = None
-equation_of p (Attribute a (At (Source k)) NoArguments) = cond (inherits (declared_of p a)) (inherited_site p a k) (synthesized_site p a k)
+equation_of p (Attribute a Null xs) = None
+equation_of p (Attribute a (At (Source k)) xs) = cond (inherits (declared_of p a)) (inherited_site p a xs k) (synthesized_site p a k xs)
 equation_of p (Query q) = option_map (λ e. record { body = e.body; kind = e.kind; place = place_at 0 }) (slice_get p.queries q)
 
 -- what an equation demands; an instance that the program doesn't have counts as null

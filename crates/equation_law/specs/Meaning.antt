@@ -11,14 +11,16 @@ use Rattle.attr_rules.specs.declared.expression.Operator.{Operator}
 use Rattle.attr_rules.specs.declared.expression.Operator.TheVariants.{Add, Subtract, Multiply, Less, AtMost, Greater, AtLeast, Equal}
 use Rattle.attr_rules.specs.declared.expression.Quantifier.{Quantifier}
 use Rattle.attr_rules.specs.declared.expression.Quantifier.TheVariants.{Any, All, First}
-use Rattle.attr_rules.specs.Expression.{Expression, Truth as TruthLiteral, Int as IntLiteral, Text as TextLiteral, Null as NullLiteral, This, Variable, Source as SourceNode, Child, Element, Count, Has, Token, Call, Cast, InstanceOf, Quantified, Not, Negate, Binary, And, Or, If}
+use Rattle.attr_rules.specs.Expression.{Expression, Arguments, no_more, argument, Truth as TruthLiteral, Int as IntLiteral, Text as TextLiteral, Null as NullLiteral, This, Variable, Source as SourceNode, Child, Element, Count, Has, Token, Call, Cast, InstanceOf, Quantified, Not, Negate, Binary, And, Or, If}
 use Rattle.solutions.specs.Asking.{Demands, Gives, Needs, next}
-use Rattle.equation_law.specs.Names.{NodeName, Reference, Null, At, Instance, Attribute, NoArguments, same_reference}
-use Rattle.equation_law.specs.Values.{Value, Truth, Int, Text, Node, Texts, Nodes, truth, int, text, node, as_kind, default_of}
+use Rattle.equation_law.specs.Names.{NodeName, Reference, Null, At, Instance, Attribute, same_reference}
+use Rattle.equation_law.specs.Values.{Value, Truth, Int, Text, Node, Texts, Nodes, truth, int, text, node, as_arguments, as_kind, default_of}
 
 -- what the grammar, the rules and the tree say of attributes and nodes
 pub record World : Type 0 where
   pub kind : ℕ → Kind
+  -- the types of an attribute's parameters
+  pub parameters : ℕ → List Kind
   -- the texts, by their numbers
   pub text : ℕ → List ℕ
   -- the source node of this number; where there is none it is null
@@ -73,10 +75,10 @@ operate Equal v w = Truth (equal v w)
 abbrev pub demand : Kind → Instance → Demands Instance Value
 demand k i = Needs i (λ v. Gives (as_kind k v))
 
--- a call on a receiver; on null it is the default of the type and demands nothing
-abbrev pub call_at : World → ℕ → Reference → Demands Instance Value
-call_at W a Null = Gives (default_of (W.kind a))
-call_at W a (At n) = demand (W.kind a) (Attribute a (At n) NoArguments)
+-- a call on a receiver with these arguments; on null it is the default of the type and demands nothing
+abbrev pub call_at : World → ℕ → Reference → List Value → Demands Instance Value
+call_at W a Null vs = Gives (default_of (W.kind a))
+call_at W a (At n) vs = demand (W.kind a) (Attribute a (At n) (as_arguments (W.parameters a) vs))
 
 -- the accessor of a child; on null, and where there is no optional child, it is null
 abbrev pub child_at : World → ℕ → Reference → Reference
@@ -132,26 +134,32 @@ over_elements All xs condition = at_each (λ a b. a && b) true xs condition
 over_elements First xs condition = first_with xs condition
 
 -- The parts are evaluated from the left. Of `&&`, `||` and `? :` only what is needed is.
-abbrev pub meaning_of : World → Expression → Place → Demands Instance Value
-meaning_of W (TruthLiteral b) p = Gives (Truth b)
-meaning_of W (IntLiteral z) p = Gives (Int z)
-meaning_of W (TextLiteral n) p = Gives (Text (W.text n))
-meaning_of W NullLiteral p = Gives (Node Null)
-meaning_of W This p = Gives (Node p.this)
-meaning_of W (Variable k) p = Gives (named p.names k)
-meaning_of W (SourceNode k) p = Gives (Node (W.source k))
-meaning_of W (Child k e) p = next (meaning_of W e p) (λ r. Gives (Node (child_at W k (node r))))
-meaning_of W (Element k e i) p = next (meaning_of W e p) (λ r. next (meaning_of W i p) (λ z. Gives (Node (element_at W k (node r) (int z)))))
-meaning_of W (Count k e) p = next (meaning_of W e p) (λ r. Gives (Int (count_at W k (node r))))
-meaning_of W (Has k e) p = next (meaning_of W e p) (λ r. Gives (Truth (is_there (child_at W k (node r)))))
-meaning_of W (Token t k e) p = next (meaning_of W e p) (λ r. Gives (token_at W t k (node r)))
-meaning_of W (Call a e) p = next (meaning_of W e p) (λ r. call_at W a (node r))
-meaning_of W (Cast c e) p = next (meaning_of W e p) (λ r. Gives (Node (cast_to W c (node r))))
-meaning_of W (InstanceOf c e) p = next (meaning_of W e p) (λ r. Gives (Truth (is_instance W c (node r))))
-meaning_of W (Quantified q k e b) p = next (meaning_of W e p) (λ r. over_elements q (elements_at W k (node r)) (λ x. meaning_of W b (with_name p x)))
-meaning_of W (Not e) p = next (meaning_of W e p) (λ v. Gives (Truth (not (truth v))))
-meaning_of W (Negate e) p = next (meaning_of W e p) (λ v. Gives (Int (int_wrap w32 (neg_ℤ (int v)))))
-meaning_of W (Binary o a b) p = next (meaning_of W a p) (λ v. next (meaning_of W b p) (λ w. Gives (operate o v w)))
-meaning_of W (And a b) p = next (meaning_of W a p) (λ v. cond (truth v) (next (meaning_of W b p) (λ w. Gives (Truth (truth w)))) (Gives (Truth false)))
-meaning_of W (Or a b) p = next (meaning_of W a p) (λ v. cond (truth v) (Gives (Truth true)) (next (meaning_of W b p) (λ w. Gives (Truth (truth w)))))
-meaning_of W (If c a b) p = next (meaning_of W c p) (λ v. cond (truth v) (meaning_of W a p) (meaning_of W b p))
+abbrev mutual
+  pub meaning_of : World → Expression → Place → Demands Instance Value
+  meaning_of W (TruthLiteral b) p = Gives (Truth b)
+  meaning_of W (IntLiteral z) p = Gives (Int z)
+  meaning_of W (TextLiteral n) p = Gives (Text (W.text n))
+  meaning_of W NullLiteral p = Gives (Node Null)
+  meaning_of W This p = Gives (Node p.this)
+  meaning_of W (Variable k) p = Gives (named p.names k)
+  meaning_of W (SourceNode k) p = Gives (Node (W.source k))
+  meaning_of W (Child k e) p = next (meaning_of W e p) (λ r. Gives (Node (child_at W k (node r))))
+  meaning_of W (Element k e i) p = next (meaning_of W e p) (λ r. next (meaning_of W i p) (λ z. Gives (Node (element_at W k (node r) (int z)))))
+  meaning_of W (Count k e) p = next (meaning_of W e p) (λ r. Gives (Int (count_at W k (node r))))
+  meaning_of W (Has k e) p = next (meaning_of W e p) (λ r. Gives (Truth (is_there (child_at W k (node r)))))
+  meaning_of W (Token t k e) p = next (meaning_of W e p) (λ r. Gives (token_at W t k (node r)))
+  meaning_of W (Call a e es) p = next (meaning_of W e p) (λ r. with_arguments W es p (λ vs. call_at W a (node r) vs))
+  meaning_of W (Cast c e) p = next (meaning_of W e p) (λ r. Gives (Node (cast_to W c (node r))))
+  meaning_of W (InstanceOf c e) p = next (meaning_of W e p) (λ r. Gives (Truth (is_instance W c (node r))))
+  meaning_of W (Quantified q k e b) p = next (meaning_of W e p) (λ r. over_elements q (elements_at W k (node r)) (λ x. meaning_of W b (with_name p x)))
+  meaning_of W (Not e) p = next (meaning_of W e p) (λ v. Gives (Truth (not (truth v))))
+  meaning_of W (Negate e) p = next (meaning_of W e p) (λ v. Gives (Int (int_wrap w32 (neg_ℤ (int v)))))
+  meaning_of W (Binary o a b) p = next (meaning_of W a p) (λ v. next (meaning_of W b p) (λ w. Gives (operate o v w)))
+  meaning_of W (And a b) p = next (meaning_of W a p) (λ v. cond (truth v) (next (meaning_of W b p) (λ w. Gives (Truth (truth w)))) (Gives (Truth false)))
+  meaning_of W (Or a b) p = next (meaning_of W a p) (λ v. cond (truth v) (Gives (Truth true)) (next (meaning_of W b p) (λ w. Gives (Truth (truth w)))))
+  meaning_of W (If c a b) p = next (meaning_of W c p) (λ v. cond (truth v) (meaning_of W a p) (meaning_of W b p))
+
+  -- what follows the arguments, of which each is evaluated
+  pub with_arguments : World → Arguments → Place → (List Value → Demands Instance Value) → Demands Instance Value
+  with_arguments W no_more p then_do = then_do []
+  with_arguments W (argument e es) p then_do = next (meaning_of W e p) (λ v. with_arguments W es p (λ vs. then_do (v ∷ vs)))

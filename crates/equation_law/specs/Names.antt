@@ -1,6 +1,6 @@
 -- Names of nodes, and instances of attributes. What tells two of them apart, and their order, is their writing
 -- as a list of numbers.
-use Rattle.std.specs.Prelude.{ℕ, Bool, List, [], ◌∷◌}
+use Rattle.std.specs.Prelude.{ℕ, suc, ℤ, pos, negsuc, Bool, true, false, List, [], ◌∷◌}
 use Rattle.std.specs.Ordering.{nat_cmp, on, is_eq}
 use Rattle.std.specs.declared.cmp.Ordering.{Ordering}
 use Rattle.std.specs.Cmp.Lexicographic.{slice_cmp}
@@ -14,13 +14,16 @@ pub data Reference : Type 0 where
   Null : Reference
   At : NodeName → Reference
 
--- the arguments of a call: attributes have no parameters yet
-pub data Arguments : Type 0 where
-  NoArguments : Arguments
+-- an argument of a call: a truth value, an integer, a text or a node
+pub data Argument : Type 0 where
+  OfTruth : Bool → Argument
+  OfInt : ℤ → Argument
+  OfText : List ℕ → Argument
+  OfNode : Reference → Argument
 
 -- an attribute at a node with arguments, or a query
 pub data Instance : Type 0 where
-  Attribute : ℕ → Reference → Arguments → Instance
+  Attribute : ℕ → Reference → List Argument → Instance
   Query : ℕ → Instance
 
 -- the writing of each, in front of what follows
@@ -31,8 +34,28 @@ abbrev pub reference_code : Reference → List ℕ → List ℕ
 reference_code Null rest = 0 ∷ rest
 reference_code (At n) rest = 1 ∷ node_code n rest
 
-abbrev pub arguments_code : Arguments → List ℕ → List ℕ
-arguments_code NoArguments rest = 0 ∷ rest
+abbrev pub truth_code : Bool → List ℕ → List ℕ
+truth_code false rest = 0 ∷ rest
+truth_code true rest = 1 ∷ rest
+
+abbrev pub int_code : ℤ → List ℕ → List ℕ
+int_code (negsuc n) rest = 0 ∷ n ∷ rest
+int_code (pos n) rest = 1 ∷ n ∷ rest
+
+-- a text ends where no byte follows
+abbrev pub text_code : List ℕ → List ℕ → List ℕ
+text_code [] rest = 0 ∷ rest
+text_code (b ∷ t) rest = suc b ∷ text_code t rest
+
+abbrev pub argument_code : Argument → List ℕ → List ℕ
+argument_code (OfTruth b) rest = 0 ∷ truth_code b rest
+argument_code (OfInt z) rest = 1 ∷ int_code z rest
+argument_code (OfText t) rest = 2 ∷ text_code t rest
+argument_code (OfNode n) rest = 3 ∷ reference_code n rest
+
+abbrev pub arguments_code : List Argument → List ℕ → List ℕ
+arguments_code [] rest = 0 ∷ rest
+arguments_code (x ∷ xs) rest = 1 ∷ argument_code x (arguments_code xs rest)
 
 abbrev pub instance_code : Instance → List ℕ → List ℕ
 instance_code (Attribute a n xs) rest = 0 ∷ reference_code n (a ∷ arguments_code xs rest)

@@ -3,10 +3,10 @@ use Rattle.std.specs.Prelude.{◌≡◌, Option, Some, None, Result, Ok, Err}
 use Rattle.rag_io.specs.declared.Memory.{Memory}
 use Rattle.equation_law.specs.declared.coding.Instance.{Instance as CodedInstance}
 use Rattle.equation_law.specs.declared.coding.Value.{Value as CodedValue}
-use Rattle.equation_law.specs.Codes.{instance_of, value_of}
-use Rattle.equation_law.specs.Equations.{kind_in, text_of}
+use Rattle.equation_law.specs.Codes.{IsCoded, instance_of, value_of}
+use Rattle.equation_law.specs.Equations.{kind_in}
 use Rattle.equation_law.specs.Names.{Instance}
-use Rattle.equation_law.specs.Program.{Program}
+use Rattle.equation_law.specs.Program.{Program, text_of}
 use Rattle.equation_law.specs.Values.{Value, as_kind}
 
 -- What a reader tells in a state: the programs that it is for, the values that it has, those that it may come to have, and the states of
@@ -38,4 +38,4 @@ Settles p s i (Err m) = Unit {0}
 
 pub record SettledBy {S : Type 0} (r s : Told S) (i : CodedInstance) (result : Result (Option CodedValue) Memory) : Type 0 where
   pub kept : (p : Program) → IsSound p r → Grows p r s
-  pub answer : (p : Program) → IsSound p r → Settles p s (instance_of i) result
+  pub answer : (p : Program) → IsSound p r → IsCoded p i → Settles p s (instance_of p i) result

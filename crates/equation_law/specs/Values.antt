@@ -1,8 +1,8 @@
 -- Values. Each is read at a type, and a value of another type reads as the type's default.
-use Rattle.std.specs.Prelude.{ℕ, ℤ, pos, Bool, false, List, []}
+use Rattle.std.specs.Prelude.{ℕ, ℤ, pos, Bool, false, List, [], ◌∷◌}
 use Rattle.attr_rules.specs.declared.kinds.Kind.{Kind}
 use Rattle.attr_rules.specs.declared.kinds.Kind.TheVariants as kinds
-use Rattle.equation_law.specs.Names.{Reference, Null, node_cmp, text_cmp}
+use Rattle.equation_law.specs.Names.{Argument, OfInt, OfNode, OfText, OfTruth, Reference, Null, node_cmp, text_cmp}
 use Rattle.equation_law.specs.Sets.{SetBy, no_elements}
 
 pub data Value : Type 0 where
@@ -78,3 +78,24 @@ default_of kinds.Text = Text []
 default_of (kinds.Node c) = Node Null
 default_of kinds.Texts = Texts no_elements
 default_of (kinds.Nodes c) = Nodes no_elements
+
+-- the value of an argument, and the argument that a value of a type is
+abbrev pub argument_value : Argument → Value
+argument_value (OfTruth b) = Truth b
+argument_value (OfInt z) = Int z
+argument_value (OfText t) = Text t
+argument_value (OfNode n) = Node n
+
+abbrev pub as_argument : Kind → Value → Argument
+as_argument kinds.Truth v = OfTruth (truth v)
+as_argument kinds.Int v = OfInt (int v)
+as_argument kinds.Text v = OfText (text v)
+as_argument (kinds.Node c) v = OfNode (node v)
+as_argument kinds.Texts v = OfTruth false
+as_argument (kinds.Nodes c) v = OfTruth false
+
+-- values as the arguments for parameters of these types
+abbrev pub as_arguments : List Kind → List Value → List Argument
+as_arguments [] vs = []
+as_arguments (k ∷ ks) [] = []
+as_arguments (k ∷ ks) (v ∷ vs) = as_argument k v ∷ as_arguments ks vs

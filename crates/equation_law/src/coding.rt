@@ -1,6 +1,6 @@
 // Values, nodes and instances by their codes.
 ghost use Rattle.std.specs.Prelude.{◌≡◌, ◌<◌, ◌+◌, ◌^◌, ℕ, List, [], IfSome};
-ghost use Rattle.equation_law.specs.Codes.{reference_of, value_at, value_of};
+ghost use Rattle.equation_law.specs.Codes.{IsSmall, reference_of, value_at, value_of};
 ghost use Rattle.equation_law.specs.Equations.{source_or_null};
 ghost use Rattle.equation_law.specs.Values.{as_kind, default_of, int, node, text, truth};
 
@@ -14,10 +14,23 @@ pub type Code = u32;
 #[derive(Clone, Copy, Debug, PartialEq, Eq, Hash)]
 pub struct NodeRef(pub u32);
 
-/// An attribute at a node, or a query by its number.
+/// The arguments of an instance, at most three: how many there are, and their codes. The codes past the count are 0.
+#[derive(Clone, Copy, Debug, PartialEq, Eq, Hash)]
+pub struct Args {
+    pub count: u32,
+    pub first: Code,
+    pub second: Code,
+    pub third: Code,
+}
+
+/// An attribute at a node with arguments, or a query by its number.
 #[derive(Clone, Copy, Debug, PartialEq, Eq, Hash)]
 pub enum Instance {
-    Attr { attr: AttrId, node: NodeRef },
+    Attr {
+        attr: AttrId,
+        node: NodeRef,
+        args: Args,
+    },
     Query(u32),
 }
 
@@ -32,12 +45,99 @@ pub enum Value {
     NoNodes,
 }
 
-/// An equation with the node at which it is read, and what its path binds: the place of a node in a list.
+/// An equation with the node at which it is read, what its path binds (the place of a node in a list), and the arguments of the attribute.
 #[derive(Clone, Copy, Debug, PartialEq, Eq)]
 pub struct EqSite {
     pub equation: EqId,
     pub node: NodeRef,
-    pub index: Option<i32>,
+    pub outer: Args,
+    pub inner: Args,
+}
+
+impl Args {
+    ghost use Rattle.std.specs.Prelude.{◌++◌, ◌∷◌, drop, slice_get};
+    ghost use Rattle.equation_law.specs.Codes.{IsRow, codes_in};
+
+    /// No arguments.
+    pub fn none() -> Args
+        ensures row { IsRow result }
+        ensures codes { codes_in result ≡ [] }
+    {
+        Args {
+            count: 0,
+            first: 0,
+            second: 0,
+            third: 0,
+        }
+    }
+
+    /// These and one more, which comes last.
+    pub fn with(self, code: Code) -> Args
+        requires row { IsRow self }
+        requires few { self.count < 3 }
+        ensures row { IsRow result }
+        ensures codes { codes_in result ≡ codes_in self ++ code ∷ [] }
+    {
+        let count = self.count + 1;
+        match self.count {
+            0 => Args {
+                count,
+                first: code,
+                ..self
+            },
+            1 => Args {
+                count,
+                second: code,
+                ..self
+            },
+            _ => Args {
+                count,
+                third: code,
+                ..self
+            },
+        }
+    }
+
+    /// These behind one more, which comes first.
+    pub fn behind(self, code: Code) -> Args
+        requires row { IsRow self }
+        requires few { self.count < 3 }
+        ensures row { IsRow result }
+        ensures codes { codes_in result ≡ code ∷ codes_in self }
+    {
+        Args {
+            count: self.count + 1,
+            first: code,
+            second: self.first,
+            third: self.second,
+        }
+    }
+
+    /// The code of the first argument, or None where there is none.
+    pub fn first_code(self) -> Option<Code>
+        requires { IsRow self }
+        ensures { result ≡ slice_get (codes_in self) 0 }
+    {
+        if self.count == 0 {
+            None
+        } else {
+            Some(self.first)
+        }
+    }
+
+    /// The arguments behind the first.
+    pub fn rest(self) -> Args
+        requires { IsRow self }
+        ensures row { IsRow result }
+        ensures codes { codes_in result ≡ drop 1 (codes_in self) }
+    {
+        Args {
+            count: self.count.saturating_sub(1),
+            first: self.second,
+            second: self.third,
+            third: 0,
+        }
+    }
 }
 
 impl NodeRef {
@@ -131,7 +231,8 @@ impl Value {
 
     /// The code of the value, read at a type.
     pub fn code(self, kind: Kind) -> Code
-        ensures { (texts : ℕ → List ℕ) → texts 0 ≡ [] → value_at texts kind result ≡ as_kind kind (value_of texts self) }
+        ensures small { IsSmall kind result }
+        ensures value { (texts : ℕ → List ℕ) → texts 0 ≡ [] → value_at texts kind result ≡ as_kind kind (value_of texts self) }
     {
         match kind {
             Kind::Truth => u32::from(self.truth()),

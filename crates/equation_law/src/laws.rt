@@ -1,9 +1,9 @@
 // The laws of the solution and of the instances of a program, over the definitions alone.
 ghost use Rattle.std.specs.Prelude.{◌≡◌, ◌↔◌, ◌⊎◌, List, Option, IsSome, true};
 ghost use Rattle.solutions.specs.Asking.{Ends, Halts, Meets};
-ghost use Rattle.solutions.specs.Rounds.{Equations, Graph, HasFinalValue, is_in};
+ghost use Rattle.solutions.specs.Rounds.{Graph, HasFinalValue, is_in};
 ghost use Rattle.solutions.specs.Leading.{Demanded};
-ghost use Rattle.equation_law.specs.Checked.{Fits, IsInstance, IsProgram, IsValue};
+ghost use Rattle.equation_law.specs.Checked.{Fits, HasNoArguments, IsInstance, IsProgram, IsValue};
 ghost use Rattle.equation_law.specs.Names.{Instance, same_instance};
 ghost use Rattle.equation_law.specs.Values.{Value};
 ghost use Rattle.equation_law.specs.Program.{Program, source_instances};
@@ -35,7 +35,8 @@ pub fn loop_has_no_value()
     ensures { (p : Program) (i : Instance) (v : Value) → HasValue p i v → ¬ HasLoop p i }
 {}
 
-/// Value or loop: each instance of a program has a value or a loop. With `loop_has_no_value`, never both.
+/// Value or loop: each instance of a program has a value or a loop, also where its attribute has parameters, since a program has finitely
+/// many instances. With `loop_has_no_value`, never both.
 pub fn value_or_loop()
     ensures { (p : Program) → IsProgram p → (i : Instance) → IsInstance p i → ((v : Value) × HasValue p i v) ⊎ HasLoop p i }
 {}
@@ -62,7 +63,7 @@ pub fn instances_have_equations()
     ensures { (p : Program) → IsProgram p → (i : Instance) → IsInstance p i → IsSome (equation_of p i) }
 {}
 
-/// The instances that are listed are those of the program.
+/// The instances that are listed are those of the program without arguments.
 pub fn listed_instances()
-    ensures { (p : Program) (i : Instance) → (is_in same_instance (source_instances p) i ≡ true) ↔ IsInstance p i }
+    ensures { (p : Program) (i : Instance) → (is_in same_instance (source_instances p) i ≡ true) ↔ IsInstance p i × HasNoArguments i }
 {}

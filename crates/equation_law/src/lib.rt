@@ -8,7 +8,7 @@ mod laws;
 mod reader;
 mod system;
 
-pub use coding::{Code, EqSite, Instance, NodeRef, Value};
+pub use coding::{Args, Code, EqSite, Instance, NodeRef, Value};
 pub use laws::{
     demands_instances, ended_has_value, finished_rounds, instances_have_equations,
     listed_instances, loop_has_no_value, one_solution, reach_is_demanded, stuck_has_none,

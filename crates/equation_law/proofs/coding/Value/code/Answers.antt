@@ -6,8 +6,8 @@ use Rattle.equation_law.specs.Values.{Int, as_kind}
 use Rattle.equation_law.proofs.Codes.{signed}
 use Rattle.equation_law.proofs.coding.Value.code.Goals as goal
 
-pub returns-in-Int : goal.returns-in-Int
-returns-in-Int c = λ texts first.
+pub returns-in-Int-clause-value : goal.returns-in-Int-clause-value
+returns-in-Int-clause-value c = λ texts first.
     let z = c.int.result in
     let r = c.cast_unsigned.result in
     let back = to_z-of_z w32 z (record { sfits = c.int.type_inv }) in

@@ -1,0 +1,68 @@
+-- What is a value of a type, and what is an instance of a program, by its form.
+use Rattle.std.proofs.Common.{◌≡◌, ℕ, true, Contains, Option, Some, None, slice_get, ap, ◌∙◌}
+use Rattle.std.specs.Int.{int_wrap}
+use mir.Syntax.{w32}
+use Rattle.ast_grammar.specs.declared.grammar.ClassId.{ClassId}
+use Rattle.attr_rules.specs.declared.kinds.Attr.{Attr}
+use Rattle.attr_rules.specs.declared.kinds.Kind.{Kind}
+use Rattle.attr_rules.specs.declared.kinds.Kind.TheVariants as kinds
+use Rattle.attr_rules.specs.Queries.{Query as Asked}
+use Rattle.attr_rules.specs.Types.{is_below, parameter_kinds}
+use Rattle.equation_law.specs.Checked.{AreArguments, IsAt, IsInstance, IsNodeOf, IsValue, int, node, of_attribute, of_query, text, truth}
+use Rattle.equation_law.specs.Names.{At, Attribute, Instance, Null, Query, Source}
+use Rattle.equation_law.specs.Program.{Program, class_of, declared_of}
+use Rattle.equation_law.specs.Values.{Int, Node, Nodes, Text, Texts, Truth, Value}
+
+module _ (p : Program) where
+  -- whether there is a node of a class, by the class of what is there
+  pub class_at : (k : ℕ) (c : ClassId) → IsAt p k c → is_below p.grammar (class_of p k) c ≡ true
+  class_at k c h = ap (λ (o : Option ClassId). is_below p.grammar o c) h.of ∙ h.below
+
+  pub class_there : (k : ℕ) (c : ClassId) (o : Option ClassId) → class_of p k ≡ o → is_below p.grammar o c ≡ true → IsAt p k c
+  class_there k c None e h = cc
+  class_there k c (Some d) e h = record { class = d; of = e; below = h }
+
+  -- what is a value of a type
+  abbrev pub OfKind : Kind → Value → Type 0
+  OfKind kinds.Truth (Truth b) = Unit {0}
+  OfKind kinds.Truth (Int z) = ⊥
+  OfKind kinds.Truth (Text t) = ⊥
+  OfKind kinds.Truth (Node r) = ⊥
+  OfKind kinds.Truth (Texts s) = ⊥
+  OfKind kinds.Truth (Nodes s) = ⊥
+  OfKind kinds.Int (Truth b) = ⊥
+  OfKind kinds.Int (Int z) = int_wrap w32 z ≡ z
+  OfKind kinds.Int (Text t) = ⊥
+  OfKind kinds.Int (Node r) = ⊥
+  OfKind kinds.Int (Texts s) = ⊥
+  OfKind kinds.Int (Nodes s) = ⊥
+  OfKind kinds.Text (Truth b) = ⊥
+  OfKind kinds.Text (Int z) = ⊥
+  OfKind kinds.Text (Text t) = Contains p.texts t
+  OfKind kinds.Text (Node r) = ⊥
+  OfKind kinds.Text (Texts s) = ⊥
+  OfKind kinds.Text (Nodes s) = ⊥
+  OfKind (kinds.Node c) (Truth b) = ⊥
+  OfKind (kinds.Node c) (Int z) = ⊥
+  OfKind (kinds.Node c) (Text t) = ⊥
+  OfKind (kinds.Node c) (Node r) = IsNodeOf p c r
+  OfKind (kinds.Node c) (Texts s) = ⊥
+  OfKind (kinds.Node c) (Nodes s) = ⊥
+  OfKind kinds.Texts v = ⊥
+  OfKind (kinds.Nodes c) v = ⊥
+
+  pub of_kind : (k : Kind) (v : Value) → IsValue p k v → OfKind k v
+  of_kind _ _ (truth b) = tt
+  of_kind _ _ (int z e) = e
+  of_kind _ _ (text t e) = e
+  of_kind _ _ (node c r h) = h
+
+  -- what is an instance
+  abbrev pub Has : Instance → Type 0
+  Has (Attribute a Null xs) = ⊥
+  Has (Attribute a (At (Source k)) xs) = (d : Attr) × (declared_of p a ≡ Some d) × IsAt p k d.class × AreArguments p (parameter_kinds d.params) xs
+  Has (Query q) = (e : Asked) × (slice_get p.queries q ≡ Some e)
+
+  pub has : (i : Instance) → IsInstance p i → Has i
+  has _ (of_attribute d c e f b q) = (d, e, record { class = c; of = f; below = b }, q)
+  has _ (of_query e o) = (e, o)
