@@ -1,28 +1,30 @@
 -- Equations that are found, by their numbers, with where they are read.
-use Rattle.std.specs.Prelude.{◌≡◌, ℤ, List, [], ◌∷◌, Option, Some, None}
+use Rattle.std.specs.Prelude.{◌≡◌, ℕ, pos, List, ◌++◌, map, Option, Some, None}
+use Rattle.std.specs.Int.{int_wrap}
+use mir.Syntax.{w32}
 use Rattle.attr_rules.specs.Rules.{body_at}
+use Rattle.equation_law.specs.declared.coding.Args.{Args}
 use Rattle.equation_law.specs.declared.coding.EqSite.{EqSite}
-use Rattle.equation_law.specs.Codes.{reference_of}
+use Rattle.equation_law.specs.Codes.{arguments_of, codes_in, reference_of}
 use Rattle.equation_law.specs.Equations.{Site}
 use Rattle.equation_law.specs.Meaning.{Place}
 use Rattle.equation_law.specs.Program.{Program}
-use Rattle.equation_law.specs.Values.{Value, Int}
+use Rattle.equation_law.specs.Values.{Value, Int, argument_value}
 
--- what a path binds
-abbrev pub index_values : Option ℤ → List Value
-index_values None = []
-index_values (Some z) = Int z ∷ []
+-- what a path binds: places in lists, which have 32 bits
+abbrev pub index_values : Args → List Value
+index_values xs = map (λ c. Int (int_wrap w32 (pos c))) (codes_in xs)
 
--- where the equation of a site is read
-abbrev pub site_place : EqSite → Place
-site_place s = record { this = reference_of s.node.0; names = index_values s.index }
+-- where the equation of a site is read for an attribute, whose parameters say what its codes stand for
+abbrev pub site_place : Program → ℕ → EqSite → Place
+site_place p a s = record { this = reference_of s.node.0; names = map argument_value (arguments_of p a s.inner) ++ index_values s.outer }
 
 -- an equation by its number, with where it is read
-pub record IsSite (p : Program) (s : EqSite) (site : Site) : Type 0 where
+pub record IsSite (p : Program) (a : ℕ) (s : EqSite) (site : Site) : Type 0 where
   pub body : body_at p.rules s.equation.0 ≡ Some site.body
-  pub place : site.place ≡ site_place s
+  pub place : site.place ≡ site_place p a s
 
 -- it is found exactly where there is one
-abbrev pub IsFound : Program → Option Site → Option EqSite → Type 0
-IsFound p o None = o ≡ None
-IsFound p o (Some s) = (site : Site) × (o ≡ Some site) × IsSite p s site
+abbrev pub IsFound : Program → ℕ → Option Site → Option EqSite → Type 0
+IsFound p a o None = o ≡ None
+IsFound p a o (Some s) = (site : Site) × (o ≡ Some site) × IsSite p a s site

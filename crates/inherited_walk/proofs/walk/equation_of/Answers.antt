@@ -1,7 +1,7 @@
 use Rattle.std.proofs.Common.{◌≡◌, Option, Some, None, IsSome}
 use Rattle.equation_law.specs.Equations.{Site, equation_of}
-use Rattle.equation_law.specs.Names.{Attribute, NoArguments}
-use Rattle.equation_law.specs.Codes.{reference_of}
+use Rattle.equation_law.specs.declared.coding.Instance.TheVariants.{Attr as attribute_at}
+use Rattle.equation_law.specs.Codes.{instance_of}
 use Rattle.equation_law.specs.Systems.{program_of}
 use Rattle.equation_law.proofs.Demanded.{has_equation}
 use Rattle.inherited_walk.proofs.walk.equation_of.Goals as goal
@@ -14,5 +14,5 @@ not_nothing (Some s) h e = absurd (cc)
 pub unreachable-requires : goal.unreachable-requires
 unreachable-requires c =
     let p = program_of c.args.system.now in
-    let i = Attribute c.args.attr.0 (reference_of c.args.node.0) NoArguments in
-    not_nothing (equation_of p i) (has_equation p c.requires.program i c.requires.instance) c.in-None.ensures
+    let i = instance_of p (attribute_at c.args.attr c.args.node c.args.args) in
+    not_nothing (equation_of p i) (has_equation p c.requires.program i c.requires.instance) c.in-None.ensures.found

@@ -2,6 +2,7 @@ use Rattle.std.proofs.Common.{◌≡◌, false, List, Option, Some, None, is_som
 use Rattle.tree_arena.specs.Nodes.{Node, parent_in}
 use Rattle.tree_arena.specs.Terms.{IsTree}
 use Rattle.equation_law.specs.declared.coding.EqSite.{EqSite}
+use Rattle.equation_law.specs.Codes.{arguments_of}
 use Rattle.equation_law.specs.Systems.{program_of}
 use Rattle.equation_law.proofs.Above.{Falls, tree_falls}
 use Rattle.inherited_walk.proofs.Walking.{found_above}
@@ -31,5 +32,5 @@ loop-parent-preserved c =
     let smaller = falls c.loop-parent.at c.in-Some.parent up in
     record {
       within = omega (arith, smaller, c.loop-parent.invariant.within);
-      same = c.loop-parent.invariant.same ∙ found_above p c.args.attr.0 c.loop-parent.at c.in-Some.parent falls up c.covering-found.ensures (nothing c.covering-found.result (sym c.is_some.ensures ∙ c.if-is_some.false));
+      same = c.loop-parent.invariant.same ∙ found_above p c.args.attr.0 (arguments_of p c.args.attr.0 c.args.args) c.loop-parent.at c.in-Some.parent falls up c.covering-found.ensures.found (nothing c.covering-found.result (sym c.is_some.ensures ∙ c.if-is_some.false));
     }
