@@ -1,14 +1,15 @@
 -- What a call on a receiver comes to.
-use Rattle.std.proofs.Common.{◌≡◌, ℕ, zero, suc, [], ◌∷◌, Option, Some, None, Result, Ok, Err, refl, sym, ap, subst, ◌∙◌}
+use Rattle.std.proofs.Common.{◌≡◌, ℕ, zero, suc, List, [], ◌∷◌, Option, Some, None, Result, Ok, Err, refl, sym, ap, subst, ◌∙◌}
 use Rattle.attr_rules.specs.declared.kinds.Kind.{Kind}
 use Rattle.solutions.specs.Asking.{Ends, Gives, Halts, asks, at, gives}
+use Rattle.equation_law.specs.declared.coding.Args.{Args}
 use Rattle.equation_law.specs.declared.coding.Instance.{Instance as CodedInstance}
 use Rattle.equation_law.specs.declared.coding.Value.{Value as CodedValue}
-use Rattle.equation_law.specs.Codes.{instance_of, reference_of, value_of}
-use Rattle.equation_law.specs.Equations.{attribute_kind, kind_in, text_of, world_of}
+use Rattle.equation_law.specs.Codes.{IsCoded, arguments_of, instance_of, reference_of, value_of}
+use Rattle.equation_law.specs.Equations.{attribute_kind, kind_in, world_of}
 use Rattle.equation_law.specs.Meaning.{call_at, demand}
-use Rattle.equation_law.specs.Names.{Attribute, Instance, NoArguments, Reference}
-use Rattle.equation_law.specs.Program.{Program}
+use Rattle.equation_law.specs.Names.{Argument, Attribute, Instance, Reference}
+use Rattle.equation_law.specs.Program.{Program, text_of}
 use Rattle.equation_law.specs.Reading.{Grows, IsSound, Settles, Told}
 use Rattle.equation_law.specs.Values.{as_kind, default_of, node}
 use Rattle.expr_eval.specs.declared.evaluation.Halt.{Halt}
@@ -16,18 +17,22 @@ use Rattle.expr_eval.specs.declared.evaluation.Halt.TheVariants.{Need}
 use Rattle.expr_eval.specs.Evaluating.{Answers, CallReads, DemandReads}
 use Rattle.expr_eval.proofs.Forms.{gives_value, grows_self}
 
-module _ {S : Type 0} (p : Program) (r : Told S) (a : ℕ) where
+module _ {S : Type 0} (p : Program) (r : Told S) (a : ℕ) (xs : Args) where
   -- on null it is the default of the type
-  pub call_null : (v : CodedValue) (n : ℕ) (x : CodedValue) (k : Kind) → reference_of n ≡ node (value_of (text_of p) v) → IsSound p r → n ≡ 0 → k ≡ attribute_kind p a → value_of (text_of p) x ≡ default_of k → CallReads p r r a v (Ok x)
+  pub call_null : (v : CodedValue) (n : ℕ) (x : CodedValue) (k : Kind) → reference_of n ≡ node (value_of (text_of p) v) → IsSound p r → n ≡ 0 → k ≡ attribute_kind p a → value_of (text_of p) x ≡ default_of k → CallReads p r r a v xs (Ok x)
   call_null v n x k same sound null kind e = record {
     kept = grows_self sound;
-    is = subst (λ (o : Reference). Answers p r (call_at (world_of p) a o) (Ok x)) (ap reference_of (sym null) ∙ same) (gives_value (e ∙ ap default_of kind));
+    is = λ vs are. subst (λ (o : Reference). Answers p r (call_at (world_of p) a o vs) (Ok x)) (ap reference_of (sym null) ∙ same) (gives_value (e ∙ ap default_of kind));
   }
 
   -- at a node it is the value of the attribute there
-  pub call_there : (s : Told S) (v : CodedValue) (n : ℕ) (res : Result CodedValue Halt) → reference_of n ≡ node (value_of (text_of p) v) → (n ≡ 0 → ⊥) → DemandReads p r s (Attribute a (reference_of n) NoArguments) res → CallReads p r s a v res
+  pub call_there : (s : Told S) (v : CodedValue) (n : ℕ) (res : Result CodedValue Halt) → reference_of n ≡ node (value_of (text_of p) v) → (n ≡ 0 → ⊥) → DemandReads p r s (Attribute a (reference_of n) (arguments_of p a xs)) res → CallReads p r s a v xs res
   call_there s v zero res same there h = absurd (there refl)
-  call_there s v (suc n) res same there h = record { kept = h.kept; is = subst (λ (o : Reference). Answers p s (call_at (world_of p) a o) res) same h.is }
+  call_there s v (suc n) res same there h = record {
+    kept = h.kept;
+    is = λ vs are. subst (λ (o : Reference). Answers p s (call_at (world_of p) a o vs) res) same
+        (subst (λ (zs : List Argument). Answers p s (demand (attribute_kind p a) (Attribute a (reference_of (suc n)) zs)) res) are h.is);
+  }
 
 module _ {S : Type 0} (p : Program) (r s : Told S) (grows : Grows p r s) (i : Instance) where
   -- the value that the reader has
@@ -37,7 +42,7 @@ module _ {S : Type 0} (p : Program) (r s : Told S) (grows : Grows p r s) (i : In
       record { kept = grows; is = record { demands = i ∷ []; ends = asks h.1 (subst (λ x. Ends s.has (Gives (as_kind (kind_in p i) h.0)) x []) (sym h.2) gives) } }
 
   -- it has none
-  pub needed : (n : CodedInstance) (o : Option CodedValue) → i ≡ instance_of n → o ≡ None → Settles p s i (Ok o) → DemandReads p r s i (Err (Need n))
-  needed n o same is g =
+  pub needed : (n : CodedInstance) (o : Option CodedValue) → i ≡ instance_of p n → IsCoded p n → o ≡ None → Settles p s i (Ok o) → DemandReads p r s i (Err (Need n))
+  needed n o same coded is g =
       let h = subst (λ (x : Option CodedValue). Settles p s i (Ok x)) is g in
-      record { kept = grows; is = record { demands = []; halts = subst (λ j. Halts s.has (demand (kind_in p i) i) j []) same (at h) } }
+      record { kept = grows; is = record { demands = []; halts = subst (λ j. Halts s.has (demand (kind_in p i) i) j []) same (at h); coded = coded } }

@@ -1,5 +1,5 @@
 -- The answers to an expression from those to its parts, form by form.
-use Rattle.std.proofs.Common.{◌≡◌, ℕ, List, [], ◌++◌, Bool, true, false, cond, not, neg_ℤ, Result, Ok, Err, refl, sym, ap, subst, ◌∙◌}
+use Rattle.std.proofs.Common.{◌≡◌, ℕ, List, [], ◌∷◌, ◌++◌, Bool, true, false, cond, not, neg_ℤ, Result, Ok, Err, refl, sym, ap, subst, ◌∙◌}
 use Rattle.std.specs.Int.{int_wrap}
 use Rattle.std.specs.Result.{IsErr, IsErrAnd}
 use Rattle.std.proofs.lemmas.Result.{err_from_is_err_and}
@@ -9,22 +9,23 @@ use Rattle.attr_rules.specs.declared.expression.Operator.{Operator}
 use Rattle.attr_rules.specs.declared.expression.Quantifier.{Quantifier}
 use Rattle.attr_rules.specs.declared.expression.TExpr.{TExpr}
 use Rattle.attr_rules.specs.declared.kinds.Kind.{Kind}
-use Rattle.attr_rules.specs.Expression.{Expression, Child, Element, Count, Has, Token, Call, Cast, InstanceOf, Quantified, Not, Negate, Binary, And, Or, If, expression_of}
+use Rattle.attr_rules.specs.Expression.{Arguments, Expression, Child, Element, Count, Has, Token, Call, Cast, InstanceOf, Quantified, Not, Negate, Binary, And, Or, If, expression_of}
 use Rattle.solutions.specs.Asking.{Demands, Gives, Ends, Halts, after, asks, at, gives, next}
 use Rattle.solutions.proofs.Runs.{ends_more}
+use Rattle.equation_law.specs.declared.coding.Args.{Args}
 use Rattle.equation_law.specs.declared.coding.Value.{Value as CodedValue}
 use Rattle.equation_law.specs.declared.coding.Value.TheVariants as coded
-use Rattle.equation_law.specs.Codes.{reference_of, value_of}
-use Rattle.equation_law.specs.Equations.{text_of, world_of}
-use Rattle.equation_law.specs.Meaning.{Place, call_at, cast_to, child_at, count_at, element_at, elements_at, is_instance, is_there, operate, over_elements, token_at}
+use Rattle.equation_law.specs.Codes.{value_of}
+use Rattle.equation_law.specs.Equations.{world_of}
+use Rattle.equation_law.specs.Meaning.{Place, World, call_at, meaning_of, with_arguments, cast_to, child_at, count_at, element_at, elements_at, is_instance, is_there, operate, over_elements, token_at}
 use Rattle.equation_law.specs.Names.{Instance}
-use Rattle.equation_law.specs.Program.{Program}
+use Rattle.equation_law.specs.Program.{Program, attribute_parameters, text_of}
 use Rattle.equation_law.specs.Reading.{Grows, IsSound, Told}
 use Rattle.equation_law.specs.Values.{Value, Int, Node, Truth, int, node, truth}
 use Rattle.expr_eval.specs.declared.evaluation.Halt.{Halt}
 use Rattle.expr_eval.specs.declared.evaluation.Halt.TheVariants.{Need, Memory}
 use Rattle.expr_eval.specs.Elements.{OverReads, read_with}
-use Rattle.expr_eval.specs.Evaluating.{Answers, CallReads, Given, Reads, read_at}
+use Rattle.expr_eval.specs.Evaluating.{Answers, ArgumentsRead, CallReads, Collects, Given, Reads, end, more, read_at}
 
 -- what it has it keeps
 pub grows_self : {S : Type 0} {p : Program} {r : Told S} → IsSound p r → Grows p r r
@@ -49,13 +50,13 @@ halts_first k (after a e) = after a (halts_first k e)
 module _ {S : Type 0} (p : Program) (s : Told S) (c : Demands Instance Value) (k : Value → Demands Instance Value) where
   -- a part that has no value leaves the whole without one
   part_err : (h : Halt) → Answers p s c (Err h) → Answers p s (next c k) (Err h)
-  part_err (Need i) a = record { demands = a.demands; halts = halts_first k a.halts }
+  part_err (Need i) a = record { demands = a.demands; halts = halts_first k a.halts; coded = a.coded }
   part_err Memory a = tt
 
   -- a part that has a value, and what follows with it
   part_ok : (v : CodedValue) (res : Result CodedValue Halt) → Given p s c v → Answers p s (k (value_of (text_of p) v)) res → Answers p s (next c k) res
   part_ok v (Ok w) g a = record { demands = g.demands ++ a.demands; ends = ends_next k g.ends a.ends }
-  part_ok v (Err (Need i)) g a = record { demands = g.demands ++ a.demands; halts = halts_next k g.ends a.halts }
+  part_ok v (Err (Need i)) g a = record { demands = g.demands ++ a.demands; halts = halts_next k g.ends a.halts; coded = a.coded }
   part_ok v (Err Memory) g a = tt
 
 given_more : {S : Type 0} {p : Program} {m s : Told S} {c : Demands Instance Value} {v : CodedValue} → Grows p m s → Given p m c v → Given p s c v
@@ -71,6 +72,28 @@ ReadsTruth t v = (texts : ℕ → List ℕ) → t ≡ truth (value_of texts v)
 -- a test that was evaluated
 tested : {S : Type 0} (p : Program) (s : Told S) (b t : Bool) (x y : Demands Instance Value) (res : Result CodedValue Halt) → t ≡ b → Answers p s (cond b x y) res → Answers p s (cond t x y) res
 tested p s b t x y res e a = subst (λ z. Answers p s (cond z x y) res) (sym e) a
+
+-- a value that demands come to, and what follows with it
+module _ {S : Type 0} (p : Program) (s : Told S) where
+  behind_value : (c : Demands Instance Value) (v : Value) (k : Value → Demands Instance Value) (res : Result CodedValue Halt) {ds : List Instance} → Ends s.has c v ds → Answers p s (k v) res → Answers p s (next c k) res
+  behind_value c v k (Ok w) {ds = ds} ends a = record { demands = ds ++ a.demands; ends = ends_next k ends a.ends }
+  behind_value c v k (Err (Need i)) {ds = ds} ends a = record { demands = ds ++ a.demands; halts = halts_next k ends a.halts; coded = a.coded }
+  behind_value c v k (Err Memory) ends a = tt
+
+  -- what is done with the values of arguments
+  collected : (place : Place) {es : Arguments} {vs : List Value} (f : List Value → Demands Instance Value) (res : Result CodedValue Halt) → Collects s.has (world_of p) place es vs → Answers p s (f vs) res → Answers p s (with_arguments (world_of p) es place f) res
+  collected place f res end a = a
+  collected place f res (more {e = e} {es = es} {v = v} {vs = vs} ends rest) a =
+      behind_value (meaning_of (world_of p) e place) v (λ w. with_arguments (world_of p) es place (λ ws. f (w ∷ ws))) res ends (collected place (λ ws. f (v ∷ ws)) res rest a)
+
+-- what follows a receiver: the arguments, and then the call
+abbrev behind_receiver : Program → Place → ℕ → Arguments → Value → Demands Instance Value
+behind_receiver p place t es r = with_arguments (world_of p) es place (λ vs. call_at (world_of p) t (node r) vs)
+
+-- values that arguments come to stay
+pub collects_more : {A B : Instance → Value → Type 0} {W : World} {place : Place} {es : Arguments} {vs : List Value} → ((i : Instance) (v : Value) → A i v → B i v) → Collects A W place es vs → Collects B W place es vs
+collects_more f end = end
+collects_more f (more ends rest) = more (ends_more f ends) (collects_more f rest)
 
 module _ {p : Program} {place : Place} where
   -- an expression that is kept in this form
@@ -113,11 +136,20 @@ module _ {p : Program} {place : Place} where
   second_goes {s = s} part v x k a w is e = part_ok p s (read_at p place part) k v (Ok x) a.is (subst (λ c. Given p s c x) (sym is) (gives_value e))
 
   -- a call
-  pub call_stops : {S : Type 0} {r s : Told S} {a : Expression} {h : Halt} {t : ℕ} → Reads p r s place a (Err h) → Reads p r s place (Call t a) (Err h)
-  call_stops {a = a} {h = h} {t = t} x = stops (Call t a) a h _ refl x
+  pub call_stops : {S : Type 0} {r s : Told S} {a : Expression} {es : Arguments} {h : Halt} {t : ℕ} → Reads p r s place a (Err h) → Reads p r s place (Call t a es) (Err h)
+  call_stops {a = a} {es = es} {h = h} {t = t} x = stops (Call t a es) a h _ refl x
 
-  pub call_goes : {S : Type 0} {r m s : Told S} {a : Expression} {v : CodedValue} {t : ℕ} {res : Result CodedValue Halt} → Reads p r m place a (Ok v) → CallReads p m s t v res → Reads p r s place (Call t a) res
-  call_goes {a = a} {v = v} {t = t} {res = res} x c = goes (Call t a) a v res _ refl x c.kept c.is
+  -- its arguments have no values
+  pub call_stops_at : {S : Type 0} {r m s : Told S} {a : Expression} {es : Arguments} {ks : List Kind} {v : CodedValue} {h : Halt} {t : ℕ} → Reads p r m place a (Ok v) → ArgumentsRead p m s place ks es (Err h) → Reads p r s place (Call t a es) (Err h)
+  call_stops_at {a = a} {es = es} {v = v} {h = Need i} {t = t} x y =
+      let stopped = y.is.stopped (λ vs. call_at (world_of p) t (node (value_of (text_of p) v)) vs) in
+      goes (Call t a es) a v (Err (Need i)) (behind_receiver p place t es) refl x y.kept (record { demands = stopped.0; halts = stopped.1; coded = y.is.coded })
+  call_stops_at {a = a} {es = es} {v = v} {h = Memory} {t = t} x y = goes (Call t a es) a v (Err Memory) (behind_receiver p place t es) refl x y.kept tt
+
+  pub call_goes : {S : Type 0} {r m n s : Told S} {a : Expression} {es : Arguments} {xs : Args} {v : CodedValue} {t : ℕ} {res : Result CodedValue Halt} → Reads p r m place a (Ok v) → ArgumentsRead p m n place (attribute_parameters p t) es (Ok xs) → CallReads p n s t v xs res → Reads p r s place (Call t a es) res
+  call_goes {s = s} {a = a} {es = es} {v = v} {t = t} {res = res} x y c =
+      goes (Call t a es) a v res (behind_receiver p place t es) refl x (grows_then y.kept c.kept)
+      (collected p s place (λ vs. call_at (world_of p) t (node (value_of (text_of p) v)) vs) res (collects_more c.kept.values y.is.collects) (c.is y.is.values y.is.are))
 
   -- the child of a receiver
   pub child_stops : {S : Type 0} {r s : Told S} {a : Expression} {h : Halt} {k : ℕ} → Reads p r s place a (Err h) → Reads p r s place (Child k a) (Err h)

@@ -1,5 +1,5 @@
 -- The equation of an instance, from where it is found, and what it comes to.
-use Rattle.std.proofs.Common.{◌≡◌, ℕ, ◌≤◌, true, false, cond, [], ◌++◌, length, Option, Some, None, Result, Ok, Err, sym, ap, subst, ◌∙◌, slice_get}
+use Rattle.std.proofs.Common.{◌≡◌, ℕ, ◌≤◌, true, false, cond, List, [], ◌++◌, map, length, Option, Some, None, Result, Ok, Err, sym, ap, subst, ◌∙◌, slice_get}
 use Rattle.std.specs.Option.{option_and_then, option_map}
 use Rattle.std.specs.Result.{IsErr}
 use Rattle.std.proofs.lemmas.Option.{slice_get_past}
@@ -12,10 +12,10 @@ use Rattle.solutions.specs.Asking.{Demands, Ends, Gives, gives}
 use Rattle.equation_law.specs.declared.coding.EqSite.{EqSite}
 use Rattle.equation_law.specs.declared.coding.Value.{Value as CodedValue}
 use Rattle.equation_law.specs.Codes.{reference_of, value_of}
-use Rattle.equation_law.specs.Equations.{Site, attribute_kind, equation_for, equation_of, equations_of, inherited_site, inherits, place_at, site_at, site_demands, synthesized_site, text_of, world_of}
+use Rattle.equation_law.specs.Equations.{Site, attribute_kind, equation_for, equation_of, equations_of, inherited_site, inherits, place_at, site_at, site_demands, synthesized_site, world_of}
 use Rattle.equation_law.specs.Meaning.{Place, meaning_of}
-use Rattle.equation_law.specs.Names.{At, Attribute, Instance, NoArguments, Null, Query, Reference, Source}
-use Rattle.equation_law.specs.Program.{Program, class_of, declared_of}
+use Rattle.equation_law.specs.Names.{Argument, At, Attribute, Instance, Null, Query, Reference, Source}
+use Rattle.equation_law.specs.Program.{Program, class_of, declared_of, text_of}
 use Rattle.equation_law.specs.Reading.{Grows, IsSound, Told}
 use Rattle.equation_law.specs.Values.{Node, Value, as_kind}
 use Rattle.equation_law.proofs.Above.{inherited_above}
@@ -25,17 +25,17 @@ use Rattle.expr_eval.specs.declared.evaluation.Halt.{Halt}
 use Rattle.expr_eval.specs.declared.evaluation.Halt.TheVariants.{Need, Memory}
 use Rattle.expr_eval.specs.declared.sites.Turn.{Turn}
 use Rattle.expr_eval.specs.declared.sites.Turn.TheVariants as turns
-use Rattle.expr_eval.specs.Evaluating.{AnswersTurn, Evaluates, Reads, read_at}
+use Rattle.expr_eval.specs.Evaluating.{AnswersTurn, Evaluates, Reads, read_at, place_kept}
 use Rattle.expr_eval.specs.Sites.{IsTurned, TurnAs, expression_or_null, query_reads, site_reads}
 use Rattle.expr_eval.proofs.Forms.{ends_next, gives_value, grows_self, halts_first}
 
 -- the type of its value is that of the attribute
-pub attribute_site_kind : (p : Program) (a : ℕ) (r : Reference) (x : Site) → equation_of p (Attribute a r NoArguments) ≡ Some x → attribute_kind p a ≡ x.kind
-attribute_site_kind p a Null x e = cc
-attribute_site_kind p a (At (Source k)) x e =
-    elim (inherits (declared_of p a)) as (λ b. cond b (inherited_site p a k) (synthesized_site p a k) ≡ Some x → attribute_kind p a ≡ x.kind) [
-      | true ↦ λ h. let above = inherited_above p a k x h in ap (λ (s : Site). s.kind) above.is
-      | false ↦ λ h. let found = some_of (site_at p a k) (option_and_then (equation_for p a) (class_of p k)) x h in ap (λ (s : Site). s.kind) found.2
+pub attribute_site_kind : (p : Program) (a : ℕ) (r : Reference) (xs : List Argument) (x : Site) → equation_of p (Attribute a r xs) ≡ Some x → attribute_kind p a ≡ x.kind
+attribute_site_kind p a Null xs x e = cc
+attribute_site_kind p a (At (Source k)) xs x e =
+    elim (inherits (declared_of p a)) as (λ b. cond b (inherited_site p a xs k) (synthesized_site p a k xs) ≡ Some x → attribute_kind p a ≡ x.kind) [
+      | true ↦ λ h. let above = inherited_above p a xs k x h in ap (λ (s : Site). s.kind) above.is
+      | false ↦ λ h. let found = some_of (site_at p a k xs) (option_and_then (equation_for p a) (class_of p k)) x h in ap (λ (s : Site). s.kind) found.2
     ] e
 
 module _ {S : Type 0} (p : Program) (r s : Told S) where
@@ -50,12 +50,19 @@ module _ {S : Type 0} (p : Program) (r s : Told S) where
   turned_reads place e (Err (Need i)) res h is = record { kept = h.kept; answer = subst (AnswersTurn p s (read_at p place e)) (sym is) h.is }
   turned_reads place e (Err Memory) res h is = failed (read_at p place e) res h.kept is
 
+  -- the names of a site
+  pub names_read : (a : ℕ) (site : EqSite) {e : Expression} {names held : List CodedValue} {came : Result CodedValue Halt} → names ≡ held → map (value_of (text_of p)) held ≡ (site_place p a site).names
+      → Reads p r s (place_kept (text_of p) site.node.0 names) e came → Reads p r s (site_place p a site) e came
+  names_read a site {e} {names} {held} {came} same are h =
+      let at : place_kept (text_of p) site.node.0 names ≡ site_place p a site = (λ i. record { this = reference_of site.node.0; names = (ap (map (value_of (text_of p))) same ∙ are) i }) in
+      subst (λ (o : Place). Reads p r s o e came) at h
+
   -- an equation by its number
-  pub site_evaluated : (site : EqSite) (rules : RuleSet) (e : Expression) (came : Result CodedValue Halt) (res : Result Turn NoMemory) → rules ≡ p.rules → body_at rules site.equation.0 ≡ Some e → Reads p r s (site_place site) e came → IsTurned came res
-      → Evaluates p r s (site_reads p site) res
-  site_evaluated site rules e came res same body h is =
+  pub site_evaluated : (a : ℕ) (site : EqSite) (rules : RuleSet) (e : Expression) (came : Result CodedValue Halt) (res : Result Turn NoMemory) → rules ≡ p.rules → body_at rules site.equation.0 ≡ Some e → Reads p r s (site_place p a site) e came → IsTurned came res
+      → Evaluates p r s (site_reads p a site) res
+  site_evaluated a site rules e came res same body h is =
       let at : expression_or_null (body_at p.rules site.equation.0) ≡ e = ap (λ (x : RuleSet). expression_or_null (body_at x site.equation.0)) (sym same) ∙ ap expression_or_null body in
-      subst (λ (x : Expression). Evaluates p r s (read_at p (site_place site) x) res) (sym at) (turned_reads (site_place site) e came res h is)
+      subst (λ (x : Expression). Evaluates p r s (read_at p (site_place p a site) x) res) (sym at) (turned_reads (site_place p a site) e came res h is)
 
   -- a query by its number
   pub query_evaluated : (q x : Asked) (n : ℕ) (e : Expression) (came : Result CodedValue Halt) (res : Result Turn NoMemory) → slice_get p.queries n ≡ Some x → e ≡ x.body → Reads p r s (place_at 0) e came → IsTurned came res → slice_get p.queries n ≡ Some q
@@ -76,21 +83,21 @@ module _ {S : Type 0} (p : Program) (r s : Told S) where
         answer = subst (λ o. AnswersTurn p s (site_demands (world_of p) o) (Ok u)) (sym is) (subst (λ x. AnswersTurn p s (site_demands (world_of p) (Some site)) (Ok x)) (sym read.1) done);
       }
   instance_evaluated i site (turns.Need n) u first is h read =
-      let needs : AnswersTurn p s (site_demands (world_of p) (Some site)) (Ok (turns.Need n)) = record { demands = h.answer.demands; halts = halts_first (λ x. Gives (as_kind site.kind x)) h.answer.halts } in
+      let needs : AnswersTurn p s (site_demands (world_of p) (Some site)) (Ok (turns.Need n)) = record { demands = h.answer.demands; halts = halts_first (λ x. Gives (as_kind site.kind x)) h.answer.halts; coded = h.answer.coded } in
       record {
         kept = h.kept;
         answer = subst (λ o. AnswersTurn p s (site_demands (world_of p) o) (Ok u)) (sym is) (subst (λ x. AnswersTurn p s (site_demands (world_of p) (Some site)) (Ok x)) (sym read) needs);
       }
 
 -- an attribute's equation that is found, read at the attribute's type
-pub attribute_evaluated : {S : Type 0} (p : Program) (r s : Told S) (a n : ℕ) (k : Kind) (site : EqSite) (t u : Turn) → text_of p 0 ≡ [] → k ≡ attribute_kind p a
-    → (x : Site) × (equation_of p (Attribute a (reference_of n) NoArguments) ≡ Some x) × IsSite p site x → Evaluates p r s (site_reads p site) (Ok t) → TurnAs k t u → Evaluates p r s ((equations_of p).equation (Attribute a (reference_of n) NoArguments)) (Ok u)
-attribute_evaluated p r s a n k site t u first kind found h read =
+pub attribute_evaluated : {S : Type 0} (p : Program) (r s : Told S) (a n : ℕ) (xs : List Argument) (k : Kind) (site : EqSite) (t u : Turn) → text_of p 0 ≡ [] → k ≡ attribute_kind p a
+    → (x : Site) × (equation_of p (Attribute a (reference_of n) xs) ≡ Some x) × IsSite p a site x → Evaluates p r s (site_reads p a site) (Ok t) → TurnAs k t u → Evaluates p r s ((equations_of p).equation (Attribute a (reference_of n) xs)) (Ok u)
+attribute_evaluated p r s a n xs k site t u first kind found h read =
     let x = found.0 in
     let body : expression_or_null (body_at p.rules site.equation.0) ≡ x.body = ap expression_or_null found.2.body in
-    let at : Evaluates p r s (meaning_of (world_of p) x.body (site_place site)) (Ok t) = subst (λ (e : Expression). Evaluates p r s (read_at p (site_place site) e) (Ok t)) body h in
+    let at : Evaluates p r s (meaning_of (world_of p) x.body (site_place p a site)) (Ok t) = subst (λ (e : Expression). Evaluates p r s (read_at p (site_place p a site) e) (Ok t)) body h in
     let here : Evaluates p r s (meaning_of (world_of p) x.body x.place) (Ok t) = subst (λ (o : Place). Evaluates p r s (meaning_of (world_of p) x.body o) (Ok t)) (sym found.2.place) at in
-    instance_evaluated p r s (Attribute a (reference_of n) NoArguments) x t u first found.1 here (subst (λ (j : Kind). TurnAs j t u) (kind ∙ attribute_site_kind p a (reference_of n) x found.1) read)
+    instance_evaluated p r s (Attribute a (reference_of n) xs) x t u first found.1 here (subst (λ (j : Kind). TurnAs j t u) (kind ∙ attribute_site_kind p a (reference_of n) xs x found.1) read)
 
 -- a query's, read at the query's type
 pub asked_evaluated : {S : Type 0} (p : Program) (r s : Told S) (q : ℕ) (e : Asked) (k : Kind) (t u : Turn) → text_of p 0 ≡ [] → slice_get p.queries q ≡ Some e → k ≡ e.kind → Evaluates p r s (query_reads p e) (Ok t) → TurnAs k t u

@@ -1,13 +1,13 @@
 -- A form over a list, from how far it has gone.
-use Rattle.std.proofs.Common.{◌≡◌, ℕ, zero, suc, ◌+◌, Bool, true, false, cond, List, [], ◌∷◌, ◌++◌, map, refl, sym, ap, subst, arith}
+use Rattle.std.proofs.Common.{◌≡◌, ℕ, suc, ◌+◌, Bool, false, cond, List, map, refl, sym, ap, subst, arith}
 use Rattle.std.specs.List.{range_with_len}
-use Rattle.solutions.specs.Asking.{Demands, Gives, Ends, Halts, gives, next}
+use Rattle.solutions.specs.Asking.{Demands, Gives, Ends, Halts}
 use Rattle.solutions.proofs.Runs.{ends_more}
 use Rattle.equation_law.specs.Meaning.{at_each, first_with}
 use Rattle.equation_law.specs.Names.{Instance}
-use Rattle.equation_law.specs.Values.{Value, Truth, truth}
+use Rattle.equation_law.specs.Values.{Value, truth}
 use Rattle.expr_eval.specs.Going.{Passed, Went, further, more, none, nowhere}
-use Rattle.expr_eval.proofs.Forms.{ends_next, halts_first, halts_next}
+use Rattle.expr_eval.proofs.Forms.{ends_next, halts_next}
 
 -- it has gone as far where more has values
 pub went_more : {A B : Instance → Value → Type 0} → ((i : Instance) (v : Value) → A i v → B i v) → {element : ℕ → Value} {f : Value → Demands Instance Value} {put : Bool → Bool → Bool} {start : Bool} {n : ℕ} {b : Bool} → Went A element f put start n b → Went B element f put start n b

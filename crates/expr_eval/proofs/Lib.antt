@@ -1,6 +1,8 @@
+pub mod Bound
 pub mod Calls
 pub mod Forms
 pub mod Found
+pub mod Given
 pub mod Going
 pub mod Names
 pub mod Over

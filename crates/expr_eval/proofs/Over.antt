@@ -1,17 +1,16 @@
 -- What a form over a list says, from what its condition says at the elements.
-use Rattle.std.proofs.Common.{◌≡◌, ℕ, suc, ◌+◌, ◌-◌, ◌<◌, ◌≤◌, Bool, true, false, cond, List, [], map, Result, Ok, Err, refl, sym, ap, subst, ◌∙◌, arith}
+use Rattle.std.proofs.Common.{◌≡◌, ℕ, suc, ◌+◌, ◌-◌, ◌<◌, Bool, true, false, cond, [], map, Result, Ok, Err, refl, sym, ap, subst, ◌∙◌, arith}
 use Rattle.std.specs.List.{range_with_len}
 use Rattle.std.specs.Result.{IsErr, IsErrAnd}
 use Rattle.std.proofs.lemmas.Result.{err_from_is_err_and}
 use Rattle.attr_rules.specs.declared.expression.TExpr.{TExpr}
 use Rattle.attr_rules.specs.Expression.{Expression, expression_of}
-use Rattle.solutions.specs.Asking.{Demands, Ends, Halts, Gives, gives, next}
+use Rattle.solutions.specs.Asking.{Demands, Ends, Gives, gives}
 use Rattle.equation_law.specs.declared.coding.Value.{Value as CodedValue}
 use Rattle.equation_law.specs.Codes.{value_of}
-use Rattle.equation_law.specs.Equations.{text_of}
 use Rattle.equation_law.specs.Meaning.{Place, at_each, first_with}
 use Rattle.equation_law.specs.Names.{Instance, Null}
-use Rattle.equation_law.specs.Program.{Program}
+use Rattle.equation_law.specs.Program.{Program, text_of}
 use Rattle.equation_law.specs.Reading.{Grows, Told}
 use Rattle.equation_law.specs.Values.{Value, Node, Truth, truth}
 use Rattle.expr_eval.specs.declared.evaluation.Halt.{Halt}
@@ -52,7 +51,7 @@ module _ {S : Type 0} (p : Program) (r m s : Told S) (place : Place) (e : Expres
         let whole = went_halts element condition put start (went_more a.kept.values went) (suc (count - suc n)) halts in
         record {
           kept = grows_then before a.kept;
-          is = subst (λ k. Answers p s (at_each put start (map element (range_with_len 0 k)) condition) (Err (Need j))) (rest_of n count within) (record { demands = whole.0; halts = whole.1 });
+          is = subst (λ k. Answers p s (at_each put start (map element (range_with_len 0 k)) condition) (Err (Need j))) (rest_of n count within) (record { demands = whole.0; halts = whole.1; coded = a.is.coded });
         }
     each_stopped n b Memory within before went a = record { kept = grows_then before a.kept; is = tt }
 
@@ -83,7 +82,7 @@ module _ {S : Type 0} (p : Program) (r m s : Told S) (place : Place) (e : Expres
         let whole = passed_halts element condition (passed_more a.kept.values passed) (suc (count - suc n)) halts in
         record {
           kept = grows_then before a.kept;
-          is = subst (λ k. Answers p s (first_with (map element (range_with_len 0 k)) condition) (Err (Need j))) (rest_of n count within) (record { demands = whole.0; halts = whole.1 });
+          is = subst (λ k. Answers p s (first_with (map element (range_with_len 0 k)) condition) (Err (Need j))) (rest_of n count within) (record { demands = whole.0; halts = whole.1; coded = a.is.coded });
         }
     first_stopped n Memory within before passed a = record { kept = grows_then before a.kept; is = tt }
 

@@ -6,10 +6,9 @@ use Rattle.solutions.specs.Asking.{Demands}
 use Rattle.equation_law.specs.declared.coding.Value.{Value as CodedValue}
 use Rattle.equation_law.specs.declared.system.System.{System}
 use Rattle.equation_law.specs.Codes.{reference_of, value_of}
-use Rattle.equation_law.specs.Equations.{text_of}
 use Rattle.equation_law.specs.Meaning.{Place, element_at, with_name}
 use Rattle.equation_law.specs.Names.{Instance}
-use Rattle.equation_law.specs.Program.{Program}
+use Rattle.equation_law.specs.Program.{Program, text_of}
 use Rattle.equation_law.specs.Reading.{Grows, Told}
 use Rattle.equation_law.specs.Values.{Value, Node, truth}
 use Rattle.expr_eval.specs.declared.accessors.Elements.{Elements}

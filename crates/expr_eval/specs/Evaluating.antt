@@ -1,19 +1,21 @@
 -- What an evaluation over a reader says.
-use Rattle.std.specs.Prelude.{ℕ, Bool, true, false, List, Result, Ok, Err, map}
+use Rattle.std.specs.Prelude.{◌≡◌, ℕ, Bool, true, false, List, [], ◌∷◌, Result, Ok, Err, map}
 use Rattle.rag_io.specs.declared.Memory.{Memory as NoMemory}
-use Rattle.attr_rules.specs.Expression.{Expression, Not, Negate, Binary, And, Or, If}
+use Rattle.attr_rules.specs.declared.kinds.Kind.{Kind}
+use Rattle.attr_rules.specs.Expression.{Arguments, Expression, argument, no_more, Not, Negate, Binary, And, Or, If}
 use Rattle.solutions.specs.Asking.{Demands, Ends, Halts}
+use Rattle.equation_law.specs.declared.coding.Args.{Args}
 use Rattle.equation_law.specs.declared.coding.Instance.{Instance as CodedInstance}
 use Rattle.equation_law.specs.declared.coding.Value.{Value as CodedValue}
 use Rattle.equation_law.specs.declared.system.System.{System}
-use Rattle.equation_law.specs.Codes.{instance_of, reference_of, value_of}
-use Rattle.equation_law.specs.Equations.{kind_in, text_of, world_of}
-use Rattle.equation_law.specs.Meaning.{Place, World, call_at, demand, meaning_of}
+use Rattle.equation_law.specs.Codes.{AreCodes, IsCoded, IsRow, arguments_at, arguments_of, codes_in, instance_of, reference_of, value_of}
+use Rattle.equation_law.specs.Equations.{kind_in, world_of}
+use Rattle.equation_law.specs.Meaning.{Place, World, call_at, demand, meaning_of, with_arguments}
 use Rattle.equation_law.specs.Names.{Instance}
-use Rattle.equation_law.specs.Program.{Program}
+use Rattle.equation_law.specs.Program.{Program, attribute_parameters, text_of}
 use Rattle.equation_law.specs.Reading.{Grows, Told}
 use Rattle.equation_law.specs.Systems.{program_of}
-use Rattle.equation_law.specs.Values.{Value, node}
+use Rattle.equation_law.specs.Values.{Value, as_arguments, node}
 use Rattle.expr_eval.specs.declared.evaluation.Context.{Context}
 use Rattle.expr_eval.specs.declared.evaluation.Halt.{Halt}
 use Rattle.expr_eval.specs.declared.evaluation.Halt.TheVariants.{Need, Memory}
@@ -35,7 +37,8 @@ pub record Given {S : Type 0} (p : Program) (s : Told S) (c : Demands Instance V
 -- the first demand that the reader has no value for
 pub record Stopped {S : Type 0} (p : Program) (s : Told S) (c : Demands Instance Value) (i : CodedInstance) : Type 0 where
   pub demands : List Instance
-  pub halts : Halts s.has c (instance_of i) demands
+  pub halts : Halts s.has c (instance_of p i) demands
+  pub coded : IsCoded p i
 
 abbrev pub Answers : {S : Type 0} → Program → Told S → Demands Instance Value → Result CodedValue Halt → Type 0
 Answers p s c (Ok v) = Given p s c v
@@ -63,10 +66,38 @@ pub record DemandReads {S : Type 0} (p : Program) (r s : Told S) (i : Instance) 
   pub kept : Grows p r s
   pub is : Answers p s (demand (kind_in p i) i) result
 
--- the answer to a call on a receiver
-pub record CallReads {S : Type 0} (p : Program) (r s : Told S) (a : ℕ) (receiver : CodedValue) (result : Result CodedValue Halt) : Type 0 where
+-- the answer to a call on a receiver with arguments, whatever values these have
+pub record CallReads {S : Type 0} (p : Program) (r s : Told S) (a : ℕ) (receiver : CodedValue) (xs : Args) (result : Result CodedValue Halt) : Type 0 where
   pub kept : Grows p r s
-  pub is : Answers p s (call_at (world_of p) a (node (value_of (text_of p) receiver))) result
+  pub is : (vs : List Value) → arguments_of p a xs ≡ as_arguments (attribute_parameters p a) vs → Answers p s (call_at (world_of p) a (node (value_of (text_of p) receiver)) vs) result
+
+-- the arguments of a call come to these values, each of them in its turn
+pub data Collects (A : Instance → Value → Type 0) (W : World) (place : Place) : Arguments → List Value → Type 0 where
+  end : Collects A W place no_more []
+  more : {e : Expression} {es : Arguments} {v : Value} {vs : List Value} {demands : List Instance} → Ends A (meaning_of W e place) v demands → Collects A W place es vs → Collects A W place (argument e es) (v ∷ vs)
+
+-- their codes for parameters of some types
+pub record ArgumentsGiven {S : Type 0} (p : Program) (s : Told S) (place : Place) (ks : List Kind) (es : Arguments) (xs : Args) : Type 0 where
+  pub values : List Value
+  pub collects : Collects s.has (world_of p) place es values
+  pub row : IsRow xs
+  pub codes : AreCodes p ks (codes_in xs)
+  pub are : arguments_at (text_of p) ks (codes_in xs) ≡ as_arguments ks values
+
+-- the first demand of theirs that the reader has no value for, whatever is done with them
+pub record ArgumentsStopped {S : Type 0} (p : Program) (s : Told S) (place : Place) (es : Arguments) (i : CodedInstance) : Type 0 where
+  pub stopped : (f : List Value → Demands Instance Value) → (demands : List Instance) × Halts s.has (with_arguments (world_of p) es place f) (instance_of p i) demands
+  pub coded : IsCoded p i
+
+abbrev pub AnswersArguments : {S : Type 0} → Program → Told S → Place → List Kind → Arguments → Result Args Halt → Type 0
+AnswersArguments p s place ks es (Ok xs) = ArgumentsGiven p s place ks es xs
+AnswersArguments p s place ks es (Err (Need i)) = ArgumentsStopped p s place es i
+AnswersArguments p s place ks es (Err Memory) = Unit {0}
+
+-- the answer to the arguments of a call
+pub record ArgumentsRead {S : Type 0} (p : Program) (r s : Told S) (place : Place) (ks : List Kind) (es : Arguments) (result : Result Args Halt) : Type 0 where
+  pub kept : Grows p r s
+  pub is : AnswersArguments p s place ks es result
 
 -- What a turn says of some demands: `Done` is the value that they come to under what the reader has at the end, and `Need` the first of
 -- them that it has no value for. For want of memory nothing is said.

@@ -25,9 +25,9 @@ abbrev pub expression_or_null : Option Expression → Expression
 expression_or_null None = NullLiteral
 expression_or_null (Some e) = e
 
--- what an equation demands where it is read
-abbrev pub site_reads : Program → EqSite → Demands Instance Value
-site_reads p s = read_at p (site_place s) (expression_or_null (body_at p.rules s.equation.0))
+-- what an equation demands that is read for an attribute
+abbrev pub site_reads : Program → ℕ → EqSite → Demands Instance Value
+site_reads p a s = read_at p (site_place p a s) (expression_or_null (body_at p.rules s.equation.0))
 
 -- what a query demands, which is read at the root
 abbrev pub query_reads : Program → Asked → Demands Instance Value

@@ -1,18 +1,21 @@
 // The meaning of an expression under what a reader has.
-ghost use Rattle.std.specs.Prelude.{◌≡◌, IfOk, true};
-ghost use Rattle.attr_rules.specs.Expression.{expression_of};
-ghost use Rattle.equation_law.specs.Codes.{instance_of, value_of};
+ghost use Rattle.std.specs.Prelude.{◌≡◌, ◌<◌, IfOk, length, true};
+ghost use Rattle.attr_rules.specs.Expression.{arguments_of, expression_of};
+ghost use Rattle.attr_rules.specs.Types.{parameter_kinds, text_kind};
+ghost use Rattle.equation_law.specs.Codes.{AreCodes, IsCode, IsCoded, IsRow, codes_in, instance_of, value_at, value_of};
 ghost use Rattle.equation_law.specs.Equations.{attribute_kind as kind_of};
 ghost use Rattle.equation_law.specs.Meaning.{at_each, first_with, named, over_elements};
+ghost use Rattle.equation_law.specs.Program.{attribute_parameters};
 ghost use Rattle.equation_law.specs.Reading.{IsSound};
+ghost use Rattle.equation_law.specs.Values.{as_argument};
 ghost use Rattle.equation_law.specs.Systems.{program_of};
 ghost use Rattle.expr_eval.specs.Elements.{OverReads, ReadsAt, Rooms, elements_in, put};
-ghost use Rattle.expr_eval.specs.Evaluating.{CallReads, DemandReads, Reads, is_operation, place_in, texts_in};
+ghost use Rattle.expr_eval.specs.Evaluating.{ArgumentsRead, CallReads, DemandReads, Reads, is_operation, place_in, texts_in};
 
 use crate::accessors::{Elements, cast, child, count, element, has, is_instance, source, token};
 use crate::operators::{deny, negate, operate};
-use attr_rules::{AttrId, Kind, Quantifier, TExpr};
-use equation_law::{Instance, NodeRef, Reader, System, Value};
+use attr_rules::{AttrId, Kind, Params, Quantifier, TArgs, TExpr};
+use equation_law::{Args, Code, Instance, NodeRef, Reader, System, Value};
 use rag_io::Memory;
 use std::alloc::Global;
 
@@ -64,8 +67,9 @@ fn demand<R: Reader>(
     instance: Instance,
     reader: &mut R,
 ) -> Result<Value, Halt>
-    requires { IsSound (program_of context.now.system.now) (R.tells reader.old) }
-    ensures { DemandReads (program_of context.now.system.now) (R.tells reader.old) (R.tells reader.new) (instance_of instance) result }
+    requires sound { IsSound (program_of context.now.system.now) (R.tells reader.old) }
+    requires coded { IsCoded (program_of context.now.system.now) instance }
+    ensures { DemandReads (program_of context.now.system.now) (R.tells reader.old) (R.tells reader.new) (instance_of (program_of context.now.system.now) instance) result }
 {
     match reader.settled(context.alloc, &instance) {
         Ok(Some(value)) => Ok(value),
@@ -74,22 +78,99 @@ fn demand<R: Reader>(
     }
 }
 
-/// A call on a receiver: the instance's value, and on null the default of the attribute's type.
+/// The parameters of an attribute; one that isn't declared has none.
+pub(crate) fn parameters(system: &System, attribute: AttrId) -> Params
+    ensures { parameter_kinds result ≡ attribute_parameters (program_of system.now) attribute.0 }
+{
+    let rules = system.rules();
+    if u32::from(attribute.0) < rules.attrs() {
+        rules.attr(attribute).params
+    } else {
+        Params {
+            count: 0,
+            first: Kind::Truth,
+            second: Kind::Truth,
+            third: Kind::Truth,
+        }
+    }
+}
+
+/// Whether it is the type of texts.
+fn is_text(kind: Kind) -> bool
+    ensures { result ≡ text_kind kind }
+{
+    match kind {
+        Kind::Text => true,
+        Kind::Truth | Kind::Int | Kind::Node(_) | Kind::Texts | Kind::Nodes(_) => false,
+    }
+}
+
+/// The number of a text, which is that of the empty one for a number that no text has.
+fn known_text(system: &System, number: u32) -> Code
+    ensures within { result < length (program_of system.now).texts }
+    ensures text { texts_in system.now result ≡ texts_in system.now number }
+{
+    if number < system.pool().len() {
+        number
+    } else {
+        0
+    }
+}
+
+/// The code of an argument for a parameter of this type: each value has one.
+fn argument_code(system: &System, kind: Kind, value: Value) -> Code
+    ensures code { IsCode (program_of system.now) kind result }
+    ensures value { as_argument kind (value_at (texts_in system.now) kind result) ≡ as_argument kind (value_of (texts_in system.now) value) }
+{
+    if is_text(kind) {
+        return known_text(system, value.text());
+    }
+    value.code(kind)
+}
+
+/// The codes of the arguments of a call, for these parameters, evaluated from the left. One without a parameter counts for nothing.
+#[cycle(meaning)]
+fn given<R: Reader>(
+    context: &Context<'_>,
+    parameters: Params,
+    arguments: &TArgs,
+    reader: &mut R,
+) -> Result<Args, Halt>
+    requires { IsSound (program_of context.now.system.now) (R.tells reader.old) }
+    ensures { ArgumentsRead (program_of context.now.system.now) (R.tells reader.old) (R.tells reader.new) (place_in context.now) (parameter_kinds parameters) (arguments_of arguments.now) result }
+{
+    match arguments {
+        TArgs::End => Ok(Args::none()),
+        TArgs::More(first, rest) => {
+            let value = meaning(context, first, reader)?;
+            let behind = given(context, parameters.rest(), rest, reader)?;
+            Ok(match parameters.first_kind() {
+                Some(kind) => behind.behind(argument_code(context.system, kind, value)),
+                None => Args::none(),
+            })
+        }
+    }
+}
+
+/// A call on a receiver with arguments: the instance's value, and on null the default of the attribute's type.
 fn call<R: Reader>(
     context: &Context<'_>,
     attr: AttrId,
     receiver: Value,
+    args: Args,
     reader: &mut R,
 ) -> Result<Value, Halt>
-    requires { IsSound (program_of context.now.system.now) (R.tells reader.old) }
-    ensures { CallReads (program_of context.now.system.now) (R.tells reader.old) (R.tells reader.new) attr.0 receiver result }
+    requires sound { IsSound (program_of context.now.system.now) (R.tells reader.old) }
+    requires row { IsRow args }
+    requires codes { AreCodes (program_of context.now.system.now) (attribute_parameters (program_of context.now.system.now) attr.0) (codes_in args) }
+    ensures { CallReads (program_of context.now.system.now) (R.tells reader.old) (R.tells reader.new) attr.0 receiver args result }
 {
     let node = receiver.node();
     if node == NodeRef(0) {
         let kind = attribute_kind(context.system, attr);
         return Ok(Value::default_of(kind));
     }
-    demand(context, Instance::Attr { attr, node }, reader)
+    demand(context, Instance::Attr { attr, node, args }, reader)
 }
 
 /// The value of a name by its number.
@@ -270,9 +351,10 @@ pub(crate) fn meaning<R: Reader>(
         TExpr::Count(k, receiver) => Ok(count(system, *k, meaning(context, receiver, reader)?)),
         TExpr::Has(k, receiver) => Ok(has(system, *k, meaning(context, receiver, reader)?)),
         TExpr::Token(of, k, node) => Ok(token(system, *of, *k, meaning(context, node, reader)?)),
-        TExpr::Call(called, _, receiver) => {
+        TExpr::Call(called, _, receiver, arguments) => {
             let receiver = meaning(context, receiver, reader)?;
-            call(context, *called, receiver, reader)
+            let args = given(context, parameters(system, *called), arguments, reader)?;
+            call(context, *called, receiver, args, reader)
         }
         TExpr::Cast(class, operand) => Ok(cast(system, *class, meaning(context, operand, reader)?)),
         TExpr::InstanceOf(class, e) => Ok(is_instance(

@@ -3,6 +3,7 @@
 #![tactic(auto)]
 
 mod accessors;
+mod binding;
 mod evaluation;
 mod operators;
 mod sites;

@@ -1,19 +1,20 @@
 // Equations that are evaluated: where they are found, and what they come to.
 ghost use Rattle.std.specs.Prelude.{◌≡◌, ◌<◌, Some, length, slice_get};
-ghost use Rattle.std.specs.Option.{option_map};
-ghost use Rattle.attr_rules.specs.Queries.{Query as Asked, query_of};
-ghost use Rattle.attr_rules.specs.Rules.{body_at};
-ghost use Rattle.equation_law.specs.Codes.{instance_of, reference_of};
+ghost use Rattle.attr_rules.specs.Queries.{Query as Asked};
+ghost use Rattle.attr_rules.specs.Rules.{Equation};
+ghost use Rattle.equation_law.specs.declared.coding.Instance.TheVariants.{Attr as attribute_at};
+ghost use Rattle.equation_law.specs.Codes.{IsCoded, IsRow, instance_of};
 ghost use Rattle.equation_law.specs.Equations.{equations_of, kind_in};
-ghost use Rattle.equation_law.specs.Names.{Attribute, NoArguments, Query};
+ghost use Rattle.equation_law.specs.Names.{Query};
 ghost use Rattle.equation_law.specs.Reading.{IsSound};
 ghost use Rattle.equation_law.specs.Systems.{program_of};
 ghost use Rattle.expr_eval.specs.Evaluating.{Evaluates};
 ghost use Rattle.expr_eval.specs.Sites.{IsTurned, TurnAs, query_reads, site_reads};
 
+use crate::binding::names_of;
 use crate::evaluation::{Context, Halt, attribute_kind, meaning};
 use attr_rules::{AttrId, Kind};
-use equation_law::{EqSite, Instance, NodeRef, Reader, System, Value};
+use equation_law::{Args, EqSite, Instance, NodeRef, Reader, System, Value};
 use inherited_walk::find_equation;
 use rag_io::Memory;
 use std::alloc::Global;
@@ -52,7 +53,7 @@ fn query_kind(system: &System, query: u32) -> Kind
 
 /// The type of an instance's values; of what is no instance of the system, `boolean`.
 pub fn kind_of(system: &System, i: &Instance) -> Kind
-    ensures { result ≡ kind_in (program_of system.now) (instance_of i.now) }
+    ensures { result ≡ kind_in (program_of system.now) (instance_of (program_of system.now) i.now) }
 {
     match i {
         Instance::Attr { attr, .. } => attribute_kind(system, *attr),
@@ -71,8 +72,34 @@ fn turned(came: Result<Value, Halt>) -> Result<Turn, Memory>
     }
 }
 
+/// The meaning of the equation of a site, read for an attribute of these parameters, under what a reader has at the end of the call, or the
+/// first demand that it has no value for.
+fn evaluate_for<R: Reader>(
+    alloc: Global,
+    system: &System,
+    attr: AttrId,
+    site: &EqSite,
+    reader: &mut R,
+) -> Result<Turn, Memory>
+    requires equation { site.now.equation.0 < length (program_of system.now).rules.equations }
+    requires inner { IsRow site.now.inner }
+    requires outer { IsRow site.now.outer }
+    requires sound { IsSound (program_of system.now) (R.tells reader.old) }
+    ensures { Evaluates (program_of system.now) (R.tells reader.old) (R.tells reader.new) (site_reads (program_of system.now) attr.0 site.now) result }
+{
+    let Ok(names) = names_of(alloc, system, attr, site) else {
+        return Err(Memory);
+    };
+    let context = Context {
+        alloc,
+        system,
+        this: site.node,
+        names: &names,
+    };
+    turned(meaning(&context, system.rules().body(site.equation), reader))
+}
+
 /// The meaning of the equation of a site under what a reader has at the end of the call, or the first demand that it has no value for.
-/// Only the reader takes memory.
 pub fn evaluate<R: Reader>(
     alloc: Global,
     system: &System,
@@ -80,21 +107,13 @@ pub fn evaluate<R: Reader>(
     reader: &mut R,
 ) -> Result<Turn, Memory>
     requires equation { site.now.equation.0 < length (program_of system.now).rules.equations }
+    requires inner { IsRow site.now.inner }
+    requires outer { IsRow site.now.outer }
     requires sound { IsSound (program_of system.now) (R.tells reader.old) }
-    ensures { Evaluates (program_of system.now) (R.tells reader.old) (R.tells reader.new) (site_reads (program_of system.now) site.now) result }
+    ensures { (q : Equation) → slice_get (program_of system.now).rules.equations site.now.equation.0 ≡ Some q → Evaluates (program_of system.now) (R.tells reader.old) (R.tells reader.new) (site_reads (program_of system.now) q.target.attribute.0 site.now) result }
 {
-    let bound = [Value::Int(site.index.unwrap_or(0))];
-    let names: &[Value] = match site.index {
-        Some(_) => &bound,
-        None => &[],
-    };
-    let context = Context {
-        alloc,
-        system,
-        this: site.node,
-        names,
-    };
-    turned(meaning(&context, system.rules().body(site.equation), reader))
+    let attr = system.rules().target(site.equation).attribute;
+    evaluate_for(alloc, system, attr, site, reader)
 }
 
 /// The meaning of a query's expression, which is read at the root, in the same way.
@@ -123,15 +142,17 @@ fn evaluate_attribute<R: Reader>(
     system: &System,
     attr: AttrId,
     node: NodeRef,
+    args: Args,
     reader: &mut R,
 ) -> Result<Turn, Memory>
-    requires { IsSound (program_of system.now) (R.tells reader.old) }
-    ensures { Evaluates (program_of system.now) (R.tells reader.old) (R.tells reader.new) ((equations_of (program_of system.now)).equation (Attribute attr.0 (reference_of node.0) NoArguments)) result }
+    requires sound { IsSound (program_of system.now) (R.tells reader.old) }
+    requires row { IsRow args }
+    ensures { Evaluates (program_of system.now) (R.tells reader.old) (R.tells reader.new) ((equations_of (program_of system.now)).equation (instance_of (program_of system.now) (attribute_at attr node args))) result }
 {
-    match find_equation(system, attr, node) {
+    match find_equation(system, attr, node, args) {
         None => Ok(Turn::Done(Value::Node(NodeRef(0)))),
         Some(site) => {
-            let turn = evaluate(alloc, system, &site, reader)?;
+            let turn = evaluate_for(alloc, system, attr, &site, reader)?;
             Ok(turn.read_as(attribute_kind(system, attr)))
         }
     }
@@ -162,11 +183,14 @@ pub fn evaluate_instance<R: Reader>(
     i: &Instance,
     reader: &mut R,
 ) -> Result<Turn, Memory>
-    requires { IsSound (program_of system.now) (R.tells reader.old) }
-    ensures { Evaluates (program_of system.now) (R.tells reader.old) (R.tells reader.new) ((equations_of (program_of system.now)).equation (instance_of i.now)) result }
+    requires sound { IsSound (program_of system.now) (R.tells reader.old) }
+    requires coded { IsCoded (program_of system.now) i.now }
+    ensures { Evaluates (program_of system.now) (R.tells reader.old) (R.tells reader.new) ((equations_of (program_of system.now)).equation (instance_of (program_of system.now) i.now)) result }
 {
     match i {
-        Instance::Attr { attr, node } => evaluate_attribute(alloc, system, *attr, *node, reader),
+        Instance::Attr { attr, node, args } => {
+            evaluate_attribute(alloc, system, *attr, *node, *args, reader)
+        }
         Instance::Query(query) => evaluate_asked(alloc, system, *query, reader),
     }
 }

@@ -1,13 +1,15 @@
 -- What the forms' parts that were evaluated give.
-use Rattle.std.proofs.Common.{◌≡◌, ◌<◌, ◌≤◌, ◌+◌, Bor, Ok, refl, rules, ap, arith, subst, sym, ◌∙◌}
+use Rattle.std.proofs.Common.{◌≡◌, ◌<◌, ◌+◌, Bor, Ok, refl, rules, ap, arith, subst, sym, ◌∙◌}
 use Rattle.attr_rules.specs.declared.expression.TExpr.{TExpr}
 use Rattle.attr_rules.specs.Expression.{expression_of}
 use Rattle.equation_law.specs.Systems.{program_of}
 use Rattle.equation_law.specs.Values.{Int}
-use Rattle.expr_eval.proofs.Forms.{said, boxed, thrown, leaf, cast_stops, cast_goes, instance_stops, instance_goes, over_stops, over_goes, grows_self, grows_then, child_stops, child_goes, element_stops, element_stops_at, element_goes, count_stops, count_goes, has_stops, has_goes, token_stops, token_goes, call_stops, call_goes, not_stops, not_goes, negate_stops, negate_goes, binary_stops, binary_stops_right, binary_goes, and_stops, and_ends, and_stops_right, and_goes, or_stops, or_ends, or_stops_right, or_goes, if_stops, if_then, if_otherwise}
+use Rattle.expr_eval.proofs.Forms.{said, boxed, thrown, leaf, cast_stops, cast_goes, instance_stops, instance_goes, over_stops, over_goes, grows_self, grows_then, child_stops, child_goes, element_stops, element_stops_at, element_goes, count_stops, count_goes, has_stops, has_goes, token_stops, token_goes, call_stops, call_stops_at, call_goes, not_stops, not_goes, negate_stops, negate_goes, binary_stops, binary_stops_right, binary_goes, and_stops, and_ends, and_stops_right, and_goes, or_stops, or_ends, or_stops_right, or_goes, if_stops, if_then, if_otherwise}
 use Rattle.expr_eval.specs.Elements.{ReadsAt, element_in, put, read_with}
 use Rattle.expr_eval.specs.Evaluating.{place_in}
 use Rattle.expr_eval.specs.Going.{Went, none, nowhere}
+use Rattle.attr_rules.specs.Types.{parameter_kinds}
+use Rattle.expr_eval.proofs.Given.{boxed_arguments, first_halts, for_parameters, none_given, one_given, one_more, rest_halts, room_behind, said_arguments, thrown_arguments}
 use Rattle.expr_eval.proofs.Over.{at_value, boxed_over, each_ended, each_further, each_stopped, first_ended, first_found, first_further, first_stopped, thrown_over}
 use Rattle.expr_eval.proofs.evaluation.+meaning.Goals as goal
 use Rattle.expr_eval.proofs.evaluation.+meaning.Goals.{operation-else-holds, operation-then-holds}
@@ -84,9 +86,39 @@ pub meaning-returns-in_err-receiver-in-Call : goal.meaning-returns-in_err-receiv
 meaning-returns-in_err-receiver-in-Call g t c =
     thrown c.from_residual-in_err-receiver-in-Call.ensures (said c.in-Call.is (call_stops (boxed c.deref-in-Call.ensures c.in_err-receiver-in-Call.ensures)))
 
-pub meaning-returns-in_ok-receiver-in-Call : goal.meaning-returns-in_ok-receiver-in-Call
-meaning-returns-in_ok-receiver-in-Call g t c =
-    said c.in-Call.is (call_goes (boxed c.deref-in-Call.ensures c.in_ok-receiver-in-Call.ensures) c.call.ensures)
+pub meaning-returns-in_err-args-in-Call : goal.meaning-returns-in_err-args-in-Call
+meaning-returns-in_err-args-in-Call g t c =
+    thrown c.from_residual-in_err-args-in-Call.ensures (said c.in-Call.is (call_stops_at (boxed c.deref-in-Call.ensures c.in_ok-receiver-in-Call.ensures) c.in_err-args-in-Call.ensures))
+
+pub meaning-returns-in_ok-args-in-Call : goal.meaning-returns-in_ok-args-in-Call
+meaning-returns-in_ok-args-in-Call g t c =
+    said c.in-Call.is (call_goes (boxed c.deref-in-Call.ensures c.in_ok-receiver-in-Call.ensures) (for_parameters c.parameters.ensures c.in_ok-args-in-Call.ensures) c.call.ensures)
+
+pub given-returns-in_err-value-in-More : goal.given-returns-in_err-value-in-More
+given-returns-in_err-value-in-More g t c = thrown_arguments c.from_residual.ensures (said_arguments c.in-More.is (first_halts (boxed c.deref.ensures c.in_err-value-in-More.ensures)))
+
+pub given-returns-in_err-behind-in-More : goal.given-returns-in_err-behind-in-More
+given-returns-in_err-behind-in-More g t c =
+    thrown_arguments c.from_residual-in_err-behind-in-More.ensures
+    (said_arguments c.in-More.is (rest_halts (boxed c.deref.ensures c.in_ok-value-in-More.ensures) (boxed_arguments c.deref-in-More.ensures c.in_err-behind-in-More.ensures)))
+
+pub given-behind-requires-clause-few : goal.given-behind-requires-clause-few
+given-behind-requires-clause-few g t c =
+    room_behind (program_of c.args.context.now.system.now) c.args.parameters c.in_ok-behind-in-More.behind c.in-Some.ensures c.rest.ensures c.in_ok-behind-in-More.ensures.is.row c.in_ok-behind-in-More.ensures.is.codes
+
+pub given-returns-in-End : goal.given-returns-in-End
+given-returns-in-End g t c = said_arguments c.in-End.is (none_given c.none.result c.requires c.none.ensures.row c.none.ensures.codes)
+
+pub given-returns-in-Some : goal.given-returns-in-Some
+given-returns-in-Some g t c =
+    said_arguments c.in-More.is
+    (one_given (parameter_kinds c.args.parameters) c.behind.result c.in-Some.ensures c.rest.ensures (boxed c.deref.ensures c.in_ok-value-in-More.ensures) (boxed_arguments c.deref-in-More.ensures c.in_ok-behind-in-More.ensures) c.argument_code.ensures.code
+    c.argument_code.ensures.value c.behind.ensures.row c.behind.ensures.codes)
+
+pub given-returns-in-None : goal.given-returns-in-None
+given-returns-in-None g t c =
+    said_arguments c.in-More.is
+    (one_more (parameter_kinds c.args.parameters) c.none-in-None.result c.in-None.ensures (boxed c.deref.ensures c.in_ok-value-in-More.ensures) (boxed_arguments c.deref-in-More.ensures c.in_ok-behind-in-More.ensures) c.none-in-None.ensures.row c.none-in-None.ensures.codes)
 
 pub operation-returns-in_err-meaning-in-Not : goal.operation-returns-in_err-meaning-in-Not
 operation-returns-in_err-meaning-in-Not g t c =

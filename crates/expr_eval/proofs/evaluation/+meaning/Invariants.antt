@@ -1,5 +1,6 @@
 -- The calls go down the expression; how far a form over a list has gone.
-use Rattle.std.proofs.Common.{ℕ, ◌+◌, ◌*◌, ◌≤◌}
+use Rattle.std.proofs.Common.{◌+◌, ◌*◌, ◌≤◌}
+use Rattle.attr_rules.proofs.expression.TArgs.TheLaws.{the_size as arguments_size}
 use Rattle.attr_rules.proofs.expression.TExpr.TheLaws.{the_size}
 use Rattle.attr_rules.specs.Expression.{expression_of}
 use Rattle.equation_law.specs.Reading.{Grows}
@@ -11,6 +12,9 @@ use Rattle.expr_eval.proofs.evaluation.+meaning.Given as goal
 
 abbrev pub decreases-meaning : goal.decreases-meaning
 decreases-meaning g a = 5 * the_size a.expression.now + 3
+
+abbrev pub decreases-given : goal.decreases-given
+decreases-given g a = 5 * arguments_size a.arguments.now + 3
 
 abbrev pub decreases-operation : goal.decreases-operation
 decreases-operation g a = 5 * the_size a.expression.now + 2
