@@ -29,11 +29,10 @@ fresh_values (suc n) p = open_value p 0 0 (replicate n 0) (replicate n 0) (omega
 pub fresh_view : (f : Frame) (n : ℕ) → knows_all f (replicate n 0) (replicate n 0) ≡ first_view f
 fresh_view f n = λ i. record { frame = Some f; share = 2 ^ 62; keys = fresh_keys n 0 i; values = fresh_values n 0 i; claims = fresh_places n 0 i }
 
-pub fresh_ordered : (formed : ℕ → Type 0) (codes leads : ℕ → ℕ → Type 0) (n m : ℕ) → AreOrdered formed codes leads n (word_at (replicate m 0)) (word_at (replicate m 0))
-fresh_ordered formed codes leads n m = record {
+pub fresh_ordered : (formed : ℕ → Type 0) (settled : ℕ → ℕ → Type 0) (n m : ℕ) → AreOrdered formed settled n (word_at (replicate m 0)) (word_at (replicate m 0))
+fresh_ordered formed settled n m = record {
   formed_keys = λ p l nz. absurd (nz (all_zero m p));
   once = λ p q l k nz e. absurd (nz (all_zero m p));
   reached = λ p q l nz b. absurd (nz (all_zero m p));
   coded = λ p l nz. absurd (nz (all_zero m p));
-  closed = λ p l nz j h. absurd (nz (all_zero m p));
 }

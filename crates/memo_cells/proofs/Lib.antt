@@ -3,6 +3,7 @@ pub mod Counting
 pub mod Facts
 pub mod Fresh
 pub mod More
-pub mod OneKey
+pub mod Naming
 pub mod Ordered
 pub mod Places
+pub mod Ways

@@ -16,22 +16,24 @@ one_before n s p q lp lq ne =
     (λ b. inl (lq, (λ c. absurd (a c)), (λ l m. absurd (omega arith))))
     (λ b. dite (dec_lt q p) (λ h. inl (lq, (λ c. absurd (a c)), (λ l m. h))) (λ h. inr (lp, (λ c. absurd (b c)), (λ l m. omega arith)))))
 
-module _ (formed : ℕ → Type 0) (codes leads : ℕ → ℕ → Type 0) (n : ℕ) where
+module _ (n : ℕ) where
   -- a key that stands at no place before p on its way, where p is free, stands nowhere
-  pub stands_nowhere : (K W : ℕ → ℕ) (p k : ℕ) → AreOrdered formed codes leads n K W → p < n → K p ≡ 0 → k ≢ 0 → ((q : ℕ) → Before n (start n k) p q → K q ≢ k) → (q : ℕ) → q < n → K q ≢ k
-  stands_nowhere K W p k o lt free nz passed q lq e =
+  pub stands_nowhere : (formed : ℕ → Type 0) (settled : ℕ → ℕ → Type 0) (K W : ℕ → ℕ) (p k : ℕ) → AreOrdered formed settled n K W → p < n → K p ≡ 0 → k ≢ 0 → ((q : ℕ) → Before n (start n k) p q → K q ≢ k) → (q : ℕ) → q < n → K q ≢ k
+  stands_nowhere formed settled K W p k o lt free nz passed q lq e =
       let apart : p ≢ q = λ s. nz (sym e ∙ (ap K (sym s) ∙ free)) in
       ⊎_elim (λ b. passed q b e) (λ b. o.reached q p lq (λ z. nz (sym e ∙ z)) (subst (λ z. Before n (start n z) q p) (sym e) b) free) (one_before n (start n k) p q lt lq apart)
 
+-- what is formed, and settled, before a step, is so after it
+module _ (n : ℕ) (formed formed' : ℕ → Type 0) (settled settled' : ℕ → ℕ → Type 0) (form : (k : ℕ) → formed k → formed' k) (settle : (k c : ℕ) → settled k c → settled' k c) where
   -- the key k is claimed at the free place p
-  pub ordered_claim : (K W K' W' : ℕ → ℕ) (p k : ℕ) → AreOrdered formed codes leads n K W → p < n → K p ≡ 0 → k ≢ 0 → formed k → ((q : ℕ) → Before n (start n k) p q → (K q ≢ 0) × (K q ≢ k)) → K' p ≡ k
-      → ((q : ℕ) → q ≢ p → K' q ≡ K q) → ((q : ℕ) → W' q ≡ W q) → AreOrdered formed codes leads n K' W'
+  pub ordered_claim : (K W K' W' : ℕ → ℕ) (p k : ℕ) → AreOrdered formed settled n K W → p < n → K p ≡ 0 → k ≢ 0 → formed' k → ((q : ℕ) → Before n (start n k) p q → (K q ≢ 0) × (K q ≢ k)) → K' p ≡ k
+      → ((q : ℕ) → q ≢ p → K' q ≡ K q) → ((q : ℕ) → W' q ≡ W q) → AreOrdered formed' settled' n K' W'
   ordered_claim K W K' W' p k o lt free nz is passed here else beside =
-      let fresh : (q : ℕ) → q < n → K q ≢ k = stands_nowhere K W p k o lt free nz (λ q b. (passed q b).1) in
+      let fresh : (q : ℕ) → q < n → K q ≢ k = stands_nowhere n formed settled K W p k o lt free nz (λ q b. (passed q b).1) in
       let stays : (q : ℕ) → K q ≢ 0 → K' q ≡ K q = λ q h. else q (λ e. h (ap K e ∙ free)) in
       record {
         formed_keys = λ q lq h.
-            dite (ℕ_discrete q p) (λ e. subst formed (sym (ap K' e ∙ here)) is) (λ ne. subst formed (sym (else q ne)) (o.formed_keys q lq (λ z. h (else q ne ∙ z))));
+            dite (ℕ_discrete q p) (λ e. subst formed' (sym (ap K' e ∙ here)) is) (λ ne. subst formed' (sym (else q ne)) (form (K q) (o.formed_keys q lq (λ z. h (else q ne ∙ z)))));
         once = λ i j li lj h e.
             dite (ℕ_discrete i p)
             (λ a. dite (ℕ_discrete j p) (λ b. a ∙ sym b) (λ b. absurd (fresh j lj (sym (else j b) ∙ (sym e ∙ (ap K' a ∙ here))))))
@@ -51,39 +53,25 @@ module _ (formed : ℕ → Type 0) (codes leads : ℕ → ℕ → Type 0) (n : �
         coded = λ q lq h.
             let old = o.coded q lq (λ z. h (beside q ∙ z)) in
             let same = stays q old.0 in
-            ((λ z. old.0 (sym same ∙ z)), (old.1.0, beside q ∙ old.1.1, subst (λ z. codes z old.1.0) (sym same) old.1.2));
-        closed = λ q lq h j l.
-            let was : W q ≢ 0 = λ z. h (beside q ∙ z) in
-            let same = stays q (o.coded q lq was).0 in
-            let r = o.closed q lq was j (subst (λ z. leads z j) same l) in
-            let there = stays r.0 (o.coded r.0 r.1 r.3).0 in
-            (r.0, r.1, there ∙ r.2, (λ z. r.3 (sym (beside r.0) ∙ z)));
+            ((λ z. old.0 (sym same ∙ z)), (old.1.0, beside q ∙ old.1.1, subst (λ z. settled' z old.1.0) (sym same) (settle (K q) old.1.0 old.1.2)));
       }
 
   -- the value word of the key at p becomes that of the code c, and no other word changes
-  pub ordered_value : (K W K' W' : ℕ → ℕ) (p c : ℕ) → AreOrdered formed codes leads n K W → p < n → K p ≢ 0 → codes (K p) c → ((j : ℕ) → leads (K p) j → (q : ℕ) × (q < n) × (K q ≡ j) × (W q ≢ 0)) → W' p ≡ c + 2 ^ 63
-      → ((q : ℕ) → q ≢ p → W' q ≡ W q) → ((q : ℕ) → K' q ≡ K q) → AreOrdered formed codes leads n K' W'
-  ordered_value K W K' W' p c o lt nz is settled here aside beside =
-      let full : W' p ≢ 0 = λ z. (let e : c + 2 ^ 63 ≡ 0 = sym here ∙ z in absurd (omega arith)) in
-      let later : (q : ℕ) → W q ≢ 0 → W' q ≢ 0 = λ q h. dite (ℕ_discrete q p) (λ e z. full (ap W' (sym e) ∙ z)) (λ ne z. h (sym (aside q ne) ∙ z)) in
+  pub ordered_value : (K W K' W' : ℕ → ℕ) (p c : ℕ) → AreOrdered formed settled n K W → p < n → K p ≢ 0 → settled' (K p) c → W' p ≡ c + 2 ^ 63
+      → ((q : ℕ) → q ≢ p → W' q ≡ W q) → ((q : ℕ) → K' q ≡ K q) → AreOrdered formed' settled' n K' W'
+  ordered_value K W K' W' p c o lt nz is here aside beside =
       record {
-        formed_keys = λ q lq h. subst formed (sym (beside q)) (o.formed_keys q lq (λ z. h (beside q ∙ z)));
+        formed_keys = λ q lq h. subst formed' (sym (beside q)) (form (K q) (o.formed_keys q lq (λ z. h (beside q ∙ z))));
         once = λ i j li lj h e. o.once i j li lj (λ z. h (beside i ∙ z)) (sym (beside i) ∙ (e ∙ beside j));
         reached = λ i q li h b z. o.reached i q li (λ y. h (beside i ∙ y)) (subst (λ y. Before n (start n y) i q) (beside i) b) (sym (beside q) ∙ z);
         coded = λ q lq h.
             dite (ℕ_discrete q p)
             (λ e.
             let at : K p ≡ K' q = sym (ap K e) ∙ sym (beside q) in
-            ((λ z. nz (at ∙ z)), (c, ap W' e ∙ here, subst (λ z. codes z c) at is))
+            ((λ z. nz (at ∙ z)), (c, ap W' e ∙ here, subst (λ z. settled' z c) at is))
             )
             (λ ne.
             let old = o.coded q lq (λ z. h (aside q ne ∙ z)) in
-            ((λ z. old.0 (sym (beside q) ∙ z)), (old.1.0, aside q ne ∙ old.1.1, subst (λ z. codes z old.1.0) (sym (beside q)) old.1.2))
+            ((λ z. old.0 (sym (beside q) ∙ z)), (old.1.0, aside q ne ∙ old.1.1, subst (λ z. settled' z old.1.0) (sym (beside q)) (settle (K q) old.1.0 old.1.2)))
             );
-        closed = λ q lq h j l.
-            let r : (t : ℕ) × (t < n) × (K t ≡ j) × (W t ≢ 0) = dite (ℕ_discrete q p)
-            (λ e. settled j (subst (λ z. leads z j) (beside q ∙ ap K e) l))
-            (λ ne. o.closed q lq (λ z. h (aside q ne ∙ z)) j (subst (λ z. leads z j) (beside q) l))
-            in
-            (r.0, r.1, beside r.0 ∙ r.2, later r.0 r.3);
       }

@@ -1,4 +1,5 @@
 pub mod Keys
+pub mod Naming
 pub mod Standing
 pub mod Steps
 pub mod Views

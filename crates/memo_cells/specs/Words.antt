@@ -6,14 +6,11 @@ use Rattle.memo_cells.specs.Keys.{start}
 abbrev pub Before : ℕ → ℕ → ℕ → ℕ → Type 0
 Before n s p q = (q < n) × (s ≤ p → (s ≤ q) × (q < p)) × (p < s → q < s → q < p)
 
--- The n key words and n value words, by their places. A key word may be formed or not, a value of a key has codes, and a key leads to
--- those that its instance demands.
-pub record AreOrdered (formed : ℕ → Type 0) (codes leads : ℕ → ℕ → Type 0) (n : ℕ) (K W : ℕ → ℕ) : Type 0 where
+-- The n key words and n value words, by their places. A key word may be formed or not, and a key may be settled with a code.
+pub record AreOrdered (formed : ℕ → Type 0) (settled : ℕ → ℕ → Type 0) (n : ℕ) (K W : ℕ → ℕ) : Type 0 where
   -- each key is formed, stands once, and no place is free on the way to it
   pub formed_keys : (p : ℕ) → p < n → K p ≢ 0 → formed (K p)
   pub once : (p q : ℕ) → p < n → q < n → K p ≢ 0 → K p ≡ K q → p ≡ q
   pub reached : (p q : ℕ) → p < n → K p ≢ 0 → Before n (start n (K p)) p q → K q ≢ 0
-  -- a value word is 0, or settled with a code of its key's value
-  pub coded : (p : ℕ) → p < n → W p ≢ 0 → (K p ≢ 0) × ((c : ℕ) × (W p ≡ c + 2 ^ 63) × codes (K p) c)
-  -- all that a settled one leads to is settled
-  pub closed : (p : ℕ) → p < n → W p ≢ 0 → (j : ℕ) → leads (K p) j → (q : ℕ) × (q < n) × (K q ≡ j) × (W q ≢ 0)
+  -- a value word is 0, or the mark of what is settled with a code
+  pub coded : (p : ℕ) → p < n → W p ≢ 0 → (K p ≢ 0) × ((c : ℕ) × (W p ≡ c + 2 ^ 63) × settled (K p) c)

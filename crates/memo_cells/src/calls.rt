@@ -1,8 +1,9 @@
 // What callers do with the cells.
 ghost use Rattle.std.specs.Prelude.{◌≡◌, ◌<◌, ◌≤◌, ℕ, IfOk, IfSome, IfNone, OnErr, replicate};
 ghost use Rattle.equation_law.specs.Systems.{program_of};
-ghost use Rattle.memo_cells.specs.Keys.{key_word};
-ghost use Rattle.memo_cells.specs.Standing.{AreNew, IsFormed, IsPassOf, MaySettle};
+ghost use Rattle.memo_cells.specs.Keys.{Fits, key_word};
+ghost use Rattle.memo_cells.specs.Naming.{IsFormed};
+ghost use Rattle.memo_cells.specs.Standing.{AreNew, IsPassOf, MaySettle};
 ghost use Rattle.memo_cells.specs.Views.{ClaimsOnly, Has, IsAtLeast, IsFull, IsNowhere, IsSlot, IsUnset, settled_below};
 
 use crate::cells::{Cells, Pass};
@@ -55,7 +56,8 @@ impl Cells {
     /// The one slot of a key of the system, claimed where it wasn't. It refuses only where other keys have all the cells.
     pub fn claim(&self, pass: &mut Pass, key: Key) -> Result<Slot, CellsFull>
         requires own { IsPassOf self.now pass.old }
-        requires key { IsFormed (program_of self.now.system.value) (key_word key) }
+        requires slot { Fits key }
+        requires key { IsFormed (program_of self.now.system.value) pass.old (key_word key) }
         ensures own { IsPassOf self.now pass.new }
         ensures kept { IsAtLeast pass.old pass.new }
         ensures slot { IfOk result (λ s. IsSlot self.now pass.new s.0 (key_word key)) }
@@ -76,6 +78,7 @@ impl Cells {
     /// The one slot of a key, or None exactly where it isn't claimed. It claims nothing.
     pub fn seek(&self, pass: &mut Pass, key: Key) -> Option<Slot>
         requires own { IsPassOf self.now pass.old }
+        requires slot { Fits key }
         ensures own { IsPassOf self.now pass.new }
         ensures kept { IsAtLeast pass.old pass.new }
         ensures slot { IfSome result (λ s. IsSlot self.now pass.new s.0 (key_word key)) }

@@ -42,7 +42,8 @@ impl Model for Pass {
     ghost use Rattle.attr_rules.specs.contracts.expression.TExpr as expressions;
     ghost use Rattle.equation_law.specs.Systems.{program_of};
     ghost use Rattle.memo_cells.specs.declared.view.View.{View};
-    ghost use Rattle.memo_cells.specs.Standing.{Codes, IsFormed, Leads};
+    ghost use Rattle.memo_cells.specs.Naming.{IsFormed};
+    ghost use Rattle.memo_cells.specs.Standing.{IsSettled};
     ghost use Rattle.memo_cells.specs.Views.{knows_all, word_at};
     ghost use Rattle.memo_cells.specs.Words.{AreOrdered};
 
@@ -52,5 +53,5 @@ impl Model for Pass {
 
     ghost view = { λ p. knows_all (record { system = p.system; cells = p.size }) p.keys.items p.values.items };
 
-    ghost invariant = { λ p. (0 < p.size) × (length p.keys.items ≡ p.size) × (length p.values.items ≡ p.size) × AreOrdered (IsFormed (program_of p.system.value)) (Codes (program_of p.system.value)) (Leads (program_of p.system.value)) p.size (word_at p.keys.items) (word_at p.values.items) };
+    ghost invariant = { λ p. (0 < p.size) × (length p.keys.items ≡ p.size) × (length p.values.items ≡ p.size) × (let v = knows_all (record { system = p.system; cells = p.size }) p.keys.items p.values.items in AreOrdered (IsFormed (program_of p.system.value) v) (IsSettled (program_of p.system.value) v) p.size (word_at p.keys.items) (word_at p.values.items)) };
 }

@@ -3,6 +3,7 @@
 
 mod calls;
 mod cells;
+mod instances;
 mod keys;
 mod probe;
 mod steps;

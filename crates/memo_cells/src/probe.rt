@@ -1,7 +1,8 @@
 // The search for a key: place by place from where its hash leads, round the table.
 ghost use Rattle.std.specs.Prelude.{◌≡◌, ◌≢◌, ◌<◌, ◌≤◌, ◌⊎◌, ℕ, MatchOption};
 ghost use Rattle.equation_law.specs.Systems.{program_of};
-ghost use Rattle.memo_cells.specs.Standing.{IsFormed, IsPassOf};
+ghost use Rattle.memo_cells.specs.Naming.{IsFormed};
+ghost use Rattle.memo_cells.specs.Standing.{IsPassOf};
 ghost use Rattle.memo_cells.specs.Steps.{IsSearched};
 ghost use Rattle.memo_cells.specs.Views.{ClaimsOnly, Has, IsAtLeast, IsLedTo, IsOtherIn, IsPassed, IsSlot, is_settled_at};
 
@@ -23,7 +24,7 @@ impl Cells {
     /// The key word that stands at a place for good: the key itself where none stood there.
     fn hold(&self, pass: &mut Pass, place: u32, key: u64) -> u64
         requires own { IsPassOf self.now pass.old }
-        requires key { (key ≢ 0) × IsFormed (program_of self.now.system.value) key }
+        requires key { (key ≢ 0) × IsFormed (program_of self.now.system.value) pass.old key }
         requires place { place < self.now.cells }
         requires passed { IsPassed self.now pass.old key place }
         ensures own { IsPassOf self.now pass.new }
@@ -45,7 +46,7 @@ impl Cells {
     /// Looks from one place on, up to another, and claims the first free place; None where other keys have all of them.
     pub(crate) fn probe_claim(&self, pass: &mut Pass, key: u64, from: u32, to: u32) -> Option<u32>
         requires own { IsPassOf self.now pass.old }
-        requires key { (key ≢ 0) × IsFormed (program_of self.now.system.value) key }
+        requires key { (key ≢ 0) × IsFormed (program_of self.now.system.value) pass.old key }
         requires range { (from ≤ to) × (to ≤ self.now.cells) }
         requires led { IsLedTo self.now pass.old key from to }
         ensures own { IsPassOf self.now pass.new }

@@ -1,7 +1,8 @@
 // The single steps on the words: each reads or writes one.
 ghost use Rattle.std.specs.Prelude.{◌≢◌, ◌<◌};
 ghost use Rattle.equation_law.specs.Systems.{program_of};
-ghost use Rattle.memo_cells.specs.Standing.{IsFormed, IsPassOf, MaySettle};
+ghost use Rattle.memo_cells.specs.Naming.{IsFormed};
+ghost use Rattle.memo_cells.specs.Standing.{IsPassOf, MaySettle};
 ghost use Rattle.memo_cells.specs.Steps.{KeySeen, KeyTried, ValueSeen, ValueTried};
 ghost use Rattle.memo_cells.specs.Views.{IsAtLeast, IsPassed};
 
@@ -23,7 +24,7 @@ impl Cells {
     pub(crate) fn try_key(&self, pass: &mut Pass, place: u32, key: u64) -> u64
         requires own { IsPassOf self.now pass.old }
         requires place { place < self.now.cells }
-        requires key { (key ≢ 0) × IsFormed (program_of self.now.system.value) key }
+        requires key { (key ≢ 0) × IsFormed (program_of self.now.system.value) pass.old key }
         requires passed { IsPassed self.now pass.old key place }
         ensures own { IsPassOf self.now pass.new }
         ensures kept { IsAtLeast pass.old pass.new }

@@ -4,9 +4,10 @@ ghost use Rattle.tree_arena.specs.Kept.{node_of};
 ghost use Rattle.tree_arena.specs.Terms.{IsTree};
 
 use super::*;
+use crate::keys::is_attribute;
 use ast_grammar::{ClassId, Grammar, read_ast};
 use attr_rules::{AttrId, Attributes, Dispatch, Kind, QueryEq, Rules, TExpr};
-use equation_law::{Code, Instance, NodeRef, Queries, System};
+use equation_law::{Code, NodeRef, Queries, System};
 use rag_io::{Memory, Pool, scan};
 use std::alloc::Global;
 use std::test::Fail;
@@ -72,41 +73,47 @@ fn system(alloc: Global) -> Result<System, Fail> {
 }
 
 #[test]
-fn keys_are_of_instances(rt: HostRuntime) {
-    let attr = AttrId(3);
-    let node = NodeRef(5);
-    let keys = [
-        (Instance::Attr { attr, node }, Key::Inst { attr, node }),
-        (Instance::Query(0), Key::Query(0)),
-        (Instance::Query(u32::MAX), Key::Query(u32::MAX)),
+fn key_words_have_kinds(rt: HostRuntime) {
+    let attr = AttrId(0);
+    let node = NodeRef(1);
+    assert_eq!(rt; Key::Inst { attr, node }.word(), 2305843009213693953);
+    let slot = Slot(5);
+    assert_eq!(rt; Key::Arg { slot, code: 7 }.word(), 4611686039902224391);
+    assert_eq!(rt; Key::Query(3).word(), 9223372036854775811);
+}
+
+#[test]
+fn cells_of_attributes_have_two_kinds(rt: HostRuntime) {
+    let words = [
+        (2305843009213693953, true),
+        (4611686039902224391, true),
+        (6917529027641081856, false),
+        (9223372036854775811, false),
     ];
-    for (instance, key) in keys {
-        assert_eq!(rt; Key::of(instance), key, "{instance:?}");
+    for (word, attribute) in words {
+        assert_eq!(rt; is_attribute(word), attribute, "{word}");
     }
 }
 
-// Keys of instances that a system has or hasn't.
-const KEYS: [Key; 4] = [
-    Key::Inst {
-        attr: AttrId(0),
-        node: NodeRef(1),
-    },
-    Key::Inst {
-        attr: AttrId(65535),
-        node: NodeRef(4294967295),
-    },
-    Key::Query(0),
-    Key::Query(4294967295),
+// Attributes at nodes that a system has or hasn't.
+const ATTRIBUTES: [(AttrId, NodeRef); 2] = [
+    (AttrId(0), NodeRef(1)),
+    (AttrId(65535), NodeRef(4294967295)),
 ];
 
-// How many of some keys are claimed.
-fn count_claimed(cells: &Cells, pass: &mut Pass, keys: &[Key]) -> u32
+// How many of them are claimed, with an argument or without.
+fn count_claimed(cells: &Cells, pass: &mut Pass) -> u32
     requires { IsPassOf cells.now pass.old }
     ensures { IsPassOf cells.now pass.new }
 {
     let mut count: u32 = 0;
-    for key in keys {
-        if cells.seek(pass, *key).is_some() {
+    for (attr, node) in ATTRIBUTES {
+        if cells.seek(pass, Key::Inst { attr, node }).is_some() {
+            count = count.wrapping_add(1);
+        }
+        let slot = Slot(1023);
+        let code = node.0;
+        if cells.seek(pass, Key::Arg { slot, code }).is_some() {
             count = count.wrapping_add(1);
         }
     }
@@ -120,7 +127,7 @@ fn make(alloc: Global, system: &System, count: u32) -> Result<(u32, u32, u32), F
     }
     let (cells, mut pass) = Cells::new(alloc, system, count)?;
     let settled = cells.settled_count(&mut pass);
-    let claimed = count_claimed(&cells, &mut pass, &KEYS);
+    let claimed = count_claimed(&cells, &mut pass);
     Ok((cells.size(), settled, claimed))
 }
 

@@ -1,8 +1,7 @@
-use Rattle.std.proofs.Common.{ℕ, ◌<◌, length, arith, refl, sym, subst}
+use Rattle.std.proofs.Common.{ℕ, ◌<◌, [], length, arith, refl, sym, subst}
 use Rattle.std.proofs.lemmas.Option.{slice_get-get_or}
 use Rattle.attr_rules.specs.declared.kinds.Kind.TheVariants as kinds
 use Rattle.attr_rules.specs.Expression.{This}
-use Rattle.equation_law.specs.declared.coding.Instance.TheVariants as coded
 use Rattle.equation_law.specs.declared.system.System.{System}
 use Rattle.equation_law.specs.Checked.{IsInstance, of_query}
 use Rattle.equation_law.specs.Names.{Query}
@@ -19,6 +18,6 @@ claim-requires-clause-key c =
     let there : c.args.query < length (program_of c.args.cells.now.system.value).queries = subst (λ (s : System). c.args.query < length (program_of s).queries) (sym c.requires.system) (omega (arith, c.if-query-replies.false, c.replies.ensures.number)) in
     record {
       of = Query c.args.query;
-      stands = record { named = coded.Query c.args.query; is = refl; fits = omega (arith, c.ranges.query.fits); word = refl };
       instance = query_there (program_of c.args.cells.now.system.value) c.args.query there;
+      key = record { prefix = Query c.args.query; of = ([], refl); stands = (omega (arith, c.ranges.query.fits), refl) };
     }

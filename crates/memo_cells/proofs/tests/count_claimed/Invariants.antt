@@ -2,5 +2,5 @@
 use Rattle.memo_cells.specs.Standing.{IsPassOf}
 use Rattle.memo_cells.proofs.tests.count_claimed.Given as goal
 
-abbrev pub invariant-loop-key : goal.invariant-loop-key
-invariant-loop-key l = IsPassOf l.cells l.pass
+abbrev pub invariant-loop-attr : goal.invariant-loop-attr
+invariant-loop-attr l = IsPassOf l.cells l.pass

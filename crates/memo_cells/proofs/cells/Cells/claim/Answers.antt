@@ -1,9 +1,19 @@
-use Rattle.std.proofs.Common.{ℕ, rules, lt_of_not-le, subst}
+use Rattle.std.proofs.Common.{ℕ, rules, lt_of_not-le, subst, sym}
+use Rattle.equation_law.specs.Systems.{program_of}
+use Rattle.memo_cells.specs.Naming.{IsFormed}
 use mathlib.Core.Logic.{dite}
 use native.Mathlib.Decide.{dec_le}
 use Rattle.memo_cells.specs.Views.{IsOther}
 use Rattle.memo_cells.proofs.More.{at_least_then, other_later}
+use Rattle.memo_cells.proofs.Naming.{formed_later}
 use Rattle.memo_cells.proofs.cells.Cells.claim.Goals as goal
+
+pub probe_claim-requires-2-clause-key : goal.probe_claim-requires-2-clause-key
+probe_claim-requires-2-clause-key c =
+    let program = program_of c.args.self.now.system.value in (
+      c.word-word.ensures.claimed,
+      formed_later c.args.pass.now c.probe_claim.new.pass c.probe_claim.ensures.kept program c.word-word.result (subst (λ (k : ℕ). IsFormed program c.args.pass.now k) (sym c.word-word.ensures.word) c.requires.key),
+    )
 
 pub returns-in-Some-probe_claim-clause-kept : goal.returns-in-Some-probe_claim-clause-kept
 returns-in-Some-probe_claim-clause-kept c = at_least_then c.probe_claim.ensures.kept c.probe_claim-2.ensures.kept

@@ -1,7 +1,12 @@
 use Rattle.std.proofs.Common.{ℕ, inl, inr, ⊎_elim, ap, subst, sym, ◌∙◌}
+use Rattle.equation_law.specs.Systems.{program_of}
 use Rattle.memo_cells.specs.Views.{Has, times}
 use Rattle.memo_cells.proofs.More.{at_least_then, claims_none, other_later}
+use Rattle.memo_cells.proofs.Naming.{formed_later}
 use Rattle.memo_cells.proofs.cells.Cells.hold.Goals as goal
+
+pub try_key-found-requires-clause-key : goal.try_key-found-requires-clause-key
+try_key-found-requires-clause-key c = (c.requires.key.0, formed_later c.args.pass.now c.look_key-seen.new.pass c.look_key-seen.ensures.kept (program_of c.args.self.now.system.value) c.args.key c.requires.key.1)
 
 pub try_key-found-requires-clause-passed : goal.try_key-found-requires-clause-passed
 try_key-found-requires-clause-passed c = λ q b. other_later c.args.pass.now c.look_key-seen.new.pass c.args.key q c.look_key-seen.ensures.kept (c.requires.passed q b)

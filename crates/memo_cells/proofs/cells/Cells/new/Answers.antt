@@ -17,4 +17,4 @@ returns c =
     ap (λ (s : Snapshot System). knows_all (record { system = s; cells = c.args.cells }) c.in_ok-keys.keys.items c.in_ok-values.values.items) one ∙ ap (λ (ks : List ℕ). knows_all f ks c.in_ok-values.values.items) c.in_ok-keys.ensures
     ∙ ap (λ (vs : List ℕ). knows_all f (replicate c.args.cells 0) vs) c.in_ok-values.ensures ∙ fresh_view f c.args.cells
     in
-    record { system = c.of.ensures; cells = refl; first = first; own = subst (λ (v : View). IsPassOf f v) (sym first) (first_own f) }
+    record { system = c.of.ensures; cells = refl; first = first; own = subst (λ (v : View). IsPassOf f v) (sym first) (first_own f c.requires.1) }

@@ -1,6 +1,11 @@
 use Rattle.std.proofs.Common.{rules}
+use Rattle.equation_law.specs.Systems.{program_of}
 use Rattle.memo_cells.proofs.More.{at_least_then, claims_then, others_more, passed_on}
+use Rattle.memo_cells.proofs.Naming.{formed_later}
 use Rattle.memo_cells.proofs.cells.Cells.probe_claim.Goals as goal
+
+pub hold-requires-clause-key : goal.hold-requires-clause-key
+hold-requires-clause-key c = (c.requires.key.0, formed_later c.args.pass.now c.loop-place.pass c.loop-place.invariant.1 (program_of c.args.self.now.system.value) c.args.key c.requires.key.1)
 
 pub hold-requires-clause-passed : goal.hold-requires-clause-passed
 hold-requires-clause-passed c =

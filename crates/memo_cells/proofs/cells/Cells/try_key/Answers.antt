@@ -11,7 +11,7 @@ invariant_of-pass c = (
 )
 
 pub returns-then-found-eq0-clause-own : goal.returns-then-found-eq0-clause-own
-returns-then-found-eq0-clause-own c = claimed_own (record { system = c.pass.inside.system; cells = c.pass.inside.size }) c.pass.inside.keys.items c.pass.inside.values.items c.args.pass.now c.pass.view_is c.pass.invariant.1 c.pass.invariant.2 c.pass.invariant.3 c.args.self.now c.requires.own.frame c.args.place c.requires.place c.args.key c.index-found.result.now c.index-found.ensures c.if-found-eq0.true c.requires.key.0 c.requires.key.1 c.requires.passed
+returns-then-found-eq0-clause-own c = claimed_own (record { system = c.pass.inside.system; cells = c.pass.inside.size }) c.pass.inside.keys.items c.pass.inside.values.items c.args.pass.now c.pass.view_is c.pass.invariant.1 c.pass.invariant.2 c.pass.invariant.3 c.args.self.now c.requires.own.frame c.args.place c.requires.place c.args.key c.index-found.result.now c.index-found.ensures c.if-found-eq0.true c.requires.key.0 c.requires.key.1 c.requires.passed c.requires.own.few
 
 pub returns-then-found-eq0-clause-kept : goal.returns-then-found-eq0-clause-kept
 returns-then-found-eq0-clause-kept c = claimed_more (record { system = c.pass.inside.system; cells = c.pass.inside.size }) c.pass.inside.keys.items c.pass.inside.values.items c.args.pass.now c.pass.view_is c.pass.invariant.1 c.pass.invariant.2 c.pass.invariant.3 c.args.self.now c.requires.own.frame c.args.place c.requires.place c.args.key c.index-found.result.now c.index-found.ensures c.if-found-eq0.true c.requires.key.0 c.requires.key.1 c.requires.passed

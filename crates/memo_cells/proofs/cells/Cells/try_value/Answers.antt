@@ -11,7 +11,7 @@ invariant_of-pass c = (
 )
 
 pub returns-then-found-eq0-clause-own : goal.returns-then-found-eq0-clause-own
-returns-then-found-eq0-clause-own c = settled_own (record { system = c.pass.inside.system; cells = c.pass.inside.size }) c.pass.inside.keys.items c.pass.inside.values.items c.args.pass.now c.pass.view_is c.pass.invariant.1 c.pass.invariant.2 c.pass.invariant.3 c.args.self.now c.requires.own.frame c.args.place c.requires.place c.args.code (c.from.result + 2 ^ 63) c.index-found.result.now c.index-found.ensures c.if-found-eq0.true c.requires.code (ap (λ (x : ℕ). x + 2 ^ 63) c.from.ensures)
+returns-then-found-eq0-clause-own c = settled_own (record { system = c.pass.inside.system; cells = c.pass.inside.size }) c.pass.inside.keys.items c.pass.inside.values.items c.args.pass.now c.pass.view_is c.pass.invariant.1 c.pass.invariant.2 c.pass.invariant.3 c.args.self.now c.requires.own.frame c.args.place c.requires.place c.args.code (c.from.result + 2 ^ 63) c.index-found.result.now c.index-found.ensures c.if-found-eq0.true c.requires.code (ap (λ (x : ℕ). x + 2 ^ 63) c.from.ensures) c.requires.own.few
 
 pub returns-then-found-eq0-clause-kept : goal.returns-then-found-eq0-clause-kept
 returns-then-found-eq0-clause-kept c = settled_more (record { system = c.pass.inside.system; cells = c.pass.inside.size }) c.pass.inside.keys.items c.pass.inside.values.items c.args.pass.now c.pass.view_is c.pass.invariant.1 c.pass.invariant.2 c.pass.invariant.3 c.args.self.now c.requires.own.frame c.args.place c.requires.place c.args.code (c.from.result + 2 ^ 63) c.index-found.result.now c.index-found.ensures c.if-found-eq0.true c.requires.code (ap (λ (x : ℕ). x + 2 ^ 63) c.from.ensures)

@@ -1,0 +1,112 @@
+-- What a key word stands for, by what a pass has seen claimed: one instance, and an instance has one key word.
+use Rattle.std.proofs.Common.{◌≡◌, ℕ, ◌^◌, ◌<◌, List, [], ◌∷◌, reverse, refl, sym, ap, ◌∙◌, subst, arith}
+use Rattle.std.proofs.lemmas.List.{reverse-reverse}
+use Rattle.rag_io.specs.Pool.{ArePooled}
+use Rattle.equation_law.specs.Codes.{arguments_at, reference_of}
+use Rattle.equation_law.specs.Names.{Argument, Attribute, Instance, Query, Reference}
+use Rattle.equation_law.specs.Program.{Program, attribute_parameters, text_of}
+use Rattle.equation_law.proofs.Keys.{one_list, one_reference}
+use Rattle.memo_cells.specs.declared.view.Frame.{Frame}
+use Rattle.memo_cells.specs.declared.view.View.{View}
+use Rattle.memo_cells.specs.Keys.{argument_word, attribute_word, query_word}
+use Rattle.memo_cells.specs.Naming.{IsAttributeKey, IsCellOf, IsFormed, IsKeyTo, IsNamed, StandsFor}
+use Rattle.memo_cells.specs.Standing.{IsSettled, Knows}
+use Rattle.memo_cells.specs.Views.{Has, IsAtLeast}
+
+-- what stands for something goes on to stand for it
+module _ (v w : View) (more : IsAtLeast v w) where
+  pub named_later : (k a n : ℕ) (cs : List ℕ) → IsNamed v k a n cs → IsNamed w k a n cs
+  named_later k a n [] h = h
+  named_later k a n (c ∷ cs) h = (h.0, h.1, more.keys h.0 h.1 h.2, named_later h.1 a n cs h.3, h.4, h.5, h.6)
+
+  pub stands_later : (p : Program) (k : ℕ) (i : Instance) → StandsFor p v k i → StandsFor p w k i
+  stands_later p k (Attribute a r xs) h = record {
+    node = h.node;
+    codes = h.codes;
+    at = h.at;
+    good = h.good;
+    arguments = h.arguments;
+    named = named_later k a h.node (reverse h.codes) h.named;
+  }
+  stands_later p k (Query q) h = h
+
+  pub key_later : (p : Program) (i : Instance) (k : ℕ) → IsKeyTo p v i k → IsKeyTo p w i k
+  key_later p i k h = record { prefix = h.prefix; of = h.of; stands = stands_later p k h.prefix h.stands }
+
+  pub formed_later : (p : Program) (k : ℕ) → IsFormed p v k → IsFormed p w k
+  formed_later p k h = record { of = h.of; instance = h.instance; key = key_later p h.of k h.key }
+
+  pub knows_later : (p : Program) (i : Instance) → Knows p v i → Knows p w i
+  knows_later p i h = record { key = h.key; stands = stands_later p h.key i h.stands; slot = h.slot; code = h.code; settled = more.values h.slot h.key h.code h.settled }
+
+  pub settled_later : (p : Program) (k c : ℕ) → IsSettled p v k c → IsSettled p w k c
+  settled_later p k c h = record { of = h.of; stands = stands_later p k h.of h.stands; code = h.code; closed = λ j d. knows_later p j (h.closed j d) }
+
+  pub cell_later : (p : Program) (f : Frame) (i : Instance) (s : ℕ) → IsCellOf p f v i s → IsCellOf p f w i s
+  cell_later p f i s h = (h.0, (h.1.0, more.keys s h.0 h.1.1), stands_later p h.0 i h.2)
+
+-- words of different kinds
+attribute_argument : (a n s c : ℕ) → a < 2 ^ 16 → n < 2 ^ 32 → attribute_word a n ≡ argument_word s c → ⊥
+attribute_argument a n s c la ln e = omega (arith, la, ln, e)
+
+attribute_query : (a n q : ℕ) → a < 2 ^ 16 → n < 2 ^ 32 → attribute_word a n ≡ query_word q → ⊥
+attribute_query a n q la ln e = omega (arith, la, ln, e)
+
+argument_query : (s c q : ℕ) → s < 2 ^ 29 → c < 2 ^ 32 → argument_word s c ≡ query_word q → ⊥
+argument_query s c q ls lc e = omega (arith, ls, lc, e)
+
+one_attribute : (a n b m : ℕ) → n < 2 ^ 32 → m < 2 ^ 32 → attribute_word a n ≡ attribute_word b m → (a ≡ b) × (n ≡ m)
+one_attribute a n b m ln lm e = (omega (arith, ln, lm, e), omega (arith, ln, lm, e))
+
+one_argument : (s c t d : ℕ) → c < 2 ^ 32 → d < 2 ^ 32 → argument_word s c ≡ argument_word t d → (s ≡ t) × (c ≡ d)
+one_argument s c t d lc ld e = (omega (arith, lc, ld, e), omega (arith, lc, ld, e))
+
+-- the word of an attribute, with or without arguments, is that of no query
+named_query : (v : View) (k a n : ℕ) (cs : List ℕ) (q : ℕ) → IsNamed v k a n cs → k ≡ query_word q → ⊥
+named_query v k a n [] q h e = attribute_query a n q h.0 h.1 (sym h.2 ∙ e)
+named_query v k a n (c ∷ cs) q h e = argument_query h.0 c q h.4 h.5 (sym h.6 ∙ e)
+
+module _ (v : View) (one_key : (s j k : ℕ) → Has v.keys (s, j) → Has v.keys (s, k) → j ≡ k) where
+  -- a word has one attribute, node and codes
+  pub one_name : (k a n b m : ℕ) (cs ds : List ℕ) → IsNamed v k a n cs → IsNamed v k b m ds → (a ≡ b) × (n ≡ m) × (cs ≡ ds)
+  one_name k a n b m [] [] g h = let r = one_attribute a n b m g.1 h.1 (sym g.2 ∙ h.2) in (r.0, r.1, refl)
+  one_name k a n b m [] (d ∷ ds) g h = absurd (attribute_argument a n h.0 d g.0 g.1 (sym g.2 ∙ h.6))
+  one_name k a n b m (c ∷ cs) [] g h = absurd (attribute_argument b m g.0 c h.0 h.1 (sym h.2 ∙ g.6))
+  one_name k a n b m (c ∷ cs) (d ∷ ds) g h =
+      let same = one_argument g.0 c h.0 d g.5 h.5 (sym g.6 ∙ h.6) in
+      let word : h.1 ≡ g.1 = one_key g.0 h.1 g.1 (subst (λ (s : ℕ). Has v.keys (s, h.1)) (sym same.0) h.2) g.2 in
+      let rest = one_name g.1 a n b m cs ds g.3 (subst (λ (j : ℕ). IsNamed v j b m ds) word h.3) in
+      (rest.0, rest.1, (λ i. same.1 i ∷ rest.2 i))
+
+  -- so it stands for one instance
+  pub stands_once : (p : Program) (k : ℕ) (i j : Instance) → StandsFor p v k i → StandsFor p v k j → i ≡ j
+  stands_once p k (Attribute a r xs) (Attribute b s ys) g h =
+      let one = one_name k a g.node b h.node (reverse g.codes) (reverse h.codes) g.named h.named in
+      let codes : g.codes ≡ h.codes = sym (reverse-reverse g.codes) ∙ ap reverse one.2 ∙ reverse-reverse h.codes in
+      let node : r ≡ s = sym g.at ∙ ap reference_of one.1 ∙ h.at in
+      let arguments : xs ≡ ys = sym g.arguments ∙ (λ i. arguments_at (text_of p) (attribute_parameters p (one.0 i)) (codes i)) ∙ h.arguments in
+      (λ i. Attribute (one.0 i) (node i) (arguments i))
+  stands_once p k (Attribute a r xs) (Query q) g h = absurd (named_query v k a g.node (reverse g.codes) q g.named h.1)
+  stands_once p k (Query q) (Attribute b s ys) g h = absurd (named_query v k b h.node (reverse h.codes) q h.named g.1)
+  stands_once p k (Query q) (Query r) g h = let same : q ≡ r = omega (arith, sym g.1 ∙ h.1) in ap Query same
+
+module _ (v : View) (one_key : (s j k : ℕ) → Has v.keys (s, j) → Has v.keys (s, k) → j ≡ k) (one_place : (s t k : ℕ) → Has v.keys (s, k) → Has v.keys (t, k) → s ≡ t) where
+  -- an attribute at a node with codes has one word
+  pub one_word : (k l a n : ℕ) (cs : List ℕ) → IsNamed v k a n cs → IsNamed v l a n cs → k ≡ l
+  one_word k l a n [] g h = g.2 ∙ sym h.2
+  one_word k l a n (c ∷ cs) g h =
+      let word : h.1 ≡ g.1 = one_word h.1 g.1 a n cs h.3 g.3 in
+      let slot : g.0 ≡ h.0 = one_place g.0 h.0 g.1 g.2 (subst (λ (j : ℕ). Has v.keys (h.0, j)) word h.2) in
+      g.6 ∙ ap (λ (s : ℕ). argument_word s c) slot ∙ sym h.6
+
+  module _ (p : Program) (pooled : ArePooled p.texts) where
+    -- the codes of an instance are one
+    pub same_codes : (k l a : ℕ) (r : Reference) (xs : List Argument) (g : IsAttributeKey p v k a r xs) (h : IsAttributeKey p v l a r xs) → (g.node ≡ h.node) × (g.codes ≡ h.codes)
+    same_codes k l a r xs g h = (one_reference g.node h.node (g.at ∙ sym h.at), one_list p pooled (attribute_parameters p a) g.codes h.codes g.good h.good (g.arguments ∙ sym h.arguments))
+
+    -- so an instance has one word
+    pub word_once : (k l : ℕ) (i : Instance) → StandsFor p v k i → StandsFor p v l i → k ≡ l
+    word_once k l (Attribute a r xs) g h =
+        let same = same_codes k l a r xs g h in
+        one_word k l a g.node (reverse g.codes) g.named (subst (λ (y : ℕ × List ℕ). IsNamed v l a y.0 (reverse y.1)) (λ i. (sym same.0 i, sym same.1 i)) h.named)
+    word_once k l (Query q) g h = g.1 ∙ sym h.1

@@ -1,0 +1,63 @@
+-- What a key word stands for: an instance, or one with the first of its arguments.
+use Rattle.std.specs.Prelude.{◌≡◌, ℕ, ◌<◌, ◌^◌, List, [], ◌∷◌, ◌++◌, ◌⊎◌, reverse}
+use Rattle.equation_law.specs.Checked.{IsInstance}
+use Rattle.equation_law.specs.Codes.{AreCodes, arguments_at, reference_of}
+use Rattle.equation_law.specs.Names.{Argument, Attribute, Instance, Query, Reference}
+use Rattle.equation_law.specs.Program.{Program, attribute_parameters, text_of}
+use Rattle.memo_cells.specs.declared.view.Frame.{Frame}
+use Rattle.memo_cells.specs.declared.view.View.{View}
+use Rattle.memo_cells.specs.Keys.{argument_word, attribute_word, query_word}
+use Rattle.memo_cells.specs.Views.{Has, IsFull, IsSlot, times}
+
+-- k is the key word of the attribute a at the node of code n with arguments of these codes, the last one first: with an argument, it names
+-- the slot of what comes before that argument
+abbrev pub IsNamed : View → ℕ → ℕ → ℕ → List ℕ → Type 0
+IsNamed v k a n [] = (a < 2 ^ 16) × (n < 2 ^ 32) × (k ≡ attribute_word a n)
+IsNamed v k a n (c ∷ cs) = (s j : ℕ) × Has v.keys (s, j) × IsNamed v j a n cs × (s < 2 ^ 29) × (c < 2 ^ 32) × (k ≡ argument_word s c)
+
+-- k is the key word of the attribute a at the node r with the arguments xs
+pub record IsAttributeKey (p : Program) (v : View) (k a : ℕ) (r : Reference) (xs : List Argument) : Type 0 where
+  pub node : ℕ
+  pub codes : List ℕ
+  pub at : reference_of node ≡ r
+  pub good : AreCodes p (attribute_parameters p a) codes
+  pub arguments : arguments_at (text_of p) (attribute_parameters p a) codes ≡ xs
+  pub named : IsNamed v k a node (reverse codes)
+
+-- k is the key word of i, by the keys that are seen claimed
+abbrev pub StandsFor : Program → View → ℕ → Instance → Type 0
+StandsFor p v k (Attribute a r xs) = IsAttributeKey p v k a r xs
+StandsFor p v k (Query q) = (q < 2 ^ 32) × (k ≡ query_word q)
+
+-- an instance with more arguments, which come last
+abbrev pub with_more : Instance → List Argument → Instance
+with_more (Attribute a r xs) zs = Attribute a r (xs ++ zs)
+with_more (Query q) zs = Query q
+
+-- x is i with the first of its arguments: with none of them, some, or all
+abbrev pub IsPrefix : Instance → Instance → Type 0
+IsPrefix x i = (zs : List Argument) × (with_more x zs ≡ i)
+
+-- it is a key on the way to the cell of i, the key of i included
+pub record IsKeyTo (p : Program) (v : View) (i : Instance) (k : ℕ) : Type 0 where
+  pub prefix : Instance
+  pub of : IsPrefix prefix i
+  pub stands : StandsFor p v k prefix
+
+-- it is a key on the way to the cell of an instance of the program
+pub record IsFormed (p : Program) (v : View) (k : ℕ) : Type 0 where
+  pub of : Instance
+  pub instance : IsInstance p of
+  pub key : IsKeyTo p v of k
+
+-- the cell of i is seen claimed at place s
+abbrev pub IsCellOf : Program → Frame → View → Instance → ℕ → Type 0
+IsCellOf p f v i s = (k : ℕ) × IsSlot f v s k × StandsFor p v k i
+
+-- what a call claimed are cells on the way to that of i
+abbrev pub ClaimsKeysTo : Program → View → View → Instance → Type 0
+ClaimsKeysTo p v w i = (s : ℕ) → (times s w.claims ≡ times s v.claims) ⊎ ((k : ℕ) × Has w.keys (s, k) × IsKeyTo p w i k)
+
+-- other keys have all the cells than some key on the way to that of i
+abbrev pub LacksCell : Program → Frame → View → Instance → Type 0
+LacksCell p f v i = (k : ℕ) × IsKeyTo p v i k × IsFull f v k
