@@ -1,15 +1,14 @@
 -- What asking for an instance says, at each way out.
-use Rattle.std.proofs.Common.{◌≡◌, ◌≢◌, ℕ, ◌+◌, ◌*◌, ◌<◌, ◌⊎◌, inl, inr, ⊎_elim, true, List, [], ◌∷◌, ◌++◌, Result, Ok, Err, IsOk, refl, sym, ap, subst, ◌∙◌}
+use Rattle.std.proofs.Common.{◌≡◌, ℕ, ◌+◌, ◌*◌, ◌<◌, inl, inr, List, Result, Ok, Err, refl, sym, ap, subst, ◌∙◌}
 use Rattle.std.specs.Result.{IsErr, IsErrAnd}
 use Rattle.attr_rules.specs.declared.kinds.Kind.{Kind}
-use Rattle.attr_rules.specs.declared.kinds.Kind.TheVariants as kinds
 use Rattle.solutions.specs.Leading.{none}
 use Rattle.equation_law.specs.declared.coding.Instance.{Instance as CodedInstance}
 use Rattle.equation_law.specs.declared.coding.Value.{Value as CodedValue}
 use Rattle.equation_law.specs.Checked.{IsInstance, IsProgram, IsValue, int, node, text, truth}
-use Rattle.equation_law.specs.Codes.{instance_of, value_of}
-use Rattle.equation_law.specs.Equations.{HasValue, kind_in, text_of}
-use Rattle.equation_law.specs.Loops.{Chain, HasLoop, Leads}
+use Rattle.equation_law.specs.Codes.{instance_of}
+use Rattle.equation_law.specs.Equations.{HasValue, kind_in}
+use Rattle.equation_law.specs.Loops.{HasLoop}
 use Rattle.equation_law.specs.Names.{Instance}
 use Rattle.equation_law.specs.Program.{Program}
 use Rattle.equation_law.specs.Values.{Value, as_kind}
@@ -17,20 +16,19 @@ use Rattle.equation_law.proofs.QueryValues.{value_typed}
 use Rattle.memo_cells.specs.declared.keys.Slot.{Slot}
 use Rattle.memo_cells.specs.declared.view.Frame.{Frame}
 use Rattle.memo_cells.specs.declared.view.View.{View}
-use Rattle.memo_cells.specs.Keys.{Fits, key_of, key_word}
-use Rattle.memo_cells.specs.Views.{ClaimsOnly, Has, IsAtLeast, IsFull, times}
+use Rattle.memo_cells.specs.Naming.{LacksCell}
+use Rattle.memo_cells.specs.Standing.{Knows}
+use Rattle.memo_cells.specs.Views.{times}
 use Rattle.caller_pass.specs.declared.asking.AskFault.{AskFault}
 use Rattle.caller_pass.specs.declared.asking.AskFault.TheVariants.{CellsFull, Circular, Memory}
-use Rattle.caller_pass.specs.Answering.{AnswersAsk, AnswersWait, Asks, ClaimsKeys, IsCircular, IsKeyOf, IsLoop, unsettled}
-use Rattle.caller_pass.specs.Knowing.{HasEnded, IsKnownValue, Knows}
-use Rattle.caller_pass.specs.Waiting.{IsLine, names, waits}
-use Rattle.caller_pass.proofs.Knowing.{ended_value, stands}
-use Rattle.caller_pass.proofs.Lines.{last_reached, loop_has, loop_of}
+use Rattle.caller_pass.specs.Answering.{AnswersAsk, AnswersWait, Asks, ClaimsKeys, IsCircular, unsettled}
+use Rattle.caller_pass.specs.Knowing.{IsKnownValue}
+use Rattle.caller_pass.proofs.Lines.{loop_has}
 
 -- full cells, handed on
-pub full_waits : (f : Frame) (v : View) (es : List (CodedInstance × Slot)) (next : CodedInstance) (new : List (CodedInstance × Slot)) (r : Result Slot AskFault) → IsErr r × IsErrAnd r (λ e. e ≡ CellsFull) → IsFull f v (key_word (key_of next)) → AnswersWait f v es next new r
-full_waits f v es next new (Ok s) h full = let none = h.0 in cc
-full_waits f v es next new (Err e) h full = subst (λ x. AnswersWait f v es next new (Err x)) (sym h.1) full
+pub full_waits : (p : Program) (f : Frame) (v : View) (es : List (CodedInstance × Slot)) (next : CodedInstance) (new : List (CodedInstance × Slot)) (r : Result Slot AskFault) → IsErr r × IsErrAnd r (λ e. e ≡ CellsFull) → LacksCell p f v (instance_of p next) → AnswersWait p f v es next new r
+full_waits p f v es next new (Ok s) h full = let none = h.0 in cc
+full_waits p f v es next new (Err e) h full = subst (λ x. AnswersWait p f v es next new (Err x)) (sym h.1) full
 
 -- a value of a type is read at it as it is
 typed_as : (p : Program) (k : Kind) (v : Value) → IsValue p k v → as_kind k v ≡ v
@@ -57,11 +55,11 @@ answered_known p f v w i x n good instance k claims = record {
 }
 
 -- a value that wasn't known
-pub asked_value : (p : Program) (f : Frame) (v w : View) (i : Instance) (m n : ℕ) (x : CodedValue) → ¬ Knows v i → ClaimsKeys p i v w → AnswersAsk p f w i (Ok x) → n + 2 * unsettled w f.cells < m + 2 * unsettled v f.cells → Asks p f v w i m n (Ok x)
+pub asked_value : (p : Program) (f : Frame) (v w : View) (i : Instance) (m n : ℕ) (x : CodedValue) → ¬ Knows p v i → ClaimsKeys p i v w → AnswersAsk p f w i (Ok x) → n + 2 * unsettled w f.cells < m + 2 * unsettled v f.cells → Asks p f v w i m n (Ok x)
 asked_value p f v w i m n x unknown claims answer cost = record { answer = answer; circular = λ h. absurd h; claims = claims; known = λ k. absurd (unknown k); cost = λ _. inr cost }
 
 -- a fault
-pub asked_fault : (p : Program) (f : Frame) (v w : View) (i : Instance) (m n : ℕ) (r : Result CodedValue AskFault) → ¬ Knows v i → ClaimsKeys p i v w → IsErr r → AnswersAsk p f w i r → Asks p f v w i m n r
+pub asked_fault : (p : Program) (f : Frame) (v w : View) (i : Instance) (m n : ℕ) (r : Result CodedValue AskFault) → ¬ Knows p v i → ClaimsKeys p i v w → IsErr r → AnswersAsk p f w i r → Asks p f v w i m n r
 asked_fault p f v w i m n (Ok x) unknown claims fault answer = cc
 asked_fault p f v w i m n (Err e) unknown claims fault answer = record { answer = answer; circular = circular_loop p f w i (Err e) answer; claims = claims; known = λ k. absurd (unknown k); cost = λ ok. cc }
 
@@ -73,5 +71,5 @@ fault_is p f v i e (Err d) h a = subst (λ y. AnswersAsk p f v i (Err y)) (sym h
 pub memory_answers : (p : Program) (f : Frame) (v : View) (i : Instance) (r : Result CodedValue AskFault) → IsErr r × IsErrAnd r (λ e. e ≡ Memory) → AnswersAsk p f v i r
 memory_answers p f v i r h = fault_is p f v i Memory r h tt
 
-pub full_answers : (p : Program) (f : Frame) (v : View) (i : CodedInstance) (r : Result CodedValue AskFault) → Fits (key_of i) → IsErr r × IsErrAnd r (λ e. e ≡ CellsFull) → IsFull f v (key_word (key_of i)) → AnswersAsk p f v (instance_of i) r
-full_answers p f v i r fits h full = fault_is p f v (instance_of i) CellsFull r h (key_word (key_of i), record { of = instance_of i; stands = stands i fits; reached = none }, full)
+pub full_answers : (p : Program) (f : Frame) (v : View) (i : Instance) (r : Result CodedValue AskFault) → IsErr r × IsErrAnd r (λ e. e ≡ CellsFull) → LacksCell p f v i → AnswersAsk p f v i r
+full_answers p f v i r h lacks = fault_is p f v i CellsFull r h (lacks.0, record { of = i; reached = none; key = lacks.1 }, lacks.2)

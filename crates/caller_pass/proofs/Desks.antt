@@ -1,24 +1,24 @@
 -- Desks: what a pass tells as a reader.
-use Rattle.std.proofs.Common.{◌≡◌, ℕ, List, Option, Some, None, Result, Ok, Err, IfNone, IfSome, refl, sym, ap, subst, ◌∙◌}
+use Rattle.std.proofs.Common.{◌≡◌, Option, Some, None, Result, Ok, Err, IfNone, IfSome, refl, sym, ap, subst, ◌∙◌}
 use Rattle.rag_io.specs.declared.Memory.{Memory}
 use Rattle.solutions.specs.Asking.{Ends, Halts}
 use Rattle.equation_law.specs.declared.coding.Instance.{Instance as CodedInstance}
 use Rattle.equation_law.specs.declared.coding.Value.{Value as CodedValue}
-use Rattle.equation_law.specs.Codes.{instance_of, value_of}
-use Rattle.equation_law.specs.Equations.{HasValue, equations_of, kind_in, text_of}
+use Rattle.equation_law.specs.Codes.{IsCoded, instance_of, value_of}
+use Rattle.equation_law.specs.Equations.{HasValue, equations_of}
 use Rattle.equation_law.specs.Names.{Instance}
-use Rattle.equation_law.specs.Program.{Program}
+use Rattle.equation_law.specs.Program.{Program, text_of}
 use Rattle.equation_law.specs.Reading.{Grows, IsSound, SettledBy, Settles}
-use Rattle.equation_law.specs.Values.{Value, as_kind}
 use Rattle.equation_law.proofs.Solution.{one}
 use Rattle.expr_eval.specs.declared.sites.Turn.{Turn}
 use Rattle.expr_eval.specs.declared.sites.Turn.TheVariants.{Done, Need}
 use Rattle.expr_eval.specs.Evaluating.{AnswersTurn}
-use Rattle.memo_cells.specs.Views.{IsAtLeast}
+use Rattle.memo_cells.specs.declared.view.View.{View}
+use Rattle.memo_cells.specs.Standing.{Knows}
 use Rattle.memo_cells.proofs.More.{at_least_itself, at_least_then}
+use Rattle.memo_cells.proofs.Naming.{knows_later}
 use Rattle.caller_pass.specs.Desks.{Held, IsLater, program_at, told_by}
-use Rattle.caller_pass.specs.Knowing.{IsKnownValue, Known, Knows, TurnsTo}
-use Rattle.caller_pass.proofs.Knowing.{knows_later}
+use Rattle.caller_pass.specs.Knowing.{IsKnownValue, Known, TurnsTo}
 
 pub later_itself : (d : Held) → IsLater d d
 later_itself d = record { cells = refl; pass = at_least_itself d.1; claims = refl; lender = refl }
@@ -38,26 +38,32 @@ grows x d p e l a =
     let same : program_at d ≡ program_at x = ap (λ f. program_at (f, d.1, d.2)) e in
     record {
       sound = subst (λ (q : Program). IsSound q (told_by d)) (same ∙ sym a.for) (sound d);
-      values = λ i v k. (knows_later x.1 d.1 i l.pass k.0, subst (λ (q : Program). HasValue q i v) (sym same) k.1);
+      values = λ i v k. subst (λ (q : Program). Known q d.1 i v) (sym same) (knows_later x.1 d.1 l.pass (program_at x) i k.0, k.1);
       bound = λ i v k. subst (λ (q : Program). HasValue q i v) same k;
       kept = λ y k. later_then y x d k l;
     }
 
-answers : (d : Held) (p : Program) (i : Instance) (r : Option CodedValue) → p ≡ program_at d → IfSome r (λ v. IsKnownValue (program_at d) d.1 i v) → IfNone r (¬ Knows d.1 i) → Settles p (told_by d) i (Ok r)
-answers d p i None e some none = λ w a. none a.0
-answers d p i (Some v) e some none = (some.value, some.known, subst (λ (q : Program). value_of (text_of q) v ≡ as_kind (kind_in q i) some.value) (sym e) some.coded)
+answers : (d : Held) (i : Instance) (r : Option CodedValue) → IfSome r (λ v. IsKnownValue (program_at d) d.1 i v) → IfNone r (¬ Knows (program_at d) d.1 i) → Settles (program_at d) (told_by d) i (Ok r)
+answers d i None some none = λ w a. none a.0
+answers d i (Some v) some none = (some.value, some.known, some.coded)
 
-settled_at : (x d : Held) (i : CodedInstance) (r : Option CodedValue) → IsLater x d → IfSome r (λ v. IsKnownValue (program_at d) d.1 (instance_of i) v) → IfNone r (¬ Knows d.1 (instance_of i)) → SettledBy (told_by x) (told_by d) i (Ok r)
-settled_at x d i r l some none = record {
+-- what is answered to a coded instance
+abbrev pub IsTold : Program → View → CodedInstance → Option CodedValue → Type 0
+IsTold p v i r = IsCoded p i → IfSome r (λ x. IsKnownValue p v (instance_of p i) x) × IfNone r (¬ Knows p v (instance_of p i))
+
+settled_at : (x d : Held) (i : CodedInstance) (r : Option CodedValue) → IsLater x d → IsTold (program_at d) d.1 i r → SettledBy (told_by x) (told_by d) i (Ok r)
+settled_at x d i r l told = record {
   kept = λ p a. grows x d p l.cells l a;
-  answer = λ p a. answers d p (instance_of i) r (a.for ∙ ap (λ f. program_at (f, d.1, d.2)) (sym l.cells)) some none;
+  answer = λ p a.
+      let same : program_at d ≡ p = ap (λ f. program_at (f, d.1, d.2)) l.cells ∙ sym a.for in
+      subst (λ (q : Program). IsCoded q i → Settles q (told_by d) (instance_of q i) (Ok r)) same (λ good. let t = told good in answers d (instance_of (program_at d) i) r t.0 t.1);
 }
 
-pub settled_by : (y x d : Held) (i : CodedInstance) (r : Option CodedValue) → y ≡ x → IsLater y d → IfSome r (λ v. IsKnownValue (program_at d) d.1 (instance_of i) v) → IfNone r (¬ Knows d.1 (instance_of i)) → SettledBy (told_by x) (told_by d) i (Ok r)
-settled_by y x d i r e l some none = subst (λ (z : Held). SettledBy (told_by z) (told_by d) i (Ok r)) e (settled_at y d i r l some none)
+pub settled_by : (y x d : Held) (i : CodedInstance) (r : Option CodedValue) → y ≡ x → IsLater y d → IsTold (program_at d) d.1 i r → SettledBy (told_by x) (told_by d) i (Ok r)
+settled_by y x d i r e l told = subst (λ (z : Held). SettledBy (told_by z) (told_by d) i (Ok r)) e (settled_at y d i r l told)
 
 -- what an evaluation says
 pub turned : (p : Program) (d : Held) (i : Instance) (r : Result Turn Memory) → p ≡ program_at d → AnswersTurn p (told_by d) ((equations_of p).equation i) r → TurnsTo p d.1 i r
 turned p d i (Ok (Done x)) e a = (a.demands, subst (λ (q : Program). Ends (Known q d.1) ((equations_of p).equation i) (value_of (text_of p) x) a.demands) (sym e) a.ends)
-turned p d i (Ok (Need j)) e a = (a.demands, subst (λ (q : Program). Halts (Known q d.1) ((equations_of p).equation i) (instance_of j) a.demands) (sym e) a.halts)
+turned p d i (Ok (Need j)) e a = (a.demands, subst (λ (q : Program). Halts (Known q d.1) ((equations_of p).equation i) (instance_of p j) a.demands) (sym e) a.halts, a.coded)
 turned p d i (Err m) e a = tt

@@ -11,7 +11,7 @@ use Rattle.memo_cells.specs.declared.view.View.{View}
 use Rattle.memo_cells.specs.Views.{Has, IsAtLeast}
 use Rattle.memo_cells.proofs.Counting.{any_has, has_any}
 use Rattle.caller_pass.specs.Answering.{unsettled}
-use Rattle.caller_pass.proofs.Lines.{has_last, has_left, has_snoc}
+use Rattle.caller_pass.proofs.Lines.{has_left, has_snoc}
 
 -- the cell is seen settled, or an instance waits at it
 abbrev pub taken : View → List (CodedInstance × Slot) → ℕ → Bool

@@ -1,22 +1,23 @@
 -- Instances in a line, each of which leads to the next, and the loop that the last one closes.
-use Rattle.std.proofs.Common.{◌≡◌, ℕ, ◌⊎◌, inl, inr, ⊎_elim, Bool, true, false, ◌||◌, List, [], ◌∷◌, ◌++◌, map, refl, sym, ap, subst, ◌∙◌}
+use Rattle.std.proofs.Common.{◌≡◌, ◌⊎◌, inl, inr, ⊎_elim, true, false, ◌||◌, List, [], ◌∷◌, ◌++◌, refl, sym, ap, subst, ◌∙◌}
 use Rattle.solutions.specs.Leading.{more, none}
-use Rattle.solutions.specs.Rounds.{is_in}
+use Rattle.equation_law.specs.contracts.coding.InstancePartialEq.TheImpl as equality
 use Rattle.equation_law.specs.declared.coding.Instance.{Instance as CodedInstance}
 use Rattle.equation_law.specs.Checked.{IsInstance}
-use Rattle.equation_law.specs.Codes.{instance_of}
+use Rattle.equation_law.specs.Codes.{IsCoded, instance_of}
 use Rattle.equation_law.specs.Loops.{Chain, HasLoop, Leads}
-use Rattle.equation_law.specs.Names.{Instance, same_instance}
+use Rattle.equation_law.specs.Names.{Instance}
 use Rattle.equation_law.specs.Program.{Program}
-use Rattle.equation_law.proofs.Names.{same_instance_is}
+use Rattle.equation_law.proofs.Keys.{key_is}
 use Rattle.equation_law.proofs.Solution.{none_circular}
 use Rattle.memo_cells.specs.declared.keys.Slot.{Slot}
 use Rattle.memo_cells.specs.declared.view.Frame.{Frame}
 use Rattle.memo_cells.specs.declared.view.View.{View}
-use Rattle.memo_cells.specs.Keys.{Fits, key_of, key_word}
-use Rattle.memo_cells.specs.Views.{Has, IsAtLeast, IsSlot}
+use Rattle.memo_cells.specs.Naming.{IsCellOf}
+use Rattle.memo_cells.specs.Views.{Has, IsAtLeast}
+use Rattle.memo_cells.proofs.Naming.{cell_later}
 use Rattle.caller_pass.specs.Answering.{IsLoop}
-use Rattle.caller_pass.specs.Waiting.{AreLed, IsLine, names}
+use Rattle.caller_pass.specs.Waiting.{AreLed, IsLine, names, waits}
 
 pub assoc : {A : Type 0} (xs ys zs : List A) → (xs ++ ys) ++ zs ≡ xs ++ (ys ++ zs)
 assoc [] ys zs = refl
@@ -34,9 +35,9 @@ pub has_snoc : {A : Type 0} (xs : List A) (y x : A) → Has (xs ++ y ∷ []) x �
 has_snoc [] y x h = ⊎_elim inr absurd h
 has_snoc (z ∷ xs) y x h = ⊎_elim (λ e. inl (inl e)) (λ later. ⊎_elim (λ l. inl (inr l)) inr (has_snoc xs y x later)) h
 
-pub names_snoc : (es : List (CodedInstance × Slot)) (e : CodedInstance × Slot) → names (es ++ e ∷ []) ≡ names es ++ instance_of e.0 ∷ []
-names_snoc [] e = refl
-names_snoc (x ∷ es) e = ap (λ l. instance_of x.0 ∷ l) (names_snoc es e)
+pub names_snoc : (p : Program) (es : List (CodedInstance × Slot)) (e : CodedInstance × Slot) → names p (es ++ e ∷ []) ≡ names p es ++ instance_of p e.0 ∷ []
+names_snoc p [] e = refl
+names_snoc p (x ∷ es) e = ap (λ l. instance_of p x.0 ∷ l) (names_snoc p es e)
 
 module _ (p : Program) where
   led_more : (xs : List Instance) (j k : Instance) → AreLed p (xs ++ j ∷ []) → Leads p j k → AreLed p ((xs ++ j ∷ []) ++ k ∷ [])
@@ -77,53 +78,53 @@ module _ (p : Program) where
       let round = returns_to on l.back (led_behind l.front (on ∷ l.back ++ on ∷ []) led) in
       record { on = on; to = reaches l.front i on l.rest (l.back ++ on ∷ []) (sym l.starts ∙ l.twice) led; undeclared_on = l.undeclared; then = round.0; out = round.1; back = round.2 }
 
--- one of a list stands somewhere in it
-found : (ns : List Instance) (i : Instance) → is_in same_instance ns i ≡ true → (front back : List Instance) × (ns ≡ front ++ i ∷ back)
-found [] i e = cc
-found (j ∷ js) i e =
-    elim (same_instance i j) as (λ b. same_instance i j ≡ b → (b || is_in same_instance js i) ≡ true → (front back : List Instance) × (j ∷ js ≡ front ++ i ∷ back)) [
-      | true ↦ λ same _. ([], js, ap (λ k. k ∷ js) (sym (same_instance_is i j same)))
-      | false ↦ λ _ later. let r = found js i later in (j ∷ r.0, r.1, ap (λ l. j ∷ l) r.2)
+-- one that waits stands somewhere in the line
+found : (p : Program) (es : List (CodedInstance × Slot)) (i : CodedInstance) → waits es i ≡ true → (front back : List Instance) × (names p es ≡ front ++ instance_of p i ∷ back)
+found p [] i e = cc
+found p (x ∷ es) i e =
+    elim (equality.ghosts.eq i x.0) as (λ b. equality.ghosts.eq i x.0 ≡ b → (b || waits es i) ≡ true → (front back : List Instance) × (names p (x ∷ es) ≡ front ++ instance_of p i ∷ back)) [
+      | true ↦ λ same _. ([], names p es, ap (λ (k : CodedInstance). instance_of p k ∷ names p es) (sym (key_is i x.0 same)))
+      | false ↦ λ _ later. let r = found p es i later in (instance_of p x.0 ∷ r.0, r.1, ap (λ l. instance_of p x.0 ∷ l) r.2)
     ] refl e
 
 module _ (p : Program) (f : Frame) (v : View) (i : Instance) (es : List (CodedInstance × Slot)) (top : CodedInstance) (slot : Slot) (line : IsLine p f v i (es ++ (top, slot) ∷ [])) where
   -- the first reaches the last
-  pub last_reached : Chain p i (instance_of top)
+  pub last_reached : Chain p i (instance_of p top)
   last_reached =
-      let e = names_snoc es (top, slot) in
-      reaches p (names es) i (instance_of top) line.rest [] (sym line.starts ∙ e) (subst (AreLed p) e line.led)
+      let e = names_snoc p es (top, slot) in
+      reaches p (names p es) i (instance_of p top) line.rest [] (sym line.starts ∙ e) (subst (AreLed p) e line.led)
 
   -- what the last leads to comes behind
-  pub led_on : (j : Instance) → Leads p (instance_of top) j → AreLed p (names (es ++ (top, slot) ∷ []) ++ j ∷ [])
+  pub led_on : (j : Instance) → Leads p (instance_of p top) j → AreLed p (names p (es ++ (top, slot) ∷ []) ++ j ∷ [])
   led_on j l =
-      let e = names_snoc es (top, slot) in
-      subst (λ ns. AreLed p (ns ++ j ∷ [])) (sym e) (led_more p (names es) (instance_of top) j (subst (AreLed p) e line.led) l)
+      let e = names_snoc p es (top, slot) in
+      subst (λ ns. AreLed p (ns ++ j ∷ [])) (sym e) (led_more p (names p es) (instance_of p top) j (subst (AreLed p) e line.led) l)
 
   -- the loop that it closes
-  pub loop_of : (on : Instance) → Leads p (instance_of top) on → is_in same_instance (names (es ++ (top, slot) ∷ [])) on ≡ true → IsLoop p i on (names (es ++ (top, slot) ∷ []) ++ on ∷ [])
+  pub loop_of : (on : CodedInstance) → Leads p (instance_of p top) (instance_of p on) → waits (es ++ (top, slot) ∷ []) on ≡ true → IsLoop p i (instance_of p on) (names p (es ++ (top, slot) ∷ []) ++ instance_of p on ∷ [])
   loop_of on l there =
-      let at = found (names (es ++ (top, slot) ∷ [])) on there in
+      let at = found p (es ++ (top, slot) ∷ []) on there in
       record {
-        rest = line.rest ++ on ∷ [];
-        starts = ap (λ ns. ns ++ on ∷ []) line.starts;
-        led = led_on on l;
+        rest = line.rest ++ instance_of p on ∷ [];
+        starts = ap (λ ns. ns ++ instance_of p on ∷ []) line.starts;
+        led = led_on (instance_of p on) l;
         front = at.0;
         back = at.1;
-        twice = ap (λ ns. ns ++ on ∷ []) at.2 ∙ assoc at.0 (on ∷ at.1) (on ∷ []);
-        undeclared = none_circular p on;
+        twice = ap (λ ns. ns ++ instance_of p on ∷ []) at.2 ∙ assoc at.0 (instance_of p on ∷ at.1) (instance_of p on ∷ []);
+        undeclared = none_circular p (instance_of p on);
       }
 
   -- one more in the line
-  pub line_more : (w : View) (next : CodedInstance) (s : Slot) → IsAtLeast v w → Leads p (instance_of top) (instance_of next) → IsInstance p (instance_of next) → Fits (key_of next) → IsSlot f w s.0 (key_word (key_of next)) → IsLine p f w i ((es ++ (top, slot) ∷ []) ++ (next, s) ∷ [])
-  line_more w next s kept l instance small at =
-      let whole = names_snoc (es ++ (top, slot) ∷ []) (next, s) in
+  pub line_more : (w : View) (next : CodedInstance) (s : Slot) → IsAtLeast v w → Leads p (instance_of p top) (instance_of p next) → IsInstance p (instance_of p next) → IsCoded p next → IsCellOf p f w (instance_of p next) s.0 → IsLine p f w i ((es ++ (top, slot) ∷ []) ++ (next, s) ∷ [])
+  line_more w next s kept l instance good cell =
+      let whole = names_snoc p (es ++ (top, slot) ∷ []) (next, s) in
       record {
-        rest = line.rest ++ instance_of next ∷ [];
-        starts = whole ∙ ap (λ ns. ns ++ instance_of next ∷ []) line.starts;
-        led = subst (AreLed p) (sym whole) (led_on (instance_of next) l);
-        instances = λ e h. ⊎_elim (line.instances e) (λ same. subst (λ (x : CodedInstance × Slot). IsInstance p (instance_of x.0)) (sym same) instance) (has_snoc (es ++ (top, slot) ∷ []) (next, s) e h);
-        slots = λ e h. ⊎_elim (λ before. let old = line.slots e before in (old.0, kept.keys e.1.0 (key_word (key_of e.0)) old.1)) (λ same. subst (λ (x : CodedInstance × Slot). IsSlot f w x.1.0 (key_word (key_of x.0))) (sym same) at) (has_snoc (es ++ (top, slot) ∷ []) (next, s) e h);
-        fits = λ e h. ⊎_elim (line.fits e) (λ same. subst (λ (x : CodedInstance × Slot). Fits (key_of x.0)) (sym same) small) (has_snoc (es ++ (top, slot) ∷ []) (next, s) e h);
+        rest = line.rest ++ instance_of p next ∷ [];
+        starts = whole ∙ ap (λ ns. ns ++ instance_of p next ∷ []) line.starts;
+        led = subst (AreLed p) (sym whole) (led_on (instance_of p next) l);
+        instances = λ e h. ⊎_elim (line.instances e) (λ same. subst (λ (x : CodedInstance × Slot). IsInstance p (instance_of p x.0)) (sym same) instance) (has_snoc (es ++ (top, slot) ∷ []) (next, s) e h);
+        coded = λ e h. ⊎_elim (line.coded e) (λ same. subst (λ (x : CodedInstance × Slot). IsCoded p x.0) (sym same) good) (has_snoc (es ++ (top, slot) ∷ []) (next, s) e h);
+        slots = λ e h. ⊎_elim (λ before. cell_later v w kept p f (instance_of p e.0) e.1.0 (line.slots e before)) (λ same. subst (λ (x : CodedInstance × Slot). IsCellOf p f w (instance_of p x.0) x.1.0) (sym same) cell) (has_snoc (es ++ (top, slot) ∷ []) (next, s) e h);
       }
 
   -- the same line, known later
@@ -133,33 +134,33 @@ module _ (p : Program) (f : Frame) (v : View) (i : Instance) (es : List (CodedIn
     starts = line.starts;
     led = line.led;
     instances = line.instances;
-    slots = λ e h. let old = line.slots e h in (old.0, kept.keys e.1.0 (key_word (key_of e.0)) old.1);
-    fits = line.fits;
+    coded = line.coded;
+    slots = λ e h. cell_later v w kept p f (instance_of p e.0) e.1.0 (line.slots e h);
   }
 
 -- a line of one
-pub line_one : (p : Program) (f : Frame) (v : View) (i : CodedInstance) (s : Slot) → IsInstance p (instance_of i) → Fits (key_of i) → IsSlot f v s.0 (key_word (key_of i)) → IsLine p f v (instance_of i) ((i, s) ∷ [])
-line_one p f v i s instance small at = record {
+pub line_one : (p : Program) (f : Frame) (v : View) (i : CodedInstance) (s : Slot) → IsInstance p (instance_of p i) → IsCoded p i → IsCellOf p f v (instance_of p i) s.0 → IsLine p f v (instance_of p i) ((i, s) ∷ [])
+line_one p f v i s instance good cell = record {
   rest = [];
   starts = refl;
   led = tt;
-  instances = λ e h. ⊎_elim (λ same. subst (λ (x : CodedInstance × Slot). IsInstance p (instance_of x.0)) (sym same) instance) absurd h;
-  slots = λ e h. ⊎_elim (λ same. subst (λ (x : CodedInstance × Slot). IsSlot f v x.1.0 (key_word (key_of x.0))) (sym same) at) absurd h;
-  fits = λ e h. ⊎_elim (λ same. subst (λ (x : CodedInstance × Slot). Fits (key_of x.0)) (sym same) small) absurd h;
+  instances = λ e h. ⊎_elim (λ same. subst (λ (x : CodedInstance × Slot). IsInstance p (instance_of p x.0)) (sym same) instance) absurd h;
+  coded = λ e h. ⊎_elim (λ same. subst (λ (x : CodedInstance × Slot). IsCoded p x.0) (sym same) good) absurd h;
+  slots = λ e h. ⊎_elim (λ same. subst (λ (x : CodedInstance × Slot). IsCellOf p f v (instance_of p x.0) x.1.0) (sym same) cell) absurd h;
 }
 
 -- without the last one, where another one is left
 pub line_front : (p : Program) (f : Frame) (v : View) (i : Instance) (es : List (CodedInstance × Slot)) (top : CodedInstance) (slot : Slot) (last : CodedInstance × Slot) → IsLine p f v i ((es ++ (top, slot) ∷ []) ++ last ∷ []) → IsLine p f v i (es ++ (top, slot) ∷ [])
 line_front p f v i es top slot last line =
-    let whole = names_snoc (es ++ (top, slot) ∷ []) last in
-    let begun = begins (names es) (instance_of top) (instance_of last.0) i line.rest (ap (λ ns. ns ++ instance_of last.0 ∷ []) (sym (names_snoc es (top, slot))) ∙ sym whole ∙ line.starts) in
+    let whole = names_snoc p (es ++ (top, slot) ∷ []) last in
+    let begun = begins (names p es) (instance_of p top) (instance_of p last.0) i line.rest (ap (λ ns. ns ++ instance_of p last.0 ∷ []) (sym (names_snoc p es (top, slot))) ∙ sym whole ∙ line.starts) in
     record {
       rest = begun.0;
-      starts = names_snoc es (top, slot) ∙ begun.1;
-      led = led_front p (names (es ++ (top, slot) ∷ [])) (instance_of last.0) (subst (AreLed p) whole line.led);
+      starts = names_snoc p es (top, slot) ∙ begun.1;
+      led = led_front p (names p (es ++ (top, slot) ∷ [])) (instance_of p last.0) (subst (AreLed p) whole line.led);
       instances = λ e h. line.instances e (has_left (es ++ (top, slot) ∷ []) (last ∷ []) e h);
+      coded = λ e h. line.coded e (has_left (es ++ (top, slot) ∷ []) (last ∷ []) e h);
       slots = λ e h. line.slots e (has_left (es ++ (top, slot) ∷ []) (last ∷ []) e h);
-      fits = λ e h. line.fits e (has_left (es ++ (top, slot) ∷ []) (last ∷ []) e h);
     }
   where
     begins : (ns : List Instance) (j k i : Instance) (rest : List Instance) → (ns ++ j ∷ []) ++ k ∷ [] ≡ i ∷ rest → (r : List Instance) × (ns ++ j ∷ [] ≡ i ∷ r)

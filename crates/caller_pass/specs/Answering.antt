@@ -1,22 +1,21 @@
 -- The answers to an instance that is asked for.
-use Rattle.std.specs.Prelude.{◌≡◌, ℕ, zero, suc, ◌+◌, ◌*◌, ◌<◌, ◌==◌, if◌then◌else◌, true, false, List, [], ◌∷◌, ◌++◌, ◌⊎◌, Option, Some, None, Result, Ok, Err, IsOk}
+use Rattle.std.specs.Prelude.{◌≡◌, ℕ, zero, suc, ◌+◌, ◌*◌, ◌<◌, ◌==◌, if◌then◌else◌, true, false, List, [], ◌∷◌, ◌++◌, ◌⊎◌, Result, Ok, Err, IsOk, map}
 use Rattle.std.specs.List.{list_any}
 use Rattle.equation_law.specs.declared.coding.Instance.{Instance as CodedInstance}
 use Rattle.equation_law.specs.declared.coding.Value.{Value as CodedValue}
 use Rattle.equation_law.specs.Codes.{instance_of, value_of}
-use Rattle.equation_law.specs.Equations.{HasValue, equations_of, text_of}
+use Rattle.equation_law.specs.Equations.{HasValue, equations_of}
 use Rattle.equation_law.specs.Loops.{Chain, HasLoop}
 use Rattle.equation_law.specs.Names.{Instance}
-use Rattle.equation_law.specs.Program.{Program}
+use Rattle.equation_law.specs.Program.{Program, text_of}
 use Rattle.memo_cells.specs.declared.keys.Slot.{Slot}
 use Rattle.memo_cells.specs.declared.view.Frame.{Frame}
 use Rattle.memo_cells.specs.declared.view.View.{View}
-use Rattle.memo_cells.specs.Standing.{StandsFor}
-use Rattle.memo_cells.specs.Keys.{key_of, key_word}
-use Rattle.memo_cells.specs.Views.{Has, IsFull, IsSlot, times}
+use Rattle.memo_cells.specs.Naming.{IsCellOf, IsKeyTo, LacksCell}
+use Rattle.memo_cells.specs.Standing.{Knows}
+use Rattle.memo_cells.specs.Views.{Has, IsFull, times}
 use Rattle.caller_pass.specs.declared.asking.AskFault.{AskFault}
 use Rattle.caller_pass.specs.declared.asking.AskFault.TheVariants.{CellsFull, Circular, Memory}
-use Rattle.caller_pass.specs.Knowing.{Knows}
 use Rattle.caller_pass.specs.Waiting.{AreLed, names, waits}
 
 -- the chain begins with i, each later member is led to by the one before, and `on`, which isn't circular, stands there twice
@@ -29,34 +28,34 @@ pub record IsLoop (p : Program) (i on : Instance) (chain : List Instance) : Type
   pub twice : chain ≡ front ++ on ∷ (back ++ on ∷ [])
   pub undeclared : (equations_of p).circular on ≡ false
 
--- k is a key of i: that of an instance to which a chain leads from i
-pub record IsKeyOf (p : Program) (i : Instance) (k : ℕ) : Type 0 where
+-- k is a key of i: one on the way to the cell of an instance to which a chain leads from i
+pub record IsKeyOf (p : Program) (v : View) (i : Instance) (k : ℕ) : Type 0 where
   pub of : Instance
-  pub stands : StandsFor k of
   pub reached : Chain p i of
+  pub key : IsKeyTo p v of k
 
 -- what was claimed are cells of keys of i
 abbrev pub ClaimsKeys : Program → Instance → View → View → Type 0
-ClaimsKeys p i v w = (q : ℕ) → (times q w.claims ≡ times q v.claims) ⊎ ((k : ℕ) × Has w.keys (q, k) × IsKeyOf p i k)
+ClaimsKeys p i v w = (q : ℕ) → (times q w.claims ≡ times q v.claims) ⊎ ((k : ℕ) × Has w.keys (q, k) × IsKeyOf p w i k)
 
 -- other keys have all the cells than some key of i
 abbrev pub FillsCells : Program → Instance → Frame → View → Type 0
-FillsCells p i f v = (k : ℕ) × IsKeyOf p i k × IsFull f v k
+FillsCells p i f v = (k : ℕ) × IsKeyOf p v i k × IsFull f v k
 
 -- Ok is the value in the solution, and the cell is then seen settled; `Circular` comes with a loop, and `CellsFull` where other keys have
 -- all the cells than some key of i.
 abbrev pub AnswersAsk : Program → Frame → View → Instance → Result CodedValue AskFault → Type 0
-AnswersAsk p f v i (Ok x) = HasValue p i (value_of (text_of p) x) × Knows v i
-AnswersAsk p f v i (Err (Circular on chain)) = IsLoop p i (instance_of on) chain
+AnswersAsk p f v i (Ok x) = HasValue p i (value_of (text_of p) x) × Knows p v i
+AnswersAsk p f v i (Err (Circular on chain)) = IsLoop p i (instance_of p on) (map (instance_of p) chain)
 AnswersAsk p f v i (Err CellsFull) = FillsCells p i f v
 AnswersAsk p f v i (Err Memory) = Unit {0}
 
 -- the answer where the last of `es` is to wait for `next`: its slot, which is new among them, or the loop that it closes
-abbrev pub AnswersWait : Frame → View → List (CodedInstance × Slot) → CodedInstance → List (CodedInstance × Slot) → Result Slot AskFault → Type 0
-AnswersWait f v es next new (Ok s) = (new ≡ es) × IsSlot f v s.0 (key_word (key_of next)) × (waits es next ≡ false)
-AnswersWait f v es next new (Err (Circular on chain)) = (on ≡ next) × (chain ≡ names es ++ instance_of next ∷ []) × (waits es next ≡ true)
-AnswersWait f v es next new (Err CellsFull) = IsFull f v (key_word (key_of next))
-AnswersWait f v es next new (Err Memory) = Unit {0}
+abbrev pub AnswersWait : Program → Frame → View → List (CodedInstance × Slot) → CodedInstance → List (CodedInstance × Slot) → Result Slot AskFault → Type 0
+AnswersWait p f v es next new (Ok s) = (new ≡ es) × IsCellOf p f v (instance_of p next) s.0 × (waits es next ≡ false)
+AnswersWait p f v es next new (Err (Circular on chain)) = (on ≡ next) × (map (instance_of p) chain ≡ names p es ++ instance_of p next ∷ []) × (waits es next ≡ true)
+AnswersWait p f v es next new (Err CellsFull) = LacksCell p f v (instance_of p next)
+AnswersWait p f v es next new (Err Memory) = Unit {0}
 
 abbrev pub IsCircular : Result CodedValue AskFault → Type 0
 IsCircular (Err (Circular on chain)) = Unit {0}
@@ -73,5 +72,5 @@ pub record Asks (p : Program) (f : Frame) (v w : View) (i : Instance) (before af
   pub answer : AnswersAsk p f w i result
   pub circular : IsCircular result → HasLoop p i
   pub claims : ClaimsKeys p i v w
-  pub known : Knows v i → IsOk result × (after ≡ before)
+  pub known : Knows p v i → IsOk result × (after ≡ before)
   pub cost : IsOk result → (after ≡ before) ⊎ (after + 2 * unsettled w f.cells < before + 2 * unsettled v f.cells)

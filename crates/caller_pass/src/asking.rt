@@ -1,13 +1,13 @@
 // Asking for the value of an instance.
 ghost use Rattle.std.specs.Prelude.{◌≡◌, ◌∷◌, [], ◌++◌, false};
 ghost use Rattle.equation_law.specs.Checked.{IsInstance, IsProgram};
-ghost use Rattle.equation_law.specs.Codes.{instance_of};
+ghost use Rattle.equation_law.specs.Codes.{IsCoded, instance_of};
 ghost use Rattle.equation_law.specs.Systems.{program_of};
-ghost use Rattle.memo_cells.specs.Keys.{Fits, key_of, key_word};
-ghost use Rattle.memo_cells.specs.Standing.{IsPassOf};
-ghost use Rattle.memo_cells.specs.Views.{ClaimsOnly, IsAtLeast, IsSlot};
+ghost use Rattle.memo_cells.specs.Naming.{ClaimsKeysTo, IsCellOf};
+ghost use Rattle.memo_cells.specs.Standing.{IsPassOf, Knows};
+ghost use Rattle.memo_cells.specs.Views.{IsAtLeast};
 ghost use Rattle.caller_pass.specs.Answering.{AnswersWait, Asks};
-ghost use Rattle.caller_pass.specs.Knowing.{HasEnded, Knows};
+ghost use Rattle.caller_pass.specs.Knowing.{HasEnded};
 ghost use Rattle.caller_pass.specs.Waiting.{waits};
 
 use crate::chain::Chain;
@@ -16,7 +16,7 @@ use crate::turns::{known_value, turn};
 use crate::waiting::Waiting;
 use equation_law::{Instance, System, Value};
 use expr_eval::{Turn, kind_of};
-use memo_cells::{Cells, CellsFull, Key, Pass, Slot};
+use memo_cells::{Cells, CellsFull, Pass, Slot};
 use rag_io::Memory;
 use std::alloc::Global;
 use std::sync::ledger::Ledger;
@@ -58,13 +58,12 @@ impl From<CellsFull> for AskFault {
 fn finish(system: &System, cells: &Cells, pass: &mut Pass, slot: Slot, i: Instance, value: Value)
     requires own { IsPassOf cells.now pass.old }
     requires same { cells.now.system.value ≡ system.now }
-    requires slot { IsSlot cells.now pass.old slot.0 (key_word (key_of i)) }
-    requires fits { Fits (key_of i) }
-    requires ended { HasEnded (program_of system.now) pass.old (instance_of i) value }
+    requires slot { IsCellOf (program_of system.now) cells.now pass.old (instance_of (program_of system.now) i) slot.0 }
+    requires ended { HasEnded (program_of system.now) pass.old (instance_of (program_of system.now) i) value }
     ensures own { IsPassOf cells.now pass.new }
     ensures kept { IsAtLeast pass.old pass.new }
     ensures claims { pass.new.claims ≡ pass.old.claims }
-    ensures known { Knows pass.new (instance_of i) }
+    ensures known { Knows (program_of system.now) pass.new (instance_of (program_of system.now) i) }
 {
     cells.settle(pass, slot, value.code(kind_of(system, &i)));
 }
@@ -79,22 +78,21 @@ fn wait_for(
     next: Instance,
 ) -> Result<Slot, AskFault>
     requires own { IsPassOf cells.now pass.old }
-    requires next { IsInstance (program_of cells.now.system.value) (instance_of next) }
+    requires next { IsInstance (program_of cells.now.system.value) (instance_of (program_of cells.now.system.value) next) }
+    requires coded { IsCoded (program_of cells.now.system.value) next }
     requires other { waits waiting.old last.0 ≡ false }
     ensures own { IsPassOf cells.now pass.new }
     ensures kept { IsAtLeast pass.old pass.new }
-    ensures claims { ClaimsOnly pass.old pass.new (key_word (key_of next)) }
-    ensures answer { AnswersWait cells.now pass.new (waiting.old ++ last ∷ []) next waiting.new result }
-    ensures fits { Fits (key_of next) }
+    ensures claims { ClaimsKeysTo (program_of cells.now.system.value) pass.old pass.new (instance_of (program_of cells.now.system.value) next) }
+    ensures answer { AnswersWait (program_of cells.now.system.value) cells.now pass.new (waiting.old ++ last ∷ []) next waiting.new result }
 {
-    let key = Key::of(next);
     let (top, slot) = last;
     waiting.push(top, slot)?;
     if waiting.contains(next) {
         let chain = waiting.chain(alloc, next)?;
         return Err(AskFault::Circular { on: next, chain });
     }
-    Ok(cells.claim(pass, key)?)
+    Ok(cells.claim_instance(pass, next)?)
 }
 
 /// The value of an instance in the solution, evaluated on demand. What is demanded for it waits in an explicit stack, and each value that
@@ -113,17 +111,18 @@ pub fn ask<L: Ledger>(
     requires program { IsProgram (program_of system.now) }
     requires same { cells.now.system.value ≡ system.now }
     requires own { IsPassOf cells.now pass.old }
-    requires instance { IsInstance (program_of system.now) (instance_of i.now) }
+    requires instance { IsInstance (program_of system.now) (instance_of (program_of system.now) i.now) }
+    requires coded { IsCoded (program_of system.now) i.now }
     ensures own { IsPassOf cells.now pass.new }
     ensures kept { IsAtLeast pass.old pass.new }
-    ensures asked { Asks (program_of system.now) cells.now pass.old pass.new (instance_of i.now) evals.old evals.new result }
+    ensures asked { Asks (program_of system.now) cells.now pass.old pass.new (instance_of (program_of system.now) i.now) evals.old evals.new result }
 {
     if let Some(value) = known_value(system, cells, pass, *i) {
         return Ok(value);
     }
     let mut waiting = Waiting::new(alloc);
     let mut top = *i;
-    let mut slot = cells.claim(pass, Key::of(top))?;
+    let mut slot = cells.claim_instance(pass, top)?;
     'turns: loop {
         match turn(alloc, system, cells, pass, top, evals)? {
             Turn::Need(next) => {

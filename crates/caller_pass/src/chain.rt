@@ -10,29 +10,27 @@ pub struct Chain {
 }
 
 impl Model for Chain {
-    ghost use Rattle.std.specs.Prelude.{List, map};
-    ghost use Rattle.equation_law.specs.Codes.{instance_of};
-    ghost use Rattle.equation_law.specs.Names.{Instance as InstanceName};
+    ghost use Rattle.std.specs.Prelude.{List};
+    ghost use Rattle.equation_law.specs.declared.coding.Instance.{Instance as CodedInstance};
 
-    ghost Value = { List InstanceName };
+    ghost Value = { List CodedInstance };
 
-    ghost view = { λ chain. map instance_of chain.list.items };
+    ghost view = { λ chain. chain.list.items };
 }
 
 impl Chain {
-    ghost use Rattle.std.specs.Prelude.{◌≡◌, map};
-    ghost use Rattle.equation_law.specs.Codes.{instance_of};
+    ghost use Rattle.std.specs.Prelude.{◌≡◌};
 
     /// A chain of these instances.
     pub fn new(list: Vec<Instance>) -> Chain
-        ensures { result ≡ map instance_of list.items }
+        ensures { result ≡ list.items }
     {
         Chain { list }
     }
 
     /// The instances, in their order.
     pub fn list(&self) -> &[Instance]
-        ensures { map instance_of result.now ≡ self.now }
+        ensures { result.now ≡ self.now }
     {
         self.list.as_slice()
     }

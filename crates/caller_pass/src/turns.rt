@@ -1,21 +1,21 @@
 // What a pass knows, as a reader, and evaluations under it.
 ghost use Rattle.std.specs.Prelude.{◌≡◌, ◌+◌, IfNone, IfSome};
-ghost use Rattle.equation_law.specs.Codes.{instance_of};
+ghost use Rattle.equation_law.specs.Codes.{IsCoded, instance_of};
 ghost use Rattle.equation_law.specs.Systems.{program_of};
-ghost use Rattle.memo_cells.specs.Standing.{IsPassOf};
+ghost use Rattle.memo_cells.specs.Standing.{IsPassOf, Knows};
 ghost use Rattle.memo_cells.specs.Views.{IsAtLeast};
-ghost use Rattle.caller_pass.specs.Knowing.{IsKnownValue, Knows, TurnsTo};
+ghost use Rattle.caller_pass.specs.Knowing.{IsKnownValue, TurnsTo};
 
 use crate::desk::Desk;
 use crate::evals::Steps;
 use equation_law::{Instance, Reader, System, Value};
 use expr_eval::{Turn, evaluate_instance, kind_of};
-use memo_cells::{Cells, Key, Pass};
+use memo_cells::{Cells, Pass};
 use rag_io::Memory;
 use std::alloc::Global;
 use std::sync::ledger::Ledger;
 
-/// The value of an instance whose cell is settled, read at its type.
+/// The value of a well coded instance whose cell is settled, read at its type.
 pub(crate) fn known_value(
     system: &System,
     cells: &Cells,
@@ -27,10 +27,10 @@ pub(crate) fn known_value(
     ensures own { IsPassOf cells.now pass.new }
     ensures kept { IsAtLeast pass.old pass.new }
     ensures claims { pass.new.claims ≡ pass.old.claims }
-    ensures known { IfSome result (λ v. IsKnownValue (program_of system.now) pass.new (instance_of i) v) }
-    ensures none { IfNone result (¬ Knows pass.new (instance_of i)) }
+    ensures known { IsCoded (program_of system.now) i → IfSome result (λ v. IsKnownValue (program_of system.now) pass.new (instance_of (program_of system.now) i) v) }
+    ensures none { IsCoded (program_of system.now) i → IfNone result (¬ Knows (program_of system.now) pass.new (instance_of (program_of system.now) i)) }
 {
-    let slot = cells.seek(pass, Key::of(i))?;
+    let slot = cells.seek_instance(pass, i)?;
     let code = cells.settled(pass, slot)?;
     Some(Value::of_code(kind_of(system, &i), code))
 }
@@ -56,10 +56,11 @@ pub(crate) fn turn<L: Ledger>(
 ) -> Result<Turn, Memory>
     requires own { IsPassOf cells.now pass.old }
     requires same { cells.now.system.value ≡ system.now }
+    requires coded { IsCoded (program_of system.now) i }
     ensures own { IsPassOf cells.now pass.new }
     ensures kept { IsAtLeast pass.old pass.new }
     ensures claims { pass.new.claims ≡ pass.old.claims }
-    ensures turned { TurnsTo (program_of system.now) pass.new (instance_of i) result }
+    ensures turned { TurnsTo (program_of system.now) pass.new (instance_of (program_of system.now) i) result }
     ensures evals { evals.new ≡ evals.old + 1 }
 {
     evals.tick();

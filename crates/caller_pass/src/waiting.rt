@@ -1,7 +1,6 @@
 // The instances that wait for values.
-ghost use Rattle.std.specs.Prelude.{◌≡◌, ◌++◌, ◌∷◌, [], false, IfNone, IfOk, IfSome, OnOk, option_to_list};
-ghost use Rattle.equation_law.specs.Codes.{instance_of};
-ghost use Rattle.caller_pass.specs.Waiting.{names, waits};
+ghost use Rattle.std.specs.Prelude.{◌≡◌, ◌++◌, ◌∷◌, [], false, IfNone, IfOk, IfSome, OnOk, map, option_to_list};
+ghost use Rattle.caller_pass.specs.Waiting.{waits};
 
 use crate::chain::Chain;
 use equation_law::Instance;
@@ -74,7 +73,7 @@ impl Waiting {
 
     /// The instances in their order, and one more.
     pub(crate) fn chain(&self, alloc: Global, on: Instance) -> Result<Chain, Memory>
-        ensures { IfOk result (λ chain. chain ≡ names self.now ++ instance_of on ∷ []) }
+        ensures { IfOk result (λ chain. chain ≡ map (λ e. e.0) self.now ++ on ∷ []) }
     {
         let mut list = Vec::with_capacity(alloc, self.slots.len() + 1).map_err(|_| Memory)?;
         for instance in self.slots.keys() {

@@ -1,102 +1,128 @@
-use Rattle.std.proofs.Common.{ℕ, ◌+◌, ◌*◌, ◌<◌, ◌≤◌, arith, [], ◌++◌, inl, Ok, ap, sym, subst, ◌∙◌}
-use Rattle.solutions.specs.Leading.{none}
+use Rattle.std.proofs.Common.{ℕ, ◌+◌, ◌*◌, ◌<◌, ◌≤◌, arith, [], ◌++◌, Ok, ap, sym, subst, ◌∙◌}
 use Rattle.equation_law.specs.declared.system.System.{System}
-use Rattle.equation_law.specs.Checked.{IsInstance}
 use Rattle.equation_law.specs.Codes.{instance_of}
 use Rattle.equation_law.specs.Systems.{program_of}
 use Rattle.expr_eval.specs.declared.sites.Turn.{Turn}
-use Rattle.memo_cells.specs.Keys.{Fits, key_word}
-use Rattle.memo_cells.specs.Views.{ClaimsOnly, IsFull, IsSlot, times}
-use Rattle.memo_cells.proofs.More.{at_least_then}
+use Rattle.memo_cells.specs.Naming.{LacksCell}
+use Rattle.memo_cells.proofs.Naming.{knows_later}
 use Rattle.caller_pass.specs.Answering.{unsettled}
 use Rattle.caller_pass.specs.Knowing.{TurnsTo}
 use Rattle.caller_pass.proofs.Falling.{measure}
 use Rattle.caller_pass.proofs.Asked.{answered_known, asked_fault, asked_value, fault_is, full_answers, memory_answers}
-use Rattle.caller_pass.proofs.Knowing.{knows_later}
-use Rattle.caller_pass.proofs.Turning.{IsAsking, begun, claims_back, claims_more, claims_now, claims_then, falls_back, falls_on, fault_answers, first_answers, first_cost, first_paid, next_is, top_at, top_fits, went_back, went_on}
+use Rattle.caller_pass.proofs.Turning.{IsAsking, begun, claims_back, claims_first, claims_now, claims_then, falls_back, falls_on, fault_answers, first_answers, first_cost, first_paid, next_coded, next_is, top_at, top_coded, turned_by, went_back, went_on}
 use Rattle.caller_pass.proofs.asking.ask.Goals as goal
 
 pub returns-in-Some-clause-asked : goal.returns-in-Some-clause-asked
 returns-in-Some-clause-asked g c =
-    answered_known (program_of c.args.system.now) c.args.cells.now c.args.pass.now c.known_value.new.pass (instance_of c.args.i.now) c.in-Some.value c.args.evals.now c.requires.program c.requires.instance c.in-Some.ensures.known c.known_value.ensures.claims
+    let p = program_of c.args.system.now in
+    answered_known p c.args.cells.now c.args.pass.now c.known_value.new.pass (instance_of p c.args.i.now) c.in-Some.value c.args.evals.now c.requires.program c.requires.instance (c.in-Some.ensures.known c.requires.coded) c.known_value.ensures.claims
 
 pub returns-in_err-slot-clause-asked : goal.returns-in_err-slot-clause-asked
 returns-in_err-slot-clause-asked g c =
-    let word = ap key_word c.of.ensures.key in
-    let fits = subst Fits c.of.ensures.key c.of.ensures.fits in
-    let only = subst (λ (k : ℕ). ClaimsOnly c.known_value.new.pass c.claim.new.pass k) word c.claim.ensures.claims in
-    asked_fault (program_of c.args.system.now) c.args.cells.now c.args.pass.now c.claim.new.pass (instance_of c.args.i.now) c.args.evals.now c.args.evals.now c.from_residual.result
-    (λ k. c.in_default.ensures.none (knows_later c.args.pass.now c.known_value.new.pass (instance_of c.args.i.now) c.known_value.ensures.kept k))
-    (claims_more (program_of c.args.system.now) (instance_of c.args.i.now) c.args.pass.now c.known_value.new.pass c.claim.new.pass c.args.i.now fits none (λ q. inl (ap (times q) c.known_value.ensures.claims)) c.claim.ensures.kept only)
+    let p = program_of c.args.system.now in
+    let i = instance_of p c.args.i.now in
+    let lacks = subst (λ (s : System). LacksCell (program_of s) c.args.cells.now c.claim_instance.new.pass (instance_of (program_of s) c.args.i.now)) c.requires.same c.in_err-slot.ensures.full in
+    asked_fault p c.args.cells.now c.args.pass.now c.claim_instance.new.pass i c.args.evals.now c.args.evals.now c.from_residual.result
+    (λ k. c.in_default.ensures.none c.requires.coded (knows_later c.args.pass.now c.known_value.new.pass c.known_value.ensures.kept p i k))
+    (claims_first c.args.cells.now c.args.i.now c.args.pass.now (ap program_of (sym c.requires.same)) c.known_value.ensures.claims c.claim_instance.ensures.kept c.claim_instance.ensures.claims)
     c.from_residual.ensures.0
-    (full_answers (program_of c.args.system.now) c.args.cells.now c.claim.new.pass c.args.i.now c.from_residual.result fits c.from_residual.ensures (subst (λ (k : ℕ). IsFull c.args.cells.now c.claim.new.pass k) word c.in_err-slot.ensures.full))
+    (full_answers p c.args.cells.now c.claim_instance.new.pass i c.from_residual.result c.from_residual.ensures lacks)
 
 pub turns-init : goal.turns-init
 turns-init g c =
-    let word = ap key_word c.of.ensures.key in
-    let fits = subst Fits c.of.ensures.key c.of.ensures.fits in
-    let only = subst (λ (k : ℕ). ClaimsOnly c.known_value.new.pass c.claim.new.pass k) word c.claim.ensures.claims in (
-      subst (λ l. IsAsking (program_of c.args.system.now) c.args.cells.now c.args.pass.now c.claim.new.pass (instance_of c.args.i.now) l c.args.i.now c.in_ok-slot.slot) (sym c.new-waiting.ensures)
-          (begun (program_of c.args.system.now) c.args.cells.now c.args.pass.now c.known_value.new.pass c.claim.new.pass c.args.i.now c.in_ok-slot.slot c.requires.instance fits c.known_value.ensures.kept c.known_value.ensures.claims c.in_default.ensures.none c.claim.ensures.own c.claim.ensures.kept
-          (subst (λ (k : ℕ). IsSlot c.args.cells.now c.claim.new.pass c.in_ok-slot.slot.0 k) word c.in_ok-slot.ensures.slot) only),
-      subst (λ l. c.args.evals.now + measure c.claim.new.pass l (c.args.i.now, c.in_ok-slot.slot) c.args.cells.now.cells + 2 ≤ c.args.evals.now + 2 * unsettled c.args.pass.now c.args.cells.now.cells) (sym c.new-waiting.ensures)
-          (first_paid (program_of c.args.system.now) c.args.cells.now c.args.pass.now c.claim.new.pass c.args.i.now c.in_ok-slot.slot c.args.evals.now fits (λ k. c.in_default.ensures.none (knows_later c.args.pass.now c.known_value.new.pass (instance_of c.args.i.now) c.known_value.ensures.kept k)) c.claim.ensures.own (at_least_then c.known_value.ensures.kept c.claim.ensures.kept)
-          (subst (λ (k : ℕ). IsSlot c.args.cells.now c.claim.new.pass c.in_ok-slot.slot.0 k) word c.in_ok-slot.ensures.slot)),
+    let p = program_of c.args.system.now in
+    let i = instance_of p c.args.i.now in
+    let same = ap program_of (sym c.requires.same) in
+    let unknown = c.in_default.ensures.none c.requires.coded in
+    let claims = claims_first c.args.cells.now c.args.i.now c.args.pass.now same c.known_value.ensures.claims c.claim_instance.ensures.kept c.claim_instance.ensures.claims in
+    let first = begun c.args.i.now c.in_ok-slot.slot same c.known_value.ensures.kept unknown c.claim_instance.ensures.own c.claim_instance.ensures.kept c.in_ok-slot.ensures.slot c.requires.instance c.requires.coded claims in
+    let paid = first_paid c.args.i.now c.in_ok-slot.slot same c.known_value.ensures.kept unknown c.claim_instance.ensures.own c.claim_instance.ensures.kept c.in_ok-slot.ensures.slot c.args.evals.now c.requires.own in (
+      subst (λ l. IsAsking p c.args.cells.now c.args.pass.now c.claim_instance.new.pass i l c.args.i.now c.in_ok-slot.slot) (sym c.new-waiting.ensures) first,
+      subst (λ l. c.args.evals.now + measure c.claim_instance.new.pass l (c.args.i.now, c.in_ok-slot.slot) c.args.cells.now.cells + 2 ≤ c.args.evals.now + 2 * unsettled c.args.pass.now c.args.cells.now.cells) (sym c.new-waiting.ensures) paid,
     )
+
+pub turn-requires-clause-coded : goal.turn-requires-clause-coded
+turn-requires-clause-coded g c = top_coded c.turns.invariant.0
 
 pub returns-in_err-next-clause-asked : goal.returns-in_err-next-clause-asked
 returns-in_err-next-clause-asked g c =
-    asked_fault (program_of c.args.system.now) c.args.cells.now c.args.pass.now c.turn.new.pass (instance_of c.args.i.now) c.args.evals.now c.turn.new.evals c.from_residual-in_err-next.result c.turns.invariant.0.unknown
-    (claims_now (program_of c.args.system.now) c.args.cells.now c.requires.program (ap program_of (sym c.requires.same)) c.args.pass.now c.turns.pass c.turn.new.pass (instance_of c.args.i.now) c.turns.waiting c.turns.top c.turns.slot c.turns.invariant.0 c.turn.ensures.own c.turn.ensures.kept c.turn.ensures.claims)
-    c.from_residual-in_err-next.ensures.0
-    (memory_answers (program_of c.args.system.now) c.args.cells.now c.turn.new.pass (instance_of c.args.i.now) c.from_residual-in_err-next.result c.from_residual-in_err-next.ensures)
+    let p = program_of c.args.system.now in
+    let i = instance_of p c.args.i.now in
+    let t = turned_by c.requires.program (ap program_of (sym c.requires.same)) c.turns.invariant.0 c.turn.ensures.own c.turn.ensures.kept c.turn.ensures.claims in
+    asked_fault p c.args.cells.now c.args.pass.now c.turn.new.pass i c.args.evals.now c.turn.new.evals c.from_residual-in_err-next.result c.turns.invariant.0.unknown (claims_now t) c.from_residual-in_err-next.ensures.0
+    (memory_answers p c.args.cells.now c.turn.new.pass i c.from_residual-in_err-next.result c.from_residual-in_err-next.ensures)
 
 pub wait_for-requires-clause-next : goal.wait_for-requires-clause-next
 wait_for-requires-clause-next g c =
-    let halts = subst (λ (t : Turn). TurnsTo (program_of c.args.system.now) c.turn.new.pass (instance_of c.turns.top) (Ok t)) c.in-Need.is c.in_ok-next.ensures.turned in
-    subst (λ (s : System). IsInstance (program_of s) (instance_of c.in-Need.next)) (sym c.requires.same) (next_is (program_of c.args.system.now) c.args.cells.now c.requires.program (ap program_of (sym c.requires.same)) c.args.pass.now c.turns.pass c.turn.new.pass (instance_of c.args.i.now) c.turns.waiting c.turns.top c.turns.slot c.turns.invariant.0 c.turn.ensures.own c.turn.ensures.kept c.turn.ensures.claims c.in-Need.next halts.0 halts.1)
+    let p = program_of c.args.system.now in
+    let t = turned_by c.requires.program (ap program_of (sym c.requires.same)) c.turns.invariant.0 c.turn.ensures.own c.turn.ensures.kept c.turn.ensures.claims in
+    let need = subst (λ (r : Turn). TurnsTo p c.turn.new.pass (instance_of p c.turns.top) (Ok r)) c.in-Need.is c.in_ok-next.ensures.turned in
+    next_is t c.in-Need.next need
+
+pub wait_for-requires-clause-coded : goal.wait_for-requires-clause-coded
+wait_for-requires-clause-coded g c =
+    let p = program_of c.args.system.now in
+    let t = turned_by c.requires.program (ap program_of (sym c.requires.same)) c.turns.invariant.0 c.turn.ensures.own c.turn.ensures.kept c.turn.ensures.claims in
+    let need = subst (λ (r : Turn). TurnsTo p c.turn.new.pass (instance_of p c.turns.top) (Ok r)) c.in-Need.is c.in_ok-next.ensures.turned in
+    next_coded t c.in-Need.next need
 
 pub returns-in_err-slot-in-Need-clause-asked : goal.returns-in_err-slot-in-Need-clause-asked
 returns-in_err-slot-in-Need-clause-asked g c =
-    let halts = subst (λ (t : Turn). TurnsTo (program_of c.args.system.now) c.turn.new.pass (instance_of c.turns.top) (Ok t)) c.in-Need.is c.in_ok-next.ensures.turned in
-    asked_fault (program_of c.args.system.now) c.args.cells.now c.args.pass.now c.wait_for.new.pass (instance_of c.args.i.now) c.args.evals.now c.turn.new.evals c.from_residual-in_err-slot-in-Need.result c.turns.invariant.0.unknown
-    (claims_then (program_of c.args.system.now) c.args.cells.now c.requires.program (ap program_of (sym c.requires.same)) c.args.pass.now c.turns.pass c.turn.new.pass (instance_of c.args.i.now) c.turns.waiting c.turns.top c.turns.slot c.turns.invariant.0 c.turn.ensures.own c.turn.ensures.kept c.turn.ensures.claims c.in-Need.next halts.0 halts.1 c.wait_for.new.pass c.wait_for.ensures.own c.wait_for.ensures.kept c.wait_for.ensures.fits c.wait_for.ensures.claims)
+    let p = program_of c.args.system.now in
+    let i = instance_of p c.args.i.now in
+    let t = turned_by c.requires.program (ap program_of (sym c.requires.same)) c.turns.invariant.0 c.turn.ensures.own c.turn.ensures.kept c.turn.ensures.claims in
+    let need = subst (λ (r : Turn). TurnsTo p c.turn.new.pass (instance_of p c.turns.top) (Ok r)) c.in-Need.is c.in_ok-next.ensures.turned in
+    let answers = fault_answers t c.in-Need.next need c.wait_for.ensures.own c.wait_for.ensures.kept c.wait_for.ensures.claims c.wait_for.new.waiting c.wait_for.result c.in_err-slot-in-Need.field-0.0 c.in_err-slot-in-Need.was c.wait_for.ensures.answer in
+    asked_fault p c.args.cells.now c.args.pass.now c.wait_for.new.pass i c.args.evals.now c.turn.new.evals c.from_residual-in_err-slot-in-Need.result c.turns.invariant.0.unknown
+    (claims_then t c.in-Need.next need c.wait_for.ensures.own c.wait_for.ensures.kept c.wait_for.ensures.claims)
     c.from_residual-in_err-slot-in-Need.ensures.0
-    (fault_is (program_of c.args.system.now) c.args.cells.now c.wait_for.new.pass (instance_of c.args.i.now) c.in_err-slot-in-Need.field-0.0 c.from_residual-in_err-slot-in-Need.result c.from_residual-in_err-slot-in-Need.ensures
-    (fault_answers (program_of c.args.system.now) c.args.cells.now c.requires.program (ap program_of (sym c.requires.same)) c.args.pass.now c.turns.pass c.turn.new.pass (instance_of c.args.i.now) c.turns.waiting c.turns.top c.turns.slot c.turns.invariant.0 c.turn.ensures.own c.turn.ensures.kept c.turn.ensures.claims c.in-Need.next halts.0 halts.1 c.wait_for.new.pass c.wait_for.ensures.own c.wait_for.ensures.kept c.wait_for.ensures.fits c.wait_for.ensures.claims c.wait_for.new.waiting c.wait_for.result c.in_err-slot-in-Need.field-0.0 c.in_err-slot-in-Need.was c.wait_for.ensures.answer))
+    (fault_is p c.args.cells.now c.wait_for.new.pass i c.in_err-slot-in-Need.field-0.0 c.from_residual-in_err-slot-in-Need.result c.from_residual-in_err-slot-in-Need.ensures answers)
 
 pub turns-smaller-in-Need : goal.turns-smaller-in-Need
 turns-smaller-in-Need g c =
-    let halts = subst (λ (t : Turn). TurnsTo (program_of c.args.system.now) c.turn.new.pass (instance_of c.turns.top) (Ok t)) c.in-Need.is c.in_ok-next.ensures.turned in
-    falls_on (program_of c.args.system.now) c.args.cells.now c.requires.program (ap program_of (sym c.requires.same)) c.args.pass.now c.turns.pass c.turn.new.pass (instance_of c.args.i.now) c.turns.waiting c.turns.top c.turns.slot c.turns.invariant.0 c.turn.ensures.own c.turn.ensures.kept c.turn.ensures.claims c.in-Need.next halts.0 halts.1 c.wait_for.new.pass c.wait_for.ensures.own c.wait_for.ensures.kept c.wait_for.ensures.fits c.wait_for.ensures.claims c.in_ok-slot-in-Need.slot c.wait_for.new.waiting c.in_ok-slot-in-Need.ensures.answer.0 c.in_ok-slot-in-Need.ensures.answer.1 c.in_ok-slot-in-Need.ensures.answer.2
+    let p = program_of c.args.system.now in
+    let t = turned_by c.requires.program (ap program_of (sym c.requires.same)) c.turns.invariant.0 c.turn.ensures.own c.turn.ensures.kept c.turn.ensures.claims in
+    let need = subst (λ (r : Turn). TurnsTo p c.turn.new.pass (instance_of p c.turns.top) (Ok r)) c.in-Need.is c.in_ok-next.ensures.turned in
+    falls_on t c.in-Need.next need c.wait_for.ensures.own c.wait_for.ensures.kept c.wait_for.ensures.claims c.in_ok-slot-in-Need.slot c.wait_for.new.waiting c.in_ok-slot-in-Need.ensures.answer.0 c.in_ok-slot-in-Need.ensures.answer.1 c.in_ok-slot-in-Need.ensures.answer.2
 
 pub turns-preserved-in-Need : goal.turns-preserved-in-Need
 turns-preserved-in-Need g c =
-    let halts = subst (λ (t : Turn). TurnsTo (program_of c.args.system.now) c.turn.new.pass (instance_of c.turns.top) (Ok t)) c.in-Need.is c.in_ok-next.ensures.turned in (
-      went_on (program_of c.args.system.now) c.args.cells.now c.requires.program (ap program_of (sym c.requires.same)) c.args.pass.now c.turns.pass c.turn.new.pass (instance_of c.args.i.now) c.turns.waiting c.turns.top c.turns.slot c.turns.invariant.0 c.turn.ensures.own c.turn.ensures.kept c.turn.ensures.claims c.in-Need.next halts.0 halts.1 c.wait_for.new.pass c.wait_for.ensures.own c.wait_for.ensures.kept c.wait_for.ensures.fits c.wait_for.ensures.claims c.in_ok-slot-in-Need.slot c.wait_for.new.waiting c.in_ok-slot-in-Need.ensures.answer.0 c.in_ok-slot-in-Need.ensures.answer.1 c.in_ok-slot-in-Need.ensures.answer.2,
-      (let falls = falls_on (program_of c.args.system.now) c.args.cells.now c.requires.program (ap program_of (sym c.requires.same)) c.args.pass.now c.turns.pass c.turn.new.pass (instance_of c.args.i.now) c.turns.waiting c.turns.top c.turns.slot c.turns.invariant.0 c.turn.ensures.own c.turn.ensures.kept c.turn.ensures.claims c.in-Need.next halts.0 halts.1 c.wait_for.new.pass c.wait_for.ensures.own c.wait_for.ensures.kept c.wait_for.ensures.fits c.wait_for.ensures.claims c.in_ok-slot-in-Need.slot c.wait_for.new.waiting c.in_ok-slot-in-Need.ensures.answer.0 c.in_ok-slot-in-Need.ensures.answer.1 c.in_ok-slot-in-Need.ensures.answer.2 in let evals = c.turn.ensures.evals in let paid = c.turns.invariant.1 in omega (arith, falls, evals, paid)),
+    let p = program_of c.args.system.now in
+    let t = turned_by c.requires.program (ap program_of (sym c.requires.same)) c.turns.invariant.0 c.turn.ensures.own c.turn.ensures.kept c.turn.ensures.claims in
+    let need = subst (λ (r : Turn). TurnsTo p c.turn.new.pass (instance_of p c.turns.top) (Ok r)) c.in-Need.is c.in_ok-next.ensures.turned in
+    let falls = falls_on t c.in-Need.next need c.wait_for.ensures.own c.wait_for.ensures.kept c.wait_for.ensures.claims c.in_ok-slot-in-Need.slot c.wait_for.new.waiting c.in_ok-slot-in-Need.ensures.answer.0 c.in_ok-slot-in-Need.ensures.answer.1 c.in_ok-slot-in-Need.ensures.answer.2 in
+    let evals = c.turn.ensures.evals in
+    let paid = c.turns.invariant.1 in (
+      went_on t c.in-Need.next need c.wait_for.ensures.own c.wait_for.ensures.kept c.wait_for.ensures.claims c.in_ok-slot-in-Need.slot c.wait_for.new.waiting c.in_ok-slot-in-Need.ensures.answer.0 c.in_ok-slot-in-Need.ensures.answer.1 c.in_ok-slot-in-Need.ensures.answer.2,
+      omega (arith, falls, evals, paid),
     )
 
 pub finish-requires-clause-slot : goal.finish-requires-clause-slot
-finish-requires-clause-slot g c = top_at (program_of c.args.system.now) c.args.cells.now c.requires.program (ap program_of (sym c.requires.same)) c.args.pass.now c.turns.pass c.turn.new.pass (instance_of c.args.i.now) c.turns.waiting c.turns.top c.turns.slot c.turns.invariant.0 c.turn.ensures.own c.turn.ensures.kept c.turn.ensures.claims
-
-pub finish-requires-clause-fits : goal.finish-requires-clause-fits
-finish-requires-clause-fits g c = top_fits (program_of c.args.system.now) c.args.cells.now c.requires.program (ap program_of (sym c.requires.same)) c.args.pass.now c.turns.pass c.turn.new.pass (instance_of c.args.i.now) c.turns.waiting c.turns.top c.turns.slot c.turns.invariant.0 c.turn.ensures.own c.turn.ensures.kept c.turn.ensures.claims
+finish-requires-clause-slot g c =
+    let t = turned_by c.requires.program (ap program_of (sym c.requires.same)) c.turns.invariant.0 c.turn.ensures.own c.turn.ensures.kept c.turn.ensures.claims in
+    top_at t
 
 pub returns-in-None-clause-asked : goal.returns-in-None-clause-asked
 returns-in-None-clause-asked g c =
-    let done = subst (λ (t : Turn). TurnsTo (program_of c.args.system.now) c.turn.new.pass (instance_of c.turns.top) (Ok t)) c.in-Done.is c.in_ok-next.ensures.turned in
-    asked_value (program_of c.args.system.now) c.args.cells.now c.args.pass.now c.finish.new.pass (instance_of c.args.i.now) c.args.evals.now c.turn.new.evals c.in-Done.value c.turns.invariant.0.unknown
-    (claims_back (program_of c.args.system.now) c.args.cells.now c.requires.program (ap program_of (sym c.requires.same)) c.args.pass.now c.turns.pass c.turn.new.pass (instance_of c.args.i.now) c.turns.waiting c.turns.top c.turns.slot c.turns.invariant.0 c.turn.ensures.own c.turn.ensures.kept c.turn.ensures.claims c.finish.new.pass c.finish.ensures.own c.finish.ensures.kept c.finish.ensures.claims c.finish.ensures.known)
-    (first_answers (program_of c.args.system.now) c.args.cells.now c.requires.program (ap program_of (sym c.requires.same)) c.args.pass.now c.turns.pass c.turn.new.pass (instance_of c.args.i.now) c.turns.waiting c.turns.top c.turns.slot c.turns.invariant.0 c.turn.ensures.own c.turn.ensures.kept c.turn.ensures.claims c.finish.new.pass c.finish.ensures.own c.finish.ensures.kept c.finish.ensures.claims c.finish.ensures.known c.in-Done.value (c.in-None.ensures.last ∙ ap (λ l. l ++ []) c.in-None.ensures.none) done)
+    let p = program_of c.args.system.now in
+    let t = turned_by c.requires.program (ap program_of (sym c.requires.same)) c.turns.invariant.0 c.turn.ensures.own c.turn.ensures.kept c.turn.ensures.claims in
+    let done = subst (λ (r : Turn). TurnsTo p c.turn.new.pass (instance_of p c.turns.top) (Ok r)) c.in-Done.is c.in_ok-next.ensures.turned in
+    let empty = c.in-None.ensures.last ∙ ap (λ l. l ++ []) c.in-None.ensures.none in
+    asked_value p c.args.cells.now c.args.pass.now c.finish.new.pass (instance_of p c.args.i.now) c.args.evals.now c.turn.new.evals c.in-Done.value c.turns.invariant.0.unknown
+    (claims_back t c.finish.ensures.own c.finish.ensures.kept c.finish.ensures.claims c.finish.ensures.known)
+    (first_answers t c.finish.ensures.own c.finish.ensures.kept c.finish.ensures.claims c.finish.ensures.known c.in-Done.value empty done)
     (subst (λ (n : ℕ). n + 2 * unsettled c.finish.new.pass c.args.cells.now.cells < c.args.evals.now + 2 * unsettled c.args.pass.now c.args.cells.now.cells) (sym c.turn.ensures.evals)
-    (first_cost (program_of c.args.system.now) c.args.cells.now c.requires.program (ap program_of (sym c.requires.same)) c.args.pass.now c.turns.pass c.turn.new.pass (instance_of c.args.i.now) c.turns.waiting c.turns.top c.turns.slot c.turns.invariant.0 c.turn.ensures.own c.turn.ensures.kept c.turn.ensures.claims c.finish.new.pass c.finish.ensures.own c.finish.ensures.kept c.finish.ensures.claims c.finish.ensures.known c.args.evals.now c.turns.evals (c.in-None.ensures.last ∙ ap (λ l. l ++ []) c.in-None.ensures.none) c.turns.invariant.1))
+    (first_cost t c.finish.ensures.own c.finish.ensures.kept c.finish.ensures.claims c.finish.ensures.known c.args.evals.now c.turns.evals empty c.turns.invariant.1))
 
 pub turns-smaller : goal.turns-smaller
-turns-smaller g c = falls_back (program_of c.args.system.now) c.args.cells.now c.requires.program (ap program_of (sym c.requires.same)) c.args.pass.now c.turns.pass c.turn.new.pass (instance_of c.args.i.now) c.turns.waiting c.turns.top c.turns.slot c.turns.invariant.0 c.turn.ensures.own c.turn.ensures.kept c.turn.ensures.claims c.finish.new.pass c.finish.ensures.own c.finish.ensures.kept c.finish.ensures.claims c.finish.ensures.known c.pop.new.self c.in-Some-pop.last c.in-Some-pop.ensures.last c.in-Some-pop.ensures.other
+turns-smaller g c =
+    let t = turned_by c.requires.program (ap program_of (sym c.requires.same)) c.turns.invariant.0 c.turn.ensures.own c.turn.ensures.kept c.turn.ensures.claims in
+    falls_back t c.finish.ensures.own c.finish.ensures.kept c.finish.ensures.claims c.finish.ensures.known c.pop.new.self c.in-Some-pop.last c.in-Some-pop.ensures.last c.in-Some-pop.ensures.other
 
 pub turns-preserved : goal.turns-preserved
-turns-preserved g c = (
-  went_back (program_of c.args.system.now) c.args.cells.now c.requires.program (ap program_of (sym c.requires.same)) c.args.pass.now c.turns.pass c.turn.new.pass (instance_of c.args.i.now) c.turns.waiting c.turns.top c.turns.slot c.turns.invariant.0 c.turn.ensures.own c.turn.ensures.kept c.turn.ensures.claims c.finish.new.pass c.finish.ensures.own c.finish.ensures.kept c.finish.ensures.claims c.finish.ensures.known c.pop.new.self c.in-Some-pop.last c.in-Some-pop.ensures.last c.in-Some-pop.ensures.other,
-  (let falls = falls_back (program_of c.args.system.now) c.args.cells.now c.requires.program (ap program_of (sym c.requires.same)) c.args.pass.now c.turns.pass c.turn.new.pass (instance_of c.args.i.now) c.turns.waiting c.turns.top c.turns.slot c.turns.invariant.0 c.turn.ensures.own c.turn.ensures.kept c.turn.ensures.claims c.finish.new.pass c.finish.ensures.own c.finish.ensures.kept c.finish.ensures.claims c.finish.ensures.known c.pop.new.self c.in-Some-pop.last c.in-Some-pop.ensures.last c.in-Some-pop.ensures.other in let evals = c.turn.ensures.evals in let paid = c.turns.invariant.1 in omega (arith, falls, evals, paid)),
-)
+turns-preserved g c =
+    let t = turned_by c.requires.program (ap program_of (sym c.requires.same)) c.turns.invariant.0 c.turn.ensures.own c.turn.ensures.kept c.turn.ensures.claims in
+    let falls = falls_back t c.finish.ensures.own c.finish.ensures.kept c.finish.ensures.claims c.finish.ensures.known c.pop.new.self c.in-Some-pop.last c.in-Some-pop.ensures.last c.in-Some-pop.ensures.other in
+    let evals = c.turn.ensures.evals in
+    let paid = c.turns.invariant.1 in
+    (went_back t c.finish.ensures.own c.finish.ensures.kept c.finish.ensures.claims c.finish.ensures.known c.pop.new.self c.in-Some-pop.last c.in-Some-pop.ensures.last c.in-Some-pop.ensures.other, omega (arith, falls, evals, paid))

@@ -9,7 +9,7 @@ use Rattle.caller_pass.proofs.Turning.{IsAsking}
 use Rattle.caller_pass.proofs.asking.ask.Given as goal
 
 abbrev pub invariant-turns : goal.invariant-turns
-invariant-turns g l = IsAsking (program_of l.system) l.cells l.fn.pass l.pass (instance_of l.i) l.waiting l.top l.slot × (l.evals + measure l.pass l.waiting (l.top, l.slot) l.cells.cells + 2 ≤ l.fn.evals + 2 * unsettled l.fn.pass l.cells.cells)
+invariant-turns g l = IsAsking (program_of l.system) l.cells l.fn.pass l.pass (instance_of (program_of l.system) l.i) l.waiting l.top l.slot × (l.evals + measure l.pass l.waiting (l.top, l.slot) l.cells.cells + 2 ≤ l.fn.evals + 2 * unsettled l.fn.pass l.cells.cells)
 
 abbrev pub decreases-turns : goal.decreases-turns
 decreases-turns g l = measure l.pass l.waiting (l.top, l.slot) l.cells.cells

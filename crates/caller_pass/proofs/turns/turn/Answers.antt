@@ -1,4 +1,4 @@
-use Rattle.std.proofs.Common.{◌≡◌, ℕ, ap, sym, subst, ◌∙◌}
+use Rattle.std.proofs.Common.{◌≡◌, ap, sym, subst, ◌∙◌}
 use Rattle.equation_law.specs.Codes.{instance_of}
 use Rattle.equation_law.specs.Systems.{program_of}
 use Rattle.memo_cells.specs.declared.view.Frame.{Frame}
@@ -9,8 +9,8 @@ use Rattle.caller_pass.specs.Knowing.{TurnsTo}
 use Rattle.caller_pass.proofs.Desks.{later_itself, sound_for, turned}
 use Rattle.caller_pass.proofs.turns.turn.Goals as goal
 
-pub evaluate_instance-came-requires : goal.evaluate_instance-came-requires
-evaluate_instance-came-requires g c = sound_for (program_of c.args.system.now) _ (ap program_of c.requires.same)
+pub evaluate_instance-came-requires-clause-sound : goal.evaluate_instance-came-requires-clause-sound
+evaluate_instance-came-requires-clause-sound g c = sound_for (program_of c.args.system.now) _ (ap program_of c.requires.same)
 
 pub returns-clause-own : goal.returns-clause-own
 returns-clause-own g c =
@@ -35,5 +35,5 @@ pub returns-clause-turned : goal.returns-clause-turned
 returns-clause-turned g c =
     let l = c.evaluate_instance-came.ensures.kept.kept _ (later_itself _) in
     let back = c.pass-1.given.1 (sym (ap (λ y. y.2) c.desk.view_is ∙ l.lender)) in
-    subst (λ (v : View). TurnsTo (program_of c.args.system.now) v (instance_of c.args.i) c.evaluate_instance-came.result) (sym (back ∙ ap (λ y. y.1) c.desk.view_is))
-    (turned (program_of c.args.system.now) c.evaluate_instance-came.new.reader (instance_of c.args.i) c.evaluate_instance-came.result c.evaluate_instance-came.ensures.kept.sound.for c.evaluate_instance-came.ensures.answer)
+    subst (λ (v : View). TurnsTo (program_of c.args.system.now) v (instance_of (program_of c.args.system.now) c.args.i) c.evaluate_instance-came.result) (sym (back ∙ ap (λ y. y.1) c.desk.view_is))
+    (turned (program_of c.args.system.now) c.evaluate_instance-came.new.reader (instance_of (program_of c.args.system.now) c.args.i) c.evaluate_instance-came.result c.evaluate_instance-came.ensures.kept.sound.for c.evaluate_instance-came.ensures.answer)

@@ -1,10 +1,8 @@
 use Rattle.std.proofs.Common.{◌++◌, ◌∷◌, [], ap, ◌∙◌}
-use Rattle.equation_law.specs.contracts.coding.InstancePartialEq.TheImpl as equality
-use Rattle.equation_law.proofs.Keys.{key_same}
 use Rattle.caller_pass.specs.Waiting.{waits}
 use Rattle.caller_pass.proofs.Stacks.{comes_last}
 use Rattle.caller_pass.proofs.waiting.Waiting.push.Goals as goal
 
 pub returns : goal.returns
 returns c =
-    c.in-Ok.ensures.entries ∙ comes_last equality.ghosts.eq key_same c.self.inside.slots.entries c.args.i c.args.slot (ap (λ es. waits es c.args.i) c.self.view_is ∙ c.requires) ∙ ap (λ es. es ++ (c.args.i, c.args.slot) ∷ []) c.self.view_is
+    c.in-Ok.ensures.entries ∙ comes_last c.self.inside.slots.entries c.args.i c.args.slot (ap (λ es. waits es c.args.i) c.self.view_is ∙ c.requires) ∙ ap (λ es. es ++ (c.args.i, c.args.slot) ∷ []) c.self.view_is
