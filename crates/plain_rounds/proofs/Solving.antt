@@ -1,9 +1,11 @@
 -- The values of the plain rounds stand for the outer rounds.
-use Rattle.std.proofs.Common.{◌≡◌, ℕ, zero, suc, ◌+◌, ◌<◌, ◌≤◌, Bool, true, false, cond, ◌||◌, List, [], ◌∷◌, ◌++◌, length, map, replicate, count_by, is_none, Option, Some, None, refl, sym, ap, subst, ◌∙◌, arith, below_more, get_or, slice_get}
+use Rattle.std.proofs.Common.{◌≡◌, ℕ, zero, suc, ◌+◌, ◌<◌, ◌≤◌, Bool, true, false, cond, ◌||◌, All, List, [], ◌∷◌, ◌++◌, length, map, replicate, count_by, is_none, Option, Some, None, refl, sym, ap, subst, ◌∙◌, arith, below_more, get_or, slice_get}
+use Rattle.std.specs.HashMap.{HashMap}
 use Rattle.std.specs.Option.{option_map, option_and_then}
 use Rattle.std.proofs.Math.ListN.{get_or-append}
 use Rattle.std.proofs.Math.Seq.{get_or-append_seam}
 use Rattle.std.proofs.lemmas.List.{length-replicate}
+use Rattle.std.proofs.lemmas.List.Elements.{All-head, All-tail}
 use Rattle.std.proofs.lemmas.List.Recursion.{is_count_by}
 use Rattle.std.proofs.lemmas.Option.{get_or_from_slice_get, slice_get-get_or, slice_get-map, slice_get_within}
 use Rattle.solutions.specs.Asking.{Outcome, run}
@@ -12,13 +14,16 @@ use Rattle.equation_law.specs.declared.coding.Instance.{Instance as CodedInstanc
 use Rattle.plain_rounds.specs.declared.values.NamedValue.{NamedValue}
 use Rattle.equation_law.specs.Names.{Instance, same_instance}
 use Rattle.equation_law.specs.Values.{Value}
-use Rattle.equation_law.specs.Program.{Program}
-use Rattle.equation_law.specs.Equations.{equations_of, text_of}
-use Rattle.equation_law.specs.Codes.{instance_of}
+use Rattle.equation_law.specs.Program.{Program, text_of}
+use Rattle.equation_law.specs.Equations.{equations_of}
+use Rattle.equation_law.specs.Codes.{IsCoded, instance_of}
 use Rattle.plain_rounds.specs.Named.{value_in}
-use Rattle.plain_rounds.specs.Places.{place_in, value_on}
+use Rattle.plain_rounds.specs.Places.{ArePlaced, first_place, found, value_on}
 use Rattle.plain_rounds.specs.Steps.{IsAfter, IsRound, IsStep, name_at, standing}
 use Rattle.plain_rounds.proofs.Firsts.{or_none}
+use Rattle.rag_io.specs.Pool.{ArePooled}
+use Rattle.equation_law.specs.declared.coding.Instance.TheVariants as coded
+use Rattle.equation_law.proofs.Keys.{key_same, same_turned}
 use Rattle.equation_law.proofs.Lists.{some_of}
 use Rattle.equation_law.proofs.Names.{same_instance_is, same_instance_self}
 
@@ -27,26 +32,24 @@ later_place : (texts : ℕ → List ℕ) (v : Option NamedValue) (values : List 
 later_place texts v values None = refl
 later_place texts v values (Some k) = refl
 
--- what is at the first places stands under the names
-placed_stands : (texts : ℕ → List ℕ) (names : List CodedInstance) (values : List (Option NamedValue)) → length values ≡ length names → (i : Instance) → option_and_then (value_on texts values) (place_in (map instance_of names) i) ≡ standing texts names values i
-placed_stands texts [] values l i = refl
-placed_stands texts (n ∷ names) [] l i = absurd (omega arith)
-placed_stands texts (n ∷ names) (v ∷ values) l i =
-    let l' : length values ≡ length names = omega arith in
-    elim (same_instance i (instance_of n)) as (λ b. option_and_then (value_on texts (v ∷ values)) (cond b (Some 0) (option_map suc (place_in (map instance_of names) i))) ≡ cond b (option_map (value_in texts) v) (standing texts names values i)) [
-      | true ↦ refl
-      | false ↦ later_place texts v values (place_in (map instance_of names) i) ∙ placed_stands texts names values l' i
-    ]
+module _ (p : Program) (pooled : ArePooled p.texts) where
+  -- what is at the first place of a code stands under its instance
+  placed_stands : (names : List CodedInstance) (values : List (Option NamedValue)) → length values ≡ length names → All (IsCoded p) names → (q : CodedInstance) → IsCoded p q
+      → option_and_then (value_on (text_of p) values) (first_place names q) ≡ standing p names values (instance_of p q)
+  placed_stands [] values l all q h = refl
+  placed_stands (n ∷ names) [] l all q h = absurd (omega arith)
+  placed_stands (n ∷ names) (v ∷ values) l all q h =
+      let l' : length values ≡ length names = omega arith in
+      let same = key_same p pooled n q (All-head (IsCoded p) n names all) h ∙ same_turned (instance_of p n) (instance_of p q) in
+      ap (λ b. option_and_then (value_on (text_of p) (v ∷ values)) (cond b (Some 0) (option_map suc (first_place names q)))) same
+      ∙ elim (same_instance (instance_of p q) (instance_of p n)) as (λ b. option_and_then (value_on (text_of p) (v ∷ values)) (cond b (Some 0) (option_map suc (first_place names q))) ≡ cond b (option_map (value_in (text_of p)) v) (standing p names values (instance_of p q))) [
+        | true ↦ refl
+        | false ↦ later_place (text_of p) v values (first_place names q) ∙ placed_stands names values l' (All-tail (IsCoded p) n names all) q h
+      ]
 
--- the same for kept places
-pub found_stands : (texts : ℕ → List ℕ) (f : Instance → Option ℕ) (names : List CodedInstance) (values : List (Option NamedValue)) → ((i : Instance) → f i ≡ place_in (map instance_of names) i) → length values ≡ length names → (i : Instance) → option_and_then (value_on texts values) (f i) ≡ standing texts names values i
-found_stands texts f names values h l i = ap (option_and_then (value_on texts values)) (h i) ∙ placed_stands texts names values l i
-
--- a step under what is found is one under what stands
-pub step_stands : (p : Program) (f : Instance → Option ℕ) (names : List CodedInstance) (values : List (Option NamedValue)) (v w : Option NamedValue) (i : Instance) → ((j : Instance) → f j ≡ place_in (map instance_of names) j) → length values ≡ length names → IsStep (text_of p) v w (run (λ j. option_and_then (value_on (text_of p) values) (f j)) ((equations_of p).equation i)) → IsStep (text_of p) v w (run (standing (text_of p) names values) ((equations_of p).equation i))
-step_stands p f names values v w i h l s =
-    let same : (λ j. option_and_then (value_on (text_of p) values) (f j)) ≡ standing (text_of p) names values = λ t j. found_stands (text_of p) f names values h l j t in
-    subst (λ (A : Instance → Option Value). IsStep (text_of p) v w (run A ((equations_of p).equation i))) same s
+  -- the same for kept places
+  pub found_stands : {S : Type 0} (names : List CodedInstance) (m : HashMap CodedInstance ℕ S) (values : List (Option NamedValue)) → ArePlaced p names m values → (q : CodedInstance) → IsCoded p q → found (text_of p) m values q ≡ standing p names values (instance_of p q)
+  found_stands names m values placed q h = ap (option_and_then (value_on (text_of p) values)) (placed.places q) ∙ placed_stands names values placed.long placed.coded q h
 
 -- one value more
 pub pushed : {A : Type 0} (Q : ℕ → A → Type 0) (ws : List A) (w d : A) (i : ℕ) → length ws ≡ i → ((k : ℕ) → k < i → Q k (get_or ws k d)) → Q i w → (k : ℕ) → k < i + 1 → Q k (get_or (ws ++ w ∷ []) k d)
@@ -65,18 +68,18 @@ module _ (p : Program) (A : Instance → Option Value) where
   stepped_is None w i j e s = s ∙ ap Comes (sym e)
 
   abbrev AreSteps : List CodedInstance → List (Option NamedValue) → List (Option NamedValue) → Type 0
-  AreSteps ns vs ws = (k : ℕ) → k < length ns → IsStep (text_of p) (get_or vs k None) (get_or ws k None) (run A ((equations_of p).equation (instance_of (name_at ns k))))
+  AreSteps ns vs ws = (k : ℕ) → k < length ns → IsStep (text_of p) (get_or vs k None) (get_or ws k None) (run A ((equations_of p).equation (instance_of p (name_at ns k))))
 
   -- what the steps leave all names
-  steps_are : (ns : List CodedInstance) (vs ws : List (Option NamedValue)) → length vs ≡ length ns → length ws ≡ length ns → AreSteps ns vs ws → (i : Instance) → standing (text_of p) ns ws i ≡ or_else (standing (text_of p) ns vs i) (cond (is_in same_instance (map instance_of ns) i) (Comes i) None)
+  steps_are : (ns : List CodedInstance) (vs ws : List (Option NamedValue)) → length vs ≡ length ns → length ws ≡ length ns → AreSteps ns vs ws → (i : Instance) → standing p ns ws i ≡ or_else (standing p ns vs i) (cond (is_in same_instance (map (instance_of p) ns) i) (Comes i) None)
   steps_are [] vs ws l m s i = refl
   steps_are (n ∷ ns) [] ws l m s i = absurd (omega arith)
   steps_are (n ∷ ns) (v ∷ vs) [] l m s i = absurd (omega arith)
   steps_are (n ∷ ns) (v ∷ vs) (w ∷ ws) l m s i =
       let l' : length vs ≡ length ns = omega arith in
       let m' : length ws ≡ length ns = omega arith in
-      elim (same_instance i (instance_of n)) as (λ b. same_instance i (instance_of n) ≡ b → cond b (option_map (value_in (text_of p)) w) (standing (text_of p) ns ws i) ≡ or_else (cond b (option_map (value_in (text_of p)) v) (standing (text_of p) ns vs i)) (cond (b || is_in same_instance (map instance_of ns) i) (Comes i) None)) [
-        | true ↦ λ e. stepped_is v w i (instance_of n) (same_instance_is i (instance_of n) e) (s 0 (omega arith))
+      elim (same_instance i (instance_of p n)) as (λ b. same_instance i (instance_of p n) ≡ b → cond b (option_map (value_in (text_of p)) w) (standing p ns ws i) ≡ or_else (cond b (option_map (value_in (text_of p)) v) (standing p ns vs i)) (cond (b || is_in same_instance (map (instance_of p) ns) i) (Comes i) None)) [
+        | true ↦ λ e. stepped_is v w i (instance_of p n) (same_instance_is i (instance_of p n) e) (s 0 (omega arith))
         | false ↦ λ e. steps_are ns vs ws l' m' (λ k h. s (suc k) (omega arith)) i
       ] refl
 
@@ -86,9 +89,9 @@ none_either true o e = refl
 none_either false o e = e
 
 -- in the first table nothing stands
-none_stands : (texts : ℕ → List ℕ) (ns : List CodedInstance) (i : Instance) → standing texts ns (replicate (length ns) None) i ≡ None
-none_stands texts [] i = refl
-none_stands texts (n ∷ ns) i = none_either (same_instance i (instance_of n)) _ (none_stands texts ns i)
+none_stands : (p : Program) (ns : List CodedInstance) (i : Instance) → standing p ns (replicate (length ns) None) i ≡ None
+none_stands p [] i = refl
+none_stands p (n ∷ ns) i = none_either (same_instance i (instance_of p n)) _ (none_stands p ns i)
 
 -- and no name has a value
 none_at : (texts : ℕ → List ℕ) (n k : ℕ) → option_map (value_in texts) (get_or (replicate n None) k None) ≡ None
@@ -97,10 +100,10 @@ none_at texts (suc n) zero = refl
 none_at texts (suc n) (suc k) = none_at texts n k
 
 -- a name of the list is in it
-named_in : (ns : List CodedInstance) (k : ℕ) → k < length ns → is_in same_instance (map instance_of ns) (instance_of (name_at ns k)) ≡ true
-named_in [] k h = absurd (omega arith)
-named_in (n ∷ ns) zero h = ap (λ b. b || is_in same_instance (map instance_of ns) (instance_of n)) (same_instance_self (instance_of n))
-named_in (n ∷ ns) (suc k) h = either_way (same_instance (instance_of (name_at ns k)) (instance_of n)) _ (named_in ns k (omega arith))
+named_in : (p : Program) (ns : List CodedInstance) (k : ℕ) → k < length ns → is_in same_instance (map (instance_of p) ns) (instance_of p (name_at ns k)) ≡ true
+named_in p [] k h = absurd (omega arith)
+named_in p (n ∷ ns) zero h = ap (λ b. b || is_in same_instance (map (instance_of p) ns) (instance_of p n)) (same_instance_self (instance_of p n))
+named_in p (n ∷ ns) (suc k) h = either_way (same_instance (instance_of p (name_at ns k)) (instance_of p n)) _ (named_in p ns k (omega arith))
   where
     either_way : (a b : Bool) → b ≡ true → (a || b) ≡ true
     either_way true b e = refl
@@ -113,48 +116,48 @@ module _ (p : Program) (ns : List CodedInstance) where
     long = length-replicate (length ns) None;
     rounds = [];
     whole = tt;
-    is = λ i. none_stands (text_of p) ns i;
-    even = λ k h. none_at (text_of p) (length ns) k ∙ sym (none_stands (text_of p) ns (instance_of (name_at ns k)));
+    is = λ i. none_stands p ns i;
+    even = λ k h. none_at (text_of p) (length ns) k ∙ sym (none_stands p ns (instance_of p (name_at ns k)));
   }
 
   -- one more round, on the assignment
   added : (Instance → Option Value) → Instance → Option Value
-  added S i = or_else (S i) (or_else (plain_round (equations_of p) (map instance_of ns) S i) None)
+  added S i = or_else (S i) (or_else (plain_round (equations_of p) (map (instance_of p) ns) S i) None)
 
   -- what a round adds
-  added_is : (vs ws : List (Option NamedValue)) → length vs ≡ length ns → length ws ≡ length ns → IsRound p ns vs ws → (i : Instance) → standing (text_of p) ns ws i ≡ added (standing (text_of p) ns vs) i
+  added_is : (vs ws : List (Option NamedValue)) → length vs ≡ length ns → length ws ≡ length ns → IsRound p ns vs ws → (i : Instance) → standing p ns ws i ≡ added (standing p ns vs) i
   unfolding added equations_of
-  added_is vs ws l m r i = steps_are p (standing (text_of p) ns vs) ns vs ws l m r.each i ∙ ap (λ x. or_else (standing (text_of p) ns vs i) x) (or_none _)
+  added_is vs ws l m r i = steps_are p (standing p ns vs) ns vs ws l m r.each i ∙ ap (λ x. or_else (standing p ns vs i) x) (or_none _)
 
   -- what an outer round adds
-  outer_added : (ms : List ℕ) (i : Instance) → outer_rounds (equations_of p) (map instance_of ns) (0 ∷ ms) i ≡ added (outer_rounds (equations_of p) (map instance_of ns) ms) i
+  outer_added : (ms : List ℕ) (i : Instance) → outer_rounds (equations_of p) (map (instance_of p) ns) (0 ∷ ms) i ≡ added (outer_rounds (equations_of p) (map (instance_of p) ns) ms) i
   unfolding added equations_of
   outer_added ms i = refl
 
   -- so the table after a round is that of one outer round more
-  round_outer : (vs ws : List (Option NamedValue)) → length ws ≡ length ns → IsRound p ns vs ws → (a : IsAfter p ns vs) → (i : Instance) → standing (text_of p) ns ws i ≡ outer_rounds (equations_of p) (map instance_of ns) (0 ∷ a.rounds) i
+  round_outer : (vs ws : List (Option NamedValue)) → length ws ≡ length ns → IsRound p ns vs ws → (a : IsAfter p ns vs) → (i : Instance) → standing p ns ws i ≡ outer_rounds (equations_of p) (map (instance_of p) ns) (0 ∷ a.rounds) i
   round_outer vs ws m r a i =
-      let same : standing (text_of p) ns vs ≡ outer_rounds (equations_of p) (map instance_of ns) a.rounds = λ t j. a.is j t in
+      let same : standing p ns vs ≡ outer_rounds (equations_of p) (map (instance_of p) ns) a.rounds = λ t j. a.is j t in
       added_is vs ws a.long m r i ∙ ap (λ (S : Instance → Option Value). added S i) same ∙ sym (outer_added a.rounds i)
 
   -- without circular instances nothing changes in inner rounds
-  stable : (S : Instance → Option Value) → IsStable (equations_of p) (map instance_of ns) S 0
+  stable : (S : Instance → Option Value) → IsStable (equations_of p) (map (instance_of p) ns) S 0
   unfolding equations_of
   stable S i = refl
 
   -- a name that stands twice keeps one value
-  even_after : (vs ws : List (Option NamedValue)) → length ws ≡ length ns → IsRound p ns vs ws → IsAfter p ns vs → (k : ℕ) → k < length ns → option_map (value_in (text_of p)) (get_or ws k None) ≡ standing (text_of p) ns ws (instance_of (name_at ns k))
+  even_after : (vs ws : List (Option NamedValue)) → length ws ≡ length ns → IsRound p ns vs ws → IsAfter p ns vs → (k : ℕ) → k < length ns → option_map (value_in (text_of p)) (get_or ws k None) ≡ standing p ns ws (instance_of p (name_at ns k))
   even_after vs ws m r a k h =
-      let i = instance_of (name_at ns k) in
-      let come = Comes p (standing (text_of p) ns vs) i in
-      stepped_is p (standing (text_of p) ns vs) (get_or vs k None) (get_or ws k None) i i refl (r.each k h) ∙ ap (λ o. or_else o come) (a.even k h) ∙ ap (λ b. or_else (standing (text_of p) ns vs i) (cond b come None)) (sym (named_in ns k h)) ∙ sym (steps_are p (standing (text_of p) ns vs) ns vs ws a.long m r.each i)
+      let i = instance_of p (name_at ns k) in
+      let come = Comes p (standing p ns vs) i in
+      stepped_is p (standing p ns vs) (get_or vs k None) (get_or ws k None) i i refl (r.each k h) ∙ ap (λ o. or_else o come) (a.even k h) ∙ ap (λ b. or_else (standing p ns vs i) (cond b come None)) (sym (named_in p ns k h)) ∙ sym (steps_are p (standing p ns vs) ns vs ws a.long m r.each i)
 
   -- the table after a round is one of rounds
   pub after_round : (vs ws : List (Option NamedValue)) → length ws ≡ length ns → IsRound p ns vs ws → IsAfter p ns vs → IsAfter p ns ws
   after_round vs ws m r a = record {
     long = m;
     rounds = 0 ∷ a.rounds;
-    whole = (a.whole, stable (outer_rounds (equations_of p) (map instance_of ns) a.rounds));
+    whole = (a.whole, stable (outer_rounds (equations_of p) (map (instance_of p) ns) a.rounds));
     is = round_outer vs ws m r a;
     even = even_after vs ws m r a;
   }
@@ -209,7 +212,7 @@ same_table (None ∷ vs) (None ∷ ws) l s c = let r = same_table vs ws (omega a
 
 module _ (p : Program) (ns : List CodedInstance) where
   -- a round that fills no gap changes nothing
-  pub ended_at : (vs ws : List (Option NamedValue)) → length ws ≡ length ns → IsRound p ns vs ws → (a : IsAfter p ns vs) → count_by is_none vs ≤ count_by is_none ws → RoundsEnd (equations_of p) (map instance_of ns) (standing (text_of p) ns ws)
+  pub ended_at : (vs ws : List (Option NamedValue)) → length ws ≡ length ns → IsRound p ns vs ws → (a : IsAfter p ns vs) → count_by is_none vs ≤ count_by is_none ws → RoundsEnd (equations_of p) (map (instance_of p) ns) (standing p ns ws)
   ended_at vs ws m r a c =
       let l : length vs ≡ length ws = a.long ∙ sym m in
       let same : ws ≡ vs = same_table vs ws l (λ k h. step_stays (text_of p) _ _ _ (r.each k (omega (arith, a.long)))) (subst (λ x. x ≤ gaps ws) (sym (gaps_are vs)) (subst (λ x. count_by is_none vs ≤ x) (sym (gaps_are ws)) c)) in
@@ -217,16 +220,16 @@ module _ (p : Program) (ns : List CodedInstance) where
         rounds = a.rounds;
         whole = a.whole;
         turns = 0;
-        stable = stable p ns (outer_rounds (equations_of p) (map instance_of ns) a.rounds);
-        last = λ i. sym (round_outer p ns vs ws m r a i) ∙ ap (λ xs. standing (text_of p) ns xs i) same ∙ a.is i;
-        is = λ i. ap (λ xs. standing (text_of p) ns xs i) same ∙ a.is i;
+        stable = stable p ns (outer_rounds (equations_of p) (map (instance_of p) ns) a.rounds);
+        last = λ i. sym (round_outer p ns vs ws m r a i) ∙ ap (λ xs. standing p ns xs i) same ∙ a.is i;
+        is = λ i. ap (λ xs. standing p ns xs i) same ∙ a.is i;
       }
 
   -- the value of each name is the one that stands under it
-  pub each_stands : (ws : List (Option NamedValue)) → IsAfter p ns ws → (k : ℕ) (i : Instance) → slice_get (map instance_of ns) k ≡ Some i → option_and_then (λ (v : Option Value). v) (slice_get (map (option_map (value_in (text_of p))) ws) k) ≡ standing (text_of p) ns ws i
+  pub each_stands : (ws : List (Option NamedValue)) → IsAfter p ns ws → (k : ℕ) (i : Instance) → slice_get (map (instance_of p) ns) k ≡ Some i → option_and_then (λ (v : Option Value). v) (slice_get (map (option_map (value_in (text_of p))) ws) k) ≡ standing p ns ws i
   each_stands ws a k i e =
-      let s = some_of instance_of (slice_get ns k) i (sym (slice_get-map instance_of ns k) ∙ e) in
+      let s = some_of (instance_of p) (slice_get ns k) i (sym (slice_get-map (instance_of p) ns k) ∙ e) in
       let h = slice_get_within ns k s.0 s.1 in
       let h' : k < length ws = omega (arith, a.long) in
-      let n : instance_of (name_at ns k) ≡ i = ap instance_of (get_or_from_slice_get ns k s.0 _ s.1) ∙ s.2 in
-      ap (option_and_then (λ (v : Option Value). v)) (slice_get-map (option_map (value_in (text_of p))) ws k ∙ ap (option_map (option_map (value_in (text_of p)))) (slice_get-get_or ws k None h')) ∙ a.even k h ∙ ap (standing (text_of p) ns ws) n
+      let n : instance_of p (name_at ns k) ≡ i = ap (instance_of p) (get_or_from_slice_get ns k s.0 _ s.1) ∙ s.2 in
+      ap (option_and_then (λ (v : Option Value). v)) (slice_get-map (option_map (value_in (text_of p))) ws k ∙ ap (option_map (option_map (value_in (text_of p)))) (slice_get-get_or ws k None h')) ∙ a.even k h ∙ ap (standing p ns ws) n

@@ -5,30 +5,22 @@ use Rattle.solutions.specs.Rounds.{Graph, value_of as outcome_value}
 use Rattle.solutions.proofs.Runs.{ends_more, ends_run, option_cases}
 use Rattle.equation_law.specs.declared.coding.Instance.{Instance as CodedInstance}
 use Rattle.equation_law.specs.declared.coding.Value.{Value as CodedValue}
-use Rattle.equation_law.specs.Codes.{instance_of, value_of}
-use Rattle.equation_law.specs.Equations.{kind_in, text_of}
+use Rattle.equation_law.specs.Codes.{value_of}
 use Rattle.equation_law.specs.Names.{Instance}
-use Rattle.equation_law.specs.Program.{Program}
-use Rattle.equation_law.specs.Reading.{IsSound, SettledBy, Settles, Told}
+use Rattle.equation_law.specs.Program.{Program, text_of}
+use Rattle.equation_law.specs.Reading.{IsSound, Told}
 use Rattle.equation_law.specs.Systems.{program_of}
-use Rattle.equation_law.specs.Values.{Value, as_kind}
+use Rattle.equation_law.specs.Values.{Value}
 use Rattle.expr_eval.specs.declared.sites.Turn.{Turn}
 use Rattle.expr_eval.specs.declared.sites.Turn.TheVariants.{Done, Need}
 use Rattle.expr_eval.specs.Evaluating.{Evaluates}
-use Rattle.expr_eval.proofs.Forms.{grows_self}
 use Rattle.plain_rounds.specs.declared.standing.Standing.{Standing}
-use Rattle.plain_rounds.specs.Standing.{IsStanding, standing_at, told_by}
+use Rattle.plain_rounds.specs.Places.{ArePlaced}
+use Rattle.plain_rounds.specs.Standing.{standing_at, told_by}
 
 -- it is a reader for its program
-pub sound : (s : Standing) → IsSound (program_of s.system.now) (told_by s)
-sound s = record { for = refl; within = λ i v a. a; one_value = λ i v w a b. cc }
-
-answers : (s : Standing) (p : Program) (i : Instance) (o : Option CodedValue) → p ≡ program_of s.system.now → IsStanding s i o → Settles p (told_by s) i (Ok o)
-answers s p i None e h = λ w a. cc
-answers s p i (Some v) e h = (h.0, h.1, subst (λ (q : Program). value_of (text_of q) v ≡ as_kind (kind_in q i) h.0) (sym e) h.2)
-
-pub settled_by : (s : Standing) (i : CodedInstance) (o : Option CodedValue) → IsStanding s (instance_of i) o → SettledBy (told_by s) (told_by s) i (Ok o)
-settled_by s i o h = record { kept = λ p a. grows_self a; answer = λ p a. answers s p (instance_of i) o a.for h }
+pub sound : (s : Standing) → ArePlaced (program_of s.system.now) s.names.now s.places.now.map s.values.now → IsSound (program_of s.system.now) (told_by s)
+sound s placed = record { for = (refl, placed); within = λ i v a. a; one_value = λ i v w a b. cc }
 
 -- it is stuck at an instance that has no value
 halts_run : {I V : Type 0} (A : I → Option V) {c : Demands I V} {j : I} {ds : List I} → Halts (Graph A) c j ds → run A c ≡ Stuck j ds

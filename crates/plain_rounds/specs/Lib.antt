@@ -1,3 +1,5 @@
+pub mod Coding
+pub mod Listing
 pub mod Named
 pub mod Places
 pub mod Standing

@@ -1,25 +1,46 @@
--- Values by structural names of nodes, and what a table of values stands for.
+-- Values and instances by structural names of nodes, and what a table of values stands for.
 use Rattle.std.specs.Prelude.{◌≡◌, ℕ, cond, List, [], ◌∷◌, Option, Some, None, map, slice_get}
 use Rattle.std.specs.Option.{option_map, option_and_then}
 use Rattle.solutions.specs.Rounds.{RoundsEnd}
 use Rattle.plain_rounds.specs.declared.instances.NameList.{NameList}
+use Rattle.plain_rounds.specs.declared.naming.Name.{Name}
+use Rattle.plain_rounds.specs.declared.naming.Name.TheVariants as listed
+use Rattle.plain_rounds.specs.declared.naming.NamedArg.{NamedArg}
+use Rattle.plain_rounds.specs.declared.naming.NamedArg.TheVariants as arguments
+use Rattle.plain_rounds.specs.declared.naming.NamedInstance.{NamedInstance}
 use Rattle.plain_rounds.specs.declared.values.NamedValue.{NamedValue}
 use Rattle.plain_rounds.specs.declared.values.NodeName.{NodeName}
 use Rattle.plain_rounds.specs.declared.values.NodeName.TheVariants as names
 use Rattle.plain_rounds.specs.declared.rounds.Table.{Table}
-use Rattle.equation_law.specs.Names.{Instance, Reference, Null, At, Source, same_instance}
-use Rattle.equation_law.specs.Codes.{instance_of, value_of}
+use Rattle.equation_law.specs.Names.{Argument, OfTruth, OfInt, OfText, OfNode, Instance, Attribute, Query, Reference, Null, At, Source, same_instance}
+use Rattle.equation_law.specs.Codes.{value_of}
 use Rattle.equation_law.specs.Values.{Value, Truth, Int, Text, Node, Texts, Nodes}
-use Rattle.equation_law.specs.Program.{Program}
-use Rattle.equation_law.specs.Equations.{equations_of, text_of}
-
-abbrev pub instances_in : NameList → List Instance
-instances_in l = map instance_of l.names.items
+use Rattle.equation_law.specs.Program.{Program, text_of}
+use Rattle.equation_law.specs.Equations.{equations_of}
 
 -- a node by its name
 abbrev pub reference_named : NodeName → Reference
 reference_named names.Null = Null
 reference_named (names.Source n) = At (Source n)
+
+-- an argument by its name: a text by its number in the pool, and a node by its own name
+abbrev pub argument_named : (ℕ → List ℕ) → NamedArg → Argument
+argument_named texts (arguments.Truth b) = OfTruth b
+argument_named texts (arguments.Int z) = OfInt z
+argument_named texts (arguments.Text n) = OfText (texts n)
+argument_named texts (arguments.Node n) = OfNode (reference_named n)
+
+-- an instance of an attribute by its name
+abbrev pub instance_named : (ℕ → List ℕ) → NamedInstance → Instance
+instance_named texts i = Attribute i.attr.0 (reference_named i.node) (map (argument_named texts) i.args)
+
+abbrev pub name_in : (ℕ → List ℕ) → Name → Instance
+name_in texts (listed.Attribute i) = instance_named texts i
+name_in texts (listed.Query q) = Query q
+
+-- the instances of a list, by the texts of a program
+abbrev pub instances_in : Program → NameList → List Instance
+instances_in p l = map (name_in (text_of p)) l.names.items
 
 abbrev pub value_in : (ℕ → List ℕ) → NamedValue → Value
 value_in texts v = value_of texts v.value

@@ -2,21 +2,23 @@
 use Rattle.std.specs.Prelude.{◌≡◌, Option, Some, None}
 use Rattle.equation_law.specs.declared.coding.Value.{Value as CodedValue}
 use Rattle.equation_law.specs.Codes.{value_of}
-use Rattle.equation_law.specs.Equations.{kind_in, text_of}
+use Rattle.equation_law.specs.Equations.{kind_in}
+use Rattle.equation_law.specs.Program.{text_of}
 use Rattle.equation_law.specs.Names.{Instance}
 use Rattle.equation_law.specs.Reading.{Told}
 use Rattle.equation_law.specs.Systems.{program_of}
 use Rattle.equation_law.specs.Values.{Value, as_kind}
 use Rattle.plain_rounds.specs.declared.standing.Standing.{Standing}
-use Rattle.plain_rounds.specs.Places.{found}
+use Rattle.plain_rounds.specs.Places.{ArePlaced}
+use Rattle.plain_rounds.specs.Steps.{standing}
 
--- the value at the place of an instance
+-- the value that stands under an instance
 abbrev pub standing_at : Standing → Instance → Option Value
-standing_at s i = found (text_of (program_of s.system.now)) s.places.now.map s.values.now i
+standing_at s i = standing (program_of s.system.now) s.names.now s.values.now i
 
--- a reader for its program, which has these values and no other
+-- a reader for its program where the places are those of the list, which has these values and no other
 abbrev pub told_by : Standing → Told Standing
-told_by s = record { for = λ p. p ≡ program_of s.system.now; has = λ i v. standing_at s i ≡ Some v; can = λ i v. standing_at s i ≡ Some v; keeps = λ earlier. earlier ≡ s }
+told_by s = record { for = λ p. (p ≡ program_of s.system.now) × ArePlaced p s.names.now s.places.now.map s.values.now; has = λ i v. standing_at s i ≡ Some v; can = λ i v. standing_at s i ≡ Some v; keeps = λ earlier. earlier ≡ s }
 
 -- the value, read at its type, or None where there is none
 abbrev pub IsStanding : Standing → Instance → Option CodedValue → Type 0

@@ -1,14 +1,17 @@
 //! The rounds of the model over a list of instances, run as they are defined: the slow definition in executable form.
 #![tactic(auto)]
 
+mod coding;
 mod growing;
 mod instances;
 mod listing;
+mod naming;
 mod places;
 mod rounds;
 mod standing;
 mod values;
 
 pub use instances::NameList;
+pub use naming::{NamedArg, NamedArgs, NamedInstance};
 pub use rounds::{Table, plain_rounds};
 pub use values::{NamedValue, NodeName};

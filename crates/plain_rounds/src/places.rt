@@ -1,10 +1,10 @@
 // Where the instances of a list stand in it.
-ghost use Rattle.std.specs.Prelude.{◌≡◌, ℕ, List, Some, None, IfOk, cond, map};
+ghost use Rattle.std.specs.Prelude.{◌≡◌, ℕ, List, Some, None, IfOk, cond};
 ghost use Rattle.std.specs.Option.{option_map};
 ghost use Rattle.solutions.specs.Rounds.{or_else};
-ghost use Rattle.equation_law.specs.Codes.{instance_of, value_of};
-ghost use Rattle.equation_law.specs.Names.{Instance as InstanceName, same_instance};
-ghost use Rattle.plain_rounds.specs.Places.{place_in, kept_place, found};
+ghost use Rattle.equation_law.specs.declared.coding.Instance.{Instance as CodedInstance};
+ghost use Rattle.equation_law.specs.Codes.{value_of};
+ghost use Rattle.plain_rounds.specs.Places.{first_place, found, kept_place, same_code};
 ghost use Rattle.plain_rounds.specs.Places as specs;
 
 use crate::values::NamedValue;
@@ -25,7 +25,7 @@ fn keep_first(
     name: Instance,
     place: usize,
 ) -> Result<(), Memory>
-    ensures { IfOk result (λ _. (i : InstanceName) → kept_place map.new i ≡ or_else (kept_place map.old i) (cond (same_instance i (instance_of name)) (Some place) None)) }
+    ensures { IfOk result (λ _. (q : CodedInstance) → kept_place map.new q ≡ or_else (kept_place map.old q) (cond (same_code name q) (Some place) None)) }
 {
     if map.contains_key(&name) {
         return Ok(());
@@ -50,7 +50,7 @@ fn value_on(values: &[Option<NamedValue>], place: usize) -> Option<Value>
 impl Places {
     /// The places in these names.
     pub(crate) fn of_names(alloc: Global, names: &[Instance]) -> Result<Places, Memory>
-        ensures { IfOk result (λ p. (i : InstanceName) → kept_place p.map i ≡ place_in (map instance_of names.now) i) }
+        ensures { IfOk result (λ p. (q : CodedInstance) → kept_place p.map q ≡ first_place names.now q) }
     {
         let mut map = HashMap::new(alloc);
         for (k, name) in names.iter().enumerate() {
@@ -61,7 +61,7 @@ impl Places {
 
     /// The value that stands at the first place of an instance, if there are such a place and a value.
     pub(crate) fn value(&self, values: &[Option<NamedValue>], name: Instance) -> Option<Value>
-        ensures { (texts : ℕ → List ℕ) → option_map (value_of texts) result ≡ found texts self.now.map values.now (instance_of name) }
+        ensures { (texts : ℕ → List ℕ) → option_map (value_of texts) result ≡ found texts self.now.map values.now name }
     {
         let place = self.map.get(&name)?;
         value_on(values, *place)

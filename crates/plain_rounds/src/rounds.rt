@@ -1,14 +1,12 @@
 // The rounds of the model over a list of instances.
-ghost use Rattle.std.specs.Prelude.{◌≡◌, ℕ, List, IfOk, MatchOption, Some, None, count_by, is_none, length, map, replicate};
-ghost use Rattle.solutions.specs.Asking.{run};
-ghost use Rattle.equation_law.specs.Names.{Instance as InstanceName};
-ghost use Rattle.equation_law.specs.Equations.{equations_of, text_of};
+ghost use Rattle.std.specs.Prelude.{◌≡◌, ◌<◌, All, ℕ, List, IfOk, MatchOption, Some, None, count_by, is_none, length, replicate};
+ghost use Rattle.equation_law.specs.Checked.{IsInstance};
 ghost use Rattle.equation_law.specs.Systems.{program_of};
-ghost use Rattle.equation_law.specs.Codes.{instance_of};
 ghost use Rattle.plain_rounds.specs.Named.{instances_in, value_in, value_at, Solves};
-ghost use Rattle.plain_rounds.specs.Places.{place_in, kept_place, found};
-ghost use Rattle.plain_rounds.specs.Steps.{IsStep, IsRound};
+ghost use Rattle.plain_rounds.specs.Places.{ArePlaced};
+ghost use Rattle.plain_rounds.specs.Steps.{IsStepAt, IsRound};
 
+use crate::coding::codes_of;
 use crate::growing::push;
 use crate::instances::NameList;
 use crate::places::Places;
@@ -41,16 +39,18 @@ impl Table {
 fn stepped(
     alloc: Global,
     system: &System,
+    names: &[Instance],
     places: &Places,
     values: &[Option<NamedValue>],
-    name: Instance,
-    value: Option<NamedValue>,
+    k: usize,
 ) -> Result<Option<NamedValue>, Memory>
-    ensures { IfOk result (λ next. IsStep (text_of (program_of system.now)) value next (run (found (text_of (program_of system.now)) places.now.map values.now) ((equations_of (program_of system.now)).equation (instance_of name)))) }
+    requires placed { ArePlaced (program_of system.now) names.now places.now.map values.now }
+    requires within { k < length names.now }
+    ensures { IfOk result (λ next. IsStepAt (program_of system.now) names.now values.now k next) }
 {
-    match value {
+    match values[k] {
         Some(held) => Ok(Some(held)),
-        None => equation_value(alloc, system, places, values, name),
+        None => equation_value(alloc, system, names, places, values, names[k]),
     }
 }
 
@@ -62,14 +62,13 @@ fn round(
     places: &Places,
     values: &[Option<NamedValue>],
 ) -> Result<Vec<Option<NamedValue>>, Memory>
-    requires long { length values.now ≡ length names.now }
-    requires places { (i : InstanceName) → kept_place places.now.map i ≡ place_in (map instance_of names.now) i }
+    requires placed { ArePlaced (program_of system.now) names.now places.now.map values.now }
     ensures long { IfOk result (λ next. length next.items ≡ length names.now) }
     ensures round { IfOk result (λ next. IsRound (program_of system.now) names.now values.now next.items) }
 {
     let mut next = Vec::with_capacity(alloc, names.len()).map_err(|_| Memory)?;
-    for (i, name) in names.iter().enumerate() {
-        let value = stepped(alloc, system, places, values, *name, values[i])?;
+    for k in 0..names.len() {
+        let value = stepped(alloc, system, names, places, values, k)?;
         push(&mut next, value)?;
     }
     Ok(next)
@@ -89,19 +88,21 @@ fn nothing(alloc: Global, count: usize) -> Result<Vec<Option<NamedValue>>, Memor
     vec![in alloc; None; count].map_err(|_| Memory)
 }
 
-/// Runs the rounds over the instances until nothing is added: each round gives each instance that has no value
+/// Runs the rounds over instances of a system until nothing is added: each round gives each instance that has no value
 /// yet the value of its equation, where that isn't stuck under the values of the round before. It is the slow
 /// definition in executable form: a round takes time linear in the list and the expressions, and there are at
 /// most as many rounds as the longest chain of demands has instances, and one more.
 pub fn plain_rounds(alloc: Global, system: &System, names: &NameList) -> Result<Table, Memory>
-    ensures { IfOk result (λ table. Solves (program_of system.now) (instances_in names.now) table) }
+    requires { All (IsInstance (program_of system.now)) (instances_in (program_of system.now) names.now) }
+    ensures { IfOk result (λ table. Solves (program_of system.now) (instances_in (program_of system.now) names.now) table) }
 {
-    let names = names.list();
-    let places = Places::of_names(alloc, names)?;
-    let mut values = nothing(alloc, names.len())?;
+    let codes = codes_of(alloc, system, names.list())?;
+    let instances = codes.as_slice();
+    let places = Places::of_names(alloc, instances)?;
+    let mut values = nothing(alloc, instances.len())?;
     let mut left = missing(&values);
     loop {
-        let next = round(alloc, system, names, &places, &values)?;
+        let next = round(alloc, system, instances, &places, &values)?;
         let now = missing(&next);
         if now >= left {
             return Ok(Table { values: next });

@@ -3,12 +3,13 @@ ghost use Rattle.std.specs.Prelude.{◌≡◌, IfOk};
 ghost use Rattle.std.specs.Option.{option_map};
 ghost use Rattle.solutions.specs.Asking.{run};
 ghost use Rattle.solutions.specs.Rounds.{value_of as outcome_value};
-ghost use Rattle.equation_law.specs.Codes.{instance_of};
-ghost use Rattle.equation_law.specs.Equations.{equations_of, text_of};
+ghost use Rattle.equation_law.specs.Codes.{IsCoded, instance_of};
+ghost use Rattle.equation_law.specs.Equations.{equations_of};
+ghost use Rattle.equation_law.specs.Program.{text_of};
 ghost use Rattle.equation_law.specs.Systems.{program_of};
 ghost use Rattle.plain_rounds.specs.Named.{value_in};
-ghost use Rattle.plain_rounds.specs.Places.{found};
-ghost use Rattle.plain_rounds.specs.Standing.{IsStanding};
+ghost use Rattle.plain_rounds.specs.Places.{ArePlaced};
+ghost use Rattle.plain_rounds.specs.Steps.{standing};
 
 use crate::places::Places;
 use crate::values::NamedValue;
@@ -17,18 +18,21 @@ use expr_eval::{Turn, evaluate_instance, kind_of};
 use rag_io::Memory;
 use std::alloc::Global;
 
-/// What stands in a round: a value, or none, at the place of each instance.
+/// What stands in a round: a value, or none, for each instance of a list.
 #[derive(Clone, Copy)]
 pub(crate) struct Standing<'a> {
     system: &'a System,
+    names: &'a [Instance],
     places: &'a Places,
     values: &'a [Option<NamedValue>],
 }
 
 impl Standing<'_> {
-    /// The value at the place of an instance, read at its type.
+    ghost use Rattle.plain_rounds.specs.Standing.{IsStanding};
+
+    /// The value that stands under an instance, read at its type.
     fn value(&self, i: Instance) -> Option<Value>
-        ensures { IsStanding self.now (instance_of i) result }
+        ensures { IsCoded (program_of self.now.system.now) i → ArePlaced (program_of self.now.system.now) self.now.names.now self.now.places.now.map self.now.values.now → IsStanding self.now (instance_of (program_of self.now.system.now) i) result }
     {
         let value = self.places.value(self.values, i)?;
         Some(value.read_as(kind_of(self.system, &i)))
@@ -45,18 +49,22 @@ impl Reader for Standing<'_> {
     }
 }
 
-/// The value of an instance's equation, if it isn't stuck.
+/// The value of an instance's equation under what stands, if it isn't stuck.
 pub(crate) fn equation_value(
     alloc: Global,
     system: &System,
+    names: &[Instance],
     places: &Places,
     values: &[Option<NamedValue>],
     name: Instance,
 ) -> Result<Option<NamedValue>, Memory>
-    ensures { IfOk result (λ value. option_map (value_in (text_of (program_of system.now))) value ≡ outcome_value (run (found (text_of (program_of system.now)) places.now.map values.now) ((equations_of (program_of system.now)).equation (instance_of name)))) }
+    requires placed { ArePlaced (program_of system.now) names.now places.now.map values.now }
+    requires coded { IsCoded (program_of system.now) name }
+    ensures { IfOk result (λ value. option_map (value_in (text_of (program_of system.now))) value ≡ outcome_value (run (standing (program_of system.now) names.now values.now) ((equations_of (program_of system.now)).equation (instance_of (program_of system.now) name)))) }
 {
     let mut standing = Standing {
         system,
+        names,
         places,
         values,
     };

@@ -6,7 +6,7 @@ use Rattle.plain_rounds.proofs.rounds.plain_rounds.Given as goal
 
 abbrev pub invariant-loop-values : goal.invariant-loop-values
 invariant-loop-values l = record {
-  after : IsAfter (program_of l.system) l.names l.values.items;
+  after : IsAfter (program_of l.system) l.instances l.values.items;
   gaps : l.left ≡ count_by is_none l.values.items;
 }
 

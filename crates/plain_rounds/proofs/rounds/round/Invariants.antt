@@ -4,8 +4,8 @@ use Rattle.plain_rounds.specs.Steps.{IsStepAt}
 use Rattle.equation_law.specs.Systems.{program_of}
 use Rattle.plain_rounds.proofs.rounds.round.Given as goal
 
-abbrev pub invariant-loop-i : goal.invariant-loop-i
-invariant-loop-i l = record {
-  long : length l.next.items ≡ l.i;
-  each : (k : ℕ) → k < l.i → IsStepAt (program_of l.system) l.names l.values k (get_or l.next.items k None);
+abbrev pub invariant-loop-k : goal.invariant-loop-k
+invariant-loop-k l = record {
+  long : length l.next.items ≡ l.k;
+  each : (i : ℕ) → i < l.k → IsStepAt (program_of l.system) l.names l.values i (get_or l.next.items i None);
 }

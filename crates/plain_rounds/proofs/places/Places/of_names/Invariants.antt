@@ -1,9 +1,8 @@
 -- The map has the first place of each of the names so far.
-use Rattle.std.proofs.Common.{◌≡◌, map, take}
-use Rattle.equation_law.specs.Names.{Instance}
-use Rattle.equation_law.specs.Codes.{instance_of}
-use Rattle.plain_rounds.specs.Places.{place_in, kept_place}
+use Rattle.std.proofs.Common.{◌≡◌, take}
+use Rattle.equation_law.specs.declared.coding.Instance.{Instance as CodedInstance}
+use Rattle.plain_rounds.specs.Places.{first_place, kept_place}
 use Rattle.plain_rounds.proofs.places.Places.of_names.Given as goal
 
 abbrev pub invariant-loop-k : goal.invariant-loop-k
-invariant-loop-k l = (i : Instance) → kept_place l.map i ≡ place_in (map instance_of (take l.k l.names)) i
+invariant-loop-k l = (q : CodedInstance) → kept_place l.map q ≡ first_place (take l.k l.names) q
