@@ -1,11 +1,12 @@
+mod arguments;
 mod expressions;
 mod inherited;
 mod program;
 mod rounds;
 
 use ast_grammar::ClassId;
-use attr_rules::{AttrId, Kind, Operator, Quantifier, QueryEq, TExpr};
-use equation_law::{Instance, NodeRef, Reader, System, Value};
+use attr_rules::{AttrId, Kind, Operator, Quantifier, QueryEq, TArgs, TExpr};
+use equation_law::{Args, Instance, NodeRef, Reader, System, Value};
 use program::X;
 use rag_io::{Memory, Place};
 use std::alloc::{AllocFailed, Global};
@@ -83,7 +84,17 @@ fn token(alloc: Global, kind: Kind, k: u32, receiver: TExpr) -> Result<TExpr, Fa
 }
 
 fn call(alloc: Global, attribute: AttrId, receiver: TExpr) -> Result<TExpr, Failed> {
-    Ok(TExpr::Call(attribute, HERE, Box::new(alloc, receiver)?))
+    call_with(alloc, attribute, receiver, TArgs::End)
+}
+
+fn call_with(
+    alloc: Global,
+    attribute: AttrId,
+    receiver: TExpr,
+    arguments: TArgs,
+) -> Result<TExpr, Failed> {
+    let receiver = Box::new(alloc, receiver)?;
+    Ok(TExpr::Call(attribute, HERE, receiver, arguments))
 }
 
 fn cast(alloc: Global, class: u16, operand: TExpr) -> Result<TExpr, Failed> {

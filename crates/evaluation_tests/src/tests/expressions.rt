@@ -1,6 +1,5 @@
 // What expressions come to where no instance has a value.
-ghost use Rattle.std.specs.Prelude.{◌≡◌, ◌<◌, length};
-ghost use Rattle.equation_law.specs.Systems.{program_of};
+ghost use Rattle.std.specs.Prelude.{◌<◌};
 
 use super::program::{T, V, X, Y, system};
 use super::*;
@@ -24,19 +23,19 @@ impl Reader for Nothing {
 
 // Expressions, each a query, and what they come to.
 #[derive(Drop)]
-struct Rows {
-    queries: Vec<QueryEq>,
-    wanted: Vec<Turn>,
+pub(super) struct Rows {
+    pub(super) queries: Vec<QueryEq>,
+    pub(super) wanted: Vec<Turn>,
 }
 
 impl Rows {
-    fn add(&mut self, expression: TExpr, wanted: Turn) -> Result<(), Fail> {
+    pub(super) fn add(&mut self, expression: TExpr, wanted: Turn) -> Result<(), Fail> {
         self.queries.push(QueryEq::of(expression, Kind::Truth))?;
         self.wanted.push(wanted)?;
         Ok(())
     }
 
-    fn add_value(&mut self, expression: TExpr, value: Value) -> Result<(), Fail> {
+    pub(super) fn add_value(&mut self, expression: TExpr, value: Value) -> Result<(), Fail> {
         self.add(expression, Turn::Done(value))
     }
 
@@ -394,9 +393,17 @@ fn add_nested(alloc: Global, rows: &mut Rows) -> Result<(), Fail> {
     Ok(())
 }
 
+const NO_ARGUMENTS: Args = Args {
+    count: 0,
+    first: 0,
+    second: 0,
+    third: 0,
+};
+
 const X_FIRST: Turn = Turn::Need(Instance::Attr {
     attr: X,
     node: NodeRef(1),
+    args: NO_ARGUMENTS,
 });
 
 // A call, and operators over calls: a demand where the part that decides is stuck, and else a value.
@@ -496,7 +503,7 @@ fn all_rows(alloc: Global) -> Result<Rows, Fail> {
 }
 
 // Checks what each query comes to.
-fn check_queries(
+pub(super) fn check_queries(
     rt: &impl Abort,
     alloc: Global,
     system: &System,
@@ -518,7 +525,8 @@ fn check_sites(rt: &impl Abort, alloc: Global, system: &System) -> Result<(), Fa
         let site = EqSite {
             equation: EqId(4),
             node: NodeRef(node),
-            index: None,
+            outer: Args::none(),
+            inner: Args::none(),
         };
         let turn = evaluate(alloc, system, &site, &mut nothing)?;
         assert_eq!(rt; turn, Turn::Done(Value::Text(text)), "node {node}");

@@ -44,7 +44,7 @@ fn attributes(alloc: Global, grammar: &Grammar) -> Result<Attributes, Memory>
     Attributes::of_list(alloc, grammar, &list)
 }
 
-fn push_equation(
+pub(super) fn push_equation(
     list: &mut Vec<KeptEquation>,
     class: u16,
     reach: Reach,
@@ -87,16 +87,20 @@ fn nodes(alloc: Global) -> Result<Vec<FirstNode>, Fail>
     Ok(list)
 }
 
-fn tree(alloc: Global) -> Result<Tree, Fail> {
+pub(super) fn tree(alloc: Global) -> Result<Tree, Fail> {
     let nodes = nodes(alloc)?;
     Ok(Tree::of_nodes(alloc, nodes)?)
 }
 
-fn system(alloc: Global) -> Result<System, Fail> {
-    let grammar = grammar_of(
+pub(super) fn grammar(alloc: Global) -> Result<Grammar, Fail> {
+    grammar_of(
         alloc,
         b"Program ::= Block; Block ::= Stmt*; Stmt;".as_slice(),
-    )?;
+    )
+}
+
+fn system(alloc: Global) -> Result<System, Fail> {
+    let grammar = grammar(alloc)?;
     let attributes = attributes(alloc, &grammar)?;
     let rules = rules_of(alloc, &grammar, attributes, equations(alloc)?)?;
     let tree = tree(alloc)?;
@@ -115,14 +119,23 @@ const INSTANCES: &[(AttrId, NodeRef, i32)] = &[
     (OUTER, NodeRef(4), 7),
 ];
 
-// Checks what the equation of each instance comes to.
+// Checks what the equation of an instance comes to.
+fn check_instance(
+    rt: &impl Abort,
+    alloc: Global,
+    system: &System,
+    (attr, node, value): (AttrId, NodeRef, i32),
+) -> Result<(), Fail> {
+    let args = Args::none();
+    let instance = Instance::Attr { attr, node, args };
+    let turn = evaluate_instance(alloc, system, &instance, &mut Nothing)?;
+    assert_eq!(rt; turn, Turn::Done(Value::Int(value)), "{instance:?}");
+    Ok(())
+}
+
 fn check_instances(rt: &impl Abort, alloc: Global, system: &System) -> Result<(), Fail> {
-    let mut nothing = Nothing;
-    for (attr, node, value) in INSTANCES {
-        let (attr, node) = (*attr, *node);
-        let instance = Instance::Attr { attr, node };
-        let turn = evaluate_instance(alloc, system, &instance, &mut nothing)?;
-        assert_eq!(rt; turn, Turn::Done(Value::Int(*value)), "{instance:?}");
+    for instance in INSTANCES {
+        check_instance(rt, alloc, system, *instance)?;
     }
     Ok(())
 }
@@ -130,7 +143,7 @@ fn check_instances(rt: &impl Abort, alloc: Global, system: &System) -> Result<()
 // Above the root there is no equation.
 fn check_root(rt: &impl Abort, system: &System) {
     for attr in [DEPTH, BLOCK_DEPTH, OUTER] {
-        assert!(rt; find_equation(system, attr, NodeRef(1)).is_none());
+        assert!(rt; find_equation(system, attr, NodeRef(1), Args::none()).is_none());
     }
 }
 

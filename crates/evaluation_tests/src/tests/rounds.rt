@@ -1,5 +1,5 @@
 // The values of all instances of the program.
-ghost use Rattle.std.specs.Prelude.{◌≤◌, ◌+◌, IfOk, OnOk, length};
+ghost use Rattle.std.specs.Prelude.{◌≤◌, ◌+◌, IfOk, length};
 
 use super::program::{T, V, X, Y, system};
 use super::*;
@@ -103,11 +103,13 @@ const VALUES: &[Option<Value>] = &[
 ];
 
 // A value by its accessors, of which one at most answers.
-fn seen(value: &NamedValue) -> (Option<bool>, Option<i32>, Option<u32>, Option<NodeName>) {
+pub(super) fn seen(
+    value: &NamedValue,
+) -> (Option<bool>, Option<i32>, Option<u32>, Option<NodeName>) {
     (value.truth(), value.int(), value.text(), value.node())
 }
 
-fn wanted(value: Value) -> (Option<bool>, Option<i32>, Option<u32>, Option<NodeName>) {
+pub(super) fn wanted(value: Value) -> (Option<bool>, Option<i32>, Option<u32>, Option<NodeName>) {
     match value {
         Value::Truth(truth) => (Some(truth), None, None, None),
         Value::Int(int) => (None, Some(int), None, None),
