@@ -3,7 +3,7 @@ use Rattle.std.proofs.Common.{◌≡◌, ℕ, Bool, true, false, ◌&&◌, List,
 use Rattle.ll_parser.specs.Table.{member}
 use Rattle.jrag_syntax.specs.Tokens.{token_class}
 use Rattle.jrag_syntax.specs.declared.classes.Start.{Start}
-use Rattle.jrag_reader.specs.Forms.{Sort, Form}
+use Rattle.jrag_reader.specs.Forms.{Sort}
 use Rattle.jrag_reader.specs.Forms as sorts
 use Rattle.jrag_reader.specs.Making.{make}
 use Rattle.jrag_reader.specs.Parts.{Part, Token, Named, Quantifying, Formed, Arguments, Typed, Parameters, Flag, Modifiers, Circularity, Perhaps, Behind, PerhapsNamed, Made, Items, Opened}

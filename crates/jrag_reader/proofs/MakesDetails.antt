@@ -5,7 +5,7 @@ use Rattle.jrag_syntax.specs.declared.classes.Start.{Start}
 use Rattle.jrag_reader.specs.Forms.{Form, OneOf, Word, Expression, Arguments, SomeArguments, OfType, Parameters, SomeParameters, Lazy, HigherOrder, Absent, Modifiers, Circularity, form, sign, type_names, choice, forms_of_details}
 use Rattle.jrag_reader.specs.Making.{type_name_by}
 use Rattle.jrag_reader.specs.Parts as parts
-use Rattle.jrag_reader.specs.Parts.{Part, Typed, Flag}
+use Rattle.jrag_reader.specs.Parts.{Typed, Flag}
 use Rattle.jrag_reader.specs.Saying.{IsAmong}
 use Rattle.jrag_reader.proofs.Rows.{Makes, one, two, row, no_more}
 use Rattle.jrag_reader.proofs.SideBySide.{over, ◌on◌, token, word, expression, some_arguments, of_type, some_parameters, lazy, higher_order}

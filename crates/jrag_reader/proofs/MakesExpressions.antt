@@ -4,7 +4,7 @@ use Rattle.ll_parser.specs.Table.{every}
 use Rattle.jrag_syntax.specs.Tokens.{token_class}
 use Rattle.jrag_syntax.specs.declared.classes.Start.{Start}
 use Rattle.jrag_reader.specs.Expressions as expressions
-use Rattle.jrag_reader.specs.Forms.{Sort, Form, OneOf, Word, Quantifier, Expression, Sourced, Arguments, form, sign, members, forms_of_expressions}
+use Rattle.jrag_reader.specs.Forms.{Form, OneOf, Word, Quantifier, Expression, Sourced, Arguments, form, sign, members, forms_of_expressions}
 use Rattle.jrag_reader.specs.Forms.{choice, equality, relation, sum, product, unary, operand, postfix, primary, literals, quantifiers, names}
 use Rattle.jrag_reader.specs.Forms as levels
 use Rattle.jrag_reader.specs.Making.{make, make_binary, literal_by, operator_by, quantifier_by, name_of, integer_of, named}

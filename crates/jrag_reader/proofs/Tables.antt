@@ -5,7 +5,7 @@ use Rattle.ll_parser.specs.declared.symbols.Symbol.TheVariants.{Terminal, Nonter
 use Rattle.ll_parser.specs.Grammar.{shift}
 use Rattle.ll_parser.specs.Table.{every, entry}
 use Rattle.jrag_syntax.specs.JragPrintedGrammar.{jrag_printed_grammar}
-use Rattle.jrag_reader.specs.Forms.{Sort, Form, is_also}
+use Rattle.jrag_reader.specs.Forms.{Sort}
 use Rattle.jrag_reader.specs.Forms as sorts
 use Rattle.jrag_reader.proofs.Inclusions.{leads}
 

@@ -1,4 +1,4 @@
--- Which items and expressions are built so far: those that synthesized and inherited attributes of single values without parameters need.
+-- Which items and expressions are built so far: those that synthesized and inherited attributes of single values need, with parameters of single values.
 use Rattle.std.specs.Prelude.{ℕ, List, [], ◌∷◌, Bool, true, false, not, ◌&&◌, Option, Some, None, codes}
 use Rattle.std.specs.Option.{unwrap_or}
 use Rattle.rag_io.specs.Words.{is_one_of}
@@ -48,12 +48,13 @@ abbrev mutual
 abbrev pub is_plain : WrittenType → Bool
 is_plain t = not t.set
 
-abbrev pub are_none : List Parameter → Bool
-are_none [] = true
-are_none (p ∷ ps) = false
+abbrev pub are_plain : List Parameter → Bool
+are_plain [] = true
+are_plain (p ∷ ps) = is_plain p.of && are_plain ps
 
-abbrev pub has_none : Signature → Bool
-has_none s = are_none s.parameters
+-- a name with parameters of which none is a set
+abbrev pub takes_plain : Signature → Bool
+takes_plain s = are_plain s.parameters
 
 abbrev pub is_built_body : Option Expr → Bool
 is_built_body None = true
@@ -63,21 +64,21 @@ abbrev pub is_not_circular : Option Circular → Bool
 is_not_circular None = true
 is_not_circular (Some c) = false
 
--- a declaration without `nta`, `circular` and parameters, of a type that is no set
+-- a declaration without `nta` and `circular`, of a type that is no set, with parameters that are none either
 abbrev pub is_built_declaration : Synthesized → Bool
-is_built_declaration s = not s.higher_order && (is_plain s.of && (has_none s.signature && (is_not_circular s.circular && is_built_body s.body)))
+is_built_declaration s = not s.higher_order && (is_plain s.of && (takes_plain s.signature && (is_not_circular s.circular && is_built_body s.body)))
 
 -- the same of an inherited attribute
 abbrev pub is_built_inherited : Inherited → Bool
-is_built_inherited i = is_plain i.of && (has_none i.signature && is_not_circular i.circular)
+is_built_inherited i = is_plain i.of && (takes_plain i.signature && is_not_circular i.circular)
 
 -- the signature of the attribute that an equation gives a value to: of the inherited attribute, where there is a path to it
 abbrev pub own_signature : Equation → Signature
 own_signature e = unwrap_or e.inherited e.signature
 
--- an equation of an attribute without parameters; a path may have them
+-- an equation of an attribute whose parameters are no sets; a path may have any
 abbrev pub is_built_equation : Equation → Bool
-is_built_equation e = has_none (own_signature e) && is_built e.body
+is_built_equation e = takes_plain (own_signature e) && is_built e.body
 
 abbrev pub is_built_item : Item → Bool
 is_built_item (Declared s) = is_built_declaration s

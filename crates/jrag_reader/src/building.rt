@@ -1,5 +1,5 @@
 // From the events of a sentence to the parts that it is made of.
-ghost use Rattle.std.specs.Prelude.{◌≡◌, ◌<◌, ◌^◌, ℕ, List, IfOk, map};
+ghost use Rattle.std.specs.Prelude.{◌≡◌, ◌<◌, ℕ, List, IfOk, map};
 ghost use Rattle.rag_io.specs.Tokens.{seen_tokens};
 ghost use Rattle.jrag_reader.specs.Building.{EndsWith, Runs, seen_builder};
 ghost use Rattle.jrag_reader.specs.Running.{nothing, shifted, step};

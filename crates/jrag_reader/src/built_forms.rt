@@ -1,13 +1,13 @@
-// Which items are built so far: those that synthesized and inherited attributes of single values without parameters need.
+// Which items are built so far: those that synthesized and inherited attributes of single values need, with parameters of single values.
 ghost use Rattle.std.specs.Prelude.{◌≡◌, map};
 ghost use Rattle.rag_io.specs.Words.{is_one_of};
-ghost use Rattle.jrag_reader.specs.Built.{all_built, are_built, has_none, is_built, is_built_declaration, is_built_equation, is_built_inherited, is_built_item, is_plain, gives_one, own_signature, set_forms};
+ghost use Rattle.jrag_reader.specs.Built.{all_built, are_built, are_plain, is_built, is_built_declaration, is_built_equation, is_built_inherited, is_built_item, is_plain, gives_one, own_signature, set_forms, takes_plain};
 ghost use Rattle.jrag_reader.specs.Expressions.{arguments_of, seen_expr};
-ghost use Rattle.jrag_reader.specs.Items.{seen_aspects, seen_equation, seen_inherited, seen_item, seen_signature, seen_synthesized, seen_type};
+ghost use Rattle.jrag_reader.specs.Items.{seen_aspects, seen_equation, seen_inherited, seen_item, seen_parameter, seen_signature, seen_synthesized, seen_type};
 
 use crate::aspects::Aspects;
 use crate::expression::{Expr, Quantifier};
-use crate::items::{Equation, Inherited, Item, Signature, Synthesized, Type};
+use crate::items::{Equation, Inherited, Item, Parameter, Signature, Synthesized, Type};
 
 // The word of a form on sets, which is a call without receiver.
 fn is_set_form(text: &[u8]) -> bool
@@ -83,10 +83,23 @@ fn is_plain(of: &Type) -> bool
     !of.set
 }
 
-fn has_none(signature: &Signature) -> bool
-    ensures { result ≡ has_none (seen_signature signature.now) }
+// Parameters of which none is a set.
+fn are_plain(parameters: &[Parameter]) -> bool
+    ensures { result ≡ are_plain (map seen_parameter parameters.now) }
 {
-    signature.parameters.is_empty()
+    for parameter in parameters {
+        if !is_plain(&parameter.of) {
+            return false;
+        }
+    }
+    true
+}
+
+// A name with parameters of which none is a set.
+fn takes_plain(signature: &Signature) -> bool
+    ensures { result ≡ takes_plain (seen_signature signature.now) }
+{
+    are_plain(&signature.parameters)
 }
 
 fn is_built_declaration(declared: &Synthesized) -> bool
@@ -94,7 +107,7 @@ fn is_built_declaration(declared: &Synthesized) -> bool
 {
     !declared.higher_order
         && is_plain(&declared.of)
-        && has_none(&declared.signature)
+        && takes_plain(&declared.signature)
         && declared.circular.is_none()
         && match &declared.body {
             Some(body) => is_built_expr(body),
@@ -105,7 +118,7 @@ fn is_built_declaration(declared: &Synthesized) -> bool
 fn is_built_inherited(declared: &Inherited) -> bool
     ensures { result ≡ is_built_inherited (seen_inherited declared.now) }
 {
-    is_plain(&declared.of) && has_none(&declared.signature) && declared.circular.is_none()
+    is_plain(&declared.of) && takes_plain(&declared.signature) && declared.circular.is_none()
 }
 
 // The signature of the attribute that the equation gives a value to.
@@ -115,11 +128,11 @@ fn own_signature(equation: &Equation) -> &Signature
     equation.inherited.as_ref().unwrap_or(&equation.signature)
 }
 
-// An equation of an attribute without parameters; a path may have them.
+// An equation of an attribute whose parameters are no sets; a path may have any.
 fn is_built_equation(equation: &Equation) -> bool
     ensures { result ≡ is_built_equation (seen_equation equation.now) }
 {
-    has_none(own_signature(equation)) && is_built_expr(&equation.body)
+    takes_plain(own_signature(equation)) && is_built_expr(&equation.body)
 }
 
 fn is_built_item(item: &Item) -> bool
@@ -133,9 +146,9 @@ fn is_built_item(item: &Item) -> bool
     }
 }
 
-/// Whether every form is built so far: items `syn` and `inh` without `nta`, `circular` and parameters, of any type but sets; `eq` of an
-/// attribute without parameters, without a path or with one, which may have parameters; expressions without `new`, `empty`, `each` and the
-/// forms on sets.
+/// Whether every form is built so far: items `syn` and `inh` without `nta` and `circular`, of any type but sets, with parameters of any
+/// types but sets; `eq` of an attribute with such parameters, without a path or with one, which may have any; expressions without `new`,
+/// `empty`, `each` and the forms on sets.
 pub fn built(aspects: &Aspects) -> bool
     ensures { result ≡ all_built (seen_aspects aspects.now) }
 {

@@ -1,5 +1,5 @@
 // The reader of aspects and of single expressions.
-ghost use Rattle.std.specs.Prelude.{◌≡◌, ◌==◌, ◌∷◌, ℕ, List, [], IfOk, count_by};
+ghost use Rattle.std.specs.Prelude.{◌≡◌, ◌==◌, ℕ, List, IfOk, count_by};
 ghost use Rattle.rag_io.specs.Tokens.{AreTokens, seen_tokens};
 ghost use Rattle.jrag_syntax.specs.Reading.{SaysEvents, StopsWith};
 ghost use Rattle.token_texts.specs.Texts.{Extends, pooled_texts};

@@ -2,7 +2,7 @@
 use super::*;
 use jrag_reader::built;
 
-const BUILT: [&str; 36] = [
+const BUILT: [&str; 49] = [
     "",
     "syn int N.v();",
     "syn int N.v() = 1;",
@@ -40,27 +40,50 @@ const BUILT: [&str; 36] = [
     "eq N.getChild().v() = 1;",
     "inh int N.v(); eq N.v() = 1;",
     "eq N.v() = 1; inh int N.v(); eq N.getM(int i).v() = i; inh N M.w();",
+    // Parameters.
+    "syn int N.v(int i);",
+    "syn int N.v(int i) = i;",
+    "syn N N.v(boolean b, String s, M m) = m;",
+    "syn lazy int N.v(int a, int b, int c, int d);",
+    "inh int N.v(int i);",
+    "inh lazy N N.v(String n, N m);",
+    "eq N.v(int i) = i;",
+    "eq N.v(int i, int i) = i + v(i, i);",
+    "eq N.getM().v(String n) = n;",
+    "eq N.getM(int i).v(int j) = i + j;",
+    "eq N.getM(Set<N> s).v(int j) = j;",
+    "eq N.getChild().v(N n) = n;",
+    "inh int N.v(int i); inh int N.w(); syn int N.x(M m) = w(); eq N.getM().v(int i) = i;",
 ];
 
-const NOT_BUILT: [&str; 61] = [
+const NOT_BUILT: [&str; 69] = [
     // Declarations and items.
     "syn nta N N.v();",
     "syn nta int N.v();",
-    "syn int N.v(int i);",
-    "syn int N.v(int i) = 1;",
     "syn Set<int> N.v();",
     "syn Set<N> N.v();",
     "syn boolean N.v() circular [false];",
     "syn boolean N.v() circular [false] = true;",
-    "inh int N.v(int i);",
     "inh Set<String> N.v();",
     "inh Set<N> N.v();",
     "inh boolean N.v() circular [false];",
     "inh lazy Set<N> N.v(N n) circular [empty];",
-    "eq N.v(int i) = 1;",
-    "eq N.getM().v(int i) = 1;",
-    "eq N.getM(int i).v(int j) = 1;",
-    "eq N.getChild().v(int i) = 1;",
+    "syn nta N N.v(int i);",
+    "syn int N.v(int i) = empty;",
+    "syn boolean N.v(int i) circular [false] = true;",
+    "inh boolean N.v(int i) circular [false];",
+    "eq N.v(int i) = empty;",
+    // Sets among parameters.
+    "syn int N.v(Set<int> s);",
+    "syn int N.v(Set<N> s) = 1;",
+    "syn int N.v(int i, Set<String> s) = 1;",
+    "syn int N.v(Set<String> s, int i) = 1;",
+    "inh int N.v(Set<N> s);",
+    "inh int N.v(int i, int j, Set<N> s);",
+    "eq N.v(Set<N> s) = 1;",
+    "eq N.getM().v(Set<N> s) = 1;",
+    "eq N.getM(int i).v(int j, Set<N> s) = 1;",
+    "eq N.getChild().v(Set<N> s, int i) = 1;",
     "coll int N.v() [0];",
     "N contributes 1 to M.v() for this;",
     // Expressions.
@@ -102,8 +125,8 @@ const NOT_BUILT: [&str; 61] = [
     "eq N.v() = all(x : size(a) | b);",
     "eq N.v() = first(x : r | each(y : s | b) == c);",
     // Among others.
-    "inh int N.v(int i); inh int N.w();",
-    "inh int N.w(); inh int N.v(int i);",
+    "inh int N.v(Set<N> s); inh int N.w();",
+    "inh int N.w(); inh int N.v(Set<N> s);",
     "coll int N.v() [0]; eq N.v() = 1;",
     "eq N.v() = 1; coll int N.v() [0];",
     "eq N.v() = 1; eq N.v() = empty; eq N.v() = 1;",
