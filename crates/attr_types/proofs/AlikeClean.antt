@@ -1,25 +1,27 @@
--- Inherited attributes of one name are of one type, where their declarations break nothing.
-use Rattle.std.proofs.Common.{◌≡◌, ℕ, zero, suc, ◌<◌, ◌≤◌, ◌==◌, ◌&&◌, Bool, true, false, cond, not, nat_lt, List, [], ◌∷◌, Option, Some, None, find, get_or, is_none, length, position, slice_get, take, refl, sym, ap, subst, ◌∙◌, arith, option_map, bytes_eq}
+-- Inherited attributes of one name are of one type and have one list of parameters, where their declarations break nothing.
+use Rattle.std.proofs.Common.{◌≡◌, ℕ, zero, suc, ◌<◌, ◌&&◌, Bool, true, false, cond, not, nat_lt, List, [], ◌∷◌, Some, find, get_or, is_none, position, slice_get, take, refl, sym, ap, ◌∙◌, arith, bytes_eq}
 use Rattle.std.specs.Option.{option_and_then, unwrap_or}
-use Rattle.std.proofs.lemmas.Bool.{and_from, eqb-true, ltb-true}
+use Rattle.std.proofs.lemmas.Bool.{and_from, ltb-true, not-false}
 use Rattle.std.proofs.lemmas.Bool.Decides.{nat_tests}
 use Rattle.std.proofs.lemmas.List.Quantifiers.{position-Some}
-use Rattle.std.proofs.lemmas.Option.{get_or_from_slice_get, slice_get_within}
+use Rattle.std.proofs.lemmas.Option.{get_or_from_slice_get}
 use Rattle.std.proofs.lemmas.Slice.Eq.{bytes_eq-Decides}
 use Rattle.broken_rules.specs.Notes.{at}
 use Rattle.broken_rules.specs.declared.rule.Rule.TheVariants.{J4, J15}
 use Rattle.broken_rules.proofs.Clean.{not_broken}
-use Rattle.ast_grammar.specs.declared.grammar.ClassId.{ClassId}
 use Rattle.ast_grammar.specs.Grammar.{Class}
 use Rattle.ast_grammar.proofs.Positions.{position-map}
 use Rattle.attr_rules.specs.declared.kinds.Attr.{Attr}
-use Rattle.attr_rules.specs.declared.kinds.Kind.{Kind}
 use Rattle.attr_rules.specs.declared.kinds.Kind.TheVariants as kinds
 use Rattle.attr_rules.specs.Rules.{Attribute, declared_at, declared_of, first_inherited as first_named, first_of_name, is_inherited}
-use Rattle.attr_types.specs.Heads.{attribute_of, attributes_of, equal_kinds, first_inherited, heads_broken, kind_written, same_kind, type_in, type_written}
+use Rattle.attr_types.specs.Heads.{attribute_of, attributes_of, first_inherited, heads_broken, is_other, is_other_than, type_in}
+use Rattle.attr_types.specs.Parameters.{differ, parameter_types, params_of, params_written}
 use Rattle.attr_types.specs.Written.{Head}
+use Rattle.attr_types.specs.WrittenTypes.{kind_written, same_kind, type_written}
 use Rattle.attr_types.proofs.DeclaredClean.{head_there}
-use Rattle.attr_types.proofs.ItemsFound.{map_found, position_found, some_from, some_there}
+use Rattle.attr_types.proofs.ItemsFound.{either_false, map_found, some_from}
+use Rattle.attr_types.proofs.KindsKnown.{same_types}
+use Rattle.attr_types.proofs.ParametersClean.{are_typed, same_written}
 
 -- the first item that passes is found before any later place
 found_before : {X : Type 0} (p : X → Bool) (xs : List X) (a b : ℕ) (x : X) → slice_get xs b ≡ Some x → p x ≡ true → ((k : ℕ) → k < b → p (get_or xs k x) ≡ false) → b < a → find p (take a xs) ≡ Some x
@@ -31,77 +33,35 @@ found_before p (y ∷ ys) (suc a) zero x there passes fails lt =
 found_before p (y ∷ ys) (suc a) (suc b) x there passes fails lt =
     ap (λ t. cond t (Some y) (find p (take a ys))) (fails 0 (omega arith)) ∙ found_before p ys a b x there passes (λ k h. fails (suc k) (omega arith)) (omega arith)
 
-equal_is : (k l : Kind) → equal_kinds k l ≡ true → k ≡ l
-equal_is kinds.Truth kinds.Truth e = refl
-equal_is kinds.Truth kinds.Int e = absurd cc
-equal_is kinds.Truth kinds.Text e = absurd cc
-equal_is kinds.Truth (kinds.Node d) e = absurd cc
-equal_is kinds.Truth kinds.Texts e = absurd cc
-equal_is kinds.Truth (kinds.Nodes d) e = absurd cc
-equal_is kinds.Int kinds.Truth e = absurd cc
-equal_is kinds.Int kinds.Int e = refl
-equal_is kinds.Int kinds.Text e = absurd cc
-equal_is kinds.Int (kinds.Node d) e = absurd cc
-equal_is kinds.Int kinds.Texts e = absurd cc
-equal_is kinds.Int (kinds.Nodes d) e = absurd cc
-equal_is kinds.Text kinds.Truth e = absurd cc
-equal_is kinds.Text kinds.Int e = absurd cc
-equal_is kinds.Text kinds.Text e = refl
-equal_is kinds.Text (kinds.Node d) e = absurd cc
-equal_is kinds.Text kinds.Texts e = absurd cc
-equal_is kinds.Text (kinds.Nodes d) e = absurd cc
-equal_is (kinds.Node c) kinds.Truth e = absurd cc
-equal_is (kinds.Node c) kinds.Int e = absurd cc
-equal_is (kinds.Node c) kinds.Text e = absurd cc
-equal_is (kinds.Node c) (kinds.Node d) e = ap (λ n. kinds.Node (record { 0 = n })) (eqb-true c.0 d.0 e)
-equal_is (kinds.Node c) kinds.Texts e = absurd cc
-equal_is (kinds.Node c) (kinds.Nodes d) e = absurd cc
-equal_is kinds.Texts kinds.Truth e = absurd cc
-equal_is kinds.Texts kinds.Int e = absurd cc
-equal_is kinds.Texts kinds.Text e = absurd cc
-equal_is kinds.Texts (kinds.Node d) e = absurd cc
-equal_is kinds.Texts kinds.Texts e = refl
-equal_is kinds.Texts (kinds.Nodes d) e = absurd cc
-equal_is (kinds.Nodes c) kinds.Truth e = absurd cc
-equal_is (kinds.Nodes c) kinds.Int e = absurd cc
-equal_is (kinds.Nodes c) kinds.Text e = absurd cc
-equal_is (kinds.Nodes c) (kinds.Node d) e = absurd cc
-equal_is (kinds.Nodes c) kinds.Texts e = absurd cc
-equal_is (kinds.Nodes c) (kinds.Nodes d) e = ap (λ n. kinds.Nodes (record { 0 = n })) (eqb-true c.0 d.0 e)
-
--- types that are known and one
-same_types : (k l : Option Kind) → is_none k ≡ false → is_none l ≡ false → same_kind k l ≡ true → k ≡ l
-same_types None l known other same = absurd cc
-same_types (Some k) None known other same = absurd cc
-same_types (Some k) (Some l) known other same = ap Some (equal_is k l same)
-
-not_other : (inherited same : Bool) → inherited ≡ true → (inherited && not same) ≡ false → same ≡ true
-not_other true true i e = refl
-not_other true false i e = absurd cc
-not_other false same i e = absurd cc
-
 -- one number is below another, where it isn't the same and not above it
 below_or_same : (a b : ℕ) → (a < b → ⊥) → (nat_lt b a ≡ false) → b ≡ a
 below_or_same a b not_below not_above = grind (arith, nat_tests)
 
 module _ (g : List Class) (list : List Head) (none : heads_broken g list ≡ []) where
-  -- a later inherited attribute of a name is of the type of the first
-  as_first : (a b : ℕ) (h f : Head) → slice_get list a ≡ Some h → is_inherited h.sort ≡ true → slice_get list b ≡ Some f → first_inherited (take a list) h.signature.name.text ≡ Some f → kind_written g h.of ≡ kind_written g f.of
+  -- the same type and the same parameters
+  abbrev AreAlike : Head → Head → Type 0
+  AreAlike h f = (kind_written g h.of ≡ kind_written g f.of) × (params_written g h.signature.parameters ≡ params_written g f.signature.parameters)
+
+  -- a later inherited attribute of a name is as the first
+  as_first : (a b : ℕ) (h f : Head) → slice_get list a ≡ Some h → is_inherited h.sort ≡ true → slice_get list b ≡ Some f → first_inherited (take a list) h.signature.name.text ≡ Some f → AreAlike h f
   as_first a b h f at_a inherited at_b found =
       let here = head_there g list a h none at_a in
       let there = head_there g list b f none at_b in
-      let first = option_and_then (type_in g) (first_inherited (take a list) h.signature.name.text) in
-      let not_apart = not_other (is_inherited h.sort) (same_kind first (type_in g h)) inherited (not_broken (is_inherited h.sort && not (same_kind first (type_in g h))) (at h.signature.name.place J15) here.other) in
-      let same : same_kind (type_in g f) (type_in g h) ≡ true = ap (λ o. same_kind (option_and_then (type_in g) o) (type_in g h)) (sym found) ∙ not_apart in
+      let other = is_other g h (first_inherited (take a list) h.signature.name.text) in
+      let not_other : is_other_than g h f ≡ false = ap (is_other g h) (sym found) ∙ ap (λ b. b && other) (sym inherited) ∙ not_broken (is_inherited h.sort && other) (at h.signature.name.place J15) here.other in
+      let apart = either_false (not (same_kind (type_in g f) (type_in g h))) (differ g (parameter_types g f.signature.parameters) h.signature.parameters) not_other in
+      let same : same_kind (type_in g f) (type_in g h) ≡ true = not-false (same_kind (type_in g f) (type_in g h)) apart.0 in
       let known = not_broken (is_none (type_written g h.of)) (at h.of.place J4) here.of in
       let known_first = not_broken (is_none (type_written g f.of)) (at f.of.place J4) there.of in
-      ap (λ o. unwrap_or o kinds.Truth) (sym (same_types (type_in g f) (type_in g h) known_first known same))
+      let kinds_same = same_written g f.signature.parameters h.signature.parameters (are_typed g [] f.signature.parameters there.parameters) (are_typed g [] h.signature.parameters here.parameters) apart.1 in
+      (ap (λ o. unwrap_or o kinds.Truth) (sym (same_types (type_in g f) (type_in g h) known_first known same)), ap params_of (sym kinds_same))
 
   -- whether an attribute is an inherited one of a name
   abbrev is_one : List ℕ → Head → Bool
   is_one name h = is_inherited h.sort && bytes_eq h.signature.name.text name
 
-  pub alike : (a b : ℕ) (d e : Attr) → declared_at (attributes_of g list) a ≡ Some d → is_inherited d.sort ≡ true → first_of_name (attributes_of g list) a ≡ Some b → declared_at (attributes_of g list) b ≡ Some e → d.kind ≡ e.kind
+  pub alike : (a b : ℕ) (d e : Attr) → declared_at (attributes_of g list) a ≡ Some d → is_inherited d.sort ≡ true → first_of_name (attributes_of g list) a ≡ Some b → declared_at (attributes_of g list) b ≡ Some e
+      → (d.kind ≡ e.kind) × (d.params ≡ e.params)
   alike a b d e declared inherited first declared_first =
       let x = some_from declared_of (slice_get (attributes_of g list) a) d declared in
       let h = map_found (attribute_of g) list a x.0 x.1 in
@@ -118,13 +78,18 @@ module _ (g : List Class) (list : List Head) (none : heads_broken g list ≡ [])
       (λ lt. let fails : is_one name h.0 ≡ false = ap (is_one name) (sym (get_or_from_slice_get list a h.0 h.0 h.1)) ∙ (before_fail h.0 named).2 a lt in absurd (cc))
       in
       let passes_first : is_one name f.0 ≡ true = ap (is_one name) (sym (get_or_from_slice_get list b f.0 f.0 f.1)) ∙ (before_fail f.0 named).1 in
-      let of_a : d.kind ≡ kind_written g h.0.of = ap (λ (z : Attr). z.kind) (sym x.2) ∙ ap (λ (z : Attribute). z.declared.kind) (sym h.2) in
-      let of_b : e.kind ≡ kind_written g f.0.of = ap (λ (z : Attr). z.kind) (sym y.2) ∙ ap (λ (z : Attribute). z.declared.kind) (sym f.2) in
-      elim (nat_lt b a) as (λ t. nat_lt b a ≡ t → d.kind ≡ e.kind) [
-        | true ↦ λ lt. of_a ∙ as_first a b h.0 f.0 h.1 inherits f.1 (found_before (is_one name) list a b f.0 f.1 passes_first (before_fail f.0 named).2 (ltb-true b a lt)) ∙ sym of_b
+      let of_a : declared_of (attribute_of g h.0) ≡ d = ap declared_of h.2 ∙ x.2 in
+      let of_b : declared_of (attribute_of g f.0) ≡ e = ap declared_of f.2 ∙ y.2 in
+      elim (nat_lt b a) as (λ t. nat_lt b a ≡ t → (d.kind ≡ e.kind) × (d.params ≡ e.params)) [
+        | true ↦ λ lt. (
+            let same = as_first a b h.0 f.0 h.1 inherits f.1 (found_before (is_one name) list a b f.0 f.1 passes_first (before_fail f.0 named).2 (ltb-true b a lt)) in (
+              ap (λ (z : Attr). z.kind) (sym of_a) ∙ same.0 ∙ ap (λ (z : Attr). z.kind) of_b,
+              ap (λ (z : Attr). z.params) (sym of_a) ∙ same.1 ∙ ap (λ (z : Attr). z.params) of_b,
+            )
+            )
         | false ↦ λ past. (
             let one : declared_at (attributes_of g list) b ≡ declared_at (attributes_of g list) a = ap (declared_at (attributes_of g list)) (below_or_same a b not_below past) in
             let same : d ≡ e = cc in
-            ap (λ (z : Attr). z.kind) same
+            (ap (λ (z : Attr). z.kind) same, ap (λ (z : Attr). z.params) same)
             )
       ] refl

@@ -1,11 +1,7 @@
 -- What the arguments of a call break and say, one more at a time.
-use Rattle.std.proofs.Common.{◌≡◌, ℕ, ◌+◌, ◌<◌, ◌≤◌, List, [], ◌∷◌, ◌++◌, length, get_or, slice_get, take, map, Option, Some, None, refl, sym, ap, subst, ◌∙◌, append_assoc, arith}
-use Rattle.std.proofs.lemmas.List.{append-nil, length-map, length-take-le, take_all, take_more}
+use Rattle.std.proofs.Common.{◌≡◌, ℕ, zero, suc, ◌+◌, ◌<◌, ◌≤◌, List, [], ◌∷◌, ◌++◌, drop, length, get_or, slice_get, take, map, Option, None, refl, sym, ap, subst, ◌∙◌, append_assoc, arith}
+use Rattle.std.proofs.lemmas.List.{append-nil, length-map, length-take-le, map-append, take_all, take_more}
 use Rattle.std.proofs.Math.ListN.{get_or-map}
-use Rattle.std.specs.Borrow.{Bor}
-use Rattle.std.specs.Option.{option_copied, option_map, option_or, unwrap_or}
-use Rattle.std.specs.Slice.{IsGetResult}
-use Rattle.std.proofs.lemmas.Option.{slice_get_past, slice_get-get_or}
 use Rattle.broken_rules.specs.declared.broken.Broken.{Broken}
 use Rattle.broken_rules.specs.Notes.{Notes}
 use Rattle.broken_rules.proofs.Noting.{notes_then}
@@ -13,10 +9,10 @@ use Rattle.attr_rules.specs.declared.kinds.Kind.{Kind}
 use Rattle.attr_types.specs.declared.standing.Stands.TheVariants.{Anywhere}
 use Rattle.attr_types.specs.Bodies.{argument_broken, arguments_broken, expr_broken, misfit}
 use Rattle.attr_types.specs.Scope.{Scope}
-use Rattle.attr_types.specs.Typed.{body_of, first_of, known}
+use Rattle.attr_types.specs.Typed.{arguments_in, arguments_said, body_of, known}
+use Rattle.attr_rules.specs.Expression as said
 use Rattle.attr_rules.specs.Expression.{Expression, expression_of}
 use Rattle.attr_rules.specs.declared.expression.TExpr.{TExpr}
-use Rattle.attr_rules.specs.declared.expression.TExpr.TheVariants as kept
 use Rattle.jrag_reader.specs.declared.expression.Expr as memory
 use Rattle.jrag_reader.specs.Expressions.{Expr, arguments_of, seen_expr}
 
@@ -26,10 +22,17 @@ seen_more es i {e} lt is =
     let within : i < length (map seen_expr es) = omega (arith, length-map es seen_expr) in
     take_more (map seen_expr es) i (seen_expr e) within ∙ ap (λ y. take i (map seen_expr es) ++ y ∷ []) (get_or-map seen_expr es i e ∙ ap seen_expr (sym is))
 
--- what `get` and `copied` give
-pub copied_is : (ks : List Kind) (i : ℕ) (r : Option (Bor Kind)) → IsGetResult ks i i r → option_copied r ≡ slice_get ks i
-copied_is ks i None h = sym (slice_get_past ks i h.3)
-copied_is ks i (Some x) h = ap Some h.1 ∙ sym (slice_get-get_or ks i x.now h.3.0)
+first_left : (ks : List Kind) (i : ℕ) → slice_get (drop i ks) 0 ≡ slice_get ks i
+first_left [] zero = refl
+first_left [] (suc i) = refl
+first_left (k ∷ ks) zero = refl
+first_left (k ∷ ks) (suc i) = first_left ks i
+
+drop_next : (ks : List Kind) (i : ℕ) → drop 1 (drop i ks) ≡ drop (i + 1) ks
+drop_next [] zero = refl
+drop_next [] (suc i) = ap (λ (n : ℕ). drop n []) (let one : suc (suc i) ≡ suc i + 1 = omega arith in one)
+drop_next (k ∷ ks) zero = refl
+drop_next (k ∷ ks) (suc i) = drop_next ks i ∙ ap (λ (n : ℕ). drop n (k ∷ ks)) (let one : suc (i + 1) ≡ suc i + 1 = omega arith in one)
 
 module _ (s : Scope) where
   broken_more : (wanted : List Kind) (es : List Expr) (e : Expr)
@@ -57,36 +60,30 @@ module _ (s : Scope) where
       let here = subst (λ o. Notes (argument_broken s o (seen_expr e)) b c) (at ∙ ap (slice_get wanted) (sym many)) g in
       subst (λ bs. Notes bs a c) (sym (ap (λ xs. arguments_broken s wanted (arguments_of xs)) (seen_more es i lt is) ∙ broken_more wanted before (seen_expr e))) (notes_then h here)
 
-  -- what the first of some expressions says, if there is one
-  abbrev pub said_first : List Expr → Option Expression
-  said_first [] = None
-  said_first (e ∷ es) = Some (body_of s e)
+  -- what expressions say, one after the other
+  abbrev pub said_each : List Expr → List Expression
+  said_each es = map (body_of s) es
 
-  said_more : (es : List Expr) (e : Expr) → said_first (es ++ e ∷ []) ≡ option_or (said_first es) (Some (body_of s e))
-  said_more [] e = refl
-  said_more (x ∷ es) e = refl
+  arguments_each : (es : List Expr) → arguments_in (said_each es) ≡ arguments_said s (arguments_of es)
+  arguments_each [] = refl
+  arguments_each (e ∷ es) = ap (said.argument (body_of s e)) (arguments_each es)
 
-  kept_or : (first : Option TExpr) (body : TExpr) → option_map expression_of (option_or first (Some body)) ≡ option_or (option_map expression_of first) (Some (expression_of body))
-  kept_or None body = refl
-  kept_or (Some e) body = refl
+  -- what the items so far say, with one more of them
+  pub one_said : (es : List memory.Expr) (i : ℕ) {e : memory.Expr} (body : TExpr) (list : List TExpr) {new : List TExpr}
+      → e ≡ get_or es i e → i < length es → expression_of body ≡ body_of s (seen_expr e) → new ≡ list ++ body ∷ []
+      → map expression_of list ≡ said_each (take i (map seen_expr es)) → map expression_of new ≡ said_each (take (i + 1) (map seen_expr es))
+  one_said es i {e} body list is lt says more h =
+      ap (map expression_of) more ∙ map-append expression_of list (body ∷ []) ∙ (λ j. h j ++ says j ∷ [])
+      ∙ sym (ap said_each (seen_more es i lt is) ∙ map-append (body_of s) (take i (map seen_expr es)) (seen_expr e ∷ []))
 
-  -- what the first of the items so far says, with one more of them
-  pub one_said : (es : List memory.Expr) (i : ℕ) {e : memory.Expr} (body : TExpr) (first : Option TExpr) {new : Option TExpr}
-      → e ≡ get_or es i e → i < length es → expression_of body ≡ body_of s (seen_expr e) → new ≡ option_or first (Some body)
-      → option_map expression_of first ≡ said_first (take i (map seen_expr es)) → option_map expression_of new ≡ said_first (take (i + 1) (map seen_expr es))
-  one_said es i {e} body first is lt says or h =
-      ap (option_map expression_of) or ∙ kept_or first body ∙ ap (λ o. option_or o (Some (expression_of body))) h
-      ∙ ap (λ x. option_or (said_first (take i (map seen_expr es))) (Some x)) says
-      ∙ sym (said_more (take i (map seen_expr es)) (seen_expr e)) ∙ ap said_first (sym (seen_more es i lt is))
+  -- what all of them say
+  pub all_said : (es : List memory.Expr) (i : ℕ) (list : List TExpr) → length es ≤ i → map expression_of list ≡ said_each (take i (map seen_expr es))
+      → arguments_in (map expression_of list) ≡ arguments_said s (arguments_of (map seen_expr es))
+  all_said es i list all same = ap arguments_in (same ∙ ap said_each (take_all i (map seen_expr es) (omega (arith, all, length-map es seen_expr)))) ∙ arguments_each (map seen_expr es)
 
-  first_is : (first : Option TExpr) (es : List Expr) (e : TExpr) → e ≡ unwrap_or first kept.Null → option_map expression_of first ≡ said_first es → expression_of e ≡ first_of s (arguments_of es)
-  first_is None [] e is same = ap expression_of is
-  first_is None (x ∷ es) e is same = absurd (cc)
-  first_is (Some f) [] e is same = absurd (cc)
-  first_is (Some f) (x ∷ es) e is same = let says : expression_of f ≡ body_of s x = cc in ap expression_of is ∙ says
+-- the types that are left, of which the first is that of the next argument
+pub next_kind : (ks rest : List Kind) (i : ℕ) → rest ≡ drop i ks → slice_get rest 0 ≡ slice_get ks i
+next_kind ks rest i is = ap (λ xs. slice_get xs 0) is ∙ first_left ks i
 
-  -- the first of all
-  pub first_said : (es : List memory.Expr) (i : ℕ) (first : Option TExpr) {e : TExpr} → length es ≤ i → e ≡ unwrap_or first kept.Null
-      → option_map expression_of first ≡ said_first (take i (map seen_expr es)) → expression_of e ≡ first_of s (arguments_of (map seen_expr es))
-  first_said es i first {e} all is same =
-      first_is first (map seen_expr es) e is (same ∙ ap said_first (take_all i (map seen_expr es) (omega (arith, all, length-map es seen_expr))))
+pub kinds_left : (ks rest more : List Kind) (i : ℕ) → rest ≡ drop i ks → more ≡ drop 1 rest → more ≡ drop (i + 1) ks
+kinds_left ks rest more i is next = next ∙ ap (drop 1) is ∙ drop_next ks i

@@ -18,29 +18,29 @@ use Rattle.attr_types.specs.Bodies.{operand_broken}
 use Rattle.attr_types.specs.Phases.{equation_broken, equation_of, scope_of, wanted_by}
 use Rattle.attr_rules.specs.Expression.{Expression}
 use Rattle.attr_rules.specs.Rules.{Attribute, AttributeSet}
-use Rattle.attr_types.specs.Paths.{bound_names}
+use Rattle.attr_types.specs.Paths.{equation_names}
 use Rattle.attr_types.specs.Scope.{Scope, Variable}
 use Rattle.attr_types.specs.Targets.{target_given}
 use Rattle.attr_types.specs.Typed.{body_of}
 use Rattle.attr_types.specs.Written.{Given}
 
-module _ (g : List Class) (a : AttributeSet) (e : Given) (t : Target) {vs : List Variable} (same : a.superclasses ≡ superclasses_of g) (is : t ≡ target_given g a.attributes e) (bound : vs ≡ bound_names e.path t.reach) where
+module _ (g : List Class) (a : AttributeSet) (e : Given) (t : Target) {vs : List Variable} (same : a.superclasses ≡ superclasses_of g) (is : t ≡ target_given g a.attributes e) (named : vs ≡ equation_names g e.attribute e.path t.reach) where
   -- where its right side stands
   abbrev here : Scope
   here = record { grammar = g; known = a; this = t.class; variables = vs }
 
-  scope_here : here ≡ scope_of g a.attributes e.path t
-  scope_here = (λ i. record { grammar = g; known = record { superclasses = same i; attributes = a.attributes }; this = t.class; variables = bound i })
+  scope_here : here ≡ scope_of g a.attributes e t
+  scope_here = (λ i. record { grammar = g; known = record { superclasses = same i; attributes = a.attributes }; this = t.class; variables = named i })
 
   -- what it breaks, where a type is wanted of it, and what it says
   pub body_noted : {k : Kind} {x y : Option Broken} → k ≡ wanted_by a.attributes t → Notes (operand_broken here Anywhere k e.body) x y → Notes (equation_broken g a.attributes e) x y
   body_noted {k} {x} {y} wanted h =
-      subst (λ u. Notes (operand_broken (scope_of g a.attributes e.path u) Anywhere (wanted_by a.attributes u) e.body) x y) is
+      subst (λ u. Notes (operand_broken (scope_of g a.attributes e u) Anywhere (wanted_by a.attributes u) e.body) x y) is
       (subst (λ s. Notes (operand_broken s Anywhere (wanted_by a.attributes t) e.body) x y) scope_here (subst (λ w. Notes (operand_broken here Anywhere w e.body) x y) wanted h))
 
   pub body_said : (b : Expression) → b ≡ body_of here e.body → record { target = t; body = b } ≡ equation_of g a.attributes e
   body_said b says =
-      (λ i. record { target = t; body = (says ∙ ap (λ s. body_of s e.body) scope_here) i }) ∙ ap (λ u. record { target = u; body = body_of (scope_of g a.attributes e.path u) e.body }) is
+      (λ i. record { target = t; body = (says ∙ ap (λ s. body_of s e.body) scope_here) i }) ∙ ap (λ u. record { target = u; body = body_of (scope_of g a.attributes e u) e.body }) is
 
 -- the equations of memory, and what each is for
 module _ (g : List Class) (attributes : List Attribute) (es : List kept_given.Given) (i : ℕ) where

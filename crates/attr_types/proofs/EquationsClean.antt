@@ -1,31 +1,37 @@
 -- What holds of equations of built items that break nothing.
-use Rattle.std.proofs.Common.{◌≡◌, ℕ, zero, suc, List, [], All, ◌&&◌, true, not, Option, Some, None, map, slice_get, option_map, refl, ap, sym, ◌∙◌, subst}
+use Rattle.std.proofs.Common.{◌≡◌, ℕ, zero, suc, List, [], ◌∷◌, ◌++◌, All, ◌&&◌, true, false, not, Option, Some, None, is_none, map, slice_get, option_map, refl, ap, sym, ◌∙◌, subst}
+use Rattle.std.specs.Option.{unwrap_or}
 use Rattle.std.proofs.lemmas.Bool.{and_parts}
+use Rattle.std.proofs.lemmas.List.{map-append}
 use Rattle.broken_rules.proofs.Clean.{append_none, flat_map_found}
 use Rattle.ast_grammar.specs.Grammar.{Class}
-use Rattle.jrag_reader.specs.Built.{all_built, has_none, is_built, is_built_item, is_built_body, is_not_circular, is_plain, own_signature}
+use Rattle.jrag_reader.specs.Built.{all_built, is_built, is_built_item, is_built_body, is_not_circular, is_plain}
 use Rattle.jrag_reader.specs.Expressions.{Expr}
-use Rattle.jrag_reader.specs.Items.{Item, Declared, Inherits, Equates, Collects, Contributes, Signature, Synthesized}
+use Rattle.jrag_reader.specs.Items.{Item, Declared, Inherits, Equates, Collects, Contributes, Parameter, Signature, Synthesized}
 use Rattle.attr_types.specs.declared.standing.Stands.TheVariants.{Anywhere}
 use Rattle.attr_types.specs.Bodies.{expr_broken, misfit}
 use Rattle.attr_types.specs.Phases.{bodies_broken, equation_broken, equation_of, kind_or_truth, scope_of, wanted_by}
 use Rattle.attr_rules.specs.declared.dispatch.Reach.{Reach}
 use Rattle.attr_rules.specs.declared.dispatch.Reach.TheVariants.{Own, Component as AtComponent, Children}
+use Rattle.attr_rules.specs.declared.kinds.Attr.{Attr}
 use Rattle.attr_rules.specs.declared.kinds.Kind.{Kind}
 use Rattle.attr_rules.specs.declared.kinds.Kind.TheVariants as kinds
 use Rattle.attr_rules.specs.declared.types.ValueType.TheVariants as types
 use Rattle.attr_rules.specs.Rules.{Attribute, IsEquation, bound_kinds, declared_at}
 use Rattle.attr_rules.specs.Typing.{HasType}
-use Rattle.attr_types.specs.Paths.{bound_names, index_name, index_named}
+use Rattle.attr_types.specs.Parameters.{parameter_kind}
+use Rattle.attr_types.specs.Paths.{bound_names, equation_names, index_name, index_named, parameter_named}
 use Rattle.attr_types.specs.Scope.{Variable, variable_type}
 use Rattle.attr_types.specs.Targets.{target_given, targets_broken}
 use Rattle.attr_types.specs.Typed.{known}
-use Rattle.attr_rules.specs.Types.{fits}
+use Rattle.attr_rules.specs.Types.{fits, parameter_kinds}
 use Rattle.attr_types.specs.Written.{Given, given_by, given_in, given_with, givens}
+use Rattle.attr_types.specs.WrittenTypes.{type_written}
 use Rattle.attr_types.proofs.FormsTyped.{fitting}
-use Rattle.attr_types.proofs.ItemsFound.{all_found, built_found, map_found}
-use Rattle.attr_types.proofs.MembersTyped.{names_in, variable_kind}
-use Rattle.attr_types.proofs.TargetsClean.{IsFound, given_target}
+use Rattle.attr_types.proofs.ItemsFound.{all_found, built_found, map_found, some_there}
+use Rattle.attr_types.proofs.MembersTyped.{kind_known, names_in, variable_kind}
+use Rattle.attr_types.proofs.ParametersClean.{AreTyped, IsTyped, same_kinds}
+use Rattle.attr_types.proofs.TargetsClean.{HasParameters, IsFound, given_parameters, given_target}
 use Rattle.attr_types.proofs.TypedClean.{typed}
 
 body_there : (s : Synthesized) (o : Option Expr) (e : Given) → is_built_body o ≡ true → option_map (given_with s) o ≡ Some e → is_built e.body ≡ true
@@ -35,14 +41,13 @@ body_there s (Some body) e built is = let same : given_with s body ≡ e = cc in
 -- the right side of an equation that a built item gives, is built
 built_in : (item : Item) (e : Given) → is_built_item item ≡ true → given_in item ≡ Some e → is_built e.body ≡ true
 built_in (Declared s) e built is =
-    let last = (is_not_circular s.circular && is_built_body s.body) in
-    let typed = (and_parts (not s.higher_order) (is_plain s.of && (has_none s.signature && last)) built).1 in
-    let alone = (and_parts (is_plain s.of) (has_none s.signature && last) typed).1 in
-    body_there s s.body e (and_parts (is_not_circular s.circular) (is_built_body s.body) (and_parts (has_none s.signature) last alone).1).1 is
+    let typed = (and_parts (not s.higher_order) _ built).1 in
+    let alone = (and_parts (is_plain s.of) _ typed).1 in
+    body_there s s.body e (and_parts (is_not_circular s.circular) (is_built_body s.body) (and_parts _ (is_not_circular s.circular && is_built_body s.body) alone).1).1 is
 built_in (Inherits i) e built is = absurd (cc)
 built_in (Equates f) e built is =
     let same : given_by f ≡ e = cc in
-    subst (λ (h : Given). is_built h.body ≡ true) same (and_parts (has_none (own_signature f)) (is_built f.body) built).1
+    subst (λ (h : Given). is_built h.body ≡ true) same (and_parts _ (is_built f.body) built).1
 built_in (Collects c) e built is = absurd (cc)
 built_in (Contributes c) e built is = absurd (cc)
 
@@ -58,15 +63,52 @@ bound_same p Own = refl
 bound_same p (AtComponent j) = refl
 bound_same p Children = refl
 
+-- a name's type is known
+abbrev IsKnown : Variable → Type 0
+IsKnown v = (t : Kind) × (v.type ≡ Some (types.Of t))
+
+module _ (g : List Class) where
+  parameter_known : (p : Parameter) (v : Variable) → IsTyped g p → parameter_named g p ≡ v → IsKnown v
+  parameter_known p v typed is =
+      let there = some_there (type_written g p.of) typed.known in
+      (there.0, sym (ap variable_type is) ∙ ap (option_map types.Of) there.1)
+
+  -- so are those of parameters, and of names behind them
+  names_known : (ps : List Parameter) (rest : List Variable) → AreTyped g ps → ((k : ℕ) (v : Variable) → slice_get rest k ≡ Some v → IsKnown v)
+      → (k : ℕ) (v : Variable) → slice_get (map (parameter_named g) ps ++ rest) k ≡ Some v → IsKnown v
+  names_known [] rest typed known k v e = known k v e
+  names_known (p ∷ ps) rest typed known zero v e = parameter_known p v (typed 0 p refl) (let same : parameter_named g p ≡ v = cc in same)
+  names_known (p ∷ ps) rest typed known (suc k) v e = names_known ps rest (λ i q at_i. typed (suc i) q at_i) known k v e
+
+  named_kind : (o : Option Kind) → is_none o ≡ false → kind_known (option_map types.Of o) ≡ unwrap_or o kinds.Truth
+  named_kind None known = absurd (cc)
+  named_kind (Some k) known = refl
+
+  named_kinds : (ps : List Parameter) → AreTyped g ps → map variable_kind (map (parameter_named g) ps) ≡ map (parameter_kind g) ps
+  named_kinds [] typed = refl
+  named_kinds (p ∷ ps) typed =
+      let first = named_kind (type_written g p.of) (typed 0 p refl).known in
+      let rest = named_kinds ps (λ i q at_i. typed (suc i) q at_i) in
+      (λ i. first i ∷ rest i)
+
 module _ (g : List Class) (attributes : List Attribute) where
-  equation_there : (e : Given) → IsFound g attributes (target_given g attributes e) → is_built e.body ≡ true → equation_broken g attributes e ≡ [] → IsEquation g attributes (equation_of g attributes e)
-  equation_there e target built none =
-      let scope = scope_of g attributes e.path (target_given g attributes e) in
+  -- the names of an equation are of the types of the parameters, and of what the path binds
+  names_same : (e : Given) (d : Attr) (r : Reach) → HasParameters g e.attribute d → map variable_kind (equation_names g e.attribute e.path r) ≡ parameter_kinds d.params ++ bound_kinds r
+  names_same e d r has =
+      let ps = e.attribute.parameters in
+      map-append variable_kind (map (parameter_named g) ps) (bound_names e.path r)
+      ∙ (λ i. (named_kinds g ps has.typed ∙ sym (same_kinds g (parameter_kinds d.params) ps has.typed has.same)) i ++ bound_same e.path r i)
+
+  equation_there : (e : Given) (target : IsFound g attributes (target_given g attributes e)) → HasParameters g e.attribute target.attribute → is_built e.body ≡ true → equation_broken g attributes e ≡ []
+      → IsEquation g attributes (equation_of g attributes e)
+  equation_there e target has built none =
+      let scope = scope_of g attributes e (target_given g attributes e) in
       let class = (target_given g attributes e).class in
       let reach = (target_given g attributes e).reach in
       let wanted = wanted_by attributes (target_given g attributes e) in
       let parts = append_none (expr_broken scope Anywhere e.body) (misfit g wanted (known scope e.body) e.body) none in
-      let body = typed scope (record { superclasses = refl }) (record { known = bound_known e.path reach }) e.body Anywhere refl built parts.0 in
+      let all = names_known g e.attribute.parameters (bound_names e.path reach) has.typed (bound_known e.path reach) in
+      let body = typed scope (record { superclasses = refl }) (record { known = all }) e.body Anywhere refl built parts.0 in
       let fits_wanted : fits g body.type wanted ≡ true = fitting (names_in scope) wanted (known scope e.body) body.type e.body body.is parts.1 in
       record {
         within = target.within;
@@ -74,7 +116,7 @@ module _ (g : List Class) (attributes : List Attribute) where
         declared = target.declared;
         gives = target.gives;
         type = body.type;
-        typed = subst (λ vs. HasType (record { grammar = g; attribute = declared_at attributes; node = λ k. None; this = Some class; variables = vs }) (equation_of g attributes e).body body.type) (bound_same e.path reach) body.typed;
+        typed = subst (λ vs. HasType (record { grammar = g; attribute = declared_at attributes; node = λ k. None; this = Some class; variables = vs }) (equation_of g attributes e).body body.type) (names_same e target.attribute reach has) body.typed;
         fit = ap (λ o. fits g body.type (kind_or_truth o)) (sym target.declared) ∙ fits_wanted;
       }
 
@@ -87,4 +129,4 @@ module _ (g : List Class) (attributes : List Attribute) where
       let from = built_found given_in items i e built found.1 in
       let target = given_target g attributes (givens items) i e targets found.1 in
       subst (IsEquation g attributes) found.2
-      (equation_there e target (built_in from.item e from.built from.gives) (flat_map_found (equation_broken g attributes) (givens items) i e bodies found.1)))
+      (equation_there e target (given_parameters g attributes (givens items) i e targets found.1) (built_in from.item e from.built from.gives) (flat_map_found (equation_broken g attributes) (givens items) i e bodies found.1)))

@@ -24,8 +24,9 @@ use Rattle.attr_rules.specs.Types.{class_of_number, common, comparable, fits, is
 use Rattle.attr_rules.specs.Typing as typing
 use Rattle.attr_rules.specs.Typing.{HasType, Names, TakesInts}
 use Rattle.attr_types.specs.Bodies.{are_apart, both_misfit, choice_broken, equal_broken, have_no_common, is_no_node, is_no_type, is_unfit, misfit, no_node, place_of, sides_broken}
-use Rattle.attr_types.specs.Heads.{class_broken, class_numbered, class_or_first}
+use Rattle.attr_types.specs.Heads.{class_broken, class_or_first}
 use Rattle.attr_types.specs.Typed.{class_type, common_of, int, joined, result_of, truth}
+use Rattle.attr_types.specs.WrittenTypes.{class_numbered}
 use Rattle.attr_types.proofs.DeclaredClean.{class_there, class_within}
 
 -- An expression is typed, and of the type that is known.
@@ -43,7 +44,7 @@ truth_is (types.Of (kinds.Node c)) e = absurd (cc)
 truth_is (types.Of kinds.Texts) e = absurd (cc)
 truth_is (types.Of (kinds.Nodes c)) e = absurd (cc)
 
-int_is : (t : ValueType) → is_int t ≡ true → t ≡ types.Of kinds.Int
+pub int_is : (t : ValueType) → is_int t ≡ true → t ≡ types.Of kinds.Int
 int_is types.Null e = absurd (cc)
 int_is (types.Of kinds.Truth) e = absurd (cc)
 int_is (types.Of kinds.Int) e = refl

@@ -39,7 +39,7 @@ some_from f (Some x) y e = (x, refl, cc)
 pub after_found : {X : Type 0} (f : List X → X → List Broken) (xs : List X) (i : ℕ) (x : X) → each_after f [] xs ≡ [] → slice_get xs i ≡ Some x → f (take i xs) x ≡ []
 after_found f xs i x none e = ap (f (take i xs)) (sym (get_or_from_slice_get xs i x x e)) ∙ each_after_none f xs i x none (slice_get_within xs i x e)
 
-either_false : (a b : Bool) → (a || b) ≡ false → (a ≡ false) × (b ≡ false)
+pub either_false : (a b : Bool) → (a || b) ≡ false → (a ≡ false) × (b ≡ false)
 either_false true b e = absurd (cc)
 either_false false b e = (refl, e)
 

@@ -30,7 +30,7 @@ use Rattle.attr_rules.specs.Typing.{HasType, Names}
 use Rattle.attr_types.specs.declared.scope.Member.{Member}
 use Rattle.attr_types.specs.declared.scope.Member.TheVariants as members
 use Rattle.attr_types.specs.Bodies.{call_broken, member_broken, on_class_broken}
-use Rattle.attr_types.specs.Scope.{Scope, arguments_wanted, kind_declared, list_called, list_in, member_of, member_on, type_called}
+use Rattle.attr_types.specs.Scope.{Scope, arguments_wanted, kind_declared, list_called, member_of, member_on, type_called}
 use Rattle.attr_types.specs.ScopeKept.{IsScope}
 use Rattle.attr_types.specs.Typed.{element_type, over_said, quantified_type}
 use Rattle.attr_types.proofs.AccessorsFound.{IsAccessor}
@@ -60,7 +60,7 @@ module _ (s : Scope) (is_scope : IsScope s) (N : Names) (same : N.grammar ≡ s.
         let list : Accessor = record { component = k; class = class; access = access.Elements } in
         record {
           list = list;
-          is = ap (λ b. if b then list_in (members.Reads list) else None) count;
+          is = ap (λ b. if b then Some list else None) count;
           class = c;
           owner = owner;
           component = x.component;
@@ -70,17 +70,17 @@ module _ (s : Scope) (is_scope : IsScope s) (N : Names) (same : N.grammar ≡ s.
         }
     listed_read k class access.Element n x count none = absurd (cc)
 
-    listed_member : (m : Member) (n : ℕ) → IsMember s c m → (length (arguments_wanted m) == n) ≡ true → is_some (type_called s m) ≡ false → IsListed N r (list_called n m)
+    listed_member : (m : Member) (n : ℕ) → IsMember s c m → (length (arguments_wanted s m) == n) ≡ true → is_some (type_called s m) ≡ false → IsListed N r (list_called n m)
     listed_member (members.Reads x) n is count none = listed_read x.component x.class x.access n is count none
     listed_member (members.Calls a) n is count none =
         let typed : type_called s (members.Calls a) ≡ Some (kind_declared is.attribute) = ap (option_map kind_declared) is.declared in
         absurd (let both : true ≡ false = sym (ap is_some typed) ∙ none in cc)
 
-    listed_named : (o : Option Member) (name : Name) (n : ℕ) (first : Place) → member_of s name.text n c ≡ o → member_broken true o name n first ≡ [] → is_some (option_and_then (type_called s) o) ≡ false
+    listed_named : (o : Option Member) (name : Name) (n : ℕ) (first : Place) → member_of s name.text n c ≡ o → member_broken s true o name n first ≡ [] → is_some (option_and_then (type_called s) o) ≡ false
         → IsListed N r (option_and_then (list_called n) o)
     listed_named None name n first is none typeless = absurd (cc)
     listed_named (Some m) name n first is none typeless =
-        let takes = length (arguments_wanted m) == n in
+        let takes = length (arguments_wanted s m) == n in
         let count : takes ≡ true = not-false takes (not_broken (not takes) (at name.place J11) (append_none (broken_if (not takes) (at name.place J11)) [] none).0) in
         listed_member m n (member_found s is_scope c name.text n m is) count typeless
 

@@ -20,17 +20,17 @@ use Rattle.attr_rules.specs.declared.types.ValueType.{ValueType}
 use Rattle.attr_rules.specs.declared.types.ValueType.TheVariants as types
 use Rattle.attr_rules.specs.Accessors.{accessor_of, arguments_of, type_read}
 use Rattle.attr_rules.specs.Expression as said
-use Rattle.attr_rules.specs.Expression.{Expression}
+use Rattle.attr_rules.specs.Expression.{Arguments, Expression}
 use Rattle.attr_rules.specs.Rules.{attribute_named, declared_at}
-use Rattle.attr_rules.specs.Types.{class_in, kept_kind, of_class}
+use Rattle.attr_rules.specs.Types.{class_in, fits, kept_kind, of_class}
 use Rattle.attr_rules.specs.Typing as typing
-use Rattle.attr_rules.specs.Typing.{HasType, Names}
+use Rattle.attr_rules.specs.Typing.{Fit, HasType, Names}
 use Rattle.attr_types.specs.Bodies.{call_broken, member_broken, on_class_broken}
-use Rattle.attr_types.specs.Scope.{Scope, arguments_wanted, attribute_in, calls, either_member, is_elements, is_list, kind_declared, member_of, member_on, type_called, wanted_for, Variable}
+use Rattle.attr_types.specs.Scope.{Scope, arguments_wanted, attribute_in, calls, either_member, is_elements, is_list, kind_declared, kinds_declared, member_of, member_on, type_called, wanted_for, Variable}
 use Rattle.attr_types.specs.ScopeKept.{IsScope}
-use Rattle.attr_types.specs.Typed.{call_said, read}
+use Rattle.attr_types.specs.Typed.{call_said, first_in, read}
 use Rattle.attr_types.proofs.AccessorsFound.{IsAccessor, accessor_found}
-use Rattle.attr_types.proofs.FormsTyped.{IsTyped, of_type}
+use Rattle.attr_types.proofs.FormsTyped.{IsTyped, int_is, of_type}
 use Rattle.attr_types.proofs.TargetsClean.{HasAttribute, named_has}
 
 -- the type at which a name's values are kept
@@ -63,9 +63,16 @@ abbrev pub IsMember : Scope → ClassId → Member → Type 0
 IsMember s c (members.Reads x) = IsAccessor s.grammar c.0 x
 IsMember s c (members.Calls a) = HasAttribute s.grammar s.known.attributes c.0 a.0
 
--- The first argument is typed as wanted, where one integer is wanted of so many.
-pub record IsPassed (N : Names) (wanted : List Kind) (n : ℕ) (i : Expression) : Type 0 where
-  pub passed : wanted ≡ kinds.Int ∷ [] → n ≡ 1 → HasType N i (types.Of kinds.Int)
+-- The arguments fit, where there are as many as are wanted.
+pub record IsPassed (N : Names) (wanted : List Kind) (n : ℕ) (es : Arguments) : Type 0 where
+  pub passed : length wanted ≡ n → Fit N es wanted
+
+-- the only argument of an accessor
+int_fits : {N : Names} (e : Expression) (t : ValueType) → HasType N e t → fits N.grammar t kinds.Int ≡ true → HasType N e (types.Of kinds.Int)
+int_fits {N} e t typed fit = subst (HasType N e) (int_is t fit) typed
+
+int_first : {N : Names} {es : Arguments} → Fit N es (kinds.Int ∷ []) → HasType N (first_in es) (types.Of kinds.Int)
+int_first (typing.more {e = e} t typed fit rest) = int_fits e t typed fit
 
 module _ (s : Scope) (is_scope : IsScope s) where
   -- an attribute of a class of the grammar, is one of the class
@@ -87,13 +94,13 @@ module _ (s : Scope) (is_scope : IsScope s) where
   pub member_found : (c : ClassId) (name : List ℕ) (n : ℕ) (m : Member) → member_of s name n c ≡ Some m → IsMember s c m
   member_found c name n m e = either_found c name n (accessor_of s.grammar c.0 name n) (attribute_in s name c) m refl refl e
 
-  module _ (node : ℕ → Option ClassId) (this : Option ClassId) (c : ClassId) (r i : Expression) (receiver : HasType (names_at s node this) r (of_class c)) where
+  module _ (node : ℕ → Option ClassId) (this : Option ClassId) (c : ClassId) (r : Expression) (es : Arguments) (receiver : HasType (names_at s node this) r (of_class c)) where
     of_its_class : {a : Access} (k : ℕ) (class : ClassId) (e : Expression) (x : IsAccessor s.grammar c.0 (record { component = k; class = class; access = a })) → HasType (names_at s node this) e (of_class x.component.class) → HasType (names_at s node this) e (of_class class)
     of_its_class k class e x typed = subst (λ d. HasType (names_at s node this) e (of_class d)) (sym x.class) typed
 
     -- what an accessor reads is typed
     read_typed : (k : ℕ) (class : ClassId) (a : Access) (n : ℕ) → IsAccessor s.grammar c.0 (record { component = k; class = class; access = a }) → is_elements a ≡ false → (length (arguments_of a) == n) ≡ true
-        → IsPassed (names_at s node this) (arguments_of a) n i → IsTyped (names_at s node this) (type_read a class) (read a k r i)
+        → IsPassed (names_at s node this) (arguments_of a) n es → IsTyped (names_at s node this) (type_read a class) (read a k r (first_in es))
     read_typed k class access.Child n x list count argument =
         of_type (names_at s node this) (of_class class) (said.Child k r) (of_its_class k class (said.Child k r) x (typing.child c k x.component receiver x.found x.shaped))
     read_typed k class (access.Token t) n x list count argument = of_type (names_at s node this) (types.Of t) (said.Token t k r) (typing.token c k x.component t receiver x.found x.shaped)
@@ -101,44 +108,44 @@ module _ (s : Scope) (is_scope : IsScope s) where
     read_typed k class access.Count n x list count argument = of_type (names_at s node this) (types.Of kinds.Int) (said.Count k r) (typing.count c k x.component receiver x.found x.shaped)
     read_typed k class access.Elements n x list count argument = absurd (cc)
     read_typed k class access.Element n x list count argument =
-        let one : n ≡ 1 = sym (eqb-true 1 n count) in
-        of_type (names_at s node this) (of_class class) (said.Element k r i) (of_its_class k class (said.Element k r i) x (typing.element c k x.component receiver x.found x.shaped (argument.passed refl one)))
+        let i = first_in es in
+        of_type (names_at s node this) (of_class class) (said.Element k r i) (of_its_class k class (said.Element k r i) x (typing.element c k x.component receiver x.found x.shaped (int_first (argument.passed (eqb-true 1 n count)))))
 
-    called_typed : (a : AttrId) → HasAttribute s.grammar s.known.attributes c.0 a.0 → IsTyped (names_at s node this) (type_called s (members.Calls a)) (said.Call a.0 r)
-    called_typed a has = record {
+    called_typed : (a : AttrId) → HasAttribute s.grammar s.known.attributes c.0 a.0 → Fit (names_at s node this) es (arguments_wanted s (members.Calls a)) → IsTyped (names_at s node this) (type_called s (members.Calls a)) (said.Call a.0 r es)
+    called_typed a has fit = record {
       type = types.Of has.attribute.kind;
       is = ap (option_map kind_declared) has.declared;
-      typed = typing.call c a.0 has.attribute receiver has.declared has.has;
+      typed = typing.call c a.0 has.attribute receiver has.declared has.has (subst (λ o. Fit (names_at s node this) es (kinds_declared o)) has.declared fit);
     }
 
     -- what a member says is typed
-    pub member_says : (m : Member) (n : ℕ) → IsMember s c m → is_list m ≡ false → (length (arguments_wanted m) == n) ≡ true → IsPassed (names_at s node this) (arguments_wanted m) n i
-        → IsTyped (names_at s node this) (type_called s m) (call_said (Some m) r i)
+    pub member_says : (m : Member) (n : ℕ) → IsMember s c m → is_list m ≡ false → (length (arguments_wanted s m) == n) ≡ true → IsPassed (names_at s node this) (arguments_wanted s m) n es
+        → IsTyped (names_at s node this) (type_called s m) (call_said (Some m) r es)
     member_says (members.Reads x) n is list count argument = read_typed x.component x.class x.access n is list count argument
-    member_says (members.Calls a) n is list count argument = called_typed a is
+    member_says (members.Calls a) n is list count argument = called_typed a is (argument.passed (eqb-true (length (arguments_wanted s (members.Calls a))) n count))
 
-    member_typed : (o : Option Member) (name : Name) (n : ℕ) (first : Place) → member_of s name.text n c ≡ o → member_broken false o name n first ≡ [] → IsPassed (names_at s node this) (wanted_for o n) n i
-        → IsTyped (names_at s node this) (option_and_then (type_called s) o) (call_said o r i)
+    member_typed : (o : Option Member) (name : Name) (n : ℕ) (first : Place) → member_of s name.text n c ≡ o → member_broken s false o name n first ≡ [] → IsPassed (names_at s node this) (wanted_for s o n) n es
+        → IsTyped (names_at s node this) (option_and_then (type_called s) o) (call_said o r es)
     member_typed None name n first is none argument = absurd (cc)
     member_typed (Some m) name n first is none argument =
-        let takes = length (arguments_wanted m) == n in
+        let takes = length (arguments_wanted s m) == n in
         let parts = append_none (broken_if (not takes) (at name.place J11)) (broken_if (is_list m) (at first J10)) none in
         let count : takes ≡ true = not-false takes (not_broken (not takes) (at name.place J11) parts.0) in
         let list : is_list m ≡ false = not_broken (is_list m) (at first J10) parts.1 in
-        let wanted : wanted_for (Some m) n ≡ arguments_wanted m = ap (λ b. if b then arguments_wanted m else []) count in
-        member_says m n (member_found c name.text n m is) list count (subst (λ ks. IsPassed (names_at s node this) ks n i) wanted argument)
+        let wanted : wanted_for s (Some m) n ≡ arguments_wanted s m = ap (λ b. if b then arguments_wanted s m else []) count in
+        member_says m n (member_found c name.text n m is) list count (subst (λ ks. IsPassed (names_at s node this) ks n es) wanted argument)
 
-  module _ (node : ℕ → Option ClassId) (this : Option ClassId) (r i : Expression) (name : Name) (n : ℕ) (first : Place) where
+  module _ (node : ℕ → Option ClassId) (this : Option ClassId) (r : Expression) (es : Arguments) (name : Name) (n : ℕ) (first : Place) where
     class_typed : (t : ValueType) (o : Option ClassId) → class_in t ≡ o → HasType (names_at s node this) r t → on_class_broken s false name n first o ≡ []
-        → IsPassed (names_at s node this) (wanted_for (option_and_then (member_of s name.text n) o) n) n i
-        → IsTyped (names_at s node this) (option_and_then (type_called s) (option_and_then (member_of s name.text n) o)) (call_said (option_and_then (member_of s name.text n) o) r i)
+        → IsPassed (names_at s node this) (wanted_for s (option_and_then (member_of s name.text n) o) n) n es
+        → IsTyped (names_at s node this) (option_and_then (type_called s) (option_and_then (member_of s name.text n) o)) (call_said (option_and_then (member_of s name.text n) o) r es)
     class_typed t None is receiver none argument = absurd (cc)
-    class_typed t (Some c) is receiver none argument = member_typed node this c r i (subst (HasType (names_at s node this) r) (class_is t c is) receiver) (member_of s name.text n c) name n first refl none argument
+    class_typed t (Some c) is receiver none argument = member_typed node this c r es (subst (HasType (names_at s node this) r) (class_is t c is) receiver) (member_of s name.text n c) name n first refl none argument
 
     -- what a call says behind a receiver, is typed
-    pub call_typed : (t : Option ValueType) → IsTyped (names_at s node this) t r → call_broken s false name n first t ≡ [] → IsPassed (names_at s node this) (wanted_for (member_on s t name.text n) n) n i
-        → IsTyped (names_at s node this) (option_and_then (type_called s) (member_on s t name.text n)) (call_said (member_on s t name.text n) r i)
+    pub call_typed : (t : Option ValueType) → IsTyped (names_at s node this) t r → call_broken s false name n first t ≡ [] → IsPassed (names_at s node this) (wanted_for s (member_on s t name.text n) n) n es
+        → IsTyped (names_at s node this) (option_and_then (type_called s) (member_on s t name.text n)) (call_said (member_on s t name.text n) r es)
     call_typed t receiver none argument =
-        subst (λ u. call_broken s false name n first u ≡ [] → IsPassed (names_at s node this) (wanted_for (member_on s u name.text n) n) n i
-        → IsTyped (names_at s node this) (option_and_then (type_called s) (member_on s u name.text n)) (call_said (member_on s u name.text n) r i))
+        subst (λ u. call_broken s false name n first u ≡ [] → IsPassed (names_at s node this) (wanted_for s (member_on s u name.text n) n) n es
+        → IsTyped (names_at s node this) (option_and_then (type_called s) (member_on s u name.text n)) (call_said (member_on s u name.text n) r es))
         (sym receiver.is) (class_typed receiver.type (class_in receiver.type) refl receiver.typed) none argument

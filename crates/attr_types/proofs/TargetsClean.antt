@@ -5,7 +5,7 @@ use Rattle.std.proofs.lemmas.Bool.{and_parts}
 use Rattle.std.proofs.lemmas.Option.{slice_get_within}
 use Rattle.std.proofs.lemmas.Slice.Eq.{bytes_eq-Decides}
 use Rattle.broken_rules.specs.Notes.{at}
-use Rattle.broken_rules.specs.declared.rule.Rule.TheVariants.{J5}
+use Rattle.broken_rules.specs.declared.rule.Rule.TheVariants.{J5, J15}
 use Rattle.broken_rules.proofs.Clean.{append_none, not_broken}
 use Rattle.superclasses.specs.Superclasses.{is_sub as is_below}
 use Rattle.ast_grammar.proofs.Inherited.{length-superclasses_of}
@@ -21,11 +21,13 @@ use Rattle.attr_rules.specs.Rules.{Attribute, GivesValue, attribute_named, decla
 use Rattle.jrag_reader.specs.Expressions.{Name}
 use Rattle.jrag_reader.specs.Items.{Signature}
 use Rattle.attr_types.specs.Heads.{class_broken}
-use Rattle.attr_types.specs.Paths.{if_for_nodes, node_component, node_component_named, parameters_broken, path_broken, reach_broken, reach_named, reach_of, way_broken}
-use Rattle.attr_types.specs.Targets.{attribute_for, class_of, given_broken, if_own, inherits, lacking_broken, own_attribute, second_broken, target, target_by, target_given, target_of, target_or_first, targets_broken, targets_of, unknown_broken}
+use Rattle.attr_types.specs.Parameters.{all_parameters_broken, differ, parameter_names, parameters_broken, path_parameters}
+use Rattle.attr_types.specs.Paths.{if_for_nodes, node_component, node_component_named, path_broken, reach_broken, reach_named, reach_of}
+use Rattle.attr_types.specs.Targets.{attribute_for, attribute_given, class_of, differing_broken, differing_from, given_broken, if_own, inherits, lacking_broken, own_attribute, second_broken, target, target_by, target_given, target_of, target_or_first, targets_broken, targets_of, types_declared, unknown_broken}
 use Rattle.attr_types.specs.Written.{Given}
 use Rattle.attr_types.proofs.DeclaredClean.{class_there, class_within}
 use Rattle.attr_types.proofs.ItemsFound.{after_found, all_found, map_found, position_found, some_from, some_there}
+use Rattle.attr_types.proofs.ParametersClean.{AreTyped, are_typed}
 
 -- A class has the attribute of a number.
 pub record HasAttribute (g : List Class) (attributes : List Attribute) (c a : ℕ) : Type 0 where
@@ -53,6 +55,11 @@ pub record IsFound (g : List Class) (attributes : List Attribute) (t : Target) :
   pub gives : GivesValue g t.class t.reach attribute
   pub first : IsFirst attributes t.reach t.attribute.0
   pub reached : IsReached g t.class.0 t.reach
+
+-- The parameters of an equation are of known types, and are those of its attribute.
+pub record HasParameters (g : List Class) (s : Signature) (d : Attr) : Type 0 where
+  pub typed : AreTyped g s.parameters
+  pub same : differ g (types_declared d) s.parameters ≡ false
 
 and_then_from : {X Y : Type 0} (f : X → Option Y) (o : Option X) (y : Y) → option_and_then f o ≡ Some y → (x : X) × (o ≡ Some x) × (f x ≡ Some y)
 and_then_from f None y e = absurd (cc)
@@ -150,8 +157,7 @@ module _ (g : List Class) (attributes : List Attribute) where
         record { within = within; attribute = has.attribute; declared = has.declared; gives = (has.has, ap inherits (sym has.declared) ∙ named.1); first = tt; reached = tt },
       )
   found_by c (Some p) n within way lacking =
-      let parts = append_none (way_broken g (Some c) p) (parameters_broken g p.parameters) way in
-      let reach = reach_known g c p (reach_named g c p.name.text) parts.0 in
+      let reach = reach_known g c p (reach_named g c p.name.text) way in
       let there = reach_there g c p.name.text reach.0 reach.1 in
       let attribute = some_there (first_inherited attributes n.text) (not_broken (is_none (first_inherited attributes n.text)) (at n.place J5) lacking) in
       let first = first_found n.text attribute.0 attribute.1 in (
@@ -167,21 +173,76 @@ module _ (g : List Class) (attributes : List Attribute) where
         },
       )
 
-  target_there : (before : List Given) (e : Given) → given_broken g attributes before e ≡ [] → IsFound g attributes (target_given g attributes e)
-  target_there before e none =
-      let unknown = (append_none (unknown_broken g attributes e) (second_broken g attributes before e.attribute (target_of g attributes e)) none).0 in
+  -- the rules on the head of an equation, each for itself
+  record IsClean (e : Given) : Type 0 where
+    class : class_broken g e.class ≡ []
+    way : path_broken g (class_of g e) e.path ≡ []
+    parameters : parameters_broken g (parameter_names (path_parameters e.path)) e.attribute.parameters ≡ []
+    lacking : lacking_broken g attributes e.path (class_of g e) e.attribute.name ≡ []
+    differing : differing_broken g attributes e.attribute (attribute_given g attributes e) ≡ []
+
+  given_parts : (before : List Given) (e : Given) → given_broken g attributes before e ≡ [] → IsClean e
+  given_parts before e none =
+      let unknown = (append_none (unknown_broken g attributes e) (second_broken g attributes before e.attribute.name (target_of g attributes e)) none).0 in
       let way = path_broken g (class_of g e) e.path in
-      let lacking = lacking_broken g attributes e.path (class_of g e) e.attribute in
-      let named = append_none (class_broken g e.class) (way ++ lacking) unknown in
-      let parts = append_none way lacking named.1 in
-      let class = class_there g e.class named.0 in
-      let found = found_by class.0 e.path e.attribute (class_within g e.class.text class.0 class.1) (ap (λ o. path_broken g o e.path) (sym class.1) ∙ parts.0) (ap (λ o. lacking_broken g attributes e.path o e.attribute) (sym class.1) ∙ parts.1) in
-      let is : target_of g attributes e ≡ Some found.0 = ap (λ o. target_by o (reach_of g o e.path) (attribute_for g attributes o e.path e.attribute.text)) class.1 ∙ found.1 in
-      subst (λ o. IsFound g attributes (target_or_first o)) (sym is) found.2
+      let parameters = all_parameters_broken g e.path e.attribute in
+      let lacking = lacking_broken g attributes e.path (class_of g e) e.attribute.name in
+      let differing = differing_broken g attributes e.attribute (attribute_given g attributes e) in
+      let named = append_none (class_broken g e.class) (way ++ (parameters ++ (lacking ++ differing))) unknown in
+      let parts = append_none way (parameters ++ (lacking ++ differing)) named.1 in
+      let rest = append_none parameters (lacking ++ differing) parts.1 in
+      let last = append_none lacking differing rest.1 in
+      let own = append_none (parameters_broken g [] (path_parameters e.path)) (parameters_broken g (parameter_names (path_parameters e.path)) e.attribute.parameters) rest.0 in
+      record { class = named.0; way = parts.0; parameters = own.1; lacking = last.0; differing = last.1 }
+
+  -- what an equation is for, of which this is known
+  record IsFor (e : Given) : Type 0 where
+    target : Target
+    is : target_of g attributes e ≡ Some target
+    found : IsFound g attributes target
+
+  clean_target : (e : Given) → IsClean e → IsFor e
+  clean_target e clean =
+      let class = class_there g e.class clean.class in
+      let found = found_by class.0 e.path e.attribute.name (class_within g e.class.text class.0 class.1) (ap (λ o. path_broken g o e.path) (sym class.1) ∙ clean.way)
+      (ap (λ o. lacking_broken g attributes e.path o e.attribute.name) (sym class.1) ∙ clean.lacking)
+      in
+      record { target = found.0; is = ap (λ o. target_by o (reach_of g o e.path) (attribute_for g attributes o e.path e.attribute.name.text)) class.1 ∙ found.1; found = found.2 }
+
+  target_there : (before : List Given) (e : Given) → given_broken g attributes before e ≡ [] → IsFound g attributes (target_given g attributes e)
+  target_there before e none = let given = clean_target e (given_parts before e none) in subst (λ o. IsFound g attributes (target_or_first o)) (sym given.is) given.found
+
+  -- the attribute of what an equation is for
+  attribute_by : (c : Option ℕ) (r : Option Reach) (a : Option ℕ) (t : Target) → target_by c r a ≡ Some t → a ≡ Some t.attribute.0
+  attribute_by None r a t e = absurd (cc)
+  attribute_by (Some c) None a t e = absurd (cc)
+  attribute_by (Some c) (Some r) None t e = absurd (cc)
+  attribute_by (Some c) (Some r) (Some a) t e = let same : target c r a ≡ t = cc in ap (λ (u : Target). Some u.attribute.0) same
+
+  parameters_there : (before : List Given) (e : Given) → given_broken g attributes before e ≡ [] → (d : Attr) → declared_at attributes (target_given g attributes e).attribute.0 ≡ Some d → HasParameters g e.attribute d
+  parameters_there before e none d declared =
+      let clean = given_parts before e none in
+      let given = clean_target e clean in
+      let is : target_given g attributes e ≡ given.target = ap target_or_first given.is in
+      let attribute = attribute_by (class_of g e) (reach_of g (class_of g e) e.path) (attribute_given g attributes e) given.target given.is in
+      let there : option_and_then (declared_at attributes) (attribute_given g attributes e) ≡ Some d =
+      ap (option_and_then (declared_at attributes)) attribute ∙ ap (λ (u : Target). declared_at attributes u.attribute.0) (sym is) ∙ declared
+      in
+      let none_differs : differing_from g e.attribute (Some d) ≡ [] = ap (differing_from g e.attribute) (sym there) ∙ clean.differing in
+      record {
+        typed = are_typed g (parameter_names (path_parameters e.path)) e.attribute.parameters clean.parameters;
+        same = not_broken (differ g (types_declared d) e.attribute.parameters) (at e.attribute.name.place J15) none_differs;
+      }
 
   -- what an equation is for, is there
   pub given_target : (list : List Given) (i : ℕ) (e : Given) → targets_broken g attributes list ≡ [] → slice_get list i ≡ Some e → IsFound g attributes (target_given g attributes e)
   given_target list i e none is = target_there (take i list) e (after_found (given_broken g attributes) list i e none is)
+
+  -- and its parameters are those of its attribute
+  pub given_parameters : (list : List Given) (i : ℕ) (e : Given) (none : targets_broken g attributes list ≡ []) (is : slice_get list i ≡ Some e) → HasParameters g e.attribute (given_target list i e none is).attribute
+  given_parameters list i e none is =
+      let found = given_target list i e none is in
+      parameters_there (take i list) e (after_found (given_broken g attributes) list i e none is) found.attribute found.declared
 
   target_within : (t : Target) → IsFound g attributes t → IsTarget (length (superclasses_of g)) (length attributes) t
   target_within t found = record {

@@ -1,13 +1,12 @@
 -- What is noted of what equations are for, and what is kept of the equations before.
-use Rattle.std.proofs.Common.{◌≡◌, ℕ, ◌<◌, ◌==◌, ◌||◌, ◌&&◌, Bool, true, false, cond, not, List, [], ◌∷◌, ◌++◌, Option, Some, None, is_none, is_some, length, refl, sym, ap, subst, ◌∙◌, arith, option_map}
+use Rattle.std.proofs.Common.{◌≡◌, ℕ, ◌<◌, ◌==◌, ◌||◌, ◌&&◌, Bool, true, false, cond, not, List, [], ◌∷◌, ◌++◌, Option, Some, None, is_none, length, refl, sym, ap, subst, ◌∙◌, arith}
 use Rattle.std.specs.HashSet.{HashSet, Updates, contains, contains_by}
 use Rattle.std.proofs.Math.Bool.{or-false}
 use Rattle.std.proofs.lemmas.List.Folds.{list_any-append}
-use Rattle.ast_grammar.specs.declared.grammar.ClassId.{ClassId}
-use Rattle.ast_grammar.specs.Grammar.{Class, class_named, superclasses_of}
+use Rattle.ast_grammar.specs.Grammar.{Class, superclasses_of}
 use Rattle.ast_grammar.proofs.Inherited.{length-superclasses_of}
 use Rattle.broken_rules.specs.declared.broken.Broken.{Broken}
-use Rattle.broken_rules.specs.declared.rule.Rule.TheVariants.{J5, J6}
+use Rattle.broken_rules.specs.declared.rule.Rule.TheVariants.{J5, J6, J15}
 use Rattle.broken_rules.specs.Notes.{Notes, at, broken_if}
 use Rattle.broken_rules.proofs.Noting.{notes_then}
 use Rattle.jrag_reader.specs.Expressions.{Name}
@@ -16,13 +15,13 @@ use Rattle.attr_types.specs.contracts.targets.KeyPartialEq.TheImpl as equality
 use Rattle.attr_rules.specs.contracts.dispatch.ReachPartialEq.TheImpl as reaches
 use Rattle.attr_rules.specs.declared.dispatch.Reach.{Reach}
 use Rattle.attr_rules.specs.declared.dispatch.Target.{Target}
-use Rattle.attr_rules.specs.declared.kinds.AttrId.{AttrId}
 use Rattle.attr_types.specs.declared.targets.Key.{Key}
 use Rattle.attr_types.specs.Heads.{class_broken}
 use Rattle.attr_rules.specs.Rules.{Attribute, first_inherited, is_target}
 use Rattle.attr_rules.proofs.KeptPaths.{reach_turned, same_as, swap, turned}
+use Rattle.attr_types.specs.Parameters.{all_parameters_broken}
 use Rattle.attr_types.specs.Paths.{path_broken}
-use Rattle.attr_types.specs.Targets.{class_of, given_broken, is_given, is_same, lacking_broken, second_broken, target, target_of, unknown_broken}
+use Rattle.attr_types.specs.Targets.{attribute_for, class_of, differing_broken, given_broken, is_given, is_same, lacking_broken, second_broken, target, target_of, unknown_broken}
 use Rattle.attr_types.specs.TargetsKept.{Holds, is_key}
 use Rattle.attr_types.specs.Written.{Given}
 
@@ -88,13 +87,17 @@ module _ (g : List Class) (attributes : List Attribute) (n : Name) (class : Opti
   pub lacking_inherited : {s : Signature} → p ≡ Some s → Notes (broken_if (is_none (first_inherited attributes n.text)) (at n.place J5)) x y → Notes (lacking_broken g attributes p class n) x y
   lacking_inherited {s} is h = subst (λ q. Notes (lacking_broken g attributes q class n) x y) (sym is) h
 
--- J2 and J5 of an equation, and what its path breaks
-pub unknown_noted : (g : List Class) (attributes : List Attribute) (e : Given) {class : Option ℕ} {w x y z : Option Broken} → class ≡ class_of g e → Notes (class_broken g e.class) w x → Notes (path_broken g class e.path) x y
-    → Notes (lacking_broken g attributes e.path class e.attribute) y z → Notes (unknown_broken g attributes e) w z
-unknown_noted g attributes e {class} {w} {x} {y} {z} is f h k =
-    notes_then f (subst (λ o. Notes (path_broken g o e.path ++ lacking_broken g attributes e.path o e.attribute) x z) is (notes_then h k))
+-- J2, J5 and J15 of an equation, and what its path and its parameters break
+pub unknown_noted : (g : List Class) (attributes : List Attribute) (e : Given) {class : Option ℕ} {a : Option ℕ} {v w x y z u : Option Broken} → class ≡ class_of g e → a ≡ attribute_for g attributes class e.path e.attribute.name.text
+    → Notes (class_broken g e.class) v w → Notes (path_broken g class e.path) w x → Notes (all_parameters_broken g e.path e.attribute) x y
+    → Notes (lacking_broken g attributes e.path class e.attribute.name) y z → Notes (differing_broken g attributes e.attribute a) z u → Notes (unknown_broken g attributes e) v u
+unknown_noted g attributes e {class} {a} {v} {w} {x} {y} {z} {u} is attribute f h k lacking differing =
+    let last = subst (λ o. Notes (differing_broken g attributes e.attribute o) z u) attribute differing in
+    notes_then f (subst (λ o. Notes (path_broken g o e.path
+    ++ (all_parameters_broken g e.path e.attribute ++ (lacking_broken g attributes e.path o e.attribute.name ++ differing_broken g attributes e.attribute (attribute_for g attributes o e.path e.attribute.name.text)))) w u) is
+    (notes_then h (notes_then k (notes_then lacking last))))
 
--- J2, J5 and J6 of an equation
-pub given_noted : (g : List Class) (attributes : List Attribute) (before : List Given) (e : Given) {t : Option Target} {x y z : Option Broken} → t ≡ target_of g attributes e → Notes (unknown_broken g attributes e) x y → Notes (second_broken g attributes before e.attribute t) y z
+-- what an equation breaks by itself, and J6
+pub given_noted : (g : List Class) (attributes : List Attribute) (before : List Given) (e : Given) {t : Option Target} {x y z : Option Broken} → t ≡ target_of g attributes e → Notes (unknown_broken g attributes e) x y → Notes (second_broken g attributes before e.attribute.name t) y z
     → Notes (given_broken g attributes before e) x z
-given_noted g attributes before e {t} {x} {y} {z} is h k = notes_then h (subst (λ o. Notes (second_broken g attributes before e.attribute o) y z) is k)
+given_noted g attributes before e {t} {x} {y} {z} is h k = notes_then h (subst (λ o. Notes (second_broken g attributes before e.attribute.name o) y z) is k)

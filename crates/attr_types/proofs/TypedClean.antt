@@ -3,7 +3,7 @@ use Rattle.attr_rules.specs.Expression.{Expression}
 use Rattle.attr_rules.specs.declared.accessors.Accessor.{Accessor}
 use Rattle.attr_types.proofs.ListsTyped.{IsListed, call_listed, form_typed}
 use Rattle.attr_types.specs.Heads.{class_broken}
-use Rattle.std.proofs.Common.{◌≡◌, List, [], ◌∷◌, ◌++◌, ◌&&◌, true, false, not, pos, subst, is_none, Some, None, refl, ap, sym, ◌∙◌, arith, Option, is_some}
+use Rattle.std.proofs.Common.{◌≡◌, List, [], ◌∷◌, ◌++◌, ◌&&◌, true, false, not, pos, subst, is_none, Some, None, refl, ap, sym, ◌∙◌, arith, length, Option, is_some}
 use Rattle.std.proofs.lemmas.Bool.{and_parts}
 use Rattle.broken_rules.specs.Notes.{at}
 use Rattle.broken_rules.specs.declared.rule.Rule.TheVariants.{J9, J10}
@@ -17,15 +17,15 @@ use Rattle.attr_rules.specs.declared.types.ValueType.TheVariants as types
 use Rattle.attr_rules.specs.Expression as said
 use Rattle.attr_rules.specs.Types.{of_class}
 use Rattle.attr_rules.specs.Typing as typing
-use Rattle.attr_rules.specs.Typing.{HasType, Names}
+use Rattle.attr_rules.specs.Typing.{Fit, Names}
 use Rattle.attr_types.specs.declared.standing.Stands.{Stands}
 use Rattle.attr_types.specs.declared.standing.Stands.TheVariants.{Anywhere, Negated, Range}
 use Rattle.attr_types.specs.Bodies.{arguments_broken, call_broken, choice_broken, expr_broken, is_range, misfit, place_of, sides_broken, no_list, no_node}
 use Rattle.attr_types.specs.Scope.{Scope, member_on, variable_named, wanted_for}
 use Rattle.attr_types.specs.ScopeKept.{IsScope}
-use Rattle.attr_types.specs.Typed.{body_of, count, first_of, known, inside, list_of, owner_of}
-use Rattle.attr_types.proofs.FormsTyped.{IsTyped, choice_typed, joined_typed, literal_typed, negate_typed, not_typed, of_type, wanted_int, cast_typed, test_typed, wanted_truth}
-use Rattle.attr_types.proofs.MembersTyped.{IsPassed, call_typed, names_in}
+use Rattle.attr_types.specs.Typed.{arguments_said, body_of, count, known, inside, list_of, owner_of}
+use Rattle.attr_types.proofs.FormsTyped.{IsTyped, choice_typed, fitting, joined_typed, literal_typed, negate_typed, not_typed, of_type, cast_typed, test_typed, wanted_truth}
+use Rattle.attr_types.proofs.MembersTyped.{call_typed, names_in}
 use Rattle.attr_types.proofs.Variables.{AreKnown, variable_typed, inside_known}
 
 -- what has a type is no list
@@ -46,22 +46,22 @@ mutual
   typed s is_scope all (Variable n) w plain built none =
       variable_typed s all (λ k. None) (Some s.this) n.text (variable_named s n.text) refl (not_broken (is_none (variable_named s n.text)) (at n.place J9) none)
   typed s is_scope all (Call n es) w plain built none =
-      let wanted = wanted_for (member_on s (Some (of_class s.this)) n.text (count es)) (count es) in
+      let wanted = wanted_for s (member_on s (Some (of_class s.this)) n.text (count es)) (count es) in
       let parts = append_none (call_broken s false n (count es) n.place (Some (of_class s.this))) (arguments_broken s wanted es)
       (subst (λ b. call_broken s b n (count es) n.place (Some (of_class s.this)) ++ arguments_broken s wanted es ≡ []) plain none)
       in
       let words = and_parts (not (is_one_of set_forms n.text)) (are_built es) built in
-      call_typed s is_scope (λ k. None) (Some s.this) said.This (first_of s es) n (count es) n.place (Some (of_class s.this)) (of_type (names_in s) (of_class s.this) said.This (typing.this s.this refl)) parts.0
-      (passed s is_scope all es wanted words.1 parts.1)
+      call_typed s is_scope (λ k. None) (Some s.this) said.This (arguments_said s es) n (count es) n.place (Some (of_class s.this)) (of_type (names_in s) (of_class s.this) said.This (typing.this s.this refl)) parts.0
+      (record { passed = fitted s is_scope all es wanted words.1 parts.1 })
   typed s is_scope all (Member e n es) w plain built none =
-      let wanted = wanted_for (member_on s (known s e) n.text (count es)) (count es) in
+      let wanted = wanted_for s (member_on s (known s e) n.text (count es)) (count es) in
       let call = call_broken s false n (count es) (place_of e) (known s e) in
       let parts = append_none (expr_broken s Anywhere e) (call ++ arguments_broken s wanted es)
       (subst (λ b. expr_broken s Anywhere e ++ (call_broken s b n (count es) (place_of e) (known s e) ++ arguments_broken s wanted es) ≡ []) plain none)
       in
       let rest = append_none call (arguments_broken s wanted es) parts.1 in
       let both = and_parts (is_built e) (are_built es) built in
-      call_typed s is_scope (λ k. None) (Some s.this) (body_of s e) (first_of s es) n (count es) (place_of e) (known s e) (typed s is_scope all e Anywhere refl both.0 parts.0) rest.0 (passed s is_scope all es wanted both.1 rest.1)
+      call_typed s is_scope (λ k. None) (Some s.this) (body_of s e) (arguments_said s es) n (count es) (place_of e) (known s e) (typed s is_scope all e Anywhere refl both.0 parts.0) rest.0 (record { passed = fitted s is_scope all es wanted both.1 rest.1 })
   typed s is_scope all (New p n es) w plain built none = absurd (cc)
   typed s is_scope all (Quantified q p n range e) w plain built none =
       let inner = inside s n range in
@@ -111,11 +111,11 @@ mutual
   listed s is_scope all (Call n es) here built none list =
       let call = call_broken s true n (count es) n.place (Some (of_class s.this)) in
       let this = of_type (names_in s) (of_class s.this) said.This (typing.this s.this refl) in
-      let parts = append_none call (arguments_broken s (wanted_for (member_on s (Some (of_class s.this)) n.text (count es)) (count es)) es) none in
+      let parts = append_none call (arguments_broken s (wanted_for s (member_on s (Some (of_class s.this)) n.text (count es)) (count es)) es) none in
       call_listed s is_scope (names_in s) refl said.This n (count es) n.place (Some (of_class s.this)) this parts.0 (not_broken (is_some (known s (Call n es))) (at n.place J10) list)
   listed s is_scope all (Member e n es) here built none list =
       let call = call_broken s true n (count es) (place_of e) (known s e) in
-      let arguments = arguments_broken s (wanted_for (member_on s (known s e) n.text (count es)) (count es)) es in
+      let arguments = arguments_broken s (wanted_for s (member_on s (known s e) n.text (count es)) (count es)) es in
       let parts = append_none (expr_broken s Anywhere e) (call ++ arguments) none in
       let owner = typed s is_scope all e Anywhere refl (and_parts (is_built e) (are_built es) built).0 parts.0 in
       call_listed s is_scope (names_in s) refl (body_of s e) n (count es) (place_of e) (known s e) owner (append_none call arguments parts.1).0 (not_broken (is_some (known s (Member e n es))) (at (place_of e) J10) list)
@@ -137,12 +137,14 @@ mutual
   listed s is_scope all (InstanceOf e n) here built none list = no_listed s (InstanceOf e n) (here none) list
   listed s is_scope all (If c a b) here built none list = no_listed s (If c a b) (here none) list
 
-  passed : (s : Scope) → IsScope s → AreKnown s → (es : Arguments) (wanted : List Kind) → are_built es ≡ true → arguments_broken s wanted es ≡ [] → IsPassed (names_in s) wanted (count es) (first_of s es)
-  passed s is_scope all no_more wanted built none = record { passed = λ is one. absurd (omega arith) }
-  passed s is_scope all (argument e es) wanted built none = record {
-    passed = λ is one.
-        let int_first : arguments_broken s (kinds.Int ∷ []) (argument e es) ≡ [] = ap (λ ks. arguments_broken s ks (argument e es)) (sym is) ∙ none in
-        let parts = append_none (expr_broken s Anywhere e) (misfit s.grammar kinds.Int (known s e) e ++ arguments_broken s [] es) int_first in
-        let rest = append_none (misfit s.grammar kinds.Int (known s e) e) (arguments_broken s [] es) parts.1 in
-        wanted_int (names_in s) (known s e) e (body_of s e) (typed s is_scope all e Anywhere refl (and_parts (is_built e) (are_built es) built).0 parts.0) rest.0;
-  }
+  -- the arguments of a call, which are as many as are wanted
+  fitted : (s : Scope) → IsScope s → AreKnown s → (es : Arguments) (wanted : List Kind) → are_built es ≡ true → arguments_broken s wanted es ≡ [] → length wanted ≡ count es → Fit (names_in s) (arguments_said s es) wanted
+  fitted s is_scope all no_more [] built none many = typing.end
+  fitted s is_scope all no_more (k ∷ wanted) built none many = absurd (omega (arith, many))
+  fitted s is_scope all (argument e es) [] built none many = absurd (omega (arith, many))
+  fitted s is_scope all (argument e es) (k ∷ wanted) built none many =
+      let both = and_parts (is_built e) (are_built es) built in
+      let parts = append_none (expr_broken s Anywhere e) (misfit s.grammar k (known s e) e ++ arguments_broken s wanted es) none in
+      let rest = append_none (misfit s.grammar k (known s e) e) (arguments_broken s wanted es) parts.1 in
+      let first = typed s is_scope all e Anywhere refl both.0 parts.0 in
+      typing.more first.type first.typed (fitting (names_in s) k (known s e) first.type e first.is rest.0) (fitted s is_scope all es wanted both.1 rest.1 (omega (arith, many)))

@@ -21,11 +21,12 @@ use Rattle.attr_types.specs.Heads.{class_broken, class_or_first}
 use Rattle.ast_grammar.specs.Grammar.{class_named}
 use Rattle.attr_rules.specs.Types.{of_class}
 use Rattle.attr_rules.specs.Expression as said
-use Rattle.attr_rules.specs.Expression.{expression_of}
+use Rattle.attr_rules.specs.Expression.{arguments_of as said_arguments, expression_of}
+use Rattle.attr_rules.specs.declared.expression.TArgs.{TArgs}
 use Rattle.attr_rules.specs.declared.expression.TExpr.{TExpr}
 use Rattle.attr_types.specs.Scope.{Scope, Variable, list_called, member_on, type_called, wanted_for}
 use Rattle.attr_types.specs.Seen.{call_says, said_by, seen_typed}
-use Rattle.attr_types.specs.Typed.{body_of, call_said, class_type, count, element_named, element_type, first_of, inside, known, list_of, owner_of, truth}
+use Rattle.attr_types.specs.Typed.{arguments_said, body_of, call_said, class_type, count, element_named, element_type, inside, known, list_of, owner_of, truth}
 use Rattle.jrag_reader.specs.declared.expression.Expr as memory
 use Rattle.jrag_reader.specs.declared.expression.Expr.TheFolds.{fold-roll-Expr}
 use Rattle.jrag_reader.specs.declared.expression.Expr.TheOpen.{Expr-F}
@@ -49,7 +50,7 @@ seen-Cast p n a = ap seen_expr (sym (rolls-Cast p n a)) ∙ fold-roll-Expr Expr 
 seen-InstanceOf : (a : Box memory.Expr Global) (n : kept_name.Name) → seen_expr (kept.InstanceOf a n) ≡ InstanceOf (seen_expr a.value) (seen_name n)
 seen-InstanceOf a n = ap seen_expr (sym (rolls-InstanceOf a n)) ∙ fold-roll-Expr Expr seen_level (Expr-F.InstanceOf a n)
 
-seen-Call : (n : kept_name.Name) (es : Vec memory.Expr Global) → seen_expr (kept.Call n es) ≡ Call (seen_name n) (arguments_of (map seen_expr es.items))
+pub seen-Call : (n : kept_name.Name) (es : Vec memory.Expr Global) → seen_expr (kept.Call n es) ≡ Call (seen_name n) (arguments_of (map seen_expr es.items))
 seen-Call n es = ap seen_expr (sym (rolls-Call n es)) ∙ fold-roll-Expr Expr seen_level (Expr-F.Call n es)
 
 seen-Quantified : (q : Quantifier) (p : Place) (n : kept_name.Name) (r c : Box memory.Expr Global) → seen_expr (kept.Quantified q p n r c) ≡ Quantified q p (seen_name n) (seen_expr r.value) (seen_expr c.value)
@@ -73,7 +74,7 @@ module _ (s : Scope) where
 
   -- what a call breaks behind a receiver of a type, where that is known
   pub call_noted : (range : Bool) (t : Option ValueType) (n : Name) (first : Place) (es : List memory.Expr) {k : ℕ} {text : List ℕ} {m : Option member.Member} {wanted : List Kind} {a b c : Option Broken}
-      → k ≡ length es → text ≡ n.text → m ≡ member_on s t text k → wanted ≡ wanted_for m k
+      → k ≡ length es → text ≡ n.text → m ≡ member_on s t text k → wanted ≡ wanted_for s m k
       → (m ≡ member_on s t n.text k → Notes (call_broken s range n k first t) a b) → Notes (arguments_broken s wanted (arguments_of (map seen_expr es))) b c
       → Notes (calls_break s range t n first (arguments_of (map seen_expr es))) a c
   call_noted range t n first es {k} e i is for h g =
@@ -93,9 +94,9 @@ module _ (s : Scope) where
       notes_then (subst (λ r. Notes (calls_break s r t n first (arguments_of (map seen_expr es))) a b) ranged h) (subst (λ v. Notes (broken_if (is_some v) (at first J10)) b c) told g)
 
   -- and what it says
-  pub call_tells : (r : kept_typed.Typed) (n : Name) (es : List memory.Expr) (b i : TExpr) {k : ℕ} {text : List ℕ} {m : Option member.Member} {t : Option ValueType}
-      → k ≡ length es → text ≡ n.text → m ≡ member_on s r.value_type text k → expression_of i ≡ first_of s (arguments_of (map seen_expr es))
-      → t ≡ option_and_then (type_called s) m → expression_of b ≡ call_said m (expression_of r.body) (expression_of i)
+  pub call_tells : (r : kept_typed.Typed) (n : Name) (es : List memory.Expr) (b : TExpr) (i : TArgs) {k : ℕ} {text : List ℕ} {m : Option member.Member} {t : Option ValueType}
+      → k ≡ length es → text ≡ n.text → m ≡ member_on s r.value_type text k → said_arguments i ≡ arguments_said s (arguments_of (map seen_expr es))
+      → t ≡ option_and_then (type_called s) m → expression_of b ≡ call_said m (expression_of r.body) (said_arguments i)
       → seen_typed (record { value_type = t; body = b }) ≡ call_says s (seen_typed r) n (arguments_of (map seen_expr es))
   call_tells r n es b i e named is first of told =
       let many = count_seen es e in

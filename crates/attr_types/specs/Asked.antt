@@ -17,11 +17,11 @@ abbrev pub scope_in : List Class → RuleSet → ClassId → Scope
 scope_in g r c = record { grammar = g; known = record { superclasses = r.superclasses; attributes = r.attributes }; this = c; variables = [] }
 
 abbrev pub query_with : ℕ → Member → ValueType → Query
-query_with k m t = record { body = call_said (Some m) (said.Source k) said.Null; kind = kept_kind t }
+query_with k m t = record { body = call_said (Some m) (said.Source k) said.no_more; kind = kept_kind t }
 
 -- the query for a member, where it takes no arguments and gives no whole list
 abbrev pub query_for : Scope → ℕ → Member → Option Query
-query_for s k m = if length (arguments_wanted m) == 0 then option_map (query_with k m) (type_called s m) else None
+query_for s k m = if length (arguments_wanted s m) == 0 then option_map (query_with k m) (type_called s m) else None
 
 -- the query `@k.name()` at a node of a class, where the name means something there
 abbrev pub query_named : List Class → RuleSet → ℕ → ClassId → List ℕ → Option Query

@@ -70,14 +70,14 @@ have_no_common g (Some t) (Some u) = is_no_type (common g t u)
 
 -- J9: the name means nothing. J11: another number of arguments. J10: a whole list, where no list is wanted; `first` is the place of the
 -- first token of the call
-abbrev pub member_broken : Bool → Option member.Member → Name → ℕ → Place → List Broken
-member_broken range None name n first = at name.place J9 ∷ []
-member_broken range (Some m) name n first = broken_if (not (length (arguments_wanted m) == n)) (at name.place J11) ++ broken_if (not range && is_list m) (at first J10)
+abbrev pub member_broken : Scope → Bool → Option member.Member → Name → ℕ → Place → List Broken
+member_broken s range None name n first = at name.place J9 ∷ []
+member_broken s range (Some m) name n first = broken_if (not (length (arguments_wanted s m) == n)) (at name.place J11) ++ broken_if (not range && is_list m) (at first J10)
 
 -- J10: the receiver is of no class
 abbrev pub on_class_broken : Scope → Bool → Name → ℕ → Place → Option ClassId → List Broken
 on_class_broken s range name n first None = at first J10 ∷ []
-on_class_broken s range name n first (Some c) = member_broken range (member_of s name.text n c) name n first
+on_class_broken s range name n first (Some c) = member_broken s range (member_of s name.text n c) name n first
 
 -- what a call breaks behind a receiver of a type, where that is known
 abbrev pub call_broken : Scope → Bool → Name → ℕ → Place → Option ValueType → List Broken
@@ -144,9 +144,9 @@ abbrev mutual
   expr_broken s w (Source p n) = at p J9 ∷ []
   expr_broken s w (Variable n) = broken_if (is_none (variable_named s n.text)) (at n.place J9)
   expr_broken s w (Call n es) = call_broken s (is_range w) n (count es) n.place (Some (of_class s.this))
-      ++ arguments_broken s (wanted_for (member_on s (Some (of_class s.this)) n.text (count es)) (count es)) es
+      ++ arguments_broken s (wanted_for s (member_on s (Some (of_class s.this)) n.text (count es)) (count es)) es
   expr_broken s w (Member e n es) = expr_broken s stands.Anywhere e ++ (call_broken s (is_range w) n (count es) (place_of e) (known s e)
-      ++ arguments_broken s (wanted_for (member_on s (known s e) n.text (count es)) (count es)) es)
+      ++ arguments_broken s (wanted_for s (member_on s (known s e) n.text (count es)) (count es)) es)
   expr_broken s w (New p n es) = []
   expr_broken s w (Quantified q p n range e) = expr_broken s stands.Range range ++ (no_list (known s range) range ++ (expr_broken (inside s n range) stands.Anywhere e ++ misfit s.grammar kinds.Truth (known (inside s n range) e) e))
   expr_broken s w (Group p e) = expr_broken s stands.Anywhere e
@@ -174,7 +174,7 @@ argument_broken s (Some k) e = operand_broken s stands.Anywhere k e
 
 -- a call behind a receiver of a type, where that is known
 abbrev pub calls_break : Scope → Bool → Option ValueType → Name → Place → Arguments → List Broken
-calls_break s range t n first es = call_broken s range n (count es) first t ++ arguments_broken s (wanted_for (member_on s t n.text (count es)) (count es)) es
+calls_break s range t n first es = call_broken s range n (count es) first t ++ arguments_broken s (wanted_for s (member_on s t n.text (count es)) (count es)) es
 
 -- the range of a form over a list
 abbrev pub range_broken : Scope → Expr → List Broken

@@ -1,7 +1,6 @@
 -- The rules on declarations: J2, J3, J4, J15 and J17.
-use Rattle.std.specs.Prelude.{ℕ, ◌==◌, List, [], ◌++◌, Bool, true, false, not, ◌&&◌, ◌||◌, Option, Some, None, find, is_none, length, map, if◌then◌else◌}
+use Rattle.std.specs.Prelude.{ℕ, ◌==◌, List, ◌++◌, [], Bool, false, not, ◌&&◌, ◌||◌, Option, Some, None, find, is_none, length, map}
 use Rattle.std.specs.List.{list_any, range_with_len}
-use Rattle.std.specs.Option.{option_and_then, option_map, unwrap_or}
 use Rattle.std.specs.Str.{bytes_eq}
 use Rattle.broken_rules.specs.declared.broken.Broken.{Broken}
 use Rattle.broken_rules.specs.declared.rule.Rule.TheVariants.{J2, J3, J4, J15, J17}
@@ -10,13 +9,15 @@ use Rattle.ast_grammar.specs.declared.grammar.ClassId.{ClassId}
 use Rattle.ast_grammar.specs.Grammar.{Class, class_named, is_sub}
 use Rattle.attr_rules.specs.declared.kinds.Attr.{Attr}
 use Rattle.attr_rules.specs.declared.kinds.Kind.{Kind}
-use Rattle.attr_rules.specs.declared.kinds.Kind.TheVariants as kinds
+use Rattle.attr_rules.specs.declared.kinds.Params.{Params}
 use Rattle.attr_rules.specs.declared.kinds.Sort.{Sort}
 use Rattle.attr_rules.specs.Accessors.{is_spelled}
 use Rattle.attr_rules.specs.Rules.{Attribute, is_inherited, most_attributes, plain_attribute}
 use Rattle.jrag_reader.specs.Expressions.{Name}
-use Rattle.jrag_reader.specs.Items.{TypeName, Boolean, Integer, String, Class as Named, WrittenType}
+use Rattle.jrag_reader.specs.Items.{WrittenType}
+use Rattle.attr_types.specs.Parameters.{all_parameters_broken, differ, parameter_types, params_written}
 use Rattle.attr_types.specs.Written.{Head}
+use Rattle.attr_types.specs.WrittenTypes.{class_numbered, kind_written, same_kind, type_written}
 
 -- J2: the name is that of no class
 abbrev pub class_broken : List Class → Name → List Broken
@@ -51,33 +52,6 @@ again_broken g before h = again_for g before h.signature.name (class_named g h.c
 abbrev pub count_broken : List Head → Name → List Broken
 count_broken before n = broken_if (length before == most_attributes) (at n.place J17)
 
--- the class of a number
-abbrev pub class_numbered : ℕ → ClassId
-class_numbered c = record { 0 = c }
-
-abbrev pub node_kind : ℕ → Kind
-node_kind c = kinds.Node (class_numbered c)
-
-abbrev pub nodes_kind : ℕ → Kind
-nodes_kind c = kinds.Nodes (class_numbered c)
-
--- the type that a name means, if it means one
-abbrev pub single_named : List Class → TypeName → Option Kind
-single_named g Boolean = Some kinds.Truth
-single_named g Integer = Some kinds.Int
-single_named g String = Some kinds.Text
-single_named g (Named name) = option_map node_kind (class_named g name)
-
--- the type of the sets whose elements a name means: these are texts, or nodes of a class
-abbrev pub set_named : List Class → TypeName → Option Kind
-set_named g Boolean = None
-set_named g Integer = None
-set_named g String = Some kinds.Texts
-set_named g (Named name) = option_map nodes_kind (class_named g name)
-
-abbrev pub type_written : List Class → WrittenType → Option Kind
-type_written g t = if t.set then set_named g t.name else single_named g t.name
-
 -- J4: what is written is no type
 abbrev pub type_broken : List Class → WrittenType → List Broken
 type_broken g t = broken_if (is_none (type_written g t)) (at t.place J4)
@@ -93,29 +67,21 @@ first_inherited list name = find (λ h. is_inherited h.sort && bytes_eq h.signat
 abbrev pub type_in : List Class → Head → Option Kind
 type_in g h = type_written g h.of
 
--- two types are one
-abbrev pub equal_kinds : Kind → Kind → Bool
-equal_kinds kinds.Truth kinds.Truth = true
-equal_kinds kinds.Int kinds.Int = true
-equal_kinds kinds.Text kinds.Text = true
-equal_kinds (kinds.Node c) (kinds.Node d) = c.0 == d.0
-equal_kinds kinds.Texts kinds.Texts = true
-equal_kinds (kinds.Nodes c) (kinds.Nodes d) = c.0 == d.0
-equal_kinds k l = false
+-- a declaration is of another type than one before, or has other parameters
+abbrev pub is_other_than : List Class → Head → Head → Bool
+is_other_than g h f = not (same_kind (type_in g f) (type_in g h)) || differ g (parameter_types g f.signature.parameters) h.signature.parameters
 
--- two types are one, as far as both are known
-abbrev pub same_kind : Option Kind → Option Kind → Bool
-same_kind None l = true
-same_kind (Some k) None = true
-same_kind (Some k) (Some l) = equal_kinds k l
+abbrev pub is_other : List Class → Head → Option Head → Bool
+is_other g h None = false
+is_other g h (Some f) = is_other_than g h f
 
--- J15: an inherited attribute is of another type than the first one of its name
+-- J15: an inherited attribute is of another type than the first one of its name, or has other parameters
 abbrev pub other_broken : List Class → List Head → Head → List Broken
-other_broken g before h = broken_if (is_inherited h.sort && not (same_kind (option_and_then (type_in g) (first_inherited before h.signature.name.text)) (type_in g h))) (at h.signature.name.place J15)
+other_broken g before h = broken_if (is_inherited h.sort && is_other g h (first_inherited before h.signature.name.text)) (at h.signature.name.place J15)
 
 -- what a declaration breaks
 abbrev pub head_broken : List Class → List Head → Head → List Broken
-head_broken g before h = named_broken g before h ++ other_broken g before h
+head_broken g before h = named_broken g before h ++ (other_broken g before h ++ all_parameters_broken g None h.signature)
 
 -- what the declarations break
 abbrev pub heads_broken : List Class → List Head → List Broken
@@ -126,17 +92,16 @@ abbrev pub class_or_first : Option ℕ → ClassId
 class_or_first None = class_numbered 0
 class_or_first (Some c) = class_numbered c
 
--- what is no type counts as `boolean`
-abbrev pub kind_written : List Class → WrittenType → Kind
-kind_written g t = unwrap_or (type_written g t) kinds.Truth
-
--- what is declared of an attribute of this sort, without parameters
-abbrev pub declared_as : Sort → ClassId → Kind → Attr
-declared_as s class kind = record (plain_attribute class kind) { sort = s }
+-- what is declared of an attribute of this sort, with these parameters
+abbrev pub declared_as : Sort → ClassId → Kind → Params → Attr
+declared_as s class kind ps = record (plain_attribute class kind) { sort = s; params = ps }
 
 -- what a declaration declares
 abbrev pub attribute_of : List Class → Head → Attribute
-attribute_of g h = record { name = h.signature.name.text; declared = declared_as h.sort (class_or_first (class_named g h.class.text)) (kind_written g h.of) }
+attribute_of g h = record {
+  name = h.signature.name.text;
+  declared = declared_as h.sort (class_or_first (class_named g h.class.text)) (kind_written g h.of) (params_written g h.signature.parameters);
+}
 
 abbrev pub attributes_of : List Class → List Head → List Attribute
 attributes_of g list = map (attribute_of g) list

@@ -5,7 +5,8 @@ pub mod Covering
 pub mod CoveringKept
 pub mod DeclaredNames
 pub mod Heads
-pub mod InheritedTypes
+pub mod FirstInherited
+pub mod Parameters
 pub mod Paths
 pub mod Phases
 pub mod Asked
@@ -16,3 +17,4 @@ pub mod Targets
 pub mod TargetsKept
 pub mod Typed
 pub mod Written
+pub mod WrittenTypes

@@ -1,10 +1,10 @@
--- Where the path of an equation leads, and the rules on paths: J3, J4, J9, J15 and J17.
-use Rattle.std.specs.Prelude.{ℕ, ◌==◌, List, [], ◌∷◌, ◌++◌, Bool, true, false, not, ◌||◌, Option, Some, None, codes, is_none, length, map, if◌then◌else◌}
+-- Where the path of an equation leads, what an equation may name, and the rules on paths: J9 and J15.
+use Rattle.std.specs.Prelude.{ℕ, List, [], ◌∷◌, ◌++◌, Bool, true, false, not, ◌||◌, Option, Some, None, codes, map, if◌then◌else◌}
 use Rattle.std.specs.Option.{option_and_then, option_map}
 use Rattle.std.specs.Str.{bytes_eq}
 use Rattle.broken_rules.specs.declared.broken.Broken.{Broken}
-use Rattle.broken_rules.specs.declared.rule.Rule.TheVariants.{J3, J4, J9, J15, J17}
-use Rattle.broken_rules.specs.Notes.{at, broken_if, each_after}
+use Rattle.broken_rules.specs.declared.rule.Rule.TheVariants.{J9, J15}
+use Rattle.broken_rules.specs.Notes.{at, broken_if}
 use Rattle.ast_grammar.specs.declared.grammar.Shape.{Shape}
 use Rattle.ast_grammar.specs.declared.grammar.Shape.TheVariants as shapes
 use Rattle.ast_grammar.specs.Grammar.{Class, Component, component_at, component_named}
@@ -14,9 +14,8 @@ use Rattle.attr_rules.specs.declared.kinds.Kind.TheVariants as kinds
 use Rattle.attr_rules.specs.Accessors.{behind}
 use Rattle.attr_rules.specs.Rules.{is_for_nodes}
 use Rattle.attr_rules.specs.declared.types.ValueType.TheVariants as types
-use Rattle.names.specs.Among.{is_among}
-use Rattle.jrag_reader.specs.Items.{Parameter, Signature, WrittenType}
-use Rattle.attr_types.specs.Heads.{same_kind, type_written}
+use Rattle.jrag_reader.specs.Items.{Parameter, Signature}
+use Rattle.attr_types.specs.Parameters.{is_other_type, parameter_type}
 use Rattle.attr_types.specs.Scope.{Variable}
 
 -- the number of a component at which nodes may hang
@@ -75,14 +74,18 @@ bound_names p Own = []
 bound_names p (AtComponent k) = index_named (index_name p) ∷ []
 bound_names p Children = []
 
--- the type of a parameter is known, and isn't `int`
-abbrev pub is_no_index : List Class → WrittenType → Bool
-is_no_index g t = t.set || not (same_kind (type_written g t) (Some kinds.Int))
+-- a parameter, of the type that it has, where that is known
+abbrev pub parameter_named : List Class → Parameter → Variable
+parameter_named g p = record { name = p.name.text; type = option_map types.Of (parameter_type g p) }
+
+-- what an equation may name: the parameters of the attribute, and behind them what its path binds
+abbrev pub equation_names : List Class → Signature → Option Signature → Reach → List Variable
+equation_names g s p r = map (parameter_named g) s.parameters ++ bound_names p r
 
 -- parameters other than none, or than one index where the path may have one
 abbrev pub are_other : List Class → Bool → List Parameter → Bool
 are_other g index [] = false
-are_other g index (p ∷ []) = not index || is_no_index g p.of
+are_other g index (p ∷ []) = not index || is_other_type g (Some kinds.Int) p.of
 are_other g index (p ∷ q ∷ ps) = true
 
 -- J9: the path leads nowhere. J15: it has other parameters
@@ -95,30 +98,7 @@ abbrev pub way_broken : List Class → Option ℕ → Signature → List Broken
 way_broken g None p = []
 way_broken g (Some c) p = reach_broken g c p (reach_named g c p.name.text)
 
--- a parenthesis has at most so many parameters
-abbrev pub most_parameters : ℕ
-most_parameters = 3
-
-abbrev pub parameter_name : Parameter → List ℕ
-parameter_name p = p.name.text
-
-abbrev pub parameter_names : List Parameter → List (List ℕ)
-parameter_names ps = map parameter_name ps
-
--- a type that no parameter has: a set, or none
-abbrev pub is_no_parameter : List Class → WrittenType → Bool
-is_no_parameter g t = t.set || is_none (type_written g t)
-
--- J4: a parameter is a set, or its type is none. J3: one before has its name. J17: there are so many before
-abbrev pub parameter_broken : List Class → List Parameter → Parameter → List Broken
-parameter_broken g before p =
-    broken_if (is_no_parameter g p.of) (at p.of.place J4)
-    ++ (broken_if (is_among (parameter_names before) p.name.text) (at p.name.place J3) ++ broken_if (length before == most_parameters) (at p.name.place J17))
-
-abbrev pub parameters_broken : List Class → List Parameter → List Broken
-parameters_broken g ps = each_after (parameter_broken g) [] ps
-
 -- what the path of an equation of a class breaks
 abbrev pub path_broken : List Class → Option ℕ → Option Signature → List Broken
 path_broken g c None = []
-path_broken g c (Some p) = way_broken g c p ++ parameters_broken g p.parameters
+path_broken g c (Some p) = way_broken g c p

@@ -12,16 +12,16 @@ use Rattle.attr_types.specs.Bodies.{operand_broken}
 use Rattle.attr_types.specs.declared.standing.Stands.TheVariants.{Anywhere}
 use Rattle.attr_types.specs.Completeness.{complete_broken, places_of}
 use Rattle.attr_types.specs.Heads.{attributes_of, heads_broken}
-use Rattle.attr_types.specs.Paths.{bound_names}
+use Rattle.attr_types.specs.Paths.{equation_names}
 use Rattle.attr_types.specs.Scope.{Scope}
 use Rattle.attr_types.specs.Targets.{target_given, targets_broken, targets_of}
 use Rattle.attr_types.specs.Typed.{body_of}
 use Rattle.attr_types.specs.Written.{Given, declarations, givens}
-use Rattle.jrag_reader.specs.Items.{Item, Signature}
+use Rattle.jrag_reader.specs.Items.{Item}
 
--- where the right side of an equation with a path, or without one, stands
-abbrev pub scope_of : List Class → List Attribute → Option Signature → Target → Scope
-scope_of g attributes p t = record { grammar = g; known = record { superclasses = superclasses_of g; attributes = attributes }; this = t.class; variables = bound_names p t.reach }
+-- where the right side of an equation stands, which is for this
+abbrev pub scope_of : List Class → List Attribute → Given → Target → Scope
+scope_of g attributes e t = record { grammar = g; known = record { superclasses = superclasses_of g; attributes = attributes }; this = t.class; variables = equation_names g e.attribute e.path t.reach }
 
 abbrev pub kind_or_truth : Option Attr → Kind
 kind_or_truth None = kinds.Truth
@@ -32,7 +32,7 @@ abbrev pub wanted_by : List Attribute → Target → Kind
 wanted_by attributes t = kind_or_truth (declared_at attributes t.attribute.0)
 
 abbrev pub equation_broken : List Class → List Attribute → Given → List Broken
-equation_broken g attributes e = operand_broken (scope_of g attributes e.path (target_given g attributes e)) Anywhere (wanted_by attributes (target_given g attributes e)) e.body
+equation_broken g attributes e = operand_broken (scope_of g attributes e (target_given g attributes e)) Anywhere (wanted_by attributes (target_given g attributes e)) e.body
 
 abbrev pub bodies_broken : List Class → List Attribute → List Given → List Broken
 bodies_broken g attributes list = flat_map (equation_broken g attributes) list
@@ -47,7 +47,7 @@ phases_of g items =
     ∷ []
 
 abbrev pub equation_of : List Class → List Attribute → Given → Equation
-equation_of g attributes e = record { target = target_given g attributes e; body = body_of (scope_of g attributes e.path (target_given g attributes e)) e.body }
+equation_of g attributes e = record { target = target_given g attributes e; body = body_of (scope_of g attributes e (target_given g attributes e)) e.body }
 
 -- attributes and equations are numbered in the order of the items
 unfoldable pub rules_of : List Class → List Item → RuleSet

@@ -13,7 +13,7 @@ use Rattle.attr_rules.specs.declared.types.ValueType.{ValueType}
 use Rattle.attr_rules.specs.declared.types.ValueType.TheVariants as types
 use Rattle.attr_rules.specs.Accessors.{accessor_of, arguments_of, type_read}
 use Rattle.attr_rules.specs.Rules.{AttributeSet, attribute_named, declared_at}
-use Rattle.attr_rules.specs.Types.{class_in}
+use Rattle.attr_rules.specs.Types.{class_in, parameter_kinds}
 use Rattle.attr_types.specs.declared.scope.Member.{Member}
 use Rattle.attr_types.specs.declared.scope.Member.TheVariants as members
 
@@ -75,15 +75,20 @@ abbrev pub type_called : Scope → Member → Option ValueType
 type_called s (members.Reads x) = type_read x.access x.class
 type_called s (members.Calls a) = option_map kind_declared (declared_at s.known.attributes a.0)
 
--- the types of the arguments; attributes have none so far
-abbrev pub arguments_wanted : Member → List Kind
-arguments_wanted (members.Reads x) = arguments_of x.access
-arguments_wanted (members.Calls a) = []
+-- the types of the parameters of what is declared, if it is
+abbrev pub kinds_declared : Option Attr → List Kind
+kinds_declared None = []
+kinds_declared (Some d) = parameter_kinds d.params
+
+-- the types of the arguments
+abbrev pub arguments_wanted : Scope → Member → List Kind
+arguments_wanted s (members.Reads x) = arguments_of x.access
+arguments_wanted s (members.Calls a) = kinds_declared (declared_at s.known.attributes a.0)
 
 -- those of a call with so many arguments, where it takes so many
-abbrev pub wanted_for : Option Member → ℕ → List Kind
-wanted_for None n = []
-wanted_for (Some m) n = if length (arguments_wanted m) == n then arguments_wanted m else []
+abbrev pub wanted_for : Scope → Option Member → ℕ → List Kind
+wanted_for s None n = []
+wanted_for s (Some m) n = if length (arguments_wanted s m) == n then arguments_wanted s m else []
 
 abbrev pub is_elements : Access → Bool
 is_elements access.Child = false
@@ -102,10 +107,7 @@ is_list (members.Calls a) = false
 abbrev pub list_read : Accessor → Option Accessor
 list_read x = if is_elements x.access then Some x else None
 
-abbrev pub list_in : Member → Option Accessor
-list_in (members.Reads x) = list_read x
-list_in (members.Calls a) = None
-
 -- the list that a call gives, where it takes so many arguments
 abbrev pub list_called : ℕ → Member → Option Accessor
-list_called n m = if length (arguments_wanted m) == n then list_in m else None
+list_called n (members.Reads x) = if length (arguments_of x.access) == n then list_read x else None
+list_called n (members.Calls a) = None

@@ -12,14 +12,14 @@ use Rattle.attr_types.specs.declared.typed.Typed as kept_typed
 use Rattle.attr_types.specs.declared.written.Given as kept_given
 use Rattle.attr_types.specs.declared.written.Head as kept_head
 use Rattle.attr_types.specs.Scope.{Scope, Variable, member_on, type_called}
-use Rattle.attr_types.specs.Typed.{body_of, call_said, count, first_of, inside, known, list_of, over_said, owner_of, quantified_type}
+use Rattle.attr_types.specs.Typed.{arguments_said, body_of, call_said, count, inside, known, list_of, over_said, owner_of, quantified_type}
 use Rattle.attr_types.specs.Written.{Given, Head}
 
 abbrev pub seen_head : kept_head.Head → Head
 seen_head h = record { sort = h.sort; of = seen_type h.of.now; class = seen_name h.class.now; signature = seen_signature h.signature.now }
 
 abbrev pub seen_given : kept_given.Given → Given
-seen_given e = record { class = seen_name e.class.now; path = option_map (λ s. seen_signature s.now) e.path; attribute = seen_name e.attribute.now; body = seen_expr e.body.now }
+seen_given e = record { class = seen_name e.class.now; path = option_map (λ s. seen_signature s.now) e.path; attribute = seen_signature e.attribute.now; body = seen_expr e.body.now }
 
 abbrev pub seen_variable : kept_variable.Variable → Variable
 seen_variable v = record { name = v.name.now; type = v.value_type }
@@ -41,7 +41,7 @@ said_by s e = record { type = known s e; body = body_of s e }
 
 -- what a call says behind what a receiver says
 abbrev pub call_says : Scope → Said → Name → Arguments → Said
-call_says s r n es = record { type = option_and_then (type_called s) (member_on s r.type n.text (count es)); body = call_said (member_on s r.type n.text (count es)) r.body (first_of s es) }
+call_says s r n es = record { type = option_and_then (type_called s) (member_on s r.type n.text (count es)); body = call_said (member_on s r.type n.text (count es)) r.body (arguments_said s es) }
 
 -- what a form over a list says
 abbrev pub quantified_says : Scope → Quantifier → Name → Expr → Expr → Said

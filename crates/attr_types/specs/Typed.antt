@@ -1,5 +1,5 @@
 -- The types of expressions as they are written, and what they say.
-use Rattle.std.specs.Prelude.{ℕ, suc, pos, List, Option, Some, None}
+use Rattle.std.specs.Prelude.{ℕ, suc, pos, List, [], ◌∷◌, Option, Some, None}
 use Rattle.std.specs.Int.{int_wrap}
 use Rattle.std.specs.Option.{option_and_then, option_map}
 use mir.Syntax.{w32}
@@ -115,11 +115,21 @@ read access.Count k e i = said.Count k e
 read access.Elements k e i = said.Null
 read access.Element k e i = said.Element k e i
 
+-- the arguments that are these
+abbrev pub arguments_in : List Expression → said.Arguments
+arguments_in [] = said.no_more
+arguments_in (e ∷ es) = said.argument e (arguments_in es)
+
+-- the first argument, and `null` where there is none
+abbrev pub first_in : said.Arguments → Expression
+first_in said.no_more = said.Null
+first_in (said.argument e es) = e
+
 -- what a call says behind a receiver; a name that means nothing says `null`
-abbrev pub call_said : Option member.Member → Expression → Expression → Expression
-call_said None e i = said.Null
-call_said (Some (members.Reads x)) e i = read x.access x.component e i
-call_said (Some (members.Calls a)) e i = said.Call a.0 e
+abbrev pub call_said : Option member.Member → Expression → said.Arguments → Expression
+call_said None e es = said.Null
+call_said (Some (members.Reads x)) e es = read x.access x.component e (first_in es)
+call_said (Some (members.Calls a)) e es = said.Call a.0 e es
 
 -- two expressions and what stands between them
 abbrev pub joined : Operator → Expression → Expression → Expression
@@ -162,8 +172,8 @@ abbrev mutual
   body_of s (Text p n) = said.Text n
   body_of s (Source p n) = said.Null
   body_of s (Named n) = name_said (variable_named s n.text)
-  body_of s (Call n es) = call_said (member_on s (Some (of_class s.this)) n.text (count es)) said.This (first_of s es)
-  body_of s (Member e n es) = call_said (member_on s (known s e) n.text (count es)) (body_of s e) (first_of s es)
+  body_of s (Call n es) = call_said (member_on s (Some (of_class s.this)) n.text (count es)) said.This (arguments_said s es)
+  body_of s (Member e n es) = call_said (member_on s (known s e) n.text (count es)) (body_of s e) (arguments_said s es)
   body_of s (New p n es) = said.Null
   body_of s (Quantified q p n range e) = over_said q (list_of s range) (owner_of s range) (body_of (inside s n range) e)
   body_of s (Group p e) = body_of s e
@@ -174,10 +184,10 @@ abbrev mutual
   body_of s (InstanceOf e n) = said.InstanceOf (class_or_first (class_named s.grammar n.text)) (body_of s e)
   body_of s (If c a b) = said.If (body_of s c) (body_of s a) (body_of s b)
 
-  -- the first argument, and `null` where there is none
-  pub first_of : Scope → Arguments → Expression
-  first_of s no_more = said.Null
-  first_of s (argument e es) = body_of s e
+  -- what the arguments of a call say
+  pub arguments_said : Scope → Arguments → said.Arguments
+  arguments_said s no_more = said.no_more
+  arguments_said s (argument e es) = said.argument (body_of s e) (arguments_said s es)
 
   -- the node whose list a form goes over
   pub owner_of : Scope → Expr → Expression

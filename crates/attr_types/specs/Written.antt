@@ -33,19 +33,19 @@ declared_in (Contributes c) = None
 abbrev pub declarations : List Item → List Head
 declarations items = filter_map declared_in items
 
--- an equation: the name of the class, the path to the nodes, if it has one, the name of the attribute, and the right side
+-- an equation: the name of the class, the path to the nodes, if it has one, the name of the attribute with the parameters, and the right side
 pub record Given : Type 0 where
   pub class : Name
   pub path : Option Signature
-  pub attribute : Name
+  pub attribute : Signature
   pub body : Expr
 
 abbrev pub given_with : Synthesized → Expr → Given
-given_with s e = record { class = s.class; path = None; attribute = s.signature.name; body = e }
+given_with s e = record { class = s.class; path = None; attribute = s.signature; body = e }
 
 -- with an inherited attribute behind it, the first name is a path
 abbrev pub given_by : Equation → Given
-given_by e = record { class = e.class; path = option_map (λ s. e.signature) e.inherited; attribute = (own_signature e).name; body = e.body }
+given_by e = record { class = e.class; path = option_map (λ s. e.signature) e.inherited; attribute = own_signature e; body = e.body }
 
 -- the equation that an item gives, if it gives one: that of `eq`, or the one that stands in a declaration
 abbrev pub given_in : Item → Option Given

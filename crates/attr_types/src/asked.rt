@@ -9,7 +9,7 @@ ghost use Rattle.attr_types.specs.Asked.{query_named};
 use crate::scope::Scope;
 use crate::typed::called;
 use ast_grammar::{ClassId, Grammar};
-use attr_rules::{QueryEq, Rules, TExpr};
+use attr_rules::{QueryEq, Rules, TArgs, TExpr};
 use rag_io::{Memory, Place};
 use std::alloc::Global;
 
@@ -36,13 +36,13 @@ pub fn query_of_call(
     let Some(member) = scope.member_of(name, 0, class) else {
         return Ok(None);
     };
-    if !member.arguments().is_empty() {
+    if !scope.takes(member, 0) {
         return Ok(None);
     }
     let Some(value_type) = scope.type_called(member) else {
         return Ok(None);
     };
     let receiver = TExpr::Source(node);
-    let body = called(alloc, Some(member), receiver, TExpr::Null, place)?;
+    let body = called(alloc, Some(member), receiver, TArgs::End, place)?;
     Ok(Some(QueryEq::of(body, value_type.kept_kind())))
 }

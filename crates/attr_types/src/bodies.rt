@@ -5,10 +5,10 @@ ghost use Rattle.std.specs.Int.{int_wrap, w32};
 ghost use Rattle.ast_grammar.specs.Grammar.{superclasses_of};
 ghost use Rattle.broken_rules.specs.Answers.{Ends};
 ghost use Rattle.broken_rules.specs.Notes.{Notes};
-ghost use Rattle.attr_rules.specs.Expression.{Cast, If, InstanceOf, Int, Negate, Not, Null, This, expression_of};
+ghost use Rattle.attr_rules.specs.Expression.{Cast, If, InstanceOf, Int, Negate, Not, Null, This, arguments_of as said_arguments, expression_of};
 ghost use Rattle.attr_rules.specs.declared.kinds.Kind.TheVariants as kinds;
 ghost use Rattle.attr_rules.specs.KeptEquations.{equation_in};
-ghost use Rattle.attr_rules.specs.Types.{of_class};
+ghost use Rattle.attr_rules.specs.Types.{of_class, parameter_kinds};
 ghost use Rattle.broken_rules.specs.Notes.{at, broken_if};
 ghost use Rattle.broken_rules.specs.declared.rule.Rule.TheVariants.{J9, J17};
 ghost use Rattle.ast_grammar.specs.Grammar.{class_named};
@@ -21,22 +21,24 @@ ghost use Rattle.attr_types.specs.Phases.{bodies_broken, equation_broken, equati
 ghost use Rattle.attr_types.specs.ScopeKept.{IsScope};
 ghost use Rattle.attr_types.specs.Seen.{call_says, quantified_says, said_by, seen_given, seen_scope, seen_typed, seen_variable};
 ghost use Rattle.attr_types.specs.Targets.{target_given, targets_of};
-ghost use Rattle.attr_types.specs.Typed.{body_of, class_type, common_of, first_of, int, joined, list_of, owner_of, result_of, truth};
+ghost use Rattle.attr_types.specs.Typed.{arguments_in, arguments_said, body_of, class_type, common_of, int, joined, list_of, owner_of, result_of, truth};
 ghost use Rattle.jrag_reader.specs.Expressions.{Call, Variable as Named, arguments_of, seen_expr, seen_name};
 
 use crate::calls::{Called, check_call, check_list_type};
 use crate::heads::check_class;
-use crate::paths::bound_names;
-use crate::scope::{Member, Scope, Variable, list_called, wanted_for};
+use crate::paths::equation_names;
+use crate::scope::{Member, Scope, Variable, list_called};
 use crate::sides::{Part, check_choice, check_fit, check_node, check_range, check_sides, place_of};
 use crate::standing::Stands;
 use crate::typed::{
-    Typed, called, cast, chosen, common_of, denied, element_type, joined, negated, over_said,
-    quantified_type, result_of, tested, type_of_class,
+    Typed, all_arguments, called, cast, chosen, common_of, denied, element_type, joined, negated,
+    over_said, quantified_type, result_of, tested, type_of_class,
 };
 use crate::written::Given;
 use ast_grammar::{ClassId, Grammar};
-use attr_rules::{Accessor, Attributes, KeptEquation, Kind, TExpr, Target, ValueType};
+use attr_rules::{
+    Accessor, Attributes, KeptEquation, Kind, Params, TArgs, TExpr, Target, ValueType,
+};
 use broken_rules::{Earliest, ReadFault, Rule};
 use jrag_reader::{Expr, Name, Operator, Quantifier};
 use rag_io::{Memory, Place};
@@ -190,29 +192,36 @@ fn type_argument(
     }
 }
 
-// The arguments of a call, of which the first are wanted of these types: what the first says.
+fn add(list: &mut Vec<TExpr>, body: TExpr) -> Result<(), Memory>
+    ensures { OnOk result (list.new.items ≡ list.old.items ++ body ∷ []) }
+{
+    list.push(body).map_err(|_| Memory)
+}
+
+// The arguments of a call, of which the first are wanted of these types.
 #[cycle(types)]
 fn type_arguments(
     alloc: Global,
     scope: &Scope<'_>,
-    wanted: &[Kind],
+    wanted: Params,
     arguments: &[Expr],
     faults: &mut Earliest,
-) -> Result<TExpr, Memory>
+) -> Result<Vec<TExpr>, Memory>
     requires { IsScope (seen_scope scope.now) }
-    ensures noted { OnOk result (Notes (arguments_broken (seen_scope scope.now) wanted.now (arguments_of (map seen_expr arguments.now))) faults.old faults.new) }
-    ensures says { IfOk result (λ e. expression_of e ≡ first_of (seen_scope scope.now) (arguments_of (map seen_expr arguments.now))) }
+    ensures noted { OnOk result (Notes (arguments_broken (seen_scope scope.now) (parameter_kinds wanted) (arguments_of (map seen_expr arguments.now))) faults.old faults.new) }
+    ensures says { IfOk result (λ list. arguments_in (map expression_of list.items) ≡ arguments_said (seen_scope scope.now) (arguments_of (map seen_expr arguments.now))) }
 {
-    let mut first = None;
-    for (i, argument) in arguments.iter().enumerate() {
-        let kind = wanted.get(i).copied();
-        let body = type_argument(alloc, scope, argument, kind, faults)?;
-        first = first.or(Some(body));
+    let mut list = Vec::new(alloc);
+    let mut kinds = wanted;
+    for argument in arguments {
+        let body = type_argument(alloc, scope, argument, kinds.first_kind(), faults)?;
+        add(&mut list, body)?;
+        kinds = kinds.rest();
     }
-    Ok(first.unwrap_or(TExpr::Null))
+    Ok(list)
 }
 
-// What a name means in a call behind a receiver of a type, and what the first argument says.
+// What a name means in a call behind a receiver of a type, and what the arguments say.
 #[cycle(types)]
 fn type_called(
     alloc: Global,
@@ -221,18 +230,18 @@ fn type_called(
     call: Called<'_>,
     arguments: &[Expr],
     faults: &mut Earliest,
-) -> Result<(Option<Member>, TExpr), Memory>
+) -> Result<(Option<Member>, TArgs), Memory>
     requires scope { IsScope (seen_scope scope.now) }
     requires count { call.count ≡ length arguments.now }
     ensures noted { OnOk result (Notes (calls_break (seen_scope scope.now) call.entry.range receiver (seen_name call.entry.name.now) (first_place call.entry) (arguments_of (map seen_expr arguments.now))) faults.old faults.new) }
     ensures member { IfOk result (λ r. r.0 ≡ member_on (seen_scope scope.now) receiver (seen_name call.entry.name.now).text call.entry.count) }
-    ensures says { IfOk result (λ r. expression_of r.1 ≡ first_of (seen_scope scope.now) (arguments_of (map seen_expr arguments.now))) }
+    ensures says { IfOk result (λ r. said_arguments r.1 ≡ arguments_said (seen_scope scope.now) (arguments_of (map seen_expr arguments.now))) }
 {
     let member = scope.member_on(receiver, &call.name.text, call.count);
-    check_call(call, receiver, member, faults);
-    let wanted = wanted_for(member, call.count);
-    let argument = type_arguments(alloc, scope, wanted, arguments, faults)?;
-    Ok((member, argument))
+    check_call(scope, call, receiver, member, faults);
+    let wanted = scope.wanted_for(member, call.count);
+    let bodies = type_arguments(alloc, scope, wanted, arguments, faults)?;
+    Ok((member, all_arguments(alloc, bodies)?))
 }
 
 // A call behind a receiver.
@@ -250,7 +259,7 @@ fn type_call(
     ensures noted { OnOk result (Notes (calls_break (seen_scope scope.now) call.entry.range receiver.value_type (seen_name call.entry.name.now) (first_place call.entry) (arguments_of (map seen_expr arguments.now))) faults.old faults.new) }
     ensures says { IfOk result (λ t. seen_typed t ≡ call_says (seen_scope scope.now) (seen_typed receiver) (seen_name call.entry.name.now) (arguments_of (map seen_expr arguments.now))) }
 {
-    let (member, argument) = type_called(
+    let (member, arguments) = type_called(
         alloc,
         scope,
         receiver.value_type,
@@ -258,7 +267,7 @@ fn type_call(
         arguments,
         faults,
     )?;
-    let body = called(alloc, member, receiver.body, argument, call.name.place)?;
+    let body = called(alloc, member, receiver.body, arguments, call.name.place)?;
     let value_type = scope.type_of(member);
     Ok(Typed { value_type, body })
 }
@@ -658,7 +667,13 @@ fn check_body(
     ensures noted { OnOk result (Notes (equation_broken grammar.now attributes.now.attributes (seen_given equation.now)) faults.old faults.new) }
     ensures says { IfOk result (λ e. equation_in e ≡ equation_of grammar.now attributes.now.attributes (seen_given equation.now)) }
 {
-    let variables = bound_names(alloc, equation.path, target.reach)?;
+    let variables = equation_names(
+        alloc,
+        grammar,
+        equation.attribute,
+        equation.path,
+        target.reach,
+    )?;
     let scope = Scope {
         grammar,
         attributes,

@@ -4,10 +4,11 @@ ghost use Rattle.broken_rules.specs.Notes.{Notes, at, broken_if};
 ghost use Rattle.broken_rules.specs.declared.rule.Rule.TheVariants.{J10, J11};
 ghost use Rattle.attr_types.specs.Bodies.{call_broken, member_broken};
 ghost use Rattle.attr_types.specs.Calls.{first_place};
-ghost use Rattle.attr_types.specs.Scope.{Scope, arguments_wanted, is_list, member_on};
+ghost use Rattle.attr_types.specs.Scope.{arguments_wanted, is_list, member_on};
+ghost use Rattle.attr_types.specs.Seen.{seen_scope};
 ghost use Rattle.jrag_reader.specs.Expressions.{seen_name};
 
-use crate::scope::Member;
+use crate::scope::{Member, Scope};
 use crate::sides::place_of;
 use attr_rules::ValueType;
 use broken_rules::{Earliest, Rule};
@@ -37,10 +38,10 @@ impl Called<'_> {
 }
 
 // J11 at a name that takes another number of arguments.
-fn check_count(call: Called<'_>, member: Member, faults: &mut Earliest)
-    ensures { Notes (broken_if (not (length (arguments_wanted member) == call.entry.count)) (at (seen_name call.entry.name.now).place J11)) faults.old faults.new }
+fn check_count(scope: &Scope<'_>, call: Called<'_>, member: Member, faults: &mut Earliest)
+    ensures { Notes (broken_if (not (length (arguments_wanted (seen_scope scope.now) member) == call.entry.count)) (at (seen_name call.entry.name.now).place J11)) faults.old faults.new }
 {
-    let is_other = member.arguments().len() != call.count;
+    let is_other = !scope.takes(member, call.count);
     faults.note_if(is_other, Rule::J11, call.name.place);
 }
 
@@ -54,13 +55,13 @@ fn check_list(call: Called<'_>, member: Member, faults: &mut Earliest)
 }
 
 // J9 at a name that means nothing, and J10 and J11 at one that means something.
-fn check_member(call: Called<'_>, member: Option<Member>, faults: &mut Earliest)
-    ensures { Notes (member_broken call.entry.range member (seen_name call.entry.name.now) call.entry.count (first_place call.entry)) faults.old faults.new }
+fn check_member(scope: &Scope<'_>, call: Called<'_>, member: Option<Member>, faults: &mut Earliest)
+    ensures { Notes (member_broken (seen_scope scope.now) call.entry.range member (seen_name call.entry.name.now) call.entry.count (first_place call.entry)) faults.old faults.new }
 {
     match member {
         None => faults.note(Rule::J9, call.name.place),
         Some(member) => {
-            check_count(call, member, faults);
+            check_count(scope, call, member, faults);
             check_list(call, member, faults);
         }
     }
@@ -68,19 +69,20 @@ fn check_member(call: Called<'_>, member: Option<Member>, faults: &mut Earliest)
 
 /// J9, J10 and J11 of a call of this member behind a receiver of a type, where that is known: J10 at a receiver that is of no class.
 pub(crate) fn check_call(
+    scope: &Scope<'_>,
     call: Called<'_>,
     receiver: Option<ValueType>,
     member: Option<Member>,
     faults: &mut Earliest,
 )
-    ensures { (s : Scope) → member ≡ member_on s receiver (seen_name call.entry.name.now).text call.entry.count → Notes (call_broken s call.entry.range (seen_name call.entry.name.now) call.entry.count (first_place call.entry) receiver) faults.old faults.new }
+    ensures { member ≡ member_on (seen_scope scope.now) receiver (seen_name call.entry.name.now).text call.entry.count → Notes (call_broken (seen_scope scope.now) call.entry.range (seen_name call.entry.name.now) call.entry.count (first_place call.entry) receiver) faults.old faults.new }
 {
     let Some(receiver) = receiver else { return };
     if receiver.class().is_none() {
         faults.note(Rule::J10, call.place());
         return;
     }
-    check_member(call, member, faults);
+    check_member(scope, call, member, faults);
 }
 
 /// J10 at a call as a range that has a type: lists have none.

@@ -21,11 +21,14 @@ use std::alloc::Global;
 /// the order of the file; the equation in a declaration is one of them.
 ///
 /// There are four phases, and the first that finds a broken rule decides. Declarations: the class is one of the grammar (J2); no attribute
-/// is declared a second time for a class, a superclass or a subclass, or has the spelling of an accessor there (J3); there are at most
-/// 1,024 (J17). What equations are for: the class is one of the grammar (J2) and has the attribute (J5), and no equation before is for
-/// the same class and attribute (J6). Completeness: each concrete class has an equation for each of its attributes, of its own or of
-/// a superclass (J7), and no inherited attribute can be met uncovered (J8). Expressions: names mean something (J9), types fit (J10), calls have as many arguments as are wanted (J11), and
-/// integer literals have 32 bits (J17).
+/// is declared a second time for a class, a superclass or a subclass, or has the spelling of an accessor there (J3); its type is one (J4);
+/// inherited attributes of one name have one type and the same parameters (J15); there are at most 1,024 (J17). What equations are for: the
+/// class is one of the grammar (J2); the path leads somewhere (J9); the class has the attribute, or with a path some class inherits it (J5);
+/// no equation before is for the same (J6); the parameters are those of the attribute (J15). In both the parameters of a head have names of
+/// their own (J3) and types that are no sets (J4), and a parenthesis has at most three (J17). Completeness: each concrete class has an
+/// equation for each of its attributes, of its own or of a superclass (J7), and no inherited attribute can be met uncovered (J8).
+/// Expressions: names mean something (J9), types fit (J10), calls have as many arguments as are wanted (J11), and integer literals have 32
+/// bits (J17).
 pub fn check(alloc: Global, grammar: &Grammar, aspects: &Aspects) -> Result<Rules, ReadFault>
     requires { all_built (seen_aspects aspects.now) ≡ true }
     ensures phases { Says (phases_of grammar.now (seen_aspects aspects.now)) result }

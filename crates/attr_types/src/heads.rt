@@ -6,8 +6,8 @@ ghost use Rattle.broken_rules.specs.Answers.{Ends};
 ghost use Rattle.broken_rules.specs.Notes.{Notes};
 ghost use Rattle.attr_rules.specs.KeptEquations.{seen_attribute};
 ghost use Rattle.attr_types.specs.DeclaredNames.{Adds, IsEven, Tells};
-ghost use Rattle.attr_types.specs.Heads.{again_for, attribute_of, attributes_of, class_broken, heads_broken, is_taken, kind_written, named_broken, other_broken, same_kind, type_broken, type_written};
-ghost use Rattle.attr_types.specs.InheritedTypes.{TellsFirst};
+ghost use Rattle.attr_types.specs.FirstInherited.{TellsFirst};
+ghost use Rattle.attr_types.specs.Heads.{again_for, attribute_of, attributes_of, class_broken, heads_broken, is_other, is_taken, named_broken, other_broken, type_broken};
 ghost use Rattle.attr_types.specs.Seen.{seen_head};
 ghost use Rattle.attr_types.specs.Written as written;
 ghost use Rattle.jrag_reader.specs.Expressions.{seen_name};
@@ -15,11 +15,13 @@ ghost use Rattle.jrag_reader.specs.Items.{seen_type};
 
 use crate::declared::Declared;
 use crate::inheriting::Inheriting;
+use crate::parameters::{check_all_parameters, differ_from, params_written};
 use crate::written::Head;
+use crate::written_types::{kind_written, same_kind, type_written};
 use ast_grammar::{ClassId, Grammar};
-use attr_rules::{Attr, Attributes, Kind, NamedAttr, is_spelled};
+use attr_rules::{Attr, Attributes, NamedAttr, is_spelled};
 use broken_rules::{Earliest, ReadFault, Rule};
-use jrag_reader::{Name, Type, TypeName};
+use jrag_reader::{Name, Type};
 use rag_io::Memory;
 use std::alloc::Global;
 
@@ -68,33 +70,11 @@ fn check_again<'a>(
     declared.insert(alloc, class, &name.text)
 }
 
-/// The type that is written, if it is one: sets are of texts or of nodes of a class.
-pub(crate) fn type_written(grammar: &Grammar, of: &Type) -> Option<Kind>
-    ensures { result ≡ type_written grammar.now (seen_type of.now) }
-{
-    match (&of.name, of.set) {
-        (TypeName::Boolean, false) => Some(Kind::Truth),
-        (TypeName::Int, false) => Some(Kind::Int),
-        (TypeName::String, false) => Some(Kind::Text),
-        (TypeName::Class(name), false) => Some(Kind::Node(grammar.find_class(name)?)),
-        (TypeName::Boolean | TypeName::Int, true) => None,
-        (TypeName::String, true) => Some(Kind::Texts),
-        (TypeName::Class(name), true) => Some(Kind::Nodes(grammar.find_class(name)?)),
-    }
-}
-
 // J4 at what is no type.
 fn check_type(grammar: &Grammar, of: &Type, faults: &mut Earliest)
     ensures { Notes (type_broken grammar.now (seen_type of.now)) faults.old faults.new }
 {
     faults.note_if(type_written(grammar, of).is_none(), Rule::J4, of.place);
-}
-
-// What is no type counts as `boolean`.
-fn kind_written(grammar: &Grammar, of: &Type) -> Kind
-    ensures { result ≡ kind_written grammar.now (seen_type of.now) }
-{
-    type_written(grammar, of).unwrap_or(Kind::Truth)
 }
 
 // J2, J3, J4 and J17 of a declaration, before which there are so many.
@@ -118,34 +98,37 @@ fn check_named<'a>(
     Ok(())
 }
 
-/// Two types are one, as far as both are known.
-pub(crate) fn same_kind(left: Option<Kind>, right: Option<Kind>) -> bool
-    ensures { result ≡ same_kind left right }
+// An inherited attribute is of another type than the first one of its name, or has other parameters.
+fn is_other(grammar: &Grammar, head: &Head<'_>, first: Option<Head<'_>>) -> bool
+    ensures { result ≡ is_other grammar.now (seen_head head.now) (option_map seen_head first.entry) }
 {
-    match (left, right) {
-        (Some(left), Some(right)) => left == right,
-        _ => true,
-    }
+    let Some(first) = first else { return false };
+    let kind = type_written(grammar, head.of);
+    !same_kind(type_written(grammar, first.of), kind)
+        || differ_from(
+            grammar,
+            &first.signature.parameters,
+            &head.signature.parameters,
+        )
 }
 
-// J15 of a declaration. The type of an inherited attribute is kept, where it is the first of its name.
+// J15 of a declaration. That of an inherited attribute is kept, where it is the first of its name.
 fn check_other<'a>(
     grammar: &Grammar,
     inheriting: &mut Inheriting<'a>,
     head: &Head<'a>,
     faults: &mut Earliest,
 ) -> Result<(), Memory>
-    ensures noted { (before : List written.Head) → TellsFirst grammar.now before inheriting.old.types → OnOk result (Notes (other_broken grammar.now before (seen_head head.now)) faults.old faults.new) }
-    ensures told { (before : List written.Head) → TellsFirst grammar.now before inheriting.old.types → OnOk result (TellsFirst grammar.now (before ++ seen_head head.now ∷ []) inheriting.new.types) }
+    ensures noted { (before : List written.Head) → TellsFirst before inheriting.old.heads → OnOk result (Notes (other_broken grammar.now before (seen_head head.now)) faults.old faults.new) }
+    ensures told { (before : List written.Head) → TellsFirst before inheriting.old.heads → OnOk result (TellsFirst (before ++ seen_head head.now ∷ []) inheriting.new.heads) }
 {
     if !head.sort.is_inherited() {
         return Ok(());
     }
     let name = &head.signature.name;
-    let kind = type_written(grammar, head.of);
     let first = inheriting.first(&name.text);
-    faults.note_if(!same_kind(first, kind), Rule::J15, name.place);
-    inheriting.insert(&name.text, kind)
+    faults.note_if(is_other(grammar, head, first), Rule::J15, name.place);
+    inheriting.insert(&name.text, *head)
 }
 
 /// What a declaration declares. A class that there isn't counts as the first.
@@ -158,6 +141,7 @@ pub(crate) fn attribute_of<'a>(grammar: &Grammar, head: &Head<'a>) -> NamedAttr<
         name: &head.signature.name.text,
         declared: Attr {
             sort: head.sort,
+            params: params_written(grammar, &head.signature.parameters),
             ..plain
         },
     }
@@ -193,6 +177,7 @@ pub(crate) fn check_heads(
     for (count, head) in heads.iter().enumerate() {
         check_named(alloc, grammar, &mut declared, count, head, &mut faults)?;
         check_other(grammar, &mut inheriting, head, &mut faults)?;
+        check_all_parameters(alloc, grammar, None, head.signature, &mut faults)?;
     }
     faults.answer()?;
     let list = named_attributes(alloc, grammar, heads)?;

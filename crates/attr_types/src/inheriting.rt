@@ -1,45 +1,45 @@
-// The types of inherited attributes.
+// The first declarations of inherited attributes.
 ghost use Rattle.std.specs.Prelude.{◌≡◌, ℕ, List, None, OnOk, Some, cond};
-ghost use Rattle.std.specs.Option.{option_and_then, option_or};
+ghost use Rattle.std.specs.Option.{option_or};
 ghost use Rattle.std.specs.Str.{bytes_eq};
-ghost use Rattle.attr_types.specs.InheritedTypes.{type_kept};
+ghost use Rattle.attr_types.specs.FirstInherited.{head_kept};
 
-use attr_rules::Kind;
+use crate::written::Head;
 use rag_io::Memory;
 use std::alloc::Global;
 use std::collections::HashMap;
 
-/// For each name the type of the first inherited attribute of it, where that type is known.
+/// For each name the declaration of the first inherited attribute of it.
 #[derive(Drop)]
 pub(crate) struct Inheriting<'a> {
-    pub types: HashMap<&'a [u8], Option<Kind>>,
+    pub heads: HashMap<&'a [u8], Head<'a>>,
 }
 
 impl<'a> Inheriting<'a> {
     /// There is no inherited attribute.
     pub(crate) fn new(alloc: Global) -> Inheriting<'a>
-        ensures { (name : List ℕ) → type_kept result.types name ≡ None }
+        ensures { (name : List ℕ) → head_kept result.heads name ≡ None }
     {
         Inheriting {
-            types: HashMap::new(alloc),
+            heads: HashMap::new(alloc),
         }
     }
 
-    /// The type of the first inherited attribute of a name, where that is known.
-    pub(crate) fn first(&self, name: &[u8]) -> Option<Kind>
-        ensures { result ≡ option_and_then (λ kind. kind) (type_kept self.now.types name.now) }
+    /// The declaration of the first inherited attribute of a name, if there is one.
+    pub(crate) fn first(&self, name: &[u8]) -> Option<Head<'a>>
+        ensures { result ≡ head_kept self.now.heads name.now }
     {
-        *self.types.get(name)?
+        self.heads.get(name).copied()
     }
 
-    /// Keeps the type of an inherited attribute, where it is the first of its name.
-    pub(crate) fn insert(&mut self, name: &'a [u8], kind: Option<Kind>) -> Result<(), Memory>
-        ensures { OnOk result ((q : List ℕ) → type_kept self.new.types q ≡ option_or (type_kept self.old.types q) (cond (bytes_eq q name.now) (Some kind) None)) }
+    /// Keeps the declaration of an inherited attribute, where it is the first of its name.
+    pub(crate) fn insert(&mut self, name: &'a [u8], head: Head<'a>) -> Result<(), Memory>
+        ensures { OnOk result ((q : List ℕ) → head_kept self.new.heads q ≡ option_or (head_kept self.old.heads q) (cond (bytes_eq q name.now) (Some head.entry) None)) }
     {
-        if self.types.contains_key(name) {
+        if self.heads.contains_key(name) {
             return Ok(());
         }
-        match self.types.insert(name, kind) {
+        match self.heads.insert(name, head) {
             Ok(_) => Ok(()),
             Err(_) => Err(Memory),
         }

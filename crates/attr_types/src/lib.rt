@@ -11,6 +11,7 @@ mod declared;
 mod heads;
 mod inheriting;
 mod laws;
+mod parameters;
 mod paths;
 mod scope;
 mod sides;
@@ -18,6 +19,7 @@ mod standing;
 mod targets;
 mod typed;
 mod written;
+mod written_types;
 
 pub use asked::query_of_call;
 pub use checking::check;

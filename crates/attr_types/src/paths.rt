@@ -1,28 +1,22 @@
-// Where the path of an equation leads, and the rules on paths: J3, J4, J9, J15 and J17.
-ghost use Rattle.std.specs.Prelude.{◌≡◌, ◌<◌, List, IfOk, IfSome, OnOk, length, map};
+// Where the path of an equation leads, what an equation may name, and the rules on paths: J9 and J15.
+ghost use Rattle.std.specs.Prelude.{◌≡◌, ◌<◌, IfOk, IfSome, length, map};
 ghost use Rattle.std.specs.Option.{option_map};
 ghost use Rattle.ast_grammar.specs.Grammar.{component_at, number_of};
 ghost use Rattle.attr_rules.specs.Rules as rules;
 ghost use Rattle.broken_rules.specs.Notes.{Notes};
-ghost use Rattle.attr_types.specs.Paths.{are_other, bound_names, has_index, index_name, index_named, is_list_component, is_no_index, is_no_parameter, node_component_named, parameter_broken, parameter_names, parameters_broken, path_broken, reach_broken, reach_named, reach_of};
-ghost use Rattle.names.specs.Among.{is_among, with_name};
-ghost use Rattle.names.specs.Known.{Knows};
+ghost use Rattle.attr_types.specs.Paths.{are_other, equation_names, has_index, index_name, index_named, is_list_component, node_component_named, parameter_named, path_broken, reach_broken, reach_named, reach_of};
 ghost use Rattle.attr_types.specs.Seen.{seen_variable};
-ghost use Rattle.jrag_reader.specs.Items as read;
-ghost use Rattle.jrag_reader.specs.Items.{seen_parameter, seen_signature, seen_type};
+ghost use Rattle.jrag_reader.specs.Items.{seen_parameter, seen_signature};
 
-use crate::heads::{same_kind, type_written};
+use crate::parameters::is_other_type;
 use crate::scope::Variable;
+use crate::written_types::type_written;
 use ast_grammar::{ClassId, Grammar, Shape};
 use attr_rules::{Kind, Reach, ValueType};
 use broken_rules::{Earliest, Rule};
-use jrag_reader::{Parameter, Signature, Type};
-use names::Names;
+use jrag_reader::{Parameter, Signature};
 use rag_io::Memory;
 use std::alloc::Global;
-
-/// A parenthesis has at most so many parameters.
-const MOST_PARAMETERS: usize = 3;
 
 // Nodes may hang at a component of this shape.
 fn is_for_nodes(shape: Shape) -> bool
@@ -96,27 +90,49 @@ fn index_of<'a>(path: Option<&'a Signature>) -> Variable<'a>
     }
 }
 
-/// What a path binds: over a component the place of the node among those that hang there.
-pub(crate) fn bound_names<'a>(
+// A parameter, of the type that it has, where that is known.
+fn parameter_named<'a>(grammar: &Grammar, parameter: &'a Parameter) -> Variable<'a>
+    ensures { seen_variable result ≡ parameter_named grammar.now (seen_parameter parameter.now) }
+{
+    Variable {
+        name: &parameter.name.text,
+        value_type: type_written(grammar, &parameter.of).map(ValueType::Of),
+    }
+}
+
+// The parameters of an attribute.
+fn parameters_named<'a>(
     alloc: Global,
+    grammar: &Grammar,
+    parameters: &'a [Parameter],
+) -> Result<Vec<Variable<'a>>, Memory>
+    ensures { IfOk result (λ list. map seen_variable list.items ≡ map (parameter_named grammar.now) (map seen_parameter parameters.now)) }
+{
+    let mut list = Vec::new(alloc);
+    for parameter in parameters {
+        list.push(parameter_named(grammar, parameter))
+            .map_err(|_| Memory)?;
+    }
+    Ok(list)
+}
+
+/// What an equation may name: the parameters of the attribute, and behind them what its path binds, which is over a component the place of
+/// the node among those that hang there.
+pub(crate) fn equation_names<'a>(
+    alloc: Global,
+    grammar: &Grammar,
+    attribute: &'a Signature,
     path: Option<&'a Signature>,
     reach: Reach,
 ) -> Result<Vec<Variable<'a>>, Memory>
-    ensures { IfOk result (λ list. map seen_variable list.items ≡ bound_names (option_map (λ s. seen_signature s.now) path.entry) reach) }
+    ensures { IfOk result (λ list. map seen_variable list.items ≡ equation_names grammar.now (seen_signature attribute.now) (option_map (λ s. seen_signature s.now) path.entry) reach) }
 {
-    let mut list = Vec::new(alloc);
+    let mut list = parameters_named(alloc, grammar, &attribute.parameters)?;
     match reach {
         Reach::Component(_) => list.push(index_of(path)).map_err(|_| Memory)?,
         Reach::Own | Reach::Children => {}
     }
     Ok(list)
-}
-
-// The type of a parameter is known, and isn't `int`.
-fn is_no_index(grammar: &Grammar, of: &Type) -> bool
-    ensures { result ≡ is_no_index grammar.now (seen_type of.now) }
-{
-    of.set || !same_kind(type_written(grammar, of), Some(Kind::Int))
 }
 
 // Parameters other than none, or than one index where the path may have one.
@@ -125,7 +141,7 @@ fn are_other(grammar: &Grammar, index: bool, parameters: &[Parameter]) -> bool
 {
     match parameters {
         [] => false,
-        [only] => !index || is_no_index(grammar, &only.of),
+        [only] => !index || is_other_type(grammar, Some(Kind::Int), &only.of),
         [..] => true,
     }
 }
@@ -151,68 +167,19 @@ fn check_way(
     Some(reach)
 }
 
-// A type that no parameter has: a set, or none.
-fn is_no_parameter(grammar: &Grammar, of: &Type) -> bool
-    ensures { result ≡ is_no_parameter grammar.now (seen_type of.now) }
-{
-    of.set || type_written(grammar, of).is_none()
-}
-
-// J4, J3 and J17 of a parameter, before which there are so many.
-fn check_parameter<'a>(
-    grammar: &Grammar,
-    names: &mut Names<'a>,
-    count: usize,
-    parameter: &'a Parameter,
-    faults: &mut Earliest,
-) -> Result<(), Memory>
-    ensures noted { (before : List read.Parameter) → Knows names.old (is_among (parameter_names before)) → count ≡ length before → OnOk result (Notes (parameter_broken grammar.now before (seen_parameter parameter.now)) faults.old faults.new) }
-    ensures names { OnOk result (names.new ≡ with_name names.old (seen_parameter parameter.now).name.text) }
-{
-    let is_other = is_no_parameter(grammar, &parameter.of);
-    faults.note_if(is_other, Rule::J4, parameter.of.place);
-    let name = &parameter.name;
-    let is_new = names.insert(&name.text)?;
-    faults.note_if(!is_new, Rule::J3, name.place);
-    faults.note_if(count == MOST_PARAMETERS, Rule::J17, name.place);
-    Ok(())
-}
-
-// The same of all parameters of a path.
-fn check_parameters(
-    alloc: Global,
-    grammar: &Grammar,
-    parameters: &[Parameter],
-    faults: &mut Earliest,
-) -> Result<(), Memory>
-    ensures { OnOk result (Notes (parameters_broken grammar.now (map seen_parameter parameters.now)) faults.old faults.new) }
-{
-    let mut names = Names::new(alloc);
-    for (count, parameter) in parameters.iter().enumerate() {
-        check_parameter(grammar, &mut names, count, parameter, faults)?;
-    }
-    Ok(())
-}
-
 /// For which nodes an equation of a class is, by its path. Notes what the path breaks.
 pub(crate) fn check_path(
-    alloc: Global,
     grammar: &Grammar,
     class: Option<ClassId>,
     path: Option<&Signature>,
     faults: &mut Earliest,
-) -> Result<Option<Reach>, Memory>
+) -> Option<Reach>
     requires { IfSome class (λ c. c.0 < length grammar.now) }
-    ensures reach { IfOk result (λ r. r ≡ reach_of grammar.now (option_map number_of class) (option_map (λ s. seen_signature s.now) path.entry)) }
-    ensures noted { OnOk result (Notes (path_broken grammar.now (option_map number_of class) (option_map (λ s. seen_signature s.now) path.entry)) faults.old faults.new) }
+    ensures reach { result ≡ reach_of grammar.now (option_map number_of class) (option_map (λ s. seen_signature s.now) path.entry) }
+    ensures noted { Notes (path_broken grammar.now (option_map number_of class) (option_map (λ s. seen_signature s.now) path.entry)) faults.old faults.new }
 {
     let Some(path) = path else {
-        return Ok(Some(Reach::Own));
+        return Some(Reach::Own);
     };
-    let reach = match class {
-        Some(class) => check_way(grammar, class, path, faults),
-        None => None,
-    };
-    check_parameters(alloc, grammar, &path.parameters, faults)?;
-    Ok(reach)
+    check_way(grammar, class?, path, faults)
 }

@@ -1,14 +1,20 @@
 // What may be named where an expression stands, and what a call means there.
-ghost use Rattle.std.specs.Prelude.{◌≡◌, position};
+ghost use Rattle.std.specs.Prelude.{◌≡◌, ◌==◌, length, position};
 ghost use Rattle.std.specs.Str.{bytes_eq};
 ghost use Rattle.std.specs.Option.{option_and_then};
+ghost use Rattle.attr_rules.specs.Accessors.{arguments_of};
+ghost use Rattle.attr_rules.specs.Rules.{no_params};
+ghost use Rattle.attr_rules.specs.Types.{parameter_kinds};
 ghost use Rattle.attr_types.specs.Scope as spec;
 ghost use Rattle.attr_types.specs.Scope.{arguments_wanted, list_called, member_of, member_on, type_called, type_named, variable_named, wanted_for};
 ghost use Rattle.attr_types.specs.ScopeKept.{IsScope};
 ghost use Rattle.attr_types.specs.Seen.{seen_scope};
 
 use ast_grammar::{ClassId, Grammar};
-use attr_rules::{Access, Accessor, AttrId, Attributes, Kind, ValueType, accessor_of};
+use attr_rules::{Access, Accessor, AttrId, Attributes, Kind, Params, ValueType, accessor_of};
+
+/// A call has at most so many arguments.
+const MOST_PARAMETERS: u32 = 3;
 
 /// What a name means behind a receiver of a class.
 #[derive(Clone, Copy, Debug, PartialEq, Eq)]
@@ -20,16 +26,6 @@ pub(crate) enum Member {
 }
 
 impl Member {
-    /// The types of the arguments. Attributes have none so far.
-    pub(crate) fn arguments(self) -> &'static [Kind]
-        ensures { result.now ≡ arguments_wanted self }
-    {
-        match self {
-            Member::Reads(accessor) => accessor.access.arguments(),
-            Member::Calls(_) => &[],
-        }
-    }
-
     /// Whether it gives a whole list, which stands in ranges alone.
     pub(crate) fn is_list(self) -> bool
         ensures { result ≡ spec.is_list self }
@@ -56,13 +52,31 @@ pub(crate) fn list_called(member: Member, count: usize) -> Option<Accessor>
     }
 }
 
-/// The types of the arguments of a call with so many, where it takes so many.
-pub(crate) fn wanted_for(member: Option<Member>, count: usize) -> &'static [Kind]
-    ensures { result.now ≡ wanted_for member count }
+// No parameters.
+fn no_params() -> Params
+    ensures { result ≡ no_params }
 {
-    match member {
-        Some(member) if member.arguments().len() == count => member.arguments(),
-        _ => &[],
+    Params {
+        count: 0,
+        first: Kind::Truth,
+        second: Kind::Truth,
+        third: Kind::Truth,
+    }
+}
+
+// The parameters of an accessor.
+fn params_of(access: Access) -> Params
+    ensures { parameter_kinds result ≡ arguments_of access }
+{
+    match access {
+        Access::Element => Params {
+            count: 1,
+            first: Kind::Int,
+            ..no_params()
+        },
+        Access::Child | Access::Token(_) | Access::Has | Access::Count | Access::Elements => {
+            no_params()
+        }
     }
 }
 
@@ -132,6 +146,37 @@ impl Scope<'_> {
     {
         let class = receiver?.class()?;
         self.member_of(name, count, class)
+    }
+
+    /// The parameters of a member.
+    pub(crate) fn arguments(&self, member: Member) -> Params
+        ensures { parameter_kinds result ≡ arguments_wanted (seen_scope self.now) member }
+    {
+        match member {
+            Member::Reads(accessor) => params_of(accessor.access),
+            Member::Calls(attribute) if u32::from(attribute.0) < self.attributes.len() => {
+                self.attributes.attr(attribute).params
+            }
+            Member::Calls(_) => no_params(),
+        }
+    }
+
+    /// Whether a member takes so many arguments.
+    pub(crate) fn takes(&self, member: Member, count: usize) -> bool
+        ensures { result ≡ (length (arguments_wanted (seen_scope self.now) member) == count) }
+    {
+        let params = self.arguments(member);
+        params.count.min(MOST_PARAMETERS) as usize == count
+    }
+
+    /// The parameters of what is called with so many arguments, where it takes so many.
+    pub(crate) fn wanted_for(&self, member: Option<Member>, count: usize) -> Params
+        ensures { parameter_kinds result ≡ wanted_for (seen_scope self.now) member count }
+    {
+        match member {
+            Some(member) if self.takes(member, count) => self.arguments(member),
+            _ => no_params(),
+        }
     }
 
     /// The type of a call. A list, which stands in ranges alone, has none.

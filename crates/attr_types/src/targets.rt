@@ -1,4 +1,4 @@
-// The rules on what equations are for: J2, J5 and J6, beside those on paths.
+// The rules on what equations are for: J2, J5, J6 and J15, beside those on paths and on parameters.
 ghost use Rattle.std.specs.Prelude.{◌≡◌, ◌<◌, ◌++◌, ◌∷◌, [], List, IfOk, IfSome, None, OnOk, is_none, length, map};
 ghost use Rattle.std.specs.Option.{option_map};
 ghost use Rattle.ast_grammar.specs.Grammar.{Class, number_of, superclasses_of};
@@ -7,19 +7,20 @@ ghost use Rattle.broken_rules.specs.Answers.{Ends};
 ghost use Rattle.broken_rules.specs.Notes.{Notes, at, broken_if};
 ghost use Rattle.broken_rules.specs.declared.rule.Rule.TheVariants.{J5};
 ghost use Rattle.attr_types.specs.Seen.{seen_given};
-ghost use Rattle.attr_types.specs.Targets.{attribute_for, lacking_broken, own_attribute, second_broken, target_by, target_of, target_or_first, targets_broken, targets_of, unknown_broken};
+ghost use Rattle.attr_types.specs.Targets.{attribute_for, differing_broken, lacking_broken, own_attribute, second_broken, target_by, target_of, target_or_first, targets_broken, targets_of, unknown_broken};
 ghost use Rattle.attr_types.specs.TargetsKept.{Holds};
 ghost use Rattle.attr_types.specs.Written as written;
 ghost use Rattle.jrag_reader.specs.Expressions.{seen_name};
 ghost use Rattle.jrag_reader.specs.Items.{seen_signature};
 
 use crate::heads::check_class;
+use crate::parameters::{check_all_parameters, differ};
 use crate::paths::check_path;
 use crate::written::Given;
 use ast_grammar::{ClassId, Grammar};
 use attr_rules::{AttrId, Attributes, Reach, Target};
 use broken_rules::{Earliest, ReadFault, Rule};
-use jrag_reader::Name;
+use jrag_reader::{Name, Signature};
 use rag_io::Memory;
 use std::alloc::Global;
 use std::collections::HashSet;
@@ -80,6 +81,25 @@ fn check_inherited(attributes: &Attributes, name: &Name, faults: &mut Earliest) 
     attribute
 }
 
+// J15 at the name of an equation whose parameters aren't those of its attribute, where there is one.
+fn check_differing(
+    grammar: &Grammar,
+    attributes: &Attributes,
+    attribute: Option<AttrId>,
+    signature: &Signature,
+    faults: &mut Earliest,
+)
+    ensures { Notes (differing_broken grammar.now attributes.now.attributes (seen_signature signature.now) (option_map number_of_attribute attribute)) faults.old faults.new }
+{
+    let Some(attribute) = attribute else { return };
+    if u32::from(attribute.0) >= attributes.len() {
+        return;
+    }
+    let params = attributes.attr(attribute).params;
+    let is_other = differ(grammar, params, &signature.parameters);
+    faults.note_if(is_other, Rule::J15, signature.name.place);
+}
+
 // What an equation is for, by its class, its reach and its attribute, where these are known.
 fn target_by(
     class: Option<ClassId>,
@@ -95,7 +115,8 @@ fn target_by(
     })
 }
 
-// What an equation is for. Notes J2 where there is no such class, what the path breaks, and J5 where there is no such attribute.
+// What an equation is for. Notes J2 where there is no such class, what the path and the parameters break, J5 where there is no such
+// attribute, and J15 where it has other parameters.
 fn check_target(
     alloc: Global,
     grammar: &Grammar,
@@ -107,12 +128,15 @@ fn check_target(
     ensures target { IfOk result (λ t. t ≡ target_of grammar.now attributes.now.attributes (seen_given equation.now)) }
     ensures noted { OnOk result (Notes (unknown_broken grammar.now attributes.now.attributes (seen_given equation.now)) faults.old faults.new) }
 {
+    let signature = equation.attribute;
     let class = check_class(grammar, equation.class, faults);
-    let reach = check_path(alloc, grammar, class, equation.path, faults)?;
+    let reach = check_path(grammar, class, equation.path, faults);
+    check_all_parameters(alloc, grammar, equation.path, signature, faults)?;
     let attribute = match equation.path {
-        None => check_own(grammar, attributes, class, equation.attribute, faults),
-        Some(_) => check_inherited(attributes, equation.attribute, faults),
+        None => check_own(grammar, attributes, class, &signature.name, faults),
+        Some(_) => check_inherited(attributes, &signature.name, faults),
     };
+    check_differing(grammar, attributes, attribute, signature, faults);
     Ok(target_by(class, reach, attribute))
 }
 
@@ -162,7 +186,7 @@ pub(crate) fn check_targets(
     let mut targets = Vec::new(alloc);
     for equation in equations {
         let target = check_target(alloc, grammar, attributes, equation, &mut faults)?;
-        check_second(&mut given, target, equation.attribute, &mut faults)?;
+        check_second(&mut given, target, &equation.attribute.name, &mut faults)?;
         targets.push(target_or_first(target)).map_err(|_| Memory)?;
     }
     faults.answer()?;

@@ -1,14 +1,14 @@
 // What written expressions say, made of what their parts say.
-ghost use Rattle.std.specs.Prelude.{◌≡◌, IfOk};
+ghost use Rattle.std.specs.Prelude.{◌≡◌, IfOk, map};
 ghost use Rattle.attr_rules.specs.Expression as said;
-ghost use Rattle.attr_rules.specs.Expression.{expression_of};
+ghost use Rattle.attr_rules.specs.Expression.{arguments_of, expression_of};
 ghost use Rattle.std.specs.Option.{option_map};
 ghost use Rattle.attr_rules.specs.Types.{of_class};
-ghost use Rattle.attr_types.specs.Typed.{call_said, common_of, element_type, joined, over, over_said, quantified_type, read, result_of};
+ghost use Rattle.attr_types.specs.Typed.{arguments_in, call_said, common_of, element_type, first_in, joined, over, over_said, quantified_type, read, result_of};
 
 use crate::scope::Member;
 use ast_grammar::{ClassId, Grammar};
-use attr_rules::{Access, Accessor, Kind, Operator, Quantifier, TExpr, ValueType, common};
+use attr_rules::{Access, Accessor, Kind, Operator, Quantifier, TArgs, TExpr, ValueType, common};
 use jrag_reader::{Operator as Sign, Quantifier as Form};
 use rag_io::{Memory, Place};
 use std::alloc::Global;
@@ -217,23 +217,55 @@ fn read(
     })
 }
 
-/// What a call says behind a receiver, with the argument that it may have and the place of its name.
+// The first of some arguments, and `null` where there is none.
+fn first_in(arguments: TArgs) -> TExpr
+    ensures { expression_of result ≡ first_in (arguments_of arguments) }
+{
+    match arguments {
+        TArgs::End => TExpr::Null,
+        TArgs::More(first, _) => Box::into_inner(first),
+    }
+}
+
+/// What a call says behind a receiver, with the arguments and the place of its name.
 pub(crate) fn called(
     alloc: Global,
     member: Option<Member>,
     receiver: TExpr,
-    argument: TExpr,
+    arguments: TArgs,
     place: Place,
 ) -> Result<TExpr, Memory>
-    ensures { IfOk result (λ e. expression_of e ≡ call_said member (expression_of receiver) (expression_of argument)) }
+    ensures { IfOk result (λ e. expression_of e ≡ call_said member (expression_of receiver) (arguments_of arguments)) }
 {
     match member {
         None => Ok(TExpr::Null),
-        Some(Member::Reads(accessor)) => read(alloc, accessor, receiver, argument),
+        Some(Member::Reads(accessor)) => read(alloc, accessor, receiver, first_in(arguments)),
         Some(Member::Calls(attribute)) => Ok(TExpr::Call(
             attribute,
             place,
             boxed(alloc, receiver)?,
+            arguments,
         )),
     }
+}
+
+// One argument more, before others.
+fn argument_before(alloc: Global, first: TExpr, rest: TArgs) -> Result<TArgs, Memory>
+    ensures { IfOk result (λ es. arguments_of es ≡ said.argument (expression_of first) (arguments_of rest)) }
+{
+    let first = boxed(alloc, first)?;
+    let rest = Box::new(alloc, rest).map_err(|_| Memory)?;
+    Ok(TArgs::More(first, rest))
+}
+
+/// The arguments of a call, which are these.
+pub(crate) fn all_arguments(alloc: Global, list: Vec<TExpr>) -> Result<TArgs, Memory>
+    ensures { IfOk result (λ es. arguments_of es ≡ arguments_in (map expression_of list.items)) }
+{
+    let mut front = list;
+    let mut arguments = TArgs::End;
+    while let Some(last) = front.pop() {
+        arguments = argument_before(alloc, last, arguments)?;
+    }
+    Ok(arguments)
 }

@@ -19,12 +19,13 @@ pub(crate) struct Head<'a> {
     pub signature: &'a Signature,
 }
 
-/// An equation: the name of the class, the path to the nodes, if it has one, the name of the attribute, and the right side.
+/// An equation: the name of the class, the path to the nodes, if it has one, the name of the attribute with the parameters, and the right
+/// side.
 #[derive(Clone, Copy, Debug)]
 pub(crate) struct Given<'a> {
     pub class: &'a Name,
     pub path: Option<&'a Signature>,
-    pub attribute: &'a Name,
+    pub attribute: &'a Signature,
     pub body: &'a Expr,
 }
 
@@ -67,8 +68,8 @@ fn given_by(equation: &Equation) -> Given<'_>
     ensures { seen_given result ≡ given_by (seen_equation equation.now) }
 {
     let (path, attribute) = match &equation.inherited {
-        Some(inherited) => (Some(&equation.signature), &inherited.name),
-        None => (None, &equation.signature.name),
+        Some(inherited) => (Some(&equation.signature), inherited),
+        None => (None, &equation.signature),
     };
     Given {
         class: &equation.class,
@@ -86,7 +87,7 @@ fn given_in(item: &Item) -> Option<Given<'_>>
         Item::Synthesized(declared) => Some(Given {
             class: &declared.class,
             path: None,
-            attribute: &declared.signature.name,
+            attribute: &declared.signature,
             body: declared.body.as_ref()?,
         }),
         Item::Equation(equation) => Some(given_by(equation)),

@@ -1,36 +1,41 @@
 -- Calls and their arguments, and the forms of several parts.
-use Rattle.std.proofs.Common.{◌∙◌, ap, arith, map, refl, sym}
+use Rattle.std.proofs.Common.{◌≡◌, ◌∙◌, IfOk, ap, arith, map, refl, subst, sym}
 use Rattle.std.proofs.Math.Nat.{le-max_left, le-max_right}
 use Rattle.jrag_reader.proofs.expression.Expr.TheLaws.{the_size}
 use Rattle.std.proofs.lemmas.Result.{IfOk-weaker, on_ok_weaker}
 use Rattle.broken_rules.proofs.Noting.{notes_then}
-use Rattle.jrag_reader.specs.Expressions.{seen_expr, seen_name}
+use Rattle.jrag_reader.specs.Expressions.{Call, Expr, arguments_of, seen_expr, seen_name}
+use Rattle.attr_rules.specs.Types.{parameter_kinds}
 use Rattle.attr_types.specs.Calls.{first_place}
+use Rattle.attr_types.specs.Typed.{list_of}
 use Rattle.attr_types.specs.Seen.{seen_scope, seen_variable}
-use Rattle.attr_types.proofs.ArgumentSteps.{copied_is, first_said, one_noted, one_said}
+use Rattle.attr_types.proofs.ArgumentSteps.{all_said, kinds_left, next_kind, one_noted, one_said}
 use Rattle.attr_types.proofs.Sizes.{arguments_smaller, parts_smaller}
-use Rattle.attr_types.proofs.TypedForms.{binary_noted, call_noted, call_tells, cast_noted, cast_says, choice_noted, known_type, list_alone, list_behind, list_noted, member_noted, no_call, other_noted, over_noted, quantified_noted, range_noted, scope_inside, test_noted, test_says}
+use Rattle.attr_types.proofs.TypedForms.{binary_noted, call_noted, call_tells, cast_noted, cast_says, choice_noted, known_type, list_alone, list_behind, list_noted, member_noted, no_call, other_noted, over_noted, quantified_noted, range_noted, scope_inside, test_noted, test_says, seen-Call}
 use Rattle.attr_types.proofs.bodies.+types.Goals as goal
 
-pub type_arguments-loop-i-preserved : goal.type_arguments-loop-i-preserved
-type_arguments-loop-i-preserved t c =
+pub type_arguments-loop-argument-preserved : goal.type_arguments-loop-argument-preserved
+type_arguments-loop-argument-preserved t c =
     let s = seen_scope c.args.scope.now in
-    let wanted = c.args.wanted.now in
+    let wanted = parameter_kinds c.args.wanted in
     let arguments = c.args.arguments.now in
+    let i = c.loop-argument.argument-index in
+    let left = c.loop-argument.invariant.left in
     record {
-      noted = one_noted s wanted arguments c.loop-i.i c.index-arguments-i.is c.loop-i-test.true (c.copied-kind.ensures ∙ copied_is wanted c.loop-i.i c.get.result c.get.ensures.lookup) c.loop-i.invariant.noted c.in_ok-body.ensures.noted;
-      says = one_said s arguments c.loop-i.i c.in_ok-body.body c.loop-i.first c.index-arguments-i.is c.loop-i-test.true c.in_ok-body.ensures.says c.or-first.ensures c.loop-i.invariant.says;
+      noted = one_noted s wanted arguments i c.argument-item.is c.loop-argument-test.true (c.first_kind.ensures ∙ next_kind wanted _ i left) c.loop-argument.invariant.noted c.in_ok-body.ensures.noted;
+      says = one_said s arguments i c.in_ok-body.body c.loop-argument.list.items c.argument-item.is c.loop-argument-test.true c.in_ok-body.ensures.says c.in_ok-add.ensures c.loop-argument.invariant.says;
+      left = kinds_left wanted _ _ i left c.rest-kinds.ensures;
     }
 
 pub type_called-returns-clause-noted : goal.type_called-returns-clause-noted
 type_called-returns-clause-noted t c =
     let s = seen_scope c.args.scope.now in
-    call_noted s c.args.call.range c.args.receiver (seen_name c.args.call.name.now) (first_place c.args.call) c.args.arguments.now c.requires.count c.deref.ensures.value c.member_on-member.ensures c.wanted_for-wanted.ensures (c.check_call.ensures s)
-    c.in_ok-argument.ensures.noted
+    call_noted s c.args.call.range c.args.receiver (seen_name c.args.call.name.now) (first_place c.args.call) c.args.arguments.now c.requires.count c.deref.ensures.value c.member_on-member.ensures c.wanted_for-wanted.ensures c.check_call.ensures
+    c.in_ok-bodies.ensures.noted
 
 pub type_call-returns-clause-says : goal.type_call-returns-clause-says
 type_call-returns-clause-says t c =
-    call_tells (seen_scope c.args.scope.now) c.args.receiver (seen_name c.args.call.name.now) c.args.arguments.now c.in_ok-body.body c.in_ok-member.argument c.requires.count refl c.in_ok-member.ensures.member
+    call_tells (seen_scope c.args.scope.now) c.args.receiver (seen_name c.args.call.name.now) c.args.arguments.now c.in_ok-body.body c.in_ok-member.arguments c.requires.count refl c.in_ok-member.ensures.member
     c.in_ok-member.ensures.says c.type_of-value_type.ensures c.in_ok-body.ensures
 
 pub type_operand-returns-clause-noted : goal.type_operand-returns-clause-noted
@@ -85,7 +90,7 @@ type_expr-returns-in-InstanceOf-clause-noted t c =
 
 pub type_arguments-returns-clause-says : goal.type_arguments-returns-clause-says
 type_arguments-returns-clause-says t c =
-    first_said (seen_scope c.args.scope.now) c.args.arguments.now c.loop-i.i c.loop-i.first c.loop-i-test.false c.unwrap_or.ensures c.loop-i.invariant.says
+    all_said (seen_scope c.args.scope.now) c.args.arguments.now c.loop-argument.argument-index c.loop-argument.list.items c.loop-argument-test.false c.loop-argument.invariant.says
 
 pub type_expr-returns-in-Cast-clause-says : goal.type_expr-returns-in-Cast-clause-says
 type_expr-returns-in-Cast-clause-says t c =
@@ -165,3 +170,8 @@ type_range-returns-in_ok-typed-in-Truth-clause-list t c = sym (no_call (seen_sco
 
 pub type_range-returns-in_ok-typed-in-Truth-clause-owner : goal.type_range-returns-in_ok-typed-in-Truth-clause-owner
 type_range-returns-in_ok-typed-in-Truth-clause-owner t c = sym (no_call (seen_scope c.args.scope.now) c.args.range.now c.in-Truth.is).1
+
+pub type_range-returns-in-Call-clause-list : goal.type_range-returns-in-Call-clause-list
+type_range-returns-in-Call-clause-list t c =
+    subst (λ (e : Expr). IfOk c.type_list_alone.result (λ r. r.0 ≡ list_of (seen_scope c.args.scope.now) e))
+    (ap (λ es. Call (seen_name c.in-Call.name) (arguments_of (map seen_expr es))) c.deref.ensures.value ∙ sym (ap seen_expr c.in-Call.is ∙ seen-Call c.in-Call.name c.in-Call.arguments)) c.type_list_alone.ensures.list

@@ -1,14 +1,14 @@
--- The calls go down the expression; what the arguments so far break, and what the first of them says.
-use Rattle.std.proofs.Common.{◌≡◌, ◌+◌, ◌*◌, map, max, take}
+-- The calls go down the expression; what the arguments so far break, and what they say.
+use Rattle.std.proofs.Common.{◌≡◌, ◌+◌, ◌*◌, drop, map, max, take}
 use denote.Param.Weighed.{most}
-use Rattle.std.specs.Option.{option_map}
 use Rattle.broken_rules.specs.Notes.{Notes}
+use Rattle.attr_rules.specs.Types.{parameter_kinds}
 use Rattle.attr_types.specs.Bodies.{arguments_broken}
 use Rattle.attr_rules.specs.Expression.{expression_of}
 use Rattle.attr_types.specs.Seen.{seen_scope}
 use Rattle.jrag_reader.specs.Expressions.{arguments_of, seen_expr}
 use Rattle.jrag_reader.proofs.expression.Expr.TheLaws.{the_size}
-use Rattle.attr_types.proofs.ArgumentSteps.{said_first}
+use Rattle.attr_types.proofs.ArgumentSteps.{said_each}
 use Rattle.attr_types.proofs.bodies.+types.Given as goal
 
 abbrev pub decreases-type_expr : goal.decreases-type_expr
@@ -65,8 +65,9 @@ decreases-type_call_alone a = 7 * most the_size a.arguments.now + 6
 abbrev pub decreases-type_member : goal.decreases-type_member
 decreases-type_member a = 7 * most the_size a.arguments.now + 6
 
-abbrev pub invariant-type_arguments-loop-i : goal.invariant-type_arguments-loop-i
-invariant-type_arguments-loop-i l = record {
-  noted : Notes (arguments_broken (seen_scope l.scope) l.wanted (arguments_of (take l.i (map seen_expr l.arguments)))) l.fn.faults l.faults;
-  says : option_map expression_of l.first ≡ said_first (seen_scope l.scope) (take l.i (map seen_expr l.arguments));
+abbrev pub invariant-type_arguments-loop-argument : goal.invariant-type_arguments-loop-argument
+invariant-type_arguments-loop-argument l = record {
+  noted : Notes (arguments_broken (seen_scope l.scope) (parameter_kinds l.fn.wanted) (arguments_of (take l.argument-index (map seen_expr l.arguments)))) l.fn.faults l.faults;
+  says : map expression_of l.list.items ≡ said_each (seen_scope l.scope) (take l.argument-index (map seen_expr l.arguments));
+  left : parameter_kinds l.kinds ≡ drop l.argument-index (parameter_kinds l.fn.wanted);
 }

@@ -6,7 +6,7 @@ use Rattle.broken_rules.proofs.Order.{none_is}
 use Rattle.attr_types.specs.DeclaredNames.{Tells}
 use Rattle.attr_types.specs.Heads.{attribute_of, head_broken, heads_broken}
 use Rattle.attr_rules.specs.KeptEquations.{seen_attribute}
-use Rattle.attr_types.specs.InheritedTypes.{TellsFirst}
+use Rattle.attr_types.specs.FirstInherited.{TellsFirst}
 use Rattle.attr_types.specs.Seen.{seen_head}
 use Rattle.attr_types.proofs.HeadsNoted.{few_heads}
 use Rattle.attr_types.proofs.Seen.{length-taken, notes_all_after_seen, notes_each_after_seen, taken}
@@ -23,9 +23,9 @@ loop-count-preserved c =
     let longer = sym (taken seen_head xs i c.index-heads-count.is c.loop-count-test.true) in
     record {
       noted = notes_each_after_seen seen_head xs i (head_broken g) c.index-heads-count.is c.loop-count-test.true c.loop-count.invariant.noted
-          (notes_then (c.in_ok-check_named.ensures.noted before told (length-taken seen_head xs i c.loop-count-test.true)) (c.in_ok-check_other.ensures.noted before first));
+          (notes_then (c.in_ok-check_named.ensures.noted before told (length-taken seen_head xs i c.loop-count-test.true)) (notes_then (c.in_ok-check_other.ensures.noted before first) c.in_ok-check_all_parameters.ensures));
       told = subst (λ zs. Tells g zs c.check_named.new.declared) longer (c.in_ok-check_named.ensures.told before told);
-      first = subst (λ zs. TellsFirst g zs c.check_other.new.inheriting.types) longer (c.in_ok-check_other.ensures.told before first);
+      first = subst (λ zs. TellsFirst zs c.check_other.new.inheriting.heads) longer (c.in_ok-check_other.ensures.told before first);
     }
 
 pub returns-clause-phase : goal.returns-clause-phase

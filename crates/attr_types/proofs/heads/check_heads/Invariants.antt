@@ -2,7 +2,7 @@ use Rattle.std.proofs.Common.{[], map, take}
 use Rattle.broken_rules.specs.Notes.{Notes, each_after}
 use Rattle.attr_types.specs.DeclaredNames.{Tells}
 use Rattle.attr_types.specs.Heads.{head_broken}
-use Rattle.attr_types.specs.InheritedTypes.{TellsFirst}
+use Rattle.attr_types.specs.FirstInherited.{TellsFirst}
 use Rattle.attr_types.specs.Seen.{seen_head}
 use Rattle.attr_types.proofs.heads.check_heads.Given as goal
 
@@ -10,5 +10,5 @@ abbrev pub invariant-loop-count : goal.invariant-loop-count
 invariant-loop-count l = record {
   noted : Notes (each_after (head_broken l.grammar) [] (take l.count (map seen_head l.heads))) l.initial.faults l.faults;
   told : Tells l.grammar (take l.count (map seen_head l.heads)) l.declared;
-  first : TellsFirst l.grammar (take l.count (map seen_head l.heads)) l.inheriting.types;
+  first : TellsFirst (take l.count (map seen_head l.heads)) l.inheriting.heads;
 }
