@@ -6,12 +6,9 @@ mod heads;
 mod inherited;
 mod limits;
 mod nodes;
+mod parameters;
 mod typed_forms;
-
-ghost use Rattle.std.specs.Prelude.{◌≡◌, ◌≤◌, IfSome, length, true};
-ghost use Rattle.rag_io.specs.Outside.{longest_file};
-ghost use Rattle.jrag_reader.specs.Built.{all_built};
-ghost use Rattle.jrag_reader.specs.Items.{seen_aspects};
+mod uncovered;
 
 use ast_grammar::{Grammar, read_ast};
 use attr_types::check;

@@ -53,17 +53,17 @@ const FORMS: [(&str, &str, &str); 34] = [
     (
         "int",
         "v()",
-        "Call(AttrId(1), Place { line: 1, column: 47 }, This)",
+        "Call(AttrId(1), Place { line: 1, column: 47 }, This, End)",
     ),
     (
         "int",
         "this.v()",
-        "Call(AttrId(1), Place { line: 1, column: 52 }, This)",
+        "Call(AttrId(1), Place { line: 1, column: 52 }, This, End)",
     ),
     (
         "int",
         "(this).v()",
-        "Call(AttrId(1), Place { line: 1, column: 54 }, This)",
+        "Call(AttrId(1), Place { line: 1, column: 54 }, This, End)",
     ),
     ("int", "getV()", "Token(Int, 2, This)"),
     ("boolean", "!getT()", "Not(Token(Truth, 3, This))"),
@@ -71,28 +71,28 @@ const FORMS: [(&str, &str, &str); 34] = [
     (
         "int",
         "getr().w()",
-        "Call(AttrId(0), Place { line: 1, column: 54 }, Child(1, This))",
+        "Call(AttrId(0), Place { line: 1, column: 54 }, Child(1, This), End)",
     ),
     (
         "int",
         "getl().getl().getr().w()",
-        "Call(AttrId(0), Place { line: 1, column: 68 }, Child(1, Child(0, Child(0, This))))",
+        "Call(AttrId(0), Place { line: 1, column: 68 }, Child(1, Child(0, Child(0, This))), End)",
     ),
     (
         "int",
         "(getT() ? getl() : this).v()",
-        "Call(AttrId(1), Place { line: 1, column: 72 }, If(Token(Truth, 3, This), Child(0, This), Place { line: 1, column: 66 }, This))",
+        "Call(AttrId(1), Place { line: 1, column: 72 }, If(Token(Truth, 3, This), Child(0, This), Place { line: 1, column: 66 }, This), End)",
     ),
     (
         "int",
         "getO().w()",
-        "Call(AttrId(0), Place { line: 1, column: 54 }, Child(4, This))",
+        "Call(AttrId(0), Place { line: 1, column: 54 }, Child(4, This), End)",
     ),
     ("boolean", "hasO()", "Has(4, This)"),
     (
         "int",
         "getX(1 + 2).w()",
-        "Call(AttrId(0), Place { line: 1, column: 59 }, Element(5, This, Binary(Add, Int(1), Int(2))))",
+        "Call(AttrId(0), Place { line: 1, column: 59 }, Element(5, This, Binary(Add, Int(1), Int(2))), End)",
     ),
     ("int", "getl().getNumX()", "Count(5, Child(0, This))"),
     ("String", "getS()", "Token(Text, 6, This)"),
@@ -120,15 +120,37 @@ const FORMS: [(&str, &str, &str); 34] = [
     ),
 ];
 
-// The rules of an attribute with this body at `N`, beside an attribute `w` of `M`.
-fn rules_of(
-    rt: &impl Abort,
-    alloc: Global,
-    grammar: &Grammar,
-    kind: &str,
-    body: &str,
-) -> Result<Rules, Fail> {
-    let text = format!(in alloc; "aspect A {{ syn int M.w() = 7; syn {kind} N.v() = {body}; }}")?;
+// Items with two equations, and the typed form of the second, written out.
+const NAMES: [(&str, &str); 6] = [
+    (
+        "syn int M.w(int a, N b) = a; syn int N.v(int p, N q) = getr().w(p, q);",
+        "Call(AttrId(0), Place { line: 1, column: 74 }, Child(1, This), More(Variable(0), More(Variable(1), End)))",
+    ),
+    (
+        "syn int M.w(int a, N b) = a; syn int N.v(int p, N q) = v(v(1, null), q.getl());",
+        "Call(AttrId(1), Place { line: 1, column: 67 }, This, More(Call(AttrId(1), Place { line: 1, column: 69 }, This, More(Int(1), More(Null, End))), More(Child(0, Variable(1)), End)))",
+    ),
+    (
+        "syn int M.w() = 1; syn int N.v(int a, int b, int c) = a + b * c;",
+        "Binary(Add, Variable(0), Binary(Multiply, Variable(1), Variable(2)))",
+    ),
+    (
+        "syn int M.w() = 1; syn boolean N.v(M a, M b) = any(b : getXList() | a == b);",
+        "Quantified(Any, 5, This, Binary(Equal, Variable(1), Variable(0)))",
+    ),
+    (
+        "inh int M.w(int a, int b); eq N.getChild().w(int a, int b) = 1; eq N.getX(int i).w(int c, int d) = c - d - i;",
+        "Binary(Subtract, Binary(Subtract, Variable(0), Variable(1)), Variable(2))",
+    ),
+    (
+        "inh int M.w(int a); eq N.getChild().w(int a) = a; eq N.getX().w(int a) = getX(a).w(a + 1);",
+        "Call(AttrId(0), Place { line: 1, column: 93 }, Element(5, This, Variable(0)), More(Binary(Add, Variable(0), Int(1)), End))",
+    ),
+];
+
+// The rules of some items.
+fn rules_of(rt: &impl Abort, alloc: Global, grammar: &Grammar, items: &str) -> Result<Rules, Fail> {
+    let text = format!(in alloc; "aspect A {{ {items} }}")?;
     let aspects = aspects_of(rt, alloc, text.as_bytes())?;
     assert!(rt; built(&aspects));
     Ok(check(alloc, grammar, &aspects)?)
@@ -140,20 +162,39 @@ fn second_body(rt: &impl Abort, alloc: Global, rules: &Rules) -> Result<String, 
     Ok(format!(in alloc; "{:?}", rules.body(EqId(1)))?)
 }
 
+fn expect_second(
+    rt: &impl Abort,
+    alloc: Global,
+    grammar: &Grammar,
+    items: &str,
+    want: &str,
+) -> Result<(), Fail> {
+    let rules = rules_of(rt, alloc, grammar, items)?;
+    let said = second_body(rt, alloc, &rules)?;
+    expect_same(rt, said.as_str(), want, items)
+}
+
+// An expression of an attribute of this type at `N`, beside an attribute `w` of `M`.
 fn expect_form(
     rt: &impl Abort,
     alloc: Global,
     grammar: &Grammar,
     (kind, body, want): (&str, &str, &str),
 ) -> Result<(), Fail> {
-    let rules = rules_of(rt, alloc, grammar, kind, body)?;
-    let said = second_body(rt, alloc, &rules)?;
-    expect_same(rt, said.as_str(), want, body)
+    let items = format!(in alloc; "syn int M.w() = 7; syn {kind} N.v() = {body};")?;
+    expect_second(rt, alloc, grammar, items.as_str(), want)
 }
 
 fn expect_forms(rt: &impl Abort, alloc: Global, grammar: &Grammar) -> Result<(), Fail> {
     for (kind, body, want) in &FORMS {
         expect_form(rt, alloc, grammar, (kind, body, want))?;
+    }
+    Ok(())
+}
+
+fn expect_names(rt: &impl Abort, alloc: Global, grammar: &Grammar) -> Result<(), Fail> {
+    for (items, want) in &NAMES {
+        expect_second(rt, alloc, grammar, items, want)?;
     }
     Ok(())
 }
@@ -166,5 +207,6 @@ fn expressions_have_typed_forms(rt: HostRuntime) -> Result<(), Fail> {
         alloc,
         "N ::= l:N r:M <V:int> <T:boolean> [O:M] X:M* <S>; M;",
     )?;
-    expect_forms(&rt, alloc, &grammar)
+    expect_forms(&rt, alloc, &grammar)?;
+    expect_names(&rt, alloc, &grammar)
 }
