@@ -1,5 +1,5 @@
 -- The values of queries have texts in replies.
-use Rattle.std.proofs.Common.{◌≡◌, ◌<◌, ℕ, List, ◌++◌, Some, codes, get_or, length, slice_get}
+use Rattle.std.proofs.Common.{◌≡◌, ◌<◌, ℕ, ◌++◌, Some, codes, get_or, length, slice_get}
 use Rattle.std.proofs.lemmas.Option.{slice_get-get_or}
 use Rattle.std.specs.Fmt.{decimal, signed_decimal}
 use Rattle.rag_io.specs.Quoting.{quoted}
@@ -13,7 +13,7 @@ use Rattle.equation_law.specs.Names.{Query, Reference}
 use Rattle.equation_law.specs.Program.{Program}
 use Rattle.equation_law.specs.Values.{Node, Value}
 use Rattle.equation_law.proofs.QueryValues.{query_typed}
-use Rattle.query_runner.specs.Output.{IsReplyText, of_int, of_null, of_source, of_text, of_truth, truth_text}
+use Rattle.query_runner.specs.Output.{of_int, of_null, of_source, of_text, of_truth, truth_text}
 use Rattle.query_runner.specs.Replies.{IsPlain}
 
 plain_node : (p : Program) (r : Reference) {c : _} → IsNodeOf p c r → IsPlain (Node r)

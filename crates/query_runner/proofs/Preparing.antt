@@ -1,5 +1,5 @@
 -- What is to be written, from what was fetched and read.
-use Rattle.std.proofs.Common.{◌≡◌, ◌≤◌, ℕ, List, ◌++◌, Option, Some, None, Result, Ok, Err, IfOk, codes, sym, subst, ◌∙◌, arith}
+use Rattle.std.proofs.Common.{◌≡◌, ℕ, List, ◌++◌, Option, Some, None, Result, Ok, Err, IfOk, codes, sym, subst, ◌∙◌, arith}
 use Rattle.rag_io.specs.Outside.{Named, Rose}
 use Rattle.broken_rules.specs.declared.broken.Broken.{Broken}
 use Rattle.query_runner.specs.declared.running.Answer.{Answer}

@@ -1,16 +1,12 @@
 -- Steps of the loop over the replies.
-use Rattle.std.proofs.Common.{◌≡◌, ℕ, suc, ◌+◌, ◌<◌, ℤ, List, [], ◌∷◌, ◌++◌, codes, length, drop, drop-cons, add-one, Option, Some, None, Result, Ok, Err, IfSome, IsSome, OnOk, MatchOption, Bor, sym, ap, subst, ◌∙◌, append_assoc}
+use Rattle.std.proofs.Common.{◌≡◌, ℕ, suc, ◌+◌, ◌<◌, List, [], ◌∷◌, ◌++◌, codes, length, drop, drop-cons, add-one, Result, Ok, Err, OnOk, sym, ap, subst, ◌∙◌, append_assoc}
 use Rattle.std.specs.Result.{IsErr, IsErrAnd}
 use Rattle.std.proofs.lemmas.List.{append-nil}
 use Rattle.std.proofs.lemmas.Result.{err_from_is_err_and}
-use Rattle.std.specs.Fmt.{signed_decimal}
 use Rattle.rag_io.specs.declared.Memory.{Memory}
 use Rattle.attr_rules.specs.Queries.{Query as Asked}
-use Rattle.equation_law.specs.Loops.{HasLoop}
-use Rattle.equation_law.specs.Names.{Query}
 use Rattle.equation_law.specs.Program.{Program}
-use Rattle.equation_law.specs.Equations.{HasValue}
-use Rattle.equation_law.specs.Values.{Value, Int}
+use Rattle.equation_law.specs.Values.{Value}
 use Rattle.query_runner.specs.declared.replies.ReplyFault.{ReplyFault}
 use Rattle.query_runner.specs.declared.replies.ReplyFault.TheVariants.{Cells}
 use Rattle.query_runner.specs.Output.{AreReplies, IsReplyText, none, reply}

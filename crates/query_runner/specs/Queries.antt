@@ -1,4 +1,4 @@
--- The queries that are read so far: lines `@NUMBER.NAME()`, where the name is an attribute's or an accessor's.
+-- The queries that are read so far: lines `@NUMBER.NAME()`, where the name is that of an attribute without parameters or of an accessor without arguments.
 use Rattle.std.specs.Prelude.{◌≡◌, ◌==◌, ℕ, ◌≤◌, List, [], ◌∷◌, ◌++◌, Bool, true, false, not, Option, Some, None, Result, Ok, Err, Vec, map, length, codes, if◌then◌else◌, slice_get}
 use Rattle.std.specs.List.{AllPass}
 use Rattle.std.specs.Option.{option_map}
@@ -37,7 +37,7 @@ class_of_parts tokens.End text = 0
 abbrev pub query_class : Lexed → ℕ
 query_class t = class_of_parts t.kind t.text
 
--- The tokens of a line say this query: the accessor or the attribute of that name of the node's class, at the node.
+-- The tokens of a line say this query: the accessor or the attribute of that name of the node's class, at the node, which takes no arguments.
 pub record SaysQuery (g : List Class) (rules : RuleSet) (tree : List Node) (ts : List Lexed) (e : Query) : Type 0 where
   pub events : List ℕ
   pub sentence : IsSentence query_grammar 0 (map query_class ts) events

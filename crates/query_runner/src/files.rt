@@ -4,7 +4,6 @@ ghost use Rattle.std.specs.List.{count_by};
 ghost use Rattle.ast_grammar.specs.Grammar.{superclasses_of};
 ghost use Rattle.rag_io.specs.Outside.{longest_file};
 ghost use Rattle.attr_rules.specs.Kept.{rules_in};
-ghost use Rattle.attr_rules.specs.Rules.{RuleSet};
 ghost use Rattle.equation_law.specs.Systems.{program_of};
 ghost use Rattle.jrag_reader.specs.Items.{seen_aspects};
 ghost use Rattle.query_runner.specs.declared.files.Refusal.TheVariants.{Memory as NoMemory};

@@ -227,7 +227,7 @@ fn read_line(
 
 /// The queries that the bytes of a query file say, or None exactly where they say none in the form that is
 /// read so far: at most 65,536 lines, each of them white space, a `#` line, or `@NUMBER.NAME()` with
-/// the name of an attribute or of an accessor without arguments of the node's class.
+/// the name of an attribute without parameters or of an accessor without arguments of the node's class.
 pub(crate) fn read_queries(
     alloc: Global,
     grammar: &Grammar,

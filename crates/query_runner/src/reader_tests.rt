@@ -81,35 +81,35 @@ fn late_query(alloc: Global, lines: usize) -> Result<String, AllocError> {
 }
 
 // A text, and its queries, each written out with a blank behind it, or `none`.
-const QUERIES: [(&str, &str); 24] = [
+const QUERIES: [(&str, &str); 26] = [
     ("", ""),
     (
         "@0.v()",
-        "Call(AttrId(0), Place { line: 1, column: 4 }, Source(0)) ",
+        "Call(AttrId(0), Place { line: 1, column: 4 }, Source(0), End) ",
     ),
     (
         "@0.v()\n",
-        "Call(AttrId(0), Place { line: 1, column: 4 }, Source(0)) ",
+        "Call(AttrId(0), Place { line: 1, column: 4 }, Source(0), End) ",
     ),
     (
         "@0.u()\n@0.v()\n",
-        "Call(AttrId(1), Place { line: 1, column: 4 }, Source(0)) Call(AttrId(0), Place { line: 1, column: 4 }, Source(0)) ",
+        "Call(AttrId(1), Place { line: 1, column: 4 }, Source(0), End) Call(AttrId(0), Place { line: 1, column: 4 }, Source(0), End) ",
     ),
     (
         "\n \t\n@0.v()\n\n",
-        "Call(AttrId(0), Place { line: 1, column: 4 }, Source(0)) ",
+        "Call(AttrId(0), Place { line: 1, column: 4 }, Source(0), End) ",
     ),
     (
         "# @0.u()\n  # again\n@0.v()",
-        "Call(AttrId(0), Place { line: 1, column: 4 }, Source(0)) ",
+        "Call(AttrId(0), Place { line: 1, column: 4 }, Source(0), End) ",
     ),
     (
         "\r\n@0.v()\r\n",
-        "Call(AttrId(0), Place { line: 1, column: 4 }, Source(0)) ",
+        "Call(AttrId(0), Place { line: 1, column: 4 }, Source(0), End) ",
     ),
     (
         " @ 00000000000000000000 . v ( ) // a comment",
-        "Call(AttrId(0), Place { line: 1, column: 27 }, Source(0)) ",
+        "Call(AttrId(0), Place { line: 1, column: 27 }, Source(0), End) ",
     ),
     ("// a comment", "none"),
     ("@0.v() # behind", "none"),
@@ -120,7 +120,7 @@ const QUERIES: [(&str, &str); 24] = [
     ("@0.getV()", "Token(Int, 0, Source(0)) "),
     (
         "@0.getW()",
-        "Call(AttrId(3), Place { line: 1, column: 4 }, Source(0)) ",
+        "Call(AttrId(3), Place { line: 1, column: 4 }, Source(0), End) ",
     ),
     ("@0.getX()", "none"),
     ("@1.getV()", "none"),
@@ -130,6 +130,8 @@ const QUERIES: [(&str, &str); 24] = [
     ("@0.\nv()", "none"),
     ("@0.int()", "none"),
     ("v()", "none"),
+    ("@0.p()", "none"),
+    ("@0.p(1)", "none"),
 ];
 
 // Checks a text over a grammar, rules and a tree.
@@ -154,7 +156,7 @@ fn expect_query(
 const LATE: [(usize, &str, &str); 2] = [
     (
         65_535,
-        "Call(AttrId(0), Place { line: 1, column: 4 }, Source(0)) ",
+        "Call(AttrId(0), Place { line: 1, column: 4 }, Source(0), End) ",
         "on the last line",
     ),
     (65_536, "none", "past the last line"),
@@ -195,7 +197,7 @@ fn expect_over(rt: &impl Abort, alloc: Global, grammar: &Grammar) -> Result<(), 
         rt,
         alloc,
         grammar,
-        "aspect A { syn int N.v() = 5; syn int N.u() = 6; syn int M.w() = 7; syn int N.getW() = 8; }",
+        "aspect A { syn int N.v() = 5; syn int N.u() = 6; syn int M.w() = 7; syn int N.getW() = 8; syn int N.p(int n) = n; }",
     )?;
     let tree = tree_said(rt, alloc, grammar, "N(3)")?;
     expect_queries(rt, alloc, (grammar, &rules, &tree))

@@ -1,5 +1,5 @@
 // The reply lines.
-ghost use Rattle.std.specs.Prelude.{◌≡◌, ◌≤◌, ◌<◌, ◌++◌, ◌∷◌, [], ℕ, Err, slice_index_or, IfOk, OnOk, codes, length};
+ghost use Rattle.std.specs.Prelude.{◌≡◌, ◌≤◌, ◌<◌, ◌++◌, ◌∷◌, [], Err, slice_index_or, IfOk, OnOk, codes, length};
 ghost use Rattle.std.specs.Fmt.{decimal, signed_decimal};
 ghost use Rattle.rag_io.specs.Quoting.{quoted};
 ghost use Rattle.equation_law.specs.Checked.{IsProgram};

@@ -6,6 +6,7 @@ mod checks;
 mod demands;
 mod grammars;
 mod inherited;
+mod parameters;
 mod programs;
 mod subclasses;
 mod texts;

@@ -2,7 +2,7 @@
 ghost use Rattle.std.specs.Prelude.{◌≡◌, ◌≢◌, ◌⊎◌, ◌≤◌, ◌++◌, ℕ, List, None, Some, Ok, Err, map, IfOk, IfErr};
 ghost use Rattle.rag_io.specs.Outside.{Rose};
 ghost use Rattle.query_runner.specs.Answered.{AnswersWhereTold, Stopped, status_of, text_of};
-ghost use Rattle.query_runner.specs.Run.{Took, TookSome, WritesAnswer, WritesPart};
+ghost use Rattle.query_runner.specs.Run.{Took, WritesAnswer, WritesPart};
 ghost use Rattle.query_runner.specs.Output.{broken_line, usage};
 ghost use Rattle.query_runner.specs.Words.{Check as AsksCheck, PrintTree, Run as AsksRun, command_of, text_of_word};
 ghost use Rattle.query_runner.specs.Named.{seen_names, seen_pair_names};

@@ -1,6 +1,5 @@
 // The words of the command line.
 ghost use Rattle.std.specs.Prelude.{◌≡◌, map, MatchOption, None, Some};
-ghost use Rattle.std.specs.Option.{option_map};
 ghost use Rattle.query_runner.specs.Words.{text_of_word, may_name_file, names_of, pair_names_of, command_of};
 ghost use Rattle.query_runner.specs.Named.{seen_command, seen_names, seen_pair_names, seen_file, name_of, pair_name_of};
 

@@ -2,10 +2,9 @@
 ghost use Rattle.std.specs.Prelude.{◌≡◌, ◌≤◌, ◌<◌, IfOk, length};
 ghost use Rattle.rag_io.specs.Outside.{longest_file};
 ghost use Rattle.equation_law.specs.Checked.{IsInstance, IsProgram};
-ghost use Rattle.equation_law.specs.Codes.{instance_of};
+ghost use Rattle.equation_law.specs.Codes.{IsCoded, instance_of};
 ghost use Rattle.equation_law.specs.Systems.{program_of};
-ghost use Rattle.memo_cells.specs.Standing.{IsPassOf};
-ghost use Rattle.caller_pass.specs.Knowing.{Knows};
+ghost use Rattle.memo_cells.specs.Standing.{IsPassOf, Knows};
 
 use super::{COUNTED, chained_tree};
 use crate::fetching::Contents;
@@ -156,6 +155,18 @@ fn full_cells_keep_what_is_settled(rt: HostRuntime) -> Result<(), Fail> {
     Ok(())
 }
 
+// `a` demands 499 attributes of one node, each with another argument, and `b` ever more.
+const COUNTED_DOWN: &str =
+    "aspect A { syn int N.d(int n) = n == 0 ? 0 : d(n - 1) + 1; syn int N.a() = d(498) + 1; syn int N.f(int n) = f(n + 1); syn int N.b() = f(0); }";
+
+#[test]
+fn full_cells_of_arguments_keep_what_is_settled(rt: HostRuntime) -> Result<(), Fail> {
+    let alloc = rt.alloc();
+    let texts = ("N;", COUNTED_DOWN, "N()", "@0.a()\n@0.b()");
+    let system = system_said(&rt, alloc, texts)?;
+    expect_full::<Brand>(&rt, alloc, &system, Blank::new(1))
+}
+
 // Asks for what is known: it takes no evaluation.
 fn ask_again<L: Ledger>(
     alloc: Global,
@@ -168,8 +179,9 @@ fn ask_again<L: Ledger>(
     requires program { IsProgram (program_of system.now) }
     requires same { cells.now.system.value ≡ system.now }
     requires own { IsPassOf cells.now pass.old }
-    requires instance { IsInstance (program_of system.now) (instance_of i.now) }
-    requires known { Knows pass.old (instance_of i.now) }
+    requires instance { IsInstance (program_of system.now) (instance_of (program_of system.now) i.now) }
+    requires coded { IsCoded (program_of system.now) i.now }
+    requires known { Knows (program_of system.now) pass.old (instance_of (program_of system.now) i.now) }
     ensures none { evals.new ≡ evals.old }
 {
     outcome_of(ask(alloc, system, cells, pass, i, evals))

@@ -1,7 +1,7 @@
 -- The answer of a query has a line.
 use Rattle.std.proofs.Common.{List, ℕ, subst, sym}
 use Rattle.equation_law.specs.Codes.{value_of}
-use Rattle.equation_law.specs.Equations.{text_of}
+use Rattle.equation_law.specs.Program.{text_of}
 use Rattle.equation_law.specs.Systems.{program_of}
 use Rattle.query_runner.specs.Replies.{AddsReply, IsPlain, texts_in, valued}
 use Rattle.query_runner.proofs.Answered.{query_instance, query_plain}

@@ -1,5 +1,5 @@
 -- The lines so far, and what was claimed for them.
-use Rattle.std.proofs.Common.{◌≡◌, List, ℕ, ◌++◌, drop}
+use Rattle.std.proofs.Common.{List, ℕ, ◌++◌, drop}
 use Rattle.equation_law.specs.Systems.{program_of}
 use Rattle.memo_cells.specs.Standing.{IsPassOf}
 use Rattle.memo_cells.specs.Views.{IsAtLeast}
