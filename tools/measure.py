@@ -93,6 +93,11 @@ def inherited(count):
     return {"g.ast": [b"R ::= L; L ::= [L];"], "a.jrag": aspects, "t.tree": tree, "q.txt": [b"@%d.d()\n" % (count - 1)]}
 
 
+def counting(count):
+    """An attribute that calls itself with one argument after the other, down from this one."""
+    return {"a.jrag": [b"aspect A { syn int N.d(int n) = n == 0 ? 0 : d(n - 1) + 1; syn int N.v() = d(%d); }" % count]}
+
+
 def full():
     """Five attributes at each of 60,000 nodes."""
     calls = b"".join(b"syn int L.%c() = %c(); " % (a, b) for a, b in zip(b"efg", b"fgh"))
@@ -194,6 +199,7 @@ CASES = [
     *[(f"demand: a chain of {count:,} nodes", demanded(count)) for count in [1000, 4000, 16000, 32000, 50001, 64000]],
     *[(f"demand: {count:,} nodes, each asked for", asked(count)) for count in [1000, 4000, 16000, 32000, 65536]],
     *[(f"inherited: {count - 1:,} ancestors", inherited(count)) for count in [1000, 8000, 65536]],
+    *[(f"parameters: d({count:,})", counting(count)) for count in [25000, 50000, 100000, 200000]],
     ("demand: more instances than cells", full()),
     ("queries: line feeds", {"q.txt": filled(b"\n")}),
     ("queries: 65,536", {"q.txt": repeated(b"@0.v()\n", 65536)}),
