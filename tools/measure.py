@@ -98,6 +98,71 @@ def counting(count):
     return {"a.jrag": [b"aspect A { syn int N.d(int n) = n == 0 ? 0 : d(n - 1) + 1; syn int N.v() = d(%d); }" % count]}
 
 
+REACH = b"""aspect Reach {
+  inh Node Node.at(int i);
+  eq Graph.getNode().at(int i) = getNode(i);
+  syn Set<String> Node.reach() circular [empty] = each(e : getEdgeList() | union(single(at(e.getTo()).getName()), at(e.getTo()).reach()));
+}
+"""
+
+
+def reached(count, size):
+    """A graph of so many nodes in rings of this size, in which each node is asked for what it reaches."""
+    def nodes():
+        yield b"Graph(["
+        for k in range(count):
+            to = k - k % size + (k + 1) % size
+            yield b'%sNode("n%d", [Edge(%d)])' % (b", " if k else b"", k, to)
+        yield b"])"
+    return {
+        "g.ast": [b"Graph ::= Node*; Node ::= <Name> Edge*; Edge ::= <To:int>;"],
+        "a.jrag": [REACH],
+        "t.tree": nodes(),
+        "q.txt": (b"@%d.reach()\n" % (2 * k + 1) for k in range(count)),
+    }
+
+
+FIRST_SETS = b"""aspect Names {
+  inh Rule Sym.at(int i);
+  eq Grammar.getRule().at(int i) = getRule(i);
+}
+aspect Sets {
+  syn boolean Rule.nullable() circular [false] = any(p : getProdList() | p.nullable());
+  syn boolean Prod.nullable() circular [false] = all(s : getSymList() | s.nullable());
+  syn boolean Sym.nullable() circular [false] = false;
+  eq Nonterm.nullable() = at(getTo()).nullable();
+  syn Set<String> Rule.first() circular [empty] = each(p : getProdList() | p.first(0));
+  syn Set<String> Prod.first(int i) circular [empty] = i < getNumSym()
+    ? union(getSym(i).first(), getSym(i).nullable() ? first(i + 1) : empty) : empty;
+  syn Set<String> Sym.first() circular [empty] = empty;
+  eq Term.first() = single(getName());
+  eq Nonterm.first() = at(getTo()).first();
+}
+"""
+
+
+def ruled(count):
+    """A grammar of so many rules, of which each is asked for its first set and whether it derives nothing."""
+    def rules():
+        yield b"Grammar(["
+        for k in range(count):
+            ends = b", Prod([])" if k % 3 == 0 else b""
+            calls = b"Nonterm(%d), Nonterm(%d)" % ((k + 1) % count, (2 * k + 1) % count)
+            yield b'%sRule([Prod([%s]), Prod([Term("t%d")])%s])' % (b", " if k else b"", calls, k % 7, ends)
+        yield b"])"
+    def queries():
+        node = 1
+        for k in range(count):
+            yield b"@%d.first()\n@%d.nullable()\n" % (node, node)
+            node += 7 if k % 3 == 0 else 6
+    return {
+        "g.ast": [b"Grammar ::= Rule*; Rule ::= Prod*; Prod ::= Sym*; abstract Sym; Nonterm : Sym ::= <To:int>; Term : Sym ::= <Name>;"],
+        "a.jrag": [FIRST_SETS],
+        "t.tree": rules(),
+        "q.txt": queries(),
+    }
+
+
 def full():
     """Five attributes at each of 60,000 nodes."""
     calls = b"".join(b"syn int L.%c() = %c(); " % (a, b) for a, b in zip(b"efg", b"fgh"))
@@ -201,6 +266,9 @@ CASES = [
     *[(f"inherited: {count - 1:,} ancestors", inherited(count)) for count in [1000, 8000, 65536]],
     *[(f"parameters: d({count:,})", counting(count)) for count in [25000, 50000, 100000, 200000]],
     ("demand: more instances than cells", full()),
+    *[(f"circular: reachability over a ring of {count:,}", reached(count, count)) for count in [250, 500, 1000]],
+    *[(f"circular: reachability over {count:,} rings of 16", reached(16 * count, 16)) for count in [62, 125, 250, 1000]],
+    *[(f"circular: first sets of {count:,} rules", ruled(count)) for count in [250, 500, 1000]],
     ("queries: line feeds", {"q.txt": filled(b"\n")}),
     ("queries: 65,536", {"q.txt": repeated(b"@0.v()\n", 65536)}),
     ("1,024 attributes, 65,536 queries for the last", {"a.jrag": attributes(1024), "q.txt": repeated(b"@0.v1023()\n", 65536)}),

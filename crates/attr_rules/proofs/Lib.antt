@@ -7,4 +7,5 @@ pub mod LeftOut
 pub mod NamedAttributes
 pub mod NearestRows
 pub mod OwnRows
+pub mod Permitted
 pub mod RowLists

@@ -6,7 +6,9 @@ pub mod Kept
 pub mod KeptAttributes
 pub mod KeptEquations
 pub mod Queries
+pub mod Rising
 pub mod RowsKept
 pub mod Rules
 pub mod Types
 pub mod Typing
+pub mod WellMade

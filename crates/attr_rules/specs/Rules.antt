@@ -18,10 +18,13 @@ use Rattle.attr_rules.specs.declared.kinds.Attr.{Attr}
 use Rattle.attr_rules.specs.declared.kinds.Params.{Params}
 use Rattle.attr_rules.specs.declared.kinds.Sort.{Sort}
 use Rattle.attr_rules.specs.declared.kinds.Sort.TheVariants.{Syn, Inh, Nta, Coll}
-use Rattle.attr_rules.specs.declared.kinds.Start.TheVariants.{Plain}
+use Rattle.attr_rules.specs.declared.kinds.Start.{Start}
+use Rattle.attr_rules.specs.declared.kinds.Start.TheVariants.{Plain, False, Empty}
 use Rattle.attr_rules.specs.declared.types.ValueType.{ValueType}
 use Rattle.attr_rules.specs.Expression.{Expression}
-use Rattle.attr_rules.specs.Types.{fits, kind_class, parameter_kinds}
+use Rattle.attr_rules.specs.Rising.{IsRising}
+use Rattle.attr_rules.specs.WellMade.{IsWellMade}
+use Rattle.attr_rules.specs.Types.{element_class, fits, kind_class, parameter_kinds}
 use Rattle.attr_rules.specs.Typing.{HasType, Names}
 
 -- an attribute: its name, and what is declared of it
@@ -149,7 +152,7 @@ number_of_attribute a = a.0
 abbrev pub number_of_equation : EqId → ℕ
 number_of_equation e = e.0
 
--- the type is no set, as of all attributes that are evaluated so far
+-- the type is no set
 abbrev pub is_single : Kind → Bool
 is_single kinds.Truth = true
 is_single kinds.Int = true
@@ -173,13 +176,38 @@ pub record IsParameter (g : List Class) (k : Kind) : Type 0 where
   pub single : is_single k ≡ true
   pub class : (c : ClassId) → kind_class k ≡ Some c → c.0 < length g
 
--- An attribute of a class of the grammar.
+-- An attribute of this sort may be circular: higher-order ones and collections aren't.
+abbrev pub may_be_circular : Sort → Bool
+may_be_circular Syn = true
+may_be_circular Inh = true
+may_be_circular Nta = false
+may_be_circular Coll = false
+
+-- where the rounds of a circular attribute of this type start
+pub data IsStart : Kind → Start → Type 0 where
+  truths : IsStart kinds.Truth False
+  texts : IsStart kinds.Texts Empty
+  nodes : (c : ClassId) → IsStart (kinds.Nodes c) Empty
+
+-- the attribute is declared circular
+abbrev pub declares_circular : Option Attr → Bool
+declares_circular None = false
+declares_circular (Some d) = d.circular
+
+-- the attribute of this number is
+abbrev pub circular_at : List Attribute → ℕ → Bool
+circular_at attributes a = declares_circular (declared_at attributes a)
+
+-- An attribute of a class of the grammar, whose type speaks of classes of the grammar. A circular one is of a type that has a value at which its
+-- rounds start.
 pub record IsAttribute (g : List Class) (x : Attribute) : Type 0 where
   pub within : x.declared.class.0 < length g
-  pub single : is_single x.declared.kind ≡ true
   pub class : (c : ClassId) → kind_class x.declared.kind ≡ Some c → c.0 < length g
+  pub elements : (c : ClassId) → element_class x.declared.kind ≡ Some c → c.0 < length g
   pub few : x.declared.params.count ≤ most_parameters
   pub parameters : All (IsParameter g) (parameter_kinds x.declared.params)
+  pub circular : x.declared.circular ≡ true → (may_be_circular x.declared.sort ≡ true) × IsStart x.declared.kind x.declared.start
+  pub plain : x.declared.circular ≡ false → x.declared.start ≡ Plain
 
 -- An equation without a path gives a value to an attribute that its class has and that isn't inherited, one with a path to inherited ones of
 -- any class.
@@ -219,12 +247,28 @@ pub data Uncovered (g : List Class) (r : RuleSet) (a : ℕ) : ℕ → Type 0 whe
       → IsConcrete g c → is_sub g c x.class.0 ≡ true → Uncovered g r a c
 
 -- Rules of a grammar that break nothing: each equation is well typed, each concrete class has an equation for each of its attributes that
--- aren't inherited, the inherited ones of one name are of one type, and none of them can be met uncovered.
+-- aren't inherited, the inherited ones of one name are of one type and circular or not alike, and none of them can be met uncovered.
 pub record AreRules (g : List Class) (r : RuleSet) : Type 0 where
   pub superclasses : r.superclasses ≡ superclasses_of g
   pub few : length r.attributes ≤ most_attributes
   pub attributes : All (IsAttribute g) r.attributes
   pub equations : All (IsEquation g r.attributes) r.equations
   pub complete : (c : ClassId) (a : ℕ) (d : Attr) → IsConcrete g c.0 → attribute_at r a ≡ Some d → is_inherited d.sort ≡ false → is_sub g c.0 d.class.0 ≡ true → IsSome (equation_number r c a)
-  pub alike : (a b : ℕ) (d e : Attr) → attribute_at r a ≡ Some d → is_inherited d.sort ≡ true → first_of_name r.attributes a ≡ Some b → attribute_at r b ≡ Some e → (d.kind ≡ e.kind) × (d.params ≡ e.params)
+  pub alike : (a b : ℕ) (d e : Attr) → attribute_at r a ≡ Some d → is_inherited d.sort ≡ true → first_of_name r.attributes a ≡ Some b → attribute_at r b ≡ Some e → (d.kind ≡ e.kind) × (d.params ≡ e.params) × (d.circular ≡ e.circular)
   pub covered : (c : ClassId) (a : ℕ) (d : Attr) → attribute_at r a ≡ Some d → is_inherited d.sort ≡ true → IsConcrete g c.0 → is_sub g c.0 d.class.0 ≡ true → Uncovered g r a c.0 → ⊥
+
+-- the right side of an equation of a circular attribute rises
+abbrev pub Rises : List Attribute → Equation → Type 0
+Rises attributes e = circular_at attributes e.target.attribute.0 ≡ true → IsRising (circular_at attributes) e.body
+
+-- the equations of circular attributes rise
+abbrev pub EquationsRise : RuleSet → Type 0
+EquationsRise r = All (Rises r.attributes) r.equations
+
+-- the right side of an equation of a circular attribute says which sides of `||` are always evaluated, and where else parts stand
+abbrev pub MadeWell : List Attribute → Equation → Type 0
+MadeWell attributes e = circular_at attributes e.target.attribute.0 ≡ true → IsWellMade (circular_at attributes) e.body
+
+-- the equations of circular attributes do
+abbrev pub EquationsMadeWell : RuleSet → Type 0
+EquationsMadeWell r = All (MadeWell r.attributes) r.equations

@@ -1,5 +1,5 @@
 -- The rules of types: which typed expressions are of which type.
-use Rattle.std.specs.Prelude.{◌≡◌, ℕ, ℤ, ◌<◌, Bool, true, List, [], ◌∷◌, Option, Some, length, slice_get}
+use Rattle.std.specs.Prelude.{◌≡◌, ℕ, ℤ, ◌<◌, Bool, true, false, List, [], ◌∷◌, Option, Some, length, slice_get}
 use Rattle.std.specs.Int.{int_wrap}
 use mir.Syntax.{w32}
 use Rattle.ast_grammar.specs.declared.grammar.ClassId.{ClassId}
@@ -10,14 +10,16 @@ use Rattle.attr_rules.specs.declared.kinds.Kind.{Kind}
 use Rattle.attr_rules.specs.declared.kinds.Kind.TheVariants as kinds
 use Rattle.attr_rules.specs.declared.expression.Operator.{Operator}
 use Rattle.attr_rules.specs.declared.expression.Operator.TheVariants.{Add, Subtract, Multiply, Less, AtMost, Greater, AtLeast, Equal}
+use Rattle.rag_io.specs.declared.Place.{Place}
 use Rattle.attr_rules.specs.declared.expression.Quantifier.{Quantifier}
 use Rattle.attr_rules.specs.declared.expression.Quantifier.TheVariants.{Any, All, First}
+use Rattle.attr_rules.specs.declared.expression.SetOperator.{SetOperator}
 use Rattle.attr_rules.specs.declared.types.ValueType.{ValueType}
 use Rattle.attr_rules.specs.declared.types.ValueType.TheVariants as types
 use Rattle.attr_rules.specs.declared.accessors.Access.TheVariants as access
 use Rattle.attr_rules.specs.Accessors.{got}
-use Rattle.attr_rules.specs.Expression.{Expression, Arguments, no_more, argument, Truth, Int, Text, Null, This, Variable, Source, Child, Element, Count, Has, Token, Call, Cast, InstanceOf, Quantified, Not, Negate, Binary, And, Or, If}
-use Rattle.attr_rules.specs.Types.{common, comparable, fits, is_node, of_class, parameter_kinds}
+use Rattle.attr_rules.specs.Expression.{Expression, Arguments, no_more, argument, Truth, Int, Text, Null, Empty, This, Variable, Source, Child, Element, Count, Has, Token, Call, Cast, InstanceOf, Quantified, QuantifiedSet, Each, EachOfSet, Sets, Single, Contains, Size, Not, Negate, Binary, And, Or, OrBoth, If}
+use Rattle.attr_rules.specs.Types.{common, comparable, elements_of, fits, is_node, is_set, kept_kind, may_be_element, of_class, parameter_kinds, set_of}
 
 -- what an expression may name: the grammar's classes with their components, attributes, source nodes, the class of the node at which
 -- it is read, and the types of the names, by their numbers
@@ -38,6 +40,12 @@ quantified_type Any c = types.Of kinds.Truth
 quantified_type All c = types.Of kinds.Truth
 quantified_type First c = of_class c
 
+-- a form that goes over sets too: `first` takes lists alone
+abbrev pub takes_sets : Quantifier → Bool
+takes_sets Any = true
+takes_sets All = true
+takes_sets First = false
+
 -- the operator takes two integers, and this is the type of its result
 pub data TakesInts : Operator → Kind → Type 0 where
   add : TakesInts Add kinds.Int
@@ -56,6 +64,7 @@ mutual
     int : {N : Names} → (z : ℤ) → int_wrap w32 z ≡ z → HasType N (Int z) (types.Of kinds.Int)
     text : {N : Names} → (n : ℕ) → HasType N (Text n) (types.Of kinds.Text)
     null : {N : Names} → HasType N Null types.Null
+    empty : {N : Names} → HasType N Empty types.Empty
     this : {N : Names} → (c : ClassId) → N.this ≡ Some c → HasType N This (of_class c)
     variable : {N : Names} → (k : ℕ) (t : Kind) → slice_get N.variables k ≡ Some t → HasType N (Variable k) (types.Of t)
     source : {N : Names} → (k : ℕ) (c : ClassId) → N.node k ≡ Some c → HasType N (Source k) (of_class c)
@@ -64,17 +73,26 @@ mutual
     count : {N : Names} {e : Expression} (c : ClassId) (k : ℕ) (x : Component) → HasType N e (of_class c) → component_at N.grammar c.0 k ≡ Some x → x.shape ≡ shapes.List → HasType N (Count k e) (types.Of kinds.Int)
     has : {N : Names} {e : Expression} (c : ClassId) (k : ℕ) (x : Component) → HasType N e (of_class c) → component_at N.grammar c.0 k ≡ Some x → x.shape ≡ shapes.Optional → HasType N (Has k e) (types.Of kinds.Truth)
     token : {N : Names} {e : Expression} (c : ClassId) (k : ℕ) (x : Component) (t : Kind) → HasType N e (of_class c) → component_at N.grammar c.0 k ≡ Some x → got x.shape ≡ Some (access.Token t) → HasType N (Token t k e) (types.Of t)
-    call : {N : Names} {e : Expression} {es : Arguments} (c : ClassId) (a : ℕ) (d : Attr) → HasType N e (of_class c) → N.attribute a ≡ Some d → is_sub N.grammar c.0 d.class.0 ≡ true → Fit N es (parameter_kinds d.params) → HasType N (Call a e es) (types.Of d.kind)
+    call : {N : Names} {e : Expression} {es : Arguments} (c : ClassId) (a : ℕ) (at : Place) (d : Attr) → HasType N e (of_class c) → N.attribute a ≡ Some d → is_sub N.grammar c.0 d.class.0 ≡ true → Fit N es (parameter_kinds d.params) → HasType N (Call a at e es) (types.Of d.kind)
     cast : {N : Names} {e : Expression} (t : ValueType) (c : ClassId) → HasType N e t → is_node t ≡ true → c.0 < length N.grammar → HasType N (Cast c e) (of_class c)
     instance_of : {N : Names} {e : Expression} (t : ValueType) (c : ClassId) → HasType N e t → is_node t ≡ true → c.0 < length N.grammar → HasType N (InstanceOf c e) (types.Of kinds.Truth)
     quantified : {N : Names} {e b : Expression} (q : Quantifier) (c : ClassId) (k : ℕ) (x : Component) → HasType N e (of_class c) → component_at N.grammar c.0 k ≡ Some x → x.shape ≡ shapes.List → HasType (with_variable N (kinds.Node x.class)) b (types.Of kinds.Truth) → HasType N (Quantified q k e b) (quantified_type q x.class)
+    quantified_set : {N : Names} {e b : Expression} (q : Quantifier) (t : ValueType) (k : Kind) → takes_sets q ≡ true → HasType N e t → elements_of t ≡ Some k → HasType (with_variable N k) b (types.Of kinds.Truth) → HasType N (QuantifiedSet q e b) (types.Of kinds.Truth)
+    each : {N : Names} {e b : Expression} (s : Kind) (c : ClassId) (k : ℕ) (x : Component) (t : ValueType) → HasType N e (of_class c) → component_at N.grammar c.0 k ≡ Some x → x.shape ≡ shapes.List → HasType (with_variable N (kinds.Node x.class)) b t → is_set t ≡ true → s ≡ kept_kind t → HasType N (Each s k e b) t
+    each_of_set : {N : Names} {e b : Expression} (s : Kind) (t : ValueType) (k : Kind) (u : ValueType) → HasType N e t → elements_of t ≡ Some k → HasType (with_variable N k) b u → is_set u ≡ true → s ≡ kept_kind u → HasType N (EachOfSet s e b) u
+    -- two sets that have a common type
+    sets : {N : Names} {a b : Expression} (o : SetOperator) (s : Kind) (t u v : ValueType) → HasType N a t → HasType N b u → is_set t ≡ true → common N.grammar t u ≡ Some v → s ≡ kept_kind v → HasType N (Sets o s a b) v
+    single : {N : Names} {e : Expression} (t u : ValueType) → HasType N e t → set_of t ≡ Some u → HasType N (Single e) u
+    contains : {N : Names} {a b : Expression} (t u : ValueType) → HasType N a t → HasType N b u → may_be_element N.grammar t u ≡ true → HasType N (Contains a b) (types.Of kinds.Truth)
+    size : {N : Names} {e : Expression} (t : ValueType) → HasType N e t → is_set t ≡ true → HasType N (Size e) (types.Of kinds.Int)
     not : {N : Names} {e : Expression} → HasType N e (types.Of kinds.Truth) → HasType N (Not e) (types.Of kinds.Truth)
     negate : {N : Names} {e : Expression} → HasType N e (types.Of kinds.Int) → HasType N (Negate e) (types.Of kinds.Int)
     ints : {N : Names} {a b : Expression} (o : Operator) (k : Kind) → TakesInts o k → HasType N a (types.Of kinds.Int) → HasType N b (types.Of kinds.Int) → HasType N (Binary o a b) (types.Of k)
     equal : {N : Names} {a b : Expression} (t u : ValueType) → HasType N a t → HasType N b u → comparable t u ≡ true → HasType N (Binary Equal a b) (types.Of kinds.Truth)
     and : {N : Names} {a b : Expression} → HasType N a (types.Of kinds.Truth) → HasType N b (types.Of kinds.Truth) → HasType N (And a b) (types.Of kinds.Truth)
     or : {N : Names} {a b : Expression} → HasType N a (types.Of kinds.Truth) → HasType N b (types.Of kinds.Truth) → HasType N (Or a b) (types.Of kinds.Truth)
-    choice : {N : Names} {c a b : Expression} (t u v : ValueType) → HasType N c (types.Of kinds.Truth) → HasType N a t → HasType N b u → common N.grammar t u ≡ Some v → HasType N (If c a b) v
+    or_both : {N : Names} {a b : Expression} → HasType N a (types.Of kinds.Truth) → HasType N b (types.Of kinds.Truth) → HasType N (OrBoth a b) (types.Of kinds.Truth)
+    choice : {N : Names} {c a b : Expression} (at : Option Place) (t u v : ValueType) → HasType N c (types.Of kinds.Truth) → HasType N a t → HasType N b u → common N.grammar t u ≡ Some v → HasType N (If c a at b) v
 
   -- The arguments are as many as the parameters, and each fits its one.
   pub data Fit : Names → Arguments → List Kind → Type 0 where

@@ -18,13 +18,22 @@ pub enum Operator {
     Equal,
 }
 
-/// A form over the elements of a list. `any` and `all` evaluate their condition at every element, `first` up to the first one at which it is
-/// true.
+/// A form over the elements of a list or of a set, with a condition. `any` and `all` evaluate it at every element, `first` up to the first one
+/// at which it is true.
 #[derive(Clone, Copy, Debug, PartialEq, Eq)]
 pub enum Quantifier {
     Any,
     All,
     First,
+}
+
+/// What is made of two sets, of which both are evaluated, the left one first: their elements, those that both have, or those of the left one
+/// that the right one hasn't.
+#[derive(Clone, Copy, Debug, PartialEq, Eq)]
+pub enum SetOperator {
+    Union,
+    Inter,
+    Minus,
 }
 
 /// A typed expression. Its calls name attributes by number and its accessors name components by number, and
@@ -41,6 +50,8 @@ pub enum TExpr {
     Text(u32),
     /// `null`, no node.
     Null,
+    /// `empty`, the set without elements.
+    Empty,
     /// `this`, the node at which the equation is read.
     This,
     /// A name that stands for a value, by its number: those that the expression binds come first, the innermost as 0.
@@ -66,6 +77,22 @@ pub enum TExpr {
     InstanceOf(ClassId, Box<TExpr>),
     /// `any`, `all` or `first` over a receiver's list at the component of this number, with the condition, in which variable 0 is the element.
     Quantified(Quantifier, u32, Box<TExpr>, Box<TExpr>),
+    /// `any` or `all` over the elements of a set, nodes in the order of their names and texts in that of their bytes, with the condition, in
+    /// which variable 0 is the element.
+    QuantifiedSet(Quantifier, Box<TExpr>, Box<TExpr>),
+    /// `each` over a receiver's list at the component of this number: the union of the sets that the body, in which variable 0 is the element,
+    /// says at the elements; the union is of this type.
+    Each(Kind, u32, Box<TExpr>, Box<TExpr>),
+    /// `each` over the elements of a set, in their order.
+    EachOfSet(Kind, Box<TExpr>, Box<TExpr>),
+    /// `union`, `inter` or `minus` of two sets, which gives a set of this type.
+    Sets(SetOperator, Kind, Box<TExpr>, Box<TExpr>),
+    /// `single`: the set of a text or a node. No set holds null, so that of null is empty.
+    Single(Box<TExpr>),
+    /// `contains`: whether a set has an element. The set is evaluated first.
+    Contains(Box<TExpr>, Box<TExpr>),
+    /// `size`: how many elements a set has.
+    Size(Box<TExpr>),
     /// `!`
     Not(Box<TExpr>),
     /// Unary `-`, which wraps.
@@ -75,9 +102,12 @@ pub enum TExpr {
     And(Box<TExpr>, Box<TExpr>),
     /// `||`: the right side is evaluated only where the left one is false.
     Or(Box<TExpr>, Box<TExpr>),
-    /// `condition ? then : otherwise`, with the place at which the last part begins: only the part that the condition
-    /// chooses is evaluated.
-    If(Box<TExpr>, Box<TExpr>, Place, Box<TExpr>),
+    /// `||` whose two sides are always evaluated, the left one first. It stands in the equation of a circular attribute where the left side calls
+    /// a circular attribute: a value on the left that becomes true then leaves all that is demanded as it was.
+    OrBoth(Box<TExpr>, Box<TExpr>),
+    /// `condition ? then : otherwise`, of which only the part that the condition chooses is evaluated. It keeps the place at which the last part
+    /// begins, unless that is the literal `false` or `empty`.
+    If(Box<TExpr>, Box<TExpr>, Option<Place>, Box<TExpr>),
 }
 
 /// The arguments of a call, from the left.

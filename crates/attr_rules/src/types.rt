@@ -5,11 +5,13 @@ ghost use Rattle.attr_rules.specs.Types as spec;
 use crate::kinds::Kind;
 use ast_grammar::{ClassId, Grammar};
 
-/// The type of what an expression says: one that an attribute may have, or that of `null`, which fits every class.
+/// The type of what an expression says: one that an attribute may have, that of `null`, which fits every class, or that of `empty`, which fits
+/// every set.
 #[derive(Clone, Copy, Debug, PartialEq, Eq)]
 pub enum ValueType {
     Of(Kind),
     Null,
+    Empty,
 }
 
 impl ValueType {
@@ -20,7 +22,7 @@ impl ValueType {
         ValueType::Of(Kind::Node(class))
     }
 
-    /// The class, where the type is one. That of `null` is none.
+    /// The class, where the type is one. Those of `null` and `empty` are none.
     pub fn class(self) -> Option<ClassId>
         ensures { result ≡ spec.class_in self }
     {
@@ -55,13 +57,54 @@ impl ValueType {
         matches!(self, ValueType::Of(Kind::Node(_)) | ValueType::Null)
     }
 
-    /// The type at which a value is kept: `null` counts as a node of the first class.
+    // Whether it is the set of texts, or that of `empty`.
+    fn is_texts(self) -> bool
+        ensures { result ≡ spec.is_texts self }
+    {
+        matches!(self, ValueType::Of(Kind::Texts) | ValueType::Empty)
+    }
+
+    /// Whether it is a set. That of `empty` is one.
+    pub fn is_set(self) -> bool
+        ensures { result ≡ spec.is_set self }
+    {
+        matches!(
+            self,
+            ValueType::Of(Kind::Texts | Kind::Nodes(_)) | ValueType::Empty
+        )
+    }
+
+    /// The type of the elements, where the type is a set other than that of `empty`.
+    pub fn elements(self) -> Option<Kind>
+        ensures { result ≡ spec.elements_of self }
+    {
+        match self {
+            ValueType::Of(Kind::Texts) => Some(Kind::Text),
+            ValueType::Of(Kind::Nodes(class)) => Some(Kind::Node(class)),
+            _ => None,
+        }
+    }
+
+    /// The type of the set of one value of this type: there are sets of texts and of nodes, and that of `null` is empty.
+    pub fn set_of(self) -> Option<ValueType>
+        ensures { result ≡ spec.set_of self }
+    {
+        match self {
+            ValueType::Of(Kind::Text) => Some(ValueType::Of(Kind::Texts)),
+            ValueType::Of(Kind::Node(class)) => Some(ValueType::Of(Kind::Nodes(class))),
+            ValueType::Null => Some(ValueType::Empty),
+            _ => None,
+        }
+    }
+
+    /// The type at which a value is kept: `null` counts as a node of the first class, and `empty` as a set of texts.
     pub fn kept_kind(self) -> Kind
         ensures { result ≡ spec.kept_kind self }
     {
         match self {
             ValueType::Of(kind) => kind,
             ValueType::Null => Kind::Node(ClassId(0)),
+            ValueType::Empty => Kind::Texts,
         }
     }
 }
@@ -73,12 +116,23 @@ fn fits_class(grammar: &Grammar, of: ValueType, class: ClassId) -> bool
     match of {
         ValueType::Null => true,
         ValueType::Of(Kind::Node(below)) => grammar.is_sub(below, class),
-        ValueType::Of(_) => false,
+        ValueType::Of(_) | ValueType::Empty => false,
+    }
+}
+
+// Whether a set of the type has nodes of the class alone.
+fn fits_nodes(grammar: &Grammar, of: ValueType, class: ClassId) -> bool
+    ensures { result ≡ spec.fits_nodes grammar.now of class }
+{
+    match of {
+        ValueType::Empty => true,
+        ValueType::Of(Kind::Nodes(lower)) => grammar.is_sub(lower, class),
+        ValueType::Of(_) | ValueType::Null => false,
     }
 }
 
 /// Whether what is of the type may stand where one of the second is wanted: where they are equal, where a class is the other or below it,
-/// and where `null` stands for a node.
+/// where both are sets whose elements fit, where `null` stands for a node, and `empty` for a set.
 pub fn fits(grammar: &Grammar, of: ValueType, wanted: Kind) -> bool
     ensures { result ≡ spec.fits grammar.now of wanted }
 {
@@ -87,7 +141,21 @@ pub fn fits(grammar: &Grammar, of: ValueType, wanted: Kind) -> bool
         Kind::Int => of.is_int(),
         Kind::Text => of.is_text(),
         Kind::Node(class) => fits_class(grammar, of, class),
-        Kind::Texts | Kind::Nodes(_) => false,
+        Kind::Texts => of.is_texts(),
+        Kind::Nodes(class) => fits_nodes(grammar, of, class),
+    }
+}
+
+/// Whether what is of the second type may be asked for as an element of a set of the first: where it fits the elements, and of `empty` where it
+/// is a text or a node.
+pub fn may_be_element(grammar: &Grammar, set: ValueType, of: ValueType) -> bool
+    ensures { result ≡ spec.may_be_element grammar.now set of }
+{
+    match set {
+        ValueType::Empty => of.is_text() || of.is_node(),
+        ValueType::Of(Kind::Texts) => of.is_text(),
+        ValueType::Of(Kind::Nodes(class)) => fits_class(grammar, of, class),
+        ValueType::Of(_) | ValueType::Null => false,
     }
 }
 
@@ -117,12 +185,26 @@ fn common_node(grammar: &Grammar, class: ClassId, right: ValueType) -> Option<Va
             let common = grammar.nearest_common(class, other)?;
             Some(ValueType::of_class(common))
         }
-        ValueType::Of(_) => None,
+        ValueType::Of(_) | ValueType::Empty => None,
     }
 }
 
-/// The type of a choice between two parts: that of both, where they are of one type; their nearest common superclass, where both are classes;
-/// the class of the other, where one is that of `null`.
+// The common type of the sets of nodes of a class and of a second type.
+fn common_nodes(grammar: &Grammar, class: ClassId, right: ValueType) -> Option<ValueType>
+    ensures { result ≡ spec.common_nodes grammar.now class right }
+{
+    match right {
+        ValueType::Empty => Some(ValueType::Of(Kind::Nodes(class))),
+        ValueType::Of(Kind::Nodes(other)) => {
+            let nearest = grammar.nearest_common(class, other)?;
+            Some(ValueType::Of(Kind::Nodes(nearest)))
+        }
+        ValueType::Of(_) | ValueType::Null => None,
+    }
+}
+
+/// The common type of two parts: that of both, where they are of one type; their nearest common superclass, where both are classes; the class of
+/// the other, where one is that of `null`; that of their elements, where both are sets; the other set, where one is `empty`.
 pub fn common(grammar: &Grammar, left: ValueType, right: ValueType) -> Option<ValueType>
     ensures { result ≡ spec.common grammar.now left right }
 {
@@ -132,6 +214,8 @@ pub fn common(grammar: &Grammar, left: ValueType, right: ValueType) -> Option<Va
         ValueType::Of(Kind::Int) => type_where(right.is_int(), right),
         ValueType::Of(Kind::Text) => type_where(right.is_text(), right),
         ValueType::Of(Kind::Node(class)) => common_node(grammar, class, right),
-        ValueType::Of(Kind::Texts | Kind::Nodes(_)) => None,
+        ValueType::Of(Kind::Texts) => type_where(right.is_texts(), left),
+        ValueType::Of(Kind::Nodes(class)) => common_nodes(grammar, class, right),
+        ValueType::Empty => type_where(right.is_set(), right),
     }
 }

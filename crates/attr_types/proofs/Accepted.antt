@@ -25,7 +25,7 @@ accepted g items grammar built answer =
     record {
       superclasses = refl;
       few = omega (arith, few_declared g (declarations items) heads.0, length-map (declarations items) (attribute_of g));
-      attributes = declared_attributes g items built heads.0;
+      attributes = declared_attributes g items heads.0;
       equations = equations_there g (attributes_of g (declarations items)) items built targets.0 bodies.0;
       complete = complete_rules g items complete.0;
       alike = alike g (declarations items) heads.0;

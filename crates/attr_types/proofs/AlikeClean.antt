@@ -1,5 +1,5 @@
 -- Inherited attributes of one name are of one type and have one list of parameters, where their declarations break nothing.
-use Rattle.std.proofs.Common.{◌≡◌, ℕ, zero, suc, ◌<◌, ◌&&◌, Bool, true, false, cond, not, nat_lt, List, [], ◌∷◌, Some, find, get_or, is_none, position, slice_get, take, refl, sym, ap, ◌∙◌, arith, bytes_eq}
+use Rattle.std.proofs.Common.{◌≡◌, ℕ, zero, suc, ◌<◌, ◌&&◌, ◌||◌, Bool, true, false, cond, not, nat_lt, List, [], ◌∷◌, Some, find, get_or, is_none, position, slice_get, take, refl, sym, ap, ◌∙◌, arith, bytes_eq}
 use Rattle.std.specs.Option.{option_and_then, unwrap_or}
 use Rattle.std.proofs.lemmas.Bool.{and_from, ltb-true, not-false}
 use Rattle.std.proofs.lemmas.Bool.Decides.{nat_tests}
@@ -16,6 +16,7 @@ use Rattle.attr_rules.specs.declared.kinds.Kind.TheVariants as kinds
 use Rattle.attr_rules.specs.Rules.{Attribute, declared_at, declared_of, first_inherited as first_named, first_of_name, is_inherited}
 use Rattle.attr_types.specs.Heads.{attribute_of, attributes_of, first_inherited, heads_broken, is_other, is_other_than, type_in}
 use Rattle.attr_types.specs.Parameters.{differ, parameter_types, params_of, params_written}
+use Rattle.attr_types.specs.Starts.{are_unlike, is_circular}
 use Rattle.attr_types.specs.Written.{Head}
 use Rattle.attr_types.specs.WrittenTypes.{kind_written, same_kind, type_written}
 use Rattle.attr_types.proofs.DeclaredClean.{head_there}
@@ -37,10 +38,17 @@ found_before p (y ∷ ys) (suc a) (suc b) x there passes fails lt =
 below_or_same : (a b : ℕ) → (a < b → ⊥) → (nat_lt b a ≡ false) → b ≡ a
 below_or_same a b not_below not_above = grind (arith, nat_tests)
 
+-- two that aren't unlike
+circular_alike : (a b : Bool) → are_unlike a b ≡ false → b ≡ a
+circular_alike true true e = refl
+circular_alike true false e = absurd cc
+circular_alike false true e = absurd cc
+circular_alike false false e = refl
+
 module _ (g : List Class) (list : List Head) (none : heads_broken g list ≡ []) where
-  -- the same type and the same parameters
+  -- the same type and the same parameters, and circular or not alike
   abbrev AreAlike : Head → Head → Type 0
-  AreAlike h f = (kind_written g h.of ≡ kind_written g f.of) × (params_written g h.signature.parameters ≡ params_written g f.signature.parameters)
+  AreAlike h f = (kind_written g h.of ≡ kind_written g f.of) × (params_written g h.signature.parameters ≡ params_written g f.signature.parameters) × (is_circular h.circular ≡ is_circular f.circular)
 
   -- a later inherited attribute of a name is as the first
   as_first : (a b : ℕ) (h f : Head) → slice_get list a ≡ Some h → is_inherited h.sort ≡ true → slice_get list b ≡ Some f → first_inherited (take a list) h.signature.name.text ≡ Some f → AreAlike h f
@@ -49,19 +57,22 @@ module _ (g : List Class) (list : List Head) (none : heads_broken g list ≡ [])
       let there = head_there g list b f none at_b in
       let other = is_other g h (first_inherited (take a list) h.signature.name.text) in
       let not_other : is_other_than g h f ≡ false = ap (is_other g h) (sym found) ∙ ap (λ b. b && other) (sym inherited) ∙ not_broken (is_inherited h.sort && other) (at h.signature.name.place J15) here.other in
-      let apart = either_false (not (same_kind (type_in g f) (type_in g h))) (differ g (parameter_types g f.signature.parameters) h.signature.parameters) not_other in
+      let unlike = are_unlike (is_circular f.circular) (is_circular h.circular) in
+      let other_params = differ g (parameter_types g f.signature.parameters) h.signature.parameters in
+      let apart = either_false (not (same_kind (type_in g f) (type_in g h))) (unlike || other_params) not_other in
+      let rest = either_false unlike other_params apart.1 in
       let same : same_kind (type_in g f) (type_in g h) ≡ true = not-false (same_kind (type_in g f) (type_in g h)) apart.0 in
       let known = not_broken (is_none (type_written g h.of)) (at h.of.place J4) here.of in
       let known_first = not_broken (is_none (type_written g f.of)) (at f.of.place J4) there.of in
-      let kinds_same = same_written g f.signature.parameters h.signature.parameters (are_typed g [] f.signature.parameters there.parameters) (are_typed g [] h.signature.parameters here.parameters) apart.1 in
-      (ap (λ o. unwrap_or o kinds.Truth) (sym (same_types (type_in g f) (type_in g h) known_first known same)), ap params_of (sym kinds_same))
+      let kinds_same = same_written g f.signature.parameters h.signature.parameters (are_typed g [] f.signature.parameters there.parameters) (are_typed g [] h.signature.parameters here.parameters) rest.1 in
+      (ap (λ o. unwrap_or o kinds.Truth) (sym (same_types (type_in g f) (type_in g h) known_first known same)), ap params_of (sym kinds_same), circular_alike (is_circular f.circular) (is_circular h.circular) rest.0)
 
   -- whether an attribute is an inherited one of a name
   abbrev is_one : List ℕ → Head → Bool
   is_one name h = is_inherited h.sort && bytes_eq h.signature.name.text name
 
   pub alike : (a b : ℕ) (d e : Attr) → declared_at (attributes_of g list) a ≡ Some d → is_inherited d.sort ≡ true → first_of_name (attributes_of g list) a ≡ Some b → declared_at (attributes_of g list) b ≡ Some e
-      → (d.kind ≡ e.kind) × (d.params ≡ e.params)
+      → (d.kind ≡ e.kind) × (d.params ≡ e.params) × (d.circular ≡ e.circular)
   alike a b d e declared inherited first declared_first =
       let x = some_from declared_of (slice_get (attributes_of g list) a) d declared in
       let h = map_found (attribute_of g) list a x.0 x.1 in
@@ -80,16 +91,17 @@ module _ (g : List Class) (list : List Head) (none : heads_broken g list ≡ [])
       let passes_first : is_one name f.0 ≡ true = ap (is_one name) (sym (get_or_from_slice_get list b f.0 f.0 f.1)) ∙ (before_fail f.0 named).1 in
       let of_a : declared_of (attribute_of g h.0) ≡ d = ap declared_of h.2 ∙ x.2 in
       let of_b : declared_of (attribute_of g f.0) ≡ e = ap declared_of f.2 ∙ y.2 in
-      elim (nat_lt b a) as (λ t. nat_lt b a ≡ t → (d.kind ≡ e.kind) × (d.params ≡ e.params)) [
+      elim (nat_lt b a) as (λ t. nat_lt b a ≡ t → (d.kind ≡ e.kind) × (d.params ≡ e.params) × (d.circular ≡ e.circular)) [
         | true ↦ λ lt. (
             let same = as_first a b h.0 f.0 h.1 inherits f.1 (found_before (is_one name) list a b f.0 f.1 passes_first (before_fail f.0 named).2 (ltb-true b a lt)) in (
               ap (λ (z : Attr). z.kind) (sym of_a) ∙ same.0 ∙ ap (λ (z : Attr). z.kind) of_b,
               ap (λ (z : Attr). z.params) (sym of_a) ∙ same.1 ∙ ap (λ (z : Attr). z.params) of_b,
+              ap (λ (z : Attr). z.circular) (sym of_a) ∙ same.2 ∙ ap (λ (z : Attr). z.circular) of_b,
             )
             )
         | false ↦ λ past. (
             let one : declared_at (attributes_of g list) b ≡ declared_at (attributes_of g list) a = ap (declared_at (attributes_of g list)) (below_or_same a b not_below past) in
             let same : d ≡ e = cc in
-            (ap (λ (z : Attr). z.kind) same, ap (λ (z : Attr). z.params) same)
+            (ap (λ (z : Attr). z.kind) same, ap (λ (z : Attr). z.params) same, ap (λ (z : Attr). z.circular) same)
             )
       ] refl

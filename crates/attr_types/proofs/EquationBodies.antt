@@ -15,7 +15,7 @@ use Rattle.attr_rules.specs.KeptEquations.{equation_in}
 use Rattle.attr_types.specs.Seen.{seen_given}
 use Rattle.attr_types.specs.declared.standing.Stands.TheVariants.{Anywhere}
 use Rattle.attr_types.specs.Bodies.{operand_broken}
-use Rattle.attr_types.specs.Phases.{equation_broken, equation_of, scope_of, wanted_by}
+use Rattle.attr_types.specs.Phases.{equation_broken, equation_of, said_for, scope_of, wanted_by}
 use Rattle.attr_rules.specs.Expression.{Expression}
 use Rattle.attr_rules.specs.Rules.{Attribute, AttributeSet}
 use Rattle.attr_types.specs.Paths.{equation_names}
@@ -38,9 +38,10 @@ module _ (g : List Class) (a : AttributeSet) (e : Given) (t : Target) {vs : List
       subst (λ u. Notes (operand_broken (scope_of g a.attributes e u) Anywhere (wanted_by a.attributes u) e.body) x y) is
       (subst (λ s. Notes (operand_broken s Anywhere (wanted_by a.attributes t) e.body) x y) scope_here (subst (λ w. Notes (operand_broken here Anywhere w e.body) x y) wanted h))
 
-  pub body_said : (b : Expression) → b ≡ body_of here e.body → record { target = t; body = b } ≡ equation_of g a.attributes e
-  body_said b says =
-      (λ i. record { target = t; body = (says ∙ ap (λ s. body_of s e.body) scope_here) i }) ∙ ap (λ u. record { target = u; body = body_of (scope_of g a.attributes e u) e.body }) is
+  pub body_said : (b c : Expression) → b ≡ body_of here e.body → c ≡ said_for a.attributes t b → record { target = t; body = c } ≡ equation_of g a.attributes e
+  body_said b c says for =
+      (λ i. record { target = t; body = (for ∙ ap (said_for a.attributes t) (says ∙ ap (λ s. body_of s e.body) scope_here)) i })
+      ∙ ap (λ u. record { target = u; body = said_for a.attributes u (body_of (scope_of g a.attributes e u) e.body) }) is
 
 -- the equations of memory, and what each is for
 module _ (g : List Class) (attributes : List Attribute) (es : List kept_given.Given) (i : ℕ) where

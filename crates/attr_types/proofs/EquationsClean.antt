@@ -1,11 +1,11 @@
 -- What holds of equations of built items that break nothing.
-use Rattle.std.proofs.Common.{◌≡◌, ℕ, zero, suc, List, [], ◌∷◌, ◌++◌, All, ◌&&◌, true, false, not, Option, Some, None, is_none, map, slice_get, option_map, refl, ap, sym, ◌∙◌, subst}
+use Rattle.std.proofs.Common.{◌≡◌, ℕ, zero, suc, List, [], ◌∷◌, ◌++◌, All, true, false, not, Option, Some, None, is_none, map, slice_get, option_map, refl, ap, sym, ◌∙◌, subst}
 use Rattle.std.specs.Option.{unwrap_or}
 use Rattle.std.proofs.lemmas.Bool.{and_parts}
 use Rattle.std.proofs.lemmas.List.{map-append}
 use Rattle.broken_rules.proofs.Clean.{append_none, flat_map_found}
 use Rattle.ast_grammar.specs.Grammar.{Class}
-use Rattle.jrag_reader.specs.Built.{all_built, is_built, is_built_item, is_built_body, is_not_circular, is_plain}
+use Rattle.jrag_reader.specs.Built.{all_built, is_built, is_built_item, is_built_body}
 use Rattle.jrag_reader.specs.Expressions.{Expr}
 use Rattle.jrag_reader.specs.Items.{Item, Declared, Inherits, Equates, Collects, Contributes, Parameter, Signature, Synthesized}
 use Rattle.attr_types.specs.declared.standing.Stands.TheVariants.{Anywhere}
@@ -17,7 +17,7 @@ use Rattle.attr_rules.specs.declared.kinds.Attr.{Attr}
 use Rattle.attr_rules.specs.declared.kinds.Kind.{Kind}
 use Rattle.attr_rules.specs.declared.kinds.Kind.TheVariants as kinds
 use Rattle.attr_rules.specs.declared.types.ValueType.TheVariants as types
-use Rattle.attr_rules.specs.Rules.{Attribute, IsEquation, bound_kinds, declared_at}
+use Rattle.attr_rules.specs.Rules.{Attribute, IsEquation, bound_kinds, circular_at, declared_at}
 use Rattle.attr_rules.specs.Typing.{HasType}
 use Rattle.attr_types.specs.Parameters.{parameter_kind}
 use Rattle.attr_types.specs.Paths.{bound_names, equation_names, index_name, index_named, parameter_named}
@@ -27,6 +27,7 @@ use Rattle.attr_types.specs.Typed.{known}
 use Rattle.attr_rules.specs.Types.{fits, parameter_kinds}
 use Rattle.attr_types.specs.Written.{Given, given_by, given_in, given_with, givens}
 use Rattle.attr_types.specs.WrittenTypes.{type_written}
+use Rattle.attr_types.proofs.BothTyped.{said_typed}
 use Rattle.attr_types.proofs.FormsTyped.{fitting}
 use Rattle.attr_types.proofs.ItemsFound.{all_found, built_found, map_found, some_there}
 use Rattle.attr_types.proofs.MembersTyped.{kind_known, names_in, variable_kind}
@@ -40,14 +41,11 @@ body_there s (Some body) e built is = let same : given_with s body ≡ e = cc in
 
 -- the right side of an equation that a built item gives, is built
 built_in : (item : Item) (e : Given) → is_built_item item ≡ true → given_in item ≡ Some e → is_built e.body ≡ true
-built_in (Declared s) e built is =
-    let typed = (and_parts (not s.higher_order) _ built).1 in
-    let alone = (and_parts (is_plain s.of) _ typed).1 in
-    body_there s s.body e (and_parts (is_not_circular s.circular) (is_built_body s.body) (and_parts _ (is_not_circular s.circular && is_built_body s.body) alone).1).1 is
+built_in (Declared s) e built is = body_there s s.body e (and_parts (not s.higher_order) (is_built_body s.body) built).1 is
 built_in (Inherits i) e built is = absurd (cc)
 built_in (Equates f) e built is =
     let same : given_by f ≡ e = cc in
-    subst (λ (h : Given). is_built h.body ≡ true) same (and_parts _ (is_built f.body) built).1
+    subst (λ (h : Given). is_built h.body ≡ true) same built
 built_in (Collects c) e built is = absurd (cc)
 built_in (Contributes c) e built is = absurd (cc)
 
@@ -116,7 +114,7 @@ module _ (g : List Class) (attributes : List Attribute) where
         declared = target.declared;
         gives = target.gives;
         type = body.type;
-        typed = subst (λ vs. HasType (record { grammar = g; attribute = declared_at attributes; node = λ k. None; this = Some class; variables = vs }) (equation_of g attributes e).body body.type) (names_same e target.attribute reach has) body.typed;
+        typed = subst (λ vs. HasType (record { grammar = g; attribute = declared_at attributes; node = λ k. None; this = Some class; variables = vs }) (equation_of g attributes e).body body.type) (names_same e target.attribute reach has) (said_typed (circular_at attributes (target_given g attributes e).attribute.0) (circular_at attributes) body.typed);
         fit = ap (λ o. fits g body.type (kind_or_truth o)) (sym target.declared) ∙ fits_wanted;
       }
 

@@ -1,10 +1,11 @@
 -- The types of forms of expressions that break nothing, from those of their parts.
-use Rattle.std.proofs.Common.{◌≡◌, ℤ, [], true, false, Option, Some, None, refl, ap, sym, ◌∙◌, subst}
+use Rattle.std.proofs.Common.{◌≡◌, ℤ, [], true, false, Option, Some, None, is_none, refl, ap, sym, ◌∙◌, subst}
 use Rattle.std.specs.Int.{int_wrap}
 use Rattle.std.specs.Option.{option_map}
 use Rattle.std.proofs.lemmas.Bool.{not-false}
 use Rattle.std.proofs.lemmas.Int.{SFits-int_wrap, int_wrap_fits}
 use mir.Syntax.{w32}
+use Rattle.rag_io.specs.declared.token.Place.{Place}
 use Rattle.broken_rules.specs.Notes.{at, broken_if}
 use Rattle.broken_rules.specs.declared.rule.Rule.TheVariants.{J10}
 use Rattle.broken_rules.proofs.Clean.{append_none, not_broken}
@@ -23,9 +24,11 @@ use Rattle.attr_rules.specs.Expression.{Expression}
 use Rattle.attr_rules.specs.Types.{class_of_number, common, comparable, fits, is_int, is_node, is_truth}
 use Rattle.attr_rules.specs.Typing as typing
 use Rattle.attr_rules.specs.Typing.{HasType, Names, TakesInts}
-use Rattle.attr_types.specs.Bodies.{are_apart, both_misfit, choice_broken, equal_broken, have_no_common, is_no_node, is_no_type, is_unfit, misfit, no_node, place_of, sides_broken}
+use Rattle.attr_types.specs.Bodies.{are_apart, both_misfit, choice_broken, equal_broken, is_no_node, is_unfit, misfit, no_node, sides_broken}
 use Rattle.attr_types.specs.Heads.{class_broken, class_or_first}
-use Rattle.attr_types.specs.Typed.{class_type, common_of, int, joined, result_of, truth}
+use Rattle.attr_types.specs.Places.{place_of}
+use Rattle.attr_types.specs.SetForms.{common_of, have_no_common, int, truth}
+use Rattle.attr_types.specs.Typed.{class_type, joined, result_of}
 use Rattle.attr_types.specs.WrittenTypes.{class_numbered}
 use Rattle.attr_types.proofs.DeclaredClean.{class_there, class_within}
 
@@ -37,6 +40,7 @@ pub record IsTyped (N : Names) (t : Option ValueType) (e : Expression) : Type 0 
 
 truth_is : (t : ValueType) → is_truth t ≡ true → t ≡ types.Of kinds.Truth
 truth_is types.Null e = absurd (cc)
+truth_is types.Empty e = absurd (cc)
 truth_is (types.Of kinds.Truth) e = refl
 truth_is (types.Of kinds.Int) e = absurd (cc)
 truth_is (types.Of kinds.Text) e = absurd (cc)
@@ -46,6 +50,7 @@ truth_is (types.Of (kinds.Nodes c)) e = absurd (cc)
 
 pub int_is : (t : ValueType) → is_int t ≡ true → t ≡ types.Of kinds.Int
 int_is types.Null e = absurd (cc)
+int_is types.Empty e = absurd (cc)
 int_is (types.Of kinds.Truth) e = absurd (cc)
 int_is (types.Of kinds.Int) e = refl
 int_is (types.Of kinds.Text) e = absurd (cc)
@@ -53,7 +58,7 @@ int_is (types.Of (kinds.Node c)) e = absurd (cc)
 int_is (types.Of kinds.Texts) e = absurd (cc)
 int_is (types.Of (kinds.Nodes c)) e = absurd (cc)
 
-known_type : (o : Option ValueType) → is_no_type o ≡ false → (t : ValueType) × (o ≡ Some t)
+pub known_type : (o : Option ValueType) → is_none o ≡ false → (t : ValueType) × (o ≡ Some t)
 known_type None e = absurd (cc)
 known_type (Some t) e = (t, refl)
 
@@ -134,14 +139,14 @@ module _ (N : Names) where
     joined_typed signs.Or none = let both = both_truths none in of_type (types.Of kinds.Truth) (said.Or a b) (typing.or both.0 both.1)
 
     -- a choice
-    pub choice_typed : (r : Option ValueType) (h : Expr) (c : Expression) → IsTyped N r c → choice_broken N.grammar r h t u f ≡ [] → IsTyped N (common_of N.grammar t u) (said.If c a b)
-    choice_typed r h c condition none =
+    pub choice_typed : (r : Option ValueType) (h : Expr) (c : Expression) (at_place : Option Place) → IsTyped N r c → choice_broken N.grammar r h t u f ≡ [] → IsTyped N (common_of N.grammar t u) (said.If c a at_place b)
+    choice_typed r h c at_place condition none =
         let parts = append_none (misfit N.grammar kinds.Truth r h) (broken_if (have_no_common N.grammar t u) (at (place_of f) J10)) none in
         let shared = common N.grammar first.type second.type in
-        let there : is_no_type shared ≡ false = (λ i. have_no_common N.grammar (sym first.is i) (sym second.is i)) ∙ not_broken (have_no_common N.grammar t u) (at (place_of f) J10) parts.1 in
+        let there : is_none shared ≡ false = (λ i. have_no_common N.grammar (sym first.is i) (sym second.is i)) ∙ not_broken (have_no_common N.grammar t u) (at (place_of f) J10) parts.1 in
         let found = known_type shared there in
         record {
           type = found.0;
           is = (λ i. common_of N.grammar (first.is i) (second.is i)) ∙ found.1;
-          typed = typing.choice first.type second.type found.0 (wanted_truth r h c condition parts.0) first.typed second.typed found.1;
+          typed = typing.choice at_place first.type second.type found.0 (wanted_truth r h c condition parts.0) first.typed second.typed found.1;
         }

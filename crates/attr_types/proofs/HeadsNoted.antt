@@ -16,6 +16,7 @@ use Rattle.attr_types.specs.declared.declared.Declared.{Declared}
 use Rattle.attr_types.specs.DeclaredNames.{Adds, IsEven, Tells, relates}
 use Rattle.attr_types.specs.Heads.{again_broken, again_for, are_related, class_broken, count_broken, head_broken, heads_broken, is_declared, named_broken, other_broken, type_broken}
 use Rattle.attr_types.specs.Parameters.{all_parameters_broken}
+use Rattle.attr_types.specs.Starts.{start_broken}
 use Rattle.attr_types.specs.Written.{Head}
 
 module _ (g : List Class) (before : List Head) (s : Head) where
@@ -69,7 +70,7 @@ few_or g s list none many =
     let before = take 1024 all in
     let here = each_after_none (head_broken g) all 1024 s none many in
     let named = again_broken g before last ++ count_broken before last.signature.name in
-    let all_named = append_none (named_broken g before last) (other_broken g before last ++ all_parameters_broken g None last.signature) here in
+    let all_named = append_none (named_broken g before last) (start_broken g last.sort last.of last.circular ++ (other_broken g before last ++ all_parameters_broken g None last.signature)) here in
     let counted = append_none (again_broken g before last) (count_broken before last.signature.name) (append_none (class_broken g last.class) named (append_none (type_broken g last.of) (class_broken g last.class ++ named) all_named.0).1).1 in
     let differs : (length before == 1024) ≡ false = not_broken (length before == 1024) (at last.signature.name.place J17) counted.1 in
     let same : length before ≡ 1024 = length-take-le 1024 all (omega arith) in

@@ -4,6 +4,7 @@ pub mod AlikeClean
 pub mod ArgumentSteps
 pub mod ArgumentsGathered
 pub mod AskedTyped
+pub mod BothTyped
 pub mod Checked
 pub mod CompleteClean
 pub mod Completing
@@ -20,13 +21,16 @@ pub mod InheritedNoted
 pub mod ItemsFound
 pub mod KindsKnown
 pub mod ListsTyped
+pub mod MadeWell
 pub mod Marks
 pub mod MembersTyped
 pub mod ParametersClean
 pub mod ParametersNoted
 pub mod PartWay
+pub mod RangesTyped
 pub mod Rounds
 pub mod Seen
+pub mod SetFormsTyped
 pub mod Sizes
 pub mod TargetsClean
 pub mod TargetsNoted

@@ -51,6 +51,7 @@ names_in s = names_at s (λ k. None) (Some s.this)
 
 pub class_is : (t : ValueType) (c : ClassId) → class_in t ≡ Some c → t ≡ of_class c
 class_is types.Null c e = absurd (cc)
+class_is types.Empty c e = absurd (cc)
 class_is (types.Of kinds.Truth) c e = absurd (cc)
 class_is (types.Of kinds.Int) c e = absurd (cc)
 class_is (types.Of kinds.Text) c e = absurd (cc)
@@ -111,21 +112,21 @@ module _ (s : Scope) (is_scope : IsScope s) where
         let i = first_in es in
         of_type (names_at s node this) (of_class class) (said.Element k r i) (of_its_class k class (said.Element k r i) x (typing.element c k x.component receiver x.found x.shaped (int_first (argument.passed (eqb-true 1 n count)))))
 
-    called_typed : (a : AttrId) → HasAttribute s.grammar s.known.attributes c.0 a.0 → Fit (names_at s node this) es (arguments_wanted s (members.Calls a)) → IsTyped (names_at s node this) (type_called s (members.Calls a)) (said.Call a.0 r es)
-    called_typed a has fit = record {
+    called_typed : (a : AttrId) (p : Place) → HasAttribute s.grammar s.known.attributes c.0 a.0 → Fit (names_at s node this) es (arguments_wanted s (members.Calls a)) → IsTyped (names_at s node this) (type_called s (members.Calls a)) (said.Call a.0 p r es)
+    called_typed a p has fit = record {
       type = types.Of has.attribute.kind;
       is = ap (option_map kind_declared) has.declared;
-      typed = typing.call c a.0 has.attribute receiver has.declared has.has (subst (λ o. Fit (names_at s node this) es (kinds_declared o)) has.declared fit);
+      typed = typing.call c a.0 p has.attribute receiver has.declared has.has (subst (λ o. Fit (names_at s node this) es (kinds_declared o)) has.declared fit);
     }
 
     -- what a member says is typed
-    pub member_says : (m : Member) (n : ℕ) → IsMember s c m → is_list m ≡ false → (length (arguments_wanted s m) == n) ≡ true → IsPassed (names_at s node this) (arguments_wanted s m) n es
-        → IsTyped (names_at s node this) (type_called s m) (call_said (Some m) r es)
-    member_says (members.Reads x) n is list count argument = read_typed x.component x.class x.access n is list count argument
-    member_says (members.Calls a) n is list count argument = called_typed a is (argument.passed (eqb-true (length (arguments_wanted s (members.Calls a))) n count))
+    pub member_says : (m : Member) (p : Place) (n : ℕ) → IsMember s c m → is_list m ≡ false → (length (arguments_wanted s m) == n) ≡ true → IsPassed (names_at s node this) (arguments_wanted s m) n es
+        → IsTyped (names_at s node this) (type_called s m) (call_said (Some m) p r es)
+    member_says (members.Reads x) p n is list count argument = read_typed x.component x.class x.access n is list count argument
+    member_says (members.Calls a) p n is list count argument = called_typed a p is (argument.passed (eqb-true (length (arguments_wanted s (members.Calls a))) n count))
 
     member_typed : (o : Option Member) (name : Name) (n : ℕ) (first : Place) → member_of s name.text n c ≡ o → member_broken s false o name n first ≡ [] → IsPassed (names_at s node this) (wanted_for s o n) n es
-        → IsTyped (names_at s node this) (option_and_then (type_called s) o) (call_said o r es)
+        → IsTyped (names_at s node this) (option_and_then (type_called s) o) (call_said o name.place r es)
     member_typed None name n first is none argument = absurd (cc)
     member_typed (Some m) name n first is none argument =
         let takes = length (arguments_wanted s m) == n in
@@ -133,19 +134,19 @@ module _ (s : Scope) (is_scope : IsScope s) where
         let count : takes ≡ true = not-false takes (not_broken (not takes) (at name.place J11) parts.0) in
         let list : is_list m ≡ false = not_broken (is_list m) (at first J10) parts.1 in
         let wanted : wanted_for s (Some m) n ≡ arguments_wanted s m = ap (λ b. if b then arguments_wanted s m else []) count in
-        member_says m n (member_found c name.text n m is) list count (subst (λ ks. IsPassed (names_at s node this) ks n es) wanted argument)
+        member_says m name.place n (member_found c name.text n m is) list count (subst (λ ks. IsPassed (names_at s node this) ks n es) wanted argument)
 
   module _ (node : ℕ → Option ClassId) (this : Option ClassId) (r : Expression) (es : Arguments) (name : Name) (n : ℕ) (first : Place) where
     class_typed : (t : ValueType) (o : Option ClassId) → class_in t ≡ o → HasType (names_at s node this) r t → on_class_broken s false name n first o ≡ []
         → IsPassed (names_at s node this) (wanted_for s (option_and_then (member_of s name.text n) o) n) n es
-        → IsTyped (names_at s node this) (option_and_then (type_called s) (option_and_then (member_of s name.text n) o)) (call_said (option_and_then (member_of s name.text n) o) r es)
+        → IsTyped (names_at s node this) (option_and_then (type_called s) (option_and_then (member_of s name.text n) o)) (call_said (option_and_then (member_of s name.text n) o) name.place r es)
     class_typed t None is receiver none argument = absurd (cc)
     class_typed t (Some c) is receiver none argument = member_typed node this c r es (subst (HasType (names_at s node this) r) (class_is t c is) receiver) (member_of s name.text n c) name n first refl none argument
 
     -- what a call says behind a receiver, is typed
     pub call_typed : (t : Option ValueType) → IsTyped (names_at s node this) t r → call_broken s false name n first t ≡ [] → IsPassed (names_at s node this) (wanted_for s (member_on s t name.text n) n) n es
-        → IsTyped (names_at s node this) (option_and_then (type_called s) (member_on s t name.text n)) (call_said (member_on s t name.text n) r es)
+        → IsTyped (names_at s node this) (option_and_then (type_called s) (member_on s t name.text n)) (call_said (member_on s t name.text n) name.place r es)
     call_typed t receiver none argument =
         subst (λ u. call_broken s false name n first u ≡ [] → IsPassed (names_at s node this) (wanted_for s (member_on s u name.text n) n) n es
-        → IsTyped (names_at s node this) (option_and_then (type_called s) (member_on s u name.text n)) (call_said (member_on s u name.text n) r es))
+        → IsTyped (names_at s node this) (option_and_then (type_called s) (member_on s u name.text n)) (call_said (member_on s u name.text n) name.place r es))
         (sym receiver.is) (class_typed receiver.type (class_in receiver.type) refl receiver.typed) none argument

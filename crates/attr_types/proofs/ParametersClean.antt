@@ -10,7 +10,6 @@ use Rattle.names.specs.Among.{is_among}
 use Rattle.jrag_reader.specs.Items.{Parameter}
 use Rattle.attr_rules.specs.declared.kinds.Kind.{Kind}
 use Rattle.attr_rules.specs.declared.kinds.Kind.TheVariants as kinds
-use Rattle.attr_rules.specs.declared.types.ValueType.TheVariants as types
 use Rattle.attr_rules.specs.Rules.{most_parameters}
 use Rattle.attr_rules.specs.Types.{parameter_kinds}
 use Rattle.attr_types.specs.Parameters.{differ, is_no_parameter, is_other_type, parameter_broken, parameter_kind, parameter_names, parameter_type, parameter_types, parameters_broken, params_of}

@@ -1,5 +1,5 @@
 -- What is noted of the parameters of heads, and what is kept of their names.
-use Rattle.std.proofs.Common.{◌≡◌, ◌==◌, ◌||◌, Bool, not, ℕ, List, [], ◌∷◌, ◌++◌, Option, append_assoc, length, map, refl, ap, sym, subst, ◌∙◌, bytes_eq}
+use Rattle.std.proofs.Common.{◌≡◌, ◌==◌, ◌||◌, Bool, not, ℕ, List, [], ◌∷◌, ◌++◌, Option, append_assoc, length, ap, sym, subst, ◌∙◌, bytes_eq}
 use Rattle.std.proofs.lemmas.List.{map-append}
 use Rattle.std.proofs.lemmas.List.Folds.{list_any-append}
 use Rattle.broken_rules.specs.declared.broken.Broken.{Broken}

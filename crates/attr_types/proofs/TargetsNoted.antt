@@ -6,7 +6,7 @@ use Rattle.std.proofs.lemmas.List.Folds.{list_any-append}
 use Rattle.ast_grammar.specs.Grammar.{Class, superclasses_of}
 use Rattle.ast_grammar.proofs.Inherited.{length-superclasses_of}
 use Rattle.broken_rules.specs.declared.broken.Broken.{Broken}
-use Rattle.broken_rules.specs.declared.rule.Rule.TheVariants.{J5, J6, J15}
+use Rattle.broken_rules.specs.declared.rule.Rule.TheVariants.{J5, J6}
 use Rattle.broken_rules.specs.Notes.{Notes, at, broken_if}
 use Rattle.broken_rules.proofs.Noting.{notes_then}
 use Rattle.jrag_reader.specs.Expressions.{Name}

@@ -1,32 +1,34 @@
 -- What forms break, from what was noted for their parts.
-use Rattle.std.proofs.Common.{◌≡◌, ℕ, Bool, true, is_some, subst, append_assoc, None, Some, ◌⊎◌, inl, inr, List, [], ◌∷◌, ◌++◌, Option, Box, Vec, Global, suc, length, map, refl, ap, sym, ◌∙◌}
+use Rattle.std.proofs.Common.{◌≡◌, ℕ, ◌<◌, arith, Bool, subst, List, [], ◌∷◌, ◌++◌, Option, Box, Vec, Global, suc, length, map, refl, ap, sym, ◌∙◌}
 use Rattle.std.specs.Option.{option_and_then, option_map}
 use Rattle.std.proofs.lemmas.List.{length-map}
 use Rattle.rag_io.specs.declared.token.Place.{Place}
 use Rattle.broken_rules.specs.declared.broken.Broken.{Broken}
-use Rattle.broken_rules.specs.declared.rule.Rule.TheVariants.{J10}
-use Rattle.broken_rules.specs.Notes.{Notes, at, broken_if}
-use Rattle.broken_rules.proofs.Noting.{notes_then}
+use Rattle.broken_rules.specs.Notes.{Notes}
+use Rattle.broken_rules.proofs.Noting.{notes_none, notes_then}
 use Rattle.attr_types.specs.declared.bodies.TypedPart.{TypedPart}
 use Rattle.attr_rules.specs.declared.accessors.Accessor.{Accessor}
 use Rattle.attr_rules.specs.declared.kinds.Kind.{Kind}
-use Rattle.attr_rules.specs.declared.kinds.Kind.TheVariants as kinds
+use Rattle.attr_types.specs.declared.ranges.Elements.{Elements}
 use Rattle.attr_types.specs.declared.scope.Member as member
 use Rattle.attr_types.specs.declared.typed.Typed as kept_typed
 use Rattle.attr_rules.specs.declared.types.ValueType.{ValueType}
 use Rattle.attr_types.specs.declared.standing.Stands.{Stands}
-use Rattle.attr_types.specs.declared.standing.Stands.TheVariants.{Anywhere, Range}
-use Rattle.attr_types.specs.Bodies.{arguments_broken, call_broken, calls_break, choice_broken, expr_broken, is_range, list_call_broken, no_list, node_broken, operand_broken, place_of, quantified_broken, range_broken, sides_broken}
+use Rattle.attr_types.specs.declared.standing.Stands.TheVariants.{Anywhere}
+use Rattle.attr_types.specs.declared.set_forms.SetForm.{SetForm}
+use Rattle.attr_types.specs.declared.sides.Part.{Part}
+use Rattle.attr_types.specs.Bodies.{arguments_broken, body_broken, call_broken, calls_break, choice_broken, expr_broken, form_broken, inner_broken, is_range, node_broken, quantified_broken, range_broken, sides_broken}
 use Rattle.attr_types.specs.Heads.{class_broken, class_or_first}
 use Rattle.ast_grammar.specs.Grammar.{class_named}
-use Rattle.attr_rules.specs.Types.{of_class}
 use Rattle.attr_rules.specs.Expression as said
 use Rattle.attr_rules.specs.Expression.{arguments_of as said_arguments, expression_of}
 use Rattle.attr_rules.specs.declared.expression.TArgs.{TArgs}
 use Rattle.attr_rules.specs.declared.expression.TExpr.{TExpr}
 use Rattle.attr_types.specs.Scope.{Scope, Variable, list_called, member_on, type_called, wanted_for}
-use Rattle.attr_types.specs.Seen.{call_says, said_by, seen_typed}
-use Rattle.attr_types.specs.Typed.{arguments_said, body_of, call_said, class_type, count, element_named, element_type, inside, known, list_of, owner_of, truth}
+use Rattle.attr_types.specs.Places.{place_of}
+use Rattle.attr_types.specs.Seen.{call_says, form_says, quantified_says, said_as, said_by, seen_typed}
+use Rattle.attr_types.specs.SetForms.{count_broken, one_broken, pair_broken, settled, truth}
+use Rattle.attr_types.specs.Typed.{arguments_said, body_of, call_said, class_type, count, element_named, element_type, inside, known, over_said, quantified_type, range_of}
 use Rattle.jrag_reader.specs.declared.expression.Expr as memory
 use Rattle.jrag_reader.specs.declared.expression.Expr.TheFolds.{fold-roll-Expr}
 use Rattle.jrag_reader.specs.declared.expression.Expr.TheOpen.{Expr-F}
@@ -35,7 +37,7 @@ use Rattle.jrag_reader.specs.declared.expression.Expr.TheVariants.{rolls-Binary,
 use Rattle.jrag_reader.specs.declared.expression.Name as kept_name
 use Rattle.jrag_reader.specs.declared.expression.Operator.{Operator}
 use Rattle.jrag_reader.specs.declared.expression.Quantifier.{Quantifier}
-use Rattle.jrag_reader.specs.Expressions.{Binary, Call, Cast, Expr, If, InstanceOf, Member, Name, Quantified, arguments_of, seen_expr, seen_level, seen_name}
+use Rattle.jrag_reader.specs.Expressions.{Binary, Call, Cast, Expr, If, InstanceOf, Member, Name, Quantified, argument, arguments_of, no_more, seen_expr, seen_level, seen_name}
 
 -- the forms of several parts as they are seen
 seen-Member : (e : Box memory.Expr Global) (n : kept_name.Name) (es : Vec memory.Expr Global) → seen_expr (kept.Member e n es) ≡ Member (seen_expr e.value) (seen_name n) (arguments_of (map seen_expr es.items))
@@ -82,25 +84,14 @@ module _ (s : Scope) where
       let named = is ∙ ap (λ x. member_on s t x k) i in
       rw many (notes_then (h named) (rw (for, named) at g))
 
-  -- a call that gives a list, or a type
-  pub list_noted : {range : Bool} (t : Option ValueType) (n : Name) (first : Place) (es : List memory.Expr) {k : ℕ} {m : Option member.Member} {u : Option ValueType} {a b c : Option Broken}
-      → range ≡ true → k ≡ length es → m ≡ member_on s t n.text k → u ≡ option_and_then (type_called s) m
-      → Notes (calls_break s range t n first (arguments_of (map seen_expr es))) a b → Notes (broken_if (is_some u) (at first J10)) b c
-      → Notes (list_call_broken s t n first (arguments_of (map seen_expr es))) a c
-  list_noted t n first es {k} {m} {u} {a} {b} {c} ranged e is of h g =
-      let told : u ≡ option_and_then (type_called s) (member_on s t n.text (count (arguments_of (map seen_expr es)))) =
-      of ∙ ap (option_and_then (type_called s)) (is ∙ ap (member_on s t n.text) (sym (count_seen es e)))
-      in
-      notes_then (subst (λ r. Notes (calls_break s r t n first (arguments_of (map seen_expr es))) a b) ranged h) (subst (λ v. Notes (broken_if (is_some v) (at first J10)) b c) told g)
-
   -- and what it says
-  pub call_tells : (r : kept_typed.Typed) (n : Name) (es : List memory.Expr) (b : TExpr) (i : TArgs) {k : ℕ} {text : List ℕ} {m : Option member.Member} {t : Option ValueType}
+  pub call_tells : (r : kept_typed.Typed) (n : Name) (es : List memory.Expr) (b : TExpr) (i : TArgs) {k : ℕ} {text : List ℕ} {m : Option member.Member} {t : Option ValueType} {o : Option Accessor}
       → k ≡ length es → text ≡ n.text → m ≡ member_on s r.value_type text k → said_arguments i ≡ arguments_said s (arguments_of (map seen_expr es))
-      → t ≡ option_and_then (type_called s) m → expression_of b ≡ call_said m (expression_of r.body) (said_arguments i)
-      → seen_typed (record { value_type = t; body = b }) ≡ call_says s (seen_typed r) n (arguments_of (map seen_expr es))
-  call_tells r n es b i e named is first of told =
+      → t ≡ option_and_then (type_called s) m → o ≡ option_and_then (list_called k) m → expression_of b ≡ call_said m n.place (expression_of r.body) (said_arguments i)
+      → seen_typed (record { value_type = t; list = o; body = b }) ≡ call_says s (seen_typed r) n (arguments_of (map seen_expr es))
+  call_tells r n es b i e named is first of listed told =
       let many = count_seen es e in
-      rw many (rw (← named, ← is, ← first) (rw (of, told) refl))
+      rw many (rw (← named, ← is, ← first) (rw (of, listed, told) refl))
 
   -- a part was looked at
   abbrev pub IsTyped : memory.Expr → TypedPart → Option Broken → Option Broken → Type 0
@@ -119,7 +110,7 @@ module _ (s : Scope) where
   cast_noted at_place x is i h = rw is (rw seen-Cast (rw (← i) h))
 
   pub cast_says : {e : memory.Expr} {q : Place} {n : kept_name.Name} {r : Box memory.Expr Global} (x : memory.Expr) (t : kept_typed.Typed)
-      → e ≡ kept.Cast q n r → x ≡ r.value → seen_typed t ≡ record { type = class_type s.grammar (seen_name n).text; body = said.Cast (class_or_first (class_named s.grammar (seen_name n).text)) (body_of s (seen_expr x)) } → seen_typed t ≡ said_by s (seen_expr e)
+      → e ≡ kept.Cast q n r → x ≡ r.value → seen_typed t ≡ said_as (class_type s.grammar (seen_name n).text) (said.Cast (class_or_first (class_named s.grammar (seen_name n).text)) (body_of s (seen_expr x))) → seen_typed t ≡ said_by s (seen_expr e)
   cast_says x t is i h = rw is (rw seen-Cast (rw (← i) h))
 
   pub test_noted : (at_place : Stands) {e : memory.Expr} {n : kept_name.Name} {r : Box memory.Expr Global} (x : memory.Expr) {a b : Option Broken}
@@ -127,57 +118,81 @@ module _ (s : Scope) where
   test_noted at_place x is i h = rw is (rw seen-InstanceOf (rw (← i) h))
 
   pub test_says : {e : memory.Expr} {n : kept_name.Name} {r : Box memory.Expr Global} (x : memory.Expr) (t : kept_typed.Typed)
-      → e ≡ kept.InstanceOf r n → x ≡ r.value → seen_typed t ≡ record { type = truth; body = said.InstanceOf (class_or_first (class_named s.grammar (seen_name n).text)) (body_of s (seen_expr x)) } → seen_typed t ≡ said_by s (seen_expr e)
+      → e ≡ kept.InstanceOf r n → x ≡ r.value → seen_typed t ≡ said_as truth (said.InstanceOf (class_or_first (class_named s.grammar (seen_name n).text)) (body_of s (seen_expr x))) → seen_typed t ≡ said_by s (seen_expr e)
   test_says x t is i h = rw is (rw seen-InstanceOf (rw (← i) h))
 
-  -- the scope of the condition
-  pub scope_inside : (n : Name) (range : Expr) {o : Option Accessor} {text : List ℕ} {t : Option ValueType} {vs ws : List Variable}
-      → text ≡ n.text → t ≡ option_map element_type o → o ≡ list_of s range → vs ≡ record { name = text; type = t } ∷ s.variables → ws ≡ vs
-      → (record { grammar = s.grammar; known = s.known; this = s.this; variables = ws }) ≡ inside s n range
-  scope_inside n range {o} {text} {t} named typed list is same =
-      let first : (record { name = text; type = t }) ≡ element_named n (list_of s range) =
-      (λ i. record { name = named i; type = typed i }) ∙ ap (element_named n) list
+  -- the scope of the body
+  pub scope_inside : (q : Quantifier) (n : Name) (range : Expr) {o : Option Elements} {text : List ℕ} {t : Option ValueType} {vs ws : List Variable}
+      → text ≡ n.text → t ≡ option_map element_type o → o ≡ range_of s q range → vs ≡ record { name = text; type = t } ∷ s.variables → ws ≡ vs
+      → (record { grammar = s.grammar; known = s.known; this = s.this; variables = ws }) ≡ inside s q n range
+  scope_inside q n range {o} {text} {t} named typed elements is same =
+      let first : (record { name = text; type = t }) ≡ element_named n (range_of s q range) =
+      (λ i. record { name = named i; type = typed i }) ∙ ap (element_named n) elements
       in
       let there = same ∙ is ∙ ap (λ (v : Variable). v ∷ s.variables) first in
       ap (λ (vs : List Variable). record { grammar = s.grammar; known = s.known; this = s.this; variables = vs }) there
 
-  -- a form over a list, whose condition stands in a scope with one name more
-  pub over_noted : (n : Name) (range e : Expr) (inner : Scope) {a b c : Option Broken}
-      → inner ≡ inside s n range → Notes (range_broken s range) a b → Notes (operand_broken inner Anywhere kinds.Truth e) b c → Notes (quantified_broken s n range e) a c
-  over_noted n range e inner {a} {b} {c} is h g = notes_then h (subst (λ t. Notes (operand_broken t Anywhere kinds.Truth e) b c) is g)
+  -- a form over some elements, whose body stands in a scope with one name more
+  pub over_noted : (q : Quantifier) (n : Name) (range e : Expr) (inner : Scope) {a b c : Option Broken}
+      → inner ≡ inside s q n range → Notes (range_broken s q range) a b → Notes (body_broken inner q e) b c → Notes (quantified_broken s q n range e) a c
+  over_noted q n range e inner {a} {b} {c} is h g = notes_then h (subst (λ t. Notes (body_broken t q e) b c) is g)
 
   pub quantified_noted : (at_place : Stands) {e : memory.Expr} {q : Quantifier} {p : Place} {n : kept_name.Name} {r c : Box memory.Expr Global} (x y : memory.Expr) {a b : Option Broken}
-      → e ≡ kept.Quantified q p n r c → x ≡ r.value → y ≡ c.value → Notes (quantified_broken s (seen_name n) (seen_expr x) (seen_expr y)) a b → Notes (expr_broken s at_place (seen_expr e)) a b
-  quantified_noted at_place {e} {q} {p} {n} x y {a} {b} is i j h =
-      let fit = operand_broken (inside s (seen_name n) (seen_expr x)) Anywhere kinds.Truth (seen_expr y) in
-      let same = append_assoc (expr_broken s Range (seen_expr x)) (no_list (known s (seen_expr x)) (seen_expr x)) fit in
-      rw is (rw seen-Quantified (rw (← i, ← j) (subst (λ bs. Notes bs a b) same h)))
+      → e ≡ kept.Quantified q p n r c → x ≡ r.value → y ≡ c.value → Notes (quantified_broken s q (seen_name n) (seen_expr x) (seen_expr y)) a b → Notes (expr_broken s at_place (seen_expr e)) a b
+  quantified_noted at_place x y is i j h = rw is (rw seen-Quantified (rw (← i, ← j) h))
 
-  -- the list that a call gives
-  list_by : (t : Option ValueType) (n : Name) (es : List memory.Expr) {k : ℕ} {o : Option Accessor} → k ≡ length es → o ≡ option_and_then (list_called k) (member_on s t n.text k)
-      → o ≡ option_and_then (list_called (count (arguments_of (map seen_expr es)))) (member_on s t n.text (count (arguments_of (map seen_expr es))))
-  list_by t n es e is = is ∙ ap (λ k. option_and_then (list_called k) (member_on s t n.text k)) (sym (count_seen es e))
+  -- a form of sets with one argument
+  pub form_noted : (f : SetForm) (n : Name) (x : memory.Expr) (p : TypedPart) (part : Part) {a b c : Option Broken}
+      → IsTyped x p a b → part ≡ record { written = p.written; value_type = p.typed.value_type } → Notes (one_broken f n part.value_type (seen_expr part.written.now)) b c
+      → Notes (inner_broken s f n (argument (seen_expr x) no_more)) a c
+  form_noted f n x p part {a} {b} {c} g is h =
+      let here = subst (λ (r : Part). Notes (one_broken f n r.value_type (seen_expr r.written.now)) b c) is h in
+      notes_then (notes_then g.noted notes_none) (rw (known_type (seen_expr x) p.typed g.says, g.written) at here)
 
-  pub list_alone : (n : Name) (es : List memory.Expr) (t : Option ValueType) {k : ℕ} (o : Option Accessor) → k ≡ length es → t ≡ Some (of_class s.this) → o ≡ option_and_then (list_called k) (member_on s t n.text k)
-      → o ≡ list_of s (Call n (arguments_of (map seen_expr es)))
-  list_alone n es t {k} o many this told = list_by (Some (of_class s.this)) n es many (told ∙ ap (λ u. option_and_then (list_called k) (member_on s u n.text k)) this)
+  -- with two
+  pub pair_noted : (f : SetForm) (n : Name) (x y : memory.Expr) (p q : TypedPart) (first second : Part) {a b c d : Option Broken}
+      → IsTyped x p a b → IsTyped y q b c → first ≡ record { written = p.written; value_type = p.typed.value_type } → second ≡ record { written = q.written; value_type = q.typed.value_type }
+      → Notes (pair_broken s.grammar f n first.value_type (seen_expr first.written.now) second.value_type (seen_expr second.written.now)) c d
+      → Notes (inner_broken s f n (argument (seen_expr x) (argument (seen_expr y) no_more))) a d
+  pair_noted f n x y p q first second {a} {b} {c} {d} g k is also h =
+      let here = subst (λ (r : Part). Notes (pair_broken s.grammar f n r.value_type (seen_expr r.written.now) second.value_type (seen_expr second.written.now)) c d) is h in
+      let there = subst (λ (r : Part). Notes (pair_broken s.grammar f n p.typed.value_type (seen_expr p.written.now) r.value_type (seen_expr r.written.now)) c d) also here in
+      notes_then (notes_then g.noted (notes_then k.noted notes_none)) (rw (known_type (seen_expr x) p.typed g.says, known_type (seen_expr y) q.typed k.says, g.written, k.written) at there)
 
-  pub list_behind : {e : memory.Expr} {r : Box memory.Expr Global} {n : kept_name.Name} (es : Vec memory.Expr Global) (x : memory.Expr) (xs : List memory.Expr) (t : kept_typed.Typed) {k : ℕ} (o : Option Accessor)
-      → e ≡ kept.Member r n es → x ≡ r.value → xs ≡ es.items → k ≡ length xs → seen_typed t ≡ said_by s (seen_expr x) → o ≡ option_and_then (list_called k) (member_on s t.value_type (seen_name n).text k) → o ≡ list_of s (seen_expr e)
-  list_behind {e} {r} {n} es x xs t {k} o is i j many says told =
-      let named = told ∙ ap (λ u. option_and_then (list_called k) (member_on s u (seen_name n).text k)) (known_type (seen_expr x) t says) in
-      rw is (rw seen-Member (rw (← i, ← j) (list_by (known s (seen_expr x)) (seen_name n) xs many named)))
+  -- with more
+  more_broken : (f : SetForm) (n : Name) (es : List Expr) → 2 < length es → form_broken s f n (arguments_of es) ≡ count_broken n
+  more_broken f n [] more = absurd (omega (arith, more))
+  more_broken f n (a ∷ []) more = absurd (omega (arith, more))
+  more_broken f n (a ∷ b ∷ []) more = absurd (omega (arith, more))
+  more_broken f n (a ∷ b ∷ d ∷ es) more = refl
 
-  pub range_noted : {e : memory.Expr} {r : Box memory.Expr Global} {n : kept_name.Name} (es : Vec memory.Expr Global) (x y : memory.Expr) (xs : List memory.Expr) (t : kept_typed.Typed) {a b c : Option Broken}
-      → e ≡ kept.Member r n es → x ≡ r.value → y ≡ r.value → xs ≡ es.items → Notes (expr_broken s Anywhere (seen_expr x)) a b → seen_typed t ≡ said_by s (seen_expr x)
-      → Notes (list_call_broken s t.value_type (seen_name n) (place_of (seen_expr y)) (arguments_of (map seen_expr xs))) b c → Notes (range_broken s (seen_expr e)) a c
-  range_noted {e} {r} {n} es x y xs t {a} {b} {c} is i again j h says g =
-      let args = arguments_of (map seen_expr xs) in
-      let call = calls_break s true (known s (seen_expr x)) (seen_name n) (place_of (seen_expr x)) args in
-      let list = broken_if (is_some (option_and_then (type_called s) (member_on s (known s (seen_expr x)) (seen_name n).text (count args)))) (at (place_of (seen_expr x)) J10) in
-      let here = subst (λ z. Notes (list_call_broken s t.value_type (seen_name n) (place_of (seen_expr z)) args) b c) (again ∙ sym i) g in
-      let rest = subst (λ u. Notes (list_call_broken s u (seen_name n) (place_of (seen_expr x)) args) b c) (known_type (seen_expr x) t says) here in
-      rw is (rw seen-Member (rw (← i, ← j) (subst (λ bs. Notes bs a c) (sym (append_assoc (expr_broken s Anywhere (seen_expr x)) call list)) (notes_then h rest))))
+  more_said : (f : SetForm) (es : List Expr) → 2 < length es → said_as (settled f) said.Null ≡ form_says s f (arguments_of es)
+  more_said f [] more = absurd (omega (arith, more))
+  more_said f (a ∷ []) more = absurd (omega (arith, more))
+  more_said f (a ∷ b ∷ []) more = absurd (omega (arith, more))
+  more_said f (a ∷ b ∷ d ∷ es) more = refl
+
+  seen_more : (es : List memory.Expr) → 2 < length es → 2 < length (map seen_expr es)
+  seen_more es more = omega (arith, more, length-map es seen_expr)
+
+  pub more_noted : (f : SetForm) (n : Name) (es : List memory.Expr) {wanted : List Kind} {a b c : Option Broken} → 2 < length es → wanted ≡ []
+      → Notes (arguments_broken s wanted (arguments_of (map seen_expr es))) a b → Notes (count_broken n) b c → Notes (inner_broken s f n (arguments_of (map seen_expr es))) a c
+  more_noted f n es {wanted} {a} {b} {c} more is h g =
+      notes_then (subst (λ ks. Notes (arguments_broken s ks (arguments_of (map seen_expr es))) a b) is h) (subst (λ bs. Notes bs b c) (sym (more_broken f n (map seen_expr es) (seen_more es more))) g)
+
+  pub more_says : (f : SetForm) (es : List memory.Expr) (t : kept_typed.Typed) → 2 < length es → seen_typed t ≡ said_as (settled f) said.Null → seen_typed t ≡ form_says s f (arguments_of (map seen_expr es))
+  more_says f es t more says = says ∙ more_said f (map seen_expr es) (seen_more es more)
+
+  -- what a form over some elements says
+  pub quantified_tells : (q : Quantifier) (n : Name) (range e : Expr) (inner : Scope) (o : Option Elements) (r body : TExpr) (each : kept_typed.Typed) {t : Option ValueType} (d : kept_typed.Typed)
+      → inner ≡ inside s q n range → o ≡ range_of s q range → expression_of r ≡ body_of s range → seen_typed each ≡ said_by inner e
+      → expression_of body ≡ over_said q each.value_type o (expression_of r) (expression_of each.body) → t ≡ quantified_type q o each.value_type
+      → seen_typed d ≡ said_as t (expression_of body) → seen_typed d ≡ quantified_says s q n range e
+  quantified_tells q n range e inner o r body each d is elements range_says each_says told typed says =
+      let there : seen_typed each ≡ said_by (inside s q n range) e = each_says ∙ ap (λ v. said_by v e) is in
+      let type = ap (λ x. x.type) there in
+      let said = ap (λ x. x.body) there in
+      says ∙ (λ i. said_as (typed i) (told i)) ∙ (λ i. said_as (quantified_type q (elements i) (type i)) (over_said q (type i) (elements i) (range_says i) (said i)))
 
   pub binary_noted : (at_place : Stands) {e : memory.Expr} {o : Operator} {l r : Box memory.Expr Global} (x y : memory.Expr) (p q : TypedPart) {a b c d : Option Broken}
       → e ≡ kept.Binary o l r → x ≡ l.value → y ≡ r.value → IsTyped x p a b → IsTyped y q b c
@@ -197,56 +212,3 @@ module _ (s : Scope) where
       (notes_then d.noted
       (notes_then f.noted
       (notes_then g.noted (rw (known_type (seen_expr w) o.typed d.says, known_type (seen_expr x) p.typed f.says, known_type (seen_expr y) q.typed g.says, d.written, g.written) at h))))))
-
-module _ (s : Scope) where
-  abbrev IsNoList : Expr → Type 0
-  IsNoList e = (list_of s e ≡ None) × (owner_of s e ≡ said.This)
-
-  none_at : {e f : Expr} → e ≡ f → IsNoList f → IsNoList e
-  none_at same none = subst IsNoList (sym same) none
-
-  -- an expression that is no call
-  abbrev pub IsOther : memory.Expr → Type 0
-  IsOther e =
-      ((p : Place) × (b : Bool) × (e ≡ kept.Truth p b))
-      ⊎ (((p : Place) × (e ≡ kept.Null p))
-      ⊎ (((p : Place) × (e ≡ kept.Empty p))
-      ⊎ (((p : Place) × (e ≡ kept.This p))
-      ⊎ (((p : Place) × (n : ℕ) × (e ≡ kept.Int p n))
-      ⊎ (((p : Place) × (n : ℕ) × (e ≡ kept.Text p n))
-      ⊎ (((p : Place) × (n : ℕ) × (e ≡ kept.Source p n))
-      ⊎ (((n : kept_name.Name) × (e ≡ kept.Variable n))
-      ⊎ (((p : Place) × (n : kept_name.Name) × (es : Vec memory.Expr Global) × (e ≡ kept.New p n es))
-      ⊎ (((q : Quantifier) × (p : Place) × (n : kept_name.Name) × (r : Box memory.Expr Global) × (c : Box memory.Expr Global) × (e ≡ kept.Quantified q p n r c))
-      ⊎ (((p : Place) × (a : Box memory.Expr Global) × (e ≡ kept.Group p a))
-      ⊎ (((p : Place) × (n : kept_name.Name) × (a : Box memory.Expr Global) × (e ≡ kept.Cast p n a))
-      ⊎ (((p : Place) × (a : Box memory.Expr Global) × (e ≡ kept.Not p a))
-      ⊎ (((p : Place) × (a : Box memory.Expr Global) × (e ≡ kept.Negate p a))
-      ⊎ (((o : Operator) × (l : Box memory.Expr Global) × (r : Box memory.Expr Global) × (e ≡ kept.Binary o l r))
-      ⊎ (((a : Box memory.Expr Global) × (n : kept_name.Name) × (e ≡ kept.InstanceOf a n))
-      ⊎ (((c : Box memory.Expr Global) × (l : Box memory.Expr Global) × (r : Box memory.Expr Global) × (e ≡ kept.If c l r))))))))))))))))))
-
-  -- gives no list
-  pub no_call : (e : memory.Expr) → IsOther e → IsNoList (seen_expr e)
-  no_call e (inl (p, b, is)) = none_at (ap seen_expr (is ∙ sym (kept.rolls-Truth p b)) ∙ fold-roll-Expr Expr seen_level (Expr-F.Truth p b)) (refl, refl)
-  no_call e (inr (inl (p, is))) = none_at (ap seen_expr (is ∙ sym (kept.rolls-Null p)) ∙ fold-roll-Expr Expr seen_level (Expr-F.Null p)) (refl, refl)
-  no_call e (inr (inr (inl (p, is)))) = none_at (ap seen_expr (is ∙ sym (kept.rolls-Empty p)) ∙ fold-roll-Expr Expr seen_level (Expr-F.Empty p)) (refl, refl)
-  no_call e (inr (inr (inr (inl (p, is))))) = none_at (ap seen_expr (is ∙ sym (kept.rolls-This p)) ∙ fold-roll-Expr Expr seen_level (Expr-F.This p)) (refl, refl)
-  no_call e (inr (inr (inr (inr (inl (p, n, is)))))) = none_at (ap seen_expr (is ∙ sym (kept.rolls-Int p n)) ∙ fold-roll-Expr Expr seen_level (Expr-F.Int p n)) (refl, refl)
-  no_call e (inr (inr (inr (inr (inr (inl (p, n, is))))))) = none_at (ap seen_expr (is ∙ sym (kept.rolls-Text p n)) ∙ fold-roll-Expr Expr seen_level (Expr-F.Text p n)) (refl, refl)
-  no_call e (inr (inr (inr (inr (inr (inr (inl (p, n, is)))))))) = none_at (ap seen_expr (is ∙ sym (kept.rolls-Source p n)) ∙ fold-roll-Expr Expr seen_level (Expr-F.Source p n)) (refl, refl)
-  no_call e (inr (inr (inr (inr (inr (inr (inr (inl (n, is))))))))) = none_at (ap seen_expr (is ∙ sym (kept.rolls-Variable n)) ∙ fold-roll-Expr Expr seen_level (Expr-F.Variable n)) (refl, refl)
-  no_call e (inr (inr (inr (inr (inr (inr (inr (inr (inl (p, n, es, is)))))))))) = none_at (ap seen_expr (is ∙ sym (kept.rolls-New p n es)) ∙ fold-roll-Expr Expr seen_level (Expr-F.New p n es)) (refl, refl)
-  no_call e (inr (inr (inr (inr (inr (inr (inr (inr (inr (inl (q, p, n, r, c, is))))))))))) = none_at (ap seen_expr (is ∙ sym (kept.rolls-Quantified q p n r c)) ∙ fold-roll-Expr Expr seen_level (Expr-F.Quantified q p n r c)) (refl, refl)
-  no_call e (inr (inr (inr (inr (inr (inr (inr (inr (inr (inr (inl (p, a, is)))))))))))) = none_at (ap seen_expr (is ∙ sym (kept.rolls-Group p a)) ∙ fold-roll-Expr Expr seen_level (Expr-F.Group p a)) (refl, refl)
-  no_call e (inr (inr (inr (inr (inr (inr (inr (inr (inr (inr (inr (inl (p, n, a, is))))))))))))) = none_at (ap seen_expr (is ∙ sym (kept.rolls-Cast p n a)) ∙ fold-roll-Expr Expr seen_level (Expr-F.Cast p n a)) (refl, refl)
-  no_call e (inr (inr (inr (inr (inr (inr (inr (inr (inr (inr (inr (inr (inl (p, a, is)))))))))))))) = none_at (ap seen_expr (is ∙ sym (kept.rolls-Not p a)) ∙ fold-roll-Expr Expr seen_level (Expr-F.Not p a)) (refl, refl)
-  no_call e (inr (inr (inr (inr (inr (inr (inr (inr (inr (inr (inr (inr (inr (inl (p, a, is))))))))))))))) = none_at (ap seen_expr (is ∙ sym (kept.rolls-Negate p a)) ∙ fold-roll-Expr Expr seen_level (Expr-F.Negate p a)) (refl, refl)
-  no_call e (inr (inr (inr (inr (inr (inr (inr (inr (inr (inr (inr (inr (inr (inr (inl (o, l, r, is)))))))))))))))) = none_at (ap seen_expr (is ∙ sym (kept.rolls-Binary o l r)) ∙ fold-roll-Expr Expr seen_level (Expr-F.Binary o l r)) (refl, refl)
-  no_call e (inr (inr (inr (inr (inr (inr (inr (inr (inr (inr (inr (inr (inr (inr (inr (inl (a, n, is))))))))))))))))) = none_at (ap seen_expr (is ∙ sym (kept.rolls-InstanceOf a n)) ∙ fold-roll-Expr Expr seen_level (Expr-F.InstanceOf a n)) (refl, refl)
-  no_call e (inr (inr (inr (inr (inr (inr (inr (inr (inr (inr (inr (inr (inr (inr (inr (inr (c, l, r, is))))))))))))))))) = none_at (ap seen_expr (is ∙ sym (kept.rolls-If c l r)) ∙ fold-roll-Expr Expr seen_level (Expr-F.If c l r)) (refl, refl)
-
-  -- an expression that stands as a range, and is no call
-  pub other_noted : (e : memory.Expr) (t : kept_typed.Typed) {a b c : Option Broken} → Notes (expr_broken s Range (seen_expr e)) a b → seen_typed t ≡ said_by s (seen_expr e)
-      → Notes (no_list t.value_type (seen_expr e)) b c → Notes (range_broken s (seen_expr e)) a c
-  other_noted e t {a} {b} {c} h says g = notes_then h (subst (λ u. Notes (no_list u (seen_expr e)) b c) (known_type s (seen_expr e) t says) g)

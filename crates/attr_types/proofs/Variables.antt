@@ -1,6 +1,5 @@
 -- The types of names.
-use Rattle.attr_rules.specs.declared.kinds.Kind.TheVariants.{Node}
-use Rattle.attr_rules.specs.declared.accessors.Accessor.{Accessor}
+use Rattle.attr_types.specs.declared.ranges.Elements.{Elements}
 use Rattle.jrag_reader.specs.Expressions.{Name}
 use Rattle.std.proofs.Common.{◌≡◌, ℕ, false, List, [], map, Option, Some, None, is_none, get_or, slice_get, sym, ap, subst, ◌∙◌, ◌∷◌, suc, zero}
 use Rattle.std.specs.Option.{option_and_then, option_map}
@@ -12,7 +11,7 @@ use Rattle.attr_rules.specs.declared.types.ValueType.TheVariants as types
 use Rattle.attr_rules.specs.Expression as said
 use Rattle.attr_rules.specs.Typing as typing
 use Rattle.attr_types.specs.Scope.{Scope, Variable, is_named, variable_named, variable_type, with_variable}
-use Rattle.attr_types.specs.Typed.{name_said, element_named, element_type}
+use Rattle.attr_types.specs.Typed.{name_said, element_kind, element_named, element_type}
 use Rattle.attr_types.proofs.FormsTyped.{IsTyped, of_type}
 use Rattle.attr_types.proofs.MembersTyped.{kind_known, names_at, variable_kind}
 
@@ -34,11 +33,11 @@ module _ (s : Scope) (all : AreKnown s) (node : ℕ → Option ClassId) (this : 
       let kept : slice_get (map variable_kind s.variables) k ≡ Some of.0 = slice_get-map variable_kind s.variables k ∙ ap (option_map variable_kind) there ∙ ap (λ t. Some (kind_known t)) of.1 in
       subst (λ t. IsTyped (names_at s node this) t (said.Variable k)) (sym type) (of_type (names_at s node this) (types.Of of.0) (said.Variable k) (typing.variable k of.0 kept))
 
--- the scope of the condition of a form over a list
-pub inside_known : (s : Scope) → AreKnown s → (name : Name) (o : Option Accessor) (list : Accessor) → o ≡ Some list → AreKnown (with_variable s (element_named name o))
-inside_known s all name o list is = record {
+-- the scope of the body of a form over some elements
+pub inside_known : (s : Scope) → AreKnown s → (name : Name) (o : Option Elements) (elements : Elements) → o ≡ Some elements → AreKnown (with_variable s (element_named name o))
+inside_known s all name o elements is = record {
   known = λ k v. elim k as (λ k. slice_get (element_named name o ∷ s.variables) k ≡ Some v → (t : Kind) × (v.type ≡ Some (types.Of t))) [
-    | zero ↦ λ e. (Node list.class, (let same : element_named name o ≡ v = cc in sym (ap variable_type same) ∙ ap (option_map element_type) is))
+    | zero ↦ λ e. (element_kind elements, (let same : element_named name o ≡ v = cc in sym (ap variable_type same) ∙ ap (option_map element_type) is))
     | suc j ↦ λ e. all.known j v e
   ];
 }

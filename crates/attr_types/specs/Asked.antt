@@ -1,6 +1,7 @@
 -- Queries of one call.
 use Rattle.std.specs.Prelude.{ℕ, ◌==◌, List, [], Option, Some, None, length, if◌then◌else◌}
 use Rattle.std.specs.Option.{option_and_then, option_map}
+use Rattle.rag_io.specs.declared.token.Place.{Place}
 use Rattle.ast_grammar.specs.declared.grammar.ClassId.{ClassId}
 use Rattle.ast_grammar.specs.Grammar.{Class}
 use Rattle.attr_rules.specs.declared.types.ValueType.{ValueType}
@@ -16,13 +17,13 @@ use Rattle.attr_types.specs.Typed.{call_said}
 abbrev pub scope_in : List Class → RuleSet → ClassId → Scope
 scope_in g r c = record { grammar = g; known = record { superclasses = r.superclasses; attributes = r.attributes }; this = c; variables = [] }
 
-abbrev pub query_with : ℕ → Member → ValueType → Query
-query_with k m t = record { body = call_said (Some m) (said.Source k) said.no_more; kind = kept_kind t }
+abbrev pub query_with : ℕ → Place → Member → ValueType → Query
+query_with k p m t = record { body = call_said (Some m) p (said.Source k) said.no_more; kind = kept_kind t }
 
 -- the query for a member, where it takes no arguments and gives no whole list
-abbrev pub query_for : Scope → ℕ → Member → Option Query
-query_for s k m = if length (arguments_wanted s m) == 0 then option_map (query_with k m) (type_called s m) else None
+abbrev pub query_for : Scope → ℕ → Place → Member → Option Query
+query_for s k p m = if length (arguments_wanted s m) == 0 then option_map (query_with k p m) (type_called s m) else None
 
--- the query `@k.name()` at a node of a class, where the name means something there
-abbrev pub query_named : List Class → RuleSet → ℕ → ClassId → List ℕ → Option Query
-query_named g r k c name = option_and_then (query_for (scope_in g r c) k) (member_of (scope_in g r c) name 0 c)
+-- the query `@k.name()` at a node of a class, with the place of the name, where that means something there
+abbrev pub query_named : List Class → RuleSet → ℕ → ClassId → List ℕ → Place → Option Query
+query_named g r k c name p = option_and_then (query_for (scope_in g r c) k p) (member_of (scope_in g r c) name 0 c)

@@ -1,6 +1,5 @@
 -- The rules on expressions: J9, J10, J11 and J17. A rule that speaks of a type speaks of expressions whose type is known.
-use Rattle.std.specs.Prelude.{ℕ, ◌==◌, nat_lt, List, [], ◌∷◌, ◌++◌, Bool, true, false, not, ◌&&◌, Option, Some, None, is_none, is_some, length}
-use Rattle.std.specs.Option.{option_and_then}
+use Rattle.std.specs.Prelude.{ℕ, ◌==◌, nat_lt, List, [], ◌∷◌, ◌++◌, Bool, true, false, not, ◌&&◌, Option, Some, None, is_none, length}
 use Rattle.rag_io.specs.declared.token.Place.{Place}
 use Rattle.broken_rules.specs.declared.broken.Broken.{Broken}
 use Rattle.broken_rules.specs.declared.rule.Rule.TheVariants.{J9, J10, J11, J17}
@@ -10,38 +9,23 @@ use Rattle.ast_grammar.specs.Grammar.{Class}
 use Rattle.attr_rules.specs.declared.kinds.Kind.{Kind}
 use Rattle.attr_rules.specs.declared.kinds.Kind.TheVariants as kinds
 use Rattle.attr_rules.specs.declared.types.ValueType.{ValueType}
-use Rattle.attr_rules.specs.Types.{class_in, common, comparable, fits, is_node, of_class}
+use Rattle.attr_rules.specs.Types.{class_in, comparable, fits, is_node, of_class}
 use Rattle.jrag_reader.specs.declared.expression.Operator.{Operator}
 use Rattle.jrag_reader.specs.declared.expression.Operator.TheVariants as signs
+use Rattle.jrag_reader.specs.declared.expression.Quantifier.{Quantifier}
+use Rattle.jrag_reader.specs.declared.expression.Quantifier.TheVariants as quantifiers
 use Rattle.jrag_reader.specs.Expressions.{Expr, Arguments, Name, no_more, argument, Truth, Null, Empty, This, Int, Text, Source, Variable, Call, Member, New, Quantified, Group, Cast, Not, Negate, Binary, InstanceOf, If}
 use Rattle.attr_types.specs.declared.scope.Member as member
+use Rattle.attr_types.specs.declared.set_forms.SetForm.{SetForm}
+use Rattle.attr_types.specs.declared.standing.Prefix.{Prefix}
+use Rattle.attr_types.specs.declared.standing.Prefix.TheVariants as prefixes
 use Rattle.attr_types.specs.declared.standing.Stands.{Stands}
 use Rattle.attr_types.specs.declared.standing.Stands.TheVariants as stands
 use Rattle.attr_types.specs.Heads.{class_broken}
-use Rattle.attr_types.specs.Scope.{Scope, arguments_wanted, is_list, member_of, member_on, type_called, variable_named, wanted_for}
-use Rattle.attr_types.specs.Typed.{count, inside, known}
-
--- the place of the first token
-abbrev pub place_of : Expr → Place
-place_of (Truth p b) = p
-place_of (Null p) = p
-place_of (Empty p) = p
-place_of (This p) = p
-place_of (Int p n) = p
-place_of (Text p n) = p
-place_of (Source p n) = p
-place_of (Variable n) = n.place
-place_of (Call n es) = n.place
-place_of (Member e n es) = place_of e
-place_of (New p n es) = p
-place_of (Quantified q p n range e) = p
-place_of (Group p e) = p
-place_of (Cast p n e) = p
-place_of (Not p e) = p
-place_of (Negate p e) = p
-place_of (Binary o a b) = place_of a
-place_of (InstanceOf e n) = place_of e
-place_of (If c a b) = place_of c
+use Rattle.attr_types.specs.Places.{place_of}
+use Rattle.attr_types.specs.Scope.{Scope, arguments_wanted, is_list, member_of, member_on, variable_named, wanted_for}
+use Rattle.attr_types.specs.SetForms.{count_broken, form_named, have_no_common, no_set, one_broken, pair_broken}
+use Rattle.attr_types.specs.Typed.{count, inside, known, set_over}
 
 -- J10: the type is known, and isn't the wanted one
 abbrev pub is_unfit : List Class → Option ValueType → Kind → Bool
@@ -57,16 +41,6 @@ abbrev pub are_apart : Option ValueType → Option ValueType → Bool
 are_apart None u = false
 are_apart (Some t) None = false
 are_apart (Some t) (Some u) = not (comparable t u)
-
--- J10 of `? :`: both types are known, and have nothing in common
-abbrev pub is_no_type : Option ValueType → Bool
-is_no_type None = true
-is_no_type (Some t) = false
-
-abbrev pub have_no_common : List Class → Option ValueType → Option ValueType → Bool
-have_no_common g None u = false
-have_no_common g (Some t) None = false
-have_no_common g (Some t) (Some u) = is_no_type (common g t u)
 
 -- J9: the name means nothing. J11: another number of arguments. J10: a whole list, where no list is wanted; `first` is the place of the
 -- first token of the call
@@ -108,9 +82,20 @@ sides_broken g signs.Or t a u b = both_misfit g kinds.Truth t a u b
 abbrev pub choice_broken : List Class → Option ValueType → Expr → Option ValueType → Option ValueType → Expr → List Broken
 choice_broken g r c t u b = misfit g kinds.Truth r c ++ broken_if (have_no_common g t u) (at (place_of b) J10)
 
--- J10: a list over which a form goes has no type, and what has one is no list
-abbrev pub no_list : Option ValueType → Expr → List Broken
-no_list t e = broken_if (is_some t) (at (place_of e) J10)
+-- J10: a range whose type is known has no elements for a form: a list has no type
+abbrev pub has_no_elements : Quantifier → Option ValueType → Bool
+has_no_elements q None = false
+has_no_elements q (Some t) = is_none (set_over q t)
+
+abbrev pub no_range : Quantifier → Option ValueType → Expr → List Broken
+no_range q t e = broken_if (has_no_elements q t) (at (place_of e) J10)
+
+-- J10: the body of `each` is no set, or a condition no truth value
+abbrev pub body_misfit : List Class → Quantifier → Option ValueType → Expr → List Broken
+body_misfit g quantifiers.Each t e = no_set t e
+body_misfit g quantifiers.Any t e = misfit g kinds.Truth t e
+body_misfit g quantifiers.All t e = misfit g kinds.Truth t e
+body_misfit g quantifiers.First t e = misfit g kinds.Truth t e
 
 -- J10: the type is known, and is neither a class nor that of `null`
 abbrev pub is_no_node : Option ValueType → Bool
@@ -126,14 +111,40 @@ greatest stands.Anywhere = 2147483647
 greatest stands.Negated = 2147483648
 greatest stands.Range = 2147483647
 
+-- where the operand stands behind `!` or `-`, and the type that is wanted of it, which the whole has
+abbrev pub behind : Prefix → Stands
+behind prefixes.Not = stands.Anywhere
+behind prefixes.Minus = stands.Negated
+
+abbrev pub kind_behind : Prefix → Kind
+kind_behind prefixes.Not = kinds.Truth
+kind_behind prefixes.Minus = kinds.Int
+
 -- a call that gives a whole list stands in ranges alone
 abbrev pub is_range : Stands → Bool
 is_range stands.Anywhere = false
 is_range stands.Negated = false
 is_range stands.Range = true
 
+-- what one of the forms of sets breaks with some arguments, beside what these break
+abbrev pub form_broken : Scope → SetForm → Name → Arguments → List Broken
+form_broken s f n no_more = count_broken n
+form_broken s f n (argument a no_more) = one_broken f n (known s a) a
+form_broken s f n (argument a (argument b no_more)) = pair_broken s.grammar f n (known s a) a (known s b) b
+form_broken s f n (argument a (argument b (argument c es))) = count_broken n
+
+-- the types that the arguments of a call without receiver are wanted of: the forms of sets have rules of their own
+abbrev pub wanted_alone : Scope → Name → ℕ → Option SetForm → List Kind
+wanted_alone s n k None = wanted_for s (member_on s (Some (of_class s.this)) n.text k) k
+wanted_alone s n k (Some f) = []
+
+-- what a call without receiver breaks, with what its arguments break
+abbrev pub alone_broken : Scope → Bool → Name → Arguments → List Broken → Option SetForm → List Broken
+alone_broken s range n es inner None = call_broken s range n (count es) n.place (Some (of_class s.this)) ++ inner
+alone_broken s range n es inner (Some f) = inner ++ form_broken s f n es
+
 abbrev mutual
-  -- What an expression breaks, by where it stands. Forms that aren't evaluated so far break nothing.
+  -- What an expression breaks, by where it stands. `new`, which isn't evaluated so far, breaks nothing.
   pub expr_broken : Scope → Stands → Expr → List Broken
   expr_broken s w (Truth p b) = []
   expr_broken s w (Null p) = []
@@ -143,12 +154,12 @@ abbrev mutual
   expr_broken s w (Text p n) = []
   expr_broken s w (Source p n) = at p J9 ∷ []
   expr_broken s w (Variable n) = broken_if (is_none (variable_named s n.text)) (at n.place J9)
-  expr_broken s w (Call n es) = call_broken s (is_range w) n (count es) n.place (Some (of_class s.this))
-      ++ arguments_broken s (wanted_for s (member_on s (Some (of_class s.this)) n.text (count es)) (count es)) es
+  expr_broken s w (Call n es) = alone_broken s (is_range w) n es (arguments_broken s (wanted_alone s n (count es) (form_named n.text)) es) (form_named n.text)
   expr_broken s w (Member e n es) = expr_broken s stands.Anywhere e ++ (call_broken s (is_range w) n (count es) (place_of e) (known s e)
       ++ arguments_broken s (wanted_for s (member_on s (known s e) n.text (count es)) (count es)) es)
   expr_broken s w (New p n es) = []
-  expr_broken s w (Quantified q p n range e) = expr_broken s stands.Range range ++ (no_list (known s range) range ++ (expr_broken (inside s n range) stands.Anywhere e ++ misfit s.grammar kinds.Truth (known (inside s n range) e) e))
+  expr_broken s w (Quantified q p n range e) = (expr_broken s stands.Range range ++ no_range q (known s range) range)
+      ++ (expr_broken (inside s q n range) stands.Anywhere e ++ body_misfit s.grammar q (known (inside s q n range) e) e)
   expr_broken s w (Group p e) = expr_broken s stands.Anywhere e
   expr_broken s w (Cast p n e) = class_broken s.grammar n ++ (expr_broken s stands.Anywhere e ++ no_node (known s e) e)
   expr_broken s w (Not p e) = expr_broken s stands.Anywhere e ++ misfit s.grammar kinds.Truth (known s e) e
@@ -163,6 +174,10 @@ abbrev mutual
   arguments_broken s [] (argument e es) = expr_broken s stands.Anywhere e ++ arguments_broken s [] es
   arguments_broken s (k ∷ wanted) (argument e es) = expr_broken s stands.Anywhere e ++ (misfit s.grammar k (known s e) e ++ arguments_broken s wanted es)
 
+-- one of the forms of sets with its arguments, of which no types are wanted beside those of the form
+abbrev pub inner_broken : Scope → SetForm → Name → Arguments → List Broken
+inner_broken s f n es = arguments_broken s [] es ++ form_broken s f n es
+
 -- an expression of which this type is wanted, by where it stands
 abbrev pub operand_broken : Scope → Stands → Kind → Expr → List Broken
 operand_broken s w wanted e = expr_broken s w e ++ misfit s.grammar wanted (known s e) e
@@ -176,17 +191,17 @@ argument_broken s (Some k) e = operand_broken s stands.Anywhere k e
 abbrev pub calls_break : Scope → Bool → Option ValueType → Name → Place → Arguments → List Broken
 calls_break s range t n first es = call_broken s range n (count es) first t ++ arguments_broken s (wanted_for s (member_on s t n.text (count es)) (count es)) es
 
--- the range of a form over a list
-abbrev pub range_broken : Scope → Expr → List Broken
-range_broken s e = expr_broken s stands.Range e ++ no_list (known s e) e
+-- the range of a form over some elements
+abbrev pub range_broken : Scope → Quantifier → Expr → List Broken
+range_broken s q e = expr_broken s stands.Range e ++ no_range q (known s e) e
 
--- a call as a range
-abbrev pub list_call_broken : Scope → Option ValueType → Name → Place → Arguments → List Broken
-list_call_broken s t n first es = calls_break s true t n first es ++ broken_if (is_some (option_and_then (type_called s) (member_on s t n.text (count es)))) (at first J10)
+-- its body
+abbrev pub body_broken : Scope → Quantifier → Expr → List Broken
+body_broken s q e = expr_broken s stands.Anywhere e ++ body_misfit s.grammar q (known s e) e
 
--- a form over a list
-abbrev pub quantified_broken : Scope → Name → Expr → Expr → List Broken
-quantified_broken s n range e = range_broken s range ++ operand_broken (inside s n range) stands.Anywhere kinds.Truth e
+-- a form over some elements
+abbrev pub quantified_broken : Scope → Quantifier → Name → Expr → Expr → List Broken
+quantified_broken s q n range e = range_broken s q range ++ body_broken (inside s q n range) q e
 
 -- the operand of a cast or of `instanceof`
 abbrev pub node_broken : Scope → Expr → List Broken

@@ -3,7 +3,7 @@ use Rattle.std.specs.Prelude.{Option, Some, None}
 use Rattle.std.specs.Option.{option_map}
 use Rattle.rag_io.specs.declared.token.Place.{Place}
 use Rattle.attr_types.specs.declared.calls.Called.{Called}
-use Rattle.attr_types.specs.Bodies.{place_of}
+use Rattle.attr_types.specs.Places.{place_of}
 use Rattle.jrag_reader.specs.Expressions.{Expr, Name, seen_expr, seen_name}
 
 -- the place of the first token of a call

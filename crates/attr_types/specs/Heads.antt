@@ -1,4 +1,4 @@
--- The rules on declarations: J2, J3, J4, J15 and J17.
+-- The rules on declarations: J2, J3, J4, J13, J15 and J17.
 use Rattle.std.specs.Prelude.{ℕ, ◌==◌, List, ◌++◌, [], Bool, false, not, ◌&&◌, ◌||◌, Option, Some, None, find, is_none, length, map}
 use Rattle.std.specs.List.{list_any, range_with_len}
 use Rattle.std.specs.Str.{bytes_eq}
@@ -12,10 +12,11 @@ use Rattle.attr_rules.specs.declared.kinds.Kind.{Kind}
 use Rattle.attr_rules.specs.declared.kinds.Params.{Params}
 use Rattle.attr_rules.specs.declared.kinds.Sort.{Sort}
 use Rattle.attr_rules.specs.Accessors.{is_spelled}
-use Rattle.attr_rules.specs.Rules.{Attribute, is_inherited, most_attributes, plain_attribute}
+use Rattle.attr_rules.specs.Rules.{Attribute, is_inherited, most_attributes}
 use Rattle.jrag_reader.specs.Expressions.{Name}
-use Rattle.jrag_reader.specs.Items.{WrittenType}
+use Rattle.jrag_reader.specs.Items.{Circular, WrittenType}
 use Rattle.attr_types.specs.Parameters.{all_parameters_broken, differ, parameter_types, params_written}
+use Rattle.attr_types.specs.Starts.{are_unlike, is_circular, start_broken, start_declared}
 use Rattle.attr_types.specs.Written.{Head}
 use Rattle.attr_types.specs.WrittenTypes.{class_numbered, kind_written, same_kind, type_written}
 
@@ -67,21 +68,21 @@ first_inherited list name = find (λ h. is_inherited h.sort && bytes_eq h.signat
 abbrev pub type_in : List Class → Head → Option Kind
 type_in g h = type_written g h.of
 
--- a declaration is of another type than one before, or has other parameters
+-- a declaration is of another type than one before, is circular where that isn't, or isn't where that is, or has other parameters
 abbrev pub is_other_than : List Class → Head → Head → Bool
-is_other_than g h f = not (same_kind (type_in g f) (type_in g h)) || differ g (parameter_types g f.signature.parameters) h.signature.parameters
+is_other_than g h f = not (same_kind (type_in g f) (type_in g h)) || (are_unlike (is_circular f.circular) (is_circular h.circular) || differ g (parameter_types g f.signature.parameters) h.signature.parameters)
 
 abbrev pub is_other : List Class → Head → Option Head → Bool
 is_other g h None = false
 is_other g h (Some f) = is_other_than g h f
 
--- J15: an inherited attribute is of another type than the first one of its name, or has other parameters
+-- J15: an inherited attribute isn't declared as the first one of its name, in its type, in being circular, or in its parameters
 abbrev pub other_broken : List Class → List Head → Head → List Broken
 other_broken g before h = broken_if (is_inherited h.sort && is_other g h (first_inherited before h.signature.name.text)) (at h.signature.name.place J15)
 
 -- what a declaration breaks
 abbrev pub head_broken : List Class → List Head → Head → List Broken
-head_broken g before h = named_broken g before h ++ (other_broken g before h ++ all_parameters_broken g None h.signature)
+head_broken g before h = named_broken g before h ++ (start_broken g h.sort h.of h.circular ++ (other_broken g before h ++ all_parameters_broken g None h.signature))
 
 -- what the declarations break
 abbrev pub heads_broken : List Class → List Head → List Broken
@@ -92,15 +93,15 @@ abbrev pub class_or_first : Option ℕ → ClassId
 class_or_first None = class_numbered 0
 class_or_first (Some c) = class_numbered c
 
--- what is declared of an attribute of this sort, with these parameters
-abbrev pub declared_as : Sort → ClassId → Kind → Params → Attr
-declared_as s class kind ps = record (plain_attribute class kind) { sort = s; params = ps }
+-- what is declared of an attribute of this sort, type and parameters, which may be circular
+abbrev pub declared_as : Sort → ClassId → Kind → Params → Option Circular → Attr
+declared_as s class kind ps c = record { class = class; sort = s; kind = kind; params = ps; circular = is_circular c; start = start_declared kind c }
 
 -- what a declaration declares
 abbrev pub attribute_of : List Class → Head → Attribute
 attribute_of g h = record {
   name = h.signature.name.text;
-  declared = declared_as h.sort (class_or_first (class_named g h.class.text)) (kind_written g h.of) (params_written g h.signature.parameters);
+  declared = declared_as h.sort (class_or_first (class_named g h.class.text)) (kind_written g h.of) (params_written g h.signature.parameters) h.circular;
 }
 
 abbrev pub attributes_of : List Class → List Head → List Attribute

@@ -9,10 +9,14 @@ pub mod FirstInherited
 pub mod Parameters
 pub mod Paths
 pub mod Phases
+pub mod Places
 pub mod Asked
+pub mod BothSides
 pub mod Scope
 pub mod ScopeKept
 pub mod Seen
+pub mod SetForms
+pub mod Starts
 pub mod Targets
 pub mod TargetsKept
 pub mod Typed

@@ -7,7 +7,6 @@ use Rattle.ast_grammar.specs.Grammar.{Class}
 use Rattle.attr_rules.specs.declared.kinds.Kind.{Kind}
 use Rattle.attr_rules.specs.declared.kinds.Kind.TheVariants as kinds
 use Rattle.attr_rules.specs.declared.kinds.Params.{Params}
-use Rattle.attr_rules.specs.declared.types.ValueType.TheVariants as types
 use Rattle.attr_rules.specs.Rules.{most_parameters, no_params}
 use Rattle.names.specs.Among.{is_among}
 use Rattle.jrag_reader.specs.Items.{Parameter, Signature, WrittenType}

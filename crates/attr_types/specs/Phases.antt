@@ -7,8 +7,10 @@ use Rattle.attr_rules.specs.declared.dispatch.Target.{Target}
 use Rattle.attr_rules.specs.declared.kinds.Attr.{Attr}
 use Rattle.attr_rules.specs.declared.kinds.Kind.{Kind}
 use Rattle.attr_rules.specs.declared.kinds.Kind.TheVariants as kinds
-use Rattle.attr_rules.specs.Rules.{Attribute, Equation, RuleSet, declared_at}
+use Rattle.attr_rules.specs.Rules.{Attribute, Equation, RuleSet, circular_at, declared_at}
+use Rattle.attr_rules.specs.Expression.{Expression}
 use Rattle.attr_types.specs.Bodies.{operand_broken}
+use Rattle.attr_types.specs.BothSides.{said_where}
 use Rattle.attr_types.specs.declared.standing.Stands.TheVariants.{Anywhere}
 use Rattle.attr_types.specs.Completeness.{complete_broken, places_of}
 use Rattle.attr_types.specs.Heads.{attributes_of, heads_broken}
@@ -46,8 +48,12 @@ phases_of g items =
     ∷ bodies_broken g (attributes_of g (declarations items)) (givens items)
     ∷ []
 
+-- what the right side of an equation says, which is for this
+abbrev pub said_for : List Attribute → Target → Expression → Expression
+said_for attributes t e = said_where (circular_at attributes t.attribute.0) (circular_at attributes) e
+
 abbrev pub equation_of : List Class → List Attribute → Given → Equation
-equation_of g attributes e = record { target = target_given g attributes e; body = body_of (scope_of g attributes e (target_given g attributes e)) e.body }
+equation_of g attributes e = record { target = target_given g attributes e; body = said_for attributes (target_given g attributes e) (body_of (scope_of g attributes e (target_given g attributes e)) e.body) }
 
 -- attributes and equations are numbered in the order of the items
 unfoldable pub rules_of : List Class → List Item → RuleSet

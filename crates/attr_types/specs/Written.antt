@@ -6,20 +6,21 @@ use Rattle.jrag_reader.specs.Built.{own_signature}
 use Rattle.jrag_reader.specs.Expressions.{Expr, Name}
 use Rattle.attr_rules.specs.declared.kinds.Sort.{Sort}
 use Rattle.attr_rules.specs.declared.kinds.Sort.TheVariants.{Syn, Inh}
-use Rattle.jrag_reader.specs.Items.{Item, Declared, Inherits, Equates, Collects, Contributes, Equation, Inherited, Signature, Synthesized, WrittenType}
+use Rattle.jrag_reader.specs.Items.{Item, Declared, Inherits, Equates, Collects, Contributes, Circular, Equation, Inherited, Signature, Synthesized, WrittenType}
 
--- the declaration of an attribute: its sort, its type, the class that has it, and its name with the parameters
+-- the declaration of an attribute: its sort, its type, the class that has it, its name with the parameters, and whether it is circular
 pub record Head : Type 0 where
   pub sort : Sort
   pub of : WrittenType
   pub class : Name
   pub signature : Signature
+  pub circular : Option Circular
 
 abbrev pub synthesized_head : Synthesized → Head
-synthesized_head s = record { sort = Syn; of = s.of; class = s.class; signature = s.signature }
+synthesized_head s = record { sort = Syn; of = s.of; class = s.class; signature = s.signature; circular = s.circular }
 
 abbrev pub inherited_head : Inherited → Head
-inherited_head i = record { sort = Inh; of = i.of; class = i.class; signature = i.signature }
+inherited_head i = record { sort = Inh; of = i.of; class = i.class; signature = i.signature; circular = i.circular }
 
 -- the declaration that an item is, if it is one
 abbrev pub declared_in : Item → Option Head

@@ -25,7 +25,7 @@ pub fn query_of_call(
     place: Place,
 ) -> Result<Option<QueryEq>, Memory>
     requires { (rules_in rules.now).superclasses ≡ superclasses_of grammar.now }
-    ensures { IfOk result (λ q. option_map query_of q ≡ query_named grammar.now (rules_in rules.now) node class name.now) }
+    ensures { IfOk result (λ q. option_map query_of q ≡ query_named grammar.now (rules_in rules.now) node class name.now place) }
 {
     let scope = Scope {
         grammar,

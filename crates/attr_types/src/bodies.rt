@@ -1,45 +1,44 @@
 // The rules on expressions: J9, J10, J11 and J17.
-ghost use Rattle.std.specs.Prelude.{◌≡◌, ◌++◌, ◌∷◌, [], None, Some, IfOk, OnOk, map, length, nat_lt, pos, is_none, true};
-ghost use Rattle.std.specs.Option.{option_and_then};
+ghost use Rattle.std.specs.Prelude.{◌≡◌, ◌++◌, ◌∷◌, [], None, Some, IfOk, OnOk, map, length, nat_lt, pos, is_none};
 ghost use Rattle.std.specs.Int.{int_wrap, w32};
-ghost use Rattle.ast_grammar.specs.Grammar.{superclasses_of};
-ghost use Rattle.broken_rules.specs.Answers.{Ends};
-ghost use Rattle.broken_rules.specs.Notes.{Notes};
-ghost use Rattle.attr_rules.specs.Expression.{Cast, If, InstanceOf, Int, Negate, Not, Null, This, arguments_of as said_arguments, expression_of};
-ghost use Rattle.attr_rules.specs.declared.kinds.Kind.TheVariants as kinds;
-ghost use Rattle.attr_rules.specs.KeptEquations.{equation_in};
-ghost use Rattle.attr_rules.specs.Types.{of_class, parameter_kinds};
-ghost use Rattle.broken_rules.specs.Notes.{at, broken_if};
-ghost use Rattle.broken_rules.specs.declared.rule.Rule.TheVariants.{J9, J17};
 ghost use Rattle.ast_grammar.specs.Grammar.{class_named};
-ghost use Rattle.attr_types.specs.Bodies.{argument_broken, arguments_broken, calls_break, choice_broken, expr_broken, greatest, is_range, list_call_broken, node_broken, operand_broken, place_of, quantified_broken, range_broken, sides_broken};
-ghost use Rattle.attr_types.specs.declared.standing.Stands.TheVariants.{Anywhere, Negated};
+ghost use Rattle.broken_rules.specs.Notes.{Notes, at, broken_if};
+ghost use Rattle.broken_rules.specs.declared.rule.Rule.TheVariants.{J9, J17};
+ghost use Rattle.attr_rules.specs.Expression.{Cast, If, InstanceOf, Int, Null, This, arguments_of as said_arguments, expression_of};
+ghost use Rattle.attr_rules.specs.declared.types.ValueType.TheVariants as types;
+ghost use Rattle.attr_rules.specs.Types.{of_class, parameter_kinds};
+ghost use Rattle.attr_types.specs.Bodies.{argument_broken, arguments_broken, behind, body_broken, calls_break, choice_broken, expr_broken, greatest, inner_broken, is_range, kind_behind, node_broken, operand_broken, quantified_broken, range_broken, sides_broken};
+ghost use Rattle.attr_types.specs.declared.standing.Stands.TheVariants.{Anywhere};
 ghost use Rattle.attr_types.specs.Heads.{class_broken, class_or_first};
-ghost use Rattle.attr_types.specs.Scope.{list_called, member_on, variable_named};
+ghost use Rattle.attr_types.specs.Scope.{member_on, variable_named};
 ghost use Rattle.attr_types.specs.Calls.{first_place};
-ghost use Rattle.attr_types.specs.Phases.{bodies_broken, equation_broken, equation_of, wanted_by};
+ghost use Rattle.attr_types.specs.Places.{else_place, place_of};
 ghost use Rattle.attr_types.specs.ScopeKept.{IsScope};
-ghost use Rattle.attr_types.specs.Seen.{call_says, quantified_says, said_by, seen_given, seen_scope, seen_typed, seen_variable};
-ghost use Rattle.attr_types.specs.Targets.{target_given, targets_of};
-ghost use Rattle.attr_types.specs.Typed.{arguments_in, arguments_said, body_of, class_type, common_of, int, joined, list_of, owner_of, result_of, truth};
-ghost use Rattle.jrag_reader.specs.Expressions.{Call, Variable as Named, arguments_of, seen_expr, seen_name};
+ghost use Rattle.attr_types.specs.Seen.{call_says, form_says, quantified_says, said_as, said_by, seen_scope, seen_typed, seen_variable};
+ghost use Rattle.attr_types.specs.SetForms.{common_of, count_broken, int, settled, truth};
+ghost use Rattle.attr_types.specs.Typed.{arguments_in, arguments_said, body_of, class_type, joined, known, prefixed, range_of, result_of};
+ghost use Rattle.jrag_reader.specs.Expressions.{Call, Variable as Named, argument, arguments_of, no_more, seen_expr, seen_name};
 
-use crate::calls::{Called, check_call, check_list_type};
+use crate::calls::{Called, check_call};
 use crate::heads::check_class;
-use crate::paths::equation_names;
-use crate::scope::{Member, Scope, Variable, list_called};
-use crate::sides::{Part, check_choice, check_fit, check_node, check_range, check_sides, place_of};
-use crate::standing::Stands;
+use crate::ranges::{
+    Elements, check_body as check_over, check_range, element_type, elements_over, over_said,
+    quantified_type,
+};
+use crate::scope::{Member, Scope, Variable, no_params};
+use crate::set_forms::{
+    SetForm, check_count, check_one, check_pair, form_named, one_said, one_type, pair_said,
+    pair_type, settled,
+};
+use crate::sides::{Part, check_choice, check_fit, check_node, check_sides, else_place};
+use crate::standing::{Prefix, Stands};
 use crate::typed::{
-    Typed, all_arguments, called, cast, chosen, common_of, denied, element_type, joined, negated,
-    over_said, quantified_type, result_of, tested, type_of_class,
+    Typed, all_arguments, called, cast, chosen, common_of, joined, prefixed, result_of, tested,
+    type_of_class,
 };
-use crate::written::Given;
 use ast_grammar::{ClassId, Grammar};
-use attr_rules::{
-    Accessor, Attributes, KeptEquation, Kind, Params, TArgs, TExpr, Target, ValueType,
-};
-use broken_rules::{Earliest, ReadFault, Rule};
+use attr_rules::{Kind, Params, TArgs, TExpr, ValueType};
+use broken_rules::{Earliest, Rule};
 use jrag_reader::{Expr, Name, Operator, Quantifier};
 use rag_io::{Memory, Place};
 use std::alloc::Global;
@@ -52,15 +51,21 @@ const TEXT: Option<ValueType> = Some(ValueType::Of(Kind::Text));
 
 const NULL: Option<ValueType> = Some(ValueType::Null);
 
+const EMPTY: Option<ValueType> = Some(ValueType::Empty);
+
 fn typed(value_type: Option<ValueType>, body: TExpr) -> Typed
-    ensures { seen_typed result ≡ record { type = value_type; body = expression_of body } }
+    ensures { seen_typed result ≡ said_as value_type (expression_of body) }
 {
-    Typed { value_type, body }
+    Typed {
+        value_type,
+        list: None,
+        body,
+    }
 }
 
 // The node at which the equation is read.
 fn this_of(scope: &Scope<'_>) -> Typed
-    ensures { seen_typed result ≡ record { type = Some (of_class (seen_scope scope.now).this); body = This } }
+    ensures { seen_typed result ≡ said_as (Some (of_class (seen_scope scope.now).this)) This }
 {
     typed(Some(ValueType::of_class(scope.class)), TExpr::This)
 }
@@ -75,7 +80,7 @@ fn literal(number: u32) -> TExpr
 // A literal, by where it stands.
 fn type_literal(stands: Stands, place: Place, number: u32, faults: &mut Earliest) -> Typed
     ensures noted { Notes (broken_if (nat_lt (greatest stands) number) (at place J17)) faults.old faults.new }
-    ensures says { seen_typed result ≡ record { type = int; body = Int (int_wrap w32 (pos number)) } }
+    ensures says { seen_typed result ≡ said_as int (Int (int_wrap w32 (pos number))) }
 {
     faults.note_if(stands.greatest() < number, Rule::J17, place);
     typed(INT, literal(number))
@@ -84,7 +89,7 @@ fn type_literal(stands: Stands, place: Place, number: u32, faults: &mut Earliest
 // What means nothing.
 fn unknown(place: Place, faults: &mut Earliest) -> Typed
     ensures noted { Notes (at place J9 ∷ []) faults.old faults.new }
-    ensures says { seen_typed result ≡ record { type = None; body = Null } }
+    ensures says { seen_typed result ≡ said_as None Null }
 {
     faults.note(Rule::J9, place);
     typed(None, TExpr::Null)
@@ -118,7 +123,7 @@ fn combined(
     faults: &mut Earliest,
 ) -> Result<Typed, Memory>
     ensures noted { OnOk result (Notes (sides_broken grammar.now operator left.entry.typed.value_type (seen_expr left.entry.written.now) right.entry.typed.value_type (seen_expr right.entry.written.now)) faults.old faults.new) }
-    ensures says { IfOk result (λ t. seen_typed t ≡ record { type = result_of operator; body = joined operator (expression_of left.entry.typed.body) (expression_of right.entry.typed.body) }) }
+    ensures says { IfOk result (λ t. seen_typed t ≡ said_as (result_of operator) (joined operator (expression_of left.entry.typed.body) (expression_of right.entry.typed.body))) }
 {
     check_sides(grammar, operator, left.part(), right.part(), faults);
     let body = joined(alloc, operator, left.typed.body, right.typed.body)?;
@@ -135,7 +140,7 @@ fn choice(
     faults: &mut Earliest,
 ) -> Result<Typed, Memory>
     ensures noted { OnOk result (Notes (choice_broken grammar.now condition.entry.typed.value_type (seen_expr condition.entry.written.now) then.entry.typed.value_type otherwise.entry.typed.value_type (seen_expr otherwise.entry.written.now)) faults.old faults.new) }
-    ensures says { IfOk result (λ t. seen_typed t ≡ record { type = common_of grammar.now then.entry.typed.value_type otherwise.entry.typed.value_type; body = If (expression_of condition.entry.typed.body) (expression_of then.entry.typed.body) (expression_of otherwise.entry.typed.body) }) }
+    ensures says { IfOk result (λ t. seen_typed t ≡ said_as (common_of grammar.now then.entry.typed.value_type otherwise.entry.typed.value_type) (If (expression_of condition.entry.typed.body) (expression_of then.entry.typed.body) (else_place (seen_expr otherwise.entry.written.now)) (expression_of otherwise.entry.typed.body))) }
 {
     check_choice(
         grammar,
@@ -145,7 +150,7 @@ fn choice(
         faults,
     );
     let value_type = common_of(grammar, then.typed.value_type, otherwise.typed.value_type);
-    let place = place_of(otherwise.written);
+    let place = else_place(otherwise.written);
     let body = chosen(
         alloc,
         condition.typed.body,
@@ -269,12 +274,17 @@ fn type_call(
     )?;
     let body = called(alloc, member, receiver.body, arguments, call.name.place)?;
     let value_type = scope.type_of(member);
-    Ok(Typed { value_type, body })
+    let list = scope.list_of(member, call.count);
+    Ok(Typed {
+        value_type,
+        list,
+        body,
+    })
 }
 
-// A part of which a type is wanted, by where it stands.
+/// A part of which a type is wanted, by where it stands.
 #[cycle(types)]
-fn type_operand(
+pub(crate) fn type_operand(
     alloc: Global,
     scope: &Scope<'_>,
     operand: &Expr,
@@ -295,36 +305,125 @@ fn type_operand(
     Ok(typed.body)
 }
 
-// `!` of a part.
+// A part in parentheses, which gives no list.
 #[cycle(types)]
-fn type_denied(
+fn type_group(
     alloc: Global,
     scope: &Scope<'_>,
-    operand: &Expr,
+    inner: &Expr,
     faults: &mut Earliest,
 ) -> Result<Typed, Memory>
     requires { IsScope (seen_scope scope.now) }
-    ensures noted { OnOk result (Notes (operand_broken (seen_scope scope.now) Anywhere kinds.Truth (seen_expr operand.now)) faults.old faults.new) }
-    ensures says { IfOk result (λ t. seen_typed t ≡ record { type = truth; body = Not (body_of (seen_scope scope.now) (seen_expr operand.now)) }) }
+    ensures noted { OnOk result (Notes (expr_broken (seen_scope scope.now) Anywhere (seen_expr inner.now)) faults.old faults.new) }
+    ensures says { IfOk result (λ t. seen_typed t ≡ said_as (known (seen_scope scope.now) (seen_expr inner.now)) (body_of (seen_scope scope.now) (seen_expr inner.now))) }
 {
-    let operand = type_operand(alloc, scope, operand, Stands::Anywhere, Kind::Truth, faults)?;
-    Ok(typed(TRUTH, denied(alloc, operand)?))
+    let inner = type_expr(alloc, scope, inner, Stands::Anywhere, faults)?;
+    Ok(typed(inner.value_type, inner.body))
 }
 
-// Unary `-` of a part.
+// A part with what stands before it.
 #[cycle(types)]
-fn type_negated(
+fn type_prefixed(
     alloc: Global,
     scope: &Scope<'_>,
+    prefix: Prefix,
     operand: &Expr,
     faults: &mut Earliest,
 ) -> Result<Typed, Memory>
     requires { IsScope (seen_scope scope.now) }
-    ensures noted { OnOk result (Notes (operand_broken (seen_scope scope.now) Negated kinds.Int (seen_expr operand.now)) faults.old faults.new) }
-    ensures says { IfOk result (λ t. seen_typed t ≡ record { type = int; body = Negate (body_of (seen_scope scope.now) (seen_expr operand.now)) }) }
+    ensures noted { OnOk result (Notes (operand_broken (seen_scope scope.now) (behind prefix) (kind_behind prefix) (seen_expr operand.now)) faults.old faults.new) }
+    ensures says { IfOk result (λ t. seen_typed t ≡ said_as (Some (types.Of (kind_behind prefix))) (prefixed prefix (body_of (seen_scope scope.now) (seen_expr operand.now)))) }
 {
-    let operand = type_operand(alloc, scope, operand, Stands::Negated, Kind::Int, faults)?;
-    Ok(typed(INT, negated(alloc, operand)?))
+    let kind = prefix.kind();
+    let operand = type_operand(alloc, scope, operand, prefix.stands(), kind, faults)?;
+    let body = prefixed(alloc, prefix, operand)?;
+    Ok(typed(Some(ValueType::Of(kind)), body))
+}
+
+// One of the forms of sets that has another number of arguments.
+fn form_alone(form: SetForm, name: &Name, faults: &mut Earliest) -> Typed
+    ensures noted { Notes (count_broken (seen_name name.now)) faults.old faults.new }
+    ensures says { seen_typed result ≡ said_as (settled form) Null }
+{
+    check_count(name, faults);
+    typed(settled(form), TExpr::Null)
+}
+
+// One of the forms of sets with one argument.
+#[cycle(types)]
+fn type_one(
+    alloc: Global,
+    scope: &Scope<'_>,
+    form: SetForm,
+    name: &Name,
+    only: &Expr,
+    faults: &mut Earliest,
+) -> Result<Typed, Memory>
+    requires { IsScope (seen_scope scope.now) }
+    ensures noted { OnOk result (Notes (inner_broken (seen_scope scope.now) form (seen_name name.now) (argument (seen_expr only.now) no_more)) faults.old faults.new) }
+    ensures says { IfOk result (λ t. seen_typed t ≡ form_says (seen_scope scope.now) form (argument (seen_expr only.now) no_more)) }
+{
+    let only = type_part(alloc, scope, only, faults)?;
+    check_one(form, name, only.part(), faults);
+    let value_type = one_type(form, only.typed.value_type);
+    let body = one_said(alloc, form, only.typed.body)?;
+    Ok(typed(value_type, body))
+}
+
+// One of the forms of sets with two arguments.
+#[cycle(types)]
+fn type_pair(
+    alloc: Global,
+    scope: &Scope<'_>,
+    form: SetForm,
+    name: &Name,
+    first: &Expr,
+    second: &Expr,
+    faults: &mut Earliest,
+) -> Result<Typed, Memory>
+    requires { IsScope (seen_scope scope.now) }
+    ensures noted { OnOk result (Notes (inner_broken (seen_scope scope.now) form (seen_name name.now) (argument (seen_expr first.now) (argument (seen_expr second.now) no_more))) faults.old faults.new) }
+    ensures says { IfOk result (λ t. seen_typed t ≡ form_says (seen_scope scope.now) form (argument (seen_expr first.now) (argument (seen_expr second.now) no_more))) }
+{
+    let first = type_part(alloc, scope, first, faults)?;
+    let second = type_part(alloc, scope, second, faults)?;
+    check_pair(
+        scope.grammar,
+        form,
+        name,
+        first.part(),
+        second.part(),
+        faults,
+    );
+    let left = first.typed.value_type;
+    let value_type = pair_type(scope.grammar, form, left, second.typed.value_type);
+    let body = pair_said(alloc, form, value_type, first.typed.body, second.typed.body)?;
+    Ok(typed(value_type, body))
+}
+
+// One of the forms of sets.
+#[cycle(types)]
+fn type_form(
+    alloc: Global,
+    scope: &Scope<'_>,
+    form: SetForm,
+    name: &Name,
+    arguments: &[Expr],
+    faults: &mut Earliest,
+) -> Result<Typed, Memory>
+    requires { IsScope (seen_scope scope.now) }
+    ensures noted { OnOk result (Notes (inner_broken (seen_scope scope.now) form (seen_name name.now) (arguments_of (map seen_expr arguments.now))) faults.old faults.new) }
+    ensures says { IfOk result (λ t. seen_typed t ≡ form_says (seen_scope scope.now) form (arguments_of (map seen_expr arguments.now))) }
+{
+    match arguments {
+        [] => Ok(form_alone(form, name, faults)),
+        [only] => type_one(alloc, scope, form, name, only, faults),
+        [first, second] => type_pair(alloc, scope, form, name, first, second, faults),
+        [_, _, _, ..] => {
+            type_arguments(alloc, scope, no_params(), arguments, faults)?;
+            Ok(form_alone(form, name, faults))
+        }
+    }
 }
 
 // A call of a name without receiver.
@@ -341,6 +440,9 @@ fn type_call_alone(
     ensures noted { OnOk result (Notes (expr_broken (seen_scope scope.now) stands (Call (seen_name name.now) (arguments_of (map seen_expr arguments.now)))) faults.old faults.new) }
     ensures says { IfOk result (λ t. seen_typed t ≡ said_by (seen_scope scope.now) (Call (seen_name name.now) (arguments_of (map seen_expr arguments.now)))) }
 {
+    if let Some(form) = form_named(&name.text) {
+        return type_form(alloc, scope, form, name, arguments, faults);
+    }
     let call = Called {
         receiver: None,
         name,
@@ -374,102 +476,46 @@ fn type_member(
     type_call(alloc, scope, receiver.typed, call, arguments, faults)
 }
 
-// The list that a call gives, and the node that has it.
-#[cycle(types)]
-fn type_list(
-    alloc: Global,
-    scope: &Scope<'_>,
-    owner: Typed,
-    call: Called<'_>,
-    arguments: &[Expr],
-    faults: &mut Earliest,
-) -> Result<(Option<Accessor>, TExpr), Memory>
-    requires scope { IsScope (seen_scope scope.now) }
-    requires count { call.count ≡ length arguments.now }
-    requires range { call.range ≡ true }
-    ensures noted { OnOk result (Notes (list_call_broken (seen_scope scope.now) owner.value_type (seen_name call.entry.name.now) (first_place call.entry) (arguments_of (map seen_expr arguments.now))) faults.old faults.new) }
-    ensures list { IfOk result (λ r. r.0 ≡ option_and_then (list_called call.entry.count) (member_on (seen_scope scope.now) owner.value_type (seen_name call.entry.name.now).text call.entry.count)) }
-    ensures owner { IfOk result (λ r. expression_of r.1 ≡ expression_of owner.body) }
-{
-    let (member, _) = type_called(alloc, scope, owner.value_type, call, arguments, faults)?;
-    check_list_type(call, scope.type_of(member), faults);
-    let list = match member {
-        Some(member) => list_called(member, call.count),
-        None => None,
-    };
-    Ok((list, owner.body))
-}
-
-// The list that a call without a receiver gives, and the node that has it.
-#[cycle(types)]
-fn type_list_alone(
-    alloc: Global,
-    scope: &Scope<'_>,
-    name: &Name,
-    arguments: &[Expr],
-    faults: &mut Earliest,
-) -> Result<(Option<Accessor>, TExpr), Memory>
-    requires { IsScope (seen_scope scope.now) }
-    ensures noted { OnOk result (Notes (range_broken (seen_scope scope.now) (Call (seen_name name.now) (arguments_of (map seen_expr arguments.now)))) faults.old faults.new) }
-    ensures list { IfOk result (λ r. r.0 ≡ list_of (seen_scope scope.now) (Call (seen_name name.now) (arguments_of (map seen_expr arguments.now)))) }
-    ensures owner { IfOk result (λ r. expression_of r.1 ≡ This) }
-{
-    let call = Called {
-        receiver: None,
-        name,
-        count: arguments.len(),
-        range: true,
-    };
-    type_list(alloc, scope, this_of(scope), call, arguments, faults)
-}
-
-// The list over which a form goes, and the node that has it.
+// The range of a form over some elements: these elements, and what has the list, or the set.
 #[cycle(types)]
 fn type_range(
     alloc: Global,
     scope: &Scope<'_>,
+    form: Quantifier,
     range: &Expr,
     faults: &mut Earliest,
-) -> Result<(Option<Accessor>, TExpr), Memory>
+) -> Result<(Option<Elements>, TExpr), Memory>
     requires { IsScope (seen_scope scope.now) }
-    ensures noted { OnOk result (Notes (range_broken (seen_scope scope.now) (seen_expr range.now)) faults.old faults.new) }
-    ensures list { IfOk result (λ r. r.0 ≡ list_of (seen_scope scope.now) (seen_expr range.now)) }
-    ensures owner { IfOk result (λ r. expression_of r.1 ≡ owner_of (seen_scope scope.now) (seen_expr range.now)) }
+    ensures noted { OnOk result (Notes (range_broken (seen_scope scope.now) form (seen_expr range.now)) faults.old faults.new) }
+    ensures elements { IfOk result (λ r. r.0 ≡ range_of (seen_scope scope.now) form (seen_expr range.now)) }
+    ensures says { IfOk result (λ r. expression_of r.1 ≡ body_of (seen_scope scope.now) (seen_expr range.now)) }
 {
-    match range {
-        Expr::Call(name, arguments) => type_list_alone(alloc, scope, name, arguments, faults),
-        Expr::Member(receiver, name, arguments) => {
-            let owner = type_expr(alloc, scope, receiver, Stands::Anywhere, faults)?;
-            let call = Called {
-                receiver: Some(receiver),
-                name,
-                count: arguments.len(),
-                range: true,
-            };
-            type_list(alloc, scope, owner, call, arguments, faults)
-        }
-        Expr::Truth(..)
-        | Expr::Null(_)
-        | Expr::Empty(_)
-        | Expr::This(_)
-        | Expr::Int(..)
-        | Expr::Text(..)
-        | Expr::Source(..)
-        | Expr::Variable(_)
-        | Expr::New(..)
-        | Expr::Quantified(..)
-        | Expr::Group(..)
-        | Expr::Cast(..)
-        | Expr::Not(..)
-        | Expr::Negate(..)
-        | Expr::Binary(..)
-        | Expr::InstanceOf(..)
-        | Expr::If(..) => {
-            let typed = type_expr(alloc, scope, range, Stands::Range, faults)?;
-            check_range(range, typed.value_type, faults);
-            Ok((None, TExpr::This))
-        }
-    }
+    let typed = type_expr(alloc, scope, range, Stands::Range, faults)?;
+    check_range(form, range, typed.value_type, faults);
+    let elements = elements_over(form, typed.list, typed.value_type);
+    Ok((elements, typed.body))
+}
+
+// The body of a form over some elements.
+#[cycle(types)]
+fn type_body(
+    alloc: Global,
+    scope: &Scope<'_>,
+    form: Quantifier,
+    body: &Expr,
+    faults: &mut Earliest,
+) -> Result<Typed, Memory>
+    requires { IsScope (seen_scope scope.now) }
+    ensures noted { OnOk result (Notes (body_broken (seen_scope scope.now) form (seen_expr body.now)) faults.old faults.new) }
+    ensures says { IfOk result (λ t. seen_typed t ≡ said_by (seen_scope scope.now) (seen_expr body.now)) }
+{
+    let typed = type_expr(alloc, scope, body, Stands::Anywhere, faults)?;
+    let part = Part {
+        written: body,
+        value_type: typed.value_type,
+    };
+    check_over(scope.grammar, form, part, faults);
+    Ok(typed)
 }
 
 // The names of a scope with one more, the innermost first.
@@ -486,7 +532,7 @@ fn with_name<'a>(
     Ok(list)
 }
 
-// A form over a list.
+// A form over some elements.
 #[cycle(types)]
 fn type_quantified(
     alloc: Global,
@@ -494,15 +540,15 @@ fn type_quantified(
     form: Quantifier,
     name: &Name,
     range: &Expr,
-    condition: &Expr,
+    body: &Expr,
     faults: &mut Earliest,
 ) -> Result<Typed, Memory>
     requires { IsScope (seen_scope scope.now) }
-    ensures noted { OnOk result (Notes (quantified_broken (seen_scope scope.now) (seen_name name.now) (seen_expr range.now) (seen_expr condition.now)) faults.old faults.new) }
-    ensures says { IfOk result (λ t. seen_typed t ≡ quantified_says (seen_scope scope.now) form (seen_name name.now) (seen_expr range.now) (seen_expr condition.now)) }
+    ensures noted { OnOk result (Notes (quantified_broken (seen_scope scope.now) form (seen_name name.now) (seen_expr range.now) (seen_expr body.now)) faults.old faults.new) }
+    ensures says { IfOk result (λ t. seen_typed t ≡ quantified_says (seen_scope scope.now) form (seen_name name.now) (seen_expr range.now) (seen_expr body.now)) }
 {
-    let (list, owner) = type_range(alloc, scope, range, faults)?;
-    let value_type = element_type(list);
+    let (elements, range) = type_range(alloc, scope, form, range, faults)?;
+    let value_type = element_type(elements);
     let variable = Variable {
         name: &name.text,
         value_type,
@@ -514,10 +560,10 @@ fn type_quantified(
         class: scope.class,
         variables: &variables,
     };
-    let anywhere = Stands::Anywhere;
-    let condition = type_operand(alloc, &inner, condition, anywhere, Kind::Truth, faults)?;
-    let body = over_said(alloc, form, list, owner, condition)?;
-    Ok(typed(quantified_type(form, list), body))
+    let each = type_body(alloc, &inner, form, body, faults)?;
+    let of = each.value_type;
+    let body = over_said(alloc, form, of, elements, range, each.body)?;
+    Ok(typed(quantified_type(form, elements, of), body))
 }
 
 // The operand of a cast or of `instanceof`.
@@ -552,7 +598,7 @@ fn type_cast(
 ) -> Result<Typed, Memory>
     requires { IsScope (seen_scope scope.now) }
     ensures noted { OnOk result (Notes (class_broken (seen_scope scope.now).grammar (seen_name name.now) ++ node_broken (seen_scope scope.now) (seen_expr operand.now)) faults.old faults.new) }
-    ensures says { IfOk result (λ t. seen_typed t ≡ record { type = class_type (seen_scope scope.now).grammar (seen_name name.now).text; body = Cast (class_or_first (class_named (seen_scope scope.now).grammar (seen_name name.now).text)) (body_of (seen_scope scope.now) (seen_expr operand.now)) }) }
+    ensures says { IfOk result (λ t. seen_typed t ≡ said_as (class_type (seen_scope scope.now).grammar (seen_name name.now).text) (Cast (class_or_first (class_named (seen_scope scope.now).grammar (seen_name name.now).text)) (body_of (seen_scope scope.now) (seen_expr operand.now)))) }
 {
     let class = check_class(scope.grammar, name, faults);
     let operand = type_node(alloc, scope, operand, faults)?;
@@ -571,7 +617,7 @@ fn type_test(
 ) -> Result<Typed, Memory>
     requires { IsScope (seen_scope scope.now) }
     ensures noted { OnOk result (Notes (class_broken (seen_scope scope.now).grammar (seen_name name.now) ++ node_broken (seen_scope scope.now) (seen_expr operand.now)) faults.old faults.new) }
-    ensures says { IfOk result (λ t. seen_typed t ≡ record { type = truth; body = InstanceOf (class_or_first (class_named (seen_scope scope.now).grammar (seen_name name.now).text)) (body_of (seen_scope scope.now) (seen_expr operand.now)) }) }
+    ensures says { IfOk result (λ t. seen_typed t ≡ said_as truth (InstanceOf (class_or_first (class_named (seen_scope scope.now).grammar (seen_name name.now).text)) (body_of (seen_scope scope.now) (seen_expr operand.now)))) }
 {
     let class = check_class(scope.grammar, name, faults);
     let operand = type_node(alloc, scope, operand, faults)?;
@@ -611,8 +657,8 @@ fn type_expr(
         Expr::Int(place, number) => Ok(type_literal(stands, *place, *number, faults)),
         Expr::Text(_, number) => Ok(typed(TEXT, TExpr::Text(*number))),
         Expr::Variable(name) => Ok(type_variable(scope, name, faults)),
-        Expr::Quantified(form, _, name, range, condition) => {
-            type_quantified(alloc, scope, *form, name, range, condition, faults)
+        Expr::Quantified(form, _, name, range, body) => {
+            type_quantified(alloc, scope, *form, name, range, body, faults)
         }
         Expr::Cast(_, name, operand) => type_cast(alloc, scope, name, operand, faults),
         Expr::InstanceOf(operand, name) => type_test(alloc, scope, name, operand, faults),
@@ -624,9 +670,9 @@ fn type_expr(
             let receiver = type_part(alloc, scope, receiver, faults)?;
             type_member(alloc, scope, stands, receiver, name, arguments, faults)
         }
-        Expr::Group(_, inner) => type_expr(alloc, scope, inner, Stands::Anywhere, faults),
-        Expr::Not(_, operand) => type_denied(alloc, scope, operand, faults),
-        Expr::Negate(_, operand) => type_negated(alloc, scope, operand, faults),
+        Expr::Group(_, inner) => type_group(alloc, scope, inner, faults),
+        Expr::Not(_, operand) => type_prefixed(alloc, scope, Prefix::Not, operand, faults),
+        Expr::Negate(_, operand) => type_prefixed(alloc, scope, Prefix::Minus, operand, faults),
         Expr::Binary(operator, left, right) => {
             let left = type_part(alloc, scope, left, faults)?;
             let right = type_part(alloc, scope, right, faults)?;
@@ -638,85 +684,7 @@ fn type_expr(
             let otherwise = type_part(alloc, scope, otherwise, faults)?;
             choice(alloc, scope.grammar, condition, then, otherwise, faults)
         }
-        Expr::Empty(_) | Expr::New(..) => Ok(typed(None, TExpr::Null)),
+        Expr::Empty(_) => Ok(typed(EMPTY, TExpr::Empty)),
+        Expr::New(..) => Ok(typed(None, TExpr::Null)),
     }
-}
-
-// The type that an equation has to fit.
-fn wanted_by(attributes: &Attributes, target: Target) -> Kind
-    ensures { result ≡ wanted_by attributes.now.attributes target }
-{
-    if u32::from(target.attribute.0) < attributes.len() {
-        attributes.attr(target.attribute).kind
-    } else {
-        Kind::Truth
-    }
-}
-
-// What an equation breaks, which is for this, and what it says.
-fn check_body(
-    alloc: Global,
-    grammar: &Grammar,
-    attributes: &Attributes,
-    equation: &Given<'_>,
-    target: Target,
-    faults: &mut Earliest,
-) -> Result<KeptEquation, Memory>
-    requires attributes { attributes.now.superclasses ≡ superclasses_of grammar.now }
-    requires target { target ≡ target_given grammar.now attributes.now.attributes (seen_given equation.now) }
-    ensures noted { OnOk result (Notes (equation_broken grammar.now attributes.now.attributes (seen_given equation.now)) faults.old faults.new) }
-    ensures says { IfOk result (λ e. equation_in e ≡ equation_of grammar.now attributes.now.attributes (seen_given equation.now)) }
-{
-    let variables = equation_names(
-        alloc,
-        grammar,
-        equation.attribute,
-        equation.path,
-        target.reach,
-    )?;
-    let scope = Scope {
-        grammar,
-        attributes,
-        class: target.class,
-        variables: &variables,
-    };
-    let wanted = wanted_by(attributes, target);
-    let body = type_operand(
-        alloc,
-        &scope,
-        equation.body,
-        Stands::Anywhere,
-        wanted,
-        faults,
-    )?;
-    Ok(KeptEquation { target, body })
-}
-
-fn push(list: &mut Vec<KeptEquation>, equation: KeptEquation) -> Result<(), Memory>
-    ensures { OnOk result (list.new.items ≡ list.old.items ++ equation ∷ []) }
-{
-    list.push(equation).map_err(|_| Memory)
-}
-
-/// The phase of expressions: the equations for these, where no rule on expressions is broken.
-pub(crate) fn check_bodies(
-    alloc: Global,
-    grammar: &Grammar,
-    attributes: &Attributes,
-    equations: &[Given<'_>],
-    targets: &[Target],
-) -> Result<Vec<KeptEquation>, ReadFault>
-    requires attributes { attributes.now.superclasses ≡ superclasses_of grammar.now }
-    requires targets { targets.now ≡ targets_of grammar.now attributes.now.attributes (map seen_given equations.now) }
-    ensures phase { Ends (bodies_broken grammar.now attributes.now.attributes (map seen_given equations.now)) result }
-    ensures says { IfOk result (λ list. map equation_in list.items ≡ map (equation_of grammar.now attributes.now.attributes) (map seen_given equations.now)) }
-{
-    let mut faults = Earliest::new();
-    let mut list = Vec::new(alloc);
-    for (equation, target) in equations.iter().zip(targets) {
-        let body = check_body(alloc, grammar, attributes, equation, *target, &mut faults)?;
-        push(&mut list, body)?;
-    }
-    faults.answer()?;
-    Ok(list)
 }

@@ -1,5 +1,5 @@
 // The rules on calls: J9, J10 and J11.
-ghost use Rattle.std.specs.Prelude.{◌≡◌, ◌==◌, ◌&&◌, is_some, length, not};
+ghost use Rattle.std.specs.Prelude.{◌≡◌, ◌==◌, ◌&&◌, length, not};
 ghost use Rattle.broken_rules.specs.Notes.{Notes, at, broken_if};
 ghost use Rattle.broken_rules.specs.declared.rule.Rule.TheVariants.{J10, J11};
 ghost use Rattle.attr_types.specs.Bodies.{call_broken, member_broken};
@@ -83,11 +83,4 @@ pub(crate) fn check_call(
         return;
     }
     check_member(scope, call, member, faults);
-}
-
-/// J10 at a call as a range that has a type: lists have none.
-pub(crate) fn check_list_type(call: Called<'_>, of: Option<ValueType>, faults: &mut Earliest)
-    ensures { Notes (broken_if (is_some of) (at (first_place call.entry) J10)) faults.old faults.new }
-{
-    faults.note_if(of.is_some(), Rule::J10, call.place());
 }

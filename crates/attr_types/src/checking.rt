@@ -6,8 +6,8 @@ ghost use Rattle.attr_types.specs.Phases.{phases_of, rules_of};
 ghost use Rattle.jrag_reader.specs.Built.{all_built};
 ghost use Rattle.jrag_reader.specs.Items.{seen_aspects};
 
-use crate::bodies::check_bodies;
 use crate::completeness::{check_completeness, places_of};
+use crate::equations::check_bodies;
 use crate::heads::check_heads;
 use crate::targets::check_targets;
 use crate::written::{declarations, givens};
@@ -22,7 +22,8 @@ use std::alloc::Global;
 ///
 /// There are four phases, and the first that finds a broken rule decides. Declarations: the class is one of the grammar (J2); no attribute
 /// is declared a second time for a class, a superclass or a subclass, or has the spelling of an accessor there (J3); its type is one (J4);
-/// inherited attributes of one name have one type and the same parameters (J15); there are at most 1,024 (J17). What equations are for: the
+/// a circular one is of `boolean` and has the bottom `false`, or of a set and has the bottom `empty` (J13); inherited attributes of one name have
+/// one type and the same parameters, and are circular or not alike (J15); there are at most 1,024 (J17). What equations are for: the
 /// class is one of the grammar (J2); the path leads somewhere (J9); the class has the attribute, or with a path some class inherits it (J5);
 /// no equation before is for the same (J6); the parameters are those of the attribute (J15). In both the parameters of a head have names of
 /// their own (J3) and types that are no sets (J4), and a parenthesis has at most three (J17). Completeness: each concrete class has an

@@ -1,4 +1,4 @@
-// The rules on declarations: J2, J3, J4, J15 and J17.
+// The rules on declarations: J2, J3, J4, J13, J15 and J17.
 ghost use Rattle.std.specs.Prelude.{◌≡◌, ◌<◌, ◌++◌, ◌∷◌, [], List, Some, IfOk, IfSome, OnOk, length, map};
 ghost use Rattle.std.specs.Option.{option_map};
 ghost use Rattle.ast_grammar.specs.Grammar.{class_named, number_of, superclasses_of};
@@ -16,6 +16,7 @@ ghost use Rattle.jrag_reader.specs.Items.{seen_type};
 use crate::declared::Declared;
 use crate::inheriting::Inheriting;
 use crate::parameters::{check_all_parameters, differ_from, params_written};
+use crate::starts::{are_unlike, check_start, is_circular, start_declared};
 use crate::written::Head;
 use crate::written_types::{kind_written, same_kind, type_written};
 use ast_grammar::{ClassId, Grammar};
@@ -98,13 +99,14 @@ fn check_named<'a>(
     Ok(())
 }
 
-// An inherited attribute is of another type than the first one of its name, or has other parameters.
+// An inherited attribute isn't declared as the first one of its name, in its type, in being circular, or in its parameters.
 fn is_other(grammar: &Grammar, head: &Head<'_>, first: Option<Head<'_>>) -> bool
     ensures { result ≡ is_other grammar.now (seen_head head.now) (option_map seen_head first.entry) }
 {
     let Some(first) = first else { return false };
     let kind = type_written(grammar, head.of);
     !same_kind(type_written(grammar, first.of), kind)
+        || are_unlike(is_circular(first.circular), is_circular(head.circular))
         || differ_from(
             grammar,
             &first.signature.parameters,
@@ -136,13 +138,16 @@ pub(crate) fn attribute_of<'a>(grammar: &Grammar, head: &Head<'a>) -> NamedAttr<
     ensures { seen_attribute result ≡ attribute_of grammar.now (seen_head head.now) }
 {
     let class = grammar.find_class(&head.class.text).unwrap_or(ClassId(0));
-    let plain = Attr::plain(class, kind_written(grammar, head.of));
+    let kind = kind_written(grammar, head.of);
     NamedAttr {
         name: &head.signature.name.text,
         declared: Attr {
+            class,
             sort: head.sort,
+            kind,
             params: params_written(grammar, &head.signature.parameters),
-            ..plain
+            circular: is_circular(head.circular),
+            start: start_declared(kind, head.circular),
         },
     }
 }
@@ -176,6 +181,7 @@ pub(crate) fn check_heads(
     let mut inheriting = Inheriting::new(alloc);
     for (count, head) in heads.iter().enumerate() {
         check_named(alloc, grammar, &mut declared, count, head, &mut faults)?;
+        check_start(grammar, head.sort, head.of, head.circular, &mut faults);
         check_other(grammar, &mut inheriting, head, &mut faults)?;
         check_all_parameters(alloc, grammar, None, head.signature, &mut faults)?;
     }

@@ -2,7 +2,7 @@
 ghost use Rattle.std.specs.Prelude.{◌≡◌, ◌↔◌, ℕ, List, None, true};
 ghost use Rattle.ast_grammar.specs.Grammar.{Class, IsGrammar};
 ghost use Rattle.broken_rules.specs.Answers.{Answers};
-ghost use Rattle.attr_rules.specs.Rules.{AreRules, RuleSet, Uncovered};
+ghost use Rattle.attr_rules.specs.Rules.{AreRules, EquationsMadeWell, RuleSet, Uncovered};
 ghost use Rattle.attr_types.specs.Covering.{covers, is_uncovered};
 ghost use Rattle.attr_types.specs.Phases.{phases_of, rules_of};
 ghost use Rattle.jrag_reader.specs.Built.{all_built};
@@ -12,6 +12,12 @@ ghost use Rattle.jrag_reader.specs.Items.{Item};
 /// typed and fits, and each concrete class has an equation for each of its attributes.
 pub fn accepted_rules()
     ensures { (g : List Class) (items : List Item) → IsGrammar g → all_built items ≡ true → Answers (phases_of g items) None → AreRules g (rules_of g items) }
+{}
+
+/// In the equations of circular attributes, the left side of a `||` whose right side may be left out calls no circular attribute; and only the
+/// literals `false` and `empty` stand behind `:` without their place.
+pub fn equations_are_made_well()
+    ensures { (g : List Class) (items : List Item) → EquationsMadeWell (rules_of g items) }
 {}
 
 /// The classes that the rounds of `is_uncovered` find are exactly those of which there can be a node at which no equation gives a value to

@@ -3,19 +3,24 @@
 
 mod asked;
 mod bodies;
+mod both_sides;
 mod calls;
 mod checking;
 mod completeness;
 mod covering;
 mod declared;
+mod equations;
 mod heads;
 mod inheriting;
 mod laws;
 mod parameters;
 mod paths;
+mod ranges;
 mod scope;
+mod set_forms;
 mod sides;
 mod standing;
+mod starts;
 mod targets;
 mod typed;
 mod written;
@@ -23,4 +28,4 @@ mod written_types;
 
 pub use asked::query_of_call;
 pub use checking::check;
-pub use laws::{accepted_rules, uncovered_classes_are_found};
+pub use laws::{accepted_rules, equations_are_made_well, uncovered_classes_are_found};

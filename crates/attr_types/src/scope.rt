@@ -52,8 +52,8 @@ pub(crate) fn list_called(member: Member, count: usize) -> Option<Accessor>
     }
 }
 
-// No parameters.
-fn no_params() -> Params
+/// No parameters.
+pub(crate) fn no_params() -> Params
     ensures { result ≡ no_params }
 {
     Params {
@@ -190,6 +190,13 @@ impl Scope<'_> {
             }
             Member::Calls(_) => None,
         }
+    }
+
+    /// The list that a call with so many arguments gives, where the name means something.
+    pub(crate) fn list_of(&self, member: Option<Member>, count: usize) -> Option<Accessor>
+        ensures { result ≡ option_and_then (list_called count) member }
+    {
+        list_called(member?, count)
     }
 
     /// The type of what a call gives, where the name means something.

@@ -2,7 +2,9 @@
 ghost use Rattle.std.specs.Prelude.{◌≡◌};
 ghost use Rattle.broken_rules.specs.Notes.{Notes, at, broken_if};
 ghost use Rattle.broken_rules.specs.declared.rule.Rule.TheVariants.{J10};
-ghost use Rattle.attr_types.specs.Bodies.{are_apart, both_misfit, choice_broken, equal_broken, have_no_common, is_no_node, is_unfit, misfit, no_list, no_node, place_of, sides_broken};
+ghost use Rattle.attr_types.specs.Bodies.{are_apart, both_misfit, choice_broken, equal_broken, is_no_node, is_unfit, misfit, no_node, sides_broken};
+ghost use Rattle.attr_types.specs.Places.{else_place, place_of};
+ghost use Rattle.attr_types.specs.SetForms.{have_no_common};
 ghost use Rattle.jrag_reader.specs.Expressions.{seen_expr};
 
 use ast_grammar::Grammar;
@@ -37,6 +39,16 @@ pub(crate) fn place_of(expr: &Expr) -> Place
     }
 }
 
+/// The place of the part of a choice behind `:`, unless that is the literal `false` or `empty`.
+pub(crate) fn else_place(expr: &Expr) -> Option<Place>
+    ensures { result ≡ else_place (seen_expr expr.now) }
+{
+    match expr {
+        Expr::Truth(_, false) | Expr::Empty(_) => None,
+        _ => Some(place_of(expr)),
+    }
+}
+
 fn is_unfit(grammar: &Grammar, of: Option<ValueType>, wanted: Kind) -> bool
     ensures { result ≡ is_unfit grammar.now of wanted }
 {
@@ -64,7 +76,12 @@ fn are_apart(left: Option<ValueType>, right: Option<ValueType>) -> bool
     }
 }
 
-fn have_no_common(grammar: &Grammar, left: Option<ValueType>, right: Option<ValueType>) -> bool
+/// Whether both types are known, and have nothing in common.
+pub(crate) fn have_no_common(
+    grammar: &Grammar,
+    left: Option<ValueType>,
+    right: Option<ValueType>,
+) -> bool
     ensures { result ≡ have_no_common grammar.now left right }
 {
     match (left, right) {
@@ -96,13 +113,6 @@ pub(crate) fn check_node(part: Part<'_>, faults: &mut Earliest)
     if is_no_node(part.value_type) {
         faults.note(Rule::J10, place_of(part.written));
     }
-}
-
-/// J10 at a range that has a type: lists have none.
-pub(crate) fn check_range(range: &Expr, of: Option<ValueType>, faults: &mut Earliest)
-    ensures { Notes (no_list of (seen_expr range.now)) faults.old faults.new }
-{
-    faults.note_if(of.is_some(), Rule::J10, place_of(range));
 }
 
 // J10 at the right one of two sides that can't be compared.

@@ -1,6 +1,8 @@
 // Where an expression stands.
 ghost use Rattle.std.specs.Prelude.{◌≡◌};
 
+use attr_rules::Kind;
+
 /// Where an expression stands, as far as that decides what may stand there.
 #[derive(Clone, Copy, Debug, PartialEq, Eq)]
 pub(crate) enum Stands {
@@ -28,5 +30,38 @@ impl Stands {
         ensures { result ≡ is_range self }
     {
         matches!(self, Stands::Range)
+    }
+}
+
+/// What stands before an operand.
+#[derive(Clone, Copy, Debug, PartialEq, Eq)]
+pub(crate) enum Prefix {
+    /// `!`
+    Not,
+    /// Unary `-`.
+    Minus,
+}
+
+impl Prefix {
+    ghost use Rattle.attr_types.specs.Bodies.{behind, kind_behind};
+
+    /// Where the operand stands.
+    pub(crate) fn stands(self) -> Stands
+        ensures { result ≡ behind self }
+    {
+        match self {
+            Prefix::Not => Stands::Anywhere,
+            Prefix::Minus => Stands::Negated,
+        }
+    }
+
+    /// The type that is wanted of the operand, and that the whole has.
+    pub(crate) fn kind(self) -> Kind
+        ensures { result ≡ kind_behind self }
+    {
+        match self {
+            Prefix::Not => Kind::Truth,
+            Prefix::Minus => Kind::Int,
+        }
     }
 }

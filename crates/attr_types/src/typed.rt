@@ -4,19 +4,23 @@ ghost use Rattle.attr_rules.specs.Expression as said;
 ghost use Rattle.attr_rules.specs.Expression.{arguments_of, expression_of};
 ghost use Rattle.std.specs.Option.{option_map};
 ghost use Rattle.attr_rules.specs.Types.{of_class};
-ghost use Rattle.attr_types.specs.Typed.{arguments_in, call_said, common_of, element_type, first_in, joined, over, over_said, quantified_type, read, result_of};
+ghost use Rattle.attr_types.specs.SetForms.{common_of};
+ghost use Rattle.attr_types.specs.Typed.{arguments_in, call_said, first_in, joined, prefixed, read, result_of};
 
 use crate::scope::Member;
+use crate::standing::Prefix;
 use ast_grammar::{ClassId, Grammar};
-use attr_rules::{Access, Accessor, Kind, Operator, Quantifier, TArgs, TExpr, ValueType, common};
-use jrag_reader::{Operator as Sign, Quantifier as Form};
+use attr_rules::{Access, Accessor, Kind, Operator, TArgs, TExpr, ValueType, common};
+use jrag_reader::Operator as Sign;
 use rag_io::{Memory, Place};
 use std::alloc::Global;
 
-/// What a written expression says: its type, where that is known, and its typed form. What breaks a rule says `null`.
+/// What a written expression says: its type, where that is known, the list that it gives, if it gives one, and its typed form. That of a list
+/// is what has it, and what breaks a rule may say `null`.
 #[derive(Debug, Drop)]
 pub(crate) struct Typed {
     pub value_type: Option<ValueType>,
+    pub list: Option<Accessor>,
     pub body: TExpr,
 }
 
@@ -48,24 +52,28 @@ pub(crate) fn common_of(
     common(grammar, left?, right?)
 }
 
-fn boxed(alloc: Global, expression: TExpr) -> Result<Box<TExpr>, Memory>
+/// An expression on the heap.
+pub(crate) fn boxed(alloc: Global, expression: TExpr) -> Result<Box<TExpr>, Memory>
     ensures { IfOk result (λ b. expression_of b.value ≡ expression_of expression) }
 {
     Box::new(alloc, expression).map_err(|_| Memory)
 }
 
-/// `!`
-pub(crate) fn denied(alloc: Global, part: TExpr) -> Result<TExpr, Memory>
+// `!`
+fn denied(alloc: Global, part: TExpr) -> Result<TExpr, Memory>
     ensures { IfOk result (λ e. expression_of e ≡ said.Not (expression_of part)) }
 {
     Ok(TExpr::Not(boxed(alloc, part)?))
 }
 
-/// Unary `-`.
-pub(crate) fn negated(alloc: Global, part: TExpr) -> Result<TExpr, Memory>
-    ensures { IfOk result (λ e. expression_of e ≡ said.Negate (expression_of part)) }
+/// A part with what stands before it.
+pub(crate) fn prefixed(alloc: Global, prefix: Prefix, part: TExpr) -> Result<TExpr, Memory>
+    ensures { IfOk result (λ e. expression_of e ≡ prefixed prefix (expression_of part)) }
 {
-    Ok(TExpr::Negate(boxed(alloc, part)?))
+    match prefix {
+        Prefix::Not => denied(alloc, part),
+        Prefix::Minus => Ok(TExpr::Negate(boxed(alloc, part)?)),
+    }
 }
 
 fn operated(alloc: Global, operator: Operator, left: TExpr, right: TExpr) -> Result<TExpr, Memory>
@@ -108,15 +116,15 @@ pub(crate) fn joined(alloc: Global, sign: Sign, left: TExpr, right: TExpr) -> Re
     }
 }
 
-/// A choice between two parts, of which the last begins at a place.
+/// A choice between two parts, of which the last begins at a place, unless that isn't kept.
 pub(crate) fn chosen(
     alloc: Global,
     condition: TExpr,
     then: TExpr,
-    place: Place,
+    place: Option<Place>,
     otherwise: TExpr,
 ) -> Result<TExpr, Memory>
-    ensures { IfOk result (λ e. expression_of e ≡ said.If (expression_of condition) (expression_of then) (expression_of otherwise)) }
+    ensures { IfOk result (λ e. expression_of e ≡ said.If (expression_of condition) (expression_of then) place (expression_of otherwise)) }
 {
     let condition = boxed(alloc, condition)?;
     let then = boxed(alloc, then)?;
@@ -137,51 +145,6 @@ pub(crate) fn tested(alloc: Global, class: ClassId, part: TExpr) -> Result<TExpr
     Ok(TExpr::InstanceOf(class, boxed(alloc, part)?))
 }
 
-fn over(
-    alloc: Global,
-    quantifier: Quantifier,
-    list: Option<Accessor>,
-    owner: TExpr,
-    condition: TExpr,
-) -> Result<TExpr, Memory>
-    ensures { IfOk result (λ e. expression_of e ≡ over quantifier list (expression_of owner) (expression_of condition)) }
-{
-    let Some(list) = list else {
-        return Ok(TExpr::Null)
-    };
-    let owner = boxed(alloc, owner)?;
-    Ok(TExpr::Quantified(quantifier, list.component, owner, boxed(alloc, condition)?))
-}
-
-/// A form over a list, with the node that has the list and the condition.
-pub(crate) fn over_said(
-    alloc: Global,
-    form: Form,
-    list: Option<Accessor>,
-    owner: TExpr,
-    condition: TExpr,
-) -> Result<TExpr, Memory>
-    ensures { IfOk result (λ e. expression_of e ≡ over_said form list (expression_of owner) (expression_of condition)) }
-{
-    match form {
-        Form::Each => Ok(TExpr::Null),
-        Form::Any => over(alloc, Quantifier::Any, list, owner, condition),
-        Form::All => over(alloc, Quantifier::All, list, owner, condition),
-        Form::First => over(alloc, Quantifier::First, list, owner, condition),
-    }
-}
-
-/// The type of a form over a list.
-pub(crate) fn quantified_type(form: Form, list: Option<Accessor>) -> Option<ValueType>
-    ensures { result ≡ quantified_type form list }
-{
-    match form {
-        Form::Each => None,
-        Form::Any | Form::All => Some(ValueType::Of(Kind::Truth)),
-        Form::First => element_type(list),
-    }
-}
-
 /// The type of a class, where there is one.
 pub(crate) fn type_of_class(class: Option<ClassId>) -> Option<ValueType>
     ensures { result ≡ option_map of_class class }
@@ -189,14 +152,7 @@ pub(crate) fn type_of_class(class: Option<ClassId>) -> Option<ValueType>
     Some(ValueType::of_class(class?))
 }
 
-/// The type of the elements of a list.
-pub(crate) fn element_type(list: Option<Accessor>) -> Option<ValueType>
-    ensures { result ≡ option_map element_type list }
-{
-    Some(ValueType::of_class(list?.class))
-}
-
-// What an accessor says behind a receiver, with the argument that it may have.
+// What an accessor says behind a receiver, with the argument that it may have. A whole list says what has it.
 fn read(
     alloc: Global,
     accessor: Accessor,
@@ -212,7 +168,7 @@ fn read(
         Access::Token(kind) => TExpr::Token(kind, k, receiver),
         Access::Has => TExpr::Has(k, receiver),
         Access::Count => TExpr::Count(k, receiver),
-        Access::Elements => TExpr::Null,
+        Access::Elements => Box::into_inner(receiver),
         Access::Element => TExpr::Element(k, receiver, boxed(alloc, argument)?),
     })
 }
@@ -235,7 +191,7 @@ pub(crate) fn called(
     arguments: TArgs,
     place: Place,
 ) -> Result<TExpr, Memory>
-    ensures { IfOk result (λ e. expression_of e ≡ call_said member (expression_of receiver) (arguments_of arguments)) }
+    ensures { IfOk result (λ e. expression_of e ≡ call_said member place (expression_of receiver) (arguments_of arguments)) }
 {
     match member {
         None => Ok(TExpr::Null),

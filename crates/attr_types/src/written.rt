@@ -6,17 +6,18 @@ ghost use Rattle.attr_types.specs.Written.{declarations, declared_in, given_by, 
 ghost use Rattle.jrag_reader.specs.Items.{seen_equation, seen_item};
 
 use attr_rules::Sort;
-use jrag_reader::{Equation, Expr, Item, Name, Signature, Type};
+use jrag_reader::{Circular, Equation, Expr, Item, Name, Signature, Type};
 use rag_io::Memory;
 use std::alloc::Global;
 
-/// The declaration of an attribute: its sort, its type, the class that has it, and its name with the parameters.
+/// The declaration of an attribute: its sort, its type, the class that has it, its name with the parameters, and whether it is circular.
 #[derive(Clone, Copy, Debug)]
 pub(crate) struct Head<'a> {
     pub sort: Sort,
     pub of: &'a Type,
     pub class: &'a Name,
     pub signature: &'a Signature,
+    pub circular: Option<&'a Circular>,
 }
 
 /// An equation: the name of the class, the path to the nodes, if it has one, the name of the attribute with the parameters, and the right
@@ -39,12 +40,14 @@ fn declared_in(item: &Item) -> Option<Head<'_>>
             of: &declared.of,
             class: &declared.class,
             signature: &declared.signature,
+            circular: declared.circular.as_ref(),
         }),
         Item::Inherited(declared) => Some(Head {
             sort: Sort::Inh,
             of: &declared.of,
             class: &declared.class,
             signature: &declared.signature,
+            circular: declared.circular.as_ref(),
         }),
         Item::Equation(_) | Item::Collection(_) | Item::Contribution(_) => None,
     }

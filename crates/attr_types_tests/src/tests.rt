@@ -1,12 +1,14 @@
 // Aspects over grammars through the scanner, the readers and the checker. The tests of each subject have rows: the items of an aspect, and
 // the place and the rule that they break, or that they are accepted.
 mod accessors;
+mod circular;
 mod expressions;
 mod heads;
 mod inherited;
 mod limits;
 mod nodes;
 mod parameters;
+mod sets;
 mod typed_forms;
 mod uncovered;
 

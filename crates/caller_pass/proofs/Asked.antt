@@ -1,11 +1,13 @@
 -- What asking for an instance says, at each way out.
-use Rattle.std.proofs.Common.{◌≡◌, ℕ, ◌+◌, ◌*◌, ◌<◌, inl, inr, List, Result, Ok, Err, refl, sym, ap, subst, ◌∙◌}
+use Rattle.std.proofs.Common.{◌≡◌, ℕ, ◌+◌, ◌*◌, ◌<◌, inl, inr, false, List, Option, Some, None, Result, Ok, Err, refl, sym, ap, subst, ◌∙◌, arith}
 use Rattle.std.specs.Result.{IsErr, IsErrAnd}
+use Rattle.rag_io.specs.declared.Memory.{Memory as NoMemory}
 use Rattle.attr_rules.specs.declared.kinds.Kind.{Kind}
+use Rattle.attr_rules.specs.Rules.{is_single}
 use Rattle.solutions.specs.Leading.{none}
 use Rattle.equation_law.specs.declared.coding.Instance.{Instance as CodedInstance}
 use Rattle.equation_law.specs.declared.coding.Value.{Value as CodedValue}
-use Rattle.equation_law.specs.Checked.{IsInstance, IsProgram, IsValue, int, node, text, truth}
+use Rattle.equation_law.specs.Checked.{IsInstance, IsProgram, IsValue, int, node, nodes, text, texts, truth}
 use Rattle.equation_law.specs.Codes.{instance_of}
 use Rattle.equation_law.specs.Equations.{HasValue, kind_in}
 use Rattle.equation_law.specs.Loops.{HasLoop}
@@ -13,22 +15,32 @@ use Rattle.equation_law.specs.Names.{Instance}
 use Rattle.equation_law.specs.Program.{Program}
 use Rattle.equation_law.specs.Values.{Value, as_kind}
 use Rattle.equation_law.proofs.QueryValues.{value_typed}
-use Rattle.memo_cells.specs.declared.keys.Slot.{Slot}
 use Rattle.memo_cells.specs.declared.view.Frame.{Frame}
 use Rattle.memo_cells.specs.declared.view.View.{View}
 use Rattle.memo_cells.specs.Naming.{LacksCell}
 use Rattle.memo_cells.specs.Standing.{Knows}
-use Rattle.memo_cells.specs.Views.{times}
-use Rattle.caller_pass.specs.declared.asking.AskFault.{AskFault}
-use Rattle.caller_pass.specs.declared.asking.AskFault.TheVariants.{CellsFull, Circular, Memory}
-use Rattle.caller_pass.specs.Answering.{AnswersAsk, AnswersWait, Asks, ClaimsKeys, IsCircular, unsettled}
-use Rattle.caller_pass.specs.Knowing.{IsKnownValue}
+use Rattle.memo_cells.specs.Views.{IsAtLeast, times}
+use Rattle.memo_cells.proofs.Naming.{knows_later}
+use Rattle.caller_pass.specs.declared.faults.AskFault.{AskFault}
+use Rattle.caller_pass.specs.declared.faults.AskFault.TheVariants.{CellsFull, Circular, Memory}
+use Rattle.caller_pass.specs.declared.waiting.Waiter.{Waiter}
+use Rattle.caller_pass.specs.Answering.{AnswersAsk, AnswersFault, AnswersSolve, Asks, ClaimsKeys, IsCircular, Solves, unsettled}
+use Rattle.caller_pass.specs.Knowing.{FindsValue, IsKnownValue}
+use Rattle.caller_pass.specs.Waiting.{AnswersWait}
+use Rattle.caller_pass.proofs.Claiming.{claims_same, claims_then}
+use Rattle.caller_pass.proofs.Closing.{unsettled_less}
 use Rattle.caller_pass.proofs.Lines.{loop_has}
 
 -- full cells, handed on
-pub full_waits : (p : Program) (f : Frame) (v : View) (es : List (CodedInstance × Slot)) (next : CodedInstance) (new : List (CodedInstance × Slot)) (r : Result Slot AskFault) → IsErr r × IsErrAnd r (λ e. e ≡ CellsFull) → LacksCell p f v (instance_of p next) → AnswersWait p f v es next new r
-full_waits p f v es next new (Ok s) h full = let none = h.0 in cc
+pub full_waits : (p : Program) (f : Frame) (v : View) (es : List (CodedInstance × Waiter)) (next : CodedInstance) (new : List (CodedInstance × Waiter)) (r : Result Waiter AskFault) → IsErr r × IsErrAnd r (λ e. e ≡ CellsFull) → LacksCell p f v (instance_of p next) → AnswersWait p f v es next new r
+full_waits p f v es next new (Ok s) h full = let missing = h.0 in cc
 full_waits p f v es next new (Err e) h full = subst (λ x. AnswersWait p f v es next new (Err x)) (sym h.1) full
+
+-- a loop is answered only where there is one
+pub circular_loop : (X : Type 0) (p : Program) (f : Frame) (v : View) (i : Instance) (e : AskFault) → AnswersFault p f v i e → IsCircular {X = X} (Err e) → HasLoop p i
+circular_loop X p f v i (Circular on chain) a h = loop_has p i _ _ a
+circular_loop X p f v i CellsFull a h = absurd h
+circular_loop X p f v i Memory a h = absurd h
 
 -- a value of a type is read at it as it is
 typed_as : (p : Program) (k : Kind) (v : Value) → IsValue p k v → as_kind k v ≡ v
@@ -36,40 +48,59 @@ typed_as p _ _ (truth b) = refl
 typed_as p _ _ (int z h) = refl
 typed_as p _ _ (text t h) = refl
 typed_as p _ _ (node c r h) = refl
+typed_as p _ _ (texts s h) = refl
+typed_as p _ _ (nodes c s h) = refl
 
--- a loop is answered only where there is one
-circular_loop : (p : Program) (f : Frame) (v : View) (i : Instance) (r : Result CodedValue AskFault) → AnswersAsk p f v i r → IsCircular r → HasLoop p i
-circular_loop p f v i (Ok x) a h = absurd h
-circular_loop p f v i (Err (Circular on chain)) a h = loop_has p i _ _ a
-circular_loop p f v i (Err CellsFull) a h = absurd h
-circular_loop p f v i (Err Memory) a h = absurd h
+known_has : (p : Program) (f : Frame) (v : View) (i : Instance) (x : CodedValue) → IsProgram p → IsInstance p i → IsKnownValue p v i x → AnswersAsk p f v i (Ok x)
+known_has p f v i x good instance k = (subst (HasValue p i) (sym (k.coded ∙ typed_as p (kind_in p i) k.value (value_typed p good i instance k.value k.known.1))) k.known.1, k.known.0, k.elements)
 
 -- the answer that stood there
-pub answered_known : (p : Program) (f : Frame) (v w : View) (i : Instance) (x : CodedValue) (n : ℕ) → IsProgram p → IsInstance p i → IsKnownValue p w i x → w.claims ≡ v.claims → Asks p f v w i n n (Ok x)
-answered_known p f v w i x n good instance k claims = record {
-  answer = (subst (HasValue p i) (sym (k.coded ∙ typed_as p (kind_in p i) k.value (value_typed p good i instance k.value k.known.1))) k.known.1, k.known.0);
+pub asked_known : (p : Program) (f : Frame) (v w : View) (i : Instance) (x : CodedValue) (n : ℕ) → IsProgram p → IsInstance p i → IsKnownValue p w i x → w.claims ≡ v.claims → Asks p f v w i n n (Ok x)
+asked_known p f v w i x n good instance k claims = record {
+  answer = known_has p f w i x good instance k;
   circular = λ h. absurd h;
-  claims = λ q. inl (ap (times q) claims);
-  known = λ _. (refl, refl);
+  claims = claims_same p i v w claims;
+  known = λ _. (tt, refl);
   cost = λ _. inl refl;
 }
 
--- a value that wasn't known
-pub asked_value : (p : Program) (f : Frame) (v w : View) (i : Instance) (m n : ℕ) (x : CodedValue) → ¬ Knows p v i → ClaimsKeys p i v w → AnswersAsk p f w i (Ok x) → n + 2 * unsettled w f.cells < m + 2 * unsettled v f.cells → Asks p f v w i m n (Ok x)
-asked_value p f v w i m n x unknown claims answer cost = record { answer = answer; circular = λ h. absurd h; claims = claims; known = λ k. absurd (unknown k); cost = λ _. inr cost }
+-- a set that couldn't be read
+pub asked_unread : (p : Program) (f : Frame) (v w : View) (i : Instance) (n : ℕ) (r : Result CodedValue AskFault) → IsErr r × IsErrAnd r (λ e. e ≡ Memory) → is_single (kind_in p i) ≡ false → w.claims ≡ v.claims → Asks p f v w i n n r
+asked_unread p f v w i n (Ok x) h set claims = let missing = h.0 in cc
+asked_unread p f v w i n (Err e) h set claims = subst (λ (d : AskFault). Asks p f v w i n n (Err d)) (sym h.1)
+    (record { answer = tt; circular = λ no. absurd no; claims = claims_same p i v w claims; known = λ _. (set, refl); cost = λ ok. cc })
 
--- a fault
-pub asked_fault : (p : Program) (f : Frame) (v w : View) (i : Instance) (m n : ℕ) (r : Result CodedValue AskFault) → ¬ Knows p v i → ClaimsKeys p i v w → IsErr r → AnswersAsk p f w i r → Asks p f v w i m n r
-asked_fault p f v w i m n (Ok x) unknown claims fault answer = cc
-asked_fault p f v w i m n (Err e) unknown claims fault answer = record { answer = answer; circular = circular_loop p f w i (Err e) answer; claims = claims; known = λ k. absurd (unknown k); cost = λ ok. cc }
+-- what was read before counts too
+pub solves_before : (p : Program) (f : Frame) (v u w : View) (i : Instance) (m n : ℕ) (r : Result Unit AskFault) → IsAtLeast v u → u.claims ≡ v.claims → IsAtLeast u w → Solves p f u w i m n r → Solves p f v w i m n r
+solves_before p f v u w i m n r kept quiet later h = record {
+  answer = h.answer;
+  claims = claims_then p i i v u w none (claims_same p i v u quiet) later h.claims;
+  cost = λ ok. let cost = h.cost ok in let less = unsettled_less v u f.cells kept in omega (arith, cost, less);
+}
 
--- a fault that is handed on, want of memory, and full cells
-pub fault_is : (p : Program) (f : Frame) (v : View) (i : Instance) (e : AskFault) (r : Result CodedValue AskFault) → IsErr r × IsErrAnd r (λ x. x ≡ e) → AnswersAsk p f v i (Err e) → AnswersAsk p f v i r
-fault_is p f v i e (Ok x) h a = let none = h.0 in cc
-fault_is p f v i e (Err d) h a = subst (λ y. AnswersAsk p f v i (Err y)) (sym h.1) a
+module _ (p : Program) (f : Frame) (v u w : View) (i : Instance) (m n : ℕ) (unknown : ¬ Knows p v i) where
+  -- a fault of settling it
+  pub asked_fault : (e : AskFault) (s : Result Unit AskFault) → s ≡ Err e → (r : Result CodedValue AskFault) → IsErr r × IsErrAnd r (λ x. x ≡ e) → Solves p f v w i m n s → Asks p f v w i m n r
+  asked_fault e s is (Ok x) h solved = let missing = h.0 in cc
+  asked_fault e s is (Err d) h solved =
+      let answer = subst (λ (x : AskFault). AnswersFault p f w i x) (sym h.1) (subst (λ (y : Result Unit AskFault). AnswersSolve p f w i y) is solved.answer) in
+      record { answer = answer; circular = circular_loop CodedValue p f w i d answer; claims = solved.claims; known = λ k. absurd (unknown k); cost = λ ok. cc }
 
-pub memory_answers : (p : Program) (f : Frame) (v : View) (i : Instance) (r : Result CodedValue AskFault) → IsErr r × IsErrAnd r (λ e. e ≡ Memory) → AnswersAsk p f v i r
-memory_answers p f v i r h = fault_is p f v i Memory r h tt
+  -- it is settled, and its value is read
+  module _ (done : Unit {0}) (solved : Solves p f v u i m n (Ok done)) (kept : IsAtLeast u w) (quiet : w.claims ≡ u.claims) where
+    claims_all : ClaimsKeys p i v w
+    claims_all = claims_then p i i v u w none solved.claims kept (claims_same p i u w quiet)
 
-pub full_answers : (p : Program) (f : Frame) (v : View) (i : Instance) (r : Result CodedValue AskFault) → IsErr r × IsErrAnd r (λ e. e ≡ CellsFull) → LacksCell p f v i → AnswersAsk p f v i r
-full_answers p f v i r h lacks = fault_is p f v i CellsFull r h (lacks.0, record { of = i; reached = none; key = lacks.1 }, lacks.2)
+    pub asked_value : (x : CodedValue) → IsProgram p → IsInstance p i → IsKnownValue p w i x → Asks p f v w i m n (Ok x)
+    asked_value x good instance k = record {
+      answer = known_has p f w i x good instance k;
+      circular = λ h. absurd h;
+      claims = claims_all;
+      known = λ k. absurd (unknown k);
+      cost = λ ok. inr (let cost = solved.cost ok in let less = unsettled_less u w f.cells kept in omega (arith, cost, less));
+    }
+
+    pub asked_memory : (r : Result CodedValue AskFault) → IsErr r × IsErrAnd r (λ e. e ≡ Memory) → Asks p f v w i m n r
+    asked_memory (Ok x) h = let missing = h.0 in cc
+    asked_memory (Err e) h = subst (λ (d : AskFault). Asks p f v w i m n (Err d)) (sym h.1)
+        (record { answer = tt; circular = λ no. absurd no; claims = claims_all; known = λ k. absurd (unknown k); cost = λ ok. cc })

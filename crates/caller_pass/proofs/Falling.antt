@@ -1,21 +1,22 @@
 -- What falls from turn to turn: the cells that are neither seen settled nor of an instance that waits.
-use Rattle.std.proofs.Common.{◌≡◌, ◌≢◌, ℕ, zero, suc, ◌+◌, ◌*◌, ◌<◌, ◌≤◌, ◌⊎◌, inl, inr, ⊎_elim, Bool, true, false, ◌||◌, eqb, if◌then◌else◌, List, [], ◌∷◌, ◌++◌, length, refl, sym, ap, subst, ◌∙◌, arith}
+use Rattle.std.proofs.Common.{◌≡◌, ◌≢◌, ℕ, zero, suc, ◌+◌, ◌*◌, ◌<◌, ◌≤◌, ◌⊎◌, inl, inr, ⊎_elim, Bool, true, false, ◌||◌, eqb, if◌then◌else◌, List, [], ◌∷◌, ◌++◌, length, Option, Some, None, refl, sym, ap, subst, ◌∙◌, arith}
 use mathlib.Core.Logic.{dite}
 use native.Mathlib.Decide.{ℕ_discrete}
 use Rattle.std.specs.List.{list_any}
 use Rattle.std.proofs.lemmas.Bool.{eq-eqb, eqb-true, or_left, or_right}
 use Rattle.equation_law.proofs.Keys.{both_ways}
 use Rattle.equation_law.specs.declared.coding.Instance.{Instance as CodedInstance}
-use Rattle.memo_cells.specs.declared.keys.Slot.{Slot}
 use Rattle.memo_cells.specs.declared.view.View.{View}
 use Rattle.memo_cells.specs.Views.{Has, IsAtLeast}
 use Rattle.memo_cells.proofs.Counting.{any_has, has_any}
+use Rattle.circular_eval.specs.declared.local.Local.{Local}
+use Rattle.caller_pass.specs.declared.waiting.Waiter.{Waiter}
 use Rattle.caller_pass.specs.Answering.{unsettled}
 use Rattle.caller_pass.proofs.Lines.{has_left, has_snoc}
 
 -- the cell is seen settled, or an instance waits at it
-abbrev pub taken : View → List (CodedInstance × Slot) → ℕ → Bool
-taken v es q = list_any (λ x. eqb x.0 q) v.values || list_any (λ e. eqb e.1.0 q) es
+abbrev pub taken : View → List (CodedInstance × Waiter) → ℕ → Bool
+taken v es q = list_any (λ x. eqb x.0 q) v.values || list_any (λ e. eqb e.1.slot.0 q) es
 
 -- how many of the cells below n aren't
 abbrev pub left : (ℕ → Bool) → ℕ → ℕ
@@ -51,43 +52,48 @@ left_falls f g (suc n) s more lt free new =
     )
 
 -- what is taken
-pub by_value : (v : View) (es : List (CodedInstance × Slot)) (q k c : ℕ) → Has v.values (q, k, c) → taken v es q ≡ true
+pub by_value : (v : View) (es : List (CodedInstance × Waiter)) (q k c : ℕ) → Has v.values (q, k, c) → taken v es q ≡ true
 by_value v es q k c h = or_left (list_any (λ x. eqb x.0 q) v.values) _ (any_has (λ x. eqb x.0 q) v.values (q, k, c) h (eq-eqb q q refl))
 
-pub by_one : (v : View) (es : List (CodedInstance × Slot)) (e : CodedInstance × Slot) → Has es e → taken v es e.1.0 ≡ true
-by_one v es e h = or_right (list_any (λ x. eqb x.0 e.1.0) v.values) _ (any_has (λ x. eqb x.1.0 e.1.0) es e h (eq-eqb e.1.0 e.1.0 refl))
+pub by_one : (v : View) (es : List (CodedInstance × Waiter)) (e : CodedInstance × Waiter) → Has es e → taken v es e.1.slot.0 ≡ true
+by_one v es e h = or_right (list_any (λ x. eqb x.0 e.1.slot.0) v.values) _ (any_has (λ x. eqb x.1.slot.0 e.1.slot.0) es e h (eq-eqb e.1.slot.0 e.1.slot.0 refl))
 
-pub taken_by : (v : View) (es : List (CodedInstance × Slot)) (q : ℕ) → taken v es q ≡ true → ((k c : ℕ) × Has v.values (q, k, c)) ⊎ ((e : CodedInstance × Slot) × Has es e × (e.1.0 ≡ q))
+pub taken_by : (v : View) (es : List (CodedInstance × Waiter)) (q : ℕ) → taken v es q ≡ true → ((k c : ℕ) × Has v.values (q, k, c)) ⊎ ((e : CodedInstance × Waiter) × Has es e × (e.1.slot.0 ≡ q))
 taken_by v es q h = ⊎_elim
     (λ e. let r = has_any (λ x. eqb x.0 q) v.values e in inl (r.0.1, r.0.2, subst (λ (y : ℕ). Has v.values (y, r.0.1, r.0.2)) (eqb-true r.0.0 q r.2) r.1))
-    (λ e. let r = has_any (λ x. eqb x.1.0 q) es e in inr (r.0, r.1, eqb-true r.0.1.0 q r.2))
-    (one_of (list_any (λ x. eqb x.0 q) v.values) (list_any (λ e. eqb e.1.0 q) es) h)
+    (λ e. let r = has_any (λ x. eqb x.1.slot.0 q) es e in inr (r.0, r.1, eqb-true r.0.1.slot.0 q r.2))
+    (one_of (list_any (λ x. eqb x.0 q) v.values) (list_any (λ e. eqb e.1.slot.0 q) es) h)
   where
     one_of : (a b : Bool) → (a || b) ≡ true → (a ≡ true) ⊎ (b ≡ true)
     one_of true b h = inl refl
     one_of false b h = inr h
 
 -- one that waits more
-pub push_keeps : (v w : View) (es : List (CodedInstance × Slot)) (e : CodedInstance × Slot) → IsAtLeast v w → (q : ℕ) → taken v es q ≡ true → taken w (es ++ e ∷ []) q ≡ true
+pub push_keeps : (v w : View) (es : List (CodedInstance × Waiter)) (e : CodedInstance × Waiter) → IsAtLeast v w → (q : ℕ) → taken v es q ≡ true → taken w (es ++ e ∷ []) q ≡ true
 push_keeps v w es e kept q h = ⊎_elim
     (λ x. by_value w (es ++ e ∷ []) q x.0 x.1 (kept.values q x.0 x.1 x.2))
     (λ x. subst (λ (y : ℕ). taken w (es ++ e ∷ []) y ≡ true) x.2 (by_one w (es ++ e ∷ []) x.0 (has_left es (e ∷ []) x.0 x.1)))
     (taken_by v es q h)
 
 -- one that waits no more, whose cell is seen settled
-pub pop_keeps : (v w : View) (es : List (CodedInstance × Slot)) (e : CodedInstance × Slot) (k c : ℕ) → IsAtLeast v w → Has w.values (e.1.0, k, c) → (q : ℕ) → taken v (es ++ e ∷ []) q ≡ true → taken w es q ≡ true
+pub pop_keeps : (v w : View) (es : List (CodedInstance × Waiter)) (e : CodedInstance × Waiter) (k c : ℕ) → IsAtLeast v w → Has w.values (e.1.slot.0, k, c) → (q : ℕ) → taken v (es ++ e ∷ []) q ≡ true → taken w es q ≡ true
 pop_keeps v w es e k c kept settled q h = ⊎_elim
     (λ x. by_value w es q x.0 x.1 (kept.values q x.0 x.1 x.2))
-    (λ x. ⊎_elim (λ before. subst (λ (y : ℕ). taken w es y ≡ true) x.2 (by_one w es x.0 before)) (λ same. by_value w es q k c (subst (λ (y : ℕ). Has w.values (y, k, c)) (sym (ap (λ (d : CodedInstance × Slot). d.1.0) same) ∙ x.2) settled)) (has_snoc es e x.0 x.1))
+    (λ x. ⊎_elim (λ before. subst (λ (y : ℕ). taken w es y ≡ true) x.2 (by_one w es x.0 before)) (λ same. by_value w es q k c (subst (λ (y : ℕ). Has w.values (y, k, c)) (sym (ap (λ (d : CodedInstance × Waiter). d.1.slot.0) same) ∙ x.2) settled)) (has_snoc es e x.0 x.1))
     (taken_by v (es ++ e ∷ []) q h)
 
 -- a cell that nothing takes
-pub not_taken : (v : View) (es : List (CodedInstance × Slot)) (q : ℕ) → ((k c : ℕ) → ¬ Has v.values (q, k, c)) → ((e : CodedInstance × Slot) → Has es e → e.1.0 ≢ q) → taken v es q ≡ false
+pub not_taken : (v : View) (es : List (CodedInstance × Waiter)) (q : ℕ) → ((k c : ℕ) → ¬ Has v.values (q, k, c)) → ((e : CodedInstance × Waiter) → Has es e → e.1.slot.0 ≢ q) → taken v es q ≡ false
 not_taken v es q none other = both_ways (taken v es q) false (λ h. ⊎_elim (λ x. absurd (none x.0 x.1 x.2)) (λ x. absurd (other x.0 x.1 x.2)) (taken_by v es q h)) (λ h. cc)
 
--- the measure of a turn
-abbrev pub measure : View → List (CodedInstance × Slot) → CodedInstance × Slot → ℕ → ℕ
-measure v es last n = 2 * left (taken v (es ++ last ∷ [])) n + length es
+-- one for an instance that is evaluated next, and none for one whose local set goes on
+abbrev pub turns_of : Option Local → ℕ
+turns_of None = 1
+turns_of (Some l) = 0
+
+-- the measure of a turn: each cell that is left pays three, and each that waits one
+abbrev pub measure : View → List (CodedInstance × Waiter) → CodedInstance × Waiter → ℕ → ℕ
+measure v es top n = 3 * left (taken v (es ++ top ∷ [])) n + length es + turns_of top.1.way
 
 -- where nobody waits, what isn't seen settled is left
 pub left_unsettled : (v : View) (n : ℕ) → left (taken v []) n ≡ unsettled v n

@@ -1,28 +1,32 @@
 -- What a pass knows of instances.
-use Rattle.std.proofs.Common.{◌≡◌, ℕ, ◌<◌, ◌^◌, List, sym, ap, subst, ◌∙◌}
+use Rattle.std.proofs.Common.{◌≡◌, ℕ, ◌<◌, ◌^◌, Bool, true, false, not, List, refl, sym, ap, subst, ◌∙◌}
 use Rattle.rag_io.specs.Pool.{ArePooled}
 use Rattle.solutions.specs.Asking.{Demands, Halts, Meets, at, after, here, later}
-use Rattle.solutions.specs.Leading.{undeclared}
 use Rattle.solutions.proofs.Loops.{ends_meets}
 use Rattle.solutions.proofs.Runs.{ends_more}
 use Rattle.equation_law.specs.declared.coding.Instance.{Instance as CodedInstance}
 use Rattle.equation_law.specs.declared.coding.Value.{Value as CodedValue}
-use Rattle.equation_law.specs.Codes.{instance_of, value_at, value_of}
-use Rattle.equation_law.specs.Equations.{HasValue, equations_of, kind_in}
+use Rattle.equation_law.specs.Codes.{AreElements, IsSmall, instance_of, value_at, value_of}
+use Rattle.equation_law.specs.Equations.{HasValue, equations_of, is_ordered, kind_in}
 use Rattle.equation_law.specs.Loops.{Leads}
 use Rattle.equation_law.specs.Names.{Instance}
 use Rattle.equation_law.specs.Program.{Program, text_of}
 use Rattle.equation_law.specs.Systems.{program_of}
 use Rattle.equation_law.specs.Values.{Value, as_kind}
-use Rattle.equation_law.proofs.Solution.{ended, none_circular, one}
+use Rattle.equation_law.proofs.Solution.{ended, met_leads, one}
 use Rattle.attr_rules.specs.declared.kinds.Kind.{Kind}
+use Rattle.attr_rules.specs.declared.kinds.Kind.TheVariants as kinds
+use Rattle.attr_rules.specs.Rules.{is_single}
 use Rattle.memo_cells.specs.declared.view.Frame.{Frame}
 use Rattle.memo_cells.specs.declared.view.View.{View}
 use Rattle.memo_cells.specs.Naming.{IsCellOf, StandsFor}
+use Rattle.memo_cells.specs.Showing.{ShowsAtLeast}
 use Rattle.memo_cells.specs.Standing.{IsCodeOf, IsPassOf, Knows, MaySettle}
 use Rattle.memo_cells.specs.Views.{Has, IsAtLeast, IsUnset}
-use Rattle.memo_cells.proofs.Naming.{stands_later, stands_once, word_once}
-use Rattle.caller_pass.specs.Knowing.{HasEnded, IsKnownValue, Known}
+use Rattle.memo_cells.specs.Working.{IsKnown}
+use Rattle.memo_cells.proofs.Naming.{knows_later, stands_later, stands_once, word_once}
+use Rattle.set_words.specs.Shown.{IsShownValue}
+use Rattle.caller_pass.specs.Knowing.{FindsCode, HasEnded, IsKnownValue, IsSettledAt}
 
 -- the cell of what is known
 pub known_cell : (p : Program) (f : Frame) (v : View) (i : Instance) → IsPassOf f v → (k : Knows p v i) → IsCellOf p f v i k.slot
@@ -67,13 +71,14 @@ module _ (p : Program) (f : Frame) (v : View) (same : p ≡ program_of f.system.
       record { key = key; stands = subst (λ (j : Instance). StandsFor p v key j) is of.1; slot = slot; code = code; settled = h }
 
   -- a settled code, read at the type of the instance
-  pub known_value_is : (i : Instance) (slot key code : ℕ) (kind : Kind) (x : CodedValue) → StandsFor p v key i → Has v.values (slot, key, code) → kind ≡ kind_in p i → ((texts : ℕ → List ℕ) → value_of texts x ≡ value_at texts kind code) → IsKnownValue p v i x
-  known_value_is i slot key code kind x s h kinds is =
-      let of = code_of i slot key code s h in
+  pub known_value_is : (i : Instance) (slot code : ℕ) (kind : Kind) (x : CodedValue) → IsSettledAt p f v i slot code → kind ≡ kind_in p i → is_single kind ≡ true → ((texts : ℕ → List ℕ) → value_of texts x ≡ value_at texts kind code) → AreElements p x → IsKnownValue p v i x
+  known_value_is i slot code kind x s kinds single is elements =
+      let of = code_of i slot s.key code s.stands s.settled in
       record {
         value = of.value;
-        known = (record { key = key; stands = s; slot = slot; code = code; settled = h }, of.has);
-        coded = is (text_of p) ∙ ap (λ (k : Kind). value_at (text_of p) k code) kinds ∙ of.coded;
+        known = (record { key = s.key; stands = s.stands; slot = slot; code = code; settled = s.settled }, of.has);
+        coded = is (text_of p) ∙ ap (λ (k : Kind). value_at (text_of p) k code) kinds ∙ of.coded (ap is_single (sym kinds) ∙ single);
+        elements = elements;
       }
 
   -- what a look at the cell of an instance told, where `u` is what the pass knew before it
@@ -84,8 +89,8 @@ module _ (p : Program) (f : Frame) (v : View) (same : p ≡ program_of f.system.
     stands : StandsFor p v its.0 (instance_of p i)
     stands = stands_later u v kept p its.0 (instance_of p i) its.2
 
-    pub seen_value : (code : ℕ) (kind : Kind) (x : CodedValue) → ((k : ℕ) → Has u.keys (slot, k) → Has v.values (slot, k, code)) → kind ≡ kind_in p (instance_of p i) → ((texts : ℕ → List ℕ) → value_of texts x ≡ value_at texts kind code) → IsKnownValue p v (instance_of p i) x
-    seen_value code kind x settled kinds is = known_value_is (instance_of p i) slot its.0 code kind x stands (settled its.0 its.1.1) kinds is
+    pub seen_code : (code : ℕ) → ((k : ℕ) → Has u.keys (slot, k) → Has v.values (slot, k, code)) → IsSettledAt p f v (instance_of p i) slot code
+    seen_code code settled = record { key = its.0; there = (its.1.0, kept.keys slot its.0 its.1.1); stands = stands; settled = settled its.0 its.1.1 }
 
     pub seen_unset : ArePooled p.texts → ((k : ℕ) → Has u.keys (slot, k) → IsUnset v k) → ¬ Knows p v (instance_of p i)
     seen_unset pooled none = unknown_unset p f v (instance_of p i) its.0 own pooled stands (none its.0 its.1.1)
@@ -100,15 +105,16 @@ halts_meets g (at n) = here
 halts_meets g (after {j = i} {w = w} a h) = later (g i w a) (halts_meets g h)
 
 -- an equation that is stuck under what is known leads to where it is stuck
-pub stuck_leads : (p : Program) (v : View) (i j : Instance) (ds : List Instance) → Halts (Known p v) ((equations_of p).equation i) j ds → Leads p i j
-stuck_leads p v i j ds h = undeclared (none_circular p i) (halts_meets (λ k w a. a.1) h)
+pub stuck_leads : (p : Program) (v : View) (i j : Instance) (ds : List Instance) → Halts (IsKnown p v) ((equations_of p).equation i) j ds → Leads p i j
+stuck_leads p v i j ds h = met_leads p i j (halts_meets (λ k w a. a.1) h)
 
--- an equation that ended has that value, and its code may be settled
+-- an equation that ended has that value
 pub ended_value : (p : Program) (v : View) (i : Instance) (x : CodedValue) → HasEnded p v i x → HasValue p i (value_of (text_of p) x)
-ended_value p v i x e = ended p i (value_of (text_of p) x) e.0 (ends_more (λ k w a. a.1) e.1)
+ended_value p v i x e = ended p i (value_of (text_of p) x) e.demands (ends_more (λ k w a. a.1) e.ends)
 
-pub may_settle : (p : Program) (f : Frame) (v : View) (i : Instance) (slot code : ℕ) (kind : Kind) (x : CodedValue) → IsCellOf p f v i slot → HasEnded p v i x → kind ≡ kind_in p i → value_at (text_of p) kind code ≡ as_kind kind (value_of (text_of p) x) → code < 2 ^ 32 → MaySettle p v slot code
-may_settle p f v i slot code kind x cell done kinds is small = record {
+-- its code may be settled, once the words of a set show it
+pub may_settle : (p : Program) (f : Frame) (u v : View) (i : Instance) (slot code : ℕ) (kind : Kind) (x : CodedValue) → IsAtLeast u v → IsCellOf p f v i slot → HasEnded p u i x → (equations_of p).circular i ≡ false → kind ≡ kind_in p i → (is_single kind ≡ true → value_at (text_of p) kind code ≡ as_kind kind (value_of (text_of p) x)) → IsSmall kind code → code < 2 ^ 32 → (is_single kind ≡ false → ShowsAtLeast p v i kind (value_of (text_of p) x)) → MaySettle p v slot code
+may_settle p f u v i slot code kind x kept cell done plain kinds is small fits shown = record {
   key = cell.0;
   here = cell.1.1;
   settled = record {
@@ -116,10 +122,46 @@ may_settle p f v i slot code kind x cell done kinds is small = record {
     stands = cell.2;
     code = record {
       value = value_of (text_of p) x;
-      has = ended_value p v i x done;
-      coded = subst (λ (k : Kind). value_at (text_of p) k code ≡ as_kind k (value_of (text_of p) x)) kinds is;
-      fits = small;
+      has = ended_value p u i x done;
+      coded = subst (λ (k : Kind). is_single k ≡ true → value_at (text_of p) k code ≡ as_kind k (value_of (text_of p) x)) kinds is;
+      small = subst (λ (k : Kind). IsSmall k code) kinds small;
+      fits = fits;
     };
-    closed = λ j meets. (ends_meets (λ k a b g h. one p k a b g.1 h) done.1 meets).1.0;
+    shown = subst (λ (k : Kind). is_single k ≡ false → ShowsAtLeast p v i k (value_of (text_of p) x)) kinds shown;
+    closed = λ j meets. knows_later u v kept p j ((ends_meets (λ k a b g h. one p k a b g.1 h) done.ends meets).1.0);
   };
+  undeclared = plain;
 }
+
+-- where an equation halts under what is known, nothing is known
+pub halts_unknown : (p : Program) (f : Frame) (v : View) (c : Demands Instance Value) (j : Instance) (ds : List Instance) → p ≡ program_of f.system.value → IsPassOf f v → Halts (IsKnown p v) c j ds → ¬ Knows p v j
+halts_unknown p f v c j ds same own h k = missing h
+  where
+    missing : {d : Demands Instance Value} {es : List Instance} → Halts (IsKnown p v) d j es → ⊥
+    missing (at n) = let w = has_value p f v same own j k in n w.0 (k, w.1)
+    missing (after a rest) = missing rest
+
+-- what is found settled is known
+pub found_knows : (p : Program) (f : Frame) (v : View) (i : Instance) (slot code : ℕ) → IsSettledAt p f v i slot code → Knows p v i
+found_knows p f v i slot code s = record { key = s.key; stands = s.stands; slot = slot; code = code; settled = s.settled }
+
+-- the value that the words of a set show, whose cell was seen settled
+pub known_shown : (p : Program) (v w : View) (i : Instance) (x : CodedValue) → IsAtLeast v w → Knows p v i → IsShownValue p v w i x → IsKnownValue p w i x
+known_shown p v w i x kept k h = let value = h.settled k in record { value = value.0; known = (knows_later v w kept p i k, value.1); coded = value.2; elements = h.elements }
+
+-- sets are ordered
+pub set_ordered : (k : Kind) → is_single k ≡ false → is_ordered k ≡ true
+set_ordered kinds.Truth h = cc
+set_ordered kinds.Int h = cc
+set_ordered kinds.Text h = cc
+set_ordered (kinds.Node d) h = cc
+set_ordered kinds.Texts h = refl
+set_ordered (kinds.Nodes d) h = refl
+
+pub not_is : (b : Bool) → not b ≡ true → b ≡ false
+not_is true h = cc
+not_is false h = refl
+
+pub is_not : (b : Bool) → not b ≡ false → b ≡ true
+is_not true h = refl
+is_not false h = cc

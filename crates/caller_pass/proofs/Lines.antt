@@ -1,23 +1,22 @@
 -- Instances in a line, each of which leads to the next, and the loop that the last one closes.
-use Rattle.std.proofs.Common.{◌≡◌, ◌⊎◌, inl, inr, ⊎_elim, true, false, ◌||◌, List, [], ◌∷◌, ◌++◌, refl, sym, ap, subst, ◌∙◌}
+use Rattle.std.proofs.Common.{◌≡◌, ◌⊎◌, inl, inr, ⊎_elim, true, false, ◌||◌, List, [], ◌∷◌, ◌++◌, Option, Some, None, map, refl, sym, ap, subst, ◌∙◌}
 use Rattle.solutions.specs.Leading.{more, none}
 use Rattle.equation_law.specs.contracts.coding.InstancePartialEq.TheImpl as equality
 use Rattle.equation_law.specs.declared.coding.Instance.{Instance as CodedInstance}
-use Rattle.equation_law.specs.Checked.{IsInstance}
-use Rattle.equation_law.specs.Codes.{IsCoded, instance_of}
+use Rattle.equation_law.specs.Codes.{instance_of}
+use Rattle.equation_law.specs.Equations.{equations_of}
 use Rattle.equation_law.specs.Loops.{Chain, HasLoop, Leads}
 use Rattle.equation_law.specs.Names.{Instance}
 use Rattle.equation_law.specs.Program.{Program}
 use Rattle.equation_law.proofs.Keys.{key_is}
-use Rattle.equation_law.proofs.Solution.{none_circular}
-use Rattle.memo_cells.specs.declared.keys.Slot.{Slot}
 use Rattle.memo_cells.specs.declared.view.Frame.{Frame}
 use Rattle.memo_cells.specs.declared.view.View.{View}
-use Rattle.memo_cells.specs.Naming.{IsCellOf}
-use Rattle.memo_cells.specs.Views.{Has, IsAtLeast}
-use Rattle.memo_cells.proofs.Naming.{cell_later}
+use Rattle.memo_cells.specs.Views.{Has}
+use Rattle.circular_eval.specs.declared.local.Local.{Local}
+use Rattle.circular_eval.specs.Advancing.{AreLed, IsPath}
+use Rattle.caller_pass.specs.declared.waiting.Waiter.{Waiter}
 use Rattle.caller_pass.specs.Answering.{IsLoop}
-use Rattle.caller_pass.specs.Waiting.{AreLed, IsLine, names, waits}
+use Rattle.caller_pass.specs.Waiting.{AreWaiting, IsLineTo, WaitsBy, waits}
 
 pub assoc : {A : Type 0} (xs ys zs : List A) → (xs ++ ys) ++ zs ≡ xs ++ (ys ++ zs)
 assoc [] ys zs = refl
@@ -34,10 +33,6 @@ has_last (y ∷ xs) x = inr (has_last xs x)
 pub has_snoc : {A : Type 0} (xs : List A) (y x : A) → Has (xs ++ y ∷ []) x → Has xs x ⊎ (x ≡ y)
 has_snoc [] y x h = ⊎_elim inr absurd h
 has_snoc (z ∷ xs) y x h = ⊎_elim (λ e. inl (inl e)) (λ later. ⊎_elim (λ l. inl (inr l)) inr (has_snoc xs y x later)) h
-
-pub names_snoc : (p : Program) (es : List (CodedInstance × Slot)) (e : CodedInstance × Slot) → names p (es ++ e ∷ []) ≡ names p es ++ instance_of p e.0 ∷ []
-names_snoc p [] e = refl
-names_snoc p (x ∷ es) e = ap (λ l. instance_of p x.0 ∷ l) (names_snoc p es e)
 
 module _ (p : Program) where
   led_more : (xs : List Instance) (j k : Instance) → AreLed p (xs ++ j ∷ []) → Leads p j k → AreLed p ((xs ++ j ∷ []) ++ k ∷ [])
@@ -78,91 +73,87 @@ module _ (p : Program) where
       let round = returns_to on l.back (led_behind l.front (on ∷ l.back ++ on ∷ []) led) in
       record { on = on; to = reaches l.front i on l.rest (l.back ++ on ∷ []) (sym l.starts ∙ l.twice) led; undeclared_on = l.undeclared; then = round.0; out = round.1; back = round.2 }
 
--- one that waits stands somewhere in the line
-found : (p : Program) (es : List (CodedInstance × Slot)) (i : CodedInstance) → waits es i ≡ true → (front back : List Instance) × (names p es ≡ front ++ instance_of p i ∷ back)
-found p [] i e = cc
-found p (x ∷ es) i e =
-    elim (equality.ghosts.eq i x.0) as (λ b. equality.ghosts.eq i x.0 ≡ b → (b || waits es i) ≡ true → (front back : List Instance) × (names p (x ∷ es) ≡ front ++ instance_of p i ∷ back)) [
-      | true ↦ λ same _. ([], names p es, ap (λ (k : CodedInstance). instance_of p k ∷ names p es) (sym (key_is i x.0 same)))
-      | false ↦ λ _ later. let r = found p es i later in (instance_of p x.0 ∷ r.0, r.1, ap (λ l. instance_of p x.0 ∷ l) r.2)
+  -- two lines with a common end
+  pub led_both : (xs : List Instance) (j : Instance) (ys : List Instance) → AreLed p (xs ++ j ∷ []) → AreLed p (j ∷ ys) → AreLed p (xs ++ j ∷ ys)
+  led_both [] j ys a b = b
+  led_both (x ∷ []) j ys a b = (a.0, b)
+  led_both (x ∷ y ∷ xs) j ys a b = (a.0, led_both (y ∷ xs) j ys a.1 b)
+
+  -- one chain behind another
+  pub chain_then : {i j k : Instance} → Chain p i j → Chain p j k → Chain p i k
+  chain_then none c = c
+  chain_then (more l d) c = more l (chain_then d c)
+
+  -- what waits for something leads to it
+  pub waits_chain : (f : Frame) (v : View) (i : Instance) (way : Option Local) (n : Instance) → WaitsBy p f v i way n → Chain p i n
+  waits_chain f v i None n w = more w none
+  waits_chain f v i (Some l) n w = more w.0 w.3
+
+  -- the first that waits reaches what the last waits for
+  pub waiting_chain : (f : Frame) (v : View) (e : CodedInstance × Waiter) (es : List (CodedInstance × Waiter)) (n : Instance) → AreWaiting p f v (e ∷ es) n → Chain p (instance_of p e.0) n
+  waiting_chain f v e [] n w = waits_chain f v (instance_of p e.0) e.1.way n w
+  waiting_chain f v e (d ∷ es) n w = chain_then (waits_chain f v (instance_of p e.0) e.1.way (instance_of p d.0) w.0) (waiting_chain f v d es n w.1)
+
+-- one that waits stands among the entries
+found : (es : List (CodedInstance × Waiter)) (i : CodedInstance) → waits es i ≡ true → (e : CodedInstance × Waiter) × Has es e × (e.0 ≡ i)
+found [] i e = cc
+found (x ∷ es) i e =
+    elim (equality.ghosts.eq i x.0) as (λ b. equality.ghosts.eq i x.0 ≡ b → (b || waits es i) ≡ true → (e : CodedInstance × Waiter) × Has (x ∷ es) e × (e.0 ≡ i)) [
+      | true ↦ λ same _. (x, inl refl, sym (key_is i x.0 same))
+      | false ↦ λ _ later. let r = found es i later in (r.0, inr r.1, r.2)
     ] refl e
 
-module _ (p : Program) (f : Frame) (v : View) (i : Instance) (es : List (CodedInstance × Slot)) (top : CodedInstance) (slot : Slot) (line : IsLine p f v i (es ++ (top, slot) ∷ [])) where
-  -- the first reaches the last
-  pub last_reached : Chain p i (instance_of p top)
-  last_reached =
-      let e = names_snoc p es (top, slot) in
-      reaches p (names p es) i (instance_of p top) line.rest [] (sym line.starts ∙ e) (subst (AreLed p) e line.led)
+-- what stands in a list splits it
+split : {A : Type 0} (xs : List A) (x : A) → Has xs x → (front back : List A) × (xs ≡ front ++ x ∷ back)
+split [] x h = absurd h
+split (y ∷ xs) x h = ⊎_elim (λ same. ([], xs, ap (λ z. z ∷ xs) (sym same))) (λ later. let r = split xs x later in (y ∷ r.0, r.1, ap (λ l. y ∷ l) r.2)) h
 
-  -- what the last leads to comes behind
-  pub led_on : (j : Instance) → Leads p (instance_of p top) j → AreLed p (names p (es ++ (top, slot) ∷ []) ++ j ∷ [])
-  led_on j l =
-      let e = names_snoc p es (top, slot) in
-      subst (λ ns. AreLed p (ns ++ j ∷ [])) (sym e) (led_more p (names p es) (instance_of p top) j (subst (AreLed p) e line.led) l)
-
-  -- the loop that it closes
-  pub loop_of : (on : CodedInstance) → Leads p (instance_of p top) (instance_of p on) → waits (es ++ (top, slot) ∷ []) on ≡ true → IsLoop p i (instance_of p on) (names p (es ++ (top, slot) ∷ []) ++ instance_of p on ∷ [])
-  loop_of on l there =
-      let at = found p (es ++ (top, slot) ∷ []) on there in
-      record {
-        rest = line.rest ++ instance_of p on ∷ [];
-        starts = ap (λ ns. ns ++ instance_of p on ∷ []) line.starts;
-        led = led_on (instance_of p on) l;
-        front = at.0;
-        back = at.1;
-        twice = ap (λ ns. ns ++ instance_of p on ∷ []) at.2 ∙ assoc at.0 (instance_of p on ∷ at.1) (instance_of p on ∷ []);
-        undeclared = none_circular p (instance_of p on);
-      }
-
-  -- one more in the line
-  pub line_more : (w : View) (next : CodedInstance) (s : Slot) → IsAtLeast v w → Leads p (instance_of p top) (instance_of p next) → IsInstance p (instance_of p next) → IsCoded p next → IsCellOf p f w (instance_of p next) s.0 → IsLine p f w i ((es ++ (top, slot) ∷ []) ++ (next, s) ∷ [])
-  line_more w next s kept l instance good cell =
-      let whole = names_snoc p (es ++ (top, slot) ∷ []) (next, s) in
-      record {
-        rest = line.rest ++ instance_of p next ∷ [];
-        starts = whole ∙ ap (λ ns. ns ++ instance_of p next ∷ []) line.starts;
-        led = subst (AreLed p) (sym whole) (led_on (instance_of p next) l);
-        instances = λ e h. ⊎_elim (line.instances e) (λ same. subst (λ (x : CodedInstance × Slot). IsInstance p (instance_of p x.0)) (sym same) instance) (has_snoc (es ++ (top, slot) ∷ []) (next, s) e h);
-        coded = λ e h. ⊎_elim (line.coded e) (λ same. subst (λ (x : CodedInstance × Slot). IsCoded p x.0) (sym same) good) (has_snoc (es ++ (top, slot) ∷ []) (next, s) e h);
-        slots = λ e h. ⊎_elim (λ before. cell_later v w kept p f (instance_of p e.0) e.1.0 (line.slots e before)) (λ same. subst (λ (x : CodedInstance × Slot). IsCellOf p f w (instance_of p x.0) x.1.0) (sym same) cell) (has_snoc (es ++ (top, slot) ∷ []) (next, s) e h);
-      }
-
-  -- the same line, known later
-  pub line_later : (w : View) → IsAtLeast v w → IsLine p f w i (es ++ (top, slot) ∷ [])
-  line_later w kept = record {
-    rest = line.rest;
-    starts = line.starts;
-    led = line.led;
-    instances = line.instances;
-    coded = line.coded;
-    slots = λ e h. cell_later v w kept p f (instance_of p e.0) e.1.0 (line.slots e h);
-  }
-
--- a line of one
-pub line_one : (p : Program) (f : Frame) (v : View) (i : CodedInstance) (s : Slot) → IsInstance p (instance_of p i) → IsCoded p i → IsCellOf p f v (instance_of p i) s.0 → IsLine p f v (instance_of p i) ((i, s) ∷ [])
-line_one p f v i s instance good cell = record {
-  rest = [];
-  starts = refl;
-  led = tt;
-  instances = λ e h. ⊎_elim (λ same. subst (λ (x : CodedInstance × Slot). IsInstance p (instance_of p x.0)) (sym same) instance) absurd h;
-  coded = λ e h. ⊎_elim (λ same. subst (λ (x : CodedInstance × Slot). IsCoded p x.0) (sym same) good) absurd h;
-  slots = λ e h. ⊎_elim (λ same. subst (λ (x : CodedInstance × Slot). IsCellOf p f v (instance_of p x.0) x.1.0) (sym same) cell) absurd h;
-}
-
--- without the last one, where another one is left
-pub line_front : (p : Program) (f : Frame) (v : View) (i : Instance) (es : List (CodedInstance × Slot)) (top : CodedInstance) (slot : Slot) (last : CodedInstance × Slot) → IsLine p f v i ((es ++ (top, slot) ∷ []) ++ last ∷ []) → IsLine p f v i (es ++ (top, slot) ∷ [])
-line_front p f v i es top slot last line =
-    let whole = names_snoc p (es ++ (top, slot) ∷ []) last in
-    let begun = begins (names p es) (instance_of p top) (instance_of p last.0) i line.rest (ap (λ ns. ns ++ instance_of p last.0 ∷ []) (sym (names_snoc p es (top, slot))) ∙ sym whole ∙ line.starts) in
+-- the line to one that waits already is a loop
+pub loop_of : (p : Program) (e : CodedInstance × Waiter) (es : List (CodedInstance × Waiter)) (on : CodedInstance) (line : List Instance) → IsLineTo p (e ∷ es) (instance_of p on) line → waits (e ∷ es) on ≡ true → (equations_of p).circular (instance_of p on) ≡ false → IsLoop p (instance_of p e.0) (instance_of p on) line
+loop_of p e es on line l there plain =
+    let at = found (e ∷ es) on there in
+    let in_front : Has l.front (instance_of p on) = subst (λ (i : CodedInstance). Has l.front (instance_of p i)) at.2 (l.among at.0 at.1) in
+    let parts = split l.front (instance_of p on) in_front in
+    let first = l.starts e es refl in
     record {
-      rest = begun.0;
-      starts = names_snoc p es (top, slot) ∙ begun.1;
-      led = led_front p (names p (es ++ (top, slot) ∷ [])) (instance_of p last.0) (subst (AreLed p) whole line.led);
-      instances = λ e h. line.instances e (has_left (es ++ (top, slot) ∷ []) (last ∷ []) e h);
-      coded = λ e h. line.coded e (has_left (es ++ (top, slot) ∷ []) (last ∷ []) e h);
-      slots = λ e h. line.slots e (has_left (es ++ (top, slot) ∷ []) (last ∷ []) e h);
+      rest = first.0;
+      starts = first.1;
+      led = l.led;
+      front = parts.0;
+      back = parts.1;
+      twice = l.ends ∙ ap (λ ns. ns ++ instance_of p on ∷ []) parts.2 ∙ assoc parts.0 (instance_of p on ∷ parts.1) (instance_of p on ∷ []);
+      undeclared = plain;
     }
-  where
-    begins : (ns : List Instance) (j k i : Instance) (rest : List Instance) → (ns ++ j ∷ []) ++ k ∷ [] ≡ i ∷ rest → (r : List Instance) × (ns ++ j ∷ [] ≡ i ∷ r)
-    begins [] j k i rest e = let same : j ≡ i = cc in ([], ap (λ x. x ∷ []) same)
-    begins (n ∷ ns) j k i rest e = let same : n ≡ i = cc in (ns ++ j ∷ [], ap (λ x. x ∷ ns ++ j ∷ []) same)
+
+-- what a line begins with
+pub begins : (xs : List Instance) (n i : Instance) (rest ys : List Instance) → xs ++ n ∷ [] ≡ i ∷ rest → (r : List Instance) × (xs ++ n ∷ ys ≡ i ∷ r)
+begins [] n i rest ys e = let same : n ≡ i = cc in (ys, ap (λ x. x ∷ ys) same)
+begins (x ∷ xs) n i rest ys e = let same : x ≡ i = cc in (xs ++ n ∷ ys, ap (λ y. y ∷ xs ++ n ∷ ys) same)
+
+-- a loop behind a path
+pub loop_behind : (p : Program) (i n on : Instance) (part chain : List Instance) → IsPath p i n (part ++ n ∷ []) → IsLoop p n on chain → IsLoop p i on (part ++ chain)
+loop_behind p i n on part chain path l =
+    let whole : part ++ chain ≡ part ++ n ∷ l.rest = ap (λ ns. part ++ ns) l.starts in
+    let first = begins part n i path.rest l.rest path.starts in
+    record {
+      rest = first.0;
+      starts = whole ∙ first.1;
+      led = subst (AreLed p) (sym whole) (led_both p part n l.rest path.led (subst (AreLed p) l.starts l.led));
+      front = part ++ l.front;
+      back = l.back;
+      twice = ap (λ ns. part ++ ns) l.twice ∙ sym (assoc part l.front (on ∷ l.back ++ on ∷ []));
+      undeclared = l.undeclared;
+    }
+
+-- so does the start of a local set what its instance waits for
+way_chain : (p : Program) (f : Frame) (v : View) (i : Instance) (way : Option Local) (n : Instance) → WaitsBy p f v i way n → (l : Local) → way ≡ Some l → Chain p (instance_of p l.start) n
+way_chain p f v i way n w l is = (subst (λ (o : Option Local). WaitsBy p f v i o n) is w).3
+
+-- the start of a local set through which one waits reaches what the last waits for
+pub start_chain : (p : Program) (f : Frame) (v : View) (es : List (CodedInstance × Waiter)) (n : Instance) → AreWaiting p f v es n → (e : CodedInstance × Waiter) → Has es e → (l : Local) → e.1.way ≡ Some l → Chain p (instance_of p l.start) n
+start_chain p f v [] n w e h l is = absurd h
+start_chain p f v (d ∷ []) n w e h l is = ⊎_elim (λ here. way_chain p f v (instance_of p d.0) d.1.way n w l (ap (λ (x : CodedInstance × Waiter). x.1.way) (sym here) ∙ is)) absurd h
+start_chain p f v (d ∷ c ∷ es) n w e h l is = ⊎_elim
+    (λ here. chain_then p (way_chain p f v (instance_of p d.0) d.1.way (instance_of p c.0) w.0 l (ap (λ (x : CodedInstance × Waiter). x.1.way) (sym here) ∙ is)) (waiting_chain p f v c es n w.1))
+    (λ later. start_chain p f v (c ∷ es) n w.1 e later l is)
+    h

@@ -5,42 +5,57 @@ use Rattle.equation_law.specs.Names.{Instance, Query}
 use Rattle.equation_law.specs.Program.{Program}
 use Rattle.memo_cells.specs.declared.view.Frame.{Frame}
 use Rattle.memo_cells.specs.declared.view.View.{View}
-use Rattle.memo_cells.specs.Naming.{StandsFor}
+use Rattle.memo_cells.specs.Keys.{set_word}
+use Rattle.memo_cells.specs.Naming.{IsWordOf, StandsFor}
 use Rattle.memo_cells.specs.Standing.{IsPassOf}
 use Rattle.memo_cells.specs.Views.{Has, IsAtLeast, IsFull, first_view, times}
 use Rattle.memo_cells.proofs.Naming.{stands_later, word_once}
-use Rattle.caller_pass.specs.Answering.{ClaimsKeys, IsKeyOf}
-use Rattle.caller_pass.specs.Overfull.{AreDifferent, ClaimsAsked, IsAsked, IsAskedKey, IsOverfull}
+use Rattle.caller_pass.specs.Answering.{ClaimsKeys, IsElementKey, IsKeyOf}
+use Rattle.caller_pass.specs.Overfull.{AreDifferent, ClaimsAsked, IsAsked, IsAskedKey, IsDemanded, IsKeyOfPart, IsOverfull, Part, Prefix, Word}
 
--- a key of a query stands for what the query demands
+-- a key of a query is that of what the query demands
 pub asked_key : (p : Program) (v : View) (q k : ℕ) → q < length p.queries → IsKeyOf p v (Query q) k → IsAskedKey p v k
-asked_key p v q k within h = (h.key.prefix, h.key.stands, record { query = q; within = within; of = h.of; reached = h.reached; prefix = h.key.of })
+asked_key p v q k within h =
+    let demanded : IsDemanded p h.of = record { query = q; within = within; reached = h.reached } in
+    ⊎_elim
+    (λ key. (Prefix key.prefix, key.stands, (h.of, key.of, demanded)))
+    (λ (key : IsElementKey p v h.of k). (Word h.of key.word, key.key, (demanded, record { code = key.code; element = key.element; within = key.within; lies = key.lies })))
+    h.key
+
+-- later it is one still
+part_later : (v w : View) → IsAtLeast v w → (p : Program) (k : ℕ) (x : Part) → IsKeyOfPart p v k x → IsKeyOfPart p w k x
+part_later v w kept p k (Prefix x) h = stands_later v w kept p k x h
+part_later v w kept p k (Word i n) h = record { slot = h.slot; key = h.key; there = kept.keys h.slot h.key h.there; stands = stands_later v w kept p h.key i h.stands; low = h.low; small = h.small; is = h.is }
 
 -- what is claimed for one more query
 pub asked_more : (p : Program) (u v w : View) (q : ℕ) → q < length p.queries → ClaimsAsked p u v → IsAtLeast v w → ClaimsKeys p (Query q) v w → ClaimsAsked p u w
 asked_more p u v w q within before kept now x = ⊎_elim
-    (λ same. ⊎_elim (λ e. inl (same ∙ e)) (λ k. inr (k.0, kept.keys x k.0 k.1, (k.2.0, stands_later v w kept p k.0 k.2.0 k.2.1, k.2.2))) (before x))
+    (λ same. ⊎_elim (λ e. inl (same ∙ e)) (λ k. inr (k.0, kept.keys x k.0 k.1, (k.2.0, part_later v w kept p k.0 k.2.0 k.2.1, k.2.2))) (before x))
     (λ k. inr (k.0, k.1, asked_key p w q k.0 within k.2))
     (now x)
 
 module _ (p : Program) (pooled : ArePooled p.texts) (f : Frame) (v w : View) (first : v ≡ first_view f) (own : IsPassOf f w) (kept : IsAtLeast v w) (claims : ClaimsAsked p v w) where
-  -- each claimed key stands for what a query demands
+  -- each claimed key is that of what a query demands
   all_asked : (x k : ℕ) → Has w.keys (x, k) → IsAskedKey p w k
   all_asked x k has =
       let none : times x v.claims ≡ 0 = ap (λ (y : View). times x y.claims) first in
       let some = own.whole (kept.share ∙ ap (λ (y : View). y.share) first) x k has in
       ⊎_elim (λ same. absurd (some (same ∙ none))) (λ c. subst (IsAskedKey p w) (own.one_key x c.0 k c.1 has) c.2) (claims x)
 
-  one_word : (k l : ℕ) (i : Instance) → StandsFor p w k i → StandsFor p w l i → k ≡ l
-  one_word = word_once w own.one_key own.one_place p pooled
+  one_word : (k l : ℕ) (x : Part) → IsKeyOfPart p w k x → IsKeyOfPart p w l x → k ≡ l
+  one_word k l (Prefix i) a b = word_once w own.one_key own.one_place p pooled k l i a b
+  one_word k l (Word i n) a b =
+      let key : a.key ≡ b.key = word_once w own.one_key own.one_place p pooled a.key b.key i a.stands b.stands in
+      let slot : a.slot ≡ b.slot = own.one_place a.slot b.slot b.key (subst (λ (j : ℕ). Has w.keys (a.slot, j)) key a.there) b.there in
+      a.is ∙ ap (λ (s : ℕ). set_word s n) slot ∙ sym b.is
 
   module _ (k : ℕ) (asked : IsAskedKey p w k) (full : IsFull f w k) where
-    -- what the key of a cell stands for
+    -- what the key of a cell is of
     cell : (n : ℕ) (lt : n < f.cells) → IsAskedKey p w (full n lt).0
     cell n lt = all_asked n (full n lt).0 (full n lt).1
 
     -- those of the cells below n
-    abbrev below : (n : ℕ) → n ≤ f.cells → List Instance
+    abbrev below : (n : ℕ) → n ≤ f.cells → List Part
     below zero le = []
     below (suc n) le = (cell n (omega (arith, le))).0 ∷ below n (omega (arith, le))
 
@@ -48,13 +63,13 @@ module _ (p : Program) (pooled : ArePooled p.texts) (f : Frame) (v w : View) (fi
     so_many zero le = refl
     so_many (suc n) le = let rest = so_many n (omega (arith, le)) in ap suc rest
 
-    stands_below : (n : ℕ) (le : n ≤ f.cells) (x : Instance) → Has (below n le) x → (y j : ℕ) × (y < n) × Has w.keys (y, j) × (j ≢ k) × StandsFor p w j x × IsAsked p x
+    stands_below : (n : ℕ) (le : n ≤ f.cells) (x : Part) → Has (below n le) x → (y j : ℕ) × (y < n) × Has w.keys (y, j) × (j ≢ k) × IsKeyOfPart p w j x × IsAsked p x
     stands_below zero le x h = absurd h
     stands_below (suc n) le x h = ⊎_elim
         (λ e.
         let here = full n (omega (arith, le)) in
         let key = cell n (omega (arith, le)) in
-        (n, here.0, omega arith, here.1, here.2, subst (λ (i : Instance). StandsFor p w here.0 i) (sym e) key.1, subst (λ (i : Instance). IsAsked p i) (sym e) key.2)
+        (n, here.0, omega arith, here.1, here.2, subst (λ (x : Part). IsKeyOfPart p w here.0 x) (sym e) key.1, subst (λ (x : Part). IsAsked p x) (sym e) key.2)
         )
         (λ later. let r = stands_below n (omega (arith, le)) x later in (r.0, r.1, omega (arith, r.2), r.3, r.4, r.5, r.6))
         h
@@ -80,6 +95,6 @@ module _ (p : Program) (pooled : ArePooled p.texts) (f : Frame) (v w : View) (fi
         record {
           keys = asked.0 ∷ below f.cells le;
           different = ((λ h. let r = stands_below f.cells le asked.0 h in r.4 (one_word r.1 k asked.0 r.5 asked.1)), all_different f.cells le);
-          asked = λ x h. ⊎_elim (λ e. subst (λ (i : Instance). IsAsked p i) (sym e) asked.2) (λ later. (stands_below f.cells le x later).6) h;
+          asked = λ x h. ⊎_elim (λ e. subst (λ (x : Part). IsAsked p x) (sym e) asked.2) (λ later. (stands_below f.cells le x later).6) h;
           many = omega (arith, many);
         }

@@ -1,253 +1,144 @@
--- Turns of asking: what holds before each of them, and what a turn comes to.
-use Rattle.std.proofs.Common.{◌≡◌, ◌≢◌, ℕ, ◌+◌, ◌*◌, ◌<◌, ◌≤◌, inl, inr, ⊎_elim, true, false, List, [], ◌∷◌, ◌++◌, length, map, Result, Ok, Err, refl, sym, ap, subst, ◌∙◌, arith}
+-- Turns of solving: what holds before each of them, and what a turn comes to.
+use Rattle.std.proofs.Common.{◌≡◌, ◌≢◌, ℕ, ◌+◌, ◌*◌, ◌<◌, ◌≤◌, inl, inr, ⊎_elim, Bool, true, false, List, [], ◌∷◌, ◌++◌, length, Option, Some, None, refl, sym, ap, subst, ◌∙◌, arith}
 use Rattle.std.proofs.lemmas.Bool.{or_left, or_right}
 use Rattle.rag_io.specs.Pool.{ArePooled}
-use Rattle.solutions.specs.Asking.{Demands, Halts, at, after}
-use Rattle.solutions.specs.Leading.{more, none}
 use Rattle.equation_law.specs.contracts.coding.InstancePartialEq.TheImpl as equality
 use Rattle.equation_law.specs.declared.coding.Instance.{Instance as CodedInstance}
-use Rattle.equation_law.specs.declared.coding.Value.{Value as CodedValue}
-use Rattle.equation_law.specs.Checked.{IsInstance, IsProgram}
-use Rattle.equation_law.specs.Codes.{IsCoded, instance_of, value_of}
-use Rattle.equation_law.specs.Equations.{HasValue, equations_of}
-use Rattle.equation_law.specs.Loops.{Chain, Leads}
+use Rattle.equation_law.specs.Checked.{IsProgram}
+use Rattle.equation_law.specs.Codes.{instance_of}
+use Rattle.equation_law.specs.Equations.{equations_of}
+use Rattle.equation_law.specs.Loops.{Chain}
 use Rattle.equation_law.specs.Names.{Instance}
-use Rattle.equation_law.specs.Program.{Program, text_of}
+use Rattle.equation_law.specs.Program.{Program}
 use Rattle.equation_law.specs.Systems.{program_of}
-use Rattle.equation_law.specs.Values.{Value}
-use Rattle.equation_law.proofs.Demanded.{met_instances}
 use Rattle.equation_law.proofs.Keys.{key_self, one_key}
-use Rattle.equation_law.proofs.QueryValues.{value_typed}
-use Rattle.expr_eval.specs.declared.sites.Turn.TheVariants.{Need}
 use Rattle.memo_cells.specs.declared.keys.Slot.{Slot}
 use Rattle.memo_cells.specs.declared.view.Frame.{Frame}
 use Rattle.memo_cells.specs.declared.view.View.{View}
-use Rattle.memo_cells.specs.Naming.{ClaimsKeysTo, IsCellOf, StandsFor}
+use Rattle.memo_cells.specs.Naming.{IsCellOf, StandsFor}
 use Rattle.memo_cells.specs.Standing.{IsPassOf, Knows}
-use Rattle.memo_cells.specs.Views.{Has, IsAtLeast, times}
-use Rattle.memo_cells.proofs.More.{at_least_then}
-use Rattle.memo_cells.proofs.Naming.{cell_later, key_later, knows_later, stands_once}
-use Rattle.caller_pass.specs.declared.asking.AskFault.{AskFault}
-use Rattle.caller_pass.specs.declared.asking.AskFault.TheVariants.{CellsFull, Circular, Memory}
-use Rattle.caller_pass.specs.Answering.{AnswersAsk, AnswersWait, ClaimsKeys, IsKeyOf, IsLoop, unsettled}
-use Rattle.caller_pass.specs.Knowing.{HasEnded, Known, TurnsTo}
-use Rattle.caller_pass.specs.Waiting.{IsLine, waits}
-use Rattle.caller_pass.proofs.Falling.{left, left_falls, left_unsettled, left_less, measure, not_taken, pop_keeps, push_keeps, taken, by_one}
-use Rattle.caller_pass.proofs.Knowing.{ended_value, halts_meets, has_value, known_cell, one_cell, settled_known, stuck_leads}
-use Rattle.caller_pass.proofs.Lines.{has_last, last_reached, line_front, line_later, line_more, line_one, loop_of}
+use Rattle.memo_cells.specs.Views.{Has, IsAtLeast}
+use Rattle.memo_cells.proofs.More.{at_least_itself}
+use Rattle.memo_cells.proofs.Naming.{cell_later, stands_once}
+use Rattle.circular_eval.specs.declared.local.Local.{Local}
+use Rattle.caller_pass.specs.declared.waiting.Waiter.{Waiter}
+use Rattle.caller_pass.specs.Answering.{IsNext, WayChanges, unsettled}
+use Rattle.caller_pass.specs.Waiting.{IsPlaced, IsStack, IsWayOf, waits}
+use Rattle.caller_pass.proofs.Falling.{by_one, by_value, left, left_falls, left_less, left_unsettled, measure, not_taken, pop_keeps, push_keeps, taken, taken_by, turns_of}
+use Rattle.caller_pass.proofs.Knowing.{known_cell, one_cell, settled_known}
+use Rattle.caller_pass.proofs.Lines.{has_left, has_last, has_snoc}
 
 -- the program whose cells these are
 abbrev pub program_in : Frame → Program
 program_in f = program_of f.system.value
 
--- The last of those that wait is `top`, at its slot. `v` is what the pass knew at first, and `w` what it knows.
-pub record IsAsking (p : Program) (f : Frame) (v w : View) (i : Instance) (es : List (CodedInstance × Slot)) (top : CodedInstance) (slot : Slot) : Type 0 where
-  pub own : IsPassOf f w
-  pub kept : IsAtLeast v w
-  pub line : IsLine p f w i (es ++ (top, slot) ∷ [])
-  pub other : waits es top ≡ false
-  pub claims : ClaimsKeys p i v w
-  pub unknown : ¬ Knows p v i
-
--- a key goes on to be one
-key_of_later : (p : Program) (v w : View) (i : Instance) (k : ℕ) → IsAtLeast v w → IsKeyOf p v i k → IsKeyOf p w i k
-key_of_later p v w i k kept h = record { of = h.of; reached = h.reached; key = key_later v w kept p h.of k h.key }
-
--- what was claimed before, and what is claimed for one more instance
-pub claims_more : (p : Program) (i next : Instance) (u v w : View) → Chain p i next → ClaimsKeys p i u v → IsAtLeast v w → ClaimsKeysTo p v w next → ClaimsKeys p i u w
-claims_more p i next u v w reached before kept only q = ⊎_elim
-    (λ same. ⊎_elim (λ e. inl (same ∙ e)) (λ k. inr (k.0, kept.keys q k.0 k.1, key_of_later p v w i k.0 kept k.2)) (before q))
-    (λ k. inr (k.0, k.1, record { of = next; reached = reached; key = k.2 }))
-    (only q)
-
-pub claims_same : (p : Program) (i : Instance) (u v w : View) → ClaimsKeys p i u v → IsAtLeast v w → w.claims ≡ v.claims → ClaimsKeys p i u w
-claims_same p i u v w before kept same = claims_more p i i u v w none before kept (λ q. inl (ap (times q) same))
-
--- the first claims: `u` is what the pass knew when it had no cell for the instance
-pub claims_first : {p : Program} {u w : View} (f : Frame) (i : CodedInstance) (v : View) → p ≡ program_in f → u.claims ≡ v.claims → IsAtLeast u w → ClaimsKeysTo (program_in f) u w (instance_of (program_in f) i) → ClaimsKeys p (instance_of p i) v w
-claims_first {p} {u} {w} f i v same quiet kept only = claims_more p (instance_of p i) (instance_of p i) v u w none (λ q. inl (ap (times q) quiet)) kept (subst (λ (q : Program). ClaimsKeysTo q u w (instance_of q i)) (sym same) only)
-
-waits_each : (es : List (CodedInstance × Slot)) (e : CodedInstance × Slot) → Has es e → waits es e.0 ≡ true
+pub waits_each : (es : List (CodedInstance × Waiter)) (e : CodedInstance × Waiter) → Has es e → waits es e.0 ≡ true
 waits_each [] e h = absurd h
 waits_each (x ∷ es) e h = ⊎_elim
-    (λ same. or_left (equality.ghosts.eq e.0 x.0) (waits es e.0) (ap (λ (d : CodedInstance × Slot). equality.ghosts.eq e.0 d.0) (sym same) ∙ key_self e.0))
+    (λ same. or_left (equality.ghosts.eq e.0 x.0) (waits es e.0) (ap (λ (d : CodedInstance × Waiter). equality.ghosts.eq e.0 d.0) (sym same) ∙ key_self e.0))
     (λ later. or_right (equality.ghosts.eq e.0 x.0) (waits es e.0) (waits_each es e later)) h
 
-length_snoc : (es : List (CodedInstance × Slot)) (e : CodedInstance × Slot) → length (es ++ e ∷ []) ≡ length es + 1
+pub length_snoc : (es : List (CodedInstance × Waiter)) (e : CodedInstance × Waiter) → length (es ++ e ∷ []) ≡ length es + 1
 length_snoc [] e = refl
 length_snoc (x ∷ es) e = let rest = length_snoc es e in omega (arith, rest)
 
--- before the first turn
-module _ {p : Program} {f : Frame} {v u w : View} (i : CodedInstance) (s : Slot) (same : p ≡ program_in f) (first : IsAtLeast v u) (unknown : ¬ Knows p u (instance_of p i)) (own : IsPassOf f w) (kept : IsAtLeast u w) (there : IsCellOf (program_in f) f w (instance_of (program_in f) i) s.0) where
-  cell : IsCellOf p f w (instance_of p i) s.0
-  cell = subst (λ (q : Program). IsCellOf q f w (instance_of q i) s.0) (sym same) there
+-- what is taken stays so while the last one goes on in another state
+taken_on : (v w : View) (es : List (CodedInstance × Waiter)) (t : CodedInstance) (x y : Waiter) → IsAtLeast v w → y.slot ≡ x.slot → (q : ℕ) → taken v (es ++ (t, x) ∷ []) q ≡ true → taken w (es ++ (t, y) ∷ []) q ≡ true
+taken_on v w es t x y kept same q h = ⊎_elim
+    (λ z. by_value w (es ++ (t, y) ∷ []) q z.0 z.1 (kept.values q z.0 z.1 z.2))
+    (λ z. subst (λ (r : ℕ). taken w (es ++ (t, y) ∷ []) r ≡ true) z.2 (⊎_elim
+    (λ before. by_one w (es ++ (t, y) ∷ []) z.0 (has_left es ((t, y) ∷ []) z.0 before))
+    (λ now. subst (λ (r : ℕ). taken w (es ++ (t, y) ∷ []) r ≡ true) (ap (λ (s : Slot). s.0) same ∙ ap (λ (d : CodedInstance × Waiter). d.1.slot.0) (sym now)) (by_one w (es ++ (t, y) ∷ []) (t, y) (has_last es (t, y))))
+    (has_snoc es (t, x) z.0 z.1)))
+    (taken_by v (es ++ (t, x) ∷ []) q h)
 
-  pub not_known : ¬ Knows p v (instance_of p i)
-  not_known k = unknown (knows_later v u first p (instance_of p i) k)
+-- the cells of those on a stack, as they are known
+pub on_stack : (p : Program) (f : Frame) (v : View) (i : Instance) (es : List (CodedInstance × Waiter)) (top : CodedInstance × Waiter) → IsStack p f v i es top → (e : CodedInstance × Waiter) → Has (es ++ top ∷ []) e → IsPlaced p f v e
+on_stack p f v i es top stack e h = ⊎_elim (stack.placed e) (λ same. subst (λ (d : CodedInstance × Waiter). IsPlaced p f v d) (sym same) stack.frame.placed) (has_snoc es top e h)
 
-  pub begun : IsInstance p (instance_of p i) → IsCoded p i → ClaimsKeys p (instance_of p i) v w → IsAsking p f v w (instance_of p i) [] i s
-  begun instance good claims = record { own = own; kept = at_least_then first kept; line = line_one p f w i s instance good cell; other = refl; claims = claims; unknown = not_known }
+module _ (p : Program) (f : Frame) (same : p ≡ program_in f) (pooled : ArePooled p.texts) (v w : View) (own : IsPassOf f v) (then : IsPassOf f w) (kept : IsAtLeast v w) (i : Instance) (es : List (CodedInstance × Waiter)) (t : CodedInstance) (x : Waiter) (stack : IsStack p f v i es (t, x)) where
+  -- the cell of an instance that isn't circular and isn't on the stack is another one than those of the stack
+  pub apart : (n : Instance) (s : ℕ) → IsCellOf p f w n s → ((e : CodedInstance × Waiter) → Has (es ++ (t, x) ∷ []) e → instance_of p e.0 ≢ n) → (e : CodedInstance × Waiter) → Has (es ++ (t, x) ∷ []) e → e.1.slot.0 ≢ s
+  apart n s cell other e h place =
+      let its = cell_later v w kept p f (instance_of p e.0) e.1.slot.0 ((on_stack p f v i es (t, x) stack e h).slot) in
+      let word : its.0 ≡ cell.0 = then.one_key s its.0 cell.0 (subst (λ (q : ℕ). Has w.keys (q, its.0)) place its.1.1) cell.1.1 in
+      let stands = subst (λ (k : ℕ). StandsFor p w k (instance_of p e.0)) word its.2 in
+      other e h (stands_once w then.one_key p cell.0 (instance_of p e.0) n stands cell.2)
 
-  -- two evaluations are paid by the cell that will be settled
-  pub first_paid : (evals : ℕ) → IsPassOf f v → evals + measure w [] (i, s) f.cells + 2 ≤ evals + 2 * unsettled v f.cells
-  first_paid evals before =
-      let all_kept = at_least_then first kept in
-      let free = not_taken v [] s.0 (λ k c h. not_known (settled_known p f v same before w (instance_of p i) s.0 k c own all_kept cell h)) (λ e h. absurd h) in
-      let falls = left_falls (taken v []) (taken w ((i, s) ∷ [])) f.cells s.0 (push_keeps v w [] (i, s) all_kept) cell.1.0 free (by_one w ((i, s) ∷ []) (i, s) (has_last [] (i, s))) in
-      let all = left_unsettled v f.cells in
-      omega (arith, falls, all)
+  -- a cell that comes to be seen settled, of an instance that isn't on the stack
+  pub falls_by : (n : Instance) → ¬ Knows p v n → ((e : CodedInstance × Waiter) → Has (es ++ (t, x) ∷ []) e → instance_of p e.0 ≢ n) → (s : ℕ) → IsCellOf p f w n s → (g : ℕ → Bool) → ((q : ℕ) → taken v (es ++ (t, x) ∷ []) q ≡ true → g q ≡ true) → g s ≡ true → left g f.cells < left (taken v (es ++ (t, x) ∷ [])) f.cells
+  falls_by n unknown other s cell g more there =
+      let free = not_taken v (es ++ (t, x) ∷ []) s (λ k c h. unknown (settled_known p f v same own w n s k c then kept cell h)) (apart n s cell other) in
+      left_falls (taken v (es ++ (t, x) ∷ [])) g f.cells s more cell.1.0 free there
 
--- the last one is well coded
-pub top_coded : {p : Program} {f : Frame} {v w : View} {i : Instance} {es : List (CodedInstance × Slot)} {top : CodedInstance} {slot : Slot} → IsAsking p f v w i es top slot → IsCoded p top
-top_coded {es = es} {top = top} {slot = slot} asking = asking.line.coded (top, slot) (has_last es (top, slot))
+  -- a local set is waited for, or its start is seen sealed
+  pub falls_further : (y : Waiter) → y.slot ≡ x.slot → WayChanges p f w (instance_of p t) x.way y.way → measure w es (t, y) f.cells < measure v es (t, x) f.cells
+  falls_further y slot changes = by_way x.way y.way refl refl changes
+    where
+      more : (q : ℕ) → taken v (es ++ (t, x) ∷ []) q ≡ true → taken w (es ++ (t, y) ∷ []) q ≡ true
+      more = taken_on v w es t x y kept slot
 
--- where it halts, nothing is known
-halts_unknown : (p : Program) (f : Frame) (v : View) (c : Demands Instance Value) (j : Instance) (ds : List Instance) → p ≡ program_in f → IsPassOf f v → Halts (Known p v) c j ds → ¬ Knows p v j
-halts_unknown p f v c j ds same own h k = missing h
-  where
-    missing : {d : Demands Instance Value} {es : List Instance} → Halts (Known p v) d j es → ⊥
-    missing (at n) = let w = has_value p f v same own j k in n w.0 (k, w.1)
-    missing (after a rest) = missing rest
+      by_way : (old new : Option Local) → x.way ≡ old → y.way ≡ new → WayChanges p f w (instance_of p t) old new → measure w es (t, y) f.cells < measure v es (t, x) f.cells
+      by_way None None a b h = absurd h
+      by_way None (Some l) a b h =
+          let less = left_less (taken v (es ++ (t, x) ∷ [])) (taken w (es ++ (t, y) ∷ [])) f.cells more in
+          let was : turns_of x.way ≡ 1 = ap turns_of a in
+          let now : turns_of y.way ≡ 0 = ap turns_of b in
+          omega (arith, less, was, now)
+      by_way (Some l) None a b h =
+          let way = subst (λ o. IsWayOf p f v (instance_of p t) o) a stack.frame.way in
+          let cell = known_cell p f w (instance_of p l.start) then h in
+          let other : (e : CodedInstance × Waiter) → Has (es ++ (t, x) ∷ []) e → instance_of p e.0 ≢ instance_of p l.start = λ e there is. (let plain = (on_stack p f v i es (t, x) stack e there).undeclared in let not = ap (equations_of p).circular is in let yes = way.local.is_circular in cc) in
+          let falls = falls_by (instance_of p l.start) way.unknown other h.slot cell (taken w (es ++ (t, y) ∷ [])) more (by_value w (es ++ (t, y) ∷ []) h.slot h.key h.code h.settled) in
+          let was : turns_of x.way ≡ 0 = ap turns_of a in
+          let now : turns_of y.way ≡ 1 = ap turns_of b in
+          omega (arith, falls, was, now)
+      by_way (Some l) (Some m) a b h = absurd h
 
--- a turn: before it the pass knew `w0`, and after it `w1`
-pub record IsTurned (p : Program) (f : Frame) (v w0 w1 : View) (i : Instance) (es : List (CodedInstance × Slot)) (top : CodedInstance) (slot : Slot) : Type 0 where
-  pub good : IsProgram p
-  pub same : p ≡ program_in f
-  pub asking : IsAsking p f v w0 i es top slot
-  pub own : IsPassOf f w1
-  pub kept : IsAtLeast w0 w1
-  pub quiet : w1.claims ≡ w0.claims
+  -- another one is on top
+  pub falls_more : (y : Waiter) → y.slot ≡ x.slot → (next : CodedInstance) (z : Waiter) → z.way ≡ None → ¬ Knows p v (instance_of p next) → IsPlaced p f w (next, z) → waits (es ++ (t, y) ∷ []) next ≡ false → measure w (es ++ (t, y) ∷ []) (next, z) f.cells < measure v es (t, x) f.cells
+  falls_more y slot next z none unknown placed free =
+      let L = es ++ (t, y) ∷ [] in
+      let other : (e : CodedInstance × Waiter) → Has (es ++ (t, x) ∷ []) e → instance_of p e.0 ≢ instance_of p next = λ e h is. (let one = one_key p pooled e.0 next (on_stack p f v i es (t, x) stack e h).coded placed.coded is in let yes = waiting_still e h in let no = subst (λ (c : CodedInstance). waits L c ≡ false) (sym one) free in cc) in
+      let falls = falls_by (instance_of p next) unknown other z.slot.0 placed.slot (taken w (L ++ (next, z) ∷ [])) more (by_one w (L ++ (next, z) ∷ []) (next, z) (has_last L (next, z))) in
+      let longer = length_snoc es (t, y) in
+      let now : turns_of z.way ≡ 1 = ap turns_of none in
+      omega (arith, falls, longer, now)
+    where
+      more : (q : ℕ) → taken v (es ++ (t, x) ∷ []) q ≡ true → taken w ((es ++ (t, y) ∷ []) ++ (next, z) ∷ []) q ≡ true
+      more q h = ⊎_elim
+          (λ k. by_value w ((es ++ (t, y) ∷ []) ++ (next, z) ∷ []) q k.0 k.1 k.2)
+          (λ k. subst (λ (r : ℕ). taken w ((es ++ (t, y) ∷ []) ++ (next, z) ∷ []) r ≡ true) k.2 (by_one w ((es ++ (t, y) ∷ []) ++ (next, z) ∷ []) k.0 (has_left (es ++ (t, y) ∷ []) ((next, z) ∷ []) k.0 k.1)))
+          (taken_by w (es ++ (t, y) ∷ []) q (taken_on v w es t x y kept slot q h))
 
-pub turned_by : {p : Program} {f : Frame} {v w0 w1 : View} {i : Instance} {es : List (CodedInstance × Slot)} {top : CodedInstance} {slot : Slot} → IsProgram p → p ≡ program_in f → IsAsking p f v w0 i es top slot → IsPassOf f w1 → IsAtLeast w0 w1 → w1.claims ≡ w0.claims → IsTurned p f v w0 w1 i es top slot
-turned_by good same asking own kept quiet = record { good = good; same = same; asking = asking; own = own; kept = kept; quiet = quiet }
-
-module _ {p : Program} {f : Frame} {v w0 w1 : View} {i : Instance} {es : List (CodedInstance × Slot)} {top : CodedInstance} {slot : Slot} (t : IsTurned p f v w0 w1 i es top slot) where
-  line : IsLine p f w1 i (es ++ (top, slot) ∷ [])
-  line = line_later p f w0 i es top slot t.asking.line w1 t.kept
-
-  top_is : IsInstance p (instance_of p top)
-  top_is = line.instances (top, slot) (has_last es (top, slot))
-
-  pub top_at : IsCellOf p f w1 (instance_of p top) slot.0
-  top_at = line.slots (top, slot) (has_last es (top, slot))
-
-  pub claims_now : ClaimsKeys p i v w1
-  claims_now = claims_same p i v w0 w1 t.asking.claims t.kept t.quiet
-
-  -- it came to the demand of another instance
-  module _ (next : CodedInstance) (need : TurnsTo p w1 (instance_of p top) (Ok (Need next))) where
-    leads : Leads p (instance_of p top) (instance_of p next)
-    leads = stuck_leads p w1 (instance_of p top) (instance_of p next) need.0 need.1
-
-    pub next_is : IsInstance (program_in f) (instance_of (program_in f) next)
-    next_is = subst (λ (q : Program). IsInstance q (instance_of q next)) t.same (met_instances p t.good (instance_of p top) (instance_of p next) top_is (HasValue p) (λ j w q a. value_typed p t.good j q w a) (halts_meets (λ k x a. a.1) need.1))
-
-    pub next_coded : IsCoded (program_in f) next
-    next_coded = subst (λ (q : Program). IsCoded q next) t.same need.2
-
-    next_reached : Chain p i (instance_of p next)
-    next_reached = onwards (last_reached p f w1 i es top slot line) leads
-      where
-        onwards : {a b c : Instance} → Chain p a b → Leads p b c → Chain p a c
-        onwards none l = more l none
-        onwards (more m r) l = more m (onwards r l)
-
-    module _ {w2 : View} (own2 : IsPassOf f w2) (kept2 : IsAtLeast w1 w2) (only : ClaimsKeysTo (program_in f) w1 w2 (instance_of (program_in f) next)) where
-      pub claims_then : ClaimsKeys p i v w2
-      claims_then = claims_more p i (instance_of p next) v w1 w2 next_reached claims_now kept2 (subst (λ (q : Program). ClaimsKeysTo q w1 w2 (instance_of q next)) (sym t.same) only)
-
-      -- a fault
-      pub fault_answers : (new : List (CodedInstance × Slot)) (r : Result Slot AskFault) (e : AskFault) → r ≡ Err e → AnswersWait (program_in f) f w2 (es ++ (top, slot) ∷ []) next new r → AnswersAsk p f w2 i (Err e)
-      fault_answers new r e is a = by_fault e (subst (λ (q : Program). AnswersWait q f w2 (es ++ (top, slot) ∷ []) next new (Err e)) (sym t.same) (subst (AnswersWait (program_in f) f w2 (es ++ (top, slot) ∷ []) next new) is a))
-        where
-          by_fault : (e : AskFault) → AnswersWait p f w2 (es ++ (top, slot) ∷ []) next new (Err e) → AnswersAsk p f w2 i (Err e)
-          by_fault (Circular on chain) h =
-              let loop = loop_of p f w1 i es top slot line next leads h.2 in
-              subst (λ (o : CodedInstance). IsLoop p i (instance_of p o) (map (instance_of p) chain)) (sym h.0) (subst (λ (c : List Instance). IsLoop p i (instance_of p next) c) (sym h.1) loop)
-          by_fault CellsFull h = (h.0, record { of = instance_of p next; reached = next_reached; key = h.1 }, h.2)
-          by_fault Memory h = tt
-
-      -- the next one waits
-      module _ (s : Slot) (new : List (CodedInstance × Slot)) (is : new ≡ es ++ (top, slot) ∷ []) (there : IsCellOf (program_in f) f w2 (instance_of (program_in f) next) s.0) (other : waits (es ++ (top, slot) ∷ []) next ≡ false) where
-        next_at : IsCellOf p f w2 (instance_of p next) s.0
-        next_at = subst (λ (q : Program). IsCellOf q f w2 (instance_of q next) s.0) (sym t.same) there
-
-        pub went_on : IsAsking p f v w2 i new next s
-        went_on = subst (λ l. IsAsking p f v w2 i l next s) (sym is)
-            (record {
-              own = own2;
-              kept = at_least_then (at_least_then t.asking.kept t.kept) kept2;
-              line = line_more p f w1 i es top slot line w2 next s kept2 leads (subst (λ (q : Program). IsInstance q (instance_of q next)) (sym t.same) next_is) need.2 next_at;
-              other = other;
-              claims = claims_then;
-              unknown = t.asking.unknown;
-            })
-
-        -- no other one has its cell
-        cell_apart : ArePooled p.texts → (e : CodedInstance × Slot) → Has (es ++ (top, slot) ∷ []) e → e.1.0 ≢ s.0
-        cell_apart pooled e h place =
-            let its = cell_later w1 w2 kept2 p f (instance_of p e.0) e.1.0 (line.slots e h) in
-            let word : its.0 ≡ next_at.0 = own2.one_key s.0 its.0 next_at.0 (subst (λ (q : ℕ). Has w2.keys (q, its.0)) place its.1.1) next_at.1.1 in
-            let stands = subst (λ (k : ℕ). StandsFor p w2 k (instance_of p e.0)) word its.2 in
-            let one = one_key p pooled e.0 next (line.coded e h) need.2 (stands_once w2 own2.one_key p next_at.0 (instance_of p e.0) (instance_of p next) stands next_at.2) in
-            let yes = subst (λ (x : CodedInstance). waits (es ++ (top, slot) ∷ []) x ≡ true) one (waits_each (es ++ (top, slot) ∷ []) e h) in
-            cc
-
-        pub falls_on : measure w2 new (next, s) f.cells < measure w0 es (top, slot) f.cells
-        falls_on =
-            let L = es ++ (top, slot) ∷ [] in
-            let whole = at_least_then t.kept kept2 in
-            let unknown = halts_unknown p f w1 ((equations_of p).equation (instance_of p top)) (instance_of p next) need.0 t.same t.own need.1 in
-            let free = not_taken w0 L s.0 (λ k c h. unknown (settled_known p f w1 t.same t.own w2 (instance_of p next) s.0 k c own2 kept2 next_at (t.kept.values s.0 k c h))) (cell_apart t.good.texts) in
-            let falls = left_falls (taken w0 L) (taken w2 (L ++ (next, s) ∷ [])) f.cells s.0 (push_keeps w0 w2 L (next, s) whole) next_at.1.0 free (by_one w2 (L ++ (next, s) ∷ []) (next, s) (has_last L (next, s))) in
-            let longer = length_snoc es (top, slot) in
-            let now : measure w2 L (next, s) f.cells < measure w0 es (top, slot) f.cells = omega (arith, falls, longer) in
-            subst (λ l. measure w2 l (next, s) f.cells < measure w0 es (top, slot) f.cells) (sym is) now
+      waiting_still : (e : CodedInstance × Waiter) → Has (es ++ (t, x) ∷ []) e → waits (es ++ (t, y) ∷ []) e.0 ≡ true
+      waiting_still e h = ⊎_elim
+          (λ before. waits_each (es ++ (t, y) ∷ []) e (has_left es ((t, y) ∷ []) e before))
+          (λ now. subst (λ (c : CodedInstance). waits (es ++ (t, y) ∷ []) c ≡ true) (ap (λ (d : CodedInstance × Waiter). d.0) (sym now)) (waits_each (es ++ (t, y) ∷ []) (t, y) (has_last es (t, y))))
+          (has_snoc es (t, x) e h)
 
   -- the last one is settled
-  module _ {w2 : View} (own2 : IsPassOf f w2) (kept2 : IsAtLeast w1 w2) (quiet2 : w2.claims ≡ w1.claims) (known : Knows p w2 (instance_of p top)) where
-    pub claims_back : ClaimsKeys p i v w2
-    claims_back = claims_same p i v w1 w2 claims_now kept2 quiet2
+  module _ (known : Knows p w (instance_of p t)) where
+    settled_there : Has w.values (x.slot.0, known.key, known.code)
+    settled_there =
+        let cell = known_cell p f w (instance_of p t) then known in
+        let its = cell_later v w kept p f (instance_of p t) x.slot.0 stack.frame.placed.slot in
+        subst (λ (q : ℕ). Has w.values (q, known.key, known.code)) (one_cell p f w (instance_of p t) known.slot x.slot.0 then pooled cell its) known.settled
 
-    -- its value stands at its slot
-    settled_there : ArePooled p.texts → Has w2.values (slot.0, known.key, known.code)
-    settled_there pooled =
-        let cell = known_cell p f w2 (instance_of p top) own2 known in
-        let its = cell_later w1 w2 kept2 p f (instance_of p top) slot.0 top_at in
-        subst (λ (q : ℕ). Has w2.values (q, known.key, known.code)) (one_cell p f w2 (instance_of p top) known.slot slot.0 own2 pooled cell its) known.settled
+    pub less_back : left (taken w es) f.cells ≤ left (taken v (es ++ (t, x) ∷ [])) f.cells
+    less_back = left_less (taken v (es ++ (t, x) ∷ [])) (taken w es) f.cells (pop_keeps v w es (t, x) known.key known.code kept settled_there)
 
-    -- no more are left than before
-    less_back : left (taken w2 es) f.cells ≤ left (taken w0 (es ++ (top, slot) ∷ [])) f.cells
-    less_back = left_less (taken w0 (es ++ (top, slot) ∷ [])) (taken w2 es) f.cells (pop_keeps w0 w2 es (top, slot) known.key known.code (at_least_then t.kept kept2) (settled_there t.good.texts))
-
-    -- what an answer took
-    pub first_cost : (before evals : ℕ) → es ≡ [] → evals + measure w0 es (top, slot) f.cells + 2 ≤ before + 2 * unsettled v f.cells → evals + 1 + 2 * unsettled w2 f.cells < before + 2 * unsettled v f.cells
-    first_cost before evals empty paid =
+    -- the one that waited for it is on top again
+    pub falls_back : x.way ≡ None → (ds : List (CodedInstance × Waiter)) (last : CodedInstance × Waiter) → es ≡ ds ++ last ∷ [] → (y : Waiter) → y.slot ≡ last.1.slot → measure w ds (last.0, y) f.cells < measure v es (t, x) f.cells
+    falls_back none ds last is y slot =
         let less = less_back in
-        let all : left (taken w2 es) f.cells ≡ unsettled w2 f.cells = ap (λ l. left (taken w2 l) f.cells) empty ∙ left_unsettled w2 f.cells in
-        omega (arith, less, all, paid)
-
-    module _ (new : List (CodedInstance × Slot)) (last : CodedInstance × Slot) (is : es ≡ new ++ last ∷ []) (other : waits new last.0 ≡ false) where
-      pub went_back : IsAsking p f v w2 i new last.0 last.1
-      went_back = record {
-        own = own2;
-        kept = at_least_then (at_least_then t.asking.kept t.kept) kept2;
-        line = line_front p f w2 i new last.0 last.1 (top, slot) (subst (λ l. IsLine p f w2 i (l ++ (top, slot) ∷ [])) is (line_later p f w1 i es top slot line w2 kept2));
-        other = other;
-        claims = claims_back;
-        unknown = t.asking.unknown;
-      }
-
-      pub falls_back : measure w2 new last f.cells < measure w0 es (top, slot) f.cells
-      falls_back =
-          let less = less_back in
-          let same_left : left (taken w2 (new ++ last ∷ [])) f.cells ≡ left (taken w2 es) f.cells = ap (λ l. left (taken w2 l) f.cells) (sym is) in
-          let longer = ap length is ∙ length_snoc new last in
-          omega (arith, less, same_left, longer)
-
-    -- the first of all is answered
-    pub first_answers : (x : CodedValue) → es ≡ [] → HasEnded p w1 (instance_of p top) x → AnswersAsk p f w2 i (Ok x)
-    first_answers x empty done =
-        let alone = subst (λ l. IsLine p f w1 i (l ++ (top, slot) ∷ [])) empty line in
-        let is : instance_of p top ≡ i = (let e = alone.starts in cc) in
-        subst (λ (j : Instance). HasValue p j (value_of (text_of p) x) × Knows p w2 j) is (ended_value p w1 (instance_of p top) x done, known)
+        let back = left_less (taken w (ds ++ last ∷ [])) (taken w (ds ++ (last.0, y) ∷ [])) f.cells (taken_on w w ds last.0 last.1 y (at_least_itself w) slot) in
+        let same_left : left (taken w (ds ++ last ∷ [])) f.cells ≡ left (taken w es) f.cells = ap (λ l. left (taken w l) f.cells) (sym is) in
+        let longer = ap length is ∙ length_snoc ds last in
+        let was : turns_of x.way ≡ 1 = ap turns_of none in
+        let now = few y.way in
+        omega (arith, less, back, same_left, longer, was, now)
+      where
+        few : (o : Option Local) → turns_of o ≤ 1
+        few None = omega arith
+        few (Some l) = omega arith

@@ -1,22 +1,34 @@
 -- The answers to an instance that is asked for.
-use Rattle.std.specs.Prelude.{◌≡◌, ℕ, zero, suc, ◌+◌, ◌*◌, ◌<◌, ◌==◌, if◌then◌else◌, true, false, List, [], ◌∷◌, ◌++◌, ◌⊎◌, Result, Ok, Err, IsOk, map}
+use Rattle.std.specs.Prelude.{◌≡◌, ℕ, zero, suc, ◌+◌, ◌*◌, ◌/◌, ◌<◌, ◌≤◌, ◌==◌, if◌then◌else◌, true, false, List, [], ◌∷◌, ◌++◌, ◌⊎◌, Option, Some, None, Result, Ok, Err, IsOk, map}
 use Rattle.std.specs.List.{list_any}
+use Rattle.attr_rules.specs.Rules.{is_single}
 use Rattle.equation_law.specs.declared.coding.Instance.{Instance as CodedInstance}
 use Rattle.equation_law.specs.declared.coding.Value.{Value as CodedValue}
-use Rattle.equation_law.specs.Codes.{instance_of, value_of}
-use Rattle.equation_law.specs.Equations.{HasValue, equations_of}
+use Rattle.equation_law.specs.Checked.{IsInstance}
+use Rattle.equation_law.specs.Codes.{AreElements, IsCoded, instance_of, value_of}
+use Rattle.equation_law.specs.Equations.{HasValue, equations_of, kind_in}
 use Rattle.equation_law.specs.Loops.{Chain, HasLoop}
+use Rattle.equation_law.specs.Lower.{IsLower}
 use Rattle.equation_law.specs.Names.{Instance}
 use Rattle.equation_law.specs.Program.{Program, text_of}
-use Rattle.memo_cells.specs.declared.keys.Slot.{Slot}
+use Rattle.equation_law.specs.Values.{Value}
 use Rattle.memo_cells.specs.declared.view.Frame.{Frame}
 use Rattle.memo_cells.specs.declared.view.View.{View}
-use Rattle.memo_cells.specs.Naming.{IsCellOf, IsKeyTo, LacksCell}
+use Rattle.memo_cells.specs.Naming.{IsElementCode, IsKeyTo, IsWordOf}
+use Rattle.memo_cells.specs.Showing.{ShowsAtLeast, has_code}
 use Rattle.memo_cells.specs.Standing.{Knows}
 use Rattle.memo_cells.specs.Views.{Has, IsFull, times}
-use Rattle.caller_pass.specs.declared.asking.AskFault.{AskFault}
-use Rattle.caller_pass.specs.declared.asking.AskFault.TheVariants.{CellsFull, Circular, Memory}
-use Rattle.caller_pass.specs.Waiting.{AreLed, names, waits}
+use Rattle.memo_cells.specs.Working.{GoesOn, Held}
+use Rattle.circular_eval.specs.declared.advancing.CircFault.{CircFault}
+use Rattle.circular_eval.specs.declared.advancing.CircFault.TheVariants as set_fault
+use Rattle.circular_eval.specs.declared.local.Local.{Local}
+use Rattle.circular_eval.specs.Advancing.{AreLed}
+use Rattle.caller_pass.specs.declared.faults.AskFault.{AskFault}
+use Rattle.caller_pass.specs.declared.faults.AskFault.TheVariants.{CellsFull, Circular, Memory}
+use Rattle.caller_pass.specs.declared.solving.Went.{Went}
+use Rattle.caller_pass.specs.declared.solving.Went.TheVariants.{Further, Need, Settled}
+use Rattle.caller_pass.specs.declared.waiting.Waiter.{Waiter}
+use Rattle.caller_pass.specs.Waiting.{IsWay, WaitsBy}
 
 -- the chain begins with i, each later member is led to by the one before, and `on`, which isn't circular, stands there twice
 pub record IsLoop (p : Program) (i on : Instance) (chain : List Instance) : Type 0 where
@@ -28,11 +40,24 @@ pub record IsLoop (p : Program) (i on : Instance) (chain : List Instance) : Type
   pub twice : chain ≡ front ++ on ∷ (back ++ on ∷ [])
   pub undeclared : (equations_of p).circular on ≡ false
 
--- k is a key of i: one on the way to the cell of an instance to which a chain leads from i
+-- a set in which the element of code c lies counts for i: its value in the solution, or one that it has under a lower assignment
+abbrev pub HasElement : Program → Instance → ℕ → Type 0
+HasElement p i c = ((x : Value) × HasValue p i x × (has_code (text_of p) (kind_in p i) x c ≡ true)) ⊎ ((T : Instance → Value) × IsLower p T × ((equations_of p).circular i ≡ true) × (has_code (text_of p) (kind_in p i) (T i) c ≡ true))
+
+-- k is the key of a word of the set of i, in which an element of such a set lies
+pub record IsElementKey (p : Program) (v : View) (i : Instance) (k : ℕ) : Type 0 where
+  pub word : ℕ
+  pub key : IsWordOf p v k i word
+  pub code : ℕ
+  pub element : IsElementCode p (kind_in p i) code
+  pub within : HasElement p i code
+  pub lies : code / 64 ≡ word
+
+-- k is a key of i: one on the way to the cell of an instance to which a chain leads from i, or of a word of its set
 pub record IsKeyOf (p : Program) (v : View) (i : Instance) (k : ℕ) : Type 0 where
   pub of : Instance
   pub reached : Chain p i of
-  pub key : IsKeyTo p v of k
+  pub key : IsKeyTo p v of k ⊎ IsElementKey p v of k
 
 -- what was claimed are cells of keys of i
 abbrev pub ClaimsKeys : Program → Instance → View → View → Type 0
@@ -42,35 +67,126 @@ ClaimsKeys p i v w = (q : ℕ) → (times q w.claims ≡ times q v.claims) ⊎ (
 abbrev pub FillsCells : Program → Instance → Frame → View → Type 0
 FillsCells p i f v = (k : ℕ) × IsKeyOf p v i k × IsFull f v k
 
--- Ok is the value in the solution, and the cell is then seen settled; `Circular` comes with a loop, and `CellsFull` where other keys have
--- all the cells than some key of i.
+-- `Circular` comes with a loop, and `CellsFull` where other keys have all the cells than some key of i
+abbrev pub AnswersFault : Program → Frame → View → Instance → AskFault → Type 0
+AnswersFault p f v i (Circular on chain) = IsLoop p i (instance_of p on) (map (instance_of p) chain)
+AnswersFault p f v i CellsFull = FillsCells p i f v
+AnswersFault p f v i Memory = Unit {0}
+
+-- Ok is the value in the solution, whose elements are coded well if it is a set, and the cell is then seen settled
 abbrev pub AnswersAsk : Program → Frame → View → Instance → Result CodedValue AskFault → Type 0
-AnswersAsk p f v i (Ok x) = HasValue p i (value_of (text_of p) x) × Knows p v i
-AnswersAsk p f v i (Err (Circular on chain)) = IsLoop p i (instance_of p on) (map (instance_of p) chain)
-AnswersAsk p f v i (Err CellsFull) = FillsCells p i f v
-AnswersAsk p f v i (Err Memory) = Unit {0}
+AnswersAsk p f v i (Ok x) = HasValue p i (value_of (text_of p) x) × Knows p v i × AreElements p x
+AnswersAsk p f v i (Err fault) = AnswersFault p f v i fault
 
--- the answer where the last of `es` is to wait for `next`: its slot, which is new among them, or the loop that it closes
-abbrev pub AnswersWait : Program → Frame → View → List (CodedInstance × Slot) → CodedInstance → List (CodedInstance × Slot) → Result Slot AskFault → Type 0
-AnswersWait p f v es next new (Ok s) = (new ≡ es) × IsCellOf p f v (instance_of p next) s.0 × (waits es next ≡ false)
-AnswersWait p f v es next new (Err (Circular on chain)) = (on ≡ next) × (map (instance_of p) chain ≡ names p es ++ instance_of p next ∷ []) × (waits es next ≡ true)
-AnswersWait p f v es next new (Err CellsFull) = LacksCell p f v (instance_of p next)
-AnswersWait p f v es next new (Err Memory) = Unit {0}
+-- the cell is then seen settled
+abbrev pub AnswersSolve : Program → Frame → View → Instance → Result Unit AskFault → Type 0
+AnswersSolve p f v i (Ok done) = Knows p v i
+AnswersSolve p f v i (Err fault) = AnswersFault p f v i fault
 
-abbrev pub IsCircular : Result CodedValue AskFault → Type 0
+-- the same without a loop
+abbrev pub AnswersFinish : Program → Frame → View → Instance → Result Unit AskFault → Type 0
+AnswersFinish p f v i (Ok done) = Knows p v i
+AnswersFinish p f v i (Err (Circular on chain)) = ⊥
+AnswersFinish p f v i (Err CellsFull) = FillsCells p i f v
+AnswersFinish p f v i (Err Memory) = Unit {0}
+
+-- the words of i show its value then, if that is a set
+abbrev pub AnswersShow : Program → Frame → View → Instance → CodedValue → Result Unit AskFault → Type 0
+AnswersShow p f v i x (Ok done) = is_single (kind_in p i) ≡ false → ShowsAtLeast p v i (kind_in p i) (value_of (text_of p) x)
+AnswersShow p f v i x (Err fault) = AnswersFinish p f v i (Err fault)
+
+-- the local set through which i waits changed: there is one now, or its start is seen sealed
+abbrev pub WayChanges : Program → Frame → View → Instance → Option Local → Option Local → Type 0
+WayChanges p f v i None None = ⊥
+WayChanges p f v i None (Some l) = IsWay p f v i l
+WayChanges p f v i (Some l) None = Knows p v (instance_of p l.start)
+WayChanges p f v i (Some l) (Some m) = ⊥
+
+-- the local set through which it waits still begins with the same instance
+abbrev pub SameWay : Option Local → Option Local → Type 0
+SameWay None None = Unit {0}
+SameWay None (Some m) = ⊥
+SameWay (Some l) None = ⊥
+SameWay (Some l) (Some m) = m.start ≡ l.start
+
+-- the instance for which i waits: one that isn't circular, and isn't seen settled
+pub record IsNext (p : Program) (f : Frame) (v : View) (i : Instance) (way : Option Local) (n : CodedInstance) : Type 0 where
+  pub instance : IsInstance p (instance_of p n)
+  pub coded : IsCoded p n
+  pub undeclared : (equations_of p).circular (instance_of p n) ≡ false
+  pub unknown : ¬ Knows p v (instance_of p n)
+  pub waits : WaitsBy p f v i way (instance_of p n)
+
+abbrev pub AnswersStep : Program → Frame → View → Instance → Option Local → Option Local → Result Went AskFault → Type 0
+AnswersStep p f v i old new (Ok Settled) = Knows p v i × (old ≡ None)
+AnswersStep p f v i old new (Ok Further) = WayChanges p f v i old new
+AnswersStep p f v i old new (Ok (Need n)) = IsNext p f v i new n × SameWay old new
+AnswersStep p f v i old new (Err (Circular on chain)) = ⊥
+AnswersStep p f v i old new (Err CellsFull) = FillsCells p i f v
+AnswersStep p f v i old new (Err Memory) = Unit {0}
+
+-- a turn of i, with what was known and is known, and the counts of evaluations before and after
+pub record GoesThrough (p : Program) (d e : Held) (i : CodedInstance) (old new : Waiter) (before after : ℕ) (result : Result Went AskFault) : Type 0 where
+  pub on : GoesOn d e
+  pub claims : ClaimsKeys p (instance_of p i) d.1 e.1
+  pub slot : new.slot ≡ old.slot
+  pub answer : AnswersStep p d.0 e.1 (instance_of p i) old.way new.way result
+  pub evals : after ≡ before + 1
+
+abbrev pub IsCircular : {X : Type 0} → Result X AskFault → Type 0
 IsCircular (Err (Circular on chain)) = Unit {0}
 IsCircular _ = ⊥
+
+-- the fault of a local set is that of who asks
+abbrev pub IsSameFault : CircFault → AskFault → Type 0
+IsSameFault set_fault.CellsFull fault = fault ≡ CellsFull
+IsSameFault set_fault.Memory fault = fault ≡ Memory
 
 -- how many of the cells below n aren't seen settled
 abbrev pub unsettled : View → ℕ → ℕ
 unsettled v zero = 0
 unsettled v (suc n) = (if list_any (λ x. x.0 == n) v.values then 0 else 1) + unsettled v n
 
--- What asking for i says, with the counts of evaluations before and after. Where the cell was seen settled, it takes none. An answer takes
--- none, or fewer than twice as many as cells came to be seen settled.
+-- What settling i on demand says, with the counts of evaluations before and after. It takes fewer than twice as many as cells came to be seen
+-- settled.
+pub record Solves (p : Program) (f : Frame) (v w : View) (i : Instance) (before after : ℕ) (result : Result Unit AskFault) : Type 0 where
+  pub answer : AnswersSolve p f w i result
+  pub claims : ClaimsKeys p i v w
+  pub cost : IsOk result → after + 2 * unsettled w f.cells < before + 2 * unsettled v f.cells
+
+-- A circular instance that leads to i came to be seen settled, and its cell is left to pay for one evaluation more.
+abbrev pub LeavesOne : Program → Frame → View → View → Instance → ℕ → ℕ → Type 0
+LeavesOne p f v w i before after = (h : Instance) → Chain p h i → (equations_of p).circular h ≡ true → ¬ Knows p v h → Knows p w h → after + 1 + 2 * unsettled w f.cells < before + 2 * unsettled v f.cells
+
+-- What settling n says, which a local set needs: a loop begins with the start of that.
+pub record SolvesFor (p : Program) (f : Frame) (v w : View) (l : Local) (n : Instance) (before after : ℕ) (result : Result Unit AskFault) : Type 0 where
+  pub settled : IsOk result → Knows p w n
+  pub fault : (fault : AskFault) → result ≡ Err fault → AnswersFault p f w (instance_of p l.start) fault
+  pub claims : ClaimsKeys p n v w
+  pub cost : IsOk result → after + 2 * unsettled w f.cells < before + 2 * unsettled v f.cells
+  pub start : IsOk result → ¬ Knows p v (instance_of p l.start) → Knows p w (instance_of p l.start) → after + 1 + 2 * unsettled w f.cells < before + 2 * unsettled v f.cells
+
+-- What going on with the local set of i says, with the counts of evaluations before and after: more cells are seen settled then, and where the
+-- cell of i is one of them, it is left to pay.
+pub record ClosesMore (p : Program) (f : Frame) (v w : View) (i : Instance) (before after : ℕ) (result : Result Unit AskFault) : Type 0 where
+  pub fault : (fault : AskFault) → result ≡ Err fault → AnswersFault p f w i fault
+  pub claims : ClaimsKeys p i v w
+  pub cost : IsOk result → after + 2 * unsettled w f.cells ≤ before + 2 * unsettled v f.cells
+  pub known : IsOk result → Knows p w i → after + 2 * unsettled w f.cells < before + 2 * unsettled v f.cells
+  pub falls : IsOk result → unsettled w f.cells < unsettled v f.cells
+
+-- where the cell was seen settled, it takes no evaluation, and only the value of a set takes memory
+abbrev pub AnswersKnown : Program → Instance → Result CodedValue AskFault → Type 0
+AnswersKnown p i (Ok x) = Unit {0}
+AnswersKnown p i (Err (Circular on chain)) = ⊥
+AnswersKnown p i (Err CellsFull) = ⊥
+AnswersKnown p i (Err Memory) = is_single (kind_in p i) ≡ false
+
+-- What asking for i says, with the counts of evaluations before and after. An answer takes none, or fewer than twice as many as cells came
+-- to be seen settled.
 pub record Asks (p : Program) (f : Frame) (v w : View) (i : Instance) (before after : ℕ) (result : Result CodedValue AskFault) : Type 0 where
   pub answer : AnswersAsk p f w i result
   pub circular : IsCircular result → HasLoop p i
   pub claims : ClaimsKeys p i v w
-  pub known : Knows p v i → IsOk result × (after ≡ before)
+  pub known : Knows p v i → AnswersKnown p i result × (after ≡ before)
   pub cost : IsOk result → (after ≡ before) ⊎ (after + 2 * unsettled w f.cells < before + 2 * unsettled v f.cells)

@@ -1,34 +1,57 @@
 -- What a pass knows of instances.
-use Rattle.std.specs.Prelude.{◌≡◌, List, Result, Ok, Err}
+use Rattle.std.specs.Prelude.{◌≡◌, ℕ, false, List, Option, Some, None, Result, Ok, Err}
+use Rattle.attr_rules.specs.Rules.{is_single}
 use Rattle.rag_io.specs.declared.Memory.{Memory}
 use Rattle.solutions.specs.Asking.{Ends, Halts}
 use Rattle.equation_law.specs.declared.coding.Value.{Value as CodedValue}
-use Rattle.equation_law.specs.Codes.{IsCoded, instance_of, value_of}
-use Rattle.equation_law.specs.Equations.{HasValue, equations_of, kind_in}
+use Rattle.equation_law.specs.Codes.{AreElements, IsCoded, instance_of, value_of}
+use Rattle.equation_law.specs.Equations.{equations_of, kind_in}
 use Rattle.equation_law.specs.Names.{Instance}
 use Rattle.equation_law.specs.Program.{Program, text_of}
 use Rattle.equation_law.specs.Values.{Value, as_kind}
 use Rattle.expr_eval.specs.declared.sites.Turn.{Turn}
 use Rattle.expr_eval.specs.declared.sites.Turn.TheVariants as turns
+use Rattle.memo_cells.specs.declared.keys.Slot.{Slot}
+use Rattle.memo_cells.specs.declared.view.Frame.{Frame}
 use Rattle.memo_cells.specs.declared.view.View.{View}
+use Rattle.memo_cells.specs.Naming.{StandsFor}
 use Rattle.memo_cells.specs.Standing.{Knows}
+use Rattle.memo_cells.specs.Views.{Has, IsSlot}
+use Rattle.memo_cells.specs.Working.{IsKnown}
 
--- the cell of i is seen settled, and its value in the solution is w
-abbrev pub Known : Program → View → Instance → Value → Type 0
-Known p v i w = Knows p v i × HasValue p i w
-
--- x is the code of the value of i, read at its type, and its cell is seen settled
+-- x is the code of the value of i, read at its type, and its cell is seen settled; the elements of a set are coded well
 pub record IsKnownValue (p : Program) (v : View) (i : Instance) (x : CodedValue) : Type 0 where
   pub value : Value
-  pub known : Known p v i value
+  pub known : IsKnown p v i value
   pub coded : value_of (text_of p) x ≡ as_kind (kind_in p i) value
+  pub elements : AreElements p x
 
--- the equation of i ended with this value
-abbrev pub HasEnded : Program → View → Instance → CodedValue → Type 0
-HasEnded p v i x = (ds : List Instance) × Ends (Known p v) ((equations_of p).equation i) (value_of (text_of p) x) ds
+-- the cell of i is seen settled with this code at this slot
+pub record IsSettledAt (p : Program) (f : Frame) (v : View) (i : Instance) (slot code : ℕ) : Type 0 where
+  pub key : ℕ
+  pub there : IsSlot f v slot key
+  pub stands : StandsFor p v key i
+  pub settled : Has v.values (slot, key, code)
+
+-- where the cell of i is seen settled, if it is
+abbrev pub FindsCode : Program → Frame → View → Instance → Option (Slot × ℕ) → Type 0
+FindsCode p f v i (Some (slot, code)) = IsSettledAt p f v i slot.0 code
+FindsCode p f v i None = ¬ Knows p v i
+
+-- The value of i, if its cell is seen settled. Only that of a set takes memory.
+abbrev pub FindsValue : Program → View → Instance → Result (Option CodedValue) Memory → Type 0
+FindsValue p v i (Ok (Some x)) = IsKnownValue p v i x
+FindsValue p v i (Ok None) = ¬ Knows p v i
+FindsValue p v i (Err m) = is_single (kind_in p i) ≡ false
+
+-- the equation of i ended with this value, the elements of which are coded well
+pub record HasEnded (p : Program) (v : View) (i : Instance) (x : CodedValue) : Type 0 where
+  pub demands : List Instance
+  pub ends : Ends (IsKnown p v) ((equations_of p).equation i) (value_of (text_of p) x) demands
+  pub elements : AreElements p x
 
 -- what the equation of i comes to under what the pass knows: its value, or the first demand whose cell isn't seen settled
 abbrev pub TurnsTo : Program → View → Instance → Result Turn Memory → Type 0
 TurnsTo p v i (Ok (turns.Done x)) = HasEnded p v i x
-TurnsTo p v i (Ok (turns.Need j)) = (ds : List Instance) × Halts (Known p v) ((equations_of p).equation i) (instance_of p j) ds × IsCoded p j
+TurnsTo p v i (Ok (turns.Need j)) = (ds : List Instance) × Halts (IsKnown p v) ((equations_of p).equation i) (instance_of p j) ds × IsCoded p j
 TurnsTo p v i (Err m) = Unit {0}

@@ -1,5 +1,4 @@
 pub mod Answering
-pub mod Desks
 pub mod Knowing
 pub mod Overfull
 pub mod Waiting

@@ -1,38 +1,116 @@
--- The instances that wait, with their slots.
-use Rattle.std.specs.Prelude.{◌≡◌, Bool, List, [], ◌∷◌, map}
+-- The instances that wait, with their slots and the local sets through which they wait.
+use Rattle.std.specs.Prelude.{◌≡◌, Bool, true, false, ℕ, List, [], ◌∷◌, ◌++◌, Option, Some, None, Result, Ok, Err, map}
 use Rattle.std.specs.List.{list_any}
 use Rattle.std.specs.Map.{keys_of}
 use Rattle.equation_law.specs.contracts.coding.InstancePartialEq.TheImpl as equality
 use Rattle.equation_law.specs.declared.coding.Instance.{Instance as CodedInstance}
 use Rattle.equation_law.specs.Checked.{IsInstance}
 use Rattle.equation_law.specs.Codes.{IsCoded, instance_of}
-use Rattle.equation_law.specs.Loops.{Leads}
+use Rattle.equation_law.specs.Equations.{equations_of}
+use Rattle.equation_law.specs.Loops.{Chain, Leads}
 use Rattle.equation_law.specs.Names.{Instance}
 use Rattle.equation_law.specs.Program.{Program}
 use Rattle.memo_cells.specs.declared.keys.Slot.{Slot}
 use Rattle.memo_cells.specs.declared.view.Frame.{Frame}
 use Rattle.memo_cells.specs.declared.view.View.{View}
-use Rattle.memo_cells.specs.Naming.{IsCellOf}
+use Rattle.memo_cells.specs.Naming.{IsCellOf, LacksCell}
+use Rattle.memo_cells.specs.Standing.{Knows}
 use Rattle.memo_cells.specs.Views.{Has}
-
-abbrev pub names : Program → List (CodedInstance × Slot) → List Instance
-names p es = map (λ e. instance_of p e.0) es
+use Rattle.circular_eval.specs.declared.local.Local.{Local}
+use Rattle.circular_eval.specs.Advancing.{AreLed, IsPath}
+use Rattle.circular_eval.specs.Local.{IsLocal}
+use Rattle.caller_pass.specs.declared.faults.AskFault.{AskFault}
+use Rattle.caller_pass.specs.declared.faults.AskFault.TheVariants.{CellsFull, Circular, Memory}
+use Rattle.caller_pass.specs.declared.waiting.Waiter.{Waiter}
 
 -- i is one of those that wait
-abbrev pub waits : List (CodedInstance × Slot) → CodedInstance → Bool
+abbrev pub waits : List (CodedInstance × Waiter) → CodedInstance → Bool
 waits es i = list_any (equality.ghosts.eq i) (keys_of es)
 
--- each later member is led to by the one before
-abbrev pub AreLed : Program → List Instance → Type 0
-AreLed p [] = Unit {0}
-AreLed p (i ∷ []) = Unit {0}
-AreLed p (i ∷ j ∷ js) = Leads p i j × AreLed p (j ∷ js)
+-- i demands the start of this local set, which isn't seen sealed
+pub record IsWay (p : Program) (f : Frame) (v : View) (i : Instance) (l : Local) : Type 0 where
+  pub local : IsLocal p f v l
+  pub led : Leads p i (instance_of p l.start)
+  pub unknown : ¬ Knows p v (instance_of p l.start)
 
--- the first is i, each leads to the next, and each is an instance, well coded, whose cell is seen claimed at its slot
-pub record IsLine (p : Program) (f : Frame) (v : View) (i : Instance) (es : List (CodedInstance × Slot)) : Type 0 where
-  pub rest : List Instance
-  pub starts : names p es ≡ i ∷ rest
-  pub led : AreLed p (names p es)
-  pub instances : (e : CodedInstance × Slot) → Has es e → IsInstance p (instance_of p e.0)
-  pub coded : (e : CodedInstance × Slot) → Has es e → IsCoded p e.0
-  pub slots : (e : CodedInstance × Slot) → Has es e → IsCellOf p f v (instance_of p e.0) e.1.0
+abbrev pub IsWayOf : Program → Frame → View → Instance → Option Local → Type 0
+IsWayOf p f v i None = Unit {0}
+IsWayOf p f v i (Some l) = IsWay p f v i l
+
+-- an instance of the program that isn't circular, well coded, whose cell is seen claimed at its slot
+pub record IsPlaced (p : Program) (f : Frame) (v : View) (e : CodedInstance × Waiter) : Type 0 where
+  pub instance : IsInstance p (instance_of p e.0)
+  pub coded : IsCoded p e.0
+  pub undeclared : (equations_of p).circular (instance_of p e.0) ≡ false
+  pub slot : IsCellOf p f v (instance_of p e.0) e.1.slot.0
+
+-- it is to be evaluated next, or the local set that it waits for is to go on
+pub record IsFrame (p : Program) (f : Frame) (v : View) (e : CodedInstance × Waiter) : Type 0 where
+  pub placed : IsPlaced p f v e
+  pub way : IsWayOf p f v (instance_of p e.0) e.1.way
+
+-- the local set needed n last
+pub record Needed (p : Program) (l : Local) (n : Instance) : Type 0 where
+  pub number : ℕ
+  pub coded : CodedInstance
+  pub noted : l.need ≡ Some (number, coded)
+  pub is : instance_of p coded ≡ n
+
+-- i waits for n: it demands n, or the local set that it waits for needs n
+abbrev pub WaitsBy : Program → Frame → View → Instance → Option Local → Instance → Type 0
+WaitsBy p f v i None n = Leads p i n
+WaitsBy p f v i (Some l) n = Leads p i (instance_of p l.start) × IsLocal p f v l × Needed p l n × Chain p (instance_of p l.start) n
+
+-- each waits for the next one, and the last one for n
+abbrev pub AreWaiting : Program → Frame → View → List (CodedInstance × Waiter) → Instance → Type 0
+AreWaiting p f v [] n = Unit {0}
+AreWaiting p f v (e ∷ []) n = WaitsBy p f v (instance_of p e.0) e.1.way n
+AreWaiting p f v (e ∷ d ∷ es) n = WaitsBy p f v (instance_of p e.0) e.1.way (instance_of p d.0) × AreWaiting p f v (d ∷ es) n
+
+-- those that wait, of which the first is i, and the one that they wait for
+pub record IsStack (p : Program) (f : Frame) (v : View) (i : Instance) (es : List (CodedInstance × Waiter)) (top : CodedInstance × Waiter) : Type 0 where
+  pub first : CodedInstance × Waiter
+  pub rest : List (CodedInstance × Waiter)
+  pub starts : es ++ top ∷ [] ≡ first ∷ rest
+  pub is : instance_of p first.0 ≡ i
+  pub placed : (e : CodedInstance × Waiter) → Has es e → IsPlaced p f v e
+  pub waiting : AreWaiting p f v es (instance_of p top.0)
+  pub frame : IsFrame p f v top
+  pub other : waits es top.0 ≡ false
+
+-- by these instances the first one that waits leads to n, which stands behind them; all that wait stand among them
+pub record IsLineTo (p : Program) (es : List (CodedInstance × Waiter)) (n : Instance) (line : List Instance) : Type 0 where
+  pub front : List Instance
+  pub ends : line ≡ front ++ n ∷ []
+  pub led : AreLed p line
+  pub starts : (e : CodedInstance × Waiter) (ds : List (CodedInstance × Waiter)) → es ≡ e ∷ ds → (rest : List Instance) × (line ≡ instance_of p e.0 ∷ rest)
+  pub among : (e : CodedInstance × Waiter) → Has es e → Has front (instance_of p e.0)
+
+-- the path of a local set to what it needed last was added, without that
+pub record HasPart (old new : List CodedInstance) (l : Local) : Type 0 where
+  pub part : List CodedInstance
+  pub added : new ≡ old ++ part
+  pub path : (p : Program) (f : Frame) (v : View) (n : Instance) → IsLocal p f v l → Needed p l n → IsPath p (instance_of p l.start) n (map (instance_of p) part ++ n ∷ [])
+
+-- a chain behind such a path
+pub record IsBehind (l : Local) (chain whole : List CodedInstance) : Type 0 where
+  pub part : List CodedInstance
+  pub joined : whole ≡ part ++ chain
+  pub path : (p : Program) (f : Frame) (v : View) (n : Instance) → IsLocal p f v l → Needed p l n → IsPath p (instance_of p l.start) n (map (instance_of p) part ++ n ∷ [])
+
+-- the answer where the last of `es` is to wait for `next`: how that one stands, which is new among them, or the line to it, which holds it already
+abbrev pub AnswersWait : Program → Frame → View → List (CodedInstance × Waiter) → CodedInstance → List (CodedInstance × Waiter) → Result Waiter AskFault → Type 0
+AnswersWait p f v es next new (Ok x) = (new ≡ es) × IsCellOf p f v (instance_of p next) x.slot.0 × (x.way ≡ None) × (waits es next ≡ false)
+AnswersWait p f v es next new (Err (Circular on chain)) = (on ≡ next) × (waits es next ≡ true) × ((g : Frame) (u : View) → AreWaiting p g u es (instance_of p next) → IsLineTo p es (instance_of p next) (map (instance_of p) chain))
+AnswersWait p f v es next new (Err CellsFull) = LacksCell p f v (instance_of p next)
+AnswersWait p f v es next new (Err Memory) = Unit {0}
+
+-- a local set stays exactly where its start isn't seen sealed
+abbrev pub WayStays : Program → View → Option Local → Option Local → Type 0
+WayStays p v None way = way ≡ None
+WayStays p v (Some l) None = IsCoded p l.start → Knows p v (instance_of p l.start)
+WayStays p v (Some l) (Some m) = (m ≡ l) × (IsCoded p l.start → ¬ Knows p v (instance_of p l.start))
+
+pub record LooksAgain (p : Program) (v : View) (old new : Waiter) : Type 0 where
+  pub slot : new.slot ≡ old.slot
+  pub way : WayStays p v old.way new.way

@@ -1,7 +1,13 @@
 // A pass at its cells.
+ghost use Rattle.std.specs.Prelude.{◌≡◌};
 
-use equation_law::System;
-use memo_cells::{Cells, Pass};
+use crate::turns::is_set;
+use equation_law::{Code, Instance, Reader, System, Value};
+use expr_eval::kind_of;
+use memo_cells::{Cells, CellsFull, Key, Pass, Slot, Words, Work};
+use rag_io::Memory;
+use set_words::value_shown;
+use std::alloc::Global;
 use std::marker::Model;
 
 /// A pass at its cells.
@@ -27,4 +33,110 @@ impl<'a> Model for Desk<'a> {
     ghost view = { λ d. (d.cells.now, d.pass.now, d.pass.ghost_name) };
 
     ghost invariant = { λ d. IsPassOf d.cells.now d.pass.now × (d.cells.now.system.value ≡ d.system.now) };
+}
+
+impl Reader for Desk<'_> {
+    ghost use Rattle.memo_cells.specs.Working.{told_by};
+
+    ghost tells = { told_by };
+
+    fn settled(&mut self, alloc: Global, i: &Instance) -> Result<Option<Value>, Memory> {
+        self.known_value(alloc, *i)
+    }
+}
+
+impl Words for Desk<'_> {
+    ghost held = { λ d. d };
+
+    fn word(&mut self, slot: Slot, word: u32) -> u64 {
+        self.cells.word(self.pass, slot, word)
+    }
+}
+
+impl Work for Desk<'_> {
+    ghost use Rattle.memo_cells.proofs.Holding.{told_pass};
+
+    fn claim(&mut self, key: Key) -> Result<Slot, CellsFull> {
+        self.cells.claim(self.pass, key)
+    }
+
+    fn seek(&mut self, key: Key) -> Option<Slot> {
+        self.cells.seek(self.pass, key)
+    }
+
+    fn raise(&mut self, slot: Slot, word: u32, bits: u64) -> Result<u64, CellsFull> {
+        self.cells.raise(self.pass, slot, word, bits)
+    }
+
+    fn seal(&mut self, set: &[Slot]) {
+        self.cells.seal(self.pass, set)
+    }
+
+    ghost tells_pass = { told_pass };
+}
+
+impl Desk<'_> {
+    ghost use Rattle.std.specs.Prelude.{◌<◌, IfOk, IfSome, OnErr};
+    ghost use Rattle.equation_law.specs.Checked.{IsInstance};
+    ghost use Rattle.equation_law.specs.Codes.{IsCoded, instance_of};
+    ghost use Rattle.equation_law.specs.Names.{Instance as StandingInstance};
+    ghost use Rattle.memo_cells.specs.Naming.{ClaimsKeysTo, IsCellOf, LacksCell};
+    ghost use Rattle.memo_cells.specs.Standing.{Knows, MaySettle};
+    ghost use Rattle.memo_cells.specs.Working.{GoesOn, IsOwn, ReadsOn, program_at};
+    ghost use Rattle.caller_pass.specs.Knowing.{FindsCode, FindsValue};
+
+    /// The one slot of an instance of the system, claimed where it wasn't.
+    pub(crate) fn claim_cell(&mut self, i: Instance) -> Result<Slot, CellsFull>
+        requires instance { IsInstance (program_at self.old) (instance_of (program_at self.old) i) }
+        requires coded { IsCoded (program_at self.old) i }
+        ensures on { GoesOn self.old self.new }
+        ensures slot { IfOk result (λ s. IsCellOf (program_at self.old) self.new.0 self.new.1 (instance_of (program_at self.old) i) s.0) }
+        ensures full { OnErr result (LacksCell (program_at self.old) self.new.0 self.new.1 (instance_of (program_at self.old) i)) }
+        ensures claims { ClaimsKeysTo (program_at self.old) self.old.1 self.new.1 (instance_of (program_at self.old) i) }
+    {
+        self.cells.claim_instance(self.pass, i)
+    }
+
+    /// The slot of a well coded instance whose cell is settled, and its code. Of another one, the slot is that of some instance.
+    pub(crate) fn settled_code(&mut self, i: Instance) -> Option<(Slot, Code)>
+        ensures on { ReadsOn self.old self.new }
+        ensures known { IsCoded (program_at self.old) i → FindsCode (program_at self.old) self.new.0 self.new.1 (instance_of (program_at self.old) i) result }
+        ensures cell { IfSome result (λ x. (j : StandingInstance) × IsCellOf (program_at self.old) self.new.0 self.new.1 j x.0.0) }
+    {
+        let slot = self.cells.seek_instance(self.pass, i)?;
+        let code = self.cells.settled(self.pass, slot)?;
+        Some((slot, code))
+    }
+
+    /// Settles the cell of an instance.
+    pub(crate) fn settle(&mut self, slot: Slot, code: Code)
+        requires own { IsOwn self.old }
+        requires slot { slot.0 < self.old.0.cells }
+        requires code { MaySettle (program_at self.old) self.old.1 slot.0 code }
+        ensures on { ReadsOn self.old self.new }
+        ensures known { (i : StandingInstance) → IsCellOf (program_at self.old) self.old.0 self.old.1 i slot.0 → Knows (program_at self.old) self.new.1 i }
+    {
+        self.cells.settle(self.pass, slot, code);
+    }
+
+    /// The value of a well coded instance whose cell is settled, read at its type. That of a set stands in its words.
+    pub(crate) fn known_value(
+        &mut self,
+        alloc: Global,
+        i: Instance,
+    ) -> Result<Option<Value>, Memory>
+        ensures on { ReadsOn self.old self.new }
+        ensures known { IsCoded (program_at self.old) i → FindsValue (program_at self.old) self.new.1 (instance_of (program_at self.old) i) result }
+    {
+        let Some((slot, code)) = self.settled_code(i) else {
+            return Ok(None);
+        };
+        let kind = kind_of(self.system, &i);
+        if is_set(kind) {
+            let system = self.system;
+            let value = value_shown(alloc, system, self, slot, kind)?;
+            return Ok(Some(value));
+        }
+        Ok(Some(Value::of_code(alloc, kind, code)))
+    }
 }

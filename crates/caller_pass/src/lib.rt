@@ -2,12 +2,14 @@
 #![tactic(auto)]
 
 mod asking;
-mod chain;
 mod desk;
 mod evals;
+mod faults;
+mod solving;
 mod turns;
 mod waiting;
 
-pub use asking::{AskFault, ask};
-pub use chain::Chain;
+pub use asking::ask;
+pub use equation_law::Chain;
 pub use evals::Steps;
+pub use faults::AskFault;

@@ -1,75 +1,133 @@
-// What a pass knows, as a reader, and evaluations under it.
-ghost use Rattle.std.specs.Prelude.{◌≡◌, ◌+◌, IfNone, IfSome};
+// One turn: the equation of an instance is evaluated, or a local set goes on.
+ghost use Rattle.std.specs.Prelude.{◌≡◌, ◌+◌, false, not, OnOk, IfOk};
+ghost use Rattle.attr_rules.specs.Rules.{is_single};
+ghost use Rattle.circular_eval.specs.Advancing.{AnswersTurn, ClaimsFrom};
+ghost use Rattle.circular_eval.specs.Local.{IsLocal};
 ghost use Rattle.equation_law.specs.Codes.{IsCoded, instance_of};
+ghost use Rattle.equation_law.specs.Equations.{equations_of, is_declared, kind_in};
+ghost use Rattle.equation_law.specs.Checked.{IsInstance, IsProgram};
 ghost use Rattle.equation_law.specs.Systems.{program_of};
-ghost use Rattle.memo_cells.specs.Standing.{IsPassOf, Knows};
-ghost use Rattle.memo_cells.specs.Views.{IsAtLeast};
-ghost use Rattle.caller_pass.specs.Knowing.{IsKnownValue, TurnsTo};
+ghost use Rattle.memo_cells.specs.Naming.{IsCellOf};
+ghost use Rattle.memo_cells.specs.Standing.{Knows};
+ghost use Rattle.memo_cells.specs.Working.{GoesOn, IsOwn, ReadsOn, program_at};
+ghost use Rattle.caller_pass.specs.Answering.{AnswersFinish, AnswersShow, ClaimsKeys};
+ghost use Rattle.caller_pass.specs.Knowing.{HasEnded, TurnsTo};
 
 use crate::desk::Desk;
 use crate::evals::Steps;
-use equation_law::{Instance, Reader, System, Value};
+use crate::faults::AskFault;
+use attr_rules::Kind;
+use circular_eval::{CircFault, CircTurn, Local, advance};
+use equation_law::{Instance, System, Value};
 use expr_eval::{Turn, evaluate_instance, kind_of};
-use memo_cells::{Cells, Pass};
+use memo_cells::Slot;
 use rag_io::Memory;
+use set_words::{codes_of, raise_codes};
 use std::alloc::Global;
 use std::sync::ledger::Ledger;
 
-/// The value of a well coded instance whose cell is settled, read at its type.
-pub(crate) fn known_value(
-    system: &System,
-    cells: &Cells,
-    pass: &mut Pass,
-    i: Instance,
-) -> Option<Value>
-    requires own { IsPassOf cells.now pass.old }
-    requires same { cells.now.system.value ≡ system.now }
-    ensures own { IsPassOf cells.now pass.new }
-    ensures kept { IsAtLeast pass.old pass.new }
-    ensures claims { pass.new.claims ≡ pass.old.claims }
-    ensures known { IsCoded (program_of system.now) i → IfSome result (λ v. IsKnownValue (program_of system.now) pass.new (instance_of (program_of system.now) i) v) }
-    ensures none { IsCoded (program_of system.now) i → IfNone result (¬ Knows (program_of system.now) pass.new (instance_of (program_of system.now) i)) }
+/// Whether a type is that of sets.
+pub(crate) fn is_set(kind: Kind) -> bool
+    ensures { result ≡ not (is_single kind) }
 {
-    let slot = cells.seek_instance(pass, i)?;
-    let code = cells.settled(pass, slot)?;
-    Some(Value::of_code(kind_of(system, &i), code))
+    matches!(kind, Kind::Texts | Kind::Nodes(_))
 }
 
-impl Reader for Desk<'_> {
-    ghost use Rattle.caller_pass.specs.Desks.{told_by};
-
-    ghost tells = { told_by };
-
-    fn settled(&mut self, _alloc: Global, i: &Instance) -> Result<Option<Value>, Memory> {
-        Ok(known_value(self.system, self.cells, self.pass, *i))
+/// Whether an instance is of an attribute that is declared circular.
+pub(crate) fn is_declared(system: &System, i: &Instance) -> bool
+    ensures { result ≡ is_declared (program_of system.now) (instance_of (program_of system.now) i.now) }
+{
+    match i {
+        Instance::Attr { attr, .. } => {
+            u32::from(attr.0) < system.rules().attrs() && system.rules().attr(*attr).circular
+        }
+        Instance::Query(_) => false,
     }
 }
 
 /// One evaluation of the equation of an instance under what the pass knows.
 pub(crate) fn turn<L: Ledger>(
     alloc: Global,
-    system: &System,
-    cells: &Cells,
-    pass: &mut Pass,
+    desk: &mut Desk<'_>,
     i: Instance,
     evals: &mut Steps<L>,
 ) -> Result<Turn, Memory>
-    requires own { IsPassOf cells.now pass.old }
-    requires same { cells.now.system.value ≡ system.now }
-    requires coded { IsCoded (program_of system.now) i }
-    ensures own { IsPassOf cells.now pass.new }
-    ensures kept { IsAtLeast pass.old pass.new }
-    ensures claims { pass.new.claims ≡ pass.old.claims }
-    ensures turned { TurnsTo (program_of system.now) pass.new (instance_of (program_of system.now) i) result }
+    requires coded { IsCoded (program_at desk.old) i }
+    ensures on { ReadsOn desk.old desk.new }
+    ensures turned { TurnsTo (program_at desk.old) desk.new.1 (instance_of (program_at desk.old) i) result }
     ensures evals { evals.new ≡ evals.old + 1 }
 {
     evals.tick();
-    let mut desk = Desk {
-        system,
-        cells,
-        pass,
-    };
-    let came = evaluate_instance(alloc, system, &i, &mut desk);
-    let Desk { pass: _pass, .. } = desk;
-    came
+    let system = desk.system;
+    evaluate_instance(alloc, system, &i, desk)
+}
+
+/// Goes on with a local set under what the pass knows.
+pub(crate) fn go_on<L: Ledger>(
+    alloc: Global,
+    desk: &mut Desk<'_>,
+    local: &mut Local,
+    evals: &mut Steps<L>,
+) -> Result<CircTurn, CircFault>
+    requires program { IsProgram (program_at desk.old) }
+    requires local { IsLocal (program_at desk.old) desk.old.0 desk.old.1 local.old }
+    ensures on { GoesOn desk.old desk.new }
+    ensures local { IsLocal (program_at desk.old) desk.old.0 desk.new.1 local.new × (local.new.start ≡ local.old.start) }
+    ensures claims { ClaimsFrom (program_at desk.old) (instance_of (program_at desk.old) local.old.start) desk.old.1 desk.new.1 }
+    ensures answer { AnswersTurn (program_at desk.old) desk.old.0 desk.new.1 local.new result }
+    ensures evals { evals.new ≡ evals.old + 1 }
+{
+    evals.tick();
+    let system = desk.system;
+    advance(alloc, system, desk, local)
+}
+
+/// Raises the words of an instance whose equation ended, if it is of a set.
+fn show(
+    alloc: Global,
+    desk: &mut Desk<'_>,
+    i: Instance,
+    slot: Slot,
+    value: &Value,
+) -> Result<(), AskFault>
+    requires program { IsProgram (program_at desk.old) }
+    requires own { IsOwn desk.old }
+    requires instance { IsInstance (program_at desk.old) (instance_of (program_at desk.old) i) }
+    requires undeclared { (equations_of (program_at desk.old)).circular (instance_of (program_at desk.old) i) ≡ false }
+    requires slot { IsCellOf (program_at desk.old) desk.old.0 desk.old.1 (instance_of (program_at desk.old) i) slot.0 }
+    requires ended { HasEnded (program_at desk.old) desk.old.1 (instance_of (program_at desk.old) i) value.now }
+    ensures on { GoesOn desk.old desk.new }
+    ensures claims { ClaimsKeys (program_at desk.old) (instance_of (program_at desk.old) i) desk.old.1 desk.new.1 }
+    ensures answer { AnswersShow (program_at desk.old) desk.old.0 desk.new.1 (instance_of (program_at desk.old) i) value.now result }
+{
+    if !is_set(kind_of(desk.system, &i)) {
+        return Ok(());
+    }
+    let codes = codes_of(alloc, value)?;
+    raise_codes(desk, slot, &codes)?;
+    Ok(())
+}
+
+/// Settles the cell of an instance whose equation ended. That of a set has its words raised first.
+pub(crate) fn finish(
+    alloc: Global,
+    desk: &mut Desk<'_>,
+    i: Instance,
+    slot: Slot,
+    value: &Value,
+) -> Result<(), AskFault>
+    requires program { IsProgram (program_at desk.old) }
+    requires own { IsOwn desk.old }
+    requires instance { IsInstance (program_at desk.old) (instance_of (program_at desk.old) i) }
+    requires undeclared { (equations_of (program_at desk.old)).circular (instance_of (program_at desk.old) i) ≡ false }
+    requires slot { IsCellOf (program_at desk.old) desk.old.0 desk.old.1 (instance_of (program_at desk.old) i) slot.0 }
+    requires ended { HasEnded (program_at desk.old) desk.old.1 (instance_of (program_at desk.old) i) value.now }
+    ensures on { GoesOn desk.old desk.new }
+    ensures claims { ClaimsKeys (program_at desk.old) (instance_of (program_at desk.old) i) desk.old.1 desk.new.1 }
+    ensures answer { AnswersFinish (program_at desk.old) desk.old.0 desk.new.1 (instance_of (program_at desk.old) i) result }
+{
+    show(alloc, desk, i, slot, value)?;
+    let kind = kind_of(desk.system, &i);
+    desk.settle(slot, value.code(kind));
+    Ok(())
 }

@@ -1,30 +1,46 @@
 // The instances that wait for values.
 ghost use Rattle.std.specs.Prelude.{◌≡◌, ◌++◌, ◌∷◌, [], false, IfNone, IfOk, IfSome, OnOk, map, option_to_list};
-ghost use Rattle.caller_pass.specs.Waiting.{waits};
+ghost use Rattle.equation_law.specs.Codes.{instance_of};
+ghost use Rattle.equation_law.specs.Program.{Program};
+ghost use Rattle.memo_cells.specs.declared.view.Frame.{Frame as CellsFrame};
+ghost use Rattle.memo_cells.specs.declared.view.View.{View};
+ghost use Rattle.caller_pass.specs.Waiting.{AreWaiting, HasPart, IsLineTo, waits};
 
-use crate::chain::Chain;
-use equation_law::Instance;
+use circular_eval::Local;
+use equation_law::{Chain, Instance};
 use indexmap::IndexMap;
 use memo_cells::Slot;
 use rag_io::Memory;
 use std::alloc::Global;
 use std::marker::Model;
 
-/// The instances that wait, each for the value of the next one, with the slots of their cells. No instance stands there twice, and whether
-/// one stands there takes constant time.
+/// An instance that isn't circular and waits for another one: the slot of its cell, and the local set through which it waits, where it demands
+/// a circular instance.
+#[derive(Drop)]
+pub(crate) struct Waiter {
+    pub slot: Slot,
+    pub way: Option<Local>,
+}
+
+/// The instances that wait, each for the value of the next one. No instance stands there twice, and whether one stands there takes constant
+/// time.
 #[derive(Drop)]
 pub(crate) struct Waiting {
-    slots: IndexMap<Instance, Slot>,
+    waiters: IndexMap<Instance, Waiter>,
 }
 
 impl Model for Waiting {
     ghost use Rattle.std.specs.Prelude.{List};
+    ghost use Rattle.std.specs.Coded.{codes};
+    ghost use Rattle.circular_eval.specs.contracts.local.Local as locals;
     ghost use Rattle.equation_law.specs.declared.coding.Instance.{Instance as CodedInstance};
-    ghost use Rattle.memo_cells.specs.declared.keys.Slot.{Slot as PlacedSlot};
+    ghost use Rattle.caller_pass.specs.declared.waiting.Waiter.{Waiter as Waits};
 
-    ghost Value = { List (CodedInstance × PlacedSlot) };
+    ghost Value = { List (CodedInstance × Waits) };
 
-    ghost view = { λ waiting. waiting.slots.entries };
+    ghost coded = { Prim.hlevel (codes, locals.the_row.coded) };
+
+    ghost view = { λ waiting. waiting.waiters.entries };
 }
 
 /// Adds an instance last.
@@ -34,13 +50,35 @@ fn push(list: &mut Vec<Instance>, i: Instance) -> Result<(), Memory>
     list.push(i).map_err(|_| Memory)
 }
 
+/// Adds instances last.
+pub(crate) fn push_all(list: &mut Vec<Instance>, more: &[Instance]) -> Result<(), Memory>
+    ensures { OnOk result (list.new.items ≡ list.old.items ++ more.now) }
+{
+    list.extend_from_slice(more).map_err(|_| Memory)
+}
+
+/// Adds the instances by which a local set leads to what it needed last, without that.
+pub(crate) fn push_path(
+    alloc: Global,
+    list: &mut Vec<Instance>,
+    local: &Local,
+) -> Result<(), Memory>
+    ensures { OnOk result (HasPart list.old.items list.new.items local.now) }
+{
+    let path = local.path(alloc)?;
+    let Some((_, front)) = path.list().split_last() else {
+        return Ok(());
+    };
+    push_all(list, front)
+}
+
 impl Waiting {
     /// None waits.
     pub(crate) fn new(alloc: Global) -> Waiting
         ensures { result ≡ [] }
     {
         Waiting {
-            slots: IndexMap::new(alloc),
+            waiters: IndexMap::new(alloc),
         }
     }
 
@@ -48,36 +86,39 @@ impl Waiting {
     pub(crate) fn contains(&self, i: Instance) -> bool
         ensures { result ≡ waits self.now i }
     {
-        self.slots.contains_key(&i)
+        self.waiters.contains_key(&i)
     }
 
     /// Lets one more wait, which doesn't wait yet.
-    pub(crate) fn push(&mut self, i: Instance, slot: Slot) -> Result<(), Memory>
+    pub(crate) fn push(&mut self, i: Instance, waiter: Waiter) -> Result<(), Memory>
         requires { waits self.old i ≡ false }
-        ensures { OnOk result (self.new ≡ self.old ++ (i, slot) ∷ []) }
+        ensures { OnOk result (self.new ≡ self.old ++ (i, waiter) ∷ []) }
     {
-        let Ok(_) = self.slots.insert(i, slot) else {
+        let Ok(_) = self.waiters.insert(i, waiter) else {
             return Err(Memory);
         };
         Ok(())
     }
 
     /// Takes the last one away, if one waits.
-    pub(crate) fn pop(&mut self) -> Option<(Instance, Slot)>
+    pub(crate) fn pop(&mut self) -> Option<(Instance, Waiter)>
         ensures last { self.old ≡ self.new ++ option_to_list result }
         ensures none { IfNone result (self.new ≡ []) }
         ensures other { IfSome result (λ e. waits self.new e.0 ≡ false) }
     {
-        self.slots.pop()
+        self.waiters.pop()
     }
 
-    /// The instances in their order, and one more.
+    /// The instances by which the first one leads to what the last one waits for, that included.
     pub(crate) fn chain(&self, alloc: Global, on: Instance) -> Result<Chain, Memory>
-        ensures { IfOk result (λ chain. chain ≡ map (λ e. e.0) self.now ++ on ∷ []) }
+        ensures { IfOk result (λ chain. (p : Program) (f : CellsFrame) (v : View) → AreWaiting p f v self.now (instance_of p on) → IsLineTo p self.now (instance_of p on) (map (instance_of p) chain)) }
     {
-        let mut list = Vec::with_capacity(alloc, self.slots.len() + 1).map_err(|_| Memory)?;
-        for instance in self.slots.keys() {
+        let mut list = Vec::new(alloc);
+        for (instance, waiter) in &self.waiters {
             push(&mut list, *instance)?;
+            if let Some(local) = &waiter.way {
+                push_path(alloc, &mut list, local)?;
+            }
         }
         push(&mut list, on)?;
         Ok(Chain::new(list))

@@ -44,7 +44,7 @@ module _ (p : Program) where
     | false ↦ λ e. inr (λ h. let there = class_at p k c h in cc)
   ] refl
 
-  place_within : (k : ℕ) (c : ClassId) → IsAt p k c → k < length p.tree
+  pub place_within : (k : ℕ) (c : ClassId) → IsAt p k c → k < length p.tree
   place_within k c h = let there = some_of (λ (n : TreeNode). n.class) (slice_get p.tree k) h.class h.of in slice_get_within p.tree k there.0 there.1
 
   finite_nodes : (c : ClassId) → Finite (IsNodeOf p c)
@@ -84,13 +84,26 @@ module _ (p : Program) where
   node_is c (OfText t) v = absurd (of_kind p (kinds.Node c) (Text t) v)
   node_is c (OfNode r) v = (r, of_kind p (kinds.Node c) (Node r) v, refl)
 
+  -- no argument is a set
+  no_texts : (x : Argument) → IsValue p kinds.Texts (argument_value x) → ⊥
+  no_texts (OfTruth b) v = of_kind p kinds.Texts (Truth b) v
+  no_texts (OfInt z) v = of_kind p kinds.Texts (Int z) v
+  no_texts (OfText t) v = of_kind p kinds.Texts (Text t) v
+  no_texts (OfNode r) v = of_kind p kinds.Texts (Node r) v
+
+  no_nodes : (c : ClassId) (x : Argument) → IsValue p (kinds.Nodes c) (argument_value x) → ⊥
+  no_nodes c (OfTruth b) v = of_kind p (kinds.Nodes c) (Truth b) v
+  no_nodes c (OfInt z) v = of_kind p (kinds.Nodes c) (Int z) v
+  no_nodes c (OfText t) v = of_kind p (kinds.Nodes c) (Text t) v
+  no_nodes c (OfNode r) v = of_kind p (kinds.Nodes c) (Node r) v
+
   finite_of : (k : Kind) → Finite (λ (x : Argument). IsValue p k (argument_value x))
   finite_of kinds.Truth = finite_same (finite_map OfTruth finite_truths) (λ x h. subst (λ (y : Argument). IsValue p kinds.Truth (argument_value y)) (sym h.2) (truth h.0)) truth_is
   finite_of kinds.Int = finite_same (finite_map OfInt finite_ints) (λ x h. subst (λ (y : Argument). IsValue p kinds.Int (argument_value y)) (sym h.2) (int h.0 h.1)) int_is
   finite_of kinds.Text = finite_same (finite_map OfText (finite_list p.texts)) (λ x h. subst (λ (y : Argument). IsValue p kinds.Text (argument_value y)) (sym h.2) (text h.0 h.1)) text_is
   finite_of (kinds.Node c) = finite_same (finite_map OfNode (finite_nodes c)) (λ x h. subst (λ (y : Argument). IsValue p (kinds.Node c) (argument_value y)) (sym h.2) (node c h.0 h.1)) (node_is c)
-  finite_of kinds.Texts = finite_same finite_none (λ x h. absurd h) (λ x v. of_kind p kinds.Texts (argument_value x) v)
-  finite_of (kinds.Nodes c) = finite_same finite_none (λ x h. absurd h) (λ x v. of_kind p (kinds.Nodes c) (argument_value x) v)
+  finite_of kinds.Texts = finite_same finite_none (λ x h. absurd h) no_texts
+  finite_of (kinds.Nodes c) = finite_same finite_none (λ x h. absurd h) (no_nodes c)
 
   -- the lists of arguments for some parameters
   finite_arguments : (ks : List Kind) → Finite (AreArguments p ks)

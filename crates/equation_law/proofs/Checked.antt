@@ -1,5 +1,5 @@
 -- What is a value of a type, and what is an instance of a program, by its form.
-use Rattle.std.proofs.Common.{◌≡◌, ℕ, true, Contains, Option, Some, None, slice_get, ap, ◌∙◌}
+use Rattle.std.proofs.Common.{◌≡◌, ℕ, true, List, Contains, Option, Some, None, slice_get, ap, ◌∙◌}
 use Rattle.std.specs.Int.{int_wrap}
 use mir.Syntax.{w32}
 use Rattle.ast_grammar.specs.declared.grammar.ClassId.{ClassId}
@@ -8,9 +8,10 @@ use Rattle.attr_rules.specs.declared.kinds.Kind.{Kind}
 use Rattle.attr_rules.specs.declared.kinds.Kind.TheVariants as kinds
 use Rattle.attr_rules.specs.Queries.{Query as Asked}
 use Rattle.attr_rules.specs.Types.{is_below, parameter_kinds}
-use Rattle.equation_law.specs.Checked.{AreArguments, IsAt, IsInstance, IsNodeOf, IsValue, int, node, of_attribute, of_query, text, truth}
-use Rattle.equation_law.specs.Names.{At, Attribute, Instance, Null, Query, Source}
+use Rattle.equation_law.specs.Checked.{AreArguments, IsAt, IsInstance, IsNodeOf, IsValue, int, node, nodes, of_attribute, of_query, text, texts, truth}
+use Rattle.equation_law.specs.Names.{At, Attribute, Instance, NodeName, Null, Query, Source}
 use Rattle.equation_law.specs.Program.{Program, class_of, declared_of}
+use Rattle.equation_law.specs.Sets.{has as is_element}
 use Rattle.equation_law.specs.Values.{Int, Node, Nodes, Text, Texts, Truth, Value}
 
 module _ (p : Program) where
@@ -48,14 +49,26 @@ module _ (p : Program) where
   OfKind (kinds.Node c) (Node r) = IsNodeOf p c r
   OfKind (kinds.Node c) (Texts s) = ⊥
   OfKind (kinds.Node c) (Nodes s) = ⊥
-  OfKind kinds.Texts v = ⊥
-  OfKind (kinds.Nodes c) v = ⊥
+  OfKind kinds.Texts (Truth b) = ⊥
+  OfKind kinds.Texts (Int z) = ⊥
+  OfKind kinds.Texts (Text t) = ⊥
+  OfKind kinds.Texts (Node r) = ⊥
+  OfKind kinds.Texts (Texts s) = (t : List ℕ) → is_element s t ≡ true → Contains p.texts t
+  OfKind kinds.Texts (Nodes s) = ⊥
+  OfKind (kinds.Nodes c) (Truth b) = ⊥
+  OfKind (kinds.Nodes c) (Int z) = ⊥
+  OfKind (kinds.Nodes c) (Text t) = ⊥
+  OfKind (kinds.Nodes c) (Node r) = ⊥
+  OfKind (kinds.Nodes c) (Texts s) = ⊥
+  OfKind (kinds.Nodes c) (Nodes s) = (n : NodeName) → is_element s n ≡ true → IsNodeOf p c (At n)
 
   pub of_kind : (k : Kind) (v : Value) → IsValue p k v → OfKind k v
   of_kind _ _ (truth b) = tt
   of_kind _ _ (int z e) = e
   of_kind _ _ (text t e) = e
   of_kind _ _ (node c r h) = h
+  of_kind _ _ (texts s h) = h
+  of_kind _ _ (nodes c s h) = h
 
   -- what is an instance
   abbrev pub Has : Instance → Type 0

@@ -17,11 +17,11 @@ use Rattle.attr_rules.specs.declared.kinds.Kind.TheVariants as kinds
 use Rattle.attr_rules.specs.declared.kinds.Params.{Params}
 use Rattle.attr_rules.specs.declared.types.ValueType.TheVariants as types
 use Rattle.attr_rules.specs.Queries.{Query as Asked}
-use Rattle.attr_rules.specs.Rules.{Attribute as DeclaredAttribute, Equation, IsAttribute, IsEquation, IsParameter, bound_kinds, declared_at, equation_number, is_inherited, is_single, names_for, same_reach, target_in}
+use Rattle.attr_rules.specs.Rules.{Attribute as DeclaredAttribute, Equation, IsAttribute, IsEquation, IsParameter, Rises, bound_kinds, declared_at, equation_number, is_inherited, names_for, same_reach, target_in}
 use Rattle.attr_rules.specs.Types.{kept_kind, parameter_kinds}
 use Rattle.solutions.specs.Asking.{Demands, Ends, Gives, Needs, Meets, asks, gives, here, later, next}
 use Rattle.solutions.specs.Rounds.{Graph}
-use Rattle.equation_law.specs.Checked.{AreArguments, Fits, IsAt, IsInstance, IsProgram, IsTyped, IsValue, at, of_attribute, of_query, int, node, text, truth}
+use Rattle.equation_law.specs.Checked.{AreArguments, Fits, IsAt, IsInstance, IsProgram, IsTyped, IsValue, at, of_attribute, of_query, int, node, nodes, text, texts, truth}
 use Rattle.equation_law.specs.Equations.{Site, asked_kind, attribute_kind, bound_values, equation_for, equation_of, equations_of, inherited_site, inherits, kind_in, kind_or_truth, place_among, place_at, site_at, site_demands, synthesized_site, world_of, place_with}
 use Rattle.equation_law.specs.Meaning.{Place, meaning_of, named}
 use Rattle.equation_law.specs.Names.{Argument, At, Instance, Source}
@@ -31,7 +31,8 @@ use Rattle.equation_law.proofs.Above.{each_of, inherited_above, inherited_there,
 use Rattle.equation_law.proofs.Lists.{some_of}
 use Rattle.equation_law.proofs.Pooled.{empty_there, text_there}
 use Rattle.equation_law.proofs.Preordered.{node_concrete}
-use Rattle.equation_law.proofs.Typed.{AreBounds, AreNames, AreSingle, IsOf, Keeps, behind, fitting, kept, of_argument, of_int, of_node, of_text, of_truth, typed_keeps}
+use Rattle.equation_law.proofs.Typed.{AreBounds, AreNames, AreSingle, KeepsAll, all_behind, typed_keeps}
+use Rattle.equation_law.proofs.TypedValues.{IsOf, fitting, kept, of_int, of_value, value_read}
 
 -- nodes of the class itself
 reach_own : (r : Reach) → same_reach r Own ≡ true → r ≡ Own
@@ -40,13 +41,7 @@ reach_own (Component k) e = cc
 reach_own Children e = cc
 
 module _ (p : Program) (good : IsProgram p) where
-  -- no attribute is a set
-  single : (a : ℕ) (d : Attr) → declared_of p a ≡ Some d → is_single d.kind ≡ true
-  single a d e =
-      let s = some_of (λ (x : DeclaredAttribute). x.declared) (slice_get p.rules.attributes a) d e in
-      subst (λ (x : Attr). is_single x.kind ≡ true) s.2 (each_of (IsAttribute p.grammar) p.rules.attributes a s.0 good.rules.attributes s.1).single
-
-  -- nor is a parameter
+  -- no parameter is a set
   all_single : (ks : List Kind) → All (IsParameter p.grammar) ks → AreSingle ks
   all_single [] h = tt
   all_single (k ∷ ks) h = ((All-head (IsParameter p.grammar) k ks h).single, all_single ks (All-tail (IsParameter p.grammar) k ks h))
@@ -72,16 +67,17 @@ module _ (p : Program) (good : IsProgram p) where
     }
 
   -- The equation of an attribute at nodes of a class is that of the class or of one above it.
-  record IsFor (a : ℕ) (c : ClassId) : Type 0 where
-    equation : Equation
-    is : equation_for p a c ≡ Some equation
-    allowed : IsEquation p.grammar p.rules.attributes equation
-    attribute : equation.target.attribute.0 ≡ a
-    own : equation.target.reach ≡ Own
-    above : is_sub p.grammar c.0 equation.target.class.0 ≡ true
+  pub record IsFor (a : ℕ) (c : ClassId) : Type 0 where
+    pub equation : Equation
+    pub is : equation_for p a c ≡ Some equation
+    pub allowed : IsEquation p.grammar p.rules.attributes equation
+    pub rises : Rises p.rules.attributes equation
+    pub attribute : equation.target.attribute.0 ≡ a
+    pub own : equation.target.reach ≡ Own
+    pub above : is_sub p.grammar c.0 equation.target.class.0 ≡ true
 
   -- there is one for each attribute of the class of a node
-  equation_is : (a k : ℕ) (c : ClassId) (d : Attr) → class_of p k ≡ Some c → declared_of p a ≡ Some d → is_inherited d.sort ≡ false → is_sub p.grammar c.0 d.class.0 ≡ true → IsFor a c
+  pub equation_is : (a k : ℕ) (c : ClassId) (d : Attr) → class_of p k ≡ Some c → declared_of p a ≡ Some d → is_inherited d.sort ≡ false → is_sub p.grammar c.0 d.class.0 ≡ true → IsFor a c
   equation_is a k c d f e s b =
       let number = there_is (equation_number p.rules c a) (good.rules.complete c a d (node_concrete p.grammar (length p.texts) p.tree good.tree k c f) e s b) in
       let near = nearest_above p.rules.superclasses (map target_in p.rules.equations) c.0 a number.0 number.1 in
@@ -90,6 +86,7 @@ module _ (p : Program) (good : IsProgram p) where
         equation = own.0;
         is = ap (option_and_then (slice_get p.rules.equations)) number.1 ∙ own.1;
         allowed = each_of (IsEquation p.grammar p.rules.attributes) p.rules.equations number.0 own.0 good.rules.equations own.1;
+        rises = each_of (Rises p.rules.attributes) p.rules.equations number.0 own.0 good.rising own.1;
         attribute = own.3;
         own = reach_own own.0.target.reach own.4;
         above = subst (λ (s : List (Option ℕ)). is_below s c.0 own.0.target.class.0 ≡ true) good.rules.superclasses (subst (λ (x : ℕ). is_below p.rules.superclasses c.0 x ≡ true) (sym own.2) near.1);
@@ -131,7 +128,7 @@ module _ (p : Program) (good : IsProgram p) where
     arguments_typed [] [] are ts ws h k t e = h k t e
     arguments_typed [] (x ∷ xs) are ts ws h k t e = absurd are
     arguments_typed (u ∷ ks) [] are ts ws h k t e = absurd are
-    arguments_typed (u ∷ ks) (x ∷ xs) are ts ws h zero t e = let same : u ≡ t = cc in subst (λ (y : Kind). IsOf p I T (types.Of y) (argument_value x)) same (of_argument p I T M bounds u (argument_value x) are.0)
+    arguments_typed (u ∷ ks) (x ∷ xs) are ts ws h zero t e = let same : u ≡ t = cc in subst (λ (y : Kind). IsOf p I T (types.Of y) (argument_value x)) same (of_value p I T bounds.literal bounds.value_text u (argument_value x) are.0)
     arguments_typed (u ∷ ks) (x ∷ xs) are ts ws h (suc k) t e = arguments_typed ks xs are.1 ts ws h k t e
 
     abbrev bound_place : ℕ → List Argument → Reach → ℕ → Place
@@ -149,14 +146,14 @@ module _ (p : Program) (good : IsProgram p) where
 
     -- an equation, read at a node with arguments, for an attribute of the type for which it is
     equation_keeps : (a n i : ℕ) (xs : List Argument) (q : Equation) (allowed : IsEquation p.grammar p.rules.attributes q) → attribute_kind p a ≡ allowed.attribute.kind → AreArguments p (parameter_kinds allowed.attribute.params) xs → IsAt p n q.target.class
-        → Keeps p I T M (types.Of (attribute_kind p a)) (site_demands (world_of p) (Some (record { body = q.body; kind = attribute_kind p a; place = bound_place n xs q.target.reach i })))
+        → KeepsAll p I T M (IsValue p (attribute_kind p a)) (site_demands (world_of p) (Some (record { body = q.body; kind = attribute_kind p a; place = bound_place n xs q.target.reach i })))
     equation_keeps a n i xs q allowed kind are stands =
         let place = bound_place n xs q.target.reach i in
         let typed = typed_keeps p I T M bounds good.grammar good.tree allowed.typed place (names_of_equation q.target.class q.target.reach allowed.attribute.params n i xs are stands) in
-        let fit = fitting p I T allowed.attribute.kind allowed.type (single q.target.attribute.0 allowed.attribute allowed.declared) allowed.fit in
-        let reads : Kind → Type 0 = λ x. Keeps p I T M (types.Of x) (next (meaning_of (world_of p) q.body place) (λ v. Gives (as_kind x v))) in
+        let fit = fitting p I T allowed.attribute.kind allowed.type allowed.fit in
+        let reads : Kind → Type 0 = λ x. KeepsAll p I T M (IsValue p x) (next (meaning_of (world_of p) q.body place) (λ v. Gives (as_kind x v))) in
         subst reads (sym kind)
-        (behind p I T M allowed.type (types.Of allowed.attribute.kind) (meaning_of (world_of p) q.body place) (λ v. Gives (as_kind allowed.attribute.kind v)) typed (λ v o. kept p I T (types.Of allowed.attribute.kind) v (fit v o)))
+        (all_behind p I T M (IsOf p I T allowed.type) (IsValue p allowed.attribute.kind) (meaning_of (world_of p) q.body place) (λ v. Gives (as_kind allowed.attribute.kind v)) typed (λ v o. value_read p I T bounds.int_value bounds.text_value allowed.attribute.kind v (fit v o)))
 
     kind_declared : (a : ℕ) (d : Attr) → declared_of p a ≡ Some d → attribute_kind p a ≡ d.kind
     kind_declared a d e = ap (λ (o : Option Attr). kind_or_truth (option_map (λ x. x.kind) o)) e
@@ -167,7 +164,7 @@ module _ (p : Program) (good : IsProgram p) where
 
     -- the equation of a synthesized attribute, read at a node
     synthesized_keeps : (a k : ℕ) (xs : List Argument) (c : ClassId) (d : Attr) → class_of p k ≡ Some c → declared_of p a ≡ Some d → AreArguments p (parameter_kinds d.params) xs → (q : IsFor a c)
-        → Keeps p I T M (types.Of (attribute_kind p a)) (site_demands (world_of p) (synthesized_site p a k xs))
+        → KeepsAll p I T M (IsValue p (attribute_kind p a)) (site_demands (world_of p) (synthesized_site p a k xs))
     synthesized_keeps a k xs c d f e are q =
         let there : synthesized_site p a k xs ≡ Some (site_at p a k xs q.equation) =
         ap (λ (o : Option ClassId). option_map (site_at p a k xs) (option_and_then (equation_for p a) o)) f ∙ ap (λ (o : Option Equation). option_map (site_at p a k xs) o) q.is
@@ -176,13 +173,13 @@ module _ (p : Program) (good : IsProgram p) where
         let same : d ≡ q.allowed.attribute = cc in
         let fit = subst (λ (x : Attr). AreArguments p (parameter_kinds x.params) xs) same are in
         let keeps = equation_keeps a k 0 xs q.equation q.allowed (kind_declared a q.allowed.attribute declared) fit (record { class = c; of = f; below = q.above }) in
-        let reads : Place → Type 0 = λ x. Keeps p I T M (types.Of (attribute_kind p a)) (site_demands (world_of p) (Some (record { body = q.equation.body; kind = attribute_kind p a; place = x }))) in
-        subst (λ (o : Option Site). Keeps p I T M (types.Of (attribute_kind p a)) (site_demands (world_of p) o)) (sym there)
+        let reads : Place → Type 0 = λ x. KeepsAll p I T M (IsValue p (attribute_kind p a)) (site_demands (world_of p) (Some (record { body = q.equation.body; kind = attribute_kind p a; place = x }))) in
+        subst (λ (o : Option Site). KeepsAll p I T M (IsValue p (attribute_kind p a)) (site_demands (world_of p) o)) (sym there)
         (subst reads (ap (λ (r : Reach). bound_place k xs r 0) q.own ∙ unbound k xs) keeps)
 
     -- the equation of an inherited attribute, read above a node
     inherited_keeps : (a k : ℕ) (xs : List Argument) (c : ClassId) (d : Attr) → class_of p k ≡ Some c → declared_of p a ≡ Some d → is_inherited d.sort ≡ true → is_sub p.grammar c.0 d.class.0 ≡ true → AreArguments p (parameter_kinds d.params) xs
-        → Keeps p I T M (types.Of (attribute_kind p a)) (site_demands (world_of p) (inherited_site p a xs k))
+        → KeepsAll p I T M (IsValue p (attribute_kind p a)) (site_demands (world_of p) (inherited_site p a xs k))
     inherited_keeps a k xs c d f e s b are =
         let site = there_is (inherited_site p a xs k) (inherited_there p good a xs k c d f e s b) in
         let up = inherited_above p a xs k site.0 site.1 in
@@ -193,14 +190,14 @@ module _ (p : Program) (good : IsProgram p) where
         let below = subst (λ (x : List (Option ℕ)). is_below x up.class.0 q.equation.target.class.0 ≡ true) good.rules.superclasses q.above in
         let fit = subst (λ (x : Params). AreArguments p (parameter_kinds x) xs) alike.1 are in
         let keeps = equation_keeps a up.node (place_among p up.child) xs q.equation allowed (kind_declared a d e ∙ alike.0) fit (record { class = up.class; of = up.of; below = below }) in
-        subst (λ (o : Option Site). Keeps p I T M (types.Of (attribute_kind p a)) (site_demands (world_of p) o)) (sym site.1)
-        (subst (λ (x : Site). Keeps p I T M (types.Of (attribute_kind p a)) (site_demands (world_of p) (Some x))) up.is keeps)
+        subst (λ (o : Option Site). KeepsAll p I T M (IsValue p (attribute_kind p a)) (site_demands (world_of p) o)) (sym site.1)
+        (subst (λ (x : Site). KeepsAll p I T M (IsValue p (attribute_kind p a)) (site_demands (world_of p) (Some x))) up.is keeps)
 
     -- the equation of an attribute
     attribute_keeps : (a k : ℕ) (xs : List Argument) (c : ClassId) (d : Attr) → class_of p k ≡ Some c → declared_of p a ≡ Some d → is_sub p.grammar c.0 d.class.0 ≡ true → AreArguments p (parameter_kinds d.params) xs
-        → Keeps p I T M (types.Of (attribute_kind p a)) (site_demands (world_of p) (cond (inherits (declared_of p a)) (inherited_site p a xs k) (synthesized_site p a k xs)))
+        → KeepsAll p I T M (IsValue p (attribute_kind p a)) (site_demands (world_of p) (cond (inherits (declared_of p a)) (inherited_site p a xs k) (synthesized_site p a k xs)))
     attribute_keeps a k xs c d f e b are =
-        let holds : Bool → Type 0 = λ x. Keeps p I T M (types.Of (attribute_kind p a)) (site_demands (world_of p) (cond x (inherited_site p a xs k) (synthesized_site p a k xs))) in
+        let holds : Bool → Type 0 = λ x. KeepsAll p I T M (IsValue p (attribute_kind p a)) (site_demands (world_of p) (cond x (inherited_site p a xs k) (synthesized_site p a k xs))) in
         subst holds (sym (ap inherits e))
         (elim (is_inherited d.sort) as (λ x. is_inherited d.sort ≡ x → holds x) [
           | true ↦ λ s. inherited_keeps a k xs c d f e s b are
@@ -208,18 +205,19 @@ module _ (p : Program) (good : IsProgram p) where
         ] refl)
 
     -- the expression of a query, read at the root
-    query_keeps : (e : Asked) → IsTyped p e → Keeps p I T M (types.Of e.kind) (site_demands (world_of p) (Some (query_site e)))
+    query_keeps : (e : Asked) → IsTyped p e → KeepsAll p I T M (IsValue p e.kind) (site_demands (world_of p) (Some (query_site e)))
     query_keeps e t =
         let typed = typed_keeps p I T M bounds good.grammar good.tree t.typed (place_at 0) (names_of_query I T) in
-        let reads : Kind → Type 0 = λ x. Keeps p I T M (types.Of x) (next (meaning_of (world_of p) e.body (place_at 0)) (λ v. Gives (as_kind x v))) in
+        let reads : Kind → Type 0 = λ x. KeepsAll p I T M (IsValue p x) (next (meaning_of (world_of p) e.body (place_at 0)) (λ v. Gives (as_kind x v))) in
         subst reads (sym t.kept)
-        (behind p I T M t.type (types.Of (kept_kind t.type)) (meaning_of (world_of p) e.body (place_at 0)) (λ v. Gives (as_kind (kept_kind t.type) v)) typed (kept p I T t.type))
+        (all_behind p I T M (IsOf p I T t.type) (IsValue p (kept_kind t.type)) (meaning_of (world_of p) e.body (place_at 0)) (λ v. Gives (as_kind (kept_kind t.type) v)) typed
+        (λ v o. value_read p I T bounds.int_value bounds.text_value (kept_kind t.type) v (kept p I T t.type v o)))
 
     -- the equation of each instance
-    site_keeps : (i : Instance) → IsInstance p i → Keeps p I T M (types.Of (kind_in p i)) (site_demands (world_of p) (equation_of p i))
+    site_keeps : (i : Instance) → IsInstance p i → KeepsAll p I T M (IsValue p (kind_in p i)) (site_demands (world_of p) (equation_of p i))
     site_keeps i (of_attribute {a = a} {k = k} {xs = xs} d c e f b q) = attribute_keeps a k xs c d f e b q
     site_keeps i (of_query {q = q} e o) =
-        subst (λ (x : Option Asked). Keeps p I T M (types.Of (kind_or_truth (option_map asked_kind x))) (site_demands (world_of p) (option_map query_site x))) (sym o)
+        subst (λ (x : Option Asked). KeepsAll p I T M (IsValue p (kind_or_truth (option_map asked_kind x))) (site_demands (world_of p) (option_map query_site x))) (sym o)
         (query_keeps e (each_of (IsTyped p) p.queries q e good.queries o))
 
   -- integers of 32 bits, texts of the program, and values of their instances' types
@@ -233,11 +231,16 @@ module _ (p : Program) (good : IsProgram p) where
   IsTypedValue i v = IsValue p (kind_in p i) v
 
   -- a value of a type stays where it is read at it
+  read_same : (k : Kind) (v : Value) → IsValue p k v → v ≡ as_kind k v
+  read_same _ _ (truth b) = refl
+  read_same _ _ (int z e) = refl
+  read_same _ _ (text t e) = refl
+  read_same _ _ (node c r h) = refl
+  read_same _ _ (texts s h) = refl
+  read_same _ _ (nodes c s h) = refl
+
   read_value : (k : Kind) (v : Value) → IsValue p k v → IsOf p IsWrapped IsText (types.Of k) (as_kind k v)
-  read_value _ _ (truth b) = of_truth b
-  read_value _ _ (int z e) = of_int z e
-  read_value _ _ (text t e) = of_text t e
-  read_value _ _ (node c r h) = of_node c r h
+  read_value k v h = subst (λ (x : Value). IsOf p IsWrapped IsText (types.Of k) x) (read_same k v h) (of_value p IsWrapped IsText (λ z e. e) (λ t e. e) k v h)
 
   value_bounds : AreBounds p IsWrapped IsText IsTypedValue
   value_bounds = record {
@@ -245,7 +248,6 @@ module _ (p : Program) (good : IsProgram p) where
     wrapped = λ z. int_wrap_fits w32 (int_wrap w32 z) (SFits-int_wrap w32 z);
     text = text_there p.texts good.texts;
     empty = empty_there p.texts good.texts;
-    single = single;
     parameters = single_parameters;
     int_value = λ z e. e;
     text_value = λ t e. e;
@@ -253,16 +255,9 @@ module _ (p : Program) (good : IsProgram p) where
     read = λ a d r xs v e m. read_value d.kind v (subst (λ (o : Option Attr). IsValue p (kind_or_truth (option_map (λ x. x.kind) o)) v) e m);
   }
 
-  -- a value of a type
-  of_value : (k : Kind) (v : Value) → IsOf p IsWrapped IsText (types.Of k) v → IsValue p k v
-  of_value _ _ (of_truth b) = truth b
-  of_value _ _ (of_int z e) = int z e
-  of_value _ _ (of_text t e) = text t e
-  of_value _ _ (of_node c r h) = node c r h
-
   -- what comes of demands, where the values of instances are of their types
-  ended : (k : Kind) (A : Instance → Value → Type 0) → ((j : Instance) (v : Value) → IsInstance p j → A j v → IsValue p (kind_in p j) v) → (c : Demands Instance Value) {v : Value} {ds : List Instance} → Keeps p IsWrapped IsText IsTypedValue (types.Of k) c → Ends A c v ds → IsValue p k v
-  ended k A f (Gives v) h gives = of_value k v h
+  ended : (k : Kind) (A : Instance → Value → Type 0) → ((j : Instance) (v : Value) → IsInstance p j → A j v → IsValue p (kind_in p j) v) → (c : Demands Instance Value) {v : Value} {ds : List Instance} → KeepsAll p IsWrapped IsText IsTypedValue (IsValue p k) c → Ends A c v ds → IsValue p k v
+  ended k A f (Gives v) h gives = h
   ended k A f (Needs j g) h (asks {w = w} a e) = ended k A f (g w) (h.1 w (f j w h.0 a)) e
 
   -- the value with which an equation ends
@@ -274,7 +269,7 @@ module _ (p : Program) (good : IsProgram p) where
   well_typed_values i h A fit v demands e = ended_typed (Graph A) (λ j w q a. fit.fits j w a) i h v demands e
 
   -- what is demanded, where the values of instances are of their types
-  met : (k : Kind) (A : Instance → Value → Type 0) → ((j : Instance) (v : Value) → IsInstance p j → A j v → IsValue p (kind_in p j) v) → (c : Demands Instance Value) (j : Instance) → Keeps p IsWrapped IsText IsTypedValue (types.Of k) c → Meets A c j → IsInstance p j
+  met : (k : Kind) (A : Instance → Value → Type 0) → ((j : Instance) (v : Value) → IsInstance p j → A j v → IsValue p (kind_in p j) v) → (c : Demands Instance Value) (j : Instance) → KeepsAll p IsWrapped IsText IsTypedValue (IsValue p k) c → Meets A c j → IsInstance p j
   met k A f (Gives v) j h m = elim m [ ]
   met k A f (Needs i g) j h here = h.0
   met k A f (Needs i g) j h (later {w = w} e m) = met k A f (g w) j (h.1 w (f i w h.0 e)) m

@@ -1,5 +1,5 @@
 -- What finitely many elements are: a list has exactly these.
-use Rattle.std.proofs.Common.{◌≡◌, ℕ, zero, suc, ◌+◌, ◌<◌, Bool, true, false, List, [], ◌∷◌, ◌++◌, map, length, get_or, refl, sym, subst, inl, inr, ◌⊎◌, arith, Contains}
+use Rattle.std.proofs.Common.{◌≡◌, ℕ, zero, suc, ◌<◌, Bool, true, false, List, [], ◌∷◌, ◌++◌, map, length, get_or, refl, sym, subst, inl, inr, ◌⊎◌, arith, Contains}
 use Rattle.std.proofs.lemmas.Bool.{cases_lt}
 
 -- x is an element
@@ -157,7 +157,7 @@ listed (y ∷ xs) x h = elim h [
   | inr k ↦ (let rest = listed xs x k in (suc rest.0, (let below = rest.1 in omega arith), rest.2))
 ]
 
-at_place : {A : Type 0} (xs : List A) (k : ℕ) (x : A) → k < length xs → get_or xs k x ≡ x → In xs x
+pub at_place : {A : Type 0} (xs : List A) (k : ℕ) (x : A) → k < length xs → get_or xs k x ≡ x → In xs x
 at_place [] k x h e = absurd (omega arith)
 at_place (y ∷ xs) zero x h e = inl (sym e)
 at_place (y ∷ xs) (suc k) x h e = inr (at_place xs k x (omega arith) e)

@@ -30,7 +30,7 @@ part_same _ _ (skip {ds = xs} {es = ys} p) e = let r = part_length xs ys p in ab
 
 module _ {K : Type 0} {R : K → K → Ordering} (o : IsTotalOrder R) (anti : IsAntisymmetric R) where
   -- a part has no more elements
-  set_length : (s t : SetBy R) → IsPart s t → length (elements s) ≤ length (elements t)
+  pub set_length : (s t : SetBy R) → IsPart s t → length (elements s) ≤ length (elements t)
   set_length s t p = part_length (elements s) (elements t) (part_elements o anti s t p)
 
   -- and with as many it is the whole

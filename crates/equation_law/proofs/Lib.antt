@@ -1,11 +1,14 @@
 pub mod Above
 mod AllInstances
+pub mod Bounded
 pub mod Checked
 pub mod Codes
 pub mod Deciding
+pub mod Declared
 pub mod Demanded
 pub mod Ended
 mod Finite
+pub mod Growing
 pub mod Heights
 pub mod Keys
 pub mod Listed
@@ -15,9 +18,13 @@ pub mod Orders
 pub mod Pooled
 pub mod Preordered
 pub mod QueryValues
+pub mod Quiet
 pub mod Sets
+pub mod SetsOrder
 pub mod Solution
 pub mod Typed
+pub mod TypedValues
 mod Worked
+mod WorkedCircular
 mod WorkedLoops
 mod WorkedPaths

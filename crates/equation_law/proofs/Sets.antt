@@ -1,15 +1,19 @@
 -- What the operations on sets do to membership, and the order of elements.
-use Rattle.std.proofs.Common.{◌≡◌, Bool, true, false, cond, ◌&&◌, ◌||◌, List, [], ◌∷◌, map, Option, Some, None, is_some, refl, sym, ap, subst, ◌∙◌, ◌⊎◌, inl, inr, T}
+use Rattle.std.proofs.Common.{◌≡◌, Bool, true, false, not, cond, ◌&&◌, ◌||◌, List, [], ◌∷◌, map, Option, Some, None, is_some, refl, sym, ap, subst, ◌∙◌, ◌⊎◌, inl, inr, T}
 use Rattle.std.specs.declared.cmp.Ordering.{Ordering}
 use Rattle.std.specs.declared.cmp.Ordering.TheVariants.{Less, Equal, Greater}
-use Rattle.std.specs.List.{list_any}
+use Rattle.std.specs.List.{filter, list_any}
 use Rattle.std.specs.Ordering.{eq_by_cmp, is_eq, is_lt, ordering_reverse}
 use Rattle.std.specs.Cmp.{IsTotalOrder, tied_itself}
 use Rattle.std.specs.FinMap.Entries.{below_all}
+use Rattle.std.proofs.lemmas.Map.Views.{any-filter_same}
 use Rattle.std.specs.FinMap.{empty, insert, get, entries, entries_sorted, find, is_sorted, same_map, get-insert, get-empty, contains_key-keys, get-entries, IsAntisymmetric}
 use Rattle.solutions.specs.Rising.{Part, none, keep, skip}
 use Rattle.solutions.proofs.Runs.{and_true, or_left, or_right}
-use Rattle.equation_law.specs.Sets.{SetBy, no_elements, has, elements, with_all, union, IsPart}
+use Rattle.attr_rules.specs.declared.expression.SetOperator.{SetOperator}
+use Rattle.attr_rules.specs.declared.expression.SetOperator.TheVariants.{Union, Inter, Minus}
+use Rattle.equation_law.specs.Sets.{SetBy, no_elements, has, elements, with_all, set_of, union, inter, minus, IsPart}
+use Rattle.equation_law.specs.Values.{combined}
 use Rattle.equation_law.proofs.Names.{is_equal}
 
 -- one of two is there
@@ -29,16 +33,16 @@ or_least false b c f g e = g e
 
 module _ {K : Type 0} {R : K → K → Ordering} (o : IsTotalOrder R) where
   -- what is in a set with one element more
-  has-insert : (s : SetBy R) (x q : K) → has (insert s x tt) q ≡ (eq_by_cmp R q x || has s q)
+  pub has-insert : (s : SetBy R) (x q : K) → has (insert s x tt) q ≡ (eq_by_cmp R q x || has s q)
   has-insert s x q = ap is_some (get-insert o s x tt q) ∙ some_or (eq_by_cmp R q x) (get s q)
 
   -- with a list of elements more
-  has-with_all : (s : SetBy R) (xs : List K) (q : K) → has (with_all s xs) q ≡ (list_any (eq_by_cmp R q) xs || has s q)
+  pub has-with_all : (s : SetBy R) (xs : List K) (q : K) → has (with_all s xs) q ≡ (list_any (eq_by_cmp R q) xs || has s q)
   has-with_all s [] q = refl
   has-with_all s (x ∷ xs) q = has-insert (with_all s xs) x q ∙ ap (λ b. eq_by_cmp R q x || b) (has-with_all s xs q) ∙ or_assoc (eq_by_cmp R q x) _ _
 
   -- and in a union
-  has-union : (s t : SetBy R) (q : K) → has (union s t) q ≡ (has t q || has s q)
+  pub has-union : (s t : SetBy R) (q : K) → has (union s t) q ≡ (has t q || has s q)
   has-union s t q = has-with_all s (elements t) q ∙ ap (λ b. b || has s q) (sym (contains_key-keys t q))
 
   -- a union has both of its parts
@@ -52,23 +56,72 @@ module _ {K : Type 0} {R : K → K → Ordering} (o : IsTotalOrder R) where
   pub union_least : (s t u : SetBy R) → IsPart s u → IsPart t u → IsPart (union s t) u
   union_least s t u f g q e = or_least (has t q) (has s q) (has u q) (g q) (f q) (sym (has-union s t q) ∙ e)
 
+-- nothing is in the empty set
+pub has_none : {K : Type 0} (R : K → K → Ordering) (q : K) → has (no_elements {R = R}) q ≡ false
+has_none R q = ap is_some (get-empty R q)
+
+pub none_has : {K : Type 0} (R : K → K → Ordering) (q : K) → has (no_elements {R = R}) q ≡ true → ⊥
+none_has R q e = let n = has_none R q in cc
+
+pub or_nothing : (b c : Bool) → c ≡ false → (b || c) ≡ b
+or_nothing true c e = refl
+or_nothing false c e = e
+
+and_turned : (a b : Bool) → (a && b) ≡ (b && a)
+and_turned true true = refl
+and_turned true false = refl
+and_turned false true = refl
+and_turned false false = refl
+
+-- the set of some elements has these
+pub has-set_of : {K : Type 0} {R : K → K → Ordering} → IsTotalOrder R → (xs : List K) (q : K) → has (set_of {R = R} xs) q ≡ list_any (eq_by_cmp R q) xs
+has-set_of {R = R} o xs q = has-with_all o (no_elements {R = R}) xs q ∙ or_nothing (list_any (eq_by_cmp R q) xs) _ (has_none R q)
+
+-- that of one element has no other
+pub only_one : {K : Type 0} {R : K → K → Ordering} → IsTotalOrder R → IsAntisymmetric R → (x q : K) → has (set_of {R = R} (x ∷ [])) q ≡ true → q ≡ x
+only_one {R = R} o same x q e = same q x (is_equal _ (sym (or_nothing (eq_by_cmp R q x) false refl) ∙ sym (has-set_of {R = R} o (x ∷ []) q) ∙ e))
+
+-- a set with the elements of another that pass a test has what the other has and passes
+has-filter : {K : Type 0} {R : K → K → Ordering} → IsTotalOrder R → IsAntisymmetric R → (test : K → Bool) (s : SetBy R) (q : K) → has (set_of {R = R} (filter test (elements s))) q ≡ (has s q && test q)
+has-filter {R = R} o same test s q =
+    has-set_of {R = R} o (filter test (elements s)) q
+    ∙ any-filter_same (eq_by_cmp R q) test (test q) (λ k e. ap test (sym (same q k (is_equal _ e)))) (elements s)
+    ∙ ap (λ b. test q && b) (sym (contains_key-keys s q))
+    ∙ and_turned (test q) (has s q)
+
+pub has-inter : {K : Type 0} {R : K → K → Ordering} → IsTotalOrder R → IsAntisymmetric R → (s t : SetBy R) (q : K) → has (inter s t) q ≡ (has s q && has t q)
+has-inter o same s t q = has-filter o same (has t) s q
+
+pub has-minus : {K : Type 0} {R : K → K → Ordering} → IsTotalOrder R → IsAntisymmetric R → (s t : SetBy R) (q : K) → has (minus s t) q ≡ (has s q && not (has t q))
+has-minus o same s t q = has-filter o same (λ x. not (has t x)) s q
+
+one_or_other : (b c : Bool) → (b || c) ≡ true → (c ≡ true) ⊎ (b ≡ true)
+one_or_other true c e = inr refl
+one_or_other false c e = inl e
+
+-- what is made of two sets has elements of them alone
+pub combined_from : {K : Type 0} {R : K → K → Ordering} → IsTotalOrder R → IsAntisymmetric R → (c : SetOperator) (s t : SetBy R) (q : K) → has (combined c s t) q ≡ true → (has s q ≡ true) ⊎ (has t q ≡ true)
+combined_from o same Union s t q e = one_or_other (has t q) (has s q) (sym (has-union o s t q) ∙ e)
+combined_from o same Inter s t q e = inl (and_true (has s q) (has t q) (sym (has-inter o same s t q) ∙ e)).0
+combined_from o same Minus s t q e = inl (and_true (has s q) _ (sym (has-minus o same s t q) ∙ e)).0
+
 -- the empty set is a part of each
 pub empty_part : {K : Type 0} {R : K → K → Ordering} (s : SetBy R) → IsPart no_elements s
 empty_part {R = R} s q e = let n : get (empty {X = Unit {0}} {R = R}) q ≡ None = get-empty R q in let f = ap is_some n in cc
 
 -- the test of an order for less
-is_less : (r : Ordering) → is_lt r ≡ true → r ≡ Less
+pub is_less : (r : Ordering) → is_lt r ≡ true → r ≡ Less
 is_less Less e = refl
 is_less Equal e = cc
 is_less Greater e = cc
 
 -- a test that holds is true
-true_T : (b : Bool) → T b → b ≡ true
+pub true_T : (b : Bool) → T b → b ≡ true
 true_T true h = refl
 true_T false h = elim h [ ]
 
 -- nothing is a part of each list
-part_nil : {K : Type 0} (ks : List K) → Part [] ks
+pub part_nil : {K : Type 0} (ks : List K) → Part [] ks
 part_nil [] = none
 part_nil (k ∷ ks) = skip (part_nil ks)
 

@@ -1,31 +1,121 @@
--- The laws of the solution of a program. No attribute is circular, so what is asked of circular instances holds.
-use Rattle.std.proofs.Common.{◌≡◌, ◌↔◌, ℕ, true, false, List, refl}
-use Rattle.solutions.specs.Asking.{Ends, Halts}
-use Rattle.solutions.specs.Rounds.{HasFinalValue}
-use Rattle.solutions.specs.Rising.{AreRising, HaveHeights}
-use Rattle.solutions.specs.Leading.{AreJoins, Demanded}
+-- The laws of the solution of a program: the equations of its circular instances rise, and their values have an order, joins and heights.
+use Rattle.std.proofs.Common.{◌≡◌, ◌↔◌, ℕ, true, false, ◌&&◌, cond, List, Option, Some, refl, sym, ap, subst, ◌∙◌, inl, inr}
+use Rattle.std.specs.Option.{option_and_then}
+use Rattle.attr_rules.specs.declared.kinds.Kind.{Kind}
+use Rattle.attr_rules.specs.declared.kinds.Kind.TheVariants as kinds
+use Rattle.attr_rules.specs.Expression.{Expression}
+use Rattle.attr_rules.specs.Rising.{IsRising}
+use Rattle.attr_rules.specs.Rules.{circular_at}
+use Rattle.attr_rules.proofs.Permitted.{test_rising}
+use Rattle.solutions.specs.Asking.{Demands, Ends, Gives, Halts, Meets, Needs, next}
+use Rattle.solutions.specs.Rounds.{HasFinalValue, is_in}
+use Rattle.solutions.specs.Rising.{AgreeBelow, AreRising, HaveHeights, Leaves, LiesBelow, Rise, Under, leaves}
+use Rattle.solutions.specs.Leading.{AreJoins, Demanded, Mixed}
 use Rattle.solutions.proofs.Cleaning.{val_finished}
+use Rattle.solutions.proofs.Closed.{closed_val}
+use Rattle.solutions.proofs.Composing.{rise_next}
+use Rattle.solutions.proofs.Growing.{done_below, growing}
 use Rattle.solutions.proofs.Loops.{no_loop}
+use Rattle.solutions.proofs.Lower.{joined_lower, lower_below, raised_lower}
 use Rattle.solutions.proofs.Reaching.{reach_is}
-use Rattle.solutions.proofs.Staging.{undeclared_val}
+use Rattle.solutions.proofs.Runs.{and_true, option_cases}
+use Rattle.solutions.proofs.Solved.{met_leads as met_leads_in, solved}
 use Rattle.solutions.proofs.Unique.{stuck_no_val, unique}
-use Rattle.equation_law.specs.Names.{Instance}
-use Rattle.equation_law.specs.Values.{Value}
-use Rattle.equation_law.specs.Program.{Program}
-use Rattle.equation_law.specs.Equations.{HasValue, equations_of, kind_in}
-use Rattle.equation_law.specs.Loops.{order_in, fits_in, join_in, Chain, HasLoop}
+use Rattle.equation_law.specs.Names.{Argument, At, Attribute, Instance, Null, Query, Reference, Source, same_instance}
+use Rattle.equation_law.specs.Values.{Value, as_kind, default_of, nodes, texts, truth}
+use Rattle.equation_law.specs.Program.{Program, class_of, declared_of}
+use Rattle.equation_law.specs.Equations.{HasValue, Site, attribute_kind, equation_for, equation_of, equations_of, inherited_site, inherits, is_circular, is_ordered, kind_in, site_at, site_demands, site_rises, synthesized_site, world_of}
+use Rattle.equation_law.specs.Loops.{order_in, fits_in, join_in, Chain, HasLoop, Leads}
+use Rattle.equation_law.specs.Lower.{IsClosed, IsLower, joined, raised_at}
+use Rattle.equation_law.specs.Meaning.{Place, meaning_of}
+use Rattle.equation_law.specs.Orders.{AtMost, FitsKind}
+use Rattle.equation_law.proofs.Above.{inherited_above}
+use Rattle.equation_law.proofs.Growing.{kind_below, rises as rising_meaning}
 use Rattle.equation_law.proofs.Heights.{height_of, height_grows, height_strict}
+use Rattle.equation_law.proofs.Lists.{some_of}
 use Rattle.equation_law.proofs.Names.{same_instance_is, same_instance_self}
 use Rattle.equation_law.proofs.Orders.{at_most_both, at_most_itself, at_most_through, default_least, join_fits, join_least, join_left, join_right}
 
--- no instance is circular
-pub none_circular : (p : Program) (i : Instance) → (equations_of p).circular i ≡ false
-unfolding equations_of
-none_circular p i = refl
+-- what isn't declared circular isn't
+pub not_circular : (p : Program) (a : ℕ) (r : Reference) (xs : List Argument) → circular_at p.rules.attributes a ≡ false → is_circular p (Attribute a r xs) ≡ false
+not_circular p a r xs e = ap (λ b. b && (is_ordered (attribute_kind p a) && site_rises (circular_at p.rules.attributes) (equation_of p (Attribute a r xs)))) e
 
--- none is
-not_circular : (p : Program) (i : Instance) → (equations_of p).circular i ≡ true → ⊥
-not_circular p i c = let h = none_circular p i in cc
+-- where no attribute is declared so, no instance is
+pub none_circular : (p : Program) → ((a : ℕ) → circular_at p.rules.attributes a ≡ false) → (i : Instance) → (equations_of p).circular i ≡ false
+unfolding equations_of
+none_circular p none (Attribute a r xs) = not_circular p a r xs (none a)
+none_circular p none (Query q) = refl
+
+-- a value that is read at a type of circular instances is of the type, and so is its default
+read_fits : (k : Kind) → is_ordered k ≡ true → (v : Value) → FitsKind k (as_kind k v)
+read_fits kinds.Truth e v = (truth v, refl)
+read_fits kinds.Int e v = cc
+read_fits kinds.Text e v = cc
+read_fits (kinds.Node c) e v = cc
+read_fits kinds.Texts e v = (texts v, refl)
+read_fits (kinds.Nodes c) e v = (nodes v, refl)
+
+default_fits : (k : Kind) → is_ordered k ≡ true → FitsKind k (default_of k)
+default_fits kinds.Truth e = (_, refl)
+default_fits kinds.Int e = cc
+default_fits kinds.Text e = cc
+default_fits (kinds.Node c) e = cc
+default_fits kinds.Texts e = (_, refl)
+default_fits (kinds.Nodes c) e = (_, refl)
+
+-- an equation is read at the type of its attribute
+site_kind : (p : Program) (a : ℕ) (r : Reference) (xs : List Argument) (s : Site) → equation_of p (Attribute a r xs) ≡ Some s → s.kind ≡ attribute_kind p a
+site_kind p a Null xs s e = cc
+site_kind p a (At (Source k)) xs s e =
+    elim (inherits (declared_of p a)) as (λ b. cond b (inherited_site p a xs k) (synthesized_site p a k xs) ≡ Some s → s.kind ≡ attribute_kind p a) [
+      | true ↦ λ h. ap (λ (x : Site). x.kind) (sym (inherited_above p a xs k s h).is)
+      | false ↦ λ h. ap (λ (x : Site). x.kind) (sym (some_of (site_at p a k xs) (option_and_then (equation_for p a) (class_of p k)) s h).2)
+    ] e
+
+-- the equation of a circular instance
+pub record HasSite (p : Program) (i : Instance) : Type 0 where
+  pub site : Site
+  pub is : equation_of p i ≡ Some site
+  pub rising : IsRising (circular_at p.rules.attributes) site.body
+  pub kind : site.kind ≡ kind_in p i
+  pub ordered : is_ordered (kind_in p i) ≡ true
+
+pub circular_site : (p : Program) (i : Instance) → is_circular p i ≡ true → HasSite p i
+circular_site p (Query q) c = absurd (cc)
+circular_site p (Attribute a r xs) c =
+    let declared = circular_at p.rules.attributes in
+    let d = and_true (declared a) _ c in
+    let e = and_true (is_ordered (attribute_kind p a)) (site_rises declared (equation_of p (Attribute a r xs))) d.1 in
+    elim (option_cases (equation_of p (Attribute a r xs))) [
+      | inl s ↦ record {
+        site = s.0;
+        is = s.1;
+        rising = test_rising declared s.0.body (sym (ap (site_rises declared) s.1) ∙ e.1);
+        kind = site_kind p a r xs s.0 s.1;
+        ordered = e.0;
+      }
+      | inr n ↦ (let f : site_rises declared (equation_of p (Attribute a r xs)) ≡ false = ap (site_rises declared) n in let t = e.1 in absurd (cc))
+    ]
+
+-- what demands come to, one after the other
+leaves_next : {I V : Type 0} (P : V → Type 0) (c : Demands I V) (k : V → Demands I V) → ((v : V) → Leaves P (k v)) → Leaves P (next c k)
+leaves_next P (Gives v) k h = h v
+leaves_next P (Needs j f) k h = λ v. leaves_next P (f v) k h
+
+-- it comes to values of the instance's type
+circular_fits : (p : Program) (i : Instance) → is_circular p i ≡ true → Leaves (fits_in p i) (site_demands (world_of p) (equation_of p i))
+circular_fits p i c =
+    let s = circular_site p i c in
+    subst (λ (o : Option Site). Leaves (fits_in p i) (site_demands (world_of p) o)) (sym s.is)
+    (leaves_next (fits_in p i) (meaning_of (world_of p) s.site.body s.site.place) (λ v. Gives (as_kind s.site.kind v)) (λ v. subst (λ (k : Kind). FitsKind (kind_in p i) (as_kind k v)) (sym s.kind) (read_fits (kind_in p i) s.ordered v)))
+
+-- and rises
+circular_rises : (p : Program) (i : Instance) → is_circular p i ≡ true → Rise (is_circular p) (order_in p) (order_in p i) (site_demands (world_of p) (equation_of p i)) (site_demands (world_of p) (equation_of p i))
+circular_rises p i c =
+    let s = circular_site p i c in
+    let up = rising_meaning (world_of p) (is_circular p) (circular_at p.rules.attributes) (not_circular p) s.rising s.site.place in
+    subst (λ (o : Option Site). Rise (is_circular p) (order_in p) (order_in p i) (site_demands (world_of p) o) (site_demands (world_of p) o)) (sym s.is)
+    (rise_next (λ v. Gives (as_kind s.site.kind v)) (λ v. Gives (as_kind s.site.kind v)) up (λ v w l. leaves (kind_below s.site.kind v w l)))
 
 -- all rules of rising equations hold
 pub are_rising : (p : Program) → AreRising (equations_of p) (order_in p) (fits_in p)
@@ -37,9 +127,9 @@ are_rising p = record {
   through = λ i u v w l m. at_most_through u v w l m;
   both = λ i v w f g l m. at_most_both (kind_in p i) v w f g l m;
   low = λ i v f. default_least (kind_in p i) v;
-  start = λ i c. absurd (not_circular p i c);
-  fit = λ i c. absurd (not_circular p i c);
-  rising = λ i c. absurd (not_circular p i c);
+  start = λ i c. default_fits (kind_in p i) (circular_site p i c).ordered;
+  fit = circular_fits p;
+  rising = circular_rises p;
 }
 
 -- the values of each type have joins
@@ -67,7 +157,7 @@ one p i v w a b = unique (equations_of p) (order_in p) (fits_in p) (are_rising p
 
 -- an instance whose equation ends has a value
 pub ended : (p : Program) (i : Instance) (v : Value) (demands : List Instance) → Ends (HasValue p) ((equations_of p).equation i) v demands → HasValue p i v
-ended p i v demands e = undeclared_val (equations_of p) (order_in p) (fits_in p) (are_rising p) (height_in p) (have_heights p) i v demands (none_circular p i) e
+ended p i v demands e = solved (equations_of p) (order_in p) (fits_in p) (join_in p) (are_rising p) (are_joins p) (height_in p) (have_heights p) i v demands e
 
 -- one whose equation is stuck has none
 pub stuck : (p : Program) (i j : Instance) (demands : List Instance) → Halts (HasValue p) ((equations_of p).equation i) j demands → (v : Value) → ¬ HasValue p i v
@@ -84,3 +174,34 @@ loopless p i v a l = no_loop (equations_of p) (order_in p) (fits_in p) (join_in 
 -- what it leads to is what it demands
 pub reached : (p : Program) (i j : Instance) (v : Value) → HasValue p i v → Chain p i j ↔ Demanded (equations_of p) i j
 reached p i j v a = reach_is (equations_of p) (order_in p) (fits_in p) (join_in p) (are_rising p) (are_joins p) i j v a
+
+-- what an equation meets under the solution it leads to, whether the instance has a value or not
+pub met_leads : (p : Program) (i j : Instance) → Meets (HasValue p) ((equations_of p).equation i) j → Leads p i j
+met_leads p i j m = met_leads_in (equations_of p) (order_in p) (fits_in p) (join_in p) (are_rising p) (are_joins p) (height_in p) (have_heights p) i j m
+
+-- the equation of a circular instance under more values
+pub demands_grow : (p : Program) (i : Instance) → (equations_of p).circular i ≡ true → (A B : Instance → Value → Type 0) → LiesBelow (equations_of p).circular (order_in p) A B → (w : Value) (demands : List Instance) → Ends B ((equations_of p).equation i) w demands → Under (order_in p i) A ((equations_of p).equation i) w demands
+demands_grow p i c A B l w demands e = growing l ((are_rising p).rising i c) e
+
+pub values_grow : (p : Program) (i : Instance) → (equations_of p).circular i ≡ true → (A B : Instance → Value → Type 0) → AgreeBelow (equations_of p).circular (order_in p) A B → (v w : Value) (first second : List Instance) → Ends A ((equations_of p).equation i) v first → Ends B ((equations_of p).equation i) w second → order_in p i v w
+values_grow p i c A B g v w first second d e = done_below g ((are_rising p).rising i c) d e
+
+-- and of each rising expression, wherever it is read
+pub expression_grows : (p : Program) (e : Expression) (q : Place) → IsRising (circular_at p.rules.attributes) e → (A B : Instance → Value → Type 0) → LiesBelow (is_circular p) (order_in p) A B → (w : Value) (demands : List Instance) → Ends B (meaning_of (world_of p) e q) w demands → Under AtMost A (meaning_of (world_of p) e q) w demands
+expression_grows p e q r A B l w demands h = growing l (rising_meaning (world_of p) (is_circular p) (circular_at p.rules.attributes) (not_circular p) r q) h
+
+-- lower assignments
+pub below : (p : Program) (T : Instance → Value) → IsLower p T → (i : Instance) (v : Value) → (equations_of p).circular i ≡ true → HasValue p i v → order_in p i (T i) v
+below p = lower_below (equations_of p) (order_in p) (fits_in p) (join_in p) (are_rising p) (are_joins p)
+
+pub both_lower : (p : Program) (T U : Instance → Value) → IsLower p T → IsLower p U → IsLower p (joined p T U)
+both_lower p = joined_lower (equations_of p) (order_in p) (fits_in p) (join_in p) (are_rising p) (are_joins p)
+
+pub still_lower : (p : Program) (T B : Instance → Value) → IsLower p T → (i : Instance) → (equations_of p).circular i ≡ true → ((j : Instance) → (equations_of p).circular j ≡ true → order_in p j (B j) (T j)) → (v w : Value) (demands : List Instance)
+    → Ends (Mixed (equations_of p) B) ((equations_of p).equation i) v demands → fits_in p i w → order_in p i w v → IsLower p (raised_at p T i w)
+still_lower p = raised_lower (equations_of p) (order_in p) (fits_in p) (join_in p) (are_rising p) (are_joins p)
+
+-- closed sets
+pub closed : (p : Program) (C : List Instance) (T : Instance → Value) → IsClosed p C T → (i : Instance) → is_in same_instance C i ≡ true → HasValue p i (T i)
+unfolding equations_of
+closed p C T is i m = closed_val (equations_of p) (order_in p) (fits_in p) (join_in p) (are_rising p) (are_joins p) (height_in p) (have_heights p) C T is i m

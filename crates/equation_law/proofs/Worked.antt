@@ -1,6 +1,6 @@
 -- A small program, worked through the definitions: the grammar `N ::= m:M [o:M] s:M*; M ::= <V:int> <B:boolean> <T:String>;`,
 -- a tree of one N with one M and a list of two, `syn int N.v() = 5`, `syn boolean M.w() = true`, and the query `@0.v()`.
-use Rattle.std.proofs.Common.{◌≡◌, ℤ, pos, negsuc, arith, true, false, List, [], ◌∷◌, Some, None, codes, refl}
+use Rattle.std.proofs.Common.{◌≡◌, ℕ, zero, suc, ℤ, pos, negsuc, arith, true, false, List, [], ◌∷◌, Some, None, codes, refl}
 use Rattle.std.specs.Int.{int_wrap}
 use Rattle.ast_grammar.specs.declared.grammar.Shape.TheVariants as shapes
 use Rattle.superclasses.specs.Superclasses.{line_of}
@@ -9,15 +9,19 @@ use Rattle.attr_rules.specs.declared.dispatch.Reach.TheVariants.{Own}
 use Rattle.attr_rules.specs.declared.expression.Operator.TheVariants.{Add, Subtract, Multiply, Less, AtMost, Greater, AtLeast, Equal}
 use Rattle.attr_rules.specs.declared.kinds.Kind.TheVariants as kinds
 use Rattle.attr_rules.specs.Expression.{Expression, Truth as TruthLiteral, Int as IntLiteral, Text as TextLiteral, Null as NullLiteral, This, Source as SourceNode, Child, Element, Count, Has, Token, Call, no_more, Negate, Binary, And, Or, If}
-use Rattle.attr_rules.specs.Rules.{Attribute as Declared, Equation, plain_attribute}
+use Rattle.attr_rules.specs.Rules.{Attribute as Declared, Equation, circular_at, plain_attribute}
+use Rattle.solutions.specs.Rounds.{IsStable, outer_rounds}
+use Rattle.solutions.proofs.Finishing.{inner_stable}
 use Rattle.solutions.specs.Asking.{Gives, Needs}
 use Rattle.tree_arena.specs.Nodes.{Node as TreeNode}
 use Rattle.tree_arena.specs.Terms.{Empty, Fits, Forest, IsTreeOf, Tree, element, none, one, over, root as whole, token}
-use Rattle.equation_law.specs.Names.{At, Attribute, Null, Query, Source}
+use Rattle.equation_law.specs.Names.{At, Attribute, Instance, Null, Query, Source}
 use Rattle.equation_law.specs.Values.{Int, Node, Text, Truth, as_kind, truth}
 use Rattle.equation_law.specs.Meaning.{Place, meaning_of, operate}
 use Rattle.equation_law.specs.Program.{Program, at_source, source_instances}
 use Rattle.equation_law.specs.Equations.{HasValue, equation_of, equations_of, world_of}
+use Rattle.equation_law.proofs.Names.{same_instance_is}
+use Rattle.equation_law.proofs.Solution.{none_circular}
 
 -- what is declared, and the equations
 abbrev attributes : List Declared
@@ -34,10 +38,10 @@ equations =
 
 -- the calls `@0.v()` and `@0.w()`; no rule of the notation allows the latter
 abbrev v : Expression
-v = Call 0 (SourceNode 0) no_more
+v = Call 0 (record { line = 1; column = 1 }) (SourceNode 0) no_more
 
 abbrev w : Expression
-w = Call 1 (SourceNode 0) no_more
+w = Call 1 (record { line = 1; column = 1 }) (SourceNode 0) no_more
 
 abbrev classes : List Class
 classes =
@@ -215,7 +219,7 @@ unfolding superclasses_of line_of
 or_long = refl
 
 -- `true ? v : 7` demands v, and `false ? v : 7` nothing
-chosen : (meaning_of (world_of small) (If (TruthLiteral true) v (IntLiteral (pos 7))) root ≡ Needs (at_source 0 0) (λ x. Gives (as_kind kinds.Int x))) × (meaning_of (world_of small) (If (TruthLiteral false) v (IntLiteral (pos 7))) root ≡ Gives (Int (pos 7)))
+chosen : (meaning_of (world_of small) (If (TruthLiteral true) v None (IntLiteral (pos 7))) root ≡ Needs (at_source 0 0) (λ x. Gives (as_kind kinds.Int x))) × (meaning_of (world_of small) (If (TruthLiteral false) v None (IntLiteral (pos 7))) root ≡ Gives (Int (pos 7)))
 unfolding superclasses_of line_of
 chosen = (refl, refl)
 
@@ -229,7 +233,7 @@ unfolding int_wrap
 tokens = (refl, refl)
 
 -- on null a token and a call are defaults, and demand nothing
-on_null : (meaning_of (world_of small) (Token kinds.Int 0 (Child 1 This)) root ≡ Gives (Int (pos 0))) × (meaning_of (world_of small) (Token kinds.Text 2 NullLiteral) root ≡ Gives (Text [])) × (meaning_of (world_of small) (Call 1 (Child 1 This) no_more) root ≡ Gives (Truth false))
+on_null : (meaning_of (world_of small) (Token kinds.Int 0 (Child 1 This)) root ≡ Gives (Int (pos 0))) × (meaning_of (world_of small) (Token kinds.Text 2 NullLiteral) root ≡ Gives (Text [])) × (meaning_of (world_of small) (Call 1 (record { line = 1; column = 1 }) (Child 1 This) no_more) root ≡ Gives (Truth false))
 unfolding superclasses_of line_of
 on_null = (refl, refl, refl)
 
@@ -262,11 +266,21 @@ unfolding superclasses_of line_of
 place_first = refl
 
 -- a call on the child
-on_child : meaning_of (world_of small) (Call 1 (Child 0 This) no_more) root ≡ Needs (at_source 1 1) (λ x. Gives (Truth (truth x)))
+on_child : meaning_of (world_of small) (Call 1 (record { line = 1; column = 1 }) (Child 0 This) no_more) root ≡ Needs (at_source 1 1) (λ x. Gives (Truth (truth x)))
 unfolding superclasses_of line_of
 on_child = refl
+
+-- no attribute is circular, so inner rounds over any list are at rest
+plain : (a : ℕ) → circular_at attributes a ≡ false
+plain zero = refl
+plain (suc zero) = refl
+plain (suc (suc a)) = refl
+
+at_rest : (list : List Instance) (rounds : List ℕ) → IsStable (equations_of small) list (outer_rounds (equations_of small) list rounds) 0
+unfolding equations_of
+at_rest list rounds = inner_stable (equations_of small) same_instance_is list (λ i m. none_circular small plain i) (outer_rounds (equations_of small) list rounds)
 
 -- the rounds give the attribute its value in the first round, and the query in the second
 five : HasValue small (Query 0) (Int (pos 5))
 unfolding equations_of superclasses_of line_of
-five = record { list = at_source 0 0 ∷ Query 0 ∷ []; rounds = 0 ∷ 0 ∷ []; whole = ((tt, λ i. refl), λ i. refl); given = refl }
+five = record { list = at_source 0 0 ∷ Query 0 ∷ []; rounds = 0 ∷ 0 ∷ []; whole = ((tt, at_rest (at_source 0 0 ∷ Query 0 ∷ []) []), at_rest (at_source 0 0 ∷ Query 0 ∷ []) (0 ∷ [])); given = refl }

@@ -1,28 +1,29 @@
 -- Loops, worked through the definitions: a class N, a tree of one N, and at it `x() = y()`, `y() = x()`, `z() = 5`,
 -- `w() = x()`, `a() = false && b()` and `b() = a() || b()`. Each call is one at the root.
-use Rattle.std.proofs.Common.{◌≡◌, ℕ, pos, true, false, cond, ◌||◌, List, [], ◌∷◌, Option, None, codes, refl, sym, subst}
+use Rattle.std.proofs.Common.{◌≡◌, ℕ, zero, suc, pos, true, false, cond, ◌||◌, List, [], ◌∷◌, Option, None, codes, refl, sym, subst}
 use Rattle.superclasses.specs.Superclasses.{line_of}
 use Rattle.ast_grammar.specs.Grammar.{Class, superclasses_of}
 use Rattle.attr_rules.specs.declared.dispatch.Reach.TheVariants.{Own}
 use Rattle.attr_rules.specs.declared.kinds.Kind.TheVariants as kinds
 use Rattle.attr_rules.specs.Expression.{Expression, Truth as TruthLiteral, Int as IntLiteral, This, Call, no_more, And, Or}
-use Rattle.attr_rules.specs.Rules.{Attribute as Declared, Equation, plain_attribute}
+use Rattle.attr_rules.specs.Rules.{Attribute as Declared, Equation, circular_at, plain_attribute}
 use Rattle.solutions.specs.Asking.{Demands, Gives, Needs, Meets, here, later, next}
-use Rattle.solutions.specs.Rounds.{Graph, RoundsEnd, is_in, outer_rounds}
+use Rattle.solutions.specs.Rounds.{Graph, IsStable, RoundsEnd, is_in, outer_rounds}
 use Rattle.solutions.specs.Leading.{HasDemands, undeclared, none, more}
+use Rattle.solutions.proofs.Finishing.{inner_stable}
 use Rattle.solutions.proofs.Loops.{meets_at}
 use Rattle.equation_law.specs.Names.{Instance, same_instance}
 use Rattle.equation_law.specs.Values.{Value, Int, Truth, as_kind, truth}
 use Rattle.equation_law.specs.Program.{Program, at_source}
-use Rattle.equation_law.specs.Equations.{HasValue, equations_of}
+use Rattle.equation_law.specs.Equations.{HasValue, equations_of, is_circular}
 use Rattle.equation_law.specs.Loops.{Leads, HasLoop}
 use Rattle.equation_law.proofs.Ended.{left_has_loop}
 use Rattle.equation_law.proofs.Names.{same_instance_is}
-use Rattle.equation_law.proofs.Solution.{loopless}
+use Rattle.equation_law.proofs.Solution.{loopless, none_circular}
 
 -- a call at the root
 abbrev call : ℕ → Expression
-call a = Call a This no_more
+call a = Call a (record { line = 1; column = 1 }) This no_more
 
 abbrev attributes : List Declared
 attributes =
@@ -73,10 +74,24 @@ a = at_source 4 0
 abbrev b : Instance
 b = at_source 5 0
 
+-- no attribute is circular, so inner rounds over any list are at rest
+plain : (a : ℕ) → circular_at attributes a ≡ false
+plain zero = refl
+plain (suc zero) = refl
+plain (suc (suc zero)) = refl
+plain (suc (suc (suc zero))) = refl
+plain (suc (suc (suc (suc zero)))) = refl
+plain (suc (suc (suc (suc (suc zero))))) = refl
+plain (suc (suc (suc (suc (suc (suc a)))))) = refl
+
+at_rest : (list : List Instance) (rounds : List ℕ) → IsStable (equations_of looping) list (outer_rounds (equations_of looping) list rounds) 0
+unfolding equations_of
+at_rest list rounds = inner_stable (equations_of looping) same_instance_is list (λ i m. none_circular looping plain i) (outer_rounds (equations_of looping) list rounds)
+
 -- z is 5, whatever the rest does
 five : HasValue looping z (Int (pos 5))
 unfolding equations_of superclasses_of line_of
-five = record { list = z ∷ []; rounds = 0 ∷ []; whole = (tt, λ i. refl); given = refl }
+five = record { list = z ∷ []; rounds = 0 ∷ []; whole = (tt, at_rest (z ∷ []) []); given = refl }
 
 -- x leads to y
 x_to_y : Leads looping x y
@@ -105,7 +120,7 @@ w_loops = record { on = x; to = more (undeclared refl here) none; undeclared_on 
 -- a is false and demands nothing
 a_false : HasValue looping a (Truth false)
 unfolding equations_of superclasses_of line_of
-a_false = record { list = a ∷ []; rounds = 0 ∷ []; whole = (tt, λ i. refl); given = refl }
+a_false = record { list = a ∷ []; rounds = 0 ∷ []; whole = (tt, at_rest (a ∷ []) []); given = refl }
 
 -- so it has no loop
 a_loopless : ¬ HasLoop looping a
@@ -156,13 +171,13 @@ adds_none : (i : Instance) → outer_rounds (equations_of looping) names (0 ∷ 
 unfolding equations_of superclasses_of line_of
 adds_none i = elim (is_in same_instance names i) as (λ c. is_in same_instance names i ≡ c → outer_rounds (equations_of looping) names (0 ∷ 0 ∷ []) i ≡ left i) [
   | true ↦ λ m. of_six (λ j. outer_rounds (equations_of looping) names (0 ∷ 0 ∷ []) j ≡ left j) refl refl refl refl refl refl i m
-  | false ↦ λ m. rw m
+  | false ↦ λ m. let n : is_circular looping i ≡ false = none_circular looping plain i in rw (n, m)
 ] refl
 
 -- so the rounds end there
 ends : RoundsEnd (equations_of looping) names left
 unfolding equations_of superclasses_of line_of
-ends = record { rounds = 0 ∷ []; whole = (tt, λ i. refl); turns = 0; stable = λ i. refl; last = adds_none; is = λ i. refl }
+ends = record { rounds = 0 ∷ []; whole = (tt, at_rest names []); turns = 0; stable = at_rest names (0 ∷ []); last = adds_none; is = λ i. refl }
 
 -- the one demand of an equation is of the list, and a value that isn't there leads no further
 demands_one : (j n : Instance) (k : Value → Demands Instance Value) → is_in same_instance names j ≡ true → left j ≡ None → Meets (Graph left) (Needs j k) n → is_in same_instance names n ≡ true
@@ -191,4 +206,4 @@ has_demands i j m =
 -- so what is left tells that y has a loop
 y_loops : HasLoop looping y
 unfolding equations_of superclasses_of line_of
-y_loops = left_has_loop looping names left ends has_demands y refl refl
+y_loops = left_has_loop looping names left ends (λ i m. none_circular looping plain i) has_demands y refl refl

@@ -11,25 +11,27 @@ use Rattle.attr_rules.specs.declared.kinds.Kind.{Kind}
 use Rattle.attr_rules.specs.declared.kinds.Kind.TheVariants as kinds
 use Rattle.attr_rules.specs.declared.types.ValueType.{ValueType}
 use Rattle.attr_rules.specs.Queries.{Query as Asked}
-use Rattle.attr_rules.specs.Rules.{AreRules}
+use Rattle.attr_rules.specs.Rules.{AreRules, EquationsRise}
 use Rattle.attr_rules.specs.Types.{kept_kind, parameter_kinds}
 use Rattle.attr_rules.specs.Typing.{HasType}
 use Rattle.tree_arena.specs.Terms.{IsTreeOf}
-use Rattle.equation_law.specs.Names.{Source, Reference, Null, At, Argument, Instance, Attribute, Query}
+use Rattle.equation_law.specs.Names.{NodeName, Source, Reference, Null, At, Argument, Instance, Attribute, Query, node_cmp, text_cmp}
 use Rattle.equation_law.specs.Program.{Program, class_of, declared_of, names_in}
 use Rattle.equation_law.specs.Equations.{kind_in}
-use Rattle.equation_law.specs.Values.{Value, Truth, Int, Text, Node, argument_value}
+use Rattle.equation_law.specs.Sets.{SetBy, has}
+use Rattle.equation_law.specs.Values.{Value, Truth, Int, Text, Node, Texts, Nodes, argument_value}
 
--- a query is well typed: what it asks is an attribute or an accessor of the node's class
+-- a query is well typed
 pub record IsTyped (p : Program) (q : Asked) : Type 0 where
   pub type : ValueType
   pub typed : HasType (names_in p) q.body type
   pub kept : q.kind ≡ kept_kind type
 
--- A program whose parts were read and checked against each other.
+-- A program whose parts were read and checked against each other, its equations of circular attributes included.
 pub record IsProgram (p : Program) : Type 0 where
   pub grammar : IsGrammar p.grammar
   pub rules : AreRules p.grammar p.rules
+  pub rising : EquationsRise p.rules
   pub texts : ArePooled p.texts
   pub tree : IsTreeOf p.grammar (length p.texts) p.tree
   pub queries : All (IsTyped p) p.queries
@@ -45,12 +47,14 @@ pub data IsNodeOf (p : Program) (c : ClassId) : Reference → Type 0 where
   null : IsNodeOf p c Null
   at : {k : ℕ} → IsAt p k c → IsNodeOf p c (At (Source k))
 
--- A value of a type: an integer has 32 bits, and a text is one of the program. No value is a set so far.
+-- A value of a type: an integer has 32 bits, a text is one of the program, and a set has elements of one type.
 pub data IsValue (p : Program) : Kind → Value → Type 0 where
   truth : (b : Bool) → IsValue p kinds.Truth (Truth b)
   int : (z : ℤ) → int_wrap w32 z ≡ z → IsValue p kinds.Int (Int z)
   text : (t : List ℕ) → Contains p.texts t → IsValue p kinds.Text (Text t)
   node : (c : ClassId) (r : Reference) → IsNodeOf p c r → IsValue p (kinds.Node c) (Node r)
+  texts : (s : SetBy text_cmp) → ((t : List ℕ) → has s t ≡ true → Contains p.texts t) → IsValue p kinds.Texts (Texts s)
+  nodes : (c : ClassId) (s : SetBy node_cmp) → ((n : NodeName) → has s n ≡ true → IsNodeOf p c (At n)) → IsValue p (kinds.Nodes c) (Nodes s)
 
 -- arguments that are as many as the parameters, and values of their types
 abbrev pub AreArguments : Program → List Kind → List Argument → Type 0

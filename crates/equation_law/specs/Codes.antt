@@ -1,5 +1,5 @@
 -- What codes stand for.
-use Rattle.std.specs.Prelude.{ℕ, ◌≡◌, zero, suc, pos, ◌<◌, ◌≤◌, ◌^◌, not, ◌==◌, List, [], ◌∷◌, length, take}
+use Rattle.std.specs.Prelude.{ℕ, ◌≡◌, zero, suc, pos, ◌<◌, ◌≤◌, ◌^◌, not, ◌==◌, List, [], ◌∷◌, All, length, map, take}
 use Rattle.std.specs.Int.{int_wrap}
 use mir.Syntax.{w32}
 use Rattle.attr_rules.specs.declared.kinds.Kind.{Kind}
@@ -9,15 +9,30 @@ use Rattle.equation_law.specs.declared.coding.Instance.{Instance as CodedInstanc
 use Rattle.equation_law.specs.declared.coding.Instance.TheVariants as coded_instance
 use Rattle.equation_law.specs.declared.coding.Value.{Value as CodedValue}
 use Rattle.equation_law.specs.declared.coding.Value.TheVariants as coded
-use Rattle.equation_law.specs.Names.{Argument, At, Attribute, Instance, Null, Query, Reference, Source}
+use Rattle.equation_law.specs.declared.coding.Single.{Single}
+use Rattle.equation_law.specs.declared.coding.Single.TheVariants as single
+use Rattle.equation_law.specs.Names.{Argument, At, Attribute, Instance, NodeName, Null, Query, Reference, Source}
 use Rattle.equation_law.specs.Program.{Program, attribute_parameters, text_of}
 use Rattle.equation_law.specs.Values.{Int, Node, Nodes, Text, Texts, Truth, Value, as_argument, default_of}
-use Rattle.equation_law.specs.Sets.{no_elements}
+use Rattle.equation_law.specs.Sets.{set_of}
 
 -- 0 is null, and one more than its number is a source node
 abbrev pub reference_of : ℕ → Reference
 reference_of zero = Null
 reference_of (suc k) = At (Source k)
+
+-- the nodes that some codes stand for; null is none
+abbrev pub nodes_of : List ℕ → List NodeName
+nodes_of [] = []
+nodes_of (zero ∷ cs) = nodes_of cs
+nodes_of (suc k ∷ cs) = Source k ∷ nodes_of cs
+
+-- a value that is no set, by the texts that the numbers stand for
+abbrev pub single_of : (ℕ → List ℕ) → Single → Value
+single_of texts (single.Truth b) = Truth b
+single_of texts (single.Int z) = Int z
+single_of texts (single.Text n) = Text (texts n)
+single_of texts (single.Node n) = Node (reference_of n.0)
 
 -- a value, by the texts that the numbers stand for
 abbrev pub value_of : (ℕ → List ℕ) → CodedValue → Value
@@ -25,10 +40,19 @@ value_of texts (coded.Truth b) = Truth b
 value_of texts (coded.Int z) = Int z
 value_of texts (coded.Text n) = Text (texts n)
 value_of texts (coded.Node n) = Node (reference_of n.0)
-value_of texts coded.NoTexts = Texts no_elements
-value_of texts coded.NoNodes = Nodes no_elements
+value_of texts (coded.Texts cs) = Texts (set_of (map texts cs))
+value_of texts (coded.Nodes cs) = Nodes (set_of (nodes_of cs))
 
--- the value of a type that a code stands for, by the texts; sets have no codes so far
+-- The elements of a set are coded well: each text is one of the program, and none is null. Then each element has one code.
+abbrev pub AreElements : Program → CodedValue → Type 0
+AreElements p (coded.Truth b) = Unit {0}
+AreElements p (coded.Int z) = Unit {0}
+AreElements p (coded.Text n) = Unit {0}
+AreElements p (coded.Node n) = Unit {0}
+AreElements p (coded.Texts cs) = All (λ c. c < length p.texts) cs
+AreElements p (coded.Nodes cs) = All (λ c. 0 < c) cs
+
+-- the value of a type that a code stands for, by the texts; a set has the code 0, and its elements stand elsewhere
 abbrev pub value_at : (ℕ → List ℕ) → Kind → ℕ → Value
 value_at texts kinds.Truth c = Truth (not (c == 0))
 value_at texts kinds.Int c = Int (int_wrap w32 (pos c))

@@ -1,5 +1,5 @@
 -- The equations of the instances of a program, and the solution.
-use Rattle.std.specs.Prelude.{ℕ, zero, suc, ℤ, pos, negsuc, List, [], ◌∷◌, Bool, false, cond, Option, Some, None, slice_get, ◌++◌, map}
+use Rattle.std.specs.Prelude.{ℕ, zero, suc, ℤ, pos, negsuc, List, [], ◌∷◌, Bool, true, false, ◌&&◌, cond, Option, Some, None, slice_get, ◌++◌, map}
 use Rattle.std.specs.Int.{int_wrap}
 use Rattle.std.specs.Option.{option_and_then, option_map, option_or}
 use mir.Syntax.{w32}
@@ -11,7 +11,8 @@ use Rattle.attr_rules.specs.declared.kinds.Kind.{Kind}
 use Rattle.attr_rules.specs.declared.kinds.Kind.TheVariants as kinds
 use Rattle.attr_rules.specs.Expression.{Expression}
 use Rattle.attr_rules.specs.Queries.{Query as Asked}
-use Rattle.attr_rules.specs.Rules.{Equation, covering_number, equation_number, is_inherited}
+use Rattle.attr_rules.specs.Rising.{rises}
+use Rattle.attr_rules.specs.Rules.{Equation, circular_at, covering_number, equation_number, is_inherited}
 use Rattle.attr_rules.specs.Types.{is_below}
 use Rattle.solutions.specs.Asking.{Demands, Gives, next}
 use Rattle.solutions.specs.Rounds.{Equations, HasValue as HasValueOf}
@@ -157,12 +158,36 @@ abbrev pub site_demands : World → Option Site → Demands Instance Value
 site_demands W None = Gives (Node Null)
 site_demands W (Some s) = next (meaning_of W s.body s.place) (λ v. Gives (as_kind s.kind v))
 
--- no attribute is circular so far; a circular one would start at the default of its type
+-- the types of which circular attributes are: booleans, of which false is below true, and sets, ordered by inclusion
+abbrev pub is_ordered : Kind → Bool
+is_ordered kinds.Truth = true
+is_ordered kinds.Int = false
+is_ordered kinds.Text = false
+is_ordered (kinds.Node c) = false
+is_ordered kinds.Texts = true
+is_ordered (kinds.Nodes c) = true
+
+-- there is an equation, and it rises
+abbrev pub site_rises : (ℕ → Bool) → Option Site → Bool
+site_rises circular None = false
+site_rises circular (Some s) = rises circular s.body
+
+-- the instance is of an attribute that is declared circular; a query is of none
+abbrev pub is_declared : Program → Instance → Bool
+is_declared p (Attribute a n xs) = circular_at p.rules.attributes a
+is_declared p (Query q) = false
+
+-- An instance is circular where its attribute is declared so, is of such a type, and its equation rises. In a program that was read and checked
+-- the declaration alone decides.
+abbrev pub is_circular : Program → Instance → Bool
+is_circular p i = is_declared p i && (is_ordered (kind_in p i) && site_rises (circular_at p.rules.attributes) (equation_of p i))
+
+-- a circular instance starts at the default of its type
 unfoldable pub equations_of : Program → Equations Instance Value
 equations_of p = record {
   same = same_instance;
   equation = λ i. site_demands (world_of p) (equation_of p i);
-  circular = λ i. false;
+  circular = is_circular p;
   bottom = λ i. default_of (kind_in p i);
 }
 

@@ -2,6 +2,7 @@ pub mod Checked
 pub mod Codes
 pub mod Equations
 pub mod Loops
+pub mod Lower
 pub mod Meaning
 pub mod Names
 pub mod Orders

@@ -11,10 +11,12 @@ use Rattle.attr_rules.specs.declared.expression.Operator.{Operator}
 use Rattle.attr_rules.specs.declared.expression.Operator.TheVariants.{Add, Subtract, Multiply, Less, AtMost, Greater, AtLeast, Equal}
 use Rattle.attr_rules.specs.declared.expression.Quantifier.{Quantifier}
 use Rattle.attr_rules.specs.declared.expression.Quantifier.TheVariants.{Any, All, First}
-use Rattle.attr_rules.specs.Expression.{Expression, Arguments, no_more, argument, Truth as TruthLiteral, Int as IntLiteral, Text as TextLiteral, Null as NullLiteral, This, Variable, Source as SourceNode, Child, Element, Count, Has, Token, Call, Cast, InstanceOf, Quantified, Not, Negate, Binary, And, Or, If}
+use Rattle.attr_rules.specs.declared.expression.SetOperator.TheVariants.{Union}
+use Rattle.attr_rules.specs.Expression.{Expression, Arguments, no_more, argument, Truth as TruthLiteral, Int as IntLiteral, Text as TextLiteral, Null as NullLiteral, Empty, This, Variable, Source as SourceNode, Child, Element, Count, Has, Token, Call, Cast, InstanceOf, Quantified, QuantifiedSet, Each, EachOfSet, Sets, Single, Contains, Size, Not, Negate, Binary, And, Or, OrBoth, If}
 use Rattle.solutions.specs.Asking.{Demands, Gives, Needs, next}
 use Rattle.equation_law.specs.Names.{NodeName, Reference, Null, At, Instance, Attribute, same_reference}
-use Rattle.equation_law.specs.Values.{Value, Truth, Int, Text, Node, Texts, Nodes, truth, int, text, node, as_arguments, as_kind, default_of}
+use Rattle.equation_law.specs.Sets.{no_elements}
+use Rattle.equation_law.specs.Values.{Value, Truth, Int, Text, Node, Texts, Nodes, truth, int, text, node, as_arguments, as_kind, contains, default_of, elements_of, set_operate, single, size_of}
 
 -- what the grammar, the rules and the tree say of attributes and nodes
 pub record World : Type 0 where
@@ -133,6 +135,11 @@ over_elements Any xs condition = at_each (λ a b. a || b) false xs condition
 over_elements All xs condition = at_each (λ a b. a && b) true xs condition
 over_elements First xs condition = first_with xs condition
 
+-- the union, of a type, of what a body says at the elements, all of them, from the left
+abbrev pub united : Kind → Value → List Value → (Value → Demands Instance Value) → Demands Instance Value
+united t so_far [] body = Gives so_far
+united t so_far (x ∷ xs) body = next (body x) (λ v. united t (set_operate Union t so_far v) xs body)
+
 -- The parts are evaluated from the left. Of `&&`, `||` and `? :` only what is needed is.
 abbrev mutual
   pub meaning_of : World → Expression → Place → Demands Instance Value
@@ -140,6 +147,7 @@ abbrev mutual
   meaning_of W (IntLiteral z) p = Gives (Int z)
   meaning_of W (TextLiteral n) p = Gives (Text (W.text n))
   meaning_of W NullLiteral p = Gives (Node Null)
+  meaning_of W Empty p = Gives (Nodes no_elements)
   meaning_of W This p = Gives (Node p.this)
   meaning_of W (Variable k) p = Gives (named p.names k)
   meaning_of W (SourceNode k) p = Gives (Node (W.source k))
@@ -148,16 +156,24 @@ abbrev mutual
   meaning_of W (Count k e) p = next (meaning_of W e p) (λ r. Gives (Int (count_at W k (node r))))
   meaning_of W (Has k e) p = next (meaning_of W e p) (λ r. Gives (Truth (is_there (child_at W k (node r)))))
   meaning_of W (Token t k e) p = next (meaning_of W e p) (λ r. Gives (token_at W t k (node r)))
-  meaning_of W (Call a e es) p = next (meaning_of W e p) (λ r. with_arguments W es p (λ vs. call_at W a (node r) vs))
+  meaning_of W (Call a at e es) p = next (meaning_of W e p) (λ r. with_arguments W es p (λ vs. call_at W a (node r) vs))
   meaning_of W (Cast c e) p = next (meaning_of W e p) (λ r. Gives (Node (cast_to W c (node r))))
   meaning_of W (InstanceOf c e) p = next (meaning_of W e p) (λ r. Gives (Truth (is_instance W c (node r))))
   meaning_of W (Quantified q k e b) p = next (meaning_of W e p) (λ r. over_elements q (elements_at W k (node r)) (λ x. meaning_of W b (with_name p x)))
+  meaning_of W (QuantifiedSet q e b) p = next (meaning_of W e p) (λ s. over_elements q (elements_of s) (λ x. meaning_of W b (with_name p x)))
+  meaning_of W (Each t k e b) p = next (meaning_of W e p) (λ r. united t (default_of t) (elements_at W k (node r)) (λ x. meaning_of W b (with_name p x)))
+  meaning_of W (EachOfSet t e b) p = next (meaning_of W e p) (λ s. united t (default_of t) (elements_of s) (λ x. meaning_of W b (with_name p x)))
+  meaning_of W (Sets o t a b) p = next (meaning_of W a p) (λ v. next (meaning_of W b p) (λ w. Gives (set_operate o t v w)))
+  meaning_of W (Single e) p = next (meaning_of W e p) (λ v. Gives (single v))
+  meaning_of W (Contains a b) p = next (meaning_of W a p) (λ v. next (meaning_of W b p) (λ w. Gives (Truth (contains v w))))
+  meaning_of W (Size e) p = next (meaning_of W e p) (λ v. Gives (Int (int_wrap w32 (pos (size_of v)))))
   meaning_of W (Not e) p = next (meaning_of W e p) (λ v. Gives (Truth (not (truth v))))
   meaning_of W (Negate e) p = next (meaning_of W e p) (λ v. Gives (Int (int_wrap w32 (neg_ℤ (int v)))))
   meaning_of W (Binary o a b) p = next (meaning_of W a p) (λ v. next (meaning_of W b p) (λ w. Gives (operate o v w)))
   meaning_of W (And a b) p = next (meaning_of W a p) (λ v. cond (truth v) (next (meaning_of W b p) (λ w. Gives (Truth (truth w)))) (Gives (Truth false)))
   meaning_of W (Or a b) p = next (meaning_of W a p) (λ v. cond (truth v) (Gives (Truth true)) (next (meaning_of W b p) (λ w. Gives (Truth (truth w)))))
-  meaning_of W (If c a b) p = next (meaning_of W c p) (λ v. cond (truth v) (meaning_of W a p) (meaning_of W b p))
+  meaning_of W (OrBoth a b) p = next (meaning_of W a p) (λ v. next (meaning_of W b p) (λ w. Gives (Truth (truth v || truth w))))
+  meaning_of W (If c a at b) p = next (meaning_of W c p) (λ v. cond (truth v) (meaning_of W a p) (meaning_of W b p))
 
   -- what follows the arguments, of which each is evaluated
   pub with_arguments : World → Arguments → Place → (List Value → Demands Instance Value) → Demands Instance Value

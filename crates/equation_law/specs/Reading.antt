@@ -3,7 +3,7 @@ use Rattle.std.specs.Prelude.{◌≡◌, Option, Some, None, Result, Ok, Err}
 use Rattle.rag_io.specs.declared.Memory.{Memory}
 use Rattle.equation_law.specs.declared.coding.Instance.{Instance as CodedInstance}
 use Rattle.equation_law.specs.declared.coding.Value.{Value as CodedValue}
-use Rattle.equation_law.specs.Codes.{IsCoded, instance_of, value_of}
+use Rattle.equation_law.specs.Codes.{AreElements, IsCoded, instance_of, value_of}
 use Rattle.equation_law.specs.Equations.{kind_in}
 use Rattle.equation_law.specs.Names.{Instance}
 use Rattle.equation_law.specs.Program.{Program, text_of}
@@ -30,9 +30,9 @@ pub record Grows {S : Type 0} (p : Program) (r s : Told S) : Type 0 where
   pub bound : (i : Instance) (v : Value) → s.can i v → r.can i v
   pub kept : (x : S) → r.keeps x → s.keeps x
 
--- an answer, read at the type of the instance, by what the reader has at the end of the call
+-- an answer, read at the type of the instance, by what the reader has at the end of the call; the elements of a set are coded well
 abbrev pub Settles : {S : Type 0} → Program → Told S → Instance → Result (Option CodedValue) Memory → Type 0
-Settles p s i (Ok (Some v)) = (w : Value) × s.has i w × (value_of (text_of p) v ≡ as_kind (kind_in p i) w)
+Settles p s i (Ok (Some v)) = ((w : Value) × s.has i w × (value_of (text_of p) v ≡ as_kind (kind_in p i) w)) × AreElements p v
 Settles p s i (Ok None) = (w : Value) → s.has i w → ⊥
 Settles p s i (Err m) = Unit {0}
 

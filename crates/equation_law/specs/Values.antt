@@ -1,9 +1,12 @@
 -- Values. Each is read at a type, and a value of another type reads as the type's default.
-use Rattle.std.specs.Prelude.{ℕ, ℤ, pos, Bool, false, List, [], ◌∷◌}
+use Rattle.std.specs.Prelude.{ℕ, ℤ, pos, Bool, false, List, [], ◌∷◌, map}
 use Rattle.attr_rules.specs.declared.kinds.Kind.{Kind}
 use Rattle.attr_rules.specs.declared.kinds.Kind.TheVariants as kinds
-use Rattle.equation_law.specs.Names.{Argument, OfInt, OfNode, OfText, OfTruth, Reference, Null, node_cmp, text_cmp}
-use Rattle.equation_law.specs.Sets.{SetBy, no_elements}
+use Rattle.attr_rules.specs.declared.expression.SetOperator.{SetOperator}
+use Rattle.attr_rules.specs.declared.expression.SetOperator.TheVariants.{Union, Inter, Minus}
+use Rattle.std.specs.declared.cmp.Ordering.{Ordering}
+use Rattle.equation_law.specs.Names.{Argument, At, NodeName, OfInt, OfNode, OfText, OfTruth, Reference, Null, node_cmp, text_cmp}
+use Rattle.equation_law.specs.Sets.{SetBy, elements, has, inter, minus, no_elements, set_of, size, union}
 
 pub data Value : Type 0 where
   Truth : Bool → Value
@@ -99,3 +102,62 @@ abbrev pub as_arguments : List Kind → List Value → List Argument
 as_arguments [] vs = []
 as_arguments (k ∷ ks) [] = []
 as_arguments (k ∷ ks) (v ∷ vs) = as_argument k v ∷ as_arguments ks vs
+
+-- the set of a text or of a node. No set holds null, so that of null is empty, and so is that of a value of which there are no sets.
+abbrev pub single : Value → Value
+single (Truth b) = Nodes no_elements
+single (Int z) = Nodes no_elements
+single (Text t) = Texts (set_of (t ∷ []))
+single (Node Null) = Nodes no_elements
+single (Node (At n)) = Nodes (set_of (n ∷ []))
+single (Texts s) = Nodes no_elements
+single (Nodes s) = Nodes no_elements
+
+-- whether a set of nodes has a node; none has null
+abbrev pub has_node : SetBy node_cmp → Reference → Bool
+has_node s Null = false
+has_node s (At n) = has s n
+
+-- whether a set has a value among its elements
+abbrev pub contains : Value → Value → Bool
+contains (Truth b) w = false
+contains (Int z) w = false
+contains (Text t) w = false
+contains (Node n) w = false
+contains (Texts s) w = has s (text w)
+contains (Nodes s) w = has_node s (node w)
+
+-- how many elements a set has
+abbrev pub size_of : Value → ℕ
+size_of (Truth b) = 0
+size_of (Int z) = 0
+size_of (Text t) = 0
+size_of (Node n) = 0
+size_of (Texts s) = size s
+size_of (Nodes s) = size s
+
+abbrev pub of_node : NodeName → Value
+of_node n = Node (At n)
+
+-- the elements of a set, texts in the order of their bytes and nodes in that of their names
+abbrev pub elements_of : Value → List Value
+elements_of (Truth b) = []
+elements_of (Int z) = []
+elements_of (Text t) = []
+elements_of (Node n) = []
+elements_of (Texts s) = map Text (elements s)
+elements_of (Nodes s) = map of_node (elements s)
+
+abbrev pub combined : {K : Type 0} {R : K → K → Ordering} → SetOperator → SetBy R → SetBy R → SetBy R
+combined Union s t = union s t
+combined Inter s t = inter s t
+combined Minus s t = minus s t
+
+-- what is made of two sets, both read at a type
+abbrev pub set_operate : SetOperator → Kind → Value → Value → Value
+set_operate o kinds.Truth v w = default_of kinds.Truth
+set_operate o kinds.Int v w = default_of kinds.Int
+set_operate o kinds.Text v w = default_of kinds.Text
+set_operate o (kinds.Node c) v w = default_of (kinds.Node c)
+set_operate o kinds.Texts v w = Texts (combined o (texts v) (texts w))
+set_operate o (kinds.Nodes c) v w = Nodes (combined o (nodes v) (nodes w))

@@ -1,14 +1,14 @@
 // Values, nodes and instances by their codes.
-ghost use Rattle.std.specs.Prelude.{◌≡◌, ◌<◌, ◌+◌, ◌^◌, ℕ, List, [], IfSome};
-ghost use Rattle.equation_law.specs.Codes.{IsSmall, reference_of, value_at, value_of};
+ghost use Rattle.std.specs.Prelude.{◌≡◌, ◌<◌, ◌+◌, ◌^◌, ℕ, List, [], true, IfOk, IfSome};
+ghost use Rattle.attr_rules.specs.Rules.{is_single};
+ghost use Rattle.equation_law.specs.Codes.{IsSmall, reference_of, single_of, value_at, value_of};
 ghost use Rattle.equation_law.specs.Equations.{source_or_null};
 ghost use Rattle.equation_law.specs.Values.{as_kind, default_of, int, node, text, truth};
 
 use attr_rules::{AttrId, EqId, Kind};
-
-/// The code of a value: 0 or 1 for a boolean, the two's complement of an integer, the number of a text in the pool, and for a node
-/// its `NodeRef`.
-pub type Code = u32;
+use code_sets::{Code, Codes};
+use rag_io::Memory;
+use std::alloc::Global;
 
 /// A node: 0 is null, and one more than its number is a source node.
 #[derive(Clone, Copy, Debug, PartialEq, Eq, Hash)]
@@ -34,15 +34,25 @@ pub enum Instance {
     Query(u32),
 }
 
-/// A value. A text is its number in the pool; the empty text has the number 0. Of sets there are only the empty ones so far, as defaults.
+/// A value that is no set. A text is its number in the pool; the empty text has the number 0. The code of such a value is 0 or 1 for a boolean,
+/// the two's complement of an integer, the number of a text, and for a node its `NodeRef`.
 #[derive(Clone, Copy, Debug, PartialEq, Eq)]
+pub enum Single {
+    Truth(bool),
+    Int(i32),
+    Text(u32),
+    Node(NodeRef),
+}
+
+/// A value: a single one, the set of the texts of some numbers, or the set of some nodes.
+#[derive(Drop)]
 pub enum Value {
     Truth(bool),
     Int(i32),
     Text(u32),
     Node(NodeRef),
-    NoTexts,
-    NoNodes,
+    Texts(Codes),
+    Nodes(Codes),
 }
 
 /// An equation with the node at which it is read, what its path binds (the place of a node in a list), and the arguments of the attribute.
@@ -160,79 +170,150 @@ impl NodeRef {
     }
 }
 
+impl From<Single> for Value {
+    ghost from_gives = { λ single value. (texts : ℕ → List ℕ) → value_of texts value ≡ single_of texts single };
+
+    fn from(single: Single) -> Value {
+        match single {
+            Single::Truth(b) => Value::Truth(b),
+            Single::Int(z) => Value::Int(z),
+            Single::Text(number) => Value::Text(number),
+            Single::Node(node) => Value::Node(node),
+        }
+    }
+}
+
 impl Value {
+    ghost use Rattle.std.specs.Prelude.{All, map, length};
+    ghost use Rattle.equation_law.specs.Codes.{AreElements, nodes_of};
+    ghost use Rattle.equation_law.specs.Program.{Program};
+    ghost use Rattle.equation_law.specs.Sets.{set_of};
+    ghost use Rattle.equation_law.specs.Values.{nodes, texts};
+
     /// The truth value; of a value of another type, false.
-    pub fn truth(self) -> bool
-        ensures { (texts : ℕ → List ℕ) → result ≡ truth (value_of texts self) }
+    pub fn truth(&self) -> bool
+        ensures { (texts : ℕ → List ℕ) → result ≡ truth (value_of texts self.now) }
     {
         match self {
-            Value::Truth(b) => b,
+            Value::Truth(b) => *b,
             _ => false,
         }
     }
 
     /// The integer; of a value of another type, 0.
-    pub fn int(self) -> i32
-        ensures { (texts : ℕ → List ℕ) → result ≡ int (value_of texts self) }
+    pub fn int(&self) -> i32
+        ensures { (texts : ℕ → List ℕ) → result ≡ int (value_of texts self.now) }
     {
         match self {
-            Value::Int(z) => z,
+            Value::Int(z) => *z,
             _ => 0,
         }
     }
 
     /// The number of the text; of a value of another type, that of the empty one.
-    pub fn text(self) -> u32
-        ensures { (texts : ℕ → List ℕ) → texts 0 ≡ [] → texts result ≡ text (value_of texts self) }
+    pub fn text(&self) -> u32
+        ensures { (texts : ℕ → List ℕ) → texts 0 ≡ [] → texts result ≡ text (value_of texts self.now) }
     {
         match self {
-            Value::Text(number) => number,
+            Value::Text(number) => *number,
             _ => 0,
         }
     }
 
     /// The node; of a value of another type, null.
-    pub fn node(self) -> NodeRef
-        ensures { (texts : ℕ → List ℕ) → reference_of result.0 ≡ node (value_of texts self) }
+    pub fn node(&self) -> NodeRef
+        ensures { (texts : ℕ → List ℕ) → reference_of result.0 ≡ node (value_of texts self.now) }
     {
         match self {
-            Value::Node(n) => n,
+            Value::Node(n) => *n,
             _ => NodeRef(0),
         }
     }
 
+    /// The value, where it is no set.
+    pub fn single(&self) -> Option<Single>
+        ensures { IfSome result (λ single. (texts : ℕ → List ℕ) → single_of texts single ≡ value_of texts self.now) }
+    {
+        match self {
+            Value::Truth(b) => Some(Single::Truth(*b)),
+            Value::Int(z) => Some(Single::Int(*z)),
+            Value::Text(number) => Some(Single::Text(*number)),
+            Value::Node(node) => Some(Single::Node(*node)),
+            Value::Texts(_) | Value::Nodes(_) => None,
+        }
+    }
+
+    /// The numbers of the texts of a set; of a value of another type, none.
+    pub fn into_texts(self, alloc: Global) -> Codes
+        ensures texts { (all : ℕ → List ℕ) → set_of (map all result) ≡ texts (value_of all self) }
+        ensures elements { (p : Program) → AreElements p self → All (λ c. c < length p.texts) result }
+    {
+        match self {
+            Value::Texts(codes) => codes,
+            _ => Codes::none(alloc),
+        }
+    }
+
+    /// The nodes of a set; of a value of another type, none.
+    pub fn into_nodes(self, alloc: Global) -> Codes
+        ensures nodes { (all : ℕ → List ℕ) → set_of (nodes_of result) ≡ nodes (value_of all self) }
+        ensures elements { (p : Program) → AreElements p self → All (λ c. 0 < c) result }
+    {
+        match self {
+            Value::Nodes(codes) => codes,
+            _ => Codes::none(alloc),
+        }
+    }
+
+    /// The same value once more.
+    pub fn copy(&self) -> Result<Value, Memory>
+        ensures same { IfOk result (λ value. (texts : ℕ → List ℕ) → value_of texts value ≡ value_of texts self.now) }
+        ensures elements { IfOk result (λ value. (p : Program) → AreElements p self.now → AreElements p value) }
+    {
+        match self {
+            Value::Truth(b) => Ok(Value::Truth(*b)),
+            Value::Int(z) => Ok(Value::Int(*z)),
+            Value::Text(number) => Ok(Value::Text(*number)),
+            Value::Node(node) => Ok(Value::Node(*node)),
+            Value::Texts(codes) => Ok(Value::Texts(codes.copy()?)),
+            Value::Nodes(codes) => Ok(Value::Nodes(codes.copy()?)),
+        }
+    }
+
     /// The value read at a type: a value of another type reads as the type's default.
-    pub fn read_as(self, kind: Kind) -> Value
-        ensures { (texts : ℕ → List ℕ) → texts 0 ≡ [] → value_of texts result ≡ as_kind kind (value_of texts self) }
+    pub fn read_as(self, alloc: Global, kind: Kind) -> Value
+        ensures value { (texts : ℕ → List ℕ) → texts 0 ≡ [] → value_of texts result ≡ as_kind kind (value_of texts self) }
+        ensures elements { (p : Program) → AreElements p self → AreElements p result }
     {
         match kind {
             Kind::Truth => Value::Truth(self.truth()),
             Kind::Int => Value::Int(self.int()),
             Kind::Text => Value::Text(self.text()),
             Kind::Node(_) => Value::Node(self.node()),
-            Kind::Texts => Value::NoTexts,
-            Kind::Nodes(_) => Value::NoNodes,
+            Kind::Texts => Value::Texts(self.into_texts(alloc)),
+            Kind::Nodes(_) => Value::Nodes(self.into_nodes(alloc)),
         }
     }
 
     /// The default of a type.
-    pub fn default_of(kind: Kind) -> Value
-        ensures { (texts : ℕ → List ℕ) → texts 0 ≡ [] → value_of texts result ≡ default_of kind }
+    pub fn default_of(alloc: Global, kind: Kind) -> Value
+        ensures value { (texts : ℕ → List ℕ) → texts 0 ≡ [] → value_of texts result ≡ default_of kind }
+        ensures elements { (p : Program) → AreElements p result }
     {
         match kind {
             Kind::Truth => Value::Truth(false),
             Kind::Int => Value::Int(0),
             Kind::Text => Value::Text(0),
             Kind::Node(_) => Value::Node(NodeRef(0)),
-            Kind::Texts => Value::NoTexts,
-            Kind::Nodes(_) => Value::NoNodes,
+            Kind::Texts => Value::Texts(Codes::none(alloc)),
+            Kind::Nodes(_) => Value::Nodes(Codes::none(alloc)),
         }
     }
 
-    /// The code of the value, read at a type.
-    pub fn code(self, kind: Kind) -> Code
+    /// The code of the value, read at a type. A set has the code 0, which says nothing of its elements.
+    pub fn code(&self, kind: Kind) -> Code
         ensures small { IsSmall kind result }
-        ensures value { (texts : ℕ → List ℕ) → texts 0 ≡ [] → value_at texts kind result ≡ as_kind kind (value_of texts self) }
+        ensures value { (texts : ℕ → List ℕ) → texts 0 ≡ [] → is_single kind ≡ true → value_at texts kind result ≡ as_kind kind (value_of texts self.now) }
     {
         match kind {
             Kind::Truth => u32::from(self.truth()),
@@ -243,17 +324,18 @@ impl Value {
         }
     }
 
-    /// The value of a type that a code stands for.
-    pub fn of_code(kind: Kind, code: Code) -> Value
-        ensures { (texts : ℕ → List ℕ) → value_of texts result ≡ value_at texts kind code }
+    /// The value of a type that a code stands for. Of a set type it is the empty set.
+    pub fn of_code(alloc: Global, kind: Kind, code: Code) -> Value
+        ensures value { (texts : ℕ → List ℕ) → value_of texts result ≡ value_at texts kind code }
+        ensures elements { (p : Program) → AreElements p result }
     {
         match kind {
             Kind::Truth => Value::Truth(code != 0),
             Kind::Int => Value::Int(code.cast_signed()),
             Kind::Text => Value::Text(code),
             Kind::Node(_) => Value::Node(NodeRef(code)),
-            Kind::Texts => Value::NoTexts,
-            Kind::Nodes(_) => Value::NoNodes,
+            Kind::Texts => Value::Texts(Codes::none(alloc)),
+            Kind::Nodes(_) => Value::Nodes(Codes::none(alloc)),
         }
     }
 }

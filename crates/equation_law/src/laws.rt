@@ -1,14 +1,21 @@
 // The laws of the solution and of the instances of a program, over the definitions alone.
 ghost use Rattle.std.specs.Prelude.{◌≡◌, ◌↔◌, ◌⊎◌, List, Option, IsSome, true};
+ghost use Rattle.attr_rules.specs.Expression.{Expression};
+ghost use Rattle.attr_rules.specs.Rising.{IsRising};
+ghost use Rattle.attr_rules.specs.Rules.{circular_at};
 ghost use Rattle.solutions.specs.Asking.{Ends, Halts, Meets};
-ghost use Rattle.solutions.specs.Rounds.{Graph, HasFinalValue, is_in};
-ghost use Rattle.solutions.specs.Leading.{Demanded};
+ghost use Rattle.solutions.specs.Rounds.{Ended, Graph, HasFinalValue, is_in};
+ghost use Rattle.solutions.specs.Rising.{AgreeBelow, LiesBelow, Under};
+ghost use Rattle.solutions.specs.Leading.{Demanded, Mixed};
 ghost use Rattle.equation_law.specs.Checked.{Fits, HasNoArguments, IsInstance, IsProgram, IsValue};
 ghost use Rattle.equation_law.specs.Names.{Instance, same_instance};
 ghost use Rattle.equation_law.specs.Values.{Value};
 ghost use Rattle.equation_law.specs.Program.{Program, source_instances};
-ghost use Rattle.equation_law.specs.Equations.{HasValue, equation_of, equations_of, kind_in};
-ghost use Rattle.equation_law.specs.Loops.{Chain, HasLoop};
+ghost use Rattle.equation_law.specs.Equations.{HasValue, equation_of, equations_of, is_circular, is_declared, kind_in, world_of};
+ghost use Rattle.equation_law.specs.Loops.{Chain, HasLoop, fits_in, order_in};
+ghost use Rattle.equation_law.specs.Meaning.{Place, meaning_of};
+ghost use Rattle.equation_law.specs.Orders.{AtMost};
+ghost use Rattle.equation_law.specs.Lower.{IsClosed, IsLower, joined, raised_at};
 
 /// One solution: two lists of instances that give an instance a value give it the same one.
 pub fn one_solution()
@@ -41,6 +48,12 @@ pub fn value_or_loop()
     ensures { (p : Program) → IsProgram p → (i : Instance) → IsInstance p i → ((v : Value) × HasValue p i v) ⊎ HasLoop p i }
 {}
 
+/// Rounds end over any list of instances of a program, circular ones and all: some run until nothing is added. A set has texts of the program or
+/// nodes of its tree, so inner rounds make the values of circular instances grow finitely often.
+pub fn rounds_end()
+    ensures { (p : Program) → IsProgram p → (list : List Instance) → ((i : Instance) → is_in same_instance list i ≡ true → IsInstance p i) → Ended (equations_of p) list }
+{}
+
 /// What a chain leads to from an instance with a value is what is demanded from it under the solution.
 pub fn reach_is_demanded()
     ensures { (p : Program) (i j : Instance) (v : Value) → HasValue p i v → Chain p i j ↔ Demanded (equations_of p) i j }
@@ -66,4 +79,48 @@ pub fn instances_have_equations()
 /// The instances that are listed are those of the program without arguments.
 pub fn listed_instances()
     ensures { (p : Program) (i : Instance) → (is_in same_instance (source_instances p) i ≡ true) ↔ IsInstance p i × HasNoArguments i }
+{}
+
+/// An instance of a program is circular exactly where its attribute is declared so. A query isn't.
+pub fn circular_as_declared()
+    ensures { (p : Program) → IsProgram p → (i : Instance) → IsInstance p i → (equations_of p).circular i ≡ is_declared p i }
+{}
+
+/// Growing demands: where the equation of a circular instance isn't stuck under some values, it isn't stuck under smaller ones, which stand
+/// wherever those stand, the same for undeclared instances and at most those for circular ones. It demands no more, in the same order, and its
+/// value is at most the other one.
+pub fn growing_demands()
+    ensures { (p : Program) (i : Instance) → (equations_of p).circular i ≡ true → (A B : Instance → Option Value) → LiesBelow (equations_of p).circular (order_in p) (Graph A) (Graph B) → (w : Value) (demands : List Instance) → Ends (Graph B) ((equations_of p).equation i) w demands → Under (order_in p i) (Graph A) ((equations_of p).equation i) w demands }
+{}
+
+/// The same of each rising expression, wherever it is read: this is what makes the positions of calls in it permitted.
+pub fn rising_demands()
+    ensures { (p : Program) (e : Expression) (q : Place) → IsRising (circular_at p.rules.attributes) e → (A B : Instance → Option Value) → LiesBelow (is_circular p) (order_in p) (Graph A) (Graph B) → (w : Value) (demands : List Instance) → Ends (Graph B) (meaning_of (world_of p) e q) w demands → Under AtMost (Graph A) (meaning_of (world_of p) e q) w demands }
+{}
+
+/// Growing values: where neither is stuck, under two assignments of which the first is at most the second where both have values, the value of
+/// the first is at most that of the second.
+pub fn growing_values()
+    ensures { (p : Program) (i : Instance) → (equations_of p).circular i ≡ true → (A B : Instance → Option Value) → AgreeBelow (equations_of p).circular (order_in p) (Graph A) (Graph B) → (v w : Value) (first second : List Instance) → Ends (Graph A) ((equations_of p).equation i) v first → Ends (Graph B) ((equations_of p).equation i) w second → order_in p i v w }
+{}
+
+/// A lower assignment is at most the solution wherever a circular instance has a value.
+pub fn lower_below()
+    ensures { (p : Program) (T : Instance → Value) → IsLower p T → (i : Instance) (v : Value) → (equations_of p).circular i ≡ true → HasValue p i v → order_in p i (T i) v }
+{}
+
+/// Two lower assignments joined give a lower assignment.
+pub fn lower_joined()
+    ensures { (p : Program) (T U : Instance → Value) → IsLower p T → IsLower p U → IsLower p (joined p T U) }
+{}
+
+/// A lower assignment stays one where its value of a circular instance is joined with a part of what the instance's equation comes to under
+/// values at most the assignment's.
+pub fn lower_raised()
+    ensures { (p : Program) (T B : Instance → Value) → IsLower p T → (i : Instance) → (equations_of p).circular i ≡ true → ((j : Instance) → (equations_of p).circular j ≡ true → order_in p j (B j) (T j)) → (v w : Value) (demands : List Instance) → Ends (Mixed (equations_of p) B) ((equations_of p).equation i) v demands → fits_in p i w → order_in p i w v → IsLower p (raised_at p T i w) }
+{}
+
+/// Each instance of a closed set under a lower assignment has that assignment's value.
+pub fn closed_set()
+    ensures { (p : Program) (C : List Instance) (T : Instance → Value) → IsClosed p C T → (i : Instance) → is_in same_instance C i ≡ true → HasValue p i (T i) }
 {}

@@ -3,16 +3,20 @@
 //! the codes of values and instances, and what an evaluation reads values from.
 #![tactic(auto)]
 
+mod chain;
 mod coding;
 mod laws;
 mod reader;
 mod system;
 
-pub use coding::{Args, Code, EqSite, Instance, NodeRef, Value};
+pub use chain::Chain;
+pub use code_sets::Code;
+pub use coding::{Args, EqSite, Instance, NodeRef, Single, Value};
 pub use laws::{
-    demands_instances, ended_has_value, finished_rounds, instances_have_equations,
-    listed_instances, loop_has_no_value, one_solution, reach_is_demanded, stuck_has_none,
-    value_or_loop, well_typed_values,
+    circular_as_declared, closed_set, demands_instances, ended_has_value, finished_rounds,
+    growing_demands, growing_values, instances_have_equations, listed_instances, loop_has_no_value,
+    lower_below, lower_joined, lower_raised, one_solution, reach_is_demanded, rising_demands,
+    rounds_end, stuck_has_none, value_or_loop, well_typed_values,
 };
 pub use reader::Reader;
 pub use system::{Queries, System};

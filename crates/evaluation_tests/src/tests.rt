@@ -1,12 +1,14 @@
 mod arguments;
+mod circular;
 mod expressions;
 mod inherited;
 mod program;
 mod rounds;
+mod sets;
 
 use ast_grammar::ClassId;
 use attr_rules::{AttrId, Kind, Operator, Quantifier, QueryEq, TArgs, TExpr};
-use equation_law::{Args, Instance, NodeRef, Reader, System, Value};
+use equation_law::{Args, Instance, NodeRef, Reader, Single, System, Value};
 use program::X;
 use rag_io::{Memory, Place};
 use std::alloc::{AllocFailed, Global};
@@ -59,7 +61,7 @@ fn or(alloc: Global, a: TExpr, b: TExpr) -> Result<TExpr, Failed> {
 fn choice(alloc: Global, condition: TExpr, a: TExpr, b: TExpr) -> Result<TExpr, Failed> {
     let condition = Box::new(alloc, condition)?;
     let a = Box::new(alloc, a)?;
-    Ok(TExpr::If(condition, a, HERE, Box::new(alloc, b)?))
+    Ok(TExpr::If(condition, a, Some(HERE), Box::new(alloc, b)?))
 }
 
 fn child(alloc: Global, k: u32, receiver: TExpr) -> Result<TExpr, Failed> {

@@ -5,7 +5,7 @@ use Rattle.solutions.specs.Asking.{Ends, Gives, Halts, asks, at, gives}
 use Rattle.equation_law.specs.declared.coding.Args.{Args}
 use Rattle.equation_law.specs.declared.coding.Instance.{Instance as CodedInstance}
 use Rattle.equation_law.specs.declared.coding.Value.{Value as CodedValue}
-use Rattle.equation_law.specs.Codes.{IsCoded, arguments_of, instance_of, reference_of, value_of}
+use Rattle.equation_law.specs.Codes.{AreElements, IsCoded, arguments_of, instance_of, reference_of, value_of}
 use Rattle.equation_law.specs.Equations.{attribute_kind, kind_in, world_of}
 use Rattle.equation_law.specs.Meaning.{call_at, demand}
 use Rattle.equation_law.specs.Names.{Argument, Attribute, Instance, Reference}
@@ -19,10 +19,10 @@ use Rattle.expr_eval.proofs.Forms.{gives_value, grows_self}
 
 module _ {S : Type 0} (p : Program) (r : Told S) (a : ℕ) (xs : Args) where
   -- on null it is the default of the type
-  pub call_null : (v : CodedValue) (n : ℕ) (x : CodedValue) (k : Kind) → reference_of n ≡ node (value_of (text_of p) v) → IsSound p r → n ≡ 0 → k ≡ attribute_kind p a → value_of (text_of p) x ≡ default_of k → CallReads p r r a v xs (Ok x)
-  call_null v n x k same sound null kind e = record {
+  pub call_null : (v : CodedValue) (n : ℕ) (x : CodedValue) (k : Kind) → reference_of n ≡ node (value_of (text_of p) v) → IsSound p r → n ≡ 0 → k ≡ attribute_kind p a → value_of (text_of p) x ≡ default_of k → AreElements p x → CallReads p r r a v xs (Ok x)
+  call_null v n x k same sound null kind e good = record {
     kept = grows_self sound;
-    is = λ vs are. subst (λ (o : Reference). Answers p r (call_at (world_of p) a o vs) (Ok x)) (ap reference_of (sym null) ∙ same) (gives_value (e ∙ ap default_of kind));
+    is = λ vs are. subst (λ (o : Reference). Answers p r (call_at (world_of p) a o vs) (Ok x)) (ap reference_of (sym null) ∙ same) (gives_value (e ∙ ap default_of kind) good);
   }
 
   -- at a node it is the value of the attribute there
@@ -39,7 +39,7 @@ module _ {S : Type 0} (p : Program) (r s : Told S) (grows : Grows p r s) (i : In
   pub settled : (v : CodedValue) (o : Option CodedValue) → o ≡ Some v → Settles p s i (Ok o) → DemandReads p r s i (Ok v)
   settled v o is g =
       let h = subst (λ (x : Option CodedValue). Settles p s i (Ok x)) is g in
-      record { kept = grows; is = record { demands = i ∷ []; ends = asks h.1 (subst (λ x. Ends s.has (Gives (as_kind (kind_in p i) h.0)) x []) (sym h.2) gives) } }
+      record { kept = grows; is = record { demands = i ∷ []; ends = asks h.0.1 (subst (λ x. Ends s.has (Gives (as_kind (kind_in p i) h.0.0)) x []) (sym h.0.2) gives); coded = h.1 } }
 
   -- it has none
   pub needed : (n : CodedInstance) (o : Option CodedValue) → i ≡ instance_of p n → IsCoded p n → o ≡ None → Settles p s i (Ok o) → DemandReads p r s i (Err (Need n))

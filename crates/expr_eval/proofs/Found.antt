@@ -1,5 +1,5 @@
 -- The equation of an instance, from where it is found, and what it comes to.
-use Rattle.std.proofs.Common.{◌≡◌, ℕ, ◌≤◌, true, false, cond, List, [], ◌++◌, map, length, Option, Some, None, Result, Ok, Err, sym, ap, subst, ◌∙◌, slice_get}
+use Rattle.std.proofs.Common.{◌≡◌, ℕ, ◌≤◌, true, false, cond, List, [], ◌++◌, map, length, refl, Option, Some, None, Result, Ok, Err, sym, ap, subst, ◌∙◌, slice_get}
 use Rattle.std.specs.Option.{option_and_then, option_map}
 use Rattle.std.specs.Result.{IsErr}
 use Rattle.std.proofs.lemmas.Option.{slice_get_past}
@@ -10,8 +10,9 @@ use Rattle.attr_rules.specs.Queries.{Query as Asked}
 use Rattle.attr_rules.specs.Rules.{RuleSet, body_at}
 use Rattle.solutions.specs.Asking.{Demands, Ends, Gives, gives}
 use Rattle.equation_law.specs.declared.coding.EqSite.{EqSite}
+use Rattle.equation_law.specs.declared.coding.Single.{Single as CodedSingle}
 use Rattle.equation_law.specs.declared.coding.Value.{Value as CodedValue}
-use Rattle.equation_law.specs.Codes.{reference_of, value_of}
+use Rattle.equation_law.specs.Codes.{reference_of, single_of, value_of}
 use Rattle.equation_law.specs.Equations.{Site, attribute_kind, equation_for, equation_of, equations_of, inherited_site, inherits, place_at, site_at, site_demands, synthesized_site, world_of}
 use Rattle.equation_law.specs.Meaning.{Place, meaning_of}
 use Rattle.equation_law.specs.Names.{Argument, At, Attribute, Instance, Null, Query, Reference, Source}
@@ -28,6 +29,7 @@ use Rattle.expr_eval.specs.declared.sites.Turn.TheVariants as turns
 use Rattle.expr_eval.specs.Evaluating.{AnswersTurn, Evaluates, Reads, read_at, place_kept}
 use Rattle.expr_eval.specs.Sites.{IsTurned, TurnAs, expression_or_null, query_reads, site_reads}
 use Rattle.expr_eval.proofs.Forms.{ends_next, gives_value, grows_self, halts_first}
+use Rattle.expr_eval.proofs.Plain.{plain_coded}
 
 -- the type of its value is that of the attribute
 pub attribute_site_kind : (p : Program) (a : ℕ) (r : Reference) (xs : List Argument) (x : Site) → equation_of p (Attribute a r xs) ≡ Some x → attribute_kind p a ≡ x.kind
@@ -51,10 +53,10 @@ module _ {S : Type 0} (p : Program) (r s : Told S) where
   turned_reads place e (Err Memory) res h is = failed (read_at p place e) res h.kept is
 
   -- the names of a site
-  pub names_read : (a : ℕ) (site : EqSite) {e : Expression} {names held : List CodedValue} {came : Result CodedValue Halt} → names ≡ held → map (value_of (text_of p)) held ≡ (site_place p a site).names
+  pub names_read : (a : ℕ) (site : EqSite) {e : Expression} {names held : List CodedSingle} {came : Result CodedValue Halt} → names ≡ held → map (single_of (text_of p)) held ≡ (site_place p a site).names
       → Reads p r s (place_kept (text_of p) site.node.0 names) e came → Reads p r s (site_place p a site) e came
   names_read a site {e} {names} {held} {came} same are h =
-      let at : place_kept (text_of p) site.node.0 names ≡ site_place p a site = (λ i. record { this = reference_of site.node.0; names = (ap (map (value_of (text_of p))) same ∙ are) i }) in
+      let at : place_kept (text_of p) site.node.0 names ≡ site_place p a site = (λ i. record { this = reference_of site.node.0; names = (ap (map (single_of (text_of p))) same ∙ are) i }) in
       subst (λ (o : Place). Reads p r s o e came) at h
 
   -- an equation by its number
@@ -77,7 +79,7 @@ module _ {S : Type 0} (p : Program) (r s : Told S) where
   unfolding equations_of
   instance_evaluated i site (turns.Done v) u first is h read =
       let ends = ends_next (λ x. Gives (as_kind site.kind x)) h.answer.ends (subst (λ x. Ends s.has (Gives (as_kind site.kind (value_of (text_of p) v))) x []) (sym (read.2 (text_of p) first)) gives) in
-      let done : AnswersTurn p s (site_demands (world_of p) (Some site)) (Ok (turns.Done read.0)) = record { demands = h.answer.demands ++ []; ends = ends } in
+      let done : AnswersTurn p s (site_demands (world_of p) (Some site)) (Ok (turns.Done read.0)) = record { demands = h.answer.demands ++ []; ends = ends; coded = read.3 p h.answer.coded } in
       record {
         kept = h.kept;
         answer = subst (λ o. AnswersTurn p s (site_demands (world_of p) o) (Ok u)) (sym is) (subst (λ x. AnswersTurn p s (site_demands (world_of p) (Some site)) (Ok x)) (sym read.1) done);
@@ -110,7 +112,7 @@ asked_evaluated p r s q e k t u first at kind h read =
 -- what has no equation counts as null
 pub none_evaluated : {S : Type 0} (p : Program) (r : Told S) (i : Instance) (x : CodedValue) → IsSound p r → equation_of p i ≡ None → value_of (text_of p) x ≡ Node Null → Evaluates p r r ((equations_of p).equation i) (Ok (turns.Done x))
 unfolding equations_of
-none_evaluated p r i x sound none e = record { kept = grows_self sound; answer = subst (λ o. AnswersTurn p r (site_demands (world_of p) o) (Ok (turns.Done x))) (sym none) (gives_value e) }
+none_evaluated p r i x sound none e = record { kept = grows_self sound; answer = subst (λ o. AnswersTurn p r (site_demands (world_of p) o) (Ok (turns.Done x))) (sym none) (gives_value e (plain_coded p x _ e refl)) }
 
 -- as a query that isn't there
 pub past_query : (p : Program) (q : ℕ) → length p.queries ≤ q → equation_of p (Query q) ≡ None

@@ -7,6 +7,7 @@ use Rattle.attr_rules.specs.declared.kinds.Kind.TheVariants as kinds
 use Rattle.attr_rules.specs.declared.kinds.Params.{Params}
 use Rattle.attr_rules.specs.declared.expression.TArgs.{TArgs}
 use Rattle.attr_rules.specs.Expression.{Arguments, Expression, argument, arguments_of, no_more}
+use Rattle.attr_rules.specs.Rules.{is_single}
 use Rattle.attr_rules.specs.Types.{parameter_kinds, text_kind}
 use Rattle.solutions.proofs.Runs.{ends_more}
 use Rattle.equation_law.specs.declared.coding.Args.{Args}
@@ -39,14 +40,14 @@ text_is (kinds.Node d) e = cc
 text_is kinds.Texts e = cc
 text_is (kinds.Nodes d) e = cc
 
--- an argument is read at its type
-pub read_argument : (k : Kind) (v : Value) → as_argument k (as_kind k v) ≡ as_argument k v
-read_argument kinds.Truth v = refl
-read_argument kinds.Int v = refl
-read_argument kinds.Text v = refl
-read_argument (kinds.Node d) v = refl
-read_argument kinds.Texts v = refl
-read_argument (kinds.Nodes d) v = refl
+-- the code of an argument; no argument is a set
+pub coded_argument : (texts : ℕ → List ℕ) (k : Kind) (c : ℕ) (v : Value) → (is_single k ≡ true → value_at texts k c ≡ as_kind k v) → as_argument k (value_at texts k c) ≡ as_argument k v
+coded_argument texts kinds.Truth c v h = ap (as_argument kinds.Truth) (h refl)
+coded_argument texts kinds.Int c v h = ap (as_argument kinds.Int) (h refl)
+coded_argument texts kinds.Text c v h = ap (as_argument kinds.Text) (h refl)
+coded_argument texts (kinds.Node d) c v h = ap (as_argument (kinds.Node d)) (h refl)
+coded_argument texts kinds.Texts c v h = refl
+coded_argument texts (kinds.Nodes d) c v h = refl
 
 module _ (p : Program) where
   -- no codes are always few enough

@@ -1,12 +1,14 @@
--- A form over a list, from how far it has gone.
-use Rattle.std.proofs.Common.{◌≡◌, ℕ, suc, ◌+◌, Bool, false, cond, List, map, refl, sym, ap, subst, arith}
+-- A form over a list or a set, from how far it has gone.
+use Rattle.std.proofs.Common.{◌≡◌, ℕ, suc, ◌+◌, Bool, false, cond, List, map, sym, ap, subst, arith}
 use Rattle.std.specs.List.{range_with_len}
 use Rattle.solutions.specs.Asking.{Demands, Gives, Ends, Halts}
 use Rattle.solutions.proofs.Runs.{ends_more}
-use Rattle.equation_law.specs.Meaning.{at_each, first_with}
+use Rattle.attr_rules.specs.declared.kinds.Kind.{Kind}
+use Rattle.attr_rules.specs.declared.expression.SetOperator.TheVariants.{Union}
+use Rattle.equation_law.specs.Meaning.{at_each, first_with, united}
 use Rattle.equation_law.specs.Names.{Instance}
-use Rattle.equation_law.specs.Values.{Value, truth}
-use Rattle.expr_eval.specs.Going.{Passed, Went, further, more, none, nowhere}
+use Rattle.equation_law.specs.Values.{Value, default_of, set_operate, truth}
+use Rattle.expr_eval.specs.Going.{Joined, Passed, Went, further, joined, more, none, nothing, nowhere}
 use Rattle.expr_eval.proofs.Forms.{ends_next, halts_next}
 
 -- it has gone as far where more has values
@@ -17,6 +19,10 @@ went_more g (further w e) = further (went_more g w) (ends_more g e)
 pub passed_more : {A B : Instance → Value → Type 0} → ((i : Instance) (v : Value) → A i v → B i v) → {element : ℕ → Value} {f : Value → Demands Instance Value} {n : ℕ} → Passed A element f n → Passed B element f n
 passed_more g none = none
 passed_more g (more w e denied) = more (passed_more g w) (ends_more g e) denied
+
+pub joined_more : {A B : Instance → Value → Type 0} → ((i : Instance) (v : Value) → A i v → B i v) → {element : ℕ → Value} {f : Value → Demands Instance Value} {t : Kind} {n : ℕ} {w : Value} → Joined A element f t n w → Joined B element f t n w
+joined_more g nothing = nothing
+joined_more g (joined j e) = joined (joined_more g j) (ends_more g e)
 
 -- so many elements from a place on
 abbrev from_on : (ℕ → Value) → ℕ → ℕ → List Value
@@ -62,3 +68,18 @@ module _ {A : Instance → Value → Type 0} (element : ℕ → Value) (f : Valu
       let here = subst (λ c. Halts A c j ds) (sym (skipped element f n m x denied)) e in
       let r = passed_halts w (suc m) (halts_next (λ y. cond (truth y) (Gives (element n)) (first_with (from_on element (n + 1) m) f)) first here) in
       (r.0, subst (λ k. Halts A (first_with (from_on element 0 k) f) j r.0) (one_more n m) r.1)
+
+  module _ (t : Kind) where
+    -- what the rest ends with, the whole does
+    pub joined_ends : {n : ℕ} {w : Value} → Joined A element f t n w → (m : ℕ) {v : Value} {ds : List Instance} → Ends A (united t w (from_on element n m) f) v ds → (es : List Instance) × Ends A (united t (default_of t) (from_on element 0 (n + m)) f) v es
+    joined_ends nothing m {v = v} {ds = ds} e = (ds, subst (λ k. Ends A (united t (default_of t) (from_on element 0 k) f) v ds) (none_more m) e)
+    joined_ends (joined {n = n} {w = w} j first) m {v = v} e =
+        let r = joined_ends j (suc m) (ends_next (λ x. united t (set_operate Union t w x) (from_on element (n + 1) m) f) first e) in
+        (r.0, subst (λ k. Ends A (united t (default_of t) (from_on element 0 k) f) v r.0) (one_more n m) r.1)
+
+    -- where the rest halts, the whole does
+    pub joined_halts : {n : ℕ} {w : Value} → Joined A element f t n w → (m : ℕ) {i : Instance} {ds : List Instance} → Halts A (united t w (from_on element n m) f) i ds → (es : List Instance) × Halts A (united t (default_of t) (from_on element 0 (n + m)) f) i es
+    joined_halts nothing m {i = i} {ds = ds} e = (ds, subst (λ k. Halts A (united t (default_of t) (from_on element 0 k) f) i ds) (none_more m) e)
+    joined_halts (joined {n = n} {w = w} j first) m {i = i} e =
+        let r = joined_halts j (suc m) (halts_next (λ x. united t (set_operate Union t w x) (from_on element (n + 1) m) f) first e) in
+        (r.0, subst (λ k. Halts A (united t (default_of t) (from_on element 0 k) f) i r.0) (one_more n m) r.1)

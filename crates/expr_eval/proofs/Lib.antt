@@ -6,4 +6,5 @@ pub mod Given
 pub mod Going
 pub mod Names
 pub mod Over
+pub mod Plain
 pub mod Trees

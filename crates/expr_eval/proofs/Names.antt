@@ -1,18 +1,29 @@
 -- The values of names.
-use Rattle.std.proofs.Common.{◌≡◌, ℕ, zero, suc, List, [], ◌∷◌, map, Some, None, slice_get, refl, sym, ap}
-use Rattle.equation_law.specs.declared.coding.Value.{Value as CodedValue}
-use Rattle.equation_law.specs.Codes.{value_of}
+use Rattle.std.proofs.Common.{◌≡◌, ℕ, zero, suc, ◌+◌, arith, List, [], ◌∷◌, length, map, Some, None, slice_get, refl, sym, ap, ◌∙◌}
+use Rattle.equation_law.specs.declared.coding.Single.{Single as CodedSingle}
+use Rattle.equation_law.specs.Codes.{single_of}
 use Rattle.equation_law.specs.Meaning.{named}
+use Rattle.std.specs.List.{range_with_len}
 use Rattle.equation_law.specs.Names.{Null}
-use Rattle.equation_law.specs.Values.{Node}
+use Rattle.equation_law.specs.Values.{Node, Value}
 
 module _ (texts : ℕ → List ℕ) where
-  pub named_there : (names : List CodedValue) (k : ℕ) (v : CodedValue) → slice_get names k ≡ Some v → value_of texts v ≡ named (map (value_of texts) names) k
+  pub named_there : (names : List CodedSingle) (k : ℕ) (v : CodedSingle) → slice_get names k ≡ Some v → single_of texts v ≡ named (map (single_of texts) names) k
   named_there [] k v e = cc
-  named_there (x ∷ names) zero v e = let same : x ≡ v = cc in ap (value_of texts) (sym same)
+  named_there (x ∷ names) zero v e = let same : x ≡ v = cc in ap (single_of texts) (sym same)
   named_there (x ∷ names) (suc k) v e = named_there names k v e
 
-  pub named_nowhere : (names : List CodedValue) (k : ℕ) → slice_get names k ≡ None → Node Null ≡ named (map (value_of texts) names) k
+  pub named_nowhere : (names : List CodedSingle) (k : ℕ) → slice_get names k ≡ None → Node Null ≡ named (map (single_of texts) names) k
   named_nowhere [] k e = refl
   named_nowhere (x ∷ names) zero e = cc
   named_nowhere (x ∷ names) (suc k) e = named_nowhere names k e
+
+-- what is asked from a place on, with one more in front, is what is asked one place earlier
+shifted : (v : Value) (vs : List Value) (n m : ℕ) → map (named (v ∷ vs)) (range_with_len (suc n) m) ≡ map (named vs) (range_with_len n m)
+shifted v vs n zero = refl
+shifted v vs n (suc m) = let one : suc n + 1 ≡ suc (n + 1) = omega arith in ap (λ ws. named vs n ∷ ws) (ap (λ k. map (named (v ∷ vs)) (range_with_len k m)) one ∙ shifted v vs (n + 1) m)
+
+-- those at all places are all
+pub all_named : (vs : List Value) → map (named vs) (range_with_len 0 (length vs)) ≡ vs
+all_named [] = refl
+all_named (v ∷ vs) = ap (λ ws. v ∷ ws) (shifted v vs 0 (length vs) ∙ all_named vs)

@@ -1,29 +1,40 @@
--- What a form over a list says, from what its condition says at the elements.
+-- What a form over a list or a set says, from what is said at the elements.
 use Rattle.std.proofs.Common.{◌≡◌, ℕ, suc, ◌+◌, ◌-◌, ◌<◌, Bool, true, false, cond, [], map, Result, Ok, Err, refl, sym, ap, subst, ◌∙◌, arith}
 use Rattle.std.specs.List.{range_with_len}
 use Rattle.std.specs.Result.{IsErr, IsErrAnd}
 use Rattle.std.proofs.lemmas.Result.{err_from_is_err_and}
 use Rattle.attr_rules.specs.declared.expression.TExpr.{TExpr}
+use Rattle.attr_rules.specs.declared.expression.SetOperator.TheVariants.{Union}
+use Rattle.attr_rules.specs.declared.kinds.Kind.{Kind}
 use Rattle.attr_rules.specs.Expression.{Expression, expression_of}
 use Rattle.solutions.specs.Asking.{Demands, Ends, Gives, gives}
 use Rattle.equation_law.specs.declared.coding.Value.{Value as CodedValue}
-use Rattle.equation_law.specs.Codes.{value_of}
-use Rattle.equation_law.specs.Meaning.{Place, at_each, first_with}
+use Rattle.equation_law.specs.Codes.{AreElements, value_of}
+use Rattle.equation_law.specs.Meaning.{Place, at_each, first_with, united, with_name}
 use Rattle.equation_law.specs.Names.{Instance, Null}
 use Rattle.equation_law.specs.Program.{Program, text_of}
 use Rattle.equation_law.specs.Reading.{Grows, Told}
-use Rattle.equation_law.specs.Values.{Value, Node, Truth, truth}
+use Rattle.equation_law.specs.Values.{Value, Node, Truth, default_of, set_operate, truth}
 use Rattle.expr_eval.specs.declared.evaluation.Halt.{Halt}
 use Rattle.expr_eval.specs.declared.evaluation.Halt.TheVariants.{Need, Memory}
 use Rattle.expr_eval.specs.Elements.{OverReads, ReadsAt, read_with}
-use Rattle.expr_eval.specs.Evaluating.{Answers}
-use Rattle.expr_eval.specs.Going.{Passed, Went, further, more}
+use Rattle.expr_eval.specs.Evaluating.{Answers, Reads}
+use Rattle.expr_eval.specs.Going.{Joined, Passed, Went, further, joined, more}
 use Rattle.expr_eval.proofs.Forms.{ends_next, grows_then, halts_first}
-use Rattle.expr_eval.proofs.Going.{passed_ends, passed_halts, passed_more, went_ends, went_halts, went_more}
+use Rattle.expr_eval.proofs.Going.{joined_ends, joined_halts, joined_more, passed_ends, passed_halts, passed_more, went_ends, went_halts, went_more}
+use Rattle.expr_eval.proofs.Plain.{is_plain, plain_coded}
 
 -- the answer at a value
 pub at_value : {S : Type 0} {p : Program} {r s : Told S} {place : Place} {x y : Value} {e : Expression} {res : Result Bool Halt} → x ≡ y → ReadsAt p r s place x e res → ReadsAt p r s place y e res
 at_value {p = p} {r = r} {s = s} {place = place} {e = e} {res = res} same a = subst (λ (z : Value). ReadsAt p r s place z e res) same a
+
+-- what an expression says with a value in front of the names
+pub with_value : {S : Type 0} {p : Program} {r s : Told S} {place : Place} {x y : Value} {e : Expression} {res : Result CodedValue Halt} → x ≡ y → Reads p r s (with_name place x) e res → Reads p r s (with_name place y) e res
+with_value {p = p} {r = r} {s = s} {place = place} {e = e} {res = res} same a = subst (λ (z : Value). Reads p r s (with_name place z) e res) same a
+
+-- a condition, by its value
+pub truth_of : {S : Type 0} {p : Program} {r s : Told S} {place : Place} {x : Value} {e : Expression} {v : CodedValue} {b : Bool} → Reads p r s (with_name place x) e (Ok v) → b ≡ truth (value_of (text_of p) v) → ReadsAt p r s place x e (Ok b)
+truth_of {v = v} a is = record { kept = a.kept; is = (v, a.is, is) }
 
 -- the fault that is handed on
 pub thrown_over : {S : Type 0} {p : Program} {r s : Told S} {place : Place} {o : (Value → Demands Instance Value) → Demands Instance Value} {e : Expression} {h : Halt} {res : Result CodedValue Halt} → IsErr res × IsErrAnd res (λ m. m ≡ h) → OverReads p r s place o e (Err h) → OverReads p r s place o e res
@@ -61,7 +72,7 @@ module _ {S : Type 0} (p : Program) (r m s : Told S) (place : Place) (e : Expres
         let same : n + 0 ≡ count = omega (arith, all) in
         record {
           kept = before;
-          is = subst (λ k. Answers p m (at_each put start (map element (range_with_len 0 k)) condition) (Ok x)) same (record { demands = whole.0; ends = whole.1 });
+          is = subst (λ k. Answers p m (at_each put start (map element (range_with_len 0 k)) condition) (Ok x)) same (record { demands = whole.0; ends = whole.1; coded = plain_coded p x _ is refl });
         }
       where
         ended : Ends m.has (Gives (Truth b)) (Truth b) []
@@ -86,15 +97,15 @@ module _ {S : Type 0} (p : Program) (r m s : Told S) (place : Place) (e : Expres
         }
     first_stopped n Memory within before passed a = record { kept = grows_then before a.kept; is = tt }
 
-    pub first_found : (n : ℕ) (x : CodedValue) → n < count → Grows p r m → Passed m.has element condition n → ReadsAt p m s place (element n) e (Ok true) → value_of (text_of p) x ≡ element n → OverReads p r s place first e (Ok x)
-    first_found n x within before passed a is =
+    pub first_found : (n : ℕ) (x : CodedValue) → n < count → Grows p r m → Passed m.has element condition n → ReadsAt p m s place (element n) e (Ok true) → value_of (text_of p) x ≡ element n → is_plain (element n) ≡ true → OverReads p r s place first e (Ok x)
+    first_found n x within before passed a is plain =
         let rest = first_with (map element (range_with_len (n + 1) (count - suc n))) condition in
         let taken : cond (truth (value_of (text_of p) a.is.0)) (Gives (element n)) rest ≡ Gives (value_of (text_of p) x) = ap (λ b. cond b (Gives (element n)) rest) (sym a.is.2) ∙ ap Gives (sym is) in
         let ends = ends_next (λ v. cond (truth v) (Gives (element n)) rest) a.is.1.ends (subst (λ c. Ends s.has c (value_of (text_of p) x) []) (sym taken) gives) in
         let whole = passed_ends element condition (passed_more a.kept.values passed) (suc (count - suc n)) ends in
         record {
           kept = grows_then before a.kept;
-          is = subst (λ k. Answers p s (first_with (map element (range_with_len 0 k)) condition) (Ok x)) (rest_of n count within) (record { demands = whole.0; ends = whole.1 });
+          is = subst (λ k. Answers p s (first_with (map element (range_with_len 0 k)) condition) (Ok x)) (rest_of n count within) (record { demands = whole.0; ends = whole.1; coded = plain_coded p x (element n) is plain });
         }
 
     pub first_ended : (n : ℕ) (x : CodedValue) → n ≡ count → Grows p r m → Passed m.has element condition n → value_of (text_of p) x ≡ Node Null → OverReads p r m place first e (Ok x)
@@ -103,7 +114,7 @@ module _ {S : Type 0} (p : Program) (r m s : Told S) (place : Place) (e : Expres
         let same : n + 0 ≡ count = omega (arith, all) in
         record {
           kept = before;
-          is = subst (λ k. Answers p m (first_with (map element (range_with_len 0 k)) condition) (Ok x)) same (record { demands = whole.0; ends = whole.1 });
+          is = subst (λ k. Answers p m (first_with (map element (range_with_len 0 k)) condition) (Ok x)) same (record { demands = whole.0; ends = whole.1; coded = plain_coded p x _ is refl });
         }
       where
         null : Ends m.has (Gives (Node Null)) (Node Null) []
@@ -112,3 +123,36 @@ module _ {S : Type 0} (p : Program) (r m s : Told S) (place : Place) (e : Expres
     pub first_further : (n : ℕ) → Passed m.has element condition n → ReadsAt p m s place (element n) e (Ok false) → Passed s.has element condition (n + 1)
     first_further n passed a =
         more (passed_more a.kept.values passed) a.is.1.ends (sym a.is.2)
+
+  module _ (t : Kind) (count : ℕ) where
+    abbrev joins : (Value → Demands Instance Value) → Demands Instance Value
+    joins f = united t (default_of t) (map element (range_with_len 0 count)) f
+
+    pub join_stopped : (n : ℕ) (w : Value) (h : Halt) → n < count → Grows p r m → Joined m.has element condition t n w → Reads p m s (with_name place (element n)) e (Err h) → OverReads p r s place joins e (Err h)
+    join_stopped n w (Need j) within before so_far a =
+        let halts = halts_first (λ v. united t (set_operate Union t w v) (map element (range_with_len (n + 1) (count - suc n))) condition) a.is.halts in
+        let whole = joined_halts element condition t (joined_more a.kept.values so_far) (suc (count - suc n)) halts in
+        record {
+          kept = grows_then before a.kept;
+          is = subst (λ k. Answers p s (united t (default_of t) (map element (range_with_len 0 k)) condition) (Err (Need j))) (rest_of n count within) (record { demands = whole.0; halts = whole.1; coded = a.is.coded });
+        }
+    join_stopped n w Memory within before so_far a = record { kept = grows_then before a.kept; is = tt }
+
+    pub join_ended : (n : ℕ) (x : CodedValue) → n ≡ count → Grows p r m → Joined m.has element condition t n (value_of (text_of p) x) → AreElements p x → OverReads p r m place joins e (Ok x)
+    join_ended n x all before so_far good =
+        let whole = joined_ends element condition t so_far 0 ended in
+        let same : n + 0 ≡ count = omega (arith, all) in
+        record {
+          kept = before;
+          is = subst (λ k. Answers p m (united t (default_of t) (map element (range_with_len 0 k)) condition) (Ok x)) same (record { demands = whole.0; ends = whole.1; coded = good });
+        }
+      where
+        ended : Ends m.has (Gives (value_of (text_of p) x)) (value_of (text_of p) x) []
+        ended = gives
+
+    pub join_further : (n : ℕ) (w : Value) (v : CodedValue) → Joined m.has element condition t n w → Reads p m s (with_name place (element n)) e (Ok v) → Joined s.has element condition t (n + 1) (set_operate Union t w (value_of (text_of p) v))
+    join_further n w v so_far a = joined (joined_more a.kept.values so_far) a.is.ends
+
+    -- there is not enough memory for what follows
+    pub join_short : (res : Result CodedValue Halt) → Grows p r s → IsErr res × IsErrAnd res (λ m. m ≡ Memory) → OverReads p r s place joins e res
+    join_short res before f = thrown_over f (record { kept = before; is = tt })

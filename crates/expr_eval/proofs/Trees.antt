@@ -44,3 +44,17 @@ child_within (x ∷ nodes) n k i m h = let w = from_within 1 nodes n k i m h in 
 pub child_fits : (nodes : List Node) (n k i : ℕ) (o : Option ℕ) → length nodes < 2 ^ 32 → o ≡ child_in nodes n k i → IfSome o (λ m. m + 1 < 2 ^ 32)
 child_fits nodes n k i None few e = tt
 child_fits nodes n k i (Some m) few e = let w = child_within nodes n k i m (sym e) in omega (arith, w, few)
+
+-- at a place past all nodes nothing hangs
+from_counted : (i : ℕ) (nodes : List Node) (n k : ℕ) → length (hanging_from i nodes n k) ≤ length nodes
+from_counted i [] n k = omega arith
+from_counted i (x ∷ nodes) n k =
+    let rest = from_counted (suc i) nodes n k in
+    elim ((x.parent == n) && (x.component == k)) as (λ b. length (if b then i ∷ hanging_from (suc i) nodes n k else hanging_from (suc i) nodes n k) ≤ suc (length nodes)) [
+      | true ↦ omega (arith, rest)
+      | false ↦ omega (arith, rest)
+    ]
+
+pub none_behind : (nodes : List Node) (n k i : ℕ) → length nodes ≤ i → child_in nodes n k i ≡ None
+none_behind [] n k i h = slice_get_past [] i (omega arith)
+none_behind (x ∷ nodes) n k i h = let few = from_counted 1 nodes n k in slice_get_past (hanging_from 1 nodes n k) i (omega (arith, few, h))

@@ -1,23 +1,30 @@
--- The elements of a list that is gone over.
+-- The elements of a list or a set that is gone over.
 use Rattle.std.specs.Prelude.{◌≡◌, ℕ, pos, Bool, true, false, ◌&&◌, ◌||◌, List, ◌∷◌, Result, Ok, Err, map}
 use Rattle.std.specs.List.{range_with_len}
 use Rattle.attr_rules.specs.Expression.{Expression}
 use Rattle.solutions.specs.Asking.{Demands}
+use Rattle.equation_law.specs.declared.coding.Single.{Single as CodedSingle}
 use Rattle.equation_law.specs.declared.coding.Value.{Value as CodedValue}
 use Rattle.equation_law.specs.declared.system.System.{System}
-use Rattle.equation_law.specs.Codes.{reference_of, value_of}
-use Rattle.equation_law.specs.Meaning.{Place, element_at, with_name}
+use Rattle.equation_law.specs.Codes.{reference_of, single_of, value_of}
+use Rattle.equation_law.specs.Meaning.{Place, element_at, named, with_name}
 use Rattle.equation_law.specs.Names.{Instance}
 use Rattle.equation_law.specs.Program.{Program, text_of}
 use Rattle.equation_law.specs.Reading.{Grows, Told}
 use Rattle.equation_law.specs.Values.{Value, Node, truth}
 use Rattle.expr_eval.specs.declared.accessors.Elements.{Elements}
+use Rattle.expr_eval.specs.declared.accessors.Origin.{Origin}
+use Rattle.expr_eval.specs.declared.accessors.Origin.TheVariants as origins
 use Rattle.expr_eval.specs.declared.evaluation.Halt.{Halt}
-use Rattle.expr_eval.specs.Evaluating.{Answers, Given, read_at, world_in}
+use Rattle.expr_eval.specs.Evaluating.{Answers, Given, read_at, texts_in, world_in}
 
--- the element at a place
+-- the element at a place, by where elements come from
+abbrev pub element_from : System → Origin → ℕ → Value
+element_from s (origins.List n k) i = Node (element_at (world_in s) k (reference_of n.0) (pos i))
+element_from s (origins.Set xs) i = named (map (single_of (texts_in s)) xs) i
+
 abbrev pub element_in : System → Elements → ℕ → Value
-element_in s e i = Node (element_at (world_in s) e.component (reference_of e.owner.0) (pos i))
+element_in s e i = element_from s e.origin i
 
 -- so many of them from the i-th on
 abbrev pub elements_from : System → Elements → ℕ → ℕ → List Value
@@ -27,8 +34,8 @@ abbrev pub elements_in : System → Elements → List Value
 elements_in s e = elements_from s e 0 e.count
 
 -- a value stands in front of the names
-abbrev pub Rooms : List CodedValue → List CodedValue → Type 0
-Rooms names more = (v : CodedValue) × (more ≡ v ∷ names)
+abbrev pub Rooms : List CodedSingle → List CodedSingle → Type 0
+Rooms names more = (v : CodedSingle) × (more ≡ v ∷ names)
 
 -- whether all hold, or any
 abbrev pub put : Bool → Bool → Bool → Bool
@@ -48,7 +55,7 @@ pub record ReadsAt {S : Type 0} (p : Program) (r s : Told S) (place : Place) (el
   pub kept : Grows p r s
   pub is : AnswersTruth p s (read_with p place e element) result
 
--- the answer to a condition at the elements of a list, by what is demanded of them
+-- the answer to what is said at the elements of a list or a set, by what is demanded of them
 pub record OverReads {S : Type 0} (p : Program) (r s : Told S) (place : Place) (over : (Value → Demands Instance Value) → Demands Instance Value) (e : Expression) (result : Result CodedValue Halt) : Type 0 where
   pub kept : Grows p r s
   pub is : Answers p s (over (read_with p place e)) result

@@ -2,13 +2,14 @@
 use Rattle.std.specs.Prelude.{◌≡◌, ℕ, Bool, true, false, List, [], ◌∷◌, Result, Ok, Err, map}
 use Rattle.rag_io.specs.declared.Memory.{Memory as NoMemory}
 use Rattle.attr_rules.specs.declared.kinds.Kind.{Kind}
-use Rattle.attr_rules.specs.Expression.{Arguments, Expression, argument, no_more, Not, Negate, Binary, And, Or, If}
+use Rattle.attr_rules.specs.Expression.{Arguments, Expression, argument, no_more, Empty, QuantifiedSet, Each, EachOfSet, Sets, Single, Contains, Size, Not, Negate, Binary, And, Or, OrBoth, If}
 use Rattle.solutions.specs.Asking.{Demands, Ends, Halts}
 use Rattle.equation_law.specs.declared.coding.Args.{Args}
 use Rattle.equation_law.specs.declared.coding.Instance.{Instance as CodedInstance}
+use Rattle.equation_law.specs.declared.coding.Single.{Single as CodedSingle}
 use Rattle.equation_law.specs.declared.coding.Value.{Value as CodedValue}
 use Rattle.equation_law.specs.declared.system.System.{System}
-use Rattle.equation_law.specs.Codes.{AreCodes, IsCoded, IsRow, arguments_at, arguments_of, codes_in, instance_of, reference_of, value_of}
+use Rattle.equation_law.specs.Codes.{AreCodes, AreElements, IsCoded, IsRow, arguments_at, arguments_of, codes_in, instance_of, reference_of, single_of, value_of}
 use Rattle.equation_law.specs.Equations.{kind_in, world_of}
 use Rattle.equation_law.specs.Meaning.{Place, World, call_at, demand, meaning_of, with_arguments}
 use Rattle.equation_law.specs.Names.{Instance}
@@ -29,10 +30,11 @@ world_in s = world_of (program_of s)
 abbrev pub texts_in : System → ℕ → List ℕ
 texts_in s = text_of (program_of s)
 
--- a value, which comes under what the reader has
+-- a value, which comes under what the reader has; the elements of a set are coded well
 pub record Given {S : Type 0} (p : Program) (s : Told S) (c : Demands Instance Value) (v : CodedValue) : Type 0 where
   pub demands : List Instance
   pub ends : Ends s.has c (value_of (text_of p) v) demands
+  pub coded : AreElements p v
 
 -- the first demand that the reader has no value for
 pub record Stopped {S : Type 0} (p : Program) (s : Told S) (c : Demands Instance Value) (i : CodedInstance) : Type 0 where
@@ -50,8 +52,8 @@ abbrev pub read_at : Program → Place → Expression → Demands Instance Value
 read_at p place e = meaning_of (world_of p) e place
 
 -- the node of an equation, and the values of the names
-abbrev pub place_kept : (ℕ → List ℕ) → ℕ → List CodedValue → Place
-place_kept texts this names = record { this = reference_of this; names = map (value_of texts) names }
+abbrev pub place_kept : (ℕ → List ℕ) → ℕ → List CodedSingle → Place
+place_kept texts this names = record { this = reference_of this; names = map (single_of texts) names }
 
 abbrev pub place_in : Context → Place
 place_in c = place_kept (texts_in c.system.now) c.this.0 c.names.now
@@ -110,12 +112,40 @@ pub record Evaluates {S : Type 0} (p : Program) (r s : Told S) (c : Demands Inst
   pub kept : Grows p r s
   pub answer : AnswersTurn p s c result
 
--- an operator with its operands
+-- a form over the elements of a set, or one that joins what is said at elements
+abbrev pub is_over_form : Expression → Bool
+is_over_form (QuantifiedSet q e b) = true
+is_over_form (Each t k e b) = true
+is_over_form (EachOfSet t e b) = true
+is_over_form _ = false
+
+-- a form of sets
+abbrev pub is_set_form : Expression → Bool
+is_set_form Empty = true
+is_set_form (Sets o t a b) = true
+is_set_form (Single e) = true
+is_set_form (Contains a b) = true
+is_set_form (Size e) = true
+is_set_form (QuantifiedSet q e b) = true
+is_set_form (Each t k e b) = true
+is_set_form (EachOfSet t e b) = true
+is_set_form _ = false
+
+-- an operator with its operands, or a form of sets
 abbrev pub is_operation : Expression → Bool
 is_operation (Not e) = true
 is_operation (Negate e) = true
 is_operation (Binary o a b) = true
 is_operation (And a b) = true
 is_operation (Or a b) = true
-is_operation (If c a b) = true
+is_operation (OrBoth a b) = true
+is_operation (If c a at b) = true
+is_operation Empty = true
+is_operation (Sets o t a b) = true
+is_operation (Single e) = true
+is_operation (Contains a b) = true
+is_operation (Size e) = true
+is_operation (QuantifiedSet q e b) = true
+is_operation (Each t k e b) = true
+is_operation (EachOfSet t e b) = true
 is_operation _ = false

@@ -1,8 +1,10 @@
--- How far a form over a list has gone.
+-- How far a form over a list or a set has gone.
 use Rattle.std.specs.Prelude.{◌≡◌, ℕ, ◌+◌, Bool, false, List}
 use Rattle.solutions.specs.Asking.{Demands, Ends}
 use Rattle.equation_law.specs.Names.{Instance}
-use Rattle.equation_law.specs.Values.{Value, truth}
+use Rattle.attr_rules.specs.declared.kinds.Kind.{Kind}
+use Rattle.attr_rules.specs.declared.expression.SetOperator.TheVariants.{Union}
+use Rattle.equation_law.specs.Values.{Value, default_of, set_operate, truth}
 
 module _ (A : Instance → Value → Type 0) (element : ℕ → Value) (condition : Value → Demands Instance Value) where
   -- the condition was evaluated at so many elements, and what it said put together
@@ -14,3 +16,8 @@ module _ (A : Instance → Value → Type 0) (element : ℕ → Value) (conditio
   pub data Passed : ℕ → Type 0 where
     none : Passed 0
     more : {n : ℕ} {v : Value} {ds : List Instance} → Passed n → Ends A (condition (element n)) v ds → truth v ≡ false → Passed (n + 1)
+
+  -- what was said at so many elements, joined to a set of a type
+  pub data Joined (t : Kind) : ℕ → Value → Type 0 where
+    nothing : Joined t 0 (default_of t)
+    joined : {n : ℕ} {w v : Value} {ds : List Instance} → Joined t n w → Ends A (condition (element n)) v ds → Joined t (n + 1) (set_operate Union t w v)

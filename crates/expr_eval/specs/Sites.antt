@@ -9,7 +9,7 @@ use Rattle.attr_rules.specs.Rules.{body_at}
 use Rattle.solutions.specs.Asking.{Demands}
 use Rattle.equation_law.specs.declared.coding.EqSite.{EqSite}
 use Rattle.equation_law.specs.declared.coding.Value.{Value as CodedValue}
-use Rattle.equation_law.specs.Codes.{value_of}
+use Rattle.equation_law.specs.Codes.{AreElements, value_of}
 use Rattle.equation_law.specs.Equations.{place_at}
 use Rattle.inherited_walk.specs.Sites.{site_place}
 use Rattle.equation_law.specs.Names.{Instance}
@@ -35,7 +35,7 @@ query_reads p q = read_at p (place_at 0) q.body
 
 -- a turn whose value is read at a type
 abbrev pub TurnAs : Kind → Turn → Turn → Type 0
-TurnAs k (turns.Done v) t = (w : CodedValue) × (t ≡ turns.Done w) × ((texts : ℕ → List ℕ) → texts 0 ≡ [] → value_of texts w ≡ as_kind k (value_of texts v))
+TurnAs k (turns.Done v) t = (w : CodedValue) × (t ≡ turns.Done w) × ((texts : ℕ → List ℕ) → texts 0 ≡ [] → value_of texts w ≡ as_kind k (value_of texts v)) × ((p : Program) → AreElements p v → AreElements p w)
 TurnAs k (turns.Need i) t = t ≡ turns.Need i
 
 -- what an expression comes to, as a turn

@@ -1,17 +1,23 @@
 // Accessors of the components of a node.
-ghost use Rattle.std.specs.Prelude.{◌≡◌, ℕ, List, []};
+ghost use Rattle.std.specs.Prelude.{◌≡◌, ℕ, pos, List, []};
 ghost use Rattle.tree_arena.specs.Nodes.{child_in, count_in, token_in};
 ghost use Rattle.equation_law.specs.Codes.{reference_of, value_of};
 ghost use Rattle.equation_law.specs.Equations.{source_or_null, source_of};
 ghost use Rattle.equation_law.specs.Equations as spec;
 ghost use Rattle.equation_law.specs.Meaning.{cast_to, child_at as child_on, count_at as count_on, element_at as element_on, is_instance, is_there, token_at as token_on};
 ghost use Rattle.equation_law.specs.Systems.{program_of};
+ghost use Rattle.equation_law.specs.Codes.{AreElements};
+ghost use Rattle.equation_law.specs.Program.{Program};
 ghost use Rattle.equation_law.specs.Values.{Int, Node, Truth, int, node};
 ghost use Rattle.expr_eval.specs.Evaluating.{texts_in, world_in};
 
 use ast_grammar::ClassId;
 use attr_rules::Kind;
-use equation_law::{NodeRef, System, Value};
+use equation_law::{NodeRef, Single, System, Value};
+use rag_io::Memory;
+use set_values::elements;
+use std::alloc::Global;
+use std::marker::Model;
 use tree_arena::Tree;
 
 /// The source node of a number, or null where the tree has none.
@@ -91,20 +97,73 @@ pub(crate) fn element(system: &System, k: u32, receiver: Value, place: Value) ->
     }
 }
 
-/// The list of a receiver at a component.
-#[derive(Clone, Copy)]
+/// The element of a node's list at a place, or null where there is none.
+fn listed_at(system: &System, owner: NodeRef, k: u32, place: usize) -> NodeRef
+    ensures { reference_of result.0 ≡ element_on (world_in system.now) k (reference_of owner.0) (pos place) }
+{
+    let Some(node) = owner.source() else {
+        return NodeRef(0);
+    };
+    let tree = system.tree();
+    if place >= tree.len() as usize {
+        return NodeRef(0);
+    }
+    child_at(tree, node, k, place as u32)
+}
+
+/// Single values in a row.
+#[derive(Drop)]
+pub(crate) struct Singles {
+    values: Vec<Single>,
+}
+
+impl Model for Singles {
+    ghost use Rattle.std.specs.Prelude.{List};
+    ghost use Rattle.equation_law.specs.declared.coding.Single.{Single as CodedSingle};
+
+    ghost Value = { List CodedSingle };
+
+    ghost view = { λ singles. singles.values.items };
+}
+
+impl Singles {
+    ghost use Rattle.std.specs.Prelude.{map};
+    ghost use Rattle.equation_law.specs.Codes.{single_of};
+    ghost use Rattle.equation_law.specs.Meaning.{named};
+
+    /// One of them by its place, or null where there is none.
+    fn get(&self, place: usize) -> Single
+        ensures { (texts : ℕ → List ℕ) → single_of texts result ≡ named (map (single_of texts) self.now) place }
+    {
+        match self.values.get(place) {
+            Some(value) => *value,
+            None => Single::Node(NodeRef(0)),
+        }
+    }
+}
+
+/// Where elements come from: the list of a node at a component, or a set, of which they are taken.
+#[derive(Drop)]
+pub(crate) enum Origin {
+    List(NodeRef, u32),
+    Set(Singles),
+}
+
+/// The elements that a form goes over.
+#[derive(Drop)]
 pub(crate) struct Elements {
-    owner: NodeRef,
-    component: u32,
-    pub(crate) count: u32,
+    origin: Origin,
+    pub(crate) count: usize,
 }
 
 impl Elements {
-    ghost use Rattle.std.specs.Prelude.{pos};
-    ghost use Rattle.equation_law.specs.Meaning.{element_at as element_on, elements_at as elements_on};
-    ghost use Rattle.expr_eval.specs.Elements.{elements_in};
+    ghost use Rattle.std.specs.Prelude.{IfOk};
+    ghost use Rattle.equation_law.specs.Codes.{single_of};
+    ghost use Rattle.equation_law.specs.Meaning.{elements_at as elements_on};
+    ghost use Rattle.equation_law.specs.Values.{elements_of};
+    ghost use Rattle.expr_eval.specs.Elements.{element_in, elements_in};
 
-    /// Null has no elements.
+    /// The list of a receiver at a component. Null has no elements.
     pub(crate) fn of(system: &System, component: u32, receiver: Value) -> Elements
         ensures { elements_in system.now result ≡ elements_on (world_in system.now) component (node (value_of (texts_in system.now) receiver)) }
     {
@@ -114,19 +173,33 @@ impl Elements {
             None => 0,
         };
         Elements {
-            owner,
-            component,
-            count,
+            origin: Origin::List(owner, component),
+            count: count as usize,
         }
     }
 
-    /// An element by its place, or null where there is none.
-    pub(crate) fn get(self, system: &System, place: u32) -> Value
-        ensures { value_of (texts_in system.now) result ≡ Node (element_on (world_in system.now) self.component (reference_of self.owner.0) (pos place)) }
+    /// The elements of a set. What is no set has none.
+    pub(crate) fn of_set(alloc: Global, system: &System, set: Value) -> Result<Elements, Memory>
+        requires { AreElements (program_of system.now) set }
+        ensures { IfOk result (λ all. elements_in system.now all ≡ elements_of (value_of (texts_in system.now) set)) }
     {
-        match self.owner.source() {
-            Some(node) => Value::Node(child_at(system.tree(), node, self.component, place)),
-            None => Value::Node(NodeRef(0)),
+        let values = elements(alloc, system, &set)?;
+        let count = values.len();
+        Ok(Elements {
+            origin: Origin::Set(Singles { values }),
+            count,
+        })
+    }
+
+    /// An element by its place, or null where there is none.
+    pub(crate) fn get(&self, system: &System, place: usize) -> Single
+        ensures { single_of (texts_in system.now) result ≡ element_in system.now self.now place }
+    {
+        match &self.origin {
+            Origin::List(owner, component) => {
+                Single::Node(listed_at(system, *owner, *component, place))
+            }
+            Origin::Set(values) => values.get(place),
         }
     }
 }
@@ -178,21 +251,23 @@ pub(crate) fn count(system: &System, k: u32, receiver: Value) -> Value
 }
 
 /// The value that a token's code stands for; a missing one is the type's default.
-fn decoded(kind: Kind, code: Option<u32>) -> Value
-    ensures { (texts : ℕ → List ℕ) → texts 0 ≡ [] → value_of texts result ≡ spec.decoded texts kind code }
+fn decoded(alloc: Global, kind: Kind, code: Option<u32>) -> Value
+    ensures value { (texts : ℕ → List ℕ) → texts 0 ≡ [] → value_of texts result ≡ spec.decoded texts kind code }
+    ensures coded { (p : Program) → AreElements p result }
 {
     match code {
-        Some(code) => Value::of_code(kind, code),
-        None => Value::default_of(kind),
+        Some(code) => Value::of_code(alloc, kind, code),
+        None => Value::default_of(alloc, kind),
     }
 }
 
 /// The token of a receiver at a component, read at a type; on null it is the type's default.
-pub(crate) fn token(system: &System, kind: Kind, k: u32, receiver: Value) -> Value
-    ensures { value_of (texts_in system.now) result ≡ token_on (world_in system.now) kind k (node (value_of (texts_in system.now) receiver)) }
+pub(crate) fn token(alloc: Global, system: &System, kind: Kind, k: u32, receiver: Value) -> Value
+    ensures value { value_of (texts_in system.now) result ≡ token_on (world_in system.now) kind k (node (value_of (texts_in system.now) receiver)) }
+    ensures coded { (p : Program) → AreElements p result }
 {
     match receiver.node().source() {
-        None => Value::default_of(kind),
-        Some(node) => decoded(kind, code_at(system.tree(), node, k)),
+        None => Value::default_of(alloc, kind),
+        Some(node) => decoded(alloc, kind, code_at(system.tree(), node, k)),
     }
 }

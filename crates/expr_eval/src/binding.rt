@@ -1,38 +1,50 @@
 // The values of the names that an equation begins with: the arguments of its attribute, and behind them what its path binds.
-ghost use Rattle.std.specs.Prelude.{◌≡◌, ◌++◌, ◌∷◌, [], ℕ, List, IfOk, OnOk, map};
+ghost use Rattle.std.specs.Prelude.{◌≡◌, ◌++◌, ◌∷◌, [], ℕ, pos, List, IfOk, OnOk, map};
+ghost use Rattle.std.specs.Int.{int_wrap};
+ghost use mir.Syntax.{w32};
 ghost use Rattle.attr_rules.specs.Types.{parameter_kinds};
-ghost use Rattle.equation_law.specs.Codes.{IsRow, arguments_at, codes_in, value_at, value_of};
+ghost use Rattle.equation_law.specs.Codes.{IsRow, arguments_at, codes_in, single_of, value_at};
 ghost use Rattle.equation_law.specs.Systems.{program_of};
-ghost use Rattle.equation_law.specs.Values.{argument_value, as_argument};
+ghost use Rattle.equation_law.specs.Values.{Int, argument_value, as_argument};
 ghost use Rattle.inherited_walk.specs.Sites.{index_values, site_place};
 ghost use Rattle.expr_eval.specs.Evaluating.{texts_in};
 
 use crate::evaluation::parameters;
 use attr_rules::{AttrId, Kind, Params};
-use equation_law::{Args, Code, EqSite, System, Value};
+use equation_law::{Args, Code, EqSite, NodeRef, Single, System};
 use rag_io::Memory;
 use std::alloc::Global;
 
+/// The integer of a code.
+fn integer(code: Code) -> Single
+    ensures { (texts : ℕ → List ℕ) → single_of texts result ≡ Int (int_wrap w32 (pos code)) }
+{
+    Single::Int(code.cast_signed())
+}
+
 /// The value of an argument of this type. No argument is a set.
-fn argument(kind: Kind, code: Code) -> Value
-    ensures { (texts : ℕ → List ℕ) → value_of texts result ≡ argument_value (as_argument kind (value_at texts kind code)) }
+fn argument(kind: Kind, code: Code) -> Single
+    ensures { (texts : ℕ → List ℕ) → single_of texts result ≡ argument_value (as_argument kind (value_at texts kind code)) }
 {
     match kind {
-        Kind::Texts | Kind::Nodes(_) => Value::Truth(false),
-        _ => Value::of_code(kind, code),
+        Kind::Truth => Single::Truth(code != 0),
+        Kind::Int => integer(code),
+        Kind::Text => Single::Text(code),
+        Kind::Node(_) => Single::Node(NodeRef(code)),
+        Kind::Texts | Kind::Nodes(_) => Single::Truth(false),
     }
 }
 
-fn push(names: &mut Vec<Value>, value: Value) -> Result<(), Memory>
+fn push(names: &mut Vec<Single>, value: Single) -> Result<(), Memory>
     ensures { OnOk result (names.new.items ≡ names.old.items ++ value ∷ []) }
 {
     names.push(value).map_err(|_| Memory)
 }
 
 /// The values of some arguments for these parameters.
-fn arguments(alloc: Global, parameters: Params, args: Args) -> Result<Vec<Value>, Memory>
+fn arguments(alloc: Global, parameters: Params, args: Args) -> Result<Vec<Single>, Memory>
     requires { IsRow args }
-    ensures { IfOk result (λ names. (texts : ℕ → List ℕ) → map (value_of texts) names.items ≡ map argument_value (arguments_at texts (parameter_kinds parameters) (codes_in args))) }
+    ensures { IfOk result (λ names. (texts : ℕ → List ℕ) → map (single_of texts) names.items ≡ map argument_value (arguments_at texts (parameter_kinds parameters) (codes_in args))) }
 {
     let mut names = Vec::new(alloc);
     let mut wanted = parameters;
@@ -46,13 +58,13 @@ fn arguments(alloc: Global, parameters: Params, args: Args) -> Result<Vec<Value>
 }
 
 /// What a path binds: places in lists.
-fn push_places(names: &mut Vec<Value>, outer: Args) -> Result<(), Memory>
+fn push_places(names: &mut Vec<Single>, outer: Args) -> Result<(), Memory>
     requires { IsRow outer }
-    ensures { OnOk result ((texts : ℕ → List ℕ) → map (value_of texts) names.new.items ≡ map (value_of texts) names.old.items ++ index_values outer) }
+    ensures { OnOk result ((texts : ℕ → List ℕ) → map (single_of texts) names.new.items ≡ map (single_of texts) names.old.items ++ index_values outer) }
 {
     let mut given = outer;
     while let Some(place) = given.first_code() {
-        push(names, Value::of_code(Kind::Int, place))?;
+        push(names, integer(place))?;
         given = given.rest();
     }
     Ok(())
@@ -64,10 +76,10 @@ pub(crate) fn names_of(
     system: &System,
     attr: AttrId,
     site: &EqSite,
-) -> Result<Vec<Value>, Memory>
+) -> Result<Vec<Single>, Memory>
     requires inner { IsRow site.now.inner }
     requires outer { IsRow site.now.outer }
-    ensures { IfOk result (λ names. map (value_of (texts_in system.now)) names.items ≡ (site_place (program_of system.now) attr.0 site.now).names) }
+    ensures { IfOk result (λ names. map (single_of (texts_in system.now)) names.items ≡ (site_place (program_of system.now) attr.0 site.now).names) }
 {
     let mut names = arguments(alloc, parameters(system, attr), site.inner)?;
     push_places(&mut names, site.outer)?;

@@ -2,21 +2,23 @@
 ghost use Rattle.std.specs.Prelude.{◌≡◌, ◌<◌, IfOk, length, true};
 ghost use Rattle.attr_rules.specs.Expression.{arguments_of, expression_of};
 ghost use Rattle.attr_rules.specs.Types.{parameter_kinds, text_kind};
-ghost use Rattle.equation_law.specs.Codes.{AreCodes, IsCode, IsCoded, IsRow, codes_in, instance_of, value_at, value_of};
+ghost use Rattle.equation_law.specs.Codes.{AreCodes, AreElements, IsCode, IsCoded, IsRow, codes_in, instance_of, single_of, value_at, value_of};
 ghost use Rattle.equation_law.specs.Equations.{attribute_kind as kind_of};
-ghost use Rattle.equation_law.specs.Meaning.{at_each, first_with, named, over_elements};
+ghost use Rattle.equation_law.specs.Meaning.{at_each, first_with, named, over_elements, united, with_name};
 ghost use Rattle.equation_law.specs.Program.{attribute_parameters};
 ghost use Rattle.equation_law.specs.Reading.{IsSound};
-ghost use Rattle.equation_law.specs.Values.{as_argument};
+ghost use Rattle.equation_law.specs.Values.{as_argument, default_of as default_value, set_operate as set_operated};
 ghost use Rattle.equation_law.specs.Systems.{program_of};
 ghost use Rattle.expr_eval.specs.Elements.{OverReads, ReadsAt, Rooms, elements_in, put};
-ghost use Rattle.expr_eval.specs.Evaluating.{ArgumentsRead, CallReads, DemandReads, Reads, is_operation, place_in, texts_in};
+ghost use Rattle.expr_eval.specs.Evaluating.{ArgumentsRead, CallReads, DemandReads, Reads, is_operation, is_over_form, is_set_form, place_in, texts_in};
 
 use crate::accessors::{Elements, cast, child, count, element, has, is_instance, source, token};
-use crate::operators::{deny, negate, operate};
-use attr_rules::{AttrId, Kind, Params, Quantifier, TArgs, TExpr};
-use equation_law::{Args, Code, Instance, NodeRef, Reader, System, Value};
+use crate::operators::{deny, either, negate, operate};
+use attr_rules::{AttrId, Kind, Params, Quantifier, SetOperator, TArgs, TExpr};
+use code_sets::Codes;
+use equation_law::{Args, Code, Instance, NodeRef, Reader, Single, System, Value};
 use rag_io::Memory;
+use set_values::{contains, set_operate, single_set, size};
 use std::alloc::Global;
 
 /// What an expression is evaluated in: the program, the node at which the equation is read, and the values of the names, the innermost
@@ -26,7 +28,7 @@ pub(crate) struct Context<'a> {
     pub(crate) alloc: Global,
     pub(crate) system: &'a System,
     pub(crate) this: NodeRef,
-    pub(crate) names: &'a [Value],
+    pub(crate) names: &'a [Single],
 }
 
 /// Why an expression has no value.
@@ -168,7 +170,7 @@ fn call<R: Reader>(
     let node = receiver.node();
     if node == NodeRef(0) {
         let kind = attribute_kind(context.system, attr);
-        return Ok(Value::default_of(kind));
+        return Ok(Value::default_of(context.alloc, kind));
     }
     demand(context, Instance::Attr { attr, node, args }, reader)
 }
@@ -178,34 +180,34 @@ fn variable(context: &Context<'_>, number: usize) -> Value
     ensures { value_of (texts_in context.now.system.now) result ≡ named (place_in context.now).names number }
 {
     match context.names.get(number) {
-        Some(value) => *value,
+        Some(value) => Value::from(*value),
         None => Value::Node(NodeRef(0)),
     }
 }
 
 /// The names with room for one more in front.
-fn with_room(context: &Context<'_>) -> Result<Vec<Value>, Memory>
+fn with_room(context: &Context<'_>) -> Result<Vec<Single>, Memory>
     ensures { IfOk result (λ names. Rooms context.now.names.now names.items) }
 {
     let mut names = Vec::new(context.alloc);
-    names.push(Value::Node(NodeRef(0))).map_err(|_| Memory)?;
+    names.push(Single::Node(NodeRef(0))).map_err(|_| Memory)?;
     names.extend_from_slice(context.names).map_err(|_| Memory)?;
     Ok(names)
 }
 
-/// What a condition says at an element, which stands in front of the names.
+/// What an expression says at an element, which stands in front of the names.
 #[cycle(meaning)]
-fn at_element<R: Reader>(
+fn with_element<R: Reader>(
     context: &Context<'_>,
-    names: &mut Vec<Value>,
-    element: Value,
-    condition: &TExpr,
+    names: &mut Vec<Single>,
+    element: Single,
+    body: &TExpr,
     reader: &mut R,
-) -> Result<bool, Halt>
+) -> Result<Value, Halt>
     requires sound { IsSound (program_of context.now.system.now) (R.tells reader.old) }
     requires room { Rooms context.now.names.now names.old.items }
     ensures room { Rooms context.now.names.now names.new.items }
-    ensures reads { ReadsAt (program_of context.now.system.now) (R.tells reader.old) (R.tells reader.new) (place_in context.now) (value_of (texts_in context.now.system.now) element) (expression_of condition.now) result }
+    ensures reads { Reads (program_of context.now.system.now) (R.tells reader.old) (R.tells reader.new) (with_name (place_in context.now) (single_of (texts_in context.now.system.now) element)) (expression_of body.now) result }
 {
     names[0] = element;
     let inner = Context {
@@ -214,7 +216,40 @@ fn at_element<R: Reader>(
         this: context.this,
         names,
     };
-    Ok(meaning(&inner, condition, reader)?.truth())
+    meaning(&inner, body, reader)
+}
+
+/// What a condition says at an element, which stands in front of the names.
+#[cycle(meaning)]
+fn at_element<R: Reader>(
+    context: &Context<'_>,
+    names: &mut Vec<Single>,
+    element: Single,
+    condition: &TExpr,
+    reader: &mut R,
+) -> Result<bool, Halt>
+    requires sound { IsSound (program_of context.now.system.now) (R.tells reader.old) }
+    requires room { Rooms context.now.names.now names.old.items }
+    ensures room { Rooms context.now.names.now names.new.items }
+    ensures reads { ReadsAt (program_of context.now.system.now) (R.tells reader.old) (R.tells reader.new) (place_in context.now) (single_of (texts_in context.now.system.now) element) (expression_of condition.now) result }
+{
+    Ok(with_element(context, names, element, condition, reader)?.truth())
+}
+
+/// What is made of two sets.
+fn combined(
+    context: &Context<'_>,
+    operator: SetOperator,
+    kind: Kind,
+    left: Value,
+    right: Value,
+) -> Result<Value, Memory>
+    requires left { AreElements (program_of context.now.system.now) left }
+    requires right { AreElements (program_of context.now.system.now) right }
+    ensures value { IfOk result (λ value. value_of (texts_in context.now.system.now) value ≡ set_operated operator kind (value_of (texts_in context.now.system.now) left) (value_of (texts_in context.now.system.now) right)) }
+    ensures coded { IfOk result (AreElements (program_of context.now.system.now)) }
+{
+    set_operate(context.alloc, operator, kind, left, right)
 }
 
 /// Whether both hold, or one of them.
@@ -265,13 +300,35 @@ fn first_element<R: Reader>(
     'elements: for i in 0..list.count {
         let element = list.get(context.system, i);
         if at_element(context, &mut names, element, condition, reader)? {
-            return Ok(element);
+            return Ok(Value::from(element));
         }
     }
     Ok(Value::Node(NodeRef(0)))
 }
 
-/// A form over a list.
+/// The union, of this type, of what a body says at all elements of a list or a set.
+#[cycle(meaning)]
+fn each<R: Reader>(
+    context: &Context<'_>,
+    kind: Kind,
+    list: Elements,
+    body: &TExpr,
+    reader: &mut R,
+) -> Result<Value, Halt>
+    requires { IsSound (program_of context.now.system.now) (R.tells reader.old) }
+    ensures { OverReads (program_of context.now.system.now) (R.tells reader.old) (R.tells reader.new) (place_in context.now) (λ f. united kind (default_value kind) (elements_in context.now.system.now list) f) (expression_of body.now) result }
+{
+    let mut names = with_room(context)?;
+    let mut so_far = Value::default_of(context.alloc, kind);
+    'elements: for i in 0..list.count {
+        let element = list.get(context.system, i);
+        let more = with_element(context, &mut names, element, body, reader)?;
+        so_far = combined(context, SetOperator::Union, kind, so_far, more)?;
+    }
+    Ok(so_far)
+}
+
+/// A form with a condition over a list or a set.
 #[cycle(meaning)]
 fn over_elements<R: Reader>(
     context: &Context<'_>,
@@ -315,9 +372,82 @@ fn operation<R: Reader>(
         TExpr::Or(left, right) => Ok(Value::Truth(
             meaning(context, left, reader)?.truth() || meaning(context, right, reader)?.truth(),
         )),
+        TExpr::OrBoth(left, right) => {
+            let left = meaning(context, left, reader)?;
+            Ok(either(&left, &meaning(context, right, reader)?))
+        }
         TExpr::If(condition, then, _, otherwise) => {
             let holds = meaning(context, condition, reader)?.truth();
             meaning(context, if holds { then } else { otherwise }, reader)
+        }
+        _ => set_form(context, expression, reader),
+    }
+}
+
+/// The value of a form that makes a set, or asks one.
+#[cycle(meaning)]
+fn set_form<R: Reader>(
+    context: &Context<'_>,
+    expression: &TExpr,
+    reader: &mut R,
+) -> Result<Value, Halt>
+    requires sound { IsSound (program_of context.now.system.now) (R.tells reader.old) }
+    requires form { is_set_form (expression_of expression.now) ≡ true }
+    ensures { Reads (program_of context.now.system.now) (R.tells reader.old) (R.tells reader.new) (place_in context.now) (expression_of expression.now) result }
+{
+    let system = context.system;
+    match expression {
+        TExpr::Empty => Ok(Value::Nodes(Codes::none(context.alloc))),
+        TExpr::Sets(operator, kind, left, right) => {
+            let left = meaning(context, left, reader)?;
+            let right = meaning(context, right, reader)?;
+            let made = combined(context, *operator, *kind, left, right)?;
+            Ok(made)
+        }
+        TExpr::Single(element) => {
+            let element = meaning(context, element, reader)?;
+            let made = single_set(context.alloc, system, &element)?;
+            Ok(made)
+        }
+        TExpr::Contains(set, element) => {
+            let set = meaning(context, set, reader)?;
+            let element = meaning(context, element, reader)?;
+            Ok(Value::Truth(contains(system, &set, &element)))
+        }
+        TExpr::Size(set) => {
+            let set = meaning(context, set, reader)?;
+            Ok(Value::Int(size(&set)))
+        }
+        _ => over_form(context, expression, reader),
+    }
+}
+
+/// The value of a form that goes over a set, or joins what is said at the elements of a list.
+#[cycle(meaning)]
+fn over_form<R: Reader>(
+    context: &Context<'_>,
+    expression: &TExpr,
+    reader: &mut R,
+) -> Result<Value, Halt>
+    requires sound { IsSound (program_of context.now.system.now) (R.tells reader.old) }
+    requires form { is_over_form (expression_of expression.now) ≡ true }
+    ensures { Reads (program_of context.now.system.now) (R.tells reader.old) (R.tells reader.new) (place_in context.now) (expression_of expression.now) result }
+{
+    let system = context.system;
+    match expression {
+        TExpr::QuantifiedSet(quantifier, set, condition) => {
+            let set = meaning(context, set, reader)?;
+            let list = Elements::of_set(context.alloc, system, set)?;
+            over_elements(context, *quantifier, list, condition, reader)
+        }
+        TExpr::Each(kind, k, receiver, body) => {
+            let list = Elements::of(system, *k, meaning(context, receiver, reader)?);
+            each(context, *kind, list, body, reader)
+        }
+        TExpr::EachOfSet(kind, set, body) => {
+            let set = meaning(context, set, reader)?;
+            let list = Elements::of_set(context.alloc, system, set)?;
+            each(context, *kind, list, body, reader)
         }
         _ => unreachable!(),
     }
@@ -350,18 +480,20 @@ pub(crate) fn meaning<R: Reader>(
         }
         TExpr::Count(k, receiver) => Ok(count(system, *k, meaning(context, receiver, reader)?)),
         TExpr::Has(k, receiver) => Ok(has(system, *k, meaning(context, receiver, reader)?)),
-        TExpr::Token(of, k, node) => Ok(token(system, *of, *k, meaning(context, node, reader)?)),
+        TExpr::Token(of, k, node) => Ok(token(
+            context.alloc,
+            system,
+            *of,
+            *k,
+            meaning(context, node, reader)?,
+        )),
         TExpr::Call(called, _, receiver, arguments) => {
             let receiver = meaning(context, receiver, reader)?;
             let args = given(context, parameters(system, *called), arguments, reader)?;
             call(context, *called, receiver, args, reader)
         }
         TExpr::Cast(class, operand) => Ok(cast(system, *class, meaning(context, operand, reader)?)),
-        TExpr::InstanceOf(class, e) => Ok(is_instance(
-            system,
-            *class,
-            meaning(context, e, reader)?,
-        )),
+        TExpr::InstanceOf(c, e) => Ok(is_instance(system, *c, meaning(context, e, reader)?)),
         TExpr::Quantified(quantifier, k, receiver, condition) => {
             let list = Elements::of(system, *k, meaning(context, receiver, reader)?);
             over_elements(context, *quantifier, list, condition, reader)

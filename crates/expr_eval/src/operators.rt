@@ -1,5 +1,5 @@
 // Operators on values.
-ghost use Rattle.std.specs.Prelude.{◌≡◌, ◌<◌, ℕ, List, [], neg_ℤ, not, length, slice_index_or};
+ghost use Rattle.std.specs.Prelude.{◌≡◌, ◌<◌, ◌||◌, ℕ, List, [], neg_ℤ, not, length, slice_index_or};
 ghost use Rattle.std.specs.Int.{int_wrap};
 ghost use Rattle.std.specs.Str.{bytes_eq};
 ghost use mir.Syntax.{w32};
@@ -46,7 +46,7 @@ fn equal(system: &System, left: Value, right: Value) -> bool
         Value::Int(z) => z == right.int(),
         Value::Text(number) => same_text(system.pool(), number, right.text()),
         Value::Node(node) => same_node(node, right.node()),
-        Value::NoTexts | Value::NoNodes => false,
+        Value::Texts(_) | Value::Nodes(_) => false,
     }
 }
 
@@ -55,6 +55,13 @@ pub(crate) fn deny(operand: Value) -> Value
     ensures { (texts : ℕ → List ℕ) → value_of texts result ≡ Truth (not (truth (value_of texts operand))) }
 {
     Value::Truth(!operand.truth())
+}
+
+/// Whether one of two truth values is true.
+pub(crate) fn either(left: &Value, right: &Value) -> Value
+    ensures { (texts : ℕ → List ℕ) → value_of texts result ≡ Truth (truth (value_of texts left.now) || truth (value_of texts right.now)) }
+{
+    Value::Truth(left.truth() || right.truth())
 }
 
 /// The integer with the other sign; the least one stays.

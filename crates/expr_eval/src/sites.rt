@@ -20,7 +20,7 @@ use rag_io::Memory;
 use std::alloc::Global;
 
 /// What an evaluation comes to.
-#[derive(Clone, Copy, Debug, PartialEq, Eq)]
+#[derive(Drop)]
 pub enum Turn {
     /// The value.
     Done(Value),
@@ -30,11 +30,11 @@ pub enum Turn {
 
 impl Turn {
     /// The same with its value read at a type.
-    fn read_as(self, kind: Kind) -> Turn
+    fn read_as(self, alloc: Global, kind: Kind) -> Turn
         ensures { TurnAs kind self result }
     {
         match self {
-            Turn::Done(value) => Turn::Done(value.read_as(kind)),
+            Turn::Done(value) => Turn::Done(value.read_as(alloc, kind)),
             Turn::Need(instance) => Turn::Need(instance),
         }
     }
@@ -153,7 +153,7 @@ fn evaluate_attribute<R: Reader>(
         None => Ok(Turn::Done(Value::Node(NodeRef(0)))),
         Some(site) => {
             let turn = evaluate_for(alloc, system, attr, &site, reader)?;
-            Ok(turn.read_as(attribute_kind(system, attr)))
+            Ok(turn.read_as(alloc, attribute_kind(system, attr)))
         }
     }
 }
@@ -172,7 +172,7 @@ fn evaluate_asked<R: Reader>(
         return Ok(Turn::Done(Value::Node(NodeRef(0))));
     }
     let turn = evaluate_query(alloc, system, query, reader)?;
-    Ok(turn.read_as(system.query(query).kind()))
+    Ok(turn.read_as(alloc, system.query(query).kind()))
 }
 
 /// What the equation of an instance comes to: the value is that of its expression, read at the instance's type. What is no instance of the

@@ -8,7 +8,7 @@ use Rattle.memo_cells.specs.Standing.{IsPassOf}
 use Rattle.memo_cells.specs.Views.{ClaimsOnly, Has, IsAtLeast, IsFull, IsLedTo, IsNowhere, IsOther, IsOtherIn, IsPassed, times}
 
 pub at_least_itself : (v : View) → IsAtLeast v v
-at_least_itself v = record { frame = refl; share = refl; keys = λ p k h. h; values = λ p k c h. h; claims = λ p. le_refl (times p v.claims) }
+at_least_itself v = record { frame = refl; share = refl; keys = λ p k h. h; values = λ p k c h. h; bits = λ p k n h. h; claims = λ p. le_refl (times p v.claims) }
 
 pub at_least_then : {u v w : View} → IsAtLeast u v → IsAtLeast v w → IsAtLeast u w
 at_least_then {u} {v} {w} a b = record {
@@ -16,6 +16,7 @@ at_least_then {u} {v} {w} a b = record {
   share = b.share ∙ a.share;
   keys = λ p k h. b.keys p k (a.keys p k h);
   values = λ p k c h. b.values p k c (a.values p k c h);
+  bits = λ p k n h. b.bits p k n (a.bits p k n h);
   claims = λ p. let x = a.claims p in let y = b.claims p in omega (arith, x, y);
 }
 

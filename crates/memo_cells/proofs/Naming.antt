@@ -1,5 +1,5 @@
 -- What a key word stands for, by what a pass has seen claimed: one instance, and an instance has one key word.
-use Rattle.std.proofs.Common.{◌≡◌, ℕ, ◌^◌, ◌<◌, List, [], ◌∷◌, reverse, refl, sym, ap, ◌∙◌, subst, arith}
+use Rattle.std.proofs.Common.{◌≡◌, ℕ, true, false, ◌^◌, ◌/◌, ◌<◌, List, [], ◌∷◌, reverse, refl, sym, ap, ◌∙◌, subst, arith, inl, inr, ⊎_elim, eq-eqb, ne_eqb}
 use Rattle.std.proofs.lemmas.List.{reverse-reverse}
 use Rattle.rag_io.specs.Pool.{ArePooled}
 use Rattle.equation_law.specs.Codes.{arguments_at, reference_of}
@@ -8,9 +8,9 @@ use Rattle.equation_law.specs.Program.{Program, attribute_parameters, text_of}
 use Rattle.equation_law.proofs.Keys.{one_list, one_reference}
 use Rattle.memo_cells.specs.declared.view.Frame.{Frame}
 use Rattle.memo_cells.specs.declared.view.View.{View}
-use Rattle.memo_cells.specs.Keys.{argument_word, attribute_word, query_word}
-use Rattle.memo_cells.specs.Naming.{IsAttributeKey, IsCellOf, IsFormed, IsKeyTo, IsNamed, StandsFor}
-use Rattle.memo_cells.specs.Standing.{IsSettled, Knows}
+use Rattle.memo_cells.specs.Keys.{argument_word, attribute_word, is_set_word, query_word, set_word}
+use Rattle.memo_cells.specs.Naming.{IsAttributeKey, IsCellOf, IsFormed, IsKeyTo, IsNamed, IsWordOf, StandsFor}
+use Rattle.memo_cells.specs.Standing.{Knows}
 use Rattle.memo_cells.specs.Views.{Has, IsAtLeast}
 
 -- what stands for something goes on to stand for it
@@ -33,14 +33,16 @@ module _ (v w : View) (more : IsAtLeast v w) where
   pub key_later : (p : Program) (i : Instance) (k : ℕ) → IsKeyTo p v i k → IsKeyTo p w i k
   key_later p i k h = record { prefix = h.prefix; of = h.of; stands = stands_later p k h.prefix h.stands }
 
+  pub word_later : (p : Program) (k : ℕ) (i : Instance) (x : ℕ) → IsWordOf p v k i x → IsWordOf p w k i x
+  word_later p k i x h = record { slot = h.slot; key = h.key; there = more.keys h.slot h.key h.there; stands = stands_later p h.key i h.stands; low = h.low; small = h.small; is = h.is }
+
   pub formed_later : (p : Program) (k : ℕ) → IsFormed p v k → IsFormed p w k
-  formed_later p k h = record { of = h.of; instance = h.instance; key = key_later p h.of k h.key }
+  formed_later p k h =
+      ⊎_elim (λ x. inl (record { of = x.of; instance = x.instance; key = key_later p x.of k x.key }))
+      (λ x. inr (record { of = x.of; instance = x.instance; word = x.word; key = word_later p k x.of x.word x.key; code = x.code; element = x.element; lies = x.lies })) h
 
   pub knows_later : (p : Program) (i : Instance) → Knows p v i → Knows p w i
   knows_later p i h = record { key = h.key; stands = stands_later p h.key i h.stands; slot = h.slot; code = h.code; settled = more.values h.slot h.key h.code h.settled }
-
-  pub settled_later : (p : Program) (k c : ℕ) → IsSettled p v k c → IsSettled p w k c
-  settled_later p k c h = record { of = h.of; stands = stands_later p k h.of h.stands; code = h.code; closed = λ j d. knows_later p j (h.closed j d) }
 
   pub cell_later : (p : Program) (f : Frame) (i : Instance) (s : ℕ) → IsCellOf p f v i s → IsCellOf p f w i s
   cell_later p f i s h = (h.0, (h.1.0, more.keys s h.0 h.1.1), stands_later p h.0 i h.2)
@@ -54,6 +56,36 @@ attribute_query a n q la ln e = omega (arith, la, ln, e)
 
 argument_query : (s c q : ℕ) → s < 2 ^ 29 → c < 2 ^ 32 → argument_word s c ≡ query_word q → ⊥
 argument_query s c q ls lc e = omega (arith, ls, lc, e)
+
+-- the key of an instance is that of no word of a set
+other_word : (k : ℕ) (n : ℕ) → k / 2 ^ 61 ≡ n → (n ≡ 3 → ⊥) → is_set_word k ≡ false
+other_word k n e other = ne_eqb (k / 2 ^ 61) 3 (λ x. other (sym e ∙ x))
+
+pub attribute_plain : (a n : ℕ) → a < 2 ^ 16 → n < 2 ^ 32 → is_set_word (attribute_word a n) ≡ false
+attribute_plain a n la ln = other_word (attribute_word a n) 1 (omega (arith, la, ln)) (λ e. absurd (omega (arith, e)))
+
+pub argument_plain : (s c : ℕ) → s < 2 ^ 29 → c < 2 ^ 32 → is_set_word (argument_word s c) ≡ false
+argument_plain s c ls lc = other_word (argument_word s c) 2 (omega (arith, ls, lc)) (λ e. absurd (omega (arith, e)))
+
+pub query_plain : (q : ℕ) → q < 2 ^ 32 → is_set_word (query_word q) ≡ false
+query_plain q lq = other_word (query_word q) 4 (omega (arith, lq)) (λ e. absurd (omega (arith, e)))
+
+pub set_is_word : (s w : ℕ) → s < 2 ^ 29 → w < 2 ^ 32 → is_set_word (set_word s w) ≡ true
+set_is_word s w ls lw = eq-eqb (set_word s w / 2 ^ 61) 3 (omega (arith, ls, lw))
+
+pub named_plain : (v : View) (k a n : ℕ) (cs : List ℕ) → IsNamed v k a n cs → is_set_word k ≡ false
+named_plain v k a n [] h = ap is_set_word h.2 ∙ attribute_plain a n h.0 h.1
+named_plain v k a n (c ∷ cs) h = ap is_set_word h.6 ∙ argument_plain h.0 c h.4 h.5
+
+pub stands_plain : (p : Program) (v : View) (k : ℕ) (i : Instance) → StandsFor p v k i → is_set_word k ≡ false
+stands_plain p v k (Attribute a r xs) h = named_plain v k a h.node (reverse h.codes) h.named
+stands_plain p v k (Query q) h = ap is_set_word h.1 ∙ query_plain q h.0
+
+pub word_set : (p : Program) (v : View) (k : ℕ) (i : Instance) (w : ℕ) → IsWordOf p v k i w → is_set_word k ≡ true
+word_set p v k i w h = ap is_set_word h.is ∙ set_is_word h.slot w h.low h.small
+
+one_set_word : (s w t x : ℕ) → w < 2 ^ 32 → x < 2 ^ 32 → set_word s w ≡ set_word t x → (s ≡ t) × (w ≡ x)
+one_set_word s w t x lw lx e = (omega (arith, lw, lx, e), omega (arith, lw, lx, e))
 
 one_attribute : (a n b m : ℕ) → n < 2 ^ 32 → m < 2 ^ 32 → attribute_word a n ≡ attribute_word b m → (a ≡ b) × (n ≡ m)
 one_attribute a n b m ln lm e = (omega (arith, ln, lm, e), omega (arith, ln, lm, e))
@@ -89,6 +121,13 @@ module _ (v : View) (one_key : (s j k : ℕ) → Has v.keys (s, j) → Has v.key
   stands_once p k (Attribute a r xs) (Query q) g h = absurd (named_query v k a g.node (reverse g.codes) q g.named h.1)
   stands_once p k (Query q) (Attribute b s ys) g h = absurd (named_query v k b h.node (reverse h.codes) q h.named g.1)
   stands_once p k (Query q) (Query r) g h = let same : q ≡ r = omega (arith, sym g.1 ∙ h.1) in ap Query same
+
+  -- the key of a word of a set is of one instance, and of one of its words
+  pub word_of_once : (p : Program) (k : ℕ) (i j : Instance) (w x : ℕ) → IsWordOf p v k i w → IsWordOf p v k j x → (i ≡ j) × (w ≡ x)
+  word_of_once p k i j w x g h =
+      let same = one_set_word g.slot w h.slot x g.small h.small (sym g.is ∙ h.is) in
+      let key : h.key ≡ g.key = one_key g.slot h.key g.key (subst (λ (s : ℕ). Has v.keys (s, h.key)) (sym same.0) h.there) g.there in
+      (stands_once p g.key i j g.stands (subst (λ (l : ℕ). StandsFor p v l j) key h.stands), same.1)
 
 module _ (v : View) (one_key : (s j k : ℕ) → Has v.keys (s, j) → Has v.keys (s, k) → j ≡ k) (one_place : (s t k : ℕ) → Has v.keys (s, k) → Has v.keys (t, k) → s ≡ t) where
   -- an attribute at a node with codes has one word

@@ -1,9 +1,11 @@
--- The words after a claim, and after a settle.
-use Rattle.std.proofs.Common.{◌≡◌, ◌≢◌, ℕ, ◌+◌, ◌^◌, ◌<◌, ◌⊎◌, sym, ap, ◌∙◌, inl, inr, ⊎_elim, subst, arith}
+-- The words after a claim, and after a step on the value words.
+use Rattle.std.proofs.Common.{◌≡◌, ◌≢◌, ℕ, true, false, ◌<◌, ◌⊎◌, sym, ap, ◌∙◌, inl, inr, ⊎_elim, subst, arith}
+use Rattle.std.specs.Int.{bit_at}
+use Rattle.std.proofs.lemmas.Nat.Bits.{bit_at-zero}
 use mathlib.Core.Logic.{dite}
 use native.Mathlib.Decide.{ℕ_discrete, dec_le, dec_lt}
-use Rattle.memo_cells.specs.Keys.{start}
-use Rattle.memo_cells.specs.Words.{AreOrdered, Before}
+use Rattle.memo_cells.specs.Keys.{is_set_word, start}
+use Rattle.memo_cells.specs.Words.{AreOrdered, Before, IsCoded}
 
 -- of two places one is before the other
 one_before : (n s p q : ℕ) → p < n → q < n → p ≢ q → Before n s p q ⊎ Before n s q p
@@ -18,18 +20,22 @@ one_before n s p q lp lq ne =
 
 module _ (n : ℕ) where
   -- a key that stands at no place before p on its way, where p is free, stands nowhere
-  pub stands_nowhere : (formed : ℕ → Type 0) (settled : ℕ → ℕ → Type 0) (K W : ℕ → ℕ) (p k : ℕ) → AreOrdered formed settled n K W → p < n → K p ≡ 0 → k ≢ 0 → ((q : ℕ) → Before n (start n k) p q → K q ≢ k) → (q : ℕ) → q < n → K q ≢ k
-  stands_nowhere formed settled K W p k o lt free nz passed q lq e =
+  pub stands_nowhere : (formed : ℕ → Type 0) (settled : ℕ → ℕ → Type 0) (raised : ℕ → Type 0) (element : ℕ → ℕ → Type 0) (K W : ℕ → ℕ) (p k : ℕ) → AreOrdered formed settled raised element n K W → p < n → K p ≡ 0 → k ≢ 0 → ((q : ℕ) → Before n (start n k) p q → K q ≢ k) → (q : ℕ) → q < n → K q ≢ k
+  stands_nowhere formed settled raised element K W p k o lt free nz passed q lq e =
       let apart : p ≢ q = λ s. nz (sym e ∙ (ap K (sym s) ∙ free)) in
       ⊎_elim (λ b. passed q b e) (λ b. o.reached q p lq (λ z. nz (sym e ∙ z)) (subst (λ z. Before n (start n z) q p) (sym e) b) free) (one_before n (start n k) p q lt lq apart)
 
--- what is formed, and settled, before a step, is so after it
-module _ (n : ℕ) (formed formed' : ℕ → Type 0) (settled settled' : ℕ → ℕ → Type 0) (form : (k : ℕ) → formed k → formed' k) (settle : (k c : ℕ) → settled k c → settled' k c) where
+-- what codes a value goes on to do so
+pub coded_later : (settled settled' : ℕ → ℕ → Type 0) (raised raised' : ℕ → Type 0) (k w : ℕ) → ((c : ℕ) → settled k c → settled' k c) → (raised k → raised' k) → IsCoded settled raised k w → IsCoded settled' raised' k w
+coded_later settled settled' raised raised' k w f g h = ⊎_elim (λ x. inl (x.0, x.1, f x.0 x.2)) (λ x. inr (x.0, g x.1)) h
+
+-- what is formed, settled, raised and an element before a step, is so after it
+module _ (n : ℕ) (formed formed' : ℕ → Type 0) (settled settled' : ℕ → ℕ → Type 0) (raised raised' : ℕ → Type 0) (element element' : ℕ → ℕ → Type 0) (form : (k : ℕ) → formed k → formed' k) (settle : (k c : ℕ) → settled k c → settled' k c) (raise : (k : ℕ) → raised k → raised' k) (part : (k b : ℕ) → element k b → element' k b) where
   -- the key k is claimed at the free place p
-  pub ordered_claim : (K W K' W' : ℕ → ℕ) (p k : ℕ) → AreOrdered formed settled n K W → p < n → K p ≡ 0 → k ≢ 0 → formed' k → ((q : ℕ) → Before n (start n k) p q → (K q ≢ 0) × (K q ≢ k)) → K' p ≡ k
-      → ((q : ℕ) → q ≢ p → K' q ≡ K q) → ((q : ℕ) → W' q ≡ W q) → AreOrdered formed' settled' n K' W'
+  pub ordered_claim : (K W K' W' : ℕ → ℕ) (p k : ℕ) → AreOrdered formed settled raised element n K W → p < n → K p ≡ 0 → k ≢ 0 → formed' k → ((q : ℕ) → Before n (start n k) p q → (K q ≢ 0) × (K q ≢ k)) → K' p ≡ k
+      → ((q : ℕ) → q ≢ p → K' q ≡ K q) → ((q : ℕ) → W' q ≡ W q) → AreOrdered formed' settled' raised' element' n K' W'
   ordered_claim K W K' W' p k o lt free nz is passed here else beside =
-      let fresh : (q : ℕ) → q < n → K q ≢ k = stands_nowhere n formed settled K W p k o lt free nz (λ q b. (passed q b).1) in
+      let fresh : (q : ℕ) → q < n → K q ≢ k = stands_nowhere n formed settled raised element K W p k o lt free nz (λ q b. (passed q b).1) in
       let stays : (q : ℕ) → K q ≢ 0 → K' q ≡ K q = λ q h. else q (λ e. h (ap K e ∙ free)) in
       record {
         formed_keys = λ q lq h.
@@ -50,28 +56,28 @@ module _ (n : ℕ) (formed formed' : ℕ → Type 0) (settled settled' : ℕ →
             let old = o.reached i q li (λ z. h (else i a ∙ z)) b' in
             λ z. old (sym (stays q old) ∙ z)
             );
-        coded = λ q lq h.
-            let old = o.coded q lq (λ z. h (beside q ∙ z)) in
-            let same = stays q old.0 in
-            ((λ z. old.0 (sym same ∙ z)), (old.1.0, beside q ∙ old.1.1, subst (λ z. settled' z old.1.0) (sym same) (settle (K q) old.1.0 old.1.2)));
+        keyed = λ q lq h. let old = o.keyed q lq (λ z. h (beside q ∙ z)) in λ z. old (sym (stays q old) ∙ z);
+        coded = λ q lq plain h.
+            let there = o.keyed q lq (λ z. h (beside q ∙ z)) in
+            let same = stays q there in
+            let old = coded_later settled settled' raised raised' (K q) (W q) (settle (K q)) (raise (K q)) (o.coded q lq (sym (ap is_set_word same) ∙ plain) (λ z. h (beside q ∙ z))) in
+            subst (λ (z : ℕ × ℕ). IsCoded settled' raised' z.0 z.1) (λ t. (sym same t, sym (beside q) t)) old;
+        elements = λ q b lq set low e.
+            let one : bit_at (W q) b ≡ 1 = ap (λ (y : ℕ). bit_at y b) (sym (beside q)) ∙ e in
+            let there = o.keyed q lq (λ z. let none : bit_at (W q) b ≡ 0 = ap (λ (y : ℕ). bit_at y b) z ∙ bit_at-zero b in omega (arith, none, one)) in
+            let same = stays q there in
+            subst (λ (z : ℕ). element' z b) (sym same) (part (K q) b (o.elements q b lq (sym (ap is_set_word same) ∙ set) low one));
       }
 
-  -- the value word of the key at p becomes that of the code c, and no other word changes
-  pub ordered_value : (K W K' W' : ℕ → ℕ) (p c : ℕ) → AreOrdered formed settled n K W → p < n → K p ≢ 0 → settled' (K p) c → W' p ≡ c + 2 ^ 63
-      → ((q : ℕ) → q ≢ p → W' q ≡ W q) → ((q : ℕ) → K' q ≡ K q) → AreOrdered formed' settled' n K' W'
-  ordered_value K W K' W' p c o lt nz is here aside beside =
-      record {
-        formed_keys = λ q lq h. subst formed' (sym (beside q)) (form (K q) (o.formed_keys q lq (λ z. h (beside q ∙ z))));
-        once = λ i j li lj h e. o.once i j li lj (λ z. h (beside i ∙ z)) (sym (beside i) ∙ (e ∙ beside j));
-        reached = λ i q li h b z. o.reached i q li (λ y. h (beside i ∙ y)) (subst (λ y. Before n (start n y) i q) (beside i) b) (sym (beside q) ∙ z);
-        coded = λ q lq h.
-            dite (ℕ_discrete q p)
-            (λ e.
-            let at : K p ≡ K' q = sym (ap K e) ∙ sym (beside q) in
-            ((λ z. nz (at ∙ z)), (c, ap W' e ∙ here, subst (λ z. settled' z c) at is))
-            )
-            (λ ne.
-            let old = o.coded q lq (λ z. h (aside q ne ∙ z)) in
-            ((λ z. old.0 (sym (beside q) ∙ z)), (old.1.0, aside q ne ∙ old.1.1, subst (λ z. settled' z old.1.0) (sym (beside q)) (settle (K q) old.1.0 old.1.2)))
-            );
-      }
+  -- value words change, and no key word does
+  pub ordered_words : (K W W' : ℕ → ℕ) → AreOrdered formed settled raised element n K W → ((p : ℕ) → p < n → W' p ≢ 0 → K p ≢ 0)
+      → ((p : ℕ) → p < n → is_set_word (K p) ≡ false → W' p ≢ 0 → IsCoded settled' raised' (K p) (W' p)) → ((p b : ℕ) → p < n → is_set_word (K p) ≡ true → b < 64 → bit_at (W' p) b ≡ 1 → element' (K p) b) → AreOrdered formed' settled' raised' element' n K W'
+  ordered_words K W W' o key code bit = record { formed_keys = λ q lq h. form (K q) (o.formed_keys q lq h); once = o.once; reached = o.reached; keyed = key; coded = code; elements = bit }
+
+  -- a word that doesn't change codes what it did
+  pub same_coded : (K W W' : ℕ → ℕ) (p : ℕ) → AreOrdered formed settled raised element n K W → p < n → is_set_word (K p) ≡ false → W' p ≡ W p → W' p ≢ 0 → IsCoded settled' raised' (K p) (W' p)
+  same_coded K W W' p o lt plain same nz =
+      subst (λ (w : ℕ). IsCoded settled' raised' (K p) w) (sym same) (coded_later settled settled' raised raised' (K p) (W p) (settle (K p)) (raise (K p)) (o.coded p lt plain (λ z. nz (same ∙ z))))
+
+  pub same_elements : (K W W' : ℕ → ℕ) (p b : ℕ) → AreOrdered formed settled raised element n K W → p < n → is_set_word (K p) ≡ true → b < 64 → W' p ≡ W p → bit_at (W' p) b ≡ 1 → element' (K p) b
+  same_elements K W W' p b o lt set low same e = part (K p) b (o.elements p b lt set low (ap (λ (y : ℕ). bit_at y b) (sym same) ∙ e))

@@ -1,8 +1,9 @@
 -- What stands at a place is what a pass knows that has the words itself.
-use Rattle.std.proofs.Common.{◌≡◌, ◌≢◌, ℕ, zero, suc, ◌+◌, ◌-◌, ◌^◌, ◌<◌, ◌≤◌, List, [], ◌∷◌, length, get_or, set, sym, refl, ap, ◌∙◌, inl, inr, ⊎_elim, subst, arith, cond, eq-eqb, ne_eqb, eqb, false, length-set, get_or-set_other, if◌then◌else◌}
+use Rattle.std.proofs.Common.{◌≡◌, ◌≢◌, ℕ, zero, suc, ◌+◌, ◌-◌, ◌^◌, ◌<◌, ◌≤◌, List, [], ◌∷◌, length, get_or, set, sym, refl, ap, ◌∙◌, inl, inr, ⊎_elim, subst, arith, Bool, cond, eq-eqb, ne_eqb, eqb, false, length-set, get_or-set_other, if◌then◌else◌, true, ◌&&◌, not, leb}
 use mathlib.Core.Logic.{dite}
 use Rattle.std.proofs.lemmas.Bool.{le-leb, lt-leb}
 use native.Mathlib.Decide.{ℕ_discrete, dec_le}
+use Rattle.memo_cells.specs.Keys.{is_set_word}
 use Rattle.memo_cells.specs.Views.{Has, times}
 use Rattle.memo_cells.specs.Views.{keys_from, places_from, values_from}
 
@@ -93,50 +94,71 @@ places_same (x ∷ ks) p (suc i) k q apart =
     (λ z. let a = ap (times q) (zero_place p x ks z) in let b = ap (times q) (zero_place p x (set ks i k) z) in omega arith)
     (λ n. let a = ap (times q) (some_place p x ks n) in let b = ap (times q) (some_place p x (set ks i k) n) in omega arith)
 
-pub open_value : (p k v : ℕ) (ks vs : List ℕ) → v < 2 ^ 63 → values_from p (k ∷ ks) (v ∷ vs) ≡ values_from (suc p) ks vs
-unfolding values_from
-open_value p k v ks vs low = ap (λ b. cond b ((p, k, v - 2 ^ 63) ∷ values_from (suc p) ks vs) (values_from (suc p) ks vs)) (lt-leb (2 ^ 63) v low)
+-- a key is of a word of a set, or of none
+pub either_word : {P : Type 0} (k : ℕ) → (is_set_word k ≡ true → P) → (is_set_word k ≡ false → P) → P
+either_word {P} k f g = elim (is_set_word k) as (λ b. is_set_word k ≡ b → P) [ true ↦ f | false ↦ g ] refl
 
-settled_value : (p k v : ℕ) (ks vs : List ℕ) → 2 ^ 63 ≤ v → values_from p (k ∷ ks) (v ∷ vs) ≡ (p, k, v - 2 ^ 63) ∷ values_from (suc p) ks vs
+and_false : (b : Bool) → b && false ≡ false
+and_false true = refl
+and_false false = refl
+
+-- a word that isn't settled, or is one of a set, is no settled value
+skipped : (p k v : ℕ) (ks vs : List ℕ) → leb (2 ^ 63) v && not (is_set_word k) ≡ false → values_from p (k ∷ ks) (v ∷ vs) ≡ values_from (suc p) ks vs
 unfolding values_from
-settled_value p k v ks vs high = ap (λ b. cond b ((p, k, v - 2 ^ 63) ∷ values_from (suc p) ks vs) (values_from (suc p) ks vs)) (le-leb (2 ^ 63) v high)
+skipped p k v ks vs e = ap (λ b. cond b ((p, k, v - 2 ^ 63) ∷ values_from (suc p) ks vs) (values_from (suc p) ks vs)) e
+
+pub open_value : (p k v : ℕ) (ks vs : List ℕ) → v < 2 ^ 63 → values_from p (k ∷ ks) (v ∷ vs) ≡ values_from (suc p) ks vs
+open_value p k v ks vs low = skipped p k v ks vs (ap (λ b. b && not (is_set_word k)) (lt-leb (2 ^ 63) v low))
+
+pub set_value : (p k v : ℕ) (ks vs : List ℕ) → is_set_word k ≡ true → values_from p (k ∷ ks) (v ∷ vs) ≡ values_from (suc p) ks vs
+set_value p k v ks vs set = skipped p k v ks vs (ap (λ b. leb (2 ^ 63) v && not b) set ∙ and_false (leb (2 ^ 63) v))
+
+pub settled_value : (p k v : ℕ) (ks vs : List ℕ) → 2 ^ 63 ≤ v → is_set_word k ≡ false → values_from p (k ∷ ks) (v ∷ vs) ≡ (p, k, v - 2 ^ 63) ∷ values_from (suc p) ks vs
+unfolding values_from
+settled_value p k v ks vs high plain =
+    ap (λ b. cond b ((p, k, v - 2 ^ 63) ∷ values_from (suc p) ks vs) (values_from (suc p) ks vs)) (ap (λ b. b && not (is_set_word k)) (le-leb (2 ^ 63) v high) ∙ ap not plain)
 
 pub no_value : (p k : ℕ) (ks vs : List ℕ) → (values_from p ks [] ≡ []) × (values_from p [] (k ∷ vs) ≡ [])
 unfolding values_from
 no_value p k ks vs = (refl, refl)
 
-pub values_has : (ks vs : List ℕ) (p i q k c : ℕ) → i < length ks → i < length vs → get_or ks i 0 ≡ k → get_or vs i 0 ≡ c + 2 ^ 63 → q ≡ p + i → Has (values_from p ks vs) (q, k, c)
-values_has [] vs p i q k c lk lv ek ev at = absurd (omega arith)
-values_has (x ∷ ks) [] p i q k c lk lv ek ev at = absurd (omega arith)
-values_has (x ∷ ks) (v ∷ vs) p zero q k c lk lv ek ev at =
+pub values_has : (ks vs : List ℕ) (p i q k c : ℕ) → i < length ks → i < length vs → get_or ks i 0 ≡ k → is_set_word k ≡ false → get_or vs i 0 ≡ c + 2 ^ 63 → q ≡ p + i → Has (values_from p ks vs) (q, k, c)
+values_has [] vs p i q k c lk lv ek plain ev at = absurd (omega arith)
+values_has (x ∷ ks) [] p i q k c lk lv ek plain ev at = absurd (omega arith)
+values_has (x ∷ ks) (v ∷ vs) p zero q k c lk lv ek plain ev at =
     let here : q ≡ p = omega arith in
     let code : c ≡ v - 2 ^ 63 = omega arith in
-    subst (λ l. Has l (q, k, c)) (sym (settled_value p x v ks vs (omega arith))) (inl (λ j. (here j, sym ek j, code j)))
-values_has (x ∷ ks) (v ∷ vs) p (suc i) q k c lk lv ek ev at =
-    let rest : Has (values_from (suc p) ks vs) (q, k, c) = values_has ks vs (suc p) i q k c (omega arith) (omega arith) ek ev (omega arith) in
-    dite (dec_le (2 ^ 63) v) (λ h. subst (λ l. Has l (q, k, c)) (sym (settled_value p x v ks vs h)) (inr rest)) (λ h. subst (λ l. Has l (q, k, c)) (sym (open_value p x v ks vs (omega arith))) rest)
+    subst (λ l. Has l (q, k, c)) (sym (settled_value p x v ks vs (omega arith) (ap is_set_word ek ∙ plain))) (inl (λ j. (here j, sym ek j, code j)))
+values_has (x ∷ ks) (v ∷ vs) p (suc i) q k c lk lv ek plain ev at =
+    let rest : Has (values_from (suc p) ks vs) (q, k, c) = values_has ks vs (suc p) i q k c (omega arith) (omega arith) ek plain ev (omega arith) in
+    dite (dec_le (2 ^ 63) v)
+    (λ h. either_word x
+    (λ set. subst (λ l. Has l (q, k, c)) (sym (set_value p x v ks vs set)) rest)
+    (λ plain. subst (λ l. Has l (q, k, c)) (sym (settled_value p x v ks vs h plain)) (inr rest)))
+    (λ h. subst (λ l. Has l (q, k, c)) (sym (open_value p x v ks vs (omega arith))) rest)
 
-pub has_values : (ks vs : List ℕ) (p q k c : ℕ) → Has (values_from p ks vs) (q, k, c) → (i : ℕ) × (i < length ks) × (i < length vs) × (q ≡ p + i) × (get_or ks i 0 ≡ k) × (get_or vs i 0 ≡ c + 2 ^ 63)
+pub has_values : (ks vs : List ℕ) (p q k c : ℕ) → Has (values_from p ks vs) (q, k, c) → (i : ℕ) × (i < length ks) × (i < length vs) × (q ≡ p + i) × (get_or ks i 0 ≡ k) × (get_or vs i 0 ≡ c + 2 ^ 63) × (is_set_word k ≡ false)
 has_values ks [] p q k c h = absurd (subst (λ l. Has l (q, k, c)) (no_value p 0 ks []).0 h)
 has_values [] (v ∷ vs) p q k c h = absurd (subst (λ l. Has l (q, k, c)) (no_value p v [] vs).1 h)
 has_values (x ∷ ks) (v ∷ vs) p q k c h =
-    let later : Has (values_from (suc p) ks vs) (q, k, c) → (i : ℕ) × (i < length (x ∷ ks)) × (i < length (v ∷ vs)) × (q ≡ p + i) × (get_or (x ∷ ks) i 0 ≡ k) × (get_or (v ∷ vs) i 0 ≡ c + 2 ^ 63)
-    = λ r. let t = has_values ks vs (suc p) q k c r in (suc t.0, omega (arith, t.1), omega (arith, t.2), omega (arith, t.3), t.4, t.5) in
+    let later : Has (values_from (suc p) ks vs) (q, k, c) → (i : ℕ) × (i < length (x ∷ ks)) × (i < length (v ∷ vs)) × (q ≡ p + i) × (get_or (x ∷ ks) i 0 ≡ k) × (get_or (v ∷ vs) i 0 ≡ c + 2 ^ 63) × (is_set_word k ≡ false)
+    = λ r. let t = has_values ks vs (suc p) q k c r in (suc t.0, omega (arith, t.1), omega (arith, t.2), omega (arith, t.3), t.4, t.5, t.6) in
     dite (dec_le (2 ^ 63) v)
-    (λ high. ⊎_elim
-    (λ e. let at : q ≡ p = ap (λ y. y.0) e in let word : k ≡ x = ap (λ y. y.1) e in let code : c ≡ v - 2 ^ 63 = ap (λ y. y.2) e in (0, omega arith, omega arith, omega arith, sym word, omega arith))
+    (λ high. either_word x
+    (λ set. later (subst (λ l. Has l (q, k, c)) (set_value p x v ks vs set) h))
+    (λ plain. ⊎_elim
+    (λ e. let at : q ≡ p = ap (λ y. y.0) e in let word : k ≡ x = ap (λ y. y.1) e in let code : c ≡ v - 2 ^ 63 = ap (λ y. y.2) e in (0, omega arith, omega arith, omega arith, sym word, omega arith, ap is_set_word word ∙ plain))
     later
-    (subst (λ l. Has l (q, k, c)) (settled_value p x v ks vs high) h))
+    (subst (λ l. Has l (q, k, c)) (settled_value p x v ks vs high plain) h)))
     (λ low. later (subst (λ l. Has l (q, k, c)) (open_value p x v ks vs (omega arith)) h))
 
 pub values_more : (ks vs : List ℕ) (i k q j c : ℕ) → get_or ks i 0 ≡ 0 → ((p : ℕ) → p < length vs → get_or vs p 0 ≢ 0 → get_or ks p 0 ≢ 0) → Has (values_from 0 ks vs) (q, j, c) → Has (values_from 0 (set ks i k) vs) (q, j, c)
 values_more ks vs i k q j c free keyed h = let t = has_values ks vs 0 q j c h in
     let apart : t.0 ≢ i = λ e. keyed t.0 t.2 (λ z. let y = t.5 in omega arith) (ap (λ y. get_or ks y 0) e ∙ free) in
-    values_has (set ks i k) vs 0 t.0 q j c (omega (arith, t.1, length-set ks i k)) t.2 (get_or-set_other ks i t.0 k 0 apart ∙ t.4) t.5 t.3
+    values_has (set ks i k) vs 0 t.0 q j c (omega (arith, t.1, length-set ks i k)) t.2 (get_or-set_other ks i t.0 k 0 apart ∙ t.4) t.6 t.5 t.3
 
--- a value that is settled takes none away
-pub values_put : (ks vs : List ℕ) (i y q j c : ℕ) → get_or vs i 0 ≡ 0 → Has (values_from 0 ks vs) (q, j, c) → Has (values_from 0 ks (set vs i y)) (q, j, c)
-values_put ks vs i y q j c free h =
+-- where no settled word changes, each settled value stays
+pub values_kept : (ks vs ws : List ℕ) (q j c : ℕ) → length ws ≡ length vs → ((i : ℕ) → is_set_word (get_or ks i 0) ≡ false → 2 ^ 63 ≤ get_or vs i 0 → get_or ws i 0 ≡ get_or vs i 0) → Has (values_from 0 ks vs) (q, j, c) → Has (values_from 0 ks ws) (q, j, c)
+values_kept ks vs ws q j c long same h =
     let t = has_values ks vs 0 q j c h in
-    let apart : t.0 ≢ i = λ e. (let z : get_or vs t.0 0 ≡ 0 = ap (λ y. get_or vs y 0) e ∙ free in let w = t.5 in absurd (omega arith)) in
-    values_has ks (set vs i y) 0 t.0 q j c t.1 (omega (arith, t.2, length-set vs i y)) t.4 (get_or-set_other vs i t.0 y 0 apart ∙ t.5) t.3
+    values_has ks ws 0 t.0 q j c t.1 (omega (arith, t.2, long)) t.4 t.6 (same t.0 (ap is_set_word t.4 ∙ t.6) (omega (arith, t.5)) ∙ t.5) t.3

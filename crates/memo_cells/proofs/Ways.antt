@@ -1,5 +1,5 @@
 -- The way to the cell of an instance: a key for the attribute at the node, and one for each argument.
-use Rattle.std.proofs.Common.{◌≡◌, ℕ, zero, suc, ◌+◌, ◌<◌, ◌^◌, Some, None, Option, IfNone, Result, Ok, Err, OnErr, slice_get, take, drop, length, List, [], ◌∷◌, ◌++◌, reverse, refl, sym, ap, ◌∙◌, subst, arith, inl, inr, ⊎_elim}
+use Rattle.std.proofs.Common.{◌≡◌, false, ℕ, zero, suc, ◌+◌, ◌<◌, ◌^◌, Some, None, Option, IfNone, Result, Ok, Err, OnErr, slice_get, take, drop, length, List, [], ◌∷◌, ◌++◌, reverse, refl, sym, ap, ◌∙◌, subst, arith, inl, inr, ⊎_elim}
 use Rattle.std.proofs.lemmas.List.{append_assoc, append-nil, reverse-append}
 use Rattle.std.proofs.lemmas.Option.{slice_get_within}
 use Rattle.rag_io.specs.Pool.{ArePooled}
@@ -13,11 +13,11 @@ use Rattle.equation_law.specs.Values.{as_argument}
 use Rattle.equation_law.proofs.Keys.{one_list, one_reference}
 use Rattle.memo_cells.specs.declared.view.Frame.{Frame}
 use Rattle.memo_cells.specs.declared.view.View.{View}
-use Rattle.memo_cells.specs.Keys.{argument_word, attribute_word, query_word}
+use Rattle.memo_cells.specs.Keys.{argument_word, attribute_word, is_set_word, query_word}
 use Rattle.memo_cells.specs.Naming.{ClaimsKeysTo, IsCellOf, IsFormed, IsKeyTo, IsNamed}
 use Rattle.memo_cells.specs.Standing.{IsPassOf}
-use Rattle.memo_cells.specs.Views.{ClaimsOnly, Has, IsAtLeast, IsNowhere, IsSlot}
-use Rattle.memo_cells.proofs.Naming.{key_later, named_later, one_word}
+use Rattle.memo_cells.specs.Views.{ClaimsOnly, Has, IsAtLeast, IsNowhere, IsPlain, IsSlot}
+use Rattle.memo_cells.proofs.Naming.{key_later, named_later, named_plain, one_word}
 
 -- the first of some codes are codes
 pub codes_front : (p : Program) (ks : List Kind) (cs ds : List ℕ) → AreCodes p ks (cs ++ ds) → AreCodes p ks cs
@@ -37,6 +37,13 @@ pub record IsOnWay (f : Frame) (v : View) (a n : ℕ) (done : List ℕ) (s : ℕ
   pub key : ℕ
   pub slot : IsSlot f v s key
   pub named : IsNamed v key a n (reverse done)
+
+-- a slot of such a key has no word of a set
+pub slot_plain : (f : Frame) (v : View) (s k : ℕ) → IsPassOf f v → IsSlot f v s k → is_set_word k ≡ false → IsPlain v s
+slot_plain f v s k own at plain j has = ap is_set_word (own.one_key s j k has at.1) ∙ plain
+
+pub way_plain : (f : Frame) (v : View) (a n : ℕ) (done : List ℕ) (s : ℕ) → IsPassOf f v → IsOnWay f v a n done s → IsPlain v s
+way_plain f v a n done s own h = slot_plain f v s h.key own h.slot (named_plain v h.key a n (reverse done) h.named)
 
 pub way_later : (f : Frame) (v w : View) (a n : ℕ) (done : List ℕ) (s : ℕ) → IsAtLeast v w → IsOnWay f v a n done s → IsOnWay f w a n done s
 way_later f v w a n done s more h = record { key = h.key; slot = (h.slot.0, more.keys s h.key h.slot.1); named = named_later v w more h.key a n (reverse done) h.named }
@@ -122,7 +129,7 @@ module _ (p : Program) (v : View) (a n : ℕ) (xs : Args) (good : AreCodes p (at
       }
 
   pub formed_on_way : (k : ℕ) (done rest : List ℕ) → IsInstance p of → done ++ rest ≡ codes_in xs → IsNamed v k a n (reverse done) → IsFormed p v k
-  formed_on_way k done rest is all h = record { of = of; instance = is; key = key_on_way k done rest all h }
+  formed_on_way k done rest is all h = inl (record { of = of; instance = is; key = key_on_way k done rest all h })
 
 -- the way to the first codes
 module _ (f : Frame) (v w : View) (a n : ℕ) (xs : Args) (place s : ℕ) (way : IsOnWay f v a n (take place (codes_in xs)) s) (own : IsPassOf f v) (more : IsAtLeast v w) where
@@ -173,4 +180,4 @@ module _ (p : Program) (v : View) (q : ℕ) (small : q < 2 ^ 32) where
   query_key = record { prefix = Query q; of = ([], refl); stands = (small, refl) }
 
   pub query_formed : IsInstance p (Query q) → IsFormed p v (query_word q)
-  query_formed is = record { of = Query q; instance = is; key = query_key }
+  query_formed is = inl (record { of = Query q; instance = is; key = query_key })

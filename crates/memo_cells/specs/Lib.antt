@@ -1,6 +1,9 @@
 pub mod Keys
 pub mod Naming
+pub mod Showing
 pub mod Standing
 pub mod Steps
+pub mod Truths
 pub mod Views
 pub mod Words
+pub mod Working

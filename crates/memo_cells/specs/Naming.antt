@@ -1,12 +1,15 @@
 -- What a key word stands for: an instance, or one with the first of its arguments.
-use Rattle.std.specs.Prelude.{◌≡◌, ℕ, ◌<◌, ◌^◌, List, [], ◌∷◌, ◌++◌, ◌⊎◌, reverse}
-use Rattle.equation_law.specs.Checked.{IsInstance}
+use Rattle.std.specs.Prelude.{◌≡◌, ℕ, ◌<◌, ◌^◌, ◌/◌, List, [], ◌∷◌, ◌++◌, ◌⊎◌, length, reverse}
+use Rattle.attr_rules.specs.declared.kinds.Kind.{Kind}
+use Rattle.attr_rules.specs.declared.kinds.Kind.TheVariants as kinds
+use Rattle.equation_law.specs.Checked.{IsInstance, IsNodeOf}
 use Rattle.equation_law.specs.Codes.{AreCodes, arguments_at, reference_of}
+use Rattle.equation_law.specs.Equations.{kind_in}
 use Rattle.equation_law.specs.Names.{Argument, Attribute, Instance, Query, Reference}
 use Rattle.equation_law.specs.Program.{Program, attribute_parameters, text_of}
 use Rattle.memo_cells.specs.declared.view.Frame.{Frame}
 use Rattle.memo_cells.specs.declared.view.View.{View}
-use Rattle.memo_cells.specs.Keys.{argument_word, attribute_word, query_word}
+use Rattle.memo_cells.specs.Keys.{argument_word, attribute_word, query_word, set_word}
 use Rattle.memo_cells.specs.Views.{Has, IsFull, IsSlot, times}
 
 -- k is the key word of the attribute a at the node of code n with arguments of these codes, the last one first: with an argument, it names
@@ -45,14 +48,52 @@ pub record IsKeyTo (p : Program) (v : View) (i : Instance) (k : ℕ) : Type 0 wh
   pub stands : StandsFor p v k prefix
 
 -- it is a key on the way to the cell of an instance of the program
-pub record IsFormed (p : Program) (v : View) (k : ℕ) : Type 0 where
+pub record IsFormedKey (p : Program) (v : View) (k : ℕ) : Type 0 where
   pub of : Instance
   pub instance : IsInstance p of
   pub key : IsKeyTo p v of k
 
+-- the code of a text of the program, or of a node of the class
+abbrev pub IsElementCode : Program → Kind → ℕ → Type 0
+IsElementCode p kinds.Truth c = ⊥
+IsElementCode p kinds.Int c = ⊥
+IsElementCode p kinds.Text c = ⊥
+IsElementCode p (kinds.Node d) c = ⊥
+IsElementCode p kinds.Texts c = c < length p.texts
+IsElementCode p (kinds.Nodes d) c = (0 < c) × IsNodeOf p d (reference_of c)
+
+-- k is the key of the w-th word of the set of i
+pub record IsWordOf (p : Program) (v : View) (k : ℕ) (i : Instance) (w : ℕ) : Type 0 where
+  pub slot : ℕ
+  pub key : ℕ
+  pub there : Has v.keys (slot, key)
+  pub stands : StandsFor p v key i
+  pub low : slot < 2 ^ 29
+  pub small : w < 2 ^ 32
+  pub is : k ≡ set_word slot w
+
+-- it is the key of a word of the set of an instance of the program, in which the code of an element of its type lies
+pub record IsFormedWord (p : Program) (v : View) (k : ℕ) : Type 0 where
+  pub of : Instance
+  pub instance : IsInstance p of
+  pub word : ℕ
+  pub key : IsWordOf p v k of word
+  pub code : ℕ
+  pub element : IsElementCode p (kind_in p of) code
+  pub lies : code / 64 ≡ word
+
+-- it is the key of a cell of the program
+abbrev pub IsFormed : Program → View → ℕ → Type 0
+IsFormed p v k = IsFormedKey p v k ⊎ IsFormedWord p v k
+
 -- the cell of i is seen claimed at place s
 abbrev pub IsCellOf : Program → Frame → View → Instance → ℕ → Type 0
 IsCellOf p f v i s = (k : ℕ) × IsSlot f v s k × StandsFor p v k i
+
+-- k is the key word by which the way to i begins
+abbrev pub IsFirstKey : Instance → ℕ → Type 0
+IsFirstKey (Attribute a r xs) k = (a < 2 ^ 16) × ((n : ℕ) × (n < 2 ^ 32) × (k ≡ attribute_word a n))
+IsFirstKey (Query q) k = (q < 2 ^ 32) × (k ≡ query_word q)
 
 -- what a call claimed are cells on the way to that of i
 abbrev pub ClaimsKeysTo : Program → View → View → Instance → Type 0

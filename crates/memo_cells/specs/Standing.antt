@@ -1,17 +1,27 @@
 -- What the words of the table stand for.
-use Rattle.std.specs.Prelude.{◌≡◌, ◌≢◌, ℕ, ◌<◌, ◌≤◌, ◌^◌, Some}
-use Rattle.solutions.specs.Asking.{Meets}
+use Rattle.std.specs.Prelude.{◌≡◌, ◌≢◌, ◌↔◌, ℕ, true, false, ◌+◌, ◌*◌, ◌<◌, ◌≤◌, ◌^◌, ◌⊎◌, List, Some}
+use Rattle.std.specs.Int.{bit_at}
+use Rattle.solutions.specs.Asking.{Ends, Meets}
+use Rattle.solutions.specs.Leading.{Holds, IsLower, Mixed, Read}
+use Rattle.solutions.specs.Rounds.{is_in}
+use Rattle.attr_rules.specs.declared.kinds.Kind.TheVariants as kinds
+use Rattle.attr_rules.specs.Rules.{is_single}
 use Rattle.equation_law.specs.declared.system.System.{System}
-use Rattle.equation_law.specs.Codes.{value_at}
+use Rattle.equation_law.specs.Checked.{IsInstance}
+use Rattle.equation_law.specs.Codes.{IsSmall, value_at}
 use Rattle.equation_law.specs.Equations.{HasValue, equations_of, kind_in}
+use Rattle.equation_law.specs.Loops.{fits_in, join_in, order_in}
 use Rattle.equation_law.specs.Names.{Instance}
+use Rattle.equation_law.specs.Orders.{AtMost}
 use Rattle.equation_law.specs.Program.{Program, text_of}
 use Rattle.equation_law.specs.Systems.{program_of}
-use Rattle.equation_law.specs.Values.{Value, as_kind}
+use Rattle.equation_law.specs.Values.{Value, as_kind, truth}
 use Rattle.memo_cells.specs.declared.view.Frame.{Frame}
 use Rattle.memo_cells.specs.declared.view.View.{View}
-use Rattle.memo_cells.specs.Naming.{StandsFor}
-use Rattle.memo_cells.specs.Views.{Has, first_view, times}
+use Rattle.memo_cells.specs.Naming.{IsCellOf, IsElementCode, IsFormed, IsWordOf, StandsFor}
+use Rattle.memo_cells.specs.Showing.{AreShown, IsWordSeen, ShowsAtLeast, ShowsAtMost, ShowsCode, ShowsTrue, has_code}
+use Rattle.memo_cells.specs.Views.{Has, first_view, knows_all, times, word_at}
+use Rattle.memo_cells.specs.Words.{AreOrdered}
 
 -- the cell of i is seen settled
 pub record Knows (p : Program) (v : View) (i : Instance) : Type 0 where
@@ -21,22 +31,39 @@ pub record Knows (p : Program) (v : View) (i : Instance) : Type 0 where
   pub code : ℕ
   pub settled : Has v.values (slot, key, code)
 
--- c is the code of the value that i has in the solution
+-- c is the code of the value that i has in the solution; that of a set is 0
 pub record IsCodeOf (p : Program) (i : Instance) (c : ℕ) : Type 0 where
   pub value : Value
   pub has : HasValue p i value
-  pub coded : value_at (text_of p) (kind_in p i) c ≡ as_kind (kind_in p i) value
+  pub coded : is_single (kind_in p i) ≡ true → value_at (text_of p) (kind_in p i) c ≡ as_kind (kind_in p i) value
+  pub small : IsSmall (kind_in p i) c
   pub fits : c < 2 ^ 32
 
--- c is the code of the value of what k stands for, and all that this demands is seen settled
+-- c is the code of the value of what k stands for, the words of a set show it, and all that this demands is seen settled
 pub record IsSettled (p : Program) (v : View) (k c : ℕ) : Type 0 where
   pub of : Instance
   pub stands : StandsFor p v k of
   pub code : IsCodeOf p of c
+  pub shown : is_single (kind_in p of) ≡ false → ShowsAtLeast p v of (kind_in p of) code.value
   pub closed : (j : Instance) → Meets (HasValue p) ((equations_of p).equation of) j → Knows p v j
 
+-- T gives the circular instances values at most those that a rising list reaches
+abbrev pub IsLowerOf : Program → (Instance → Value) → Type 0
+IsLowerOf p T = IsLower (equations_of p) (order_in p) (fits_in p) (join_in p) T
+
+-- What the words show of circular instances is at most the values of one lower assignment, and of a set they show elements. What they show of an undeclared set is part of
+-- its value, and nothing where it has none; an undeclared truth value that they show is true. All of the value of a settled instance is shown, if it is a set or a truth value.
+pub record AreApproximations (p : Program) (v : View) : Type 0 where
+  pub values : Instance → Value
+  pub lower : IsLowerOf p values
+  pub circular : (i : Instance) → (equations_of p).circular i ≡ true → ShowsAtMost p v i (kind_in p i) (values i)
+  pub codes : (i : Instance) (c : ℕ) → ShowsCode p v i c → IsElementCode p (kind_in p i) c
+  pub undeclared : (i : Instance) (c : ℕ) → (equations_of p).circular i ≡ false → ShowsCode p v i c → (x : Value) × HasValue p i x × (has_code (text_of p) (kind_in p i) x c ≡ true)
+  pub truths : (i : Instance) → (equations_of p).circular i ≡ false → kind_in p i ≡ kinds.Truth → ShowsTrue p v i → (x : Value) × HasValue p i x × (truth x ≡ true)
+  pub settled : (i : Instance) → Knows p v i → (x : Value) × HasValue p i x × ShowsAtLeast p v i (kind_in p i) x
+
 -- A pass of these cells: what it knows stands in one table, where a place has one key and a key one place, and what is settled codes the
--- value of what its key stands for. One that has the whole share claimed all of them.
+-- value of what its key stands for. What the words show are approximations. One that has the whole share claimed all of them.
 pub record IsPassOf (f : Frame) (v : View) : Type 0 where
   pub frame : v.frame ≡ Some f
   pub few : f.cells ≤ 4194304
@@ -44,6 +71,8 @@ pub record IsPassOf (f : Frame) (v : View) : Type 0 where
   pub one_key : (p j k : ℕ) → Has v.keys (p, j) → Has v.keys (p, k) → j ≡ k
   pub one_place : (p q k : ℕ) → Has v.keys (p, k) → Has v.keys (q, k) → p ≡ q
   pub valued : (p k c : ℕ) → Has v.values (p, k, c) → Has v.keys (p, k) × ((i : Instance) × StandsFor (program_of f.system.value) v k i × IsCodeOf (program_of f.system.value) i c)
+  pub keyed : (p k n : ℕ) → Has v.bits (p, k, n) → Has v.keys (p, k)
+  pub approximations : AreApproximations (program_of f.system.value) v
   pub whole : v.share ≡ 2 ^ 62 → (p k : ℕ) → Has v.keys (p, k) → times p v.claims ≢ 0
 
 -- the cells of a system and their first pass
@@ -53,8 +82,115 @@ pub record AreNew (kept : System) (count : ℕ) (f : Frame) (v : View) : Type 0 
   pub first : v ≡ first_view f
   pub own : IsPassOf f v
 
--- the code is that of the value of what stands at this place, and all that this demands is known as settled
+-- the code is that of the value of what stands at this place, which is no circular instance, and all that this demands is known as settled
 pub record MaySettle (p : Program) (v : View) (place code : ℕ) : Type 0 where
   pub key : ℕ
   pub here : Has v.keys (place, key)
   pub settled : IsSettled p v key code
+  pub undeclared : (equations_of p).circular settled.of ≡ false
+
+-- The equation of i comes to x under values of the circular instances that are at most what the words show, and the values of the others.
+pub record ComesTo (p : Program) (v : View) (i : Instance) (x : Value) : Type 0 where
+  pub below : Instance → Value
+  pub shown : AreShown p v below
+  pub demands : List Instance
+  pub ends : Ends (Mixed (equations_of p) below) ((equations_of p).equation i) x demands
+
+-- x is such a value of a circular instance, or the value of an undeclared one
+abbrev pub MayShow : Program → View → Instance → Value → Type 0
+MayShow p v i x = ((equations_of p).circular i ≡ true × ComesTo p v i x) ⊎ ((equations_of p).circular i ≡ false × HasValue p i x)
+
+-- each of these bits stands for an element of the value x of i, in the w-th word of its set
+abbrev pub AreElementsOf : Program → Instance → Value → ℕ → ℕ → Type 0
+AreElementsOf p i x w bits = (b : ℕ) → b < 64 → bit_at bits b ≡ 1 → IsElementCode p (kind_in p i) (64 * w + b) × (has_code (text_of p) (kind_in p i) x (64 * w + b) ≡ true)
+
+-- these bits may be set in the w-th word of the set of what stands at this place
+pub record MayRaiseSet (p : Program) (v : View) (place w bits : ℕ) : Type 0 where
+  pub of : Instance
+  pub key : ℕ
+  pub here : Has v.keys (place, key)
+  pub stands : StandsFor p v key of
+  pub instance : IsInstance p of
+  pub value : Value
+  pub may : MayShow p v of value
+  pub elements : AreElementsOf p of value w bits
+
+-- the same of the key of the word
+pub record MayAdd (p : Program) (v : View) (place bits : ℕ) : Type 0 where
+  pub of : Instance
+  pub key : ℕ
+  pub word : ℕ
+  pub here : Has v.keys (place, key)
+  pub is : IsWordOf p v key of word
+  pub value : Value
+  pub may : MayShow p v of value
+  pub elements : AreElementsOf p of value word bits
+
+-- a circular instance stands here that may be true
+pub record MayRaiseTruth (p : Program) (v : View) (place : ℕ) : Type 0 where
+  pub of : Instance
+  pub key : ℕ
+  pub here : Has v.keys (place, key)
+  pub stands : StandsFor p v key of
+  pub is_circular : (equations_of p).circular of ≡ true
+  pub kind : kind_in p of ≡ kinds.Truth
+  pub value : Value
+  pub comes : ComesTo p v of value
+  pub is_true : truth value ≡ true
+
+-- these bits may be raised in the w-th word of what stands at this place
+abbrev pub MayRaise : Program → View → ℕ → ℕ → ℕ → Type 0
+MayRaise p v place w bits = (MayRaiseTruth p v place × (w ≡ 0) × (bits ≡ 1)) ⊎ MayRaiseSet p v place w bits
+
+-- x is the w-th word of what is shown of the instance at this place, and has these bits
+pub record HasWord (p : Program) (f : Frame) (v : View) (place w bits x : ℕ) : Type 0 where
+  pub seen : (i : Instance) → IsCellOf p f v i place → IsWordSeen p v i (kind_in p i) w x
+  pub added : (b : ℕ) → bit_at bits b ≡ 1 → bit_at x b ≡ 1
+
+-- x is the w-th word of the value of i, if that is a set
+pub record IsWordOfValue (p : Program) (i : Instance) (w x : ℕ) : Type 0 where
+  pub value : Value
+  pub has : HasValue p i value
+  pub bits : is_single (kind_in p i) ≡ false → (b : ℕ) → b < 64 → IsElementCode p (kind_in p i) (64 * w + b) → (bit_at x b ≡ 1) ↔ (has_code (text_of p) (kind_in p i) value (64 * w + b) ≡ true)
+
+-- What stands in these slots are circular instances that are closed under values that the words show: what each of their equations reads
+-- is the value of one of them, or seen settled, and it comes to at most the value of its own instance.
+pub record MaySeal (p : Program) (f : Frame) (v : View) (slots : List ℕ) : Type 0 where
+  pub set : List Instance
+  pub values : Instance → Value
+  pub shown : AreShown p v values
+  pub slot_of : (i : Instance) → is_in (equations_of p).same set i ≡ true → (s : ℕ) × Has slots s × IsCellOf p f v i s
+  pub stands : (s : ℕ) → Has slots s → (i : Instance) × (is_in (equations_of p).same set i ≡ true) × IsCellOf p f v i s
+  pub holds : (i : Instance) → is_in (equations_of p).same set i ≡ true → Holds (equations_of p) (order_in p) set values i
+  pub known : (i j : Instance) → is_in (equations_of p).same set i ≡ true → Meets (Read (equations_of p) set values) ((equations_of p).equation i) j → (is_in (equations_of p).same set j ≡ true) ⊎ Knows p v j
+
+-- a settled code is final: no value of the lower assignment is above that of a circular instance, so it has that value there
+pub record IsFinal (p : Program) (v : View) (T : Instance → Value) (k c : ℕ) : Type 0 where
+  pub settled : IsSettled p v k c
+  pub lower : (equations_of p).circular settled.of ≡ true → AtMost settled.code.value (T settled.of)
+
+-- k stands for a circular instance that T makes true
+pub record IsRaised (p : Program) (v : View) (T : Instance → Value) (k : ℕ) : Type 0 where
+  pub of : Instance
+  pub stands : StandsFor p v k of
+  pub is_circular : (equations_of p).circular of ≡ true
+  pub kind : kind_in p of ≡ kinds.Truth
+  pub is_true : truth (T of) ≡ true
+
+-- the element of code c is in the value that T gives a circular i, or in the value of an undeclared one
+abbrev pub IsPart : Program → (Instance → Value) → Instance → ℕ → Type 0
+IsPart p T i c = (((equations_of p).circular i ≡ true) × (has_code (text_of p) (kind_in p i) (T i) c ≡ true)) ⊎ (((equations_of p).circular i ≡ false) × ((x : Value) × HasValue p i x × (has_code (text_of p) (kind_in p i) x c ≡ true)))
+
+-- k is the key of a word of a set, and the b-th bit of that word stands for an element of the type that is one
+pub record IsElement (p : Program) (v : View) (T : Instance → Value) (k b : ℕ) : Type 0 where
+  pub of : Instance
+  pub word : ℕ
+  pub key : IsWordOf p v k of word
+  pub part : IsPart p T of (64 * word + b)
+  pub code : IsElementCode p (kind_in p of) (64 * word + b)
+
+-- the words of the cells of a program, if a pass knows all of them
+pub record AreWords (f : Frame) (ks vs : List ℕ) : Type 0 where
+  pub values : Instance → Value
+  pub lower : IsLowerOf (program_of f.system.value) values
+  pub ordered : AreOrdered (IsFormed (program_of f.system.value) (knows_all f ks vs)) (IsFinal (program_of f.system.value) (knows_all f ks vs) values) (IsRaised (program_of f.system.value) (knows_all f ks vs) values) (IsElement (program_of f.system.value) (knows_all f ks vs) values) f.cells (word_at ks) (word_at vs)

@@ -1,10 +1,11 @@
 -- What a single step on the words tells a pass: `v` is what it knew, `w` what it knows then, and `found` the word that stood there.
-use Rattle.std.specs.Prelude.{◌≡◌, ◌≢◌, ℕ, ◌+◌, ◌-◌, ◌^◌, ◌<◌, ◌≤◌, ◌⊎◌}
+use Rattle.std.specs.Prelude.{◌≡◌, ◌≢◌, ℕ, ◌+◌, ◌-◌, ◌^◌, ◌<◌, ◌≤◌, ◌⊎◌, List}
+use Rattle.std.specs.Int.{bit_at}
 use Rattle.memo_cells.specs.declared.probe.Search.{Search}
 use Rattle.memo_cells.specs.declared.probe.Search.TheVariants.{At, Nowhere, Passed}
 use Rattle.memo_cells.specs.declared.view.Frame.{Frame}
 use Rattle.memo_cells.specs.declared.view.View.{View}
-use Rattle.memo_cells.specs.Views.{Has, IsNowhere, IsOtherIn, IsPassed, IsSlot, times}
+use Rattle.memo_cells.specs.Views.{Has, IsNowhere, IsOtherIn, IsPassed, IsSlot, shown_bits, times}
 
 -- it read a key word: a free place behind other keys alone tells that the key that leads there stands nowhere
 pub record KeySeen (f : Frame) (v w : View) (place found : ℕ) : Type 0 where
@@ -35,6 +36,22 @@ pub record ValueTried (v w : View) (place put found : ℕ) : Type 0 where
   pub code : found < 2 ^ 63 + 2 ^ 32
   pub stays : (k c : ℕ) → Has v.values (place, k, c) → found ≡ c + 2 ^ 63
   pub claims : w.claims ≡ v.claims
+
+-- it read the bits of a value word
+pub record BitsSeen (v w : View) (place found : ℕ) : Type 0 where
+  pub all : (k n : ℕ) → Has v.keys (place, k) → n < shown_bits k → bit_at found n ≡ 1 → Has w.bits (place, k, n)
+  pub only : (k n : ℕ) → Has w.bits (place, k, n) → bit_at found n ≡ 1
+  pub keys : w.keys ≡ v.keys
+  pub claims : w.claims ≡ v.claims
+
+-- it set bits of a value word, and read it then
+pub record BitsAdded (v w : View) (place put found : ℕ) : Type 0 where
+  pub seen : BitsSeen v w place found
+  pub added : (n : ℕ) → bit_at put n ≡ 1 → bit_at found n ≡ 1
+
+-- what stands in these slots is seen settled
+abbrev pub AreSealed : View → View → List ℕ → Type 0
+AreSealed v w slots = (s k : ℕ) → Has slots s → Has v.keys (s, k) → (c : ℕ) × Has w.values (s, k, c)
 
 -- what a search for the key k finds among the places from a on, below b
 abbrev pub IsSearched : Frame → View → ℕ → ℕ → ℕ → Search → Type 0

@@ -1,9 +1,10 @@
 -- What a pass knows.
-use Rattle.std.specs.Prelude.{◌≡◌, ◌≢◌, ℕ, zero, suc, ◌+◌, ◌-◌, ◌^◌, ◌<◌, ◌≤◌, ◌⊎◌, ◌==◌, ◌&&◌, nat_le, Bool, List, [], ◌∷◌, Some, slice_index, if◌then◌else◌}
+use Rattle.std.specs.Prelude.{◌≡◌, ◌≢◌, ℕ, zero, suc, ◌+◌, ◌-◌, ◌^◌, ◌<◌, ◌≤◌, ◌⊎◌, ◌==◌, ◌&&◌, not, nat_le, Bool, false, List, [], ◌∷◌, ◌++◌, Some, set, slice_index, if◌then◌else◌}
+use Rattle.std.specs.Int.{bit_at}
 use Rattle.std.specs.List.{list_any}
 use Rattle.memo_cells.specs.declared.view.Frame.{Frame}
 use Rattle.memo_cells.specs.declared.view.View.{View}
-use Rattle.memo_cells.specs.Keys.{is_attribute, start}
+use Rattle.memo_cells.specs.Keys.{is_attribute, is_set_word, start}
 use Rattle.memo_cells.specs.Words.{Before}
 
 -- x stands in the list
@@ -26,15 +27,39 @@ unfoldable pub places_from : ℕ → List ℕ → List ℕ
 places_from p [] = []
 places_from p (k ∷ ks) = if k == 0 then places_from (suc p) ks else p ∷ places_from (suc p) ks
 
--- each place whose value is settled, with its key and code
+-- each place whose value is settled, with its key and code; a word of a set isn't settled by itself
 unfoldable pub values_from : ℕ → List ℕ → List ℕ → List (ℕ × ℕ × ℕ)
 values_from p ks [] = []
 values_from p [] (v ∷ vs) = []
-values_from p (k ∷ ks) (v ∷ vs) = if nat_le (2 ^ 63) v then (p, k, v - 2 ^ 63) ∷ values_from (suc p) ks vs else values_from (suc p) ks vs
+values_from p (k ∷ ks) (v ∷ vs) = if nat_le (2 ^ 63) v && not (is_set_word k) then (p, k, v - 2 ^ 63) ∷ values_from (suc p) ks vs else values_from (suc p) ks vs
+
+-- the bits below n of the value word v that are set
+unfoldable pub bits_below : ℕ → ℕ → ℕ → ℕ → List (ℕ × ℕ × ℕ)
+bits_below p k v zero = []
+bits_below p k v (suc n) = if bit_at v n == 1 then (p, k, n) ∷ bits_below p k v n else bits_below p k v n
+
+-- the bits by which a key shows something: the 64 of a word of a set, and the lowest of any other key
+abbrev pub shown_bits : ℕ → ℕ
+shown_bits k = if is_set_word k then 64 else 1
+
+-- each such bit that is set, with its place and key
+unfoldable pub bits_from : ℕ → List ℕ → List ℕ → List (ℕ × ℕ × ℕ)
+bits_from p ks [] = []
+bits_from p [] (v ∷ vs) = []
+bits_from p (k ∷ ks) (v ∷ vs) = bits_below p k v (shown_bits k) ++ bits_from (suc p) ks vs
+
+-- a value word with the mark of what is settled
+abbrev pub with_mark : ℕ → ℕ
+with_mark v = if nat_le (2 ^ 63) v then v else v + 2 ^ 63
+
+-- the words with this mark at these places
+abbrev pub marked : List ℕ → List ℕ → List ℕ
+marked vs [] = vs
+marked vs (p ∷ ps) = marked (set vs p (with_mark (slice_index vs p))) ps
 
 -- a pass that has the words itself knows all that stands there, and claimed it
 abbrev pub knows_all : Frame → List ℕ → List ℕ → View
-knows_all f ks vs = record { frame = Some f; share = 2 ^ 62; keys = keys_from 0 ks; values = values_from 0 ks vs; claims = places_from 0 ks }
+knows_all f ks vs = record { frame = Some f; share = 2 ^ 62; keys = keys_from 0 ks; values = values_from 0 ks vs; bits = bits_from 0 ks vs; claims = places_from 0 ks }
 
 -- nothing is unlearnt
 pub record IsAtLeast (v w : View) : Type 0 where
@@ -42,6 +67,7 @@ pub record IsAtLeast (v w : View) : Type 0 where
   pub share : w.share ≡ v.share
   pub keys : (p k : ℕ) → Has v.keys (p, k) → Has w.keys (p, k)
   pub values : (p k c : ℕ) → Has v.values (p, k, c) → Has w.values (p, k, c)
+  pub bits : (p k n : ℕ) → Has v.bits (p, k, n) → Has w.bits (p, k, n)
   pub claims : (p : ℕ) → times p v.claims ≤ times p w.claims
 
 -- the key k is seen claimed at place p
@@ -68,6 +94,10 @@ IsOtherIn v k a b = (q : ℕ) → a ≤ q → q < b → IsOther v k q
 abbrev pub IsLedTo : Frame → View → ℕ → ℕ → ℕ → Type 0
 IsLedTo f v k a b = (p q : ℕ) → a ≤ p → p < b → Before f.cells (start f.cells k) p q → ((a ≤ q) × (q < p)) ⊎ IsOther v k q
 
+-- the place has no word of a set, by what is seen claimed
+abbrev pub IsPlain : View → ℕ → Type 0
+IsPlain v p = (k : ℕ) → Has v.keys (p, k) → is_set_word k ≡ false
+
 -- the key isn't seen claimed
 abbrev pub IsNowhere : View → ℕ → Type 0
 IsNowhere v k = (q : ℕ) → ¬ Has v.keys (q, k)
@@ -85,7 +115,7 @@ word_at ws p = slice_index ws p
 
 -- the first pass knows nothing and has the whole share
 abbrev pub first_view : Frame → View
-first_view f = record { frame = Some f; share = 2 ^ 62; keys = []; values = []; claims = [] }
+first_view f = record { frame = Some f; share = 2 ^ 62; keys = []; values = []; bits = []; claims = [] }
 
 -- the cell at this place is of an attribute, and seen settled
 abbrev pub is_settled_at : View → ℕ → Bool

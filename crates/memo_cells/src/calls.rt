@@ -4,11 +4,12 @@ ghost use Rattle.equation_law.specs.Systems.{program_of};
 ghost use Rattle.memo_cells.specs.Keys.{Fits, key_word};
 ghost use Rattle.memo_cells.specs.Naming.{IsFormed};
 ghost use Rattle.memo_cells.specs.Standing.{AreNew, IsPassOf, MaySettle};
-ghost use Rattle.memo_cells.specs.Views.{ClaimsOnly, Has, IsAtLeast, IsFull, IsNowhere, IsSlot, IsUnset, settled_below};
+ghost use Rattle.memo_cells.specs.Views.{ClaimsOnly, Has, IsAtLeast, IsFull, IsNowhere, IsPlain, IsSlot, IsUnset, settled_below};
 
 use crate::cells::{Cells, Pass};
 use crate::keys::{Key, Slot, start_of};
 use crate::probe::Search;
+use crate::truths::{truths_of_attributes, truths_of_queries};
 use equation_law::{Code, System};
 use rag_io::Memory;
 use std::alloc::Global;
@@ -36,6 +37,8 @@ impl Cells {
         let kept = Cells {
             size: cells,
             system: Snapshot::of(system),
+            attributes: truths_of_attributes(alloc, system.rules())?,
+            queries: truths_of_queries(alloc, system)?,
         };
         let pass = Pass {
             keys,
@@ -98,10 +101,11 @@ impl Cells {
         }
     }
 
-    /// The code that stands in a slot for good, or None exactly where none is settled there.
+    /// The code that stands in a slot for good, or None exactly where none is settled there. It needs a slot that has no word of a set.
     pub fn settled(&self, pass: &mut Pass, slot: Slot) -> Option<Code>
         requires own { IsPassOf self.now pass.old }
         requires slot { slot.0 < self.now.cells }
+        requires plain { IsPlain pass.old slot.0 }
         ensures own { IsPassOf self.now pass.new }
         ensures kept { IsAtLeast pass.old pass.new }
         ensures known { IfSome result (λ c. (k : ℕ) → Has pass.old.keys (slot.0, k) → Has pass.new.values (slot.0, k, c)) }
@@ -115,8 +119,8 @@ impl Cells {
         Some((word - (1 << 63)) as u32)
     }
 
-    /// Publishes the code of the value of a slot's instance once, and answers the code that stands there for good. The pass must know as
-    /// settled all that the instance demands.
+    /// Publishes the code of the value of a slot's undeclared instance once, and answers the code that stands there for good. The words of
+    /// a set must show its value, and the pass must know as settled all that the instance demands.
     pub fn settle(&self, pass: &mut Pass, slot: Slot, code: Code) -> Code
         requires own { IsPassOf self.now pass.old }
         requires slot { slot.0 < self.now.cells }

@@ -5,18 +5,22 @@ use equation_law::System;
 use std::marker::Model;
 use std::snapshot::Snapshot;
 
-/// The cells of one system. The words stand in the pass.
+/// The cells of one system. The words stand in the pass. Of each attribute and query it is kept whether it has truth values.
 #[derive(Drop)]
 pub struct Cells {
     pub(crate) size: u32,
     pub(crate) system: Snapshot<System>,
+    pub(crate) attributes: Vec<bool>,
+    pub(crate) queries: Vec<bool>,
 }
 
 impl Model for Cells {
     ghost use Rattle.std.specs.Prelude.{◌<◌};
     ghost use Rattle.std.specs.Coded.{codes};
     ghost use Rattle.attr_rules.specs.contracts.expression.TExpr as expressions;
+    ghost use Rattle.equation_law.specs.Systems.{program_of};
     ghost use Rattle.memo_cells.specs.declared.view.Frame.{Frame};
+    ghost use Rattle.memo_cells.specs.Truths.{AreTruths};
 
     ghost Value = { Frame };
 
@@ -24,7 +28,7 @@ impl Model for Cells {
 
     ghost view = { λ c. record { system = c.system; cells = c.size } };
 
-    ghost invariant = { λ c. 0 < c.size };
+    ghost invariant = { λ c. (0 < c.size) × AreTruths (program_of c.system.value) c.attributes.items c.queries.items };
 }
 
 /// What one caller knows of the cells.
@@ -40,12 +44,9 @@ impl Model for Pass {
     ghost use Rattle.std.specs.Prelude.{◌≡◌, ◌<◌, length};
     ghost use Rattle.std.specs.Coded.{codes};
     ghost use Rattle.attr_rules.specs.contracts.expression.TExpr as expressions;
-    ghost use Rattle.equation_law.specs.Systems.{program_of};
     ghost use Rattle.memo_cells.specs.declared.view.View.{View};
-    ghost use Rattle.memo_cells.specs.Naming.{IsFormed};
-    ghost use Rattle.memo_cells.specs.Standing.{IsSettled};
-    ghost use Rattle.memo_cells.specs.Views.{knows_all, word_at};
-    ghost use Rattle.memo_cells.specs.Words.{AreOrdered};
+    ghost use Rattle.memo_cells.specs.Standing.{AreWords};
+    ghost use Rattle.memo_cells.specs.Views.{knows_all};
 
     ghost Value = { View };
 
@@ -53,5 +54,5 @@ impl Model for Pass {
 
     ghost view = { λ p. knows_all (record { system = p.system; cells = p.size }) p.keys.items p.values.items };
 
-    ghost invariant = { λ p. (0 < p.size) × (length p.keys.items ≡ p.size) × (length p.values.items ≡ p.size) × (let v = knows_all (record { system = p.system; cells = p.size }) p.keys.items p.values.items in AreOrdered (IsFormed (program_of p.system.value) v) (IsSettled (program_of p.system.value) v) p.size (word_at p.keys.items) (word_at p.values.items)) };
+    ghost invariant = { λ p. (0 < p.size) × (length p.keys.items ≡ p.size) × (length p.values.items ≡ p.size) × AreWords (record { system = p.system; cells = p.size }) p.keys.items p.values.items };
 }

@@ -6,7 +6,7 @@ ghost use Rattle.equation_law.specs.Codes.{IsCoded, codes_in, instance_of};
 ghost use Rattle.equation_law.specs.Systems.{program_of};
 ghost use Rattle.memo_cells.specs.Naming.{ClaimsKeysTo, IsCellOf, LacksCell};
 ghost use Rattle.memo_cells.specs.Standing.{IsPassOf};
-ghost use Rattle.memo_cells.specs.Views.{IsAtLeast};
+ghost use Rattle.memo_cells.specs.Views.{Has, IsAtLeast, IsPlain};
 
 use crate::calls::CellsFull;
 use crate::cells::{Cells, Pass};
@@ -88,6 +88,8 @@ impl Cells {
         ensures slot { IsCoded (program_of self.now.system.value) (attribute_at attr node args) → IfSome result (λ s. IsCellOf (program_of self.now.system.value) self.now pass.new (instance_of (program_of self.now.system.value) (attribute_at attr node args)) s.0) }
         ensures none { IsCoded (program_of self.now.system.value) (attribute_at attr node args) → IfNone result ((s : ℕ) → ¬ IsCellOf (program_of self.now.system.value) self.now pass.new (instance_of (program_of self.now.system.value) (attribute_at attr node args)) s) }
         ensures place { IfSome result (λ s. s.0 < self.now.cells) }
+        ensures plain { IfSome result (λ s. IsPlain pass.new s.0) }
+        ensures key { IfSome result (λ s. (k : ℕ) × Has pass.new.keys (s.0, k)) }
         ensures claims { pass.new.claims ≡ pass.old.claims }
     {
         let mut slot = self.seek(pass, Key::Inst { attr, node })?;
@@ -107,6 +109,8 @@ impl Cells {
         ensures slot { IsCoded (program_of self.now.system.value) i → IfSome result (λ s. IsCellOf (program_of self.now.system.value) self.now pass.new (instance_of (program_of self.now.system.value) i) s.0) }
         ensures none { IsCoded (program_of self.now.system.value) i → IfNone result ((s : ℕ) → ¬ IsCellOf (program_of self.now.system.value) self.now pass.new (instance_of (program_of self.now.system.value) i) s) }
         ensures place { IfSome result (λ s. s.0 < self.now.cells) }
+        ensures plain { IfSome result (λ s. IsPlain pass.new s.0) }
+        ensures key { IfSome result (λ s. (k : ℕ) × Has pass.new.keys (s.0, k)) }
         ensures claims { pass.new.claims ≡ pass.old.claims }
     {
         match i {

@@ -9,9 +9,13 @@ mod probe;
 mod steps;
 #[cfg(test)]
 mod tests;
+mod truths;
 mod view;
+mod words;
+mod work;
 
 pub use calls::CellsFull;
 pub use cells::{Cells, Pass};
 pub use keys::{Key, Slot};
 pub use view::{Frame, View};
+pub use work::{Words, Work};

@@ -1,12 +1,13 @@
 // The single steps on the words: each reads or writes one.
-ghost use Rattle.std.specs.Prelude.{◌≢◌, ◌<◌};
+ghost use Rattle.std.specs.Prelude.{◌≡◌, ◌≢◌, ◌<◌, All, length, map};
 ghost use Rattle.equation_law.specs.Systems.{program_of};
 ghost use Rattle.memo_cells.specs.Naming.{IsFormed};
-ghost use Rattle.memo_cells.specs.Standing.{IsPassOf, MaySettle};
-ghost use Rattle.memo_cells.specs.Steps.{KeySeen, KeyTried, ValueSeen, ValueTried};
-ghost use Rattle.memo_cells.specs.Views.{IsAtLeast, IsPassed};
+ghost use Rattle.memo_cells.specs.Standing.{IsPassOf, MayAdd, MayRaiseTruth, MaySeal, MaySettle};
+ghost use Rattle.memo_cells.specs.Steps.{AreSealed, BitsAdded, BitsSeen, KeySeen, KeyTried, ValueSeen, ValueTried};
+ghost use Rattle.memo_cells.specs.Views.{IsAtLeast, IsPassed, IsPlain, marked, with_mark};
 
 use crate::cells::{Cells, Pass};
+use crate::keys::Slot;
 
 impl Cells {
     /// The key word of a place.
@@ -37,10 +38,11 @@ impl Cells {
         found
     }
 
-    /// The value word of a place: a settled one has bit 63.
+    /// The value word of a place that has no word of a set: a settled one has bit 63.
     pub(crate) fn look_value(&self, pass: &mut Pass, place: u32) -> u64
         requires own { IsPassOf self.now pass.old }
         requires place { place < self.now.cells }
+        requires plain { IsPlain pass.old place }
         ensures own { IsPassOf self.now pass.new }
         ensures kept { IsAtLeast pass.old pass.new }
         ensures seen { ValueSeen pass.old pass.new place result }
@@ -62,5 +64,81 @@ impl Cells {
             pass.values[place as usize] = u64::from(code) + (1 << 63);
         }
         found
+    }
+
+    /// The value word of a place, for its bits.
+    pub(crate) fn look_bits(&self, pass: &mut Pass, place: u32) -> u64
+        requires own { IsPassOf self.now pass.old }
+        requires place { place < self.now.cells }
+        ensures own { IsPassOf self.now pass.new }
+        ensures kept { IsAtLeast pass.old pass.new }
+        ensures seen { BitsSeen pass.old pass.new place result }
+    {
+        pass.values[place as usize]
+    }
+
+    /// Sets bits in a word of a set, and answers the word with them.
+    pub(crate) fn add_bits(&self, pass: &mut Pass, place: u32, bits: u64) -> u64
+        requires own { IsPassOf self.now pass.old }
+        requires place { place < self.now.cells }
+        requires may { MayAdd (program_of self.now.system.value) pass.old place bits }
+        ensures own { IsPassOf self.now pass.new }
+        ensures kept { IsAtLeast pass.old pass.new }
+        ensures added { BitsAdded pass.old pass.new place bits result }
+    {
+        let before = pass.values[place as usize];
+        pass.values[place as usize] = before | bits;
+        before | bits
+    }
+
+    /// Sets bit 0 of the value word of a circular instance, and answers the word with it.
+    pub(crate) fn add_truth(&self, pass: &mut Pass, place: u32) -> u64
+        requires own { IsPassOf self.now pass.old }
+        requires place { place < self.now.cells }
+        requires may { MayRaiseTruth (program_of self.now.system.value) pass.old place }
+        ensures own { IsPassOf self.now pass.new }
+        ensures kept { IsAtLeast pass.old pass.new }
+        ensures added { BitsAdded pass.old pass.new place 1 result }
+    {
+        let seen = pass.values[place as usize];
+        if seen == 0 {
+            pass.values[place as usize] = 1;
+            return 1;
+        }
+        seen
+    }
+
+    /// Sets bit 63 of the value word of each slot: what is raised there is final.
+    pub(crate) fn mark(&self, pass: &mut Pass, set: &[Slot])
+        requires own { IsPassOf self.now pass.old }
+        requires may { MaySeal (program_of self.now.system.value) self.now pass.old (map (λ s. s.0) set.now) }
+        ensures own { IsPassOf self.now pass.new }
+        ensures kept { IsAtLeast pass.old pass.new }
+        ensures sealed { AreSealed pass.old pass.new (map (λ s. s.0) set.now) }
+        ensures claims { pass.new.claims ≡ pass.old.claims }
+    {
+        mark_all(&mut pass.values, set);
+    }
+}
+
+/// Sets bit 63 of the words of these slots.
+fn mark_all(words: &mut Vec<u64>, set: &[Slot])
+    requires { All (λ s. s.0 < length words.old.items) set.now }
+    ensures { words.new.items ≡ marked words.old.items (map (λ s. s.0) set.now) }
+{
+    for slot in set {
+        let place = slot.0 as usize;
+        words[place] = with_mark(words[place]);
+    }
+}
+
+/// A value word with bit 63.
+fn with_mark(word: u64) -> u64
+    ensures { result ≡ with_mark word }
+{
+    if word < 1 << 63 {
+        word + (1 << 63)
+    } else {
+        word
     }
 }

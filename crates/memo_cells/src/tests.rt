@@ -79,6 +79,7 @@ fn key_words_have_kinds(rt: HostRuntime) {
     assert_eq!(rt; Key::Inst { attr, node }.word(), 2305843009213693953);
     let slot = Slot(5);
     assert_eq!(rt; Key::Arg { slot, code: 7 }.word(), 4611686039902224391);
+    assert_eq!(rt; Key::Word { slot, word: 7 }.word(), 6917529049115918343);
     assert_eq!(rt; Key::Query(3).word(), 9223372036854775811);
 }
 
@@ -140,13 +141,14 @@ fn new_cells_have_no_key(rt: HostRuntime) -> Result<(), Fail> {
     Ok(())
 }
 
-// Claims a query of the system: where it was before, where it stands now, and the code that is settled there. None where it is no query.
+// Claims a query of the system: where it was before, where it stands now, the code that is settled there, and the word that it shows. None
+// where it is no query.
 fn claim_query(
     cells: &Cells,
     pass: &mut Pass,
     system: &System,
     query: u32,
-) -> Option<(Option<Slot>, Slot, Option<Code>)>
+) -> Option<(Option<Slot>, Slot, Option<Code>, u64)>
     requires own { IsPassOf cells.now pass.old }
     requires system { cells.now.system.value ≡ system.now }
     ensures own { IsPassOf cells.now pass.new }
@@ -156,7 +158,8 @@ fn claim_query(
     }
     let before = cells.seek(pass, Key::Query(query));
     let slot = cells.claim(pass, Key::Query(query)).ok()?;
-    Some((before, slot, cells.settled(pass, slot)))
+    let settled = cells.settled(pass, slot);
+    Some((before, slot, settled, cells.word(pass, slot, 0)))
 }
 
 // The queries that are claimed in turn in 1,569 cells, and the places where they stand before and then. The searches for the queries 1 and
@@ -177,7 +180,7 @@ fn other_claim(alloc: Global, system: &System) -> Result<(Option<u32>, u32), Fai
     let mut other = None;
     for (query, before, slot) in CLAIMS {
         let found = claim_query(&cells, &mut pass, system, query);
-        if other.is_none() && found != Some((before, slot, None)) {
+        if other.is_none() && found != Some((before, slot, None, 0)) {
             other = Some(query);
         }
     }

@@ -20,6 +20,9 @@ pub struct View {
     pub keys: LinkedList<(u64, u64)>,
     /// Each place whose value word it saw settled, with its key word and its code.
     pub values: LinkedList<(u64, u64, u64)>,
+    /// Each bit that it saw set in a value word: the place, its key word, and the number of the bit. Of a word of a set all bits count, and
+    /// of any other key the lowest.
+    pub bits: LinkedList<(u64, u64, u64)>,
     /// The places that it claimed itself.
     pub claims: LinkedList<u64>,
 }

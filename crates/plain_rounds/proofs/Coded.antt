@@ -21,7 +21,7 @@ use Rattle.equation_law.specs.Codes.{AreCodes, arguments_at, codes_in, reference
 use Rattle.equation_law.specs.Names.{Argument, At, Attribute, Instance, Null, OfInt, OfNode, OfText, OfTruth, Query, Reference, Source}
 use Rattle.equation_law.specs.Program.{Program, attribute_parameters, class_of, declared_of, kinds_or_none, text_of}
 use Rattle.equation_law.specs.Systems.{program_of}
-use Rattle.equation_law.specs.Values.{int as held_int, Int, Node, Text, Truth, as_argument}
+use Rattle.equation_law.specs.Values.{int as held_int, Int, Node, Truth, as_argument}
 use Rattle.equation_law.proofs.Checked.{class_there, has, of_kind}
 use Rattle.equation_law.proofs.Pooled.{text_there}
 use Rattle.plain_rounds.specs.declared.naming.NamedArg.{NamedArg}

@@ -1,8 +1,11 @@
 pub mod Adding
+pub mod Circles
 pub mod Coded
 pub mod Firsts
 pub mod Gathered
 pub mod Kept
+pub mod Lowering
 pub mod Solving
 pub mod Sources
 pub mod Told
+pub mod Turning

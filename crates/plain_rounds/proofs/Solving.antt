@@ -1,5 +1,5 @@
 -- The values of the plain rounds stand for the outer rounds.
-use Rattle.std.proofs.Common.{◌≡◌, ℕ, zero, suc, ◌+◌, ◌<◌, ◌≤◌, Bool, true, false, cond, ◌||◌, All, List, [], ◌∷◌, ◌++◌, length, map, replicate, count_by, is_none, Option, Some, None, refl, sym, ap, subst, ◌∙◌, arith, below_more, get_or, slice_get}
+use Rattle.std.proofs.Common.{◌≡◌, ℕ, zero, suc, ◌+◌, ◌<◌, ◌≤◌, Bool, true, false, cond, ◌||◌, All, List, [], ◌∷◌, ◌++◌, length, map, replicate, count_by, sum_by, is_none, Option, Some, None, refl, sym, ap, subst, ◌∙◌, arith, below_more, get_or, slice_get}
 use Rattle.std.specs.HashMap.{HashMap}
 use Rattle.std.specs.Option.{option_map, option_and_then}
 use Rattle.std.proofs.Math.ListN.{get_or-append}
@@ -7,9 +7,10 @@ use Rattle.std.proofs.Math.Seq.{get_or-append_seam}
 use Rattle.std.proofs.lemmas.List.{length-replicate}
 use Rattle.std.proofs.lemmas.List.Elements.{All-head, All-tail}
 use Rattle.std.proofs.lemmas.List.Recursion.{is_count_by}
+use Rattle.std.proofs.lemmas.List.Sums.{sum_by-cons}
 use Rattle.std.proofs.lemmas.Option.{get_or_from_slice_get, slice_get-get_or, slice_get-map, slice_get_within}
-use Rattle.solutions.specs.Asking.{Outcome, run}
-use Rattle.solutions.specs.Rounds.{IsStable, RoundsEnd, is_in, or_else, outer_rounds, plain_round, value_of as outcome_value}
+use Rattle.solutions.specs.Rounds.{IsStable, RoundsEnd, and_then, inner_rounds, is_in, or_else, outer_rounds, plain_round}
+use Rattle.solutions.proofs.Runs.{or_else_none}
 use Rattle.equation_law.specs.declared.coding.Instance.{Instance as CodedInstance}
 use Rattle.plain_rounds.specs.declared.values.NamedValue.{NamedValue}
 use Rattle.equation_law.specs.Names.{Instance, same_instance}
@@ -17,12 +18,13 @@ use Rattle.equation_law.specs.Values.{Value}
 use Rattle.equation_law.specs.Program.{Program, text_of}
 use Rattle.equation_law.specs.Equations.{equations_of}
 use Rattle.equation_law.specs.Codes.{IsCoded, instance_of}
-use Rattle.plain_rounds.specs.Named.{value_in}
+use Rattle.plain_rounds.specs.Named.{assigned, value_in}
 use Rattle.plain_rounds.specs.Places.{ArePlaced, first_place, found, value_on}
-use Rattle.plain_rounds.specs.Steps.{IsAfter, IsRound, IsStep, name_at, standing}
-use Rattle.plain_rounds.proofs.Firsts.{or_none}
+use Rattle.plain_rounds.specs.Rooms.{AreRooms, IsLow, room}
+use Rattle.plain_rounds.specs.Steps.{AreFirst, AreIn, AreInner, AreInnerSteps, AreLeft, IsAfter, IsNext, IsRound, comes, inner_at, inner_over, known, known_at, name_at, named, outer_over, standing, start_of}
+use Rattle.plain_rounds.proofs.Lowering.{Falls, over_falls, tables_fall}
+use Rattle.plain_rounds.proofs.Turning.{first_is, inner_is, inner_outside, outer_is, outside, rests}
 use Rattle.rag_io.specs.Pool.{ArePooled}
-use Rattle.equation_law.specs.declared.coding.Instance.TheVariants as coded
 use Rattle.equation_law.proofs.Keys.{key_same, same_turned}
 use Rattle.equation_law.proofs.Lists.{some_of}
 use Rattle.equation_law.proofs.Names.{same_instance_is, same_instance_self}
@@ -58,171 +60,211 @@ pushed Q ws w d i l each here =
     (λ k h. let h' : k < length ws = omega arith in subst (λ x. Q k x) (sym (get_or-append ws (w ∷ []) d k h')) (each k h))
     (subst (λ x. Q i x) (sym (subst (λ j. get_or (ws ++ w ∷ []) j d ≡ w) l (get_or-append_seam ws w [] d))) here)
 
-module _ (p : Program) (A : Instance → Option Value) where
-  abbrev Comes : Instance → Option Value
-  Comes i = outcome_value (run A ((equations_of p).equation i))
-
-  -- what a step leaves one name
-  stepped_is : (v w : Option NamedValue) (i j : Instance) → i ≡ j → IsStep (text_of p) v w (run A ((equations_of p).equation j)) → option_map (value_in (text_of p)) w ≡ or_else (option_map (value_in (text_of p)) v) (Comes i)
-  stepped_is (Some v) w i j e s = ap (option_map (value_in (text_of p))) s
-  stepped_is None w i j e s = s ∙ ap Comes (sym e)
-
-  abbrev AreSteps : List CodedInstance → List (Option NamedValue) → List (Option NamedValue) → Type 0
-  AreSteps ns vs ws = (k : ℕ) → k < length ns → IsStep (text_of p) (get_or vs k None) (get_or ws k None) (run A ((equations_of p).equation (instance_of p (name_at ns k))))
-
-  -- what the steps leave all names
-  steps_are : (ns : List CodedInstance) (vs ws : List (Option NamedValue)) → length vs ≡ length ns → length ws ≡ length ns → AreSteps ns vs ws → (i : Instance) → standing p ns ws i ≡ or_else (standing p ns vs i) (cond (is_in same_instance (map (instance_of p) ns) i) (Comes i) None)
-  steps_are [] vs ws l m s i = refl
-  steps_are (n ∷ ns) [] ws l m s i = absurd (omega arith)
-  steps_are (n ∷ ns) (v ∷ vs) [] l m s i = absurd (omega arith)
-  steps_are (n ∷ ns) (v ∷ vs) (w ∷ ws) l m s i =
-      let l' : length vs ≡ length ns = omega arith in
-      let m' : length ws ≡ length ns = omega arith in
-      elim (same_instance i (instance_of p n)) as (λ b. same_instance i (instance_of p n) ≡ b → cond b (option_map (value_in (text_of p)) w) (standing p ns ws i) ≡ or_else (cond b (option_map (value_in (text_of p)) v) (standing p ns vs i)) (cond (b || is_in same_instance (map (instance_of p) ns) i) (Comes i) None)) [
-        | true ↦ λ e. stepped_is v w i (instance_of p n) (same_instance_is i (instance_of p n) e) (s 0 (omega arith))
-        | false ↦ λ e. steps_are ns vs ws l' m' (λ k h. s (suc k) (omega arith)) i
-      ] refl
-
--- nothing, whatever a test says
-none_either : {V : Type 0} (b : Bool) (o : Option V) → o ≡ None → cond b None o ≡ None
-none_either true o e = refl
-none_either false o e = e
-
--- in the first table nothing stands
-none_stands : (p : Program) (ns : List CodedInstance) (i : Instance) → standing p ns (replicate (length ns) None) i ≡ None
-none_stands p [] i = refl
-none_stands p (n ∷ ns) i = none_either (same_instance i (instance_of p n)) _ (none_stands p ns i)
-
--- and no name has a value
-none_at : (texts : ℕ → List ℕ) (n k : ℕ) → option_map (value_in texts) (get_or (replicate n None) k None) ≡ None
-none_at texts zero k = refl
-none_at texts (suc n) zero = refl
-none_at texts (suc n) (suc k) = none_at texts n k
+-- values that each name has in an assignment stand under the names, and nothing else does
+standing_is : (p : Program) (A : Instance → Option Value) (ns : List CodedInstance) (ws : List (Option NamedValue)) → length ws ≡ length ns → ((k : ℕ) → k < length ns → known p (get_or ws k None) ≡ A (instance_of p (name_at ns k))) → (i : Instance)
+    → standing p ns ws i ≡ cond (is_in same_instance (map (instance_of p) ns) i) (A i) None
+standing_is p A [] ws l each i = refl
+standing_is p A (n ∷ ns) [] l each i = absurd (omega arith)
+standing_is p A (n ∷ ns) (w ∷ ws) l each i =
+    let l' : length ws ≡ length ns = omega arith in
+    elim (same_instance i (instance_of p n)) as (λ b. same_instance i (instance_of p n) ≡ b → cond b (known p w) (standing p ns ws i) ≡ cond (b || is_in same_instance (map (instance_of p) ns) i) (A i) None) [
+      | true ↦ λ e. each 0 (omega arith) ∙ ap A (sym (same_instance_is i (instance_of p n) e))
+      | false ↦ λ e. standing_is p A ns ws l' (λ k h. each (suc k) (omega arith)) i
+    ] refl
 
 -- a name of the list is in it
-named_in : (p : Program) (ns : List CodedInstance) (k : ℕ) → k < length ns → is_in same_instance (map (instance_of p) ns) (instance_of p (name_at ns k)) ≡ true
-named_in p [] k h = absurd (omega arith)
-named_in p (n ∷ ns) zero h = ap (λ b. b || is_in same_instance (map (instance_of p) ns) (instance_of p n)) (same_instance_self (instance_of p n))
-named_in p (n ∷ ns) (suc k) h = either_way (same_instance (instance_of p (name_at ns k)) (instance_of p n)) _ (named_in p ns k (omega arith))
-  where
-    either_way : (a b : Bool) → b ≡ true → (a || b) ≡ true
-    either_way true b e = refl
-    either_way false b e = e
+either_way : (a b : Bool) → b ≡ true → (a || b) ≡ true
+either_way true b e = refl
+either_way false b e = e
+
+listed : (p : Program) (ns : List CodedInstance) (k : ℕ) → k < length ns → is_in same_instance (map (instance_of p) ns) (instance_of p (name_at ns k)) ≡ true
+listed p [] k h = absurd (omega arith)
+listed p (n ∷ ns) zero h = ap (λ b. b || is_in same_instance (map (instance_of p) ns) (instance_of p n)) (same_instance_self (instance_of p n))
+listed p (n ∷ ns) (suc k) h = either_way (same_instance (instance_of p (name_at ns k)) (instance_of p n)) _ (listed p ns k (omega arith))
+
+-- in the first table no name has a value
+none_at : (p : Program) (n k : ℕ) → known p (get_or (replicate n None) k None) ≡ None
+none_at p zero k = refl
+none_at p (suc n) zero = refl
+none_at p (suc n) (suc k) = none_at p n k
 
 module _ (p : Program) (ns : List CodedInstance) where
+  abbrev J : List Instance
+  J = map (instance_of p) ns
+
+  -- where the assignment has nothing else
+  stands : (ws : List (Option NamedValue)) (A : Instance → Option Value) → AreIn p ns ws A → ((i : Instance) → is_in (equations_of p).same J i ≡ false → A i ≡ None) → (i : Instance) → standing p ns ws i ≡ A i
+  unfolding equations_of
+  stands ws A a none i =
+      standing_is p A ns ws a.long a.each i ∙ elim (is_in same_instance J i) as (λ b. is_in same_instance J i ≡ b → cond b (A i) None ≡ A i) [
+        | true ↦ λ m. refl
+        | false ↦ λ m. sym (none i m)
+      ] refl
+
+  named_in : (k : ℕ) → k < length ns → is_in (equations_of p).same J (named p ns k) ≡ true
+  unfolding equations_of
+  named_in k h = listed p ns k h
+
   -- the first table is that of no rounds
   pub after_none : IsAfter p ns (replicate (length ns) None)
   after_none = record {
-    long = length-replicate (length ns) None;
     rounds = [];
     whole = tt;
-    is = λ i. none_stands p ns i;
-    even = λ k h. none_at (text_of p) (length ns) k ∙ sym (none_stands p ns (instance_of p (name_at ns k)));
+    are = record { long = length-replicate (length ns) None; each = λ k h. none_at p (length ns) k };
   }
 
-  -- one more round, on the assignment
-  added : (Instance → Option Value) → Instance → Option Value
-  added S i = or_else (S i) (or_else (plain_round (equations_of p) (map (instance_of p) ns) S i) None)
+  module _ (vs : List (Option NamedValue)) (a : IsAfter p ns vs) where
+    abbrev S : Instance → Option Value
+    S = standing p ns vs
 
-  -- what a round adds
-  added_is : (vs ws : List (Option NamedValue)) → length vs ≡ length ns → length ws ≡ length ns → IsRound p ns vs ws → (i : Instance) → standing p ns ws i ≡ added (standing p ns vs) i
-  unfolding added equations_of
-  added_is vs ws l m r i = steps_are p (standing p ns vs) ns vs ws l m r.each i ∙ ap (λ x. or_else (standing p ns vs i) x) (or_none _)
+    -- what is settled is what the rounds give
+    settled_is : (i : Instance) → S i ≡ outer_rounds (equations_of p) J a.rounds i
+    settled_is i = stands vs (outer_rounds (equations_of p) J a.rounds) a.are (outside (equations_of p) J a.rounds) i
 
-  -- what an outer round adds
-  outer_added : (ms : List ℕ) (i : Instance) → outer_rounds (equations_of p) (map (instance_of p) ns) (0 ∷ ms) i ≡ added (outer_rounds (equations_of p) (map (instance_of p) ns) ms) i
-  unfolding added equations_of
-  outer_added ms i = refl
+    -- a name that stands twice has one value
+    even : (k : ℕ) → k < length ns → known_at p vs k ≡ S (named p ns k)
+    even k h = a.are.each k h ∙ sym (settled_is (named p ns k))
 
-  -- so the table after a round is that of one outer round more
-  round_outer : (vs ws : List (Option NamedValue)) → length ws ≡ length ns → IsRound p ns vs ws → (a : IsAfter p ns vs) → (i : Instance) → standing p ns ws i ≡ outer_rounds (equations_of p) (map (instance_of p) ns) (0 ∷ a.rounds) i
-  round_outer vs ws m r a i =
-      let same : standing p ns vs ≡ outer_rounds (equations_of p) (map (instance_of p) ns) a.rounds = λ t j. a.is j t in
-      added_is vs ws a.long m r i ∙ ap (λ (S : Instance → Option Value). added S i) same ∙ sym (outer_added a.rounds i)
+    settled_outside : (i : Instance) → is_in (equations_of p).same J i ≡ false → S i ≡ None
+    settled_outside i m = settled_is i ∙ outside (equations_of p) J a.rounds i m
 
-  -- without circular instances nothing changes in inner rounds
-  stable : (S : Instance → Option Value) → IsStable (equations_of p) (map (instance_of p) ns) S 0
-  unfolding equations_of
-  stable S i = refl
+    inner_outside_too : (n : ℕ) (i : Instance) → is_in (equations_of p).same J i ≡ false → inner_over p ns vs n i ≡ None
+    inner_outside_too n i m = or_else_none (S i) _ (settled_outside i m) ∙ inner_outside (equations_of p) J S n i m
 
-  -- a name that stands twice keeps one value
-  even_after : (vs ws : List (Option NamedValue)) → length ws ≡ length ns → IsRound p ns vs ws → IsAfter p ns vs → (k : ℕ) → k < length ns → option_map (value_in (text_of p)) (get_or ws k None) ≡ standing p ns ws (instance_of p (name_at ns k))
-  even_after vs ws m r a k h =
-      let i = instance_of p (name_at ns k) in
-      let come = Comes p (standing p ns vs) i in
-      stepped_is p (standing p ns vs) (get_or vs k None) (get_or ws k None) i i refl (r.each k h) ∙ ap (λ o. or_else o come) (a.even k h) ∙ ap (λ b. or_else (standing p ns vs i) (cond b come None)) (sym (named_in p ns k h)) ∙ sym (steps_are p (standing p ns vs) ns vs ws a.long m r.each i)
+    inner_stands : (n : ℕ) (us : List (Option NamedValue)) → AreIn p ns us (inner_over p ns vs n) → (i : Instance) → standing p ns us i ≡ inner_over p ns vs n i
+    inner_stands n us u = stands us (inner_over p ns vs n) u (inner_outside_too n)
 
-  -- the table after a round is one of rounds
-  pub after_round : (vs ws : List (Option NamedValue)) → length ws ≡ length ns → IsRound p ns vs ws → IsAfter p ns vs → IsAfter p ns ws
-  after_round vs ws m r a = record {
-    long = m;
-    rounds = 0 ∷ a.rounds;
-    whole = (a.whole, stable (outer_rounds (equations_of p) (map (instance_of p) ns) a.rounds));
-    is = round_outer vs ws m r a;
-    even = even_after vs ws m r a;
-  }
+    -- the values before the first inner round
+    pub inner_first : (us : List (Option NamedValue)) → AreFirst p ns vs us → AreInner p ns vs us
+    inner_first us f = record {
+      turns = 0;
+      are = record {
+        long = f.long;
+        each = λ k h.
+            let i = named p ns k in
+            f.each k h ∙ ap (λ o. or_else o (start_of p i)) (even k h) ∙ first_is (equations_of p) J S i (named_in k h);
+      };
+    }
 
--- what stands stays
-abbrev Stays : Option NamedValue → Option NamedValue → Type 0
-Stays None w = Unit {0}
-Stays (Some v) w = w ≡ Some v
+    -- and after one more
+    turned : (n : ℕ) (us ws : List (Option NamedValue)) → AreIn p ns us (inner_over p ns vs n) → AreInnerSteps p ns vs us ws → AreIn p ns ws (inner_over p ns vs (suc n))
+    turned n us ws u r = record {
+      long = r.long;
+      each = λ k h.
+          let i = named p ns k in
+          let same : standing p ns us ≡ inner_over p ns vs n = λ t j. inner_stands n us u j t in
+          r.each k h
+          ∙ ap (λ o. or_else o (inner_at p ns us k)) (even k h)
+          ∙ ap (λ o. or_else (S i) (cond ((equations_of p).circular i) (and_then o (comes p (standing p ns us) i)) None)) (u.each k h)
+          ∙ ap (λ (A : Instance → Option Value). or_else (S i) (cond ((equations_of p).circular i) (and_then (inner_over p ns vs n i) (comes p A i)) None)) same
+          ∙ inner_is (equations_of p) J S n i;
+    }
 
--- a step keeps what stands
-step_stays : (texts : ℕ → List ℕ) (v w : Option NamedValue) (o : Outcome Instance Value) → IsStep texts v w o → Stays v w
-step_stays texts None w o s = tt
-step_stays texts (Some v) w o s = s
+    pub inner_more : (us ws : List (Option NamedValue)) → AreInner p ns vs us → AreInnerSteps p ns vs us ws → AreInner p ns vs ws
+    inner_more us ws u r = record { turns = suc u.turns; are = turned u.turns us ws u.are r }
 
--- how many have no value
-abbrev gaps : List (Option NamedValue) → ℕ
-gaps [] = 0
-gaps (None ∷ vs) = 1 + gaps vs
-gaps (Some v ∷ vs) = gaps vs
+    -- of two turns one after the other the second leaves no more room, and where it leaves as much nothing changes
+    module _ (us ws : List (Option NamedValue)) (u : AreInner p ns vs us) (r : AreInnerSteps p ns vs us ws) (x y : ℕ) (m : AreRooms p us x) (n : AreRooms p ws y) where
+      pair_falls : (k : ℕ) → k < length us → Falls room (known_at p us k) (known_at p ws k)
+      pair_falls k h =
+          let h' : k < length ns = omega (arith, u.are.long) in
+          let g : k < length ws = omega (arith, u.are.long, r.long) in
+          let i = named p ns k in
+          let first = u.are.each k h' in
+          let second = (turned u.turns us ws u.are r).each k h' in
+          subst (λ o. Falls room o (known_at p ws k)) (sym first)
+          (subst (λ q. Falls room (inner_over p ns vs u.turns i) q) (sym second) (over_falls p J S u.turns i (subst IsLow first (m.low k h)) (subst IsLow second (n.low k g))))
 
--- one value more
-gaps_more : (v : Option NamedValue) (vs : List (Option NamedValue)) → gaps (v ∷ vs) ≡ cond (is_none v) (1 + gaps vs) (gaps vs)
-gaps_more None vs = refl
-gaps_more (Some v) vs = refl
+      -- where as much room is left nothing changes
+      pub inner_left : x ≤ y → AreLeft p ns vs us
+      inner_left e =
+          let falls = tables_fall p room us ws (r.long ∙ sym u.are.long) pair_falls in
+          let sums : sum_by (λ v. room (known p v)) us ≤ sum_by (λ v. room (known p v)) ws = subst (λ z. z ≤ sum_by (λ v. room (known p v)) ws) m.sum (subst (λ z. x ≤ z) n.sum e) in
+          let same = falls.1 sums in
+          record {
+            turns = u.turns;
+            stable = rests (equations_of p) J S u.turns
+                (λ i. sym (inner_stands (suc u.turns) ws (turned u.turns us ws u.are r) i) ∙ ap (λ (zs : List (Option Value)). assigned J zs i) same ∙ inner_stands u.turns us u.are i);
+            are = u.are;
+          }
+
+    -- the values after the outer round
+    pub round_next : (us ws : List (Option NamedValue)) → AreLeft p ns vs us → IsRound p ns vs us ws → IsNext p ns vs ws
+    round_next us ws u r = record {
+      turns = u.turns;
+      stable = u.stable;
+      are = record {
+        long = r.long;
+        each = λ k h.
+            let i = named p ns k in
+            r.each k h
+            ∙ ap (λ o. cond ((equations_of p).circular i) o (or_else (known_at p vs k) (comes p S i))) (u.are.each k h)
+            ∙ ap (λ o. cond ((equations_of p).circular i) (inner_over p ns vs u.turns i) (or_else o (comes p S i))) (even k h)
+            ∙ outer_is (equations_of p) J S u.turns i (named_in k h);
+      };
+    }
+
+    -- one more round, on the assignment
+    next_outer : (n : ℕ) (i : Instance) → outer_over p ns vs n i ≡ outer_rounds (equations_of p) J (n ∷ a.rounds) i
+    next_outer n i =
+        let same : S ≡ outer_rounds (equations_of p) J a.rounds = λ t j. settled_is j t in
+        ap (λ (A : Instance → Option Value). or_else (A i) (or_else (plain_round (equations_of p) J A i) (inner_rounds (equations_of p) J A n i))) same
+
+    still : (n : ℕ) → IsStable (equations_of p) J S n → IsStable (equations_of p) J (outer_rounds (equations_of p) J a.rounds) n
+    still n s =
+        let same : S ≡ outer_rounds (equations_of p) J a.rounds = λ t j. settled_is j t in
+        subst (λ (A : Instance → Option Value). IsStable (equations_of p) J A n) same s
+
+    after_are : (ws : List (Option NamedValue)) (r : IsNext p ns vs ws) → AreIn p ns ws (outer_rounds (equations_of p) J (r.turns ∷ a.rounds))
+    after_are ws r = record { long = r.are.long; each = λ k h. r.are.each k h ∙ next_outer r.turns (named p ns k) }
+
+    -- the table after a round is one of rounds
+    pub after_round : (ws : List (Option NamedValue)) → IsNext p ns vs ws → IsAfter p ns ws
+    after_round ws r = record { rounds = r.turns ∷ a.rounds; whole = (a.whole, still r.turns r.stable); are = after_are ws r }
+
+    next_stands : (ws : List (Option NamedValue)) (r : IsNext p ns vs ws) (i : Instance) → standing p ns ws i ≡ outer_rounds (equations_of p) J (r.turns ∷ a.rounds) i
+    next_stands ws r i = stands ws (outer_rounds (equations_of p) J (r.turns ∷ a.rounds)) (after_are ws r) (outside (equations_of p) J (r.turns ∷ a.rounds)) i
+
+    -- what is settled stays
+    kept : (ws : List (Option NamedValue)) → IsNext p ns vs ws → (k : ℕ) → k < length vs → (v : Value) → known_at p vs k ≡ Some v → known_at p ws k ≡ Some v
+    kept ws r k h v e =
+        let h' : k < length ns = omega (arith, a.are.long) in
+        let i = named p ns k in
+        r.are.each k h' ∙ ap (λ o. or_else o (or_else (plain_round (equations_of p) J S i) (inner_rounds (equations_of p) J S r.turns i))) (sym (even k h') ∙ e)
+
+-- 1 where there is no value
+abbrev gap : Option Value → ℕ
+gap None = 1
+gap (Some v) = 0
+
+-- where a value stays, no gap comes up, and where none is filled, nothing changes
+gap_falls : (o q : Option Value) → ((v : Value) → o ≡ Some v → q ≡ Some v) → Falls gap o q
+gap_falls None None f = (omega arith, λ e. refl)
+gap_falls None (Some w) f = (omega arith, λ e. absurd (omega (arith, e)))
+gap_falls (Some v) q f = subst (Falls gap (Some v)) (sym (f v refl)) (omega arith, λ e. refl)
+
+-- the gaps of a table, one by one
+gaps_more : (p : Program) (v : Option NamedValue) (vs : List (Option NamedValue)) → sum_by (λ x. gap (known p x)) (v ∷ vs) ≡ cond (is_none v) (1 + sum_by (λ x. gap (known p x)) vs) (sum_by (λ x. gap (known p x)) vs)
+gaps_more p None vs = sum_by-cons (λ x. gap (known p x)) None vs
+gaps_more p (Some v) vs = let e : sum_by (λ x. gap (known p x)) (Some v ∷ vs) ≡ 0 + sum_by (λ x. gap (known p x)) vs = sum_by-cons (λ x. gap (known p x)) (Some v) vs in omega (arith, e)
 
 -- that is the count of the code
-gaps_are : (vs : List (Option NamedValue)) → gaps vs ≡ count_by is_none vs
-gaps_are = is_count_by gaps is_none refl gaps_more
-
-abbrev AllStay : List (Option NamedValue) → List (Option NamedValue) → Type 0
-AllStay vs ws = (k : ℕ) → k < length vs → Stays (get_or vs k None) (get_or ws k None)
-
--- no gap comes up
-fewer : (vs ws : List (Option NamedValue)) → length vs ≡ length ws → AllStay vs ws → gaps ws ≤ gaps vs
-fewer [] [] l s = omega arith
-fewer [] (w ∷ ws) l s = absurd (omega arith)
-fewer (v ∷ vs) [] l s = absurd (omega arith)
-fewer (Some v ∷ vs) (Some w ∷ ws) l s = fewer vs ws (omega arith) (λ k h. s (suc k) (omega arith))
-fewer (Some v ∷ vs) (None ∷ ws) l s = let e : None ≡ Some v = s 0 (omega arith) in cc
-fewer (None ∷ vs) (Some w ∷ ws) l s = let r = fewer vs ws (omega arith) (λ k h. s (suc k) (omega arith)) in omega arith
-fewer (None ∷ vs) (None ∷ ws) l s = let r = fewer vs ws (omega arith) (λ k h. s (suc k) (omega arith)) in omega arith
-
--- where no gap is filled, nothing changes
-same_table : (vs ws : List (Option NamedValue)) → length vs ≡ length ws → AllStay vs ws → gaps vs ≤ gaps ws → ws ≡ vs
-same_table [] [] l s c = refl
-same_table [] (w ∷ ws) l s c = absurd (omega arith)
-same_table (v ∷ vs) [] l s c = absurd (omega arith)
-same_table (Some v ∷ vs) (Some w ∷ ws) l s c = let e : Some w ≡ Some v = s 0 (omega arith) in let r = same_table vs ws (omega arith) (λ k h. s (suc k) (omega arith)) c in cc
-same_table (Some v ∷ vs) (None ∷ ws) l s c = let e : None ≡ Some v = s 0 (omega arith) in cc
-same_table (None ∷ vs) (Some w ∷ ws) l s c = let r = fewer vs ws (omega arith) (λ k h. s (suc k) (omega arith)) in absurd (omega arith)
-same_table (None ∷ vs) (None ∷ ws) l s c = let r = same_table vs ws (omega arith) (λ k h. s (suc k) (omega arith)) (omega arith) in cc
+gaps_are : (p : Program) (vs : List (Option NamedValue)) → sum_by (λ x. gap (known p x)) vs ≡ count_by is_none vs
+gaps_are p = is_count_by (sum_by (λ x. gap (known p x))) is_none refl (gaps_more p)
 
 module _ (p : Program) (ns : List CodedInstance) where
   -- a round that fills no gap changes nothing
-  pub ended_at : (vs ws : List (Option NamedValue)) → length ws ≡ length ns → IsRound p ns vs ws → (a : IsAfter p ns vs) → count_by is_none vs ≤ count_by is_none ws → RoundsEnd (equations_of p) (map (instance_of p) ns) (standing p ns ws)
-  ended_at vs ws m r a c =
-      let l : length vs ≡ length ws = a.long ∙ sym m in
-      let same : ws ≡ vs = same_table vs ws l (λ k h. step_stays (text_of p) _ _ _ (r.each k (omega (arith, a.long)))) (subst (λ x. x ≤ gaps ws) (sym (gaps_are vs)) (subst (λ x. count_by is_none vs ≤ x) (sym (gaps_are ws)) c)) in
+  pub ended_at : (vs ws : List (Option NamedValue)) (a : IsAfter p ns vs) → IsNext p ns vs ws → count_by is_none vs ≤ count_by is_none ws → RoundsEnd (equations_of p) (map (instance_of p) ns) (standing p ns vs)
+  ended_at vs ws a r c =
+      let falls = tables_fall p gap vs ws (r.are.long ∙ sym a.are.long) (λ k h. gap_falls (known_at p vs k) (known_at p ws k) (kept p ns vs a ws r k h)) in
+      let same = falls.1 (subst (λ x. x ≤ sum_by (λ v. gap (known p v)) ws) (sym (gaps_are p vs)) (subst (λ x. count_by is_none vs ≤ x) (sym (gaps_are p ws)) c)) in
       record {
         rounds = a.rounds;
         whole = a.whole;
-        turns = 0;
-        stable = stable p ns (outer_rounds (equations_of p) (map (instance_of p) ns) a.rounds);
-        last = λ i. sym (round_outer p ns vs ws m r a i) ∙ ap (λ xs. standing p ns xs i) same ∙ a.is i;
-        is = λ i. ap (λ xs. standing p ns xs i) same ∙ a.is i;
+        turns = r.turns;
+        stable = still p ns vs a r.turns r.stable;
+        last = λ i. sym (next_stands p ns vs a ws r i) ∙ ap (λ (zs : List (Option Value)). assigned (map (instance_of p) ns) zs i) same ∙ settled_is p ns vs a i;
+        is = settled_is p ns vs a;
       }
 
   -- the value of each name is the one that stands under it
@@ -230,6 +272,6 @@ module _ (p : Program) (ns : List CodedInstance) where
   each_stands ws a k i e =
       let s = some_of (instance_of p) (slice_get ns k) i (sym (slice_get-map (instance_of p) ns k) ∙ e) in
       let h = slice_get_within ns k s.0 s.1 in
-      let h' : k < length ws = omega (arith, a.long) in
+      let h' : k < length ws = omega (arith, a.are.long) in
       let n : instance_of p (name_at ns k) ≡ i = ap (instance_of p) (get_or_from_slice_get ns k s.0 _ s.1) ∙ s.2 in
-      ap (option_and_then (λ (v : Option Value). v)) (slice_get-map (option_map (value_in (text_of p))) ws k ∙ ap (option_map (option_map (value_in (text_of p)))) (slice_get-get_or ws k None h')) ∙ a.even k h ∙ ap (standing p ns ws) n
+      ap (option_and_then (λ (v : Option Value). v)) (slice_get-map (option_map (value_in (text_of p))) ws k ∙ ap (option_map (option_map (value_in (text_of p)))) (slice_get-get_or ws k None h')) ∙ even p ns ws a k h ∙ ap (standing p ns ws) n

@@ -5,7 +5,7 @@ use Rattle.solutions.specs.Rounds.{Graph, value_of as outcome_value}
 use Rattle.solutions.proofs.Runs.{ends_more, ends_run, option_cases}
 use Rattle.equation_law.specs.declared.coding.Instance.{Instance as CodedInstance}
 use Rattle.equation_law.specs.declared.coding.Value.{Value as CodedValue}
-use Rattle.equation_law.specs.Codes.{value_of}
+use Rattle.equation_law.specs.Codes.{AreElements, value_of}
 use Rattle.equation_law.specs.Names.{Instance}
 use Rattle.equation_law.specs.Program.{Program, text_of}
 use Rattle.equation_law.specs.Reading.{IsSound, Told}
@@ -40,6 +40,10 @@ module _ (p : Program) (r : Standing) (s : Told Standing) (c : Demands Instance 
   done_value v t is g =
       let h = subst (λ (x : Turn). Evaluates p (told_by r) s c (Ok x)) is g in
       sym (ap outcome_value (ends_run (standing_at r) (ends_more (λ i w a. h.kept.bound i w (h.kept.sound.within i w a)) h.answer.ends)))
+
+  -- and its elements are coded well
+  pub done_held : (v : CodedValue) (t : Turn) → t ≡ Done v → Evaluates p (told_by r) s c (Ok t) → AreElements p v
+  done_held v t is g = let h = subst (λ (x : Turn). Evaluates p (told_by r) s c (Ok x)) is g in h.answer.coded
 
   -- what is stuck has none
   pub stuck_value : (j : CodedInstance) (t : Turn) → t ≡ Need j → Evaluates p (told_by r) s c (Ok t) → None ≡ outcome_value (run (standing_at r) c)

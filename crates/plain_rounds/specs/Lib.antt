@@ -2,5 +2,6 @@ pub mod Coding
 pub mod Listing
 pub mod Named
 pub mod Places
+pub mod Rooms
 pub mod Standing
 pub mod Steps

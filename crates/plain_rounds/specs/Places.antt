@@ -5,7 +5,7 @@ use Rattle.std.specs.HashMap.{HashMap, get_by}
 use Rattle.equation_law.specs.declared.coding.Instance.{Instance as CodedInstance}
 use Rattle.equation_law.specs.contracts.coding.InstancePartialEq.TheImpl as equality
 use Rattle.plain_rounds.specs.declared.values.NamedValue.{NamedValue}
-use Rattle.equation_law.specs.Codes.{IsCoded}
+use Rattle.equation_law.specs.Codes.{AreElements, IsCoded}
 use Rattle.equation_law.specs.Values.{Value}
 use Rattle.equation_law.specs.Program.{Program}
 use Rattle.plain_rounds.specs.Named.{value_in}
@@ -31,8 +31,14 @@ value_on texts values k = option_and_then (option_map (value_in texts)) (slice_g
 abbrev pub found : {S : Type 0} → (ℕ → List ℕ) → HashMap CodedInstance ℕ S → List (Option NamedValue) → CodedInstance → Option Value
 found texts m values q = option_and_then (value_on texts values) (kept_place m q)
 
+-- what stands somewhere is nothing, or a value, and the elements of a set are coded well
+abbrev pub IsHeld : Program → Option NamedValue → Type 0
+IsHeld p None = Unit {0}
+IsHeld p (Some v) = AreElements p v.value
+
 -- the first places of well coded instances are kept, and each has a value or none
 pub record ArePlaced {S : Type 0} (p : Program) (names : List CodedInstance) (m : HashMap CodedInstance ℕ S) (values : List (Option NamedValue)) : Type 0 where
   pub coded : All (IsCoded p) names
   pub places : (q : CodedInstance) → kept_place m q ≡ first_place names q
   pub long : length values ≡ length names
+  pub held : All (IsHeld p) values

@@ -1,7 +1,7 @@
 -- What stands in a round, told as a reader tells it.
 use Rattle.std.specs.Prelude.{◌≡◌, Option, Some, None}
 use Rattle.equation_law.specs.declared.coding.Value.{Value as CodedValue}
-use Rattle.equation_law.specs.Codes.{value_of}
+use Rattle.equation_law.specs.Codes.{AreElements, value_of}
 use Rattle.equation_law.specs.Equations.{kind_in}
 use Rattle.equation_law.specs.Program.{text_of}
 use Rattle.equation_law.specs.Names.{Instance}
@@ -20,7 +20,7 @@ standing_at s i = standing (program_of s.system.now) s.names.now s.values.now i
 abbrev pub told_by : Standing → Told Standing
 told_by s = record { for = λ p. (p ≡ program_of s.system.now) × ArePlaced p s.names.now s.places.now.map s.values.now; has = λ i v. standing_at s i ≡ Some v; can = λ i v. standing_at s i ≡ Some v; keeps = λ earlier. earlier ≡ s }
 
--- the value, read at its type, or None where there is none
+-- the value, read at its type, with its elements coded well, or None where there is none
 abbrev pub IsStanding : Standing → Instance → Option CodedValue → Type 0
 IsStanding s i None = standing_at s i ≡ None
-IsStanding s i (Some v) = (w : Value) × (standing_at s i ≡ Some w) × (value_of (text_of (program_of s.system.now)) v ≡ as_kind (kind_in (program_of s.system.now) i) w)
+IsStanding s i (Some v) = ((w : Value) × (standing_at s i ≡ Some w) × (value_of (text_of (program_of s.system.now)) v ≡ as_kind (kind_in (program_of s.system.now) i) w)) × AreElements (program_of s.system.now) v

@@ -1,8 +1,8 @@
--- One round over a list of names.
-use Rattle.std.specs.Prelude.{◌≡◌, ℕ, ◌<◌, List, Option, Some, None, map, length, slice_index_or}
+-- One round over a list of names, inner and outer.
+use Rattle.std.specs.Prelude.{◌≡◌, ℕ, ◌<◌, cond, List, Option, Some, None, map, length, slice_index_or}
 use Rattle.std.specs.Option.{option_map}
-use Rattle.solutions.specs.Asking.{Outcome, run}
-use Rattle.solutions.specs.Rounds.{AreWhole, outer_rounds, value_of as outcome_value}
+use Rattle.solutions.specs.Asking.{run}
+use Rattle.solutions.specs.Rounds.{AreWhole, IsStable, and_then, inner_rounds, or_else, outer_rounds, over, plain_round, value_of as outcome_value}
 use Rattle.equation_law.specs.declared.coding.Instance.{Instance as CodedInstance}
 use Rattle.equation_law.specs.declared.coding.Instance.TheVariants as coded
 use Rattle.plain_rounds.specs.declared.values.NamedValue.{NamedValue}
@@ -17,26 +17,89 @@ use Rattle.plain_rounds.specs.Named.{assigned, value_in}
 abbrev pub standing : Program → List CodedInstance → List (Option NamedValue) → Instance → Option Value
 standing p names values = assigned (map (instance_of p) names) (map (option_map (value_in (text_of p))) values)
 
--- what stands stays, and the rest is what the equation comes to
-abbrev pub IsStep : (ℕ → List ℕ) → Option NamedValue → Option NamedValue → Outcome Instance Value → Type 0
-IsStep texts (Some v) w o = w ≡ Some v
-IsStep texts None w o = option_map (value_in texts) w ≡ outcome_value o
-
 abbrev pub name_at : List CodedInstance → ℕ → CodedInstance
 name_at names k = slice_index_or names k (coded.Query 0)
 
--- w is the k-th value after one more round
-abbrev pub IsStepAt : Program → List CodedInstance → List (Option NamedValue) → ℕ → Option NamedValue → Type 0
-IsStepAt p names values k w = IsStep (text_of p) (slice_index_or values k None) w (run (standing p names values) ((equations_of p).equation (instance_of p (name_at names k))))
+-- the k-th instance and the k-th value
+abbrev pub named : Program → List CodedInstance → ℕ → Instance
+named p names k = instance_of p (name_at names k)
 
--- each name's value after one more round
-pub record IsRound (p : Program) (names : List CodedInstance) (before after : List (Option NamedValue)) : Type 0 where
-  pub each : (k : ℕ) → k < length names → IsStepAt p names before k (slice_index_or after k None)
+abbrev pub known : Program → Option NamedValue → Option Value
+known p v = option_map (value_in (text_of p)) v
 
--- what stands under the names is what some rounds over them give, and a name that stands twice has one value
-pub record IsAfter (p : Program) (names : List CodedInstance) (values : List (Option NamedValue)) : Type 0 where
+abbrev pub known_at : Program → List (Option NamedValue) → ℕ → Option Value
+known_at p values k = known p (slice_index_or values k None)
+
+-- what an instance's equation comes to
+abbrev pub comes : Program → (Instance → Option Value) → Instance → Option Value
+comes p A i = outcome_value (run A ((equations_of p).equation i))
+
+-- where inner rounds start: a circular instance at the bottom of its type
+abbrev pub start_of : Program → Instance → Option Value
+start_of p i = cond ((equations_of p).circular i) (Some ((equations_of p).bottom i)) None
+
+-- w is the k-th value before the first inner round, over what is settled
+abbrev pub IsFirstAt : Program → List CodedInstance → List (Option NamedValue) → ℕ → Option NamedValue → Type 0
+IsFirstAt p names settled k w = known p w ≡ or_else (known_at p settled k) (start_of p (named p names k))
+
+-- what one more inner round leaves the k-th instance, if it is circular and still has a value: what its equation comes to
+abbrev pub inner_at : Program → List CodedInstance → List (Option NamedValue) → ℕ → Option Value
+inner_at p names values k = cond ((equations_of p).circular (named p names k)) (and_then (known_at p values k) (comes p (standing p names values) (named p names k))) None
+
+-- w is the k-th value after one more inner round, over what is settled
+abbrev pub IsInnerStepAt : Program → List CodedInstance → List (Option NamedValue) → List (Option NamedValue) → ℕ → Option NamedValue → Type 0
+IsInnerStepAt p names settled values k w = known p w ≡ or_else (known_at p settled k) (inner_at p names values k)
+
+-- w is the k-th value after one more outer round, where the inner rounds left these values: what is settled stays, and the rest is what they
+-- leave of a circular instance, and what the equation of another one comes to
+abbrev pub IsStepAt : Program → List CodedInstance → List (Option NamedValue) → List (Option NamedValue) → ℕ → Option NamedValue → Type 0
+IsStepAt p names settled inner k w = known p w ≡ cond ((equations_of p).circular (named p names k)) (known_at p inner k) (or_else (known_at p settled k) (comes p (standing p names settled) (named p names k)))
+
+-- all values are such
+pub record AreFirst (p : Program) (names : List CodedInstance) (settled values : List (Option NamedValue)) : Type 0 where
   pub long : length values ≡ length names
+  pub each : (k : ℕ) → k < length names → IsFirstAt p names settled k (slice_index_or values k None)
+
+pub record AreInnerSteps (p : Program) (names : List CodedInstance) (settled before after : List (Option NamedValue)) : Type 0 where
+  pub long : length after ≡ length names
+  pub each : (k : ℕ) → k < length names → IsInnerStepAt p names settled before k (slice_index_or after k None)
+
+pub record IsRound (p : Program) (names : List CodedInstance) (settled inner after : List (Option NamedValue)) : Type 0 where
+  pub long : length after ≡ length names
+  pub each : (k : ℕ) → k < length names → IsStepAt p names settled inner k (slice_index_or after k None)
+
+-- each name has its value in an assignment
+pub record AreIn (p : Program) (names : List CodedInstance) (values : List (Option NamedValue)) (A : Instance → Option Value) : Type 0 where
+  pub long : length values ≡ length names
+  pub each : (k : ℕ) → k < length names → known_at p values k ≡ A (named p names k)
+
+-- what is settled, and outside of it what so many inner rounds give
+abbrev pub inner_over : Program → List CodedInstance → List (Option NamedValue) → ℕ → Instance → Option Value
+inner_over p names settled n = over (standing p names settled) (inner_rounds (equations_of p) (map (instance_of p) names) (standing p names settled) n)
+
+-- what an outer round gives over what is settled, with so many inner rounds
+abbrev pub outer_over : Program → List CodedInstance → List (Option NamedValue) → ℕ → Instance → Option Value
+outer_over p names settled n i = or_else (standing p names settled i) (or_else (plain_round (equations_of p) (map (instance_of p) names) (standing p names settled) i) (inner_rounds (equations_of p) (map (instance_of p) names) (standing p names settled) n i))
+
+-- the values are those of some inner rounds over what is settled
+pub record AreInner (p : Program) (names : List CodedInstance) (settled values : List (Option NamedValue)) : Type 0 where
+  pub turns : ℕ
+  pub are : AreIn p names values (inner_over p names settled turns)
+
+-- they are those of inner rounds that ran until nothing changed
+pub record AreLeft (p : Program) (names : List CodedInstance) (settled values : List (Option NamedValue)) : Type 0 where
+  pub turns : ℕ
+  pub stable : IsStable (equations_of p) (map (instance_of p) names) (standing p names settled) turns
+  pub are : AreIn p names values (inner_over p names settled turns)
+
+-- what stands under the names is what some rounds over them give
+pub record IsAfter (p : Program) (names : List CodedInstance) (values : List (Option NamedValue)) : Type 0 where
   pub rounds : List ℕ
   pub whole : AreWhole (equations_of p) (map (instance_of p) names) rounds
-  pub is : (i : Instance) → standing p names values i ≡ outer_rounds (equations_of p) (map (instance_of p) names) rounds i
-  pub even : (k : ℕ) → k < length names → option_map (value_in (text_of p)) (slice_index_or values k None) ≡ standing p names values (instance_of p (name_at names k))
+  pub are : AreIn p names values (outer_rounds (equations_of p) (map (instance_of p) names) rounds)
+
+-- after are the values of the next outer round: what stood before was the outcome of some rounds, and this is that of one more
+pub record IsNext (p : Program) (names : List CodedInstance) (before after : List (Option NamedValue)) : Type 0 where
+  pub turns : ℕ
+  pub stable : IsStable (equations_of p) (map (instance_of p) names) (standing p names before) turns
+  pub are : AreIn p names after (outer_over p names before turns)

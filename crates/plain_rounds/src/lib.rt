@@ -1,12 +1,16 @@
 //! The rounds of the model over a list of instances, run as they are defined: the slow definition in executable form.
 #![tactic(auto)]
 
+mod circular;
 mod coding;
 mod growing;
+mod inner;
 mod instances;
 mod listing;
 mod naming;
 mod places;
+mod rising;
+mod rooms;
 mod rounds;
 mod standing;
 mod values;

@@ -1,10 +1,10 @@
 // Where the instances of a list stand in it.
-ghost use Rattle.std.specs.Prelude.{◌≡◌, ℕ, List, Some, None, IfOk, cond};
-ghost use Rattle.std.specs.Option.{option_map};
+ghost use Rattle.std.specs.Prelude.{◌≡◌, ℕ, All, List, Some, None, IfOk, IfSome, MatchOption, cond};
 ghost use Rattle.solutions.specs.Rounds.{or_else};
 ghost use Rattle.equation_law.specs.declared.coding.Instance.{Instance as CodedInstance};
-ghost use Rattle.equation_law.specs.Codes.{value_of};
-ghost use Rattle.plain_rounds.specs.Places.{first_place, found, kept_place, same_code};
+ghost use Rattle.equation_law.specs.Codes.{AreElements, value_of};
+ghost use Rattle.equation_law.specs.Program.{Program};
+ghost use Rattle.plain_rounds.specs.Places.{IsHeld, first_place, found, kept_place, same_code};
 ghost use Rattle.plain_rounds.specs.Places as specs;
 
 use crate::values::NamedValue;
@@ -37,11 +37,12 @@ fn keep_first(
 }
 
 /// The value at a place, if there are such a place and a value.
-fn value_on(values: &[Option<NamedValue>], place: usize) -> Option<Value>
-    ensures { (texts : ℕ → List ℕ) → option_map (value_of texts) result ≡ specs.value_on texts values.now place }
+fn value_on(values: &[Option<NamedValue>], place: usize) -> Option<&Value>
+    ensures value { (texts : ℕ → List ℕ) → MatchOption result (specs.value_on texts values.now place ≡ None) (λ value. specs.value_on texts values.now place ≡ Some (value_of texts value.now)) }
+    ensures elements { (p : Program) → All (IsHeld p) values.now → IfSome result (λ value. AreElements p value.now) }
 {
     match values.get(place) {
-        Some(Some(held)) => Some(held.value),
+        Some(Some(held)) => Some(&held.value),
         Some(None) => None,
         None => None,
     }
@@ -60,8 +61,13 @@ impl Places {
     }
 
     /// The value that stands at the first place of an instance, if there are such a place and a value.
-    pub(crate) fn value(&self, values: &[Option<NamedValue>], name: Instance) -> Option<Value>
-        ensures { (texts : ℕ → List ℕ) → option_map (value_of texts) result ≡ found texts self.now.map values.now name }
+    pub(crate) fn value<'a>(
+        &self,
+        values: &'a [Option<NamedValue>],
+        name: Instance,
+    ) -> Option<&'a Value>
+        ensures value { (texts : ℕ → List ℕ) → MatchOption result (found texts self.now.map values.now name ≡ None) (λ value. found texts self.now.map values.now name ≡ Some (value_of texts value.now)) }
+        ensures elements { (p : Program) → All (IsHeld p) values.now → IfSome result (λ value. AreElements p value.now) }
     {
         let place = self.map.get(&name)?;
         value_on(values, *place)

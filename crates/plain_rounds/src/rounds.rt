@@ -3,11 +3,14 @@ ghost use Rattle.std.specs.Prelude.{◌≡◌, ◌<◌, All, ℕ, List, IfOk, Ma
 ghost use Rattle.equation_law.specs.Checked.{IsInstance};
 ghost use Rattle.equation_law.specs.Systems.{program_of};
 ghost use Rattle.plain_rounds.specs.Named.{instances_in, value_in, value_at, Solves};
-ghost use Rattle.plain_rounds.specs.Places.{ArePlaced};
-ghost use Rattle.plain_rounds.specs.Steps.{IsStepAt, IsRound};
+ghost use Rattle.plain_rounds.specs.Places.{ArePlaced, IsHeld};
+ghost use Rattle.equation_law.specs.Program.{Program};
+ghost use Rattle.plain_rounds.specs.Steps.{IsAfter, IsNext, IsStepAt, known};
 
+use crate::circular::is_circular;
 use crate::coding::codes_of;
 use crate::growing::push;
+use crate::inner::inner_rounds;
 use crate::instances::NameList;
 use crate::places::Places;
 use crate::standing::equation_value;
@@ -35,22 +38,41 @@ impl Table {
     }
 }
 
-/// The value that one more round leaves an instance: the one that stands, or that of its equation.
+/// A value that may stand once more.
+fn copied(held: &Option<NamedValue>) -> Result<Option<NamedValue>, Memory>
+    ensures same { IfOk result (λ copied. (p : Program) → known p copied ≡ known p held.now) }
+    ensures elements { IfOk result (λ copied. (p : Program) → IsHeld p held.now → IsHeld p copied) }
+{
+    match held {
+        Some(held) => Ok(Some(held.copy()?)),
+        None => Ok(None),
+    }
+}
+
+/// The value that one more round leaves an instance: what the inner rounds leave it, if it is circular, or the one that is settled, or that of its
+/// equation.
 fn stepped(
     alloc: Global,
     system: &System,
     names: &[Instance],
     places: &Places,
-    values: &[Option<NamedValue>],
+    settled: &[Option<NamedValue>],
+    inner: &[Option<NamedValue>],
     k: usize,
 ) -> Result<Option<NamedValue>, Memory>
-    requires placed { ArePlaced (program_of system.now) names.now places.now.map values.now }
+    requires placed { ArePlaced (program_of system.now) names.now places.now.map settled.now }
+    requires long { length inner.now ≡ length names.now }
+    requires held { All (IsHeld (program_of system.now)) inner.now }
     requires within { k < length names.now }
-    ensures { IfOk result (λ next. IsStepAt (program_of system.now) names.now values.now k next) }
+    ensures step { IfOk result (λ next. IsStepAt (program_of system.now) names.now settled.now inner.now k next) }
+    ensures elements { IfOk result (IsHeld (program_of system.now)) }
 {
-    match values[k] {
-        Some(held) => Ok(Some(held)),
-        None => equation_value(alloc, system, names, places, values, names[k]),
+    if is_circular(system, &names[k]) {
+        return copied(&inner[k]);
+    }
+    match &settled[k] {
+        Some(held) => Ok(Some(held.copy()?)),
+        None => equation_value(alloc, system, names, places, settled, names[k]),
     }
 }
 
@@ -60,15 +82,17 @@ fn round(
     system: &System,
     names: &[Instance],
     places: &Places,
-    values: &[Option<NamedValue>],
+    settled: &[Option<NamedValue>],
 ) -> Result<Vec<Option<NamedValue>>, Memory>
-    requires placed { ArePlaced (program_of system.now) names.now places.now.map values.now }
-    ensures long { IfOk result (λ next. length next.items ≡ length names.now) }
-    ensures round { IfOk result (λ next. IsRound (program_of system.now) names.now values.now next.items) }
+    requires placed { ArePlaced (program_of system.now) names.now places.now.map settled.now }
+    requires after { IsAfter (program_of system.now) names.now settled.now }
+    ensures after { IfOk result (λ next. IsNext (program_of system.now) names.now settled.now next.items) }
+    ensures elements { IfOk result (λ next. All (IsHeld (program_of system.now)) next.items) }
 {
+    let inner = inner_rounds(alloc, system, names, places, settled)?;
     let mut next = Vec::with_capacity(alloc, names.len()).map_err(|_| Memory)?;
     for k in 0..names.len() {
-        let value = stepped(alloc, system, names, places, values, k)?;
+        let value = stepped(alloc, system, names, places, settled, &inner, k)?;
         push(&mut next, value)?;
     }
     Ok(next)
@@ -78,20 +102,32 @@ fn round(
 fn missing(values: &[Option<NamedValue>]) -> usize
     ensures { result ≡ count_by is_none values.now }
 {
-    values.iter().filter(|value| value.is_none()).count()
+    let mut missing = 0;
+    for value in values {
+        if value.is_none() {
+            missing += 1;
+        }
+    }
+    missing
 }
 
 /// No value for any name.
 fn nothing(alloc: Global, count: usize) -> Result<Vec<Option<NamedValue>>, Memory>
     ensures { IfOk result (λ v. v.items ≡ replicate count None) }
 {
-    vec![in alloc; None; count].map_err(|_| Memory)
+    let mut values = Vec::with_capacity(alloc, count).map_err(|_| Memory)?;
+    for _ in 0..count {
+        push(&mut values, None)?;
+    }
+    Ok(values)
 }
 
-/// Runs the rounds over instances of a system until nothing is added: each round gives each instance that has no value
-/// yet the value of its equation, where that isn't stuck under the values of the round before. It is the slow
-/// definition in executable form: a round takes time linear in the list and the expressions, and there are at
-/// most as many rounds as the longest chain of demands has instances, and one more.
+/// Runs the rounds over instances of a system until nothing is added: each round gives each undeclared instance that
+/// has no value yet the value of its equation, where that isn't stuck under the values of the round before, and each
+/// circular one the value that the inner rounds leave it. It is the slow definition in executable form: a round, inner
+/// or outer, takes time linear in the list and the expressions. There are at most as many outer rounds as there are
+/// instances, and one more, and at most as many inner rounds in one of these as the values of the circular instances
+/// can rise, and these instances can be dropped, and one more.
 pub fn plain_rounds(alloc: Global, system: &System, names: &NameList) -> Result<Table, Memory>
     requires { All (IsInstance (program_of system.now)) (instances_in (program_of system.now) names.now) }
     ensures { IfOk result (λ table. Solves (program_of system.now) (instances_in (program_of system.now) names.now) table) }
@@ -105,7 +141,7 @@ pub fn plain_rounds(alloc: Global, system: &System, names: &NameList) -> Result<
         let next = round(alloc, system, instances, &places, &values)?;
         let now = missing(&next);
         if now >= left {
-            return Ok(Table { values: next });
+            return Ok(Table { values });
         }
         values = next;
         left = now;

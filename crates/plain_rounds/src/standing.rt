@@ -8,7 +8,7 @@ ghost use Rattle.equation_law.specs.Equations.{equations_of};
 ghost use Rattle.equation_law.specs.Program.{text_of};
 ghost use Rattle.equation_law.specs.Systems.{program_of};
 ghost use Rattle.plain_rounds.specs.Named.{value_in};
-ghost use Rattle.plain_rounds.specs.Places.{ArePlaced};
+ghost use Rattle.plain_rounds.specs.Places.{ArePlaced, IsHeld};
 ghost use Rattle.plain_rounds.specs.Steps.{standing};
 
 use crate::places::Places;
@@ -31,11 +31,14 @@ impl Standing<'_> {
     ghost use Rattle.plain_rounds.specs.Standing.{IsStanding};
 
     /// The value that stands under an instance, read at its type.
-    fn value(&self, i: Instance) -> Option<Value>
-        ensures { IsCoded (program_of self.now.system.now) i → ArePlaced (program_of self.now.system.now) self.now.names.now self.now.places.now.map self.now.values.now → IsStanding self.now (instance_of (program_of self.now.system.now) i) result }
+    fn value(&self, alloc: Global, i: Instance) -> Result<Option<Value>, Memory>
+        ensures { IfOk result (λ value. IsCoded (program_of self.now.system.now) i → ArePlaced (program_of self.now.system.now) self.now.names.now self.now.places.now.map self.now.values.now → IsStanding self.now (instance_of (program_of self.now.system.now) i) value) }
     {
-        let value = self.places.value(self.values, i)?;
-        Some(value.read_as(kind_of(self.system, &i)))
+        let Some(held) = self.places.value(self.values, i) else {
+            return Ok(None);
+        };
+        let value = held.copy()?;
+        Ok(Some(value.read_as(alloc, kind_of(self.system, &i))))
     }
 }
 
@@ -44,8 +47,8 @@ impl Reader for Standing<'_> {
 
     ghost tells = { told_by };
 
-    fn settled(&mut self, _alloc: Global, i: &Instance) -> Result<Option<Value>, Memory> {
-        Ok(self.value(*i))
+    fn settled(&mut self, alloc: Global, i: &Instance) -> Result<Option<Value>, Memory> {
+        self.value(alloc, *i)
     }
 }
 
@@ -60,7 +63,8 @@ pub(crate) fn equation_value(
 ) -> Result<Option<NamedValue>, Memory>
     requires placed { ArePlaced (program_of system.now) names.now places.now.map values.now }
     requires coded { IsCoded (program_of system.now) name }
-    ensures { IfOk result (λ value. option_map (value_in (text_of (program_of system.now))) value ≡ outcome_value (run (standing (program_of system.now) names.now values.now) ((equations_of (program_of system.now)).equation (instance_of (program_of system.now) name)))) }
+    ensures value { IfOk result (λ value. option_map (value_in (text_of (program_of system.now))) value ≡ outcome_value (run (standing (program_of system.now) names.now values.now) ((equations_of (program_of system.now)).equation (instance_of (program_of system.now) name)))) }
+    ensures elements { IfOk result (IsHeld (program_of system.now)) }
 {
     let mut standing = Standing {
         system,

@@ -6,11 +6,14 @@ use Rattle.rag_io.specs.Pool.{ArePooled}
 use Rattle.ast_grammar.specs.Grammar.{Class, IsGrammar, superclasses_of}
 use Rattle.ast_grammar.proofs.Read.{said_allowed}
 use Rattle.attr_rules.specs.Queries.{Query}
-use Rattle.attr_rules.specs.Rules.{AreRules, RuleSet}
-use Rattle.attr_types.specs.Phases.{rules_of}
+use Rattle.attr_rules.specs.Rules.{AreRules, EquationsRise, RuleSet}
+use Rattle.attr_types.specs.Phases.{phases_of, rules_of}
 use Rattle.attr_types.proofs.Accepted.{accepted}
 use Rattle.attr_types.proofs.AskedTyped.{asked_typed}
+use Rattle.attr_types.proofs.MadeWell.{equations_made}
 use Rattle.jrag_reader.specs.Items.{Item as AspectItem}
+use Rattle.monotone_check.specs.Equations.{equations_broken}
+use Rattle.monotone_check.proofs.PermittedRises.{equations_rise}
 use Rattle.equation_law.specs.Checked.{IsProgram, IsTyped}
 use Rattle.equation_law.specs.declared.system.System.{System}
 use Rattle.equation_law.specs.Systems.{program_of}
@@ -21,14 +24,19 @@ use Rattle.equation_law.specs.Program.{Program, class_of}
 use Rattle.query_runner.specs.Files.{AreAccepted, Contents, ReadsGrammar, ReadsTree, SaysProgram}
 use Rattle.query_runner.specs.Queries.{SaysLines, over, silent, query, SaysQuery, SaysQueries}
 use Rattle.rag_io.specs.Decimal.{decimal}
-use Rattle.query_runner.specs.Tokens.{text_at}
+use Rattle.query_runner.specs.Tokens.{place_at, text_at}
+use Rattle.query_runner.proofs.Tested.{clean_front, clean_last}
 
 -- what tokens and lines ask
-module _ (p : Program) (superclasses : p.rules.superclasses ≡ superclasses_of p.grammar) where
+module _ (p : Program) (good : AreRules p.grammar p.rules) where
   query_typed : {ts : List Lexed} (q : Query) → SaysQuery p.grammar p.rules p.tree ts q → IsTyped p q
   query_typed {ts} q s =
-      let asked = asked_typed p.grammar p.rules superclasses (class_of p) (class_of p 0) (decimal (text_at ts 1)) s.class s.node (text_at ts 3) q s.is in
-      record { type = asked.type; typed = asked.typed; kept = asked.kept }
+      let asked = asked_typed p.grammar p.rules good.superclasses (class_of p) (class_of p 0) (decimal (text_at ts 1)) (place_at ts 3) s.class s.node (text_at ts 3) q s.is in
+      record {
+        type = asked.type;
+        typed = asked.typed;
+        kept = asked.kept;
+      }
 
   lines_typed : {lines : List (List ℕ)} {qs : List Query} → SaysLines p.grammar p.rules p.tree lines qs → All (IsTyped p) qs
   lines_typed over = λ k d h. absurd (omega arith)
@@ -55,7 +63,11 @@ tree_allowed {g} {tree = tree} s = subst (λ (x : List (List ℕ)). IsTreeOf g (
 
 -- accepted aspects make rules of the grammar
 rules_allowed : (rules : RuleSet) (g : List Class) (aspects : List AspectItem) → IsGrammar g → AreAccepted g aspects → rules ≡ rules_of g aspects → AreRules g rules
-rules_allowed rules g aspects grammar a are = subst (AreRules g) (sym are) (accepted g aspects grammar a.built a.clean)
+rules_allowed rules g aspects grammar a are = subst (AreRules g) (sym are) (accepted g aspects grammar a.built (clean_front (phases_of g aspects) (equations_broken (rules_of g aspects)) a.clean))
+
+-- and the equations of circular attributes in them rise
+rules_rise : (rules : RuleSet) (g : List Class) (aspects : List AspectItem) → AreAccepted g aspects → rules ≡ rules_of g aspects → EquationsRise rules
+rules_rise rules g aspects a are = subst EquationsRise (sym are) (equations_rise (rules_of g aspects) (equations_made g aspects) (clean_last (phases_of g aspects) (equations_broken (rules_of g aspects)) a.clean))
 
 -- the texts of a program that is kept are those of a pool
 pub texts_pooled : (s : System) → ArePooled (program_of s).texts
@@ -65,10 +77,12 @@ texts_pooled s = s.pooled
 -- the four files say a program that breaks no rule, whose texts are those of a pool
 pub is_program : (held : Contents) (p : Program) → SaysProgram held p → ArePooled p.texts → IsProgram p
 is_program held p s pooled =
+    let rules = rules_allowed p.rules p.grammar s.written (grammar_allowed s.grammar) s.accepted s.rules in
     record {
       grammar = grammar_allowed s.grammar;
-      rules = rules_allowed p.rules p.grammar s.written (grammar_allowed s.grammar) s.accepted s.rules;
+      rules = rules;
+      rising = rules_rise p.rules p.grammar s.written s.accepted s.rules;
       texts = pooled;
       tree = tree_allowed s.tree;
-      queries = queries_typed p (superclasses_in p.rules p.grammar s.written s.rules) s.queries;
+      queries = queries_typed p rules s.queries;
     }

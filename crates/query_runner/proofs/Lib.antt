@@ -12,4 +12,5 @@ pub mod Preparing
 pub mod ReplyLines
 pub mod SayingQueries
 pub mod Stopping
+pub mod Tested
 pub mod Unread

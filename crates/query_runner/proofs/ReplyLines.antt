@@ -1,23 +1,16 @@
 -- Steps of the loop over the replies.
-use Rattle.std.proofs.Common.{◌≡◌, ℕ, suc, ◌+◌, ◌<◌, List, [], ◌∷◌, ◌++◌, codes, length, drop, drop-cons, add-one, Result, Ok, Err, OnOk, sym, ap, subst, ◌∙◌, append_assoc}
+use Rattle.std.proofs.Common.{◌≡◌, ℕ, suc, ◌+◌, ◌<◌, List, [], ◌∷◌, ◌++◌, codes, length, drop, drop-cons, add-one, Result, Err, sym, ap, subst, ◌∙◌, append_assoc}
 use Rattle.std.specs.Result.{IsErr, IsErrAnd}
 use Rattle.std.proofs.lemmas.List.{append-nil}
 use Rattle.std.proofs.lemmas.Result.{err_from_is_err_and}
-use Rattle.rag_io.specs.declared.Memory.{Memory}
 use Rattle.attr_rules.specs.Queries.{Query as Asked}
 use Rattle.equation_law.specs.Program.{Program}
-use Rattle.equation_law.specs.Values.{Value}
 use Rattle.query_runner.specs.declared.replies.ReplyFault.{ReplyFault}
 use Rattle.query_runner.specs.declared.replies.ReplyFault.TheVariants.{Cells}
-use Rattle.query_runner.specs.Output.{AreReplies, IsReplyText, none, reply}
+use Rattle.query_runner.specs.Output.{AreReplies, none, reply}
 use Rattle.query_runner.specs.Output.{looped as circular}
 use Rattle.query_runner.proofs.Answered.{some_query}
-use Rattle.query_runner.specs.Replies.{AddsAnswer, AddsReply, looped, valued}
-
--- the text of a value was added
-pub text_added : (r : Result Unit Memory) (v w : Value) (text old new : List ℕ) → v ≡ w → IsReplyText w text → OnOk r (new ≡ old ++ (text ++ 10 ∷ [])) → OnOk r (AddsReply v old new)
-text_added (Ok u) v w text old new e is h = subst (λ (x : Value). AddsReply x old new) (sym e) (record { text = text; of_value = is; added = h })
-text_added (Err m) v w text old new e is h = tt
+use Rattle.query_runner.specs.Replies.{AddsAnswer, looped, valued}
 
 module _ (p : Program) (q : ℕ) (old new : List ℕ) (within : q < length p.queries) (before : (rest : List ℕ) → AreReplies p q (drop q p.queries) rest → AreReplies p 0 p.queries (old ++ rest)) where
   -- one line more

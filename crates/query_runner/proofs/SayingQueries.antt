@@ -15,23 +15,23 @@ use Rattle.query_runner.specs.Queries.{query_class, SaysQuery, SaysLines, over, 
 use Rattle.query_runner.specs.QueryGrammar.{query_grammar}
 use Rattle.query_runner.specs.QuerySteps.{IsCall, AnswersCall, AnswersQuery, AnswersLine, SaysLine, IsFirstLine, Adds, nothing, one, IsWrong, SaysBehind, IsSofar}
 use Rattle.rag_io.specs.Decimal.{decimal}
-use Rattle.query_runner.specs.Tokens.{text_at}
+use Rattle.query_runner.specs.Tokens.{place_at, text_at}
 use Rattle.query_runner.proofs.Lines.{parted, joined, some_line, one_lines}
 
 module _ (g : List Class) (rules : RuleSet) (tree : List Node) where
   -- there is one call of a name at a number
-  pub one_call : {digits name : List ℕ} {e f : Query} → IsCall g rules tree digits name e → IsCall g rules tree digits name f → e ≡ f
-  one_call {digits} {name} {e} {f} a b =
+  pub one_call : {digits name : List ℕ} {place : Place} {e f : Query} → IsCall g rules tree digits name place e → IsCall g rules tree digits name place f → e ≡ f
+  one_call {digits} {name} {place} {e} {f} a b =
       let class : a.class ≡ b.class = let both = sym a.node ∙ b.node in cc in
-      let both : Some e ≡ Some f = sym a.is ∙ ap (λ c. query_named g rules (decimal digits) c name) class ∙ b.is in
+      let both : Some e ≡ Some f = sym a.is ∙ ap (λ c. query_named g rules (decimal digits) c name place) class ∙ b.is in
       cc
 
   -- what tokens say is the call of their words
-  pub call_of : {ts : List Lexed} {e : Query} → SaysQuery g rules tree ts e → IsCall g rules tree (text_at ts 1) (text_at ts 3) e
+  pub call_of : {ts : List Lexed} {e : Query} → SaysQuery g rules tree ts e → IsCall g rules tree (text_at ts 1) (text_at ts 3) (place_at ts 3) e
   call_of s = record { class = s.class; node = s.node; is = s.is }
 
   -- tokens that are a sentence say the call of their words
-  pub query_by : (ts : List Lexed) {events : List ℕ} (r : Result (Option QueryEq) Memory) → IsSentence query_grammar 0 (map query_class ts) events → AnswersCall g rules tree (text_at ts 1) (text_at ts 3) r → AnswersQuery g rules tree ts r
+  pub query_by : (ts : List Lexed) {events : List ℕ} (r : Result (Option QueryEq) Memory) → IsSentence query_grammar 0 (map query_class ts) events → AnswersCall g rules tree (text_at ts 1) (text_at ts 3) (place_at ts 3) r → AnswersQuery g rules tree ts r
   query_by ts {events = events} (Ok (Some q)) s a = record { events = events; sentence = s; class = a.class; node = a.node; is = a.is }
   query_by ts (Ok None) s a = λ e says. a e (call_of says)
   query_by ts (Err m) s a = tt

@@ -17,6 +17,7 @@ use Rattle.jrag_syntax.specs.declared.classes.Start.TheVariants as starts
 use Rattle.jrag_reader.specs.Built.{all_built}
 use Rattle.jrag_reader.specs.Items.{Item as AspectItem, Declared, Inherits, Equates, Collects, Contributes}
 use Rattle.jrag_reader.specs.Reading.{IsFirstBroken as AspectsBreak, SaysItems}
+use Rattle.monotone_check.specs.Equations.{equations_broken}
 use Rattle.tree_arena.specs.Nodes.{Node}
 use Rattle.tree_arena.specs.Terms.{Forest, IsTerm, nodes_of}
 use Rattle.token_texts.specs.Texts.{pooled_texts}
@@ -76,15 +77,19 @@ pub data BreaksTree (g : List Class) (before : List (List ℕ)) (bytes : List �
   bad_place : {p : Place} → IsFirstBad first_place bytes p → BreaksTree g before bytes (at p N1)
   by_tokens : {tokens : List Lexed} {b : Broken} → IsTokens first_place bytes tokens → TreeBreaks g before tokens b → BreaksTree g before bytes b
 
+-- What some aspects break over a grammar, in the phases in which it is tested: the rules on rising equations last.
+abbrev pub tested : List Class → List AspectItem → List (List Broken)
+tested g aspects = phases_of g aspects ++ equations_broken (rules_of g aspects) ∷ []
+
 -- All forms of some aspects are evaluated so far, and they break no rule over a grammar.
 pub record AreAccepted (g : List Class) (aspects : List AspectItem) : Type 0 where
   pub built : all_built aspects ≡ true
-  pub clean : Answers (phases_of g aspects) None
+  pub clean : Answers (tested g aspects) None
 
 -- This is the first rule that they break.
 pub record AreRefused (g : List Class) (aspects : List AspectItem) (b : Broken) : Type 0 where
   pub built : all_built aspects ≡ true
-  pub breaks : Answers (phases_of g aspects) (Some b)
+  pub breaks : Answers (tested g aspects) (Some b)
 
 -- The four files say this program. The texts of the aspects are pooled first, and those of the tree then.
 pub record SaysProgram (held : Contents) (p : Program) : Type 0 where

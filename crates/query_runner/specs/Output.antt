@@ -1,31 +1,19 @@
 -- What the program is to write.
-use Rattle.std.specs.Prelude.{◌≡◌, ℕ, suc, ◌≤◌, ℤ, Bool, true, false, List, [], ◌∷◌, ◌++◌, Some, None, codes, length}
-use Rattle.std.specs.Fmt.{decimal, signed_decimal}
+use Rattle.std.specs.Prelude.{◌≡◌, ℕ, suc, ◌≤◌, List, [], ◌∷◌, ◌++◌, Some, None, codes, length}
+use Rattle.std.specs.Fmt.{decimal}
 use Rattle.rag_io.specs.Outside.{Named, content_of, longest_file, IsLong, IsShort}
 use Rattle.broken_rules.specs.Codes.{code_of}
 use Rattle.broken_rules.specs.declared.broken.Broken.{Broken}
-use Rattle.rag_io.specs.Quoting.{quoted}
 use Rattle.attr_rules.specs.Queries.{Query as Asked}
 use Rattle.equation_law.specs.Loops.{HasLoop}
-use Rattle.equation_law.specs.Names.{Null, At, Source, Query}
-use Rattle.equation_law.specs.Values.{Value, Truth, Int, Text, Node}
+use Rattle.equation_law.specs.Names.{Query}
+use Rattle.equation_law.specs.Values.{Value}
 use Rattle.equation_law.specs.Program.{Program}
 use Rattle.equation_law.specs.Equations.{HasValue}
 use Rattle.caller_pass.specs.Overfull.{IsOverfull}
+use Rattle.query_lang.specs.Replies.{IsReplyText}
 use Rattle.query_runner.specs.Files.{Contents, PairContents, SaysCounts, SaysProgram, SaysText, File, Ast, Jrag, Tree, Queries, IsBroken, IsCheckBroken, IsCheckNotBuilt, IsNotBuilt, IsTreeBroken}
 use Rattle.query_runner.specs.Words.{Check, Command, FileNames, PairNames, PrintTree, Run, command_of}
-
-abbrev pub truth_text : Bool → List ℕ
-truth_text true = codes "true"
-truth_text false = codes "false"
-
--- the text of a value in a reply; a text stands in quotes, and a source node is `@` and its number
-pub data IsReplyText : Value → List ℕ → Type 0 where
-  of_truth : (b : Bool) → IsReplyText (Truth b) (truth_text b)
-  of_int : (z : ℤ) → IsReplyText (Int z) (signed_decimal z)
-  of_text : (t : List ℕ) → IsReplyText (Text t) (quoted t)
-  of_null : IsReplyText (Node Null) (codes "null")
-  of_source : (k : ℕ) → IsReplyText (Node (At (Source k))) (codes "@" ++ decimal k)
 
 -- One line for each query from the q-th on: the text of its value in the solution, or `circular` where it has a
 -- loop, and a line feed.

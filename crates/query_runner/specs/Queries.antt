@@ -20,7 +20,7 @@ use Rattle.tree_arena.specs.Nodes.{Node}
 use Rattle.query_runner.specs.QueryGrammar.{query_grammar}
 use Rattle.query_runner.specs.Names.{is_name}
 use Rattle.rag_io.specs.Decimal.{decimal}
-use Rattle.query_runner.specs.Tokens.{text_at}
+use Rattle.query_runner.specs.Tokens.{place_at, text_at}
 
 abbrev pub symbol_class : List ℕ → ℕ
 symbol_class text =
@@ -43,7 +43,7 @@ pub record SaysQuery (g : List Class) (rules : RuleSet) (tree : List Node) (ts :
   pub sentence : IsSentence query_grammar 0 (map query_class ts) events
   pub class : ClassId
   pub node : option_map (λ n. n.class) (slice_get tree (decimal (text_at ts 1))) ≡ Some class
-  pub is : query_named g rules (decimal (text_at ts 1)) class (text_at ts 3) ≡ Some e
+  pub is : query_named g rules (decimal (text_at ts 1)) class (text_at ts 3) (place_at ts 3) ≡ Some e
 
 -- no byte of a line is a line feed
 abbrev pub is_inside : ℕ → Bool

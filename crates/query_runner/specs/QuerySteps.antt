@@ -13,6 +13,7 @@ use Rattle.attr_types.specs.Asked.{query_named}
 use Rattle.tree_arena.specs.Nodes.{Node}
 use Rattle.query_runner.specs.Queries.{SaysQuery, SaysLines, SaysQueries, AreLines, is_inside, is_silent, most_lines}
 use Rattle.rag_io.specs.Decimal.{decimal}
+use Rattle.rag_io.specs.declared.token.Place.{Place}
 
 -- what looking for the node of a number answers
 abbrev pub FindsNode : List Node → List ℕ → Option ℕ → Type 0
@@ -20,16 +21,16 @@ FindsNode tree digits None = length tree ≤ decimal digits
 FindsNode tree digits (Some n) = (n ≡ decimal digits) × (n < length tree)
 
 -- the accessor or the attribute of this name at the node of this number
-pub record IsCall (g : List Class) (rules : RuleSet) (tree : List Node) (digits name : List ℕ) (e : Query) : Type 0 where
+pub record IsCall (g : List Class) (rules : RuleSet) (tree : List Node) (digits name : List ℕ) (place : Place) (e : Query) : Type 0 where
   pub class : ClassId
   pub node : option_map (λ n. n.class) (slice_get tree (decimal digits)) ≡ Some class
-  pub is : query_named g rules (decimal digits) class name ≡ Some e
+  pub is : query_named g rules (decimal digits) class name place ≡ Some e
 
 -- what looking for a call answers
-abbrev pub AnswersCall : List Class → RuleSet → List Node → List ℕ → List ℕ → Result (Option QueryEq) Memory → Type 0
-AnswersCall g rules tree digits name (Ok (Some q)) = IsCall g rules tree digits name (query_of q)
-AnswersCall g rules tree digits name (Ok None) = (e : Query) → IsCall g rules tree digits name e → ⊥
-AnswersCall g rules tree digits name (Err m) = Unit {0}
+abbrev pub AnswersCall : List Class → RuleSet → List Node → List ℕ → List ℕ → Place → Result (Option QueryEq) Memory → Type 0
+AnswersCall g rules tree digits name place (Ok (Some q)) = IsCall g rules tree digits name place (query_of q)
+AnswersCall g rules tree digits name place (Ok None) = (e : Query) → IsCall g rules tree digits name place e → ⊥
+AnswersCall g rules tree digits name place (Err m) = Unit {0}
 
 -- what reading the tokens of a line answers
 abbrev pub AnswersQuery : List Class → RuleSet → List Node → List Lexed → Result (Option QueryEq) Memory → Type 0

@@ -21,6 +21,7 @@ use attr_types::check;
 use broken_rules::{Broken, ReadFault, Rule};
 use equation_law::{Queries, System};
 use jrag_reader::{Aspects, Item, built, read_jrag};
+use monotone_check::check_monotone;
 use rag_io::{Memory, Pool, ScanFault, scan};
 use std::alloc::Global;
 use tree_arena::Tree;
@@ -108,14 +109,19 @@ fn read_written(alloc: Global, bytes: &[u8], pool: &mut Pool) -> Result<Aspects,
     }
 }
 
-// The rules of the aspects, where all of their forms are evaluated so far and they break no rule over the grammar.
+// The rules of the aspects, where all of their forms are evaluated so far and they break no rule over the grammar. Those on rising equations are
+// tested last.
 fn read_rules(alloc: Global, grammar: &Grammar, aspects: &Aspects) -> Result<Rules, Unread>
     ensures { AnswersRules grammar.now (seen_aspects aspects.now) result }
 {
     if !built(aspects) {
         return Err(Unread::NotBuilt);
     }
-    Ok(check(alloc, grammar, aspects)?)
+    let rules = check(alloc, grammar, aspects)?;
+    match check_monotone(&rules) {
+        Ok(()) => Ok(rules),
+        Err(broken) => Err(Unread::Broken(broken)),
+    }
 }
 
 // The tree that the bytes say, whose texts go into the pool, or the first rule that they break: N1 at a place where no token begins.

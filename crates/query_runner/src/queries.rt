@@ -11,7 +11,7 @@ ghost use Rattle.query_runner.specs.Queries.{symbol_class, query_class, is_insid
 ghost use Rattle.query_runner.specs.QueryGrammar.{query_grammar};
 ghost use Rattle.query_runner.specs.QuerySteps.{FindsNode, AnswersCall, AnswersQuery, AnswersLine, IsFirstLine, ReadsLine};
 ghost use Rattle.query_runner.specs.Sentences.{Recognizes};
-ghost use Rattle.query_runner.specs.Tokens.{text_at as lexed_text};
+ghost use Rattle.query_runner.specs.Tokens.{place_at as lexed_place, text_at as lexed_text};
 
 use crate::query_table::{QUERY_BODIES, QUERY_CHOICE, QUERY_OF, QUERY_STARTS};
 use crate::sentences::{Words, classes_of, is_name, sentence, text_at};
@@ -85,7 +85,9 @@ fn find_node(tree: &Tree, digits: &[u8]) -> Option<u32>
 }
 
 // The place of the token of this number.
-fn place_at(tokens: &[Token<'_>], k: usize) -> Place {
+fn place_at(tokens: &[Token<'_>], k: usize) -> Place
+    ensures { result ≡ lexed_place (seen_tokens tokens.now) k }
+{
     match tokens.get(k) {
         Some(token) => place_of(token),
         None => Place { line: 1, column: 1 },
@@ -101,7 +103,7 @@ fn call(
     tokens: &[Token<'_>],
 ) -> Result<Option<QueryEq>, Memory>
     requires { (rules_in rules.now).superclasses ≡ superclasses_of grammar.now }
-    ensures { AnswersCall grammar.now (rules_in rules.now) tree.now (lexed_text (seen_tokens tokens.now) 1) (lexed_text (seen_tokens tokens.now) 3) result }
+    ensures { AnswersCall grammar.now (rules_in rules.now) tree.now (lexed_text (seen_tokens tokens.now) 1) (lexed_text (seen_tokens tokens.now) 3) (lexed_place (seen_tokens tokens.now) 3) result }
 {
     let Some(node) = find_node(tree, text_at(tokens, 1)) else {
         return Ok(None);

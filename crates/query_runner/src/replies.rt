@@ -1,23 +1,20 @@
 // The reply lines.
-ghost use Rattle.std.specs.Prelude.{◌≡◌, ◌≤◌, ◌<◌, ◌++◌, ◌∷◌, [], Err, slice_index_or, IfOk, OnOk, codes, length};
-ghost use Rattle.std.specs.Fmt.{decimal, signed_decimal};
-ghost use Rattle.rag_io.specs.Quoting.{quoted};
+ghost use Rattle.std.specs.Prelude.{◌≡◌, ◌≤◌, ◌<◌, ◌++◌, ◌∷◌, [], Err, IfOk, OnOk, length};
 ghost use Rattle.equation_law.specs.Checked.{IsProgram};
 ghost use Rattle.equation_law.specs.Systems.{program_of};
-ghost use Rattle.equation_law.specs.Codes.{reference_of, value_of};
-ghost use Rattle.equation_law.specs.Values.{Node};
 ghost use Rattle.equation_law.specs.Names.{Query};
 ghost use Rattle.memo_cells.specs.Standing.{AreNew, IsPassOf};
 ghost use Rattle.memo_cells.specs.Views.{IsAtLeast};
 ghost use Rattle.caller_pass.specs.Answering.{ClaimsKeys, FillsCells};
 ghost use Rattle.caller_pass.specs.Overfull.{IsOverfull};
-ghost use Rattle.query_runner.specs.Output.{AreReplies, truth_text};
-ghost use Rattle.query_runner.specs.Replies.{IsPlain, AddsAnswer, AddsReply, texts_in};
+ghost use Rattle.query_runner.specs.Output.{AreReplies};
+ghost use Rattle.query_runner.specs.Replies.{AddsAnswer};
 
 use caller_pass::{AskFault, Steps, ask};
-use equation_law::{Instance, NodeRef, System, Value};
+use equation_law::{Instance, System};
 use memo_cells::{Cells, Pass};
-use rag_io::{Gate, Memory, Pool, push_quoted};
+use query_lang::add_reply;
+use rag_io::{Gate, Memory};
 use std::alloc::Global;
 use std::marker::Brand;
 use std::sync::ledger::{Blank, Ledger};
@@ -28,72 +25,6 @@ fn add_line(text: &mut Vec<u8>, line: &[u8]) -> Result<(), Memory>
     text.extend_from_slice(line).map_err(|_| Memory)?;
     text.push(b'\n').map_err(|_| Memory)?;
     Ok(())
-}
-
-fn add_truth(text: &mut Vec<u8>, truth: bool) -> Result<(), Memory>
-    ensures { OnOk result (text.new.items ≡ text.old.items ++ (truth_text truth ++ 10 ∷ [])) }
-{
-    if truth {
-        add_line(text, b"true".as_slice())
-    } else {
-        add_line(text, b"false".as_slice())
-    }
-}
-
-fn add_int(alloc: Global, text: &mut Vec<u8>, int: i32) -> Result<(), Memory>
-    ensures { OnOk result (text.new.items ≡ text.old.items ++ (signed_decimal int ++ 10 ∷ [])) }
-{
-    let digits = int.to_string(alloc).map_err(|_| Memory)?;
-    add_line(text, digits.as_bytes())
-}
-
-// The text of a number; of a number that no text has, the empty one.
-fn text_of(pool: &Pool, number: u32) -> &[u8]
-    ensures { result.now ≡ slice_index_or pool.now number [] }
-{
-    if number < pool.len() {
-        pool.get(number)
-    } else {
-        &[]
-    }
-}
-
-fn add_text(pool: &Pool, text: &mut Vec<u8>, number: u32) -> Result<(), Memory>
-    ensures { OnOk result (text.new.items ≡ text.old.items ++ (quoted (slice_index_or pool.now number []) ++ 10 ∷ [])) }
-{
-    push_quoted(text, text_of(pool, number))?;
-    text.push(b'\n').map_err(|_| Memory)
-}
-
-fn add_source(alloc: Global, text: &mut Vec<u8>, node: u32) -> Result<(), Memory>
-    ensures { OnOk result (text.new.items ≡ text.old.items ++ ((codes "@" ++ decimal node) ++ 10 ∷ [])) }
-{
-    let digits = node.to_string(alloc).map_err(|_| Memory)?;
-    text.push(b'@').map_err(|_| Memory)?;
-    add_line(text, digits.as_bytes())
-}
-
-fn add_node(alloc: Global, text: &mut Vec<u8>, node: NodeRef) -> Result<(), Memory>
-    ensures { OnOk result (AddsReply (Node (reference_of node.0)) text.old.items text.new.items) }
-{
-    match node.source() {
-        None => add_line(text, b"null".as_slice()),
-        Some(k) => add_source(alloc, text, k),
-    }
-}
-
-// The line of a value.
-fn add_reply(alloc: Global, pool: &Pool, text: &mut Vec<u8>, value: Value) -> Result<(), Memory>
-    requires { IsPlain (value_of (texts_in pool.now) value) }
-    ensures { OnOk result (AddsReply (value_of (texts_in pool.now) value) text.old.items text.new.items) }
-{
-    match value {
-        Value::Truth(truth) => add_truth(text, truth),
-        Value::Int(int) => add_int(alloc, text, int),
-        Value::Text(number) => add_text(pool, text, number),
-        Value::Node(node) => add_node(alloc, text, node),
-        Value::NoTexts | Value::NoNodes => unreachable!(),
-    }
 }
 
 /// Why there are no replies.
@@ -137,7 +68,7 @@ fn add_answer<L: Ledger>(
     ensures full { result ≡ Err ReplyFault.Cells → FillsCells (program_of system.now) (Query query) cells.now pass.new }
 {
     match ask(alloc, system, cells, pass, &Instance::Query(query), evals) {
-        Ok(value) => Ok(add_reply(alloc, system.pool(), text, value)?),
+        Ok(value) => Ok(add_reply(alloc, system, text, &value)?),
         Err(AskFault::Circular { .. }) => Ok(add_line(text, b"circular".as_slice())?),
         Err(AskFault::CellsFull) => Err(ReplyFault::Cells),
         Err(AskFault::Memory) => Err(ReplyFault::Memory),

@@ -3,11 +3,13 @@ ghost use Rattle.std.specs.String.{string_bytes};
 
 mod aspect_files;
 mod checks;
+mod circular;
 mod demands;
 mod grammars;
 mod inherited;
 mod parameters;
 mod programs;
+mod sets;
 mod subclasses;
 mod texts;
 mod values;
@@ -261,7 +263,7 @@ const CASES: [Row; 9] = [
         "aspect A { syn boolean N.v() = true && contains(this, this); }",
         "@0.v() + 1",
         1,
-        "a.jrag: not built\n",
+        "a.jrag:1:49: J10\n",
     ),
     (
         "aspect A { syn int N.v() = true && false ? 1 : 2 - 3; }",

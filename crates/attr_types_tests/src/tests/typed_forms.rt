@@ -3,7 +3,7 @@ use super::*;
 use attr_rules::{EqId, Rules};
 
 // A type, an expression of it, and its typed form, written out.
-const FORMS: [(&str, &str, &str); 34] = [
+const FORMS: [(&str, &str, &str); 46] = [
     ("int", "2147483647", "Int(2147483647)"),
     ("int", "002147483647", "Int(2147483647)"),
     ("int", "-2147483648", "Negate(Int(-2147483648))"),
@@ -41,12 +41,12 @@ const FORMS: [(&str, &str, &str); 34] = [
     (
         "int",
         "true ? 1 : 2",
-        "If(Truth(true), Int(1), Place { line: 1, column: 58 }, Int(2))",
+        "If(Truth(true), Int(1), Some(Place { line: 1, column: 58 }), Int(2))",
     ),
     (
         "int",
         "true ? 1 : false || true ? 2 : 3",
-        "If(Truth(true), Int(1), Place { line: 1, column: 58 }, If(Or(Truth(false), Truth(true)), Int(2), Place { line: 1, column: 78 }, Int(3)))",
+        "If(Truth(true), Int(1), Some(Place { line: 1, column: 58 }), If(Or(Truth(false), Truth(true)), Int(2), Some(Place { line: 1, column: 78 }), Int(3)))",
     ),
     ("String", "\"a\"", "Text(1)"),
     ("boolean", "this == null", "Binary(Equal, This, Null)"),
@@ -81,7 +81,7 @@ const FORMS: [(&str, &str, &str); 34] = [
     (
         "int",
         "(getT() ? getl() : this).v()",
-        "Call(AttrId(1), Place { line: 1, column: 72 }, If(Token(Truth, 3, This), Child(0, This), Place { line: 1, column: 66 }, This), End)",
+        "Call(AttrId(1), Place { line: 1, column: 72 }, If(Token(Truth, 3, This), Child(0, This), Some(Place { line: 1, column: 66 }), This), End)",
     ),
     (
         "int",
@@ -117,6 +117,66 @@ const FORMS: [(&str, &str, &str); 34] = [
         "boolean",
         "all(x : getXList() | all(x : getXList() | x == this))",
         "Quantified(All, 5, This, Quantified(All, 5, This, Binary(Equal, Variable(0), This)))",
+    ),
+    (
+        "boolean",
+        "hasO() ? true : false",
+        "If(Has(4, This), Truth(true), None, Truth(false))",
+    ),
+    (
+        "boolean",
+        "hasO() ? true : (false)",
+        "If(Has(4, This), Truth(true), Some(Place { line: 1, column: 67 }), Truth(false))",
+    ),
+    (
+        "boolean",
+        "hasO() ? false : true",
+        "If(Has(4, This), Truth(false), Some(Place { line: 1, column: 68 }), Truth(true))",
+    ),
+    (
+        "int",
+        "size(hasO() ? single(this) : empty)",
+        "Size(If(Has(4, This), Single(This), None, Empty))",
+    ),
+    (
+        "int",
+        "size(union(single(this), empty))",
+        "Size(Sets(Union, Nodes(ClassId(0)), Single(This), Empty))",
+    ),
+    (
+        "int",
+        "size(inter(empty, single(getS())))",
+        "Size(Sets(Inter, Texts, Empty, Single(Token(Text, 6, This))))",
+    ),
+    (
+        "int",
+        "size(minus(empty, empty))",
+        "Size(Sets(Minus, Texts, Empty, Empty))",
+    ),
+    (
+        "boolean",
+        "contains(single(null), null)",
+        "Contains(Single(Null), Null)",
+    ),
+    (
+        "int",
+        "size(each(x : getl().getXList() | single(x)))",
+        "Size(Each(Nodes(ClassId(1)), 5, Child(0, This), Single(Variable(0))))",
+    ),
+    (
+        "int",
+        "size(each(x : single(this) | empty))",
+        "Size(EachOfSet(Texts, Single(This), Empty))",
+    ),
+    (
+        "boolean",
+        "any(x : single(this) | x == this)",
+        "QuantifiedSet(Any, Single(This), Binary(Equal, Variable(0), This))",
+    ),
+    (
+        "boolean",
+        "all(x : single(\"a\") | any(y : getXList() | y == null))",
+        "QuantifiedSet(All, Single(Text(1)), Quantified(Any, 5, This, Binary(Equal, Variable(0), Null)))",
     ),
 ];
 

@@ -3,15 +3,16 @@
 ghost use Rattle.std.specs.Prelude.{◌≡◌, ◌≤◌, IfOk, length};
 ghost use Rattle.ast_grammar.specs.Grammar.{superclasses_of};
 
-use super::expressions::{Nothing, Rows, check_queries};
+use super::expressions::{Nothing, Rows, Wanted, check_queries, is_turn};
 use super::inherited::{grammar, push_equation, tree};
 use super::program::rules_of;
 use super::rounds::{seen, wanted};
+use super::sets::{each_of, nodes, over_set, single, texts};
 use super::*;
 use ast_grammar::{ClassId, Grammar};
 use attr_rules::{Attr, Attributes, EqId, KeptEquation, NamedAttr, Params, Reach, Sort};
 use equation_law::{Code, EqSite, Queries};
-use expr_eval::{Turn, evaluate};
+use expr_eval::evaluate;
 use inherited_walk::find_equation;
 use plain_rounds::{NameList, NamedArg, NamedArgs, NamedInstance, NodeName, Table, plain_rounds};
 use rag_io::Pool;
@@ -169,10 +170,11 @@ fn equations(alloc: Global) -> Result<Vec<KeptEquation>, Fail> {
     Ok(list)
 }
 
-// The empty text and "x".
+// The empty text, "x" and "a", which comes before "x".
 fn pool(alloc: Global) -> Result<Pool, Fail> {
     let mut pool = Pool::new(alloc)?;
     pool.add(b"x".as_slice()).ok().ok_or("no text")?;
+    pool.add(b"a".as_slice()).ok().ok_or("no text")?;
     Ok(pool)
 }
 
@@ -188,8 +190,8 @@ fn system(alloc: Global, queries: Vec<QueryEq>) -> Result<System, Fail>
 }
 
 // The demand of an instance at a node, with so many arguments.
-fn needs(attr: AttrId, node: u32, count: u32, first: Code, second: Code) -> Turn {
-    Turn::Need(Instance::Attr {
+fn needs(attr: AttrId, node: u32, count: u32, first: Code, second: Code) -> Wanted {
+    Wanted::Need(Instance::Attr {
         attr,
         node: NodeRef(node),
         args: Args {
@@ -247,12 +249,52 @@ fn add_on_null(alloc: Global, rows: &mut Rows) -> Result<(), Fail> {
     let stuck = call_with(alloc, B, TExpr::Null, arguments)?;
     rows.add(stuck, needs(D, 1, 1, 1, 0))?;
     let arguments = two(alloc, truth(true), int(5))?;
-    rows.add_value(call_with(alloc, B, TExpr::Null, arguments)?, Value::Int(0))?;
+    rows.add_value(call_with(alloc, B, TExpr::Null, arguments)?, Single::Int(0))?;
     let arguments = one(alloc, TExpr::Text(1))?;
-    rows.add_value(call_with(alloc, T, TExpr::Null, arguments)?, Value::Text(0))?;
+    rows.add_value(
+        call_with(alloc, T, TExpr::Null, arguments)?,
+        Single::Text(0),
+    )?;
     let arguments = one(alloc, node(Some(2)))?;
-    let none = Value::Node(NodeRef(0));
+    let none = Single::Node(NodeRef(0));
     rows.add_value(call_with(alloc, N, TExpr::Null, arguments)?, none)
+}
+
+// Forms over sets, of which the first element asks for an instance: texts come in the order of their bytes, and nodes in that of their numbers.
+fn add_orders(alloc: Global, rows: &mut Rows) -> Result<(), Fail> {
+    let numbers: [(&[u32], u32); 4] = [(&[1, 2], 2), (&[2, 1], 2), (&[1], 1), (&[2, 1, 0], 0)];
+    for (texts_of, first) in numbers {
+        let wanted = needs(T, 1, 1, first, 0);
+        let called = call_with(alloc, T, TExpr::This, one(alloc, TExpr::Variable(0))?)?;
+        let condition = equal(alloc, called, TExpr::Text(0))?;
+        let set = texts(alloc, texts_of)?;
+        rows.add(over_set(alloc, Quantifier::Any, set, condition)?, wanted)?;
+        let called = call_with(alloc, T, TExpr::This, one(alloc, TExpr::Variable(0))?)?;
+        let body = single(alloc, called)?;
+        rows.add(
+            each_of(alloc, Kind::Texts, texts(alloc, texts_of)?, body)?,
+            wanted,
+        )?;
+    }
+    for (nodes_of, first) in [([3, 2], 3), ([2, 3], 3)] {
+        let wanted = needs(N, 1, 1, first, 0);
+        let called = call_with(alloc, N, TExpr::This, one(alloc, TExpr::Variable(0))?)?;
+        let condition = equal(alloc, called, TExpr::Null)?;
+        let set = nodes(alloc, &nodes_of)?;
+        rows.add(over_set(alloc, Quantifier::All, set, condition)?, wanted)?;
+        let called = call_with(alloc, N, TExpr::This, one(alloc, TExpr::Variable(0))?)?;
+        let body = single(alloc, called)?;
+        rows.add(
+            each_of(
+                alloc,
+                Kind::Nodes(ClassId(2)),
+                nodes(alloc, &nodes_of)?,
+                body,
+            )?,
+            wanted,
+        )?;
+    }
+    Ok(())
 }
 
 fn all_rows(alloc: Global) -> Result<Rows, Fail> {
@@ -263,6 +305,7 @@ fn all_rows(alloc: Global) -> Result<Rows, Fail> {
     add_calls(alloc, &mut rows)?;
     add_stuck(alloc, &mut rows)?;
     add_on_null(alloc, &mut rows)?;
+    add_orders(alloc, &mut rows)?;
     Ok(rows)
 }
 
@@ -280,28 +323,28 @@ const THIRD: NamedArg = NamedArg::Node(NodeName::Source(3));
 
 // Instances with their values. An instance that stands there twice has one value, `d(5)` has none without `d(4)`, and what is no number of
 // a text counts as the empty one.
-const INSTANCES: &[(AttrId, u32, &[NamedArg], Option<Value>)] = &[
-    (D, 0, &[NamedArg::Int(0)], Some(Value::Int(0))),
-    (D, 0, &[NamedArg::Int(1)], Some(Value::Int(1))),
+const INSTANCES: &[(AttrId, u32, &[NamedArg], Option<Single>)] = &[
+    (D, 0, &[NamedArg::Int(0)], Some(Single::Int(0))),
+    (D, 0, &[NamedArg::Int(1)], Some(Single::Int(1))),
     (D, 0, &[NamedArg::Int(5)], None),
-    (D, 0, &[NamedArg::Int(1)], Some(Value::Int(1))),
-    (T, 0, &[NamedArg::Text(1)], Some(Value::Text(1))),
-    (T, 0, &[NamedArg::Text(0)], Some(Value::Text(0))),
-    (T, 0, &[NamedArg::Text(9)], Some(Value::Text(0))),
-    (N, 0, &[SECOND], Some(Value::Node(NodeRef(3)))),
-    (N, 0, &[THIRD], Some(Value::Node(NodeRef(4)))),
-    (N, 0, &[NULL], Some(Value::Node(NodeRef(0)))),
-    (B, 0, &[TRUE, NamedArg::Int(5)], Some(Value::Int(5))),
-    (B, 0, &[FALSE, NamedArg::Int(5)], Some(Value::Int(-5))),
-    (B, 0, &[TRUE, NamedArg::Int(-6)], Some(Value::Int(-6))),
-    (H, 1, &[SECOND, SEVEN], Some(Value::Node(NodeRef(4)))),
-    (H, 1, &[THIRD, SEVEN], Some(Value::Node(NodeRef(3)))),
-    (H, 1, &[NULL, SEVEN], Some(Value::Node(NodeRef(0)))),
-    (C, 2, &[TRUE, SEVEN], Some(Value::Int(70))),
-    (C, 3, &[TRUE, SEVEN], Some(Value::Int(71))),
-    (C, 3, &[FALSE, SEVEN], Some(Value::Int(-6))),
-    (G, 2, &[SECOND], Some(Value::Node(NodeRef(0)))),
-    (G, 3, &[SECOND], Some(Value::Node(NodeRef(4)))),
+    (D, 0, &[NamedArg::Int(1)], Some(Single::Int(1))),
+    (T, 0, &[NamedArg::Text(1)], Some(Single::Text(1))),
+    (T, 0, &[NamedArg::Text(0)], Some(Single::Text(0))),
+    (T, 0, &[NamedArg::Text(9)], Some(Single::Text(0))),
+    (N, 0, &[SECOND], Some(Single::Node(NodeRef(3)))),
+    (N, 0, &[THIRD], Some(Single::Node(NodeRef(4)))),
+    (N, 0, &[NULL], Some(Single::Node(NodeRef(0)))),
+    (B, 0, &[TRUE, NamedArg::Int(5)], Some(Single::Int(5))),
+    (B, 0, &[FALSE, NamedArg::Int(5)], Some(Single::Int(-5))),
+    (B, 0, &[TRUE, NamedArg::Int(-6)], Some(Single::Int(-6))),
+    (H, 1, &[SECOND, SEVEN], Some(Single::Node(NodeRef(4)))),
+    (H, 1, &[THIRD, SEVEN], Some(Single::Node(NodeRef(3)))),
+    (H, 1, &[NULL, SEVEN], Some(Single::Node(NodeRef(0)))),
+    (C, 2, &[TRUE, SEVEN], Some(Single::Int(70))),
+    (C, 3, &[TRUE, SEVEN], Some(Single::Int(71))),
+    (C, 3, &[FALSE, SEVEN], Some(Single::Int(-6))),
+    (G, 2, &[SECOND], Some(Single::Node(NodeRef(0)))),
+    (G, 3, &[SECOND], Some(Single::Node(NodeRef(4)))),
 ];
 
 // What is no instance: too few arguments or too many, one of another type or class, no node of the tree, a node of another class, and an
@@ -401,7 +444,7 @@ fn check_site(rt: &impl Abort, alloc: Global, system: &System) -> Result<(), Fai
     assert_eq!(rt; find_equation(system, C, NodeRef(4), inner), Some(site));
     assert!(rt; system.rules().equations() > 6);
     let turn = evaluate(alloc, system, &site, &mut Nothing)?;
-    assert_eq!(rt; turn, Turn::Done(Value::Int(71)));
+    assert!(rt; is_turn(&turn, &Wanted::Single(Single::Int(71))));
     Ok(())
 }
 

@@ -72,31 +72,31 @@ fn queries(alloc: Global) -> Result<Vec<QueryEq>, Fail>
 
 // The values of the instances in their order: `x` and `y` at node 0, `v` at nodes 1 to 4, `t` there too, `w` at nodes 1 and 3, and the queries.
 // An equation holds at nodes of subclasses too, but for those with a nearer one.
-const VALUES: &[Option<Value>] = &[
+const VALUES: &[Option<Single>] = &[
     None,
     None,
-    Some(Value::Int(95)),
-    Some(Value::Int(7)),
-    Some(Value::Int(101)),
-    Some(Value::Int(2)),
-    Some(Value::Text(1)),
-    Some(Value::Text(2)),
-    Some(Value::Text(1)),
-    Some(Value::Text(0)),
-    Some(Value::Int(95)),
-    Some(Value::Int(101)),
-    Some(Value::Int(101)),
-    Some(Value::Int(95)),
-    Some(Value::Int(0)),
-    Some(Value::Int(2)),
-    Some(Value::Int(12)),
-    Some(Value::Node(NodeRef(1))),
-    Some(Value::Node(NodeRef(0))),
-    Some(Value::Node(NodeRef(0))),
-    Some(Value::Text(2)),
-    Some(Value::Truth(true)),
-    Some(Value::Truth(true)),
-    Some(Value::Truth(false)),
+    Some(Single::Int(95)),
+    Some(Single::Int(7)),
+    Some(Single::Int(101)),
+    Some(Single::Int(2)),
+    Some(Single::Text(1)),
+    Some(Single::Text(2)),
+    Some(Single::Text(1)),
+    Some(Single::Text(0)),
+    Some(Single::Int(95)),
+    Some(Single::Int(101)),
+    Some(Single::Int(101)),
+    Some(Single::Int(95)),
+    Some(Single::Int(0)),
+    Some(Single::Int(2)),
+    Some(Single::Int(12)),
+    Some(Single::Node(NodeRef(1))),
+    Some(Single::Node(NodeRef(0))),
+    Some(Single::Node(NodeRef(0))),
+    Some(Single::Text(2)),
+    Some(Single::Truth(true)),
+    Some(Single::Truth(true)),
+    Some(Single::Truth(false)),
     None,
     None,
     None,
@@ -109,13 +109,12 @@ pub(super) fn seen(
     (value.truth(), value.int(), value.text(), value.node())
 }
 
-pub(super) fn wanted(value: Value) -> (Option<bool>, Option<i32>, Option<u32>, Option<NodeName>) {
+pub(super) fn wanted(value: Single) -> (Option<bool>, Option<i32>, Option<u32>, Option<NodeName>) {
     match value {
-        Value::Truth(truth) => (Some(truth), None, None, None),
-        Value::Int(int) => (None, Some(int), None, None),
-        Value::Text(text) => (None, None, Some(text), None),
-        Value::Node(node) => (None, None, None, Some(name(node))),
-        Value::NoTexts | Value::NoNodes => (None, None, None, None),
+        Single::Truth(truth) => (Some(truth), None, None, None),
+        Single::Int(int) => (None, Some(int), None, None),
+        Single::Text(text) => (None, None, Some(text), None),
+        Single::Node(node) => (None, None, None, Some(name(node))),
     }
 }
 

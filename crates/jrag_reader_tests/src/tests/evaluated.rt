@@ -2,7 +2,7 @@
 use super::*;
 use jrag_reader::built;
 
-const BUILT: [&str; 49] = [
+const BUILT: [&str; 108] = [
     "",
     "syn int N.v();",
     "syn int N.v() = 1;",
@@ -54,41 +54,8 @@ const BUILT: [&str; 49] = [
     "eq N.getM(Set<N> s).v(int j) = j;",
     "eq N.getChild().v(N n) = n;",
     "inh int N.v(int i); inh int N.w(); syn int N.x(M m) = w(); eq N.getM().v(int i) = i;",
-];
-
-const NOT_BUILT: [&str; 69] = [
-    // Declarations and items.
-    "syn nta N N.v();",
-    "syn nta int N.v();",
-    "syn Set<int> N.v();",
-    "syn Set<N> N.v();",
-    "syn boolean N.v() circular [false];",
-    "syn boolean N.v() circular [false] = true;",
-    "inh Set<String> N.v();",
-    "inh Set<N> N.v();",
-    "inh boolean N.v() circular [false];",
-    "inh lazy Set<N> N.v(N n) circular [empty];",
-    "syn nta N N.v(int i);",
-    "syn int N.v(int i) = empty;",
-    "syn boolean N.v(int i) circular [false] = true;",
-    "inh boolean N.v(int i) circular [false];",
-    "eq N.v(int i) = empty;",
-    // Sets among parameters.
-    "syn int N.v(Set<int> s);",
-    "syn int N.v(Set<N> s) = 1;",
-    "syn int N.v(int i, Set<String> s) = 1;",
-    "syn int N.v(Set<String> s, int i) = 1;",
-    "inh int N.v(Set<N> s);",
-    "inh int N.v(int i, int j, Set<N> s);",
-    "eq N.v(Set<N> s) = 1;",
-    "eq N.getM().v(Set<N> s) = 1;",
-    "eq N.getM(int i).v(int j, Set<N> s) = 1;",
-    "eq N.getChild().v(Set<N> s, int i) = 1;",
-    "coll int N.v() [0];",
-    "N contributes 1 to M.v() for this;",
-    // Expressions.
+    // Sets within expressions.
     "eq N.v() = empty;",
-    "eq N.v() = new C();",
     "eq N.v() = each(x : r | b);",
     "eq N.v() = single(1);",
     "eq N.v() = union(a, b);",
@@ -100,7 +67,6 @@ const NOT_BUILT: [&str; 69] = [
     "syn int N.v() = empty;",
     "eq N.getM().v() = empty;",
     "eq N.getM(int i).v() = empty;",
-    // The same inside of others.
     "eq N.v() = (empty);",
     "eq N.v() = !empty;",
     "eq N.v() = -empty;",
@@ -124,13 +90,73 @@ const NOT_BUILT: [&str; 69] = [
     "eq N.v() = any(x : r | empty);",
     "eq N.v() = all(x : size(a) | b);",
     "eq N.v() = first(x : r | each(y : s | b) == c);",
-    // Among others.
+    // Circular attributes, and sets as types.
+    "syn Set<int> N.v();",
+    "syn Set<N> N.v();",
+    "syn boolean N.v() circular [false];",
+    "syn boolean N.v() circular [false] = true;",
+    "inh Set<String> N.v();",
+    "inh Set<N> N.v();",
+    "inh boolean N.v() circular [false];",
+    "inh lazy Set<N> N.v(N n) circular [empty];",
+    "syn boolean N.v(int i) circular [false] = true;",
+    "inh boolean N.v(int i) circular [false];",
+    "syn int N.v(Set<int> s);",
+    "syn int N.v(Set<N> s) = 1;",
+    "syn int N.v(int i, Set<String> s) = 1;",
+    "syn int N.v(Set<String> s, int i) = 1;",
+    "inh int N.v(Set<N> s);",
+    "inh int N.v(int i, int j, Set<N> s);",
+    "eq N.v(Set<N> s) = 1;",
+    "eq N.getM().v(Set<N> s) = 1;",
+    "eq N.getM(int i).v(int j, Set<N> s) = 1;",
+    "eq N.getChild().v(Set<N> s, int i) = 1;",
     "inh int N.v(Set<N> s); inh int N.w();",
     "inh int N.w(); inh int N.v(Set<N> s);",
+    "inh boolean N.v() circular [new C()];",
+    "syn boolean N.v() circular [new C()] = true;",
+];
+
+const NOT_BUILT: [&str; 36] = [
+    // Declarations and items.
+    "syn nta N N.v();",
+    "syn nta int N.v();",
+    "syn nta boolean N.v() circular [false];",
+    "syn boolean N.v() circular [false] = !new C();",
+    "syn nta N N.v(int i);",
+    "syn int N.v(int i) = new C();",
+    "eq N.v(int i) = new C();",
+    "coll int N.v() [0];",
+    "N contributes 1 to M.v() for this;",
+    // Expressions.
+    "eq N.v() = new C();",
+    "syn int N.v() = new C();",
+    "eq N.getM().v() = new C();",
+    "eq N.getM(int i).v() = new C();",
+    "eq N.v() = (new C());",
+    "eq N.v() = !new C();",
+    "eq N.v() = -new C();",
+    "eq N.v() = new C() + 1;",
+    "eq N.v() = 1 + new C();",
+    "eq N.v() = new C() ? a : b;",
+    "eq N.v() = a ? new C() : b;",
+    "eq N.v() = a ? b : new C();",
+    "eq N.v() = v(new C());",
+    "eq N.v() = v(1, new C(), 2);",
+    "eq N.v() = v(1, 2, new C());",
+    "eq N.v() = new C().v();",
+    "eq N.v() = x.v(new C());",
+    "eq N.v() = x.v(1, new C());",
+    "eq N.v() = x.v(w(y.z(new C())));",
+    "eq N.v() = (C) new C();",
+    "eq N.v() = new C() instanceof C;",
+    "eq N.v() = any(x : new C() | b);",
+    "eq N.v() = any(x : r | new C());",
+    // Among others.
     "coll int N.v() [0]; eq N.v() = 1;",
     "eq N.v() = 1; coll int N.v() [0];",
-    "eq N.v() = 1; eq N.v() = empty; eq N.v() = 1;",
-    "eq N.v() = 1; } aspect B { eq N.v() = empty;",
+    "eq N.v() = 1; eq N.v() = new C(); eq N.v() = 1;",
+    "eq N.v() = 1; } aspect B { eq N.v() = new C();",
 ];
 
 // Whether the items of a text are built.

@@ -11,7 +11,7 @@ use crate::fetching::Contents;
 use crate::files::read_system;
 use crate::replies::{ReplyFault, reply_lines};
 use caller_pass::{AskFault, Steps, ask};
-use equation_law::{Instance, System, Value};
+use equation_law::{Instance, Single, System, Value};
 use memo_cells::{Cells, Pass};
 use plain_rounds::{NameList, NamedValue, plain_rounds};
 use rag_io::{Gate, LONGEST_FILE};
@@ -207,7 +207,7 @@ fn expect_twice<L: Ledger>(
     let i = Instance::Query(0);
     match ask(alloc, system, &cells, &mut pass, &i, &mut evals) {
         Ok(value) => {
-            assert_eq!(rt; value, Value::Int(5));
+            assert_eq!(rt; value.single(), Some(Single::Int(5)));
             let again = ask_again(alloc, system, &cells, &mut pass, &i, &mut evals);
             assert_eq!(rt; again, Outcome::Int(5));
             Ok(())

@@ -417,12 +417,11 @@ const REFUSED: [Row; 22] = [
         1,
         "a.jrag:1:49: J17\n",
     ),
-    // A set isn't evaluated so far.
     (
         "aspect A { syn int N.v(Set<N> s) = 1; }",
         "",
         1,
-        "a.jrag: not built\n",
+        "a.jrag:1:24: J4\n",
     ),
 ];
 

@@ -1,17 +1,16 @@
 -- Calls and their arguments, and the forms of several parts.
-use Rattle.std.proofs.Common.{◌≡◌, ◌∙◌, IfOk, ap, arith, map, refl, subst, sym}
+use Rattle.std.proofs.Common.{◌∙◌, ap, arith, map, refl}
 use Rattle.std.proofs.Math.Nat.{le-max_left, le-max_right}
 use Rattle.jrag_reader.proofs.expression.Expr.TheLaws.{the_size}
 use Rattle.std.proofs.lemmas.Result.{IfOk-weaker, on_ok_weaker}
 use Rattle.broken_rules.proofs.Noting.{notes_then}
-use Rattle.jrag_reader.specs.Expressions.{Call, Expr, arguments_of, seen_expr, seen_name}
+use Rattle.jrag_reader.specs.Expressions.{seen_expr, seen_name}
 use Rattle.attr_rules.specs.Types.{parameter_kinds}
 use Rattle.attr_types.specs.Calls.{first_place}
-use Rattle.attr_types.specs.Typed.{list_of}
 use Rattle.attr_types.specs.Seen.{seen_scope, seen_variable}
 use Rattle.attr_types.proofs.ArgumentSteps.{all_said, kinds_left, next_kind, one_noted, one_said}
 use Rattle.attr_types.proofs.Sizes.{arguments_smaller, parts_smaller}
-use Rattle.attr_types.proofs.TypedForms.{binary_noted, call_noted, call_tells, cast_noted, cast_says, choice_noted, known_type, list_alone, list_behind, list_noted, member_noted, no_call, other_noted, over_noted, quantified_noted, range_noted, scope_inside, test_noted, test_says, seen-Call}
+use Rattle.attr_types.proofs.TypedForms.{binary_noted, call_noted, call_tells, cast_noted, cast_says, choice_noted, form_noted, known_type, member_noted, more_noted, more_says, over_noted, pair_noted, quantified_noted, quantified_tells, scope_inside, test_noted, test_says}
 use Rattle.attr_types.proofs.bodies.+types.Goals as goal
 
 pub type_arguments-loop-argument-preserved : goal.type_arguments-loop-argument-preserved
@@ -36,7 +35,7 @@ type_called-returns-clause-noted t c =
 pub type_call-returns-clause-says : goal.type_call-returns-clause-says
 type_call-returns-clause-says t c =
     call_tells (seen_scope c.args.scope.now) c.args.receiver (seen_name c.args.call.name.now) c.args.arguments.now c.in_ok-body.body c.in_ok-member.arguments c.requires.count refl c.in_ok-member.ensures.member
-    c.in_ok-member.ensures.says c.type_of-value_type.ensures c.in_ok-body.ensures
+    c.in_ok-member.ensures.says c.type_of-value_type.ensures c.list_of-list.ensures c.in_ok-body.ensures
 
 pub type_operand-returns-clause-noted : goal.type_operand-returns-clause-noted
 type_operand-returns-clause-noted t c =
@@ -100,24 +99,14 @@ pub type_expr-returns-in-InstanceOf-clause-says : goal.type_expr-returns-in-Inst
 type_expr-returns-in-InstanceOf-clause-says t c =
     IfOk-weaker c.type_test.result _ _ (λ said. test_says (seen_scope c.args.scope.now) c.deref-in-InstanceOf.result.now said c.in-InstanceOf.is c.deref-in-InstanceOf.ensures) c.type_test.ensures.says
 
-pub type_list-returns-clause-noted : goal.type_list-returns-clause-noted
-type_list-returns-clause-noted t c =
-    list_noted (seen_scope c.args.scope.now) c.args.owner.value_type (seen_name c.args.call.name.now) (first_place c.args.call) c.args.arguments.now c.requires.range c.requires.count c.in_ok-member.ensures.member c.type_of.ensures
-    c.in_ok-member.ensures.noted c.check_list_type.ensures
-
-pub type_range-type_list-requires : goal.type_range-type_list-requires
-type_range-type_list-requires t c =
-    let smaller = arguments_smaller c.args.range.now c.in-Member.receiver c.in-Member.name c.in-Member.arguments c.deref-in-Member-3.result.now c.in-Member.is c.deref-in-Member-3.ensures.value in
-    (omega arith, (c.requires, (c.len.ensures ∙ sym c.deref-in-Member-3.ensures.len, refl)))
-
-pub type_quantified-type_operand-requires : goal.type_quantified-type_operand-requires
-type_quantified-type_operand-requires t c =
-    let within = le-max_right (the_size c.args.range.now) (the_size c.args.condition.now) in
+pub type_quantified-type_body-requires : goal.type_quantified-type_body-requires
+type_quantified-type_body-requires t c =
+    let within = le-max_right (the_size c.args.range.now) (the_size c.args.body.now) in
     (omega (arith, within), record { superclasses = c.requires.superclasses })
 
 pub type_quantified-type_range-requires : goal.type_quantified-type_range-requires
 type_quantified-type_range-requires t c =
-    let within = le-max_left (the_size c.args.range.now) (the_size c.args.condition.now) in
+    let within = le-max_left (the_size c.args.range.now) (the_size c.args.body.now) in
     (omega (arith, within), c.requires)
 
 pub type_quantified-returns-clause-noted : goal.type_quantified-returns-clause-noted
@@ -125,12 +114,21 @@ type_quantified-returns-clause-noted t c =
     let s = seen_scope c.args.scope.now in
     let name = seen_name c.args.name.now in
     let range = seen_expr c.args.range.now in
-    let inner = scope_inside s name range c.deref.ensures.value c.element_type-value_type.ensures c.in_ok-list.ensures.list c.in_ok-variables.ensures (ap (map seen_variable) c.deref-2.ensures.value) in
-    over_noted s name range (seen_expr c.args.condition.now) _ inner c.in_ok-list.ensures.noted c.in_ok-condition.ensures.noted
+    let inner = scope_inside s c.args.form name range c.deref.ensures.value c.element_type-value_type.ensures c.in_ok-elements.ensures.elements c.in_ok-variables.ensures (ap (map seen_variable) c.deref-2.ensures.value) in
+    over_noted s c.args.form name range (seen_expr c.args.body.now) _ inner c.in_ok-elements.ensures.noted c.in_ok-each.ensures.noted
+
+pub type_quantified-returns-clause-says : goal.type_quantified-returns-clause-says
+type_quantified-returns-clause-says t c =
+    let s = seen_scope c.args.scope.now in
+    let name = seen_name c.args.name.now in
+    let range = seen_expr c.args.range.now in
+    let inner = scope_inside s c.args.form name range c.deref.ensures.value c.element_type-value_type.ensures c.in_ok-elements.ensures.elements c.in_ok-variables.ensures (ap (map seen_variable) c.deref-2.ensures.value) in
+    quantified_tells s c.args.form name range (seen_expr c.args.body.now) _ c.in_ok-elements.elements c.in_ok-elements.range c.in_ok-body.body c.in_ok-each.each c.typed.result inner c.in_ok-elements.ensures.elements c.in_ok-elements.ensures.says
+    c.in_ok-each.ensures.says c.in_ok-body.ensures c.quantified_type.ensures c.typed.ensures
 
 pub type_expr-type_quantified-requires : goal.type_expr-type_quantified-requires
 type_expr-type_quantified-requires t c =
-    let smaller = parts_smaller c.args.expr.now c.in-Quantified.form c.in-Quantified.field-1 c.in-Quantified.name c.in-Quantified.range c.in-Quantified.condition c.deref.result.now c.deref-in-Quantified.result.now c.in-Quantified.is
+    let smaller = parts_smaller c.args.expr.now c.in-Quantified.form c.in-Quantified.field-1 c.in-Quantified.name c.in-Quantified.range c.in-Quantified.body c.deref.result.now c.deref-in-Quantified.result.now c.in-Quantified.is
     c.deref.ensures c.deref-in-Quantified.ensures
     in
     (omega arith, c.requires)
@@ -141,37 +139,30 @@ type_expr-returns-in-Quantified-clause-noted t c =
     (quantified_noted (seen_scope c.args.scope.now) c.args.stands c.deref.result.now c.deref-in-Quantified.result.now c.in-Quantified.is c.deref.ensures c.deref-in-Quantified.ensures)
     c.type_quantified.ensures.noted
 
-pub type_list_alone-returns-clause-list : goal.type_list_alone-returns-clause-list
-type_list_alone-returns-clause-list t c =
-    IfOk-weaker c.type_list.result _ _
-    (λ r. list_alone (seen_scope c.args.scope.now) (seen_name c.args.name.now) c.args.arguments.now c.this_of.result.value_type r.0 refl (ap (λ r. r.type) c.this_of.ensures))
-    c.type_list.ensures.list
+pub type_body-returns-clause-noted : goal.type_body-returns-clause-noted
+type_body-returns-clause-noted t c =
+    let body = known_type (seen_scope c.args.scope.now) (seen_expr c.args.body.now) c.in_ok-typed.typed c.in_ok-typed.ensures.says in
+    notes_then c.in_ok-typed.ensures.noted (rw body at c.check_body.ensures)
 
-pub type_range-returns-in_ok-owner-in-Member-clause-noted : goal.type_range-returns-in_ok-owner-in-Member-clause-noted
-type_range-returns-in_ok-owner-in-Member-clause-noted t c =
-    on_ok_weaker c.type_list.result
-    (range_noted (seen_scope c.args.scope.now) c.in-Member.arguments c.deref-in-Member.result.now c.deref-in-Member-2.result.now c.deref-in-Member-3.result.now c.in_ok-owner-in-Member.owner c.in-Member.is c.deref-in-Member.ensures c.deref-in-Member-2.ensures c.deref-in-Member-3.ensures.value
-    c.in_ok-owner-in-Member.ensures.noted c.in_ok-owner-in-Member.ensures.says)
-    c.type_list.ensures.noted
+pub type_range-returns-clause-noted : goal.type_range-returns-clause-noted
+type_range-returns-clause-noted t c =
+    let range = known_type (seen_scope c.args.scope.now) (seen_expr c.args.range.now) c.in_ok-typed.typed c.in_ok-typed.ensures.says in
+    notes_then c.in_ok-typed.ensures.noted (rw range at c.check_range.ensures)
 
-pub type_range-returns-in_ok-owner-in-Member-clause-list : goal.type_range-returns-in_ok-owner-in-Member-clause-list
-type_range-returns-in_ok-owner-in-Member-clause-list t c =
-    IfOk-weaker c.type_list.result _ _
-    (λ r. list_behind (seen_scope c.args.scope.now) c.in-Member.arguments c.deref-in-Member.result.now c.deref-in-Member-3.result.now c.in_ok-owner-in-Member.owner r.0 c.in-Member.is c.deref-in-Member.ensures c.deref-in-Member-3.ensures.value
-    (c.len.ensures ∙ sym c.deref-in-Member-3.ensures.len) c.in_ok-owner-in-Member.ensures.says)
-    c.type_list.ensures.list
+pub type_one-returns-clause-noted : goal.type_one-returns-clause-noted
+type_one-returns-clause-noted t c =
+    form_noted (seen_scope c.args.scope.now) c.args.form (seen_name c.args.name.now) c.args.only.now c.in_ok-only.only c.part.result c.in_ok-only.ensures c.part.ensures c.check_one.ensures
 
-pub type_range-returns-in_ok-typed-in-Truth-clause-noted : goal.type_range-returns-in_ok-typed-in-Truth-clause-noted
-type_range-returns-in_ok-typed-in-Truth-clause-noted t c =
-    other_noted (seen_scope c.args.scope.now) c.args.range.now c.in_ok-typed-in-Truth.typed c.in_ok-typed-in-Truth.ensures.noted c.in_ok-typed-in-Truth.ensures.says c.check_range.ensures
+pub type_pair-returns-clause-noted : goal.type_pair-returns-clause-noted
+type_pair-returns-clause-noted t c =
+    pair_noted (seen_scope c.args.scope.now) c.args.form (seen_name c.args.name.now) c.args.first.now c.args.second.now c.in_ok-first.first c.in_ok-second.second c.part.result c.part-2.result c.in_ok-first.ensures c.in_ok-second.ensures
+    c.part.ensures c.part-2.ensures c.check_pair.ensures
 
-pub type_range-returns-in_ok-typed-in-Truth-clause-list : goal.type_range-returns-in_ok-typed-in-Truth-clause-list
-type_range-returns-in_ok-typed-in-Truth-clause-list t c = sym (no_call (seen_scope c.args.scope.now) c.args.range.now c.in-Truth.is).0
+pub type_form-returns-in_ok-type_arguments-in-len3-up-clause-noted : goal.type_form-returns-in_ok-type_arguments-in-len3-up-clause-noted
+type_form-returns-in_ok-type_arguments-in-len3-up-clause-noted t c =
+    more_noted (seen_scope c.args.scope.now) c.args.form (seen_name c.args.name.now) c.args.arguments.now (omega (arith, c.in-len3-up.len_at_least)) (ap parameter_kinds c.no_params.ensures) c.in_ok-type_arguments-in-len3-up.ensures.noted
+    c.form_alone-in-len3-up.ensures.noted
 
-pub type_range-returns-in_ok-typed-in-Truth-clause-owner : goal.type_range-returns-in_ok-typed-in-Truth-clause-owner
-type_range-returns-in_ok-typed-in-Truth-clause-owner t c = sym (no_call (seen_scope c.args.scope.now) c.args.range.now c.in-Truth.is).1
-
-pub type_range-returns-in-Call-clause-list : goal.type_range-returns-in-Call-clause-list
-type_range-returns-in-Call-clause-list t c =
-    subst (λ (e : Expr). IfOk c.type_list_alone.result (λ r. r.0 ≡ list_of (seen_scope c.args.scope.now) e))
-    (ap (λ es. Call (seen_name c.in-Call.name) (arguments_of (map seen_expr es))) c.deref.ensures.value ∙ sym (ap seen_expr c.in-Call.is ∙ seen-Call c.in-Call.name c.in-Call.arguments)) c.type_list_alone.ensures.list
+pub type_form-returns-in_ok-type_arguments-in-len3-up-clause-says : goal.type_form-returns-in_ok-type_arguments-in-len3-up-clause-says
+type_form-returns-in_ok-type_arguments-in-len3-up-clause-says t c =
+    more_says (seen_scope c.args.scope.now) c.args.form c.args.arguments.now c.form_alone-in-len3-up.result (omega (arith, c.in-len3-up.len_at_least)) c.form_alone-in-len3-up.ensures.says

@@ -26,14 +26,23 @@ decreases-type_node a = 7 * the_size a.operand.now + 1
 abbrev pub decreases-type_range : goal.decreases-type_range
 decreases-type_range a = 7 * the_size a.range.now + 1
 
+abbrev pub decreases-type_body : goal.decreases-type_body
+decreases-type_body a = 7 * the_size a.body.now + 1
+
+abbrev pub decreases-type_group : goal.decreases-type_group
+decreases-type_group a = 7 * the_size a.inner.now + 1
+
+abbrev pub decreases-type_one : goal.decreases-type_one
+decreases-type_one a = 7 * the_size a.only.now + 2
+
+abbrev pub decreases-type_pair : goal.decreases-type_pair
+decreases-type_pair a = 7 * max (the_size a.first.now) (the_size a.second.now) + 2
+
 abbrev pub decreases-type_argument : goal.decreases-type_argument
 decreases-type_argument a = 7 * the_size a.argument.now + 2
 
-abbrev pub decreases-type_denied : goal.decreases-type_denied
-decreases-type_denied a = 7 * the_size a.operand.now + 2
-
-abbrev pub decreases-type_negated : goal.decreases-type_negated
-decreases-type_negated a = 7 * the_size a.operand.now + 2
+abbrev pub decreases-type_prefixed : goal.decreases-type_prefixed
+decreases-type_prefixed a = 7 * the_size a.operand.now + 2
 
 abbrev pub decreases-type_cast : goal.decreases-type_cast
 decreases-type_cast a = 7 * the_size a.operand.now + 2
@@ -42,7 +51,7 @@ abbrev pub decreases-type_test : goal.decreases-type_test
 decreases-type_test a = 7 * the_size a.operand.now + 2
 
 abbrev pub decreases-type_quantified : goal.decreases-type_quantified
-decreases-type_quantified a = 7 * max (the_size a.range.now) (the_size a.condition.now) + 2
+decreases-type_quantified a = 7 * max (the_size a.range.now) (the_size a.body.now) + 2
 
 abbrev pub decreases-type_arguments : goal.decreases-type_arguments
 decreases-type_arguments a = 7 * most the_size a.arguments.now + 3
@@ -53,11 +62,8 @@ decreases-type_called a = 7 * most the_size a.arguments.now + 4
 abbrev pub decreases-type_call : goal.decreases-type_call
 decreases-type_call a = 7 * most the_size a.arguments.now + 5
 
-abbrev pub decreases-type_list : goal.decreases-type_list
-decreases-type_list a = 7 * most the_size a.arguments.now + 5
-
-abbrev pub decreases-type_list_alone : goal.decreases-type_list_alone
-decreases-type_list_alone a = 7 * most the_size a.arguments.now + 6
+abbrev pub decreases-type_form : goal.decreases-type_form
+decreases-type_form a = 7 * most the_size a.arguments.now + 4
 
 abbrev pub decreases-type_call_alone : goal.decreases-type_call_alone
 decreases-type_call_alone a = 7 * most the_size a.arguments.now + 6

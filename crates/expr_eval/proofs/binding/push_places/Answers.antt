@@ -7,7 +7,7 @@ pub loop-place-preserved : goal.loop-place-preserved
 loop-place-preserved c = record {
   row = c.rest-given.ensures.row;
   all = λ texts.
-      place_more texts c.loop-place.names.items c.push.new.names.items c.of_code.result (codes_in c.loop-place.given) (codes_in c.rest-given.result) c.in-Some.place c.in-Some.ensures c.rest-given.ensures.codes c.in_ok-push.ensures (c.of_code.ensures texts)
+      place_more texts c.loop-place.names.items c.push.new.names.items c.integer.result (codes_in c.loop-place.given) (codes_in c.rest-given.result) c.in-Some.place c.in-Some.ensures c.rest-given.ensures.codes c.in_ok-push.ensures (c.integer.ensures texts)
       ∙ c.loop-place.invariant.all texts;
 }
 

@@ -3,40 +3,43 @@ use Rattle.std.proofs.Common.{◌≡◌, ◌<◌, ◌+◌, Bor, Ok, refl, rules,
 use Rattle.attr_rules.specs.declared.expression.TExpr.{TExpr}
 use Rattle.attr_rules.specs.Expression.{expression_of}
 use Rattle.equation_law.specs.Systems.{program_of}
-use Rattle.equation_law.specs.Values.{Int}
-use Rattle.expr_eval.proofs.Forms.{said, boxed, thrown, leaf, cast_stops, cast_goes, instance_stops, instance_goes, over_stops, over_goes, grows_self, grows_then, child_stops, child_goes, element_stops, element_stops_at, element_goes, count_stops, count_goes, has_stops, has_goes, token_stops, token_goes, call_stops, call_stops_at, call_goes, not_stops, not_goes, negate_stops, negate_goes, binary_stops, binary_stops_right, binary_goes, and_stops, and_ends, and_stops_right, and_goes, or_stops, or_ends, or_stops_right, or_goes, if_stops, if_then, if_otherwise}
+use Rattle.equation_law.specs.Codes.{value_of}
+use Rattle.equation_law.specs.Values.{Int, Value}
+use Rattle.equation_law.proofs.Pooled.{first_text}
+use Rattle.expr_eval.proofs.Forms.{said, boxed, thrown, leaf, cast_stops, cast_goes, instance_stops, instance_goes, over_stops, over_goes, grows_self, grows_then, child_stops, child_goes, element_stops, element_stops_at, element_goes, count_stops, count_goes, has_stops, has_goes, token_stops, token_goes, call_stops, call_stops_at, call_goes, not_stops, not_goes, negate_stops, negate_goes, binary_stops, binary_stops_right, binary_goes, and_stops, and_ends, and_stops_right, and_goes, or_stops, or_ends, or_stops_right, or_goes, or_both_stops, or_both_stops_right, or_both_goes, if_stops, if_then, if_otherwise, empty_goes, sets_stops, sets_stops_right, sets_goes, single_stops, single_goes, contains_stops, contains_stops_right, contains_goes, size_stops, size_goes, over_set_stops, over_set_goes, each_stops, each_goes, each_of_set_stops, each_of_set_goes, out_of_memory, rejoined}
 use Rattle.expr_eval.specs.Elements.{ReadsAt, element_in, put, read_with}
-use Rattle.expr_eval.specs.Evaluating.{place_in}
-use Rattle.expr_eval.specs.Going.{Went, none, nowhere}
+use Rattle.expr_eval.specs.Evaluating.{place_in, texts_in}
+use Rattle.expr_eval.specs.Going.{Joined, Went, none, nothing, nowhere}
 use Rattle.attr_rules.specs.Types.{parameter_kinds}
 use Rattle.expr_eval.proofs.Given.{boxed_arguments, first_halts, for_parameters, none_given, one_given, one_more, rest_halts, room_behind, said_arguments, thrown_arguments}
-use Rattle.expr_eval.proofs.Over.{at_value, boxed_over, each_ended, each_further, each_stopped, first_ended, first_found, first_further, first_stopped, thrown_over}
+use Rattle.expr_eval.proofs.Over.{at_value, boxed_over, each_ended, each_further, each_stopped, first_ended, first_found, first_further, first_stopped, join_ended, join_further, join_short, join_stopped, thrown_over, truth_of, with_value}
+use Rattle.expr_eval.proofs.Plain.{element_plain, named_plain, plain_coded}
 use Rattle.expr_eval.proofs.evaluation.+meaning.Goals as goal
-use Rattle.expr_eval.proofs.evaluation.+meaning.Goals.{operation-else-holds, operation-then-holds}
+use Rattle.expr_eval.proofs.evaluation.+meaning.Goals.{operation-else-holds, operation-then-holds, operation-then-truth+in_ok-meaning-in-And-2+in-Texts-1, operation-then-truth+in_ok-meaning-in-And-2+in-Nodes-1, operation-then-truth+in_ok-meaning-in-And-2+in-Truth-1, operation-else-truth, operation-then-truth-2, operation-else-truth-2+in_ok-meaning-in-Or-2+in-Texts-1, operation-else-truth-2+in_ok-meaning-in-Or-2+in-Nodes-1, operation-else-truth-2+in_ok-meaning-in-Or-2+in-Truth-1}
 
 pub meaning-returns-in-Truth : goal.meaning-returns-in-Truth
 meaning-returns-in-Truth g t c =
-    said c.in-Truth.is (leaf _ c.requires refl refl)
+    said c.in-Truth.is (leaf _ c.requires refl refl tt)
 
 pub meaning-returns-in-Int : goal.meaning-returns-in-Int
 meaning-returns-in-Int g t c =
-    said c.in-Int.is (leaf (Int c.in-Int.z) c.requires refl (search rules))
+    said c.in-Int.is (leaf (Int c.in-Int.z) c.requires refl (search rules) tt)
 
 pub meaning-returns-in-Text : goal.meaning-returns-in-Text
 meaning-returns-in-Text g t c =
-    said c.in-Text.is (leaf _ c.requires refl refl)
+    said c.in-Text.is (leaf _ c.requires refl refl tt)
 
 pub meaning-returns-in-Null : goal.meaning-returns-in-Null
 meaning-returns-in-Null g t c =
-    said c.in-Null.is (leaf _ c.requires refl refl)
+    said c.in-Null.is (leaf _ c.requires refl refl tt)
 
 pub meaning-returns-in-This : goal.meaning-returns-in-This
 meaning-returns-in-This g t c =
-    said c.in-This.is (leaf _ c.requires refl refl)
+    said c.in-This.is (leaf _ c.requires refl refl tt)
 
 pub meaning-returns-in-Source : goal.meaning-returns-in-Source
 meaning-returns-in-Source g t c =
-    said c.in-Source.is (leaf _ c.requires refl c.source.ensures)
+    said c.in-Source.is (leaf _ c.requires refl c.source.ensures (plain_coded (program_of c.args.context.now.system.now) _ _ c.source.ensures refl))
 
 pub meaning-returns-in_err-meaning-in-Child : goal.meaning-returns-in_err-meaning-in-Child
 meaning-returns-in_err-meaning-in-Child g t c =
@@ -80,7 +83,7 @@ meaning-returns-in_err-meaning-in-Token g t c =
 
 pub meaning-returns-in_ok-meaning-in-Token : goal.meaning-returns-in_ok-meaning-in-Token
 meaning-returns-in_ok-meaning-in-Token g t c =
-    said c.in-Token.is (token_goes (boxed c.deref-in-Token.ensures c.in_ok-meaning-in-Token.ensures) c.token.ensures)
+    said c.in-Token.is (token_goes (boxed c.deref-in-Token.ensures c.in_ok-meaning-in-Token.ensures) c.token.ensures.value (c.token.ensures.coded (program_of c.args.context.now.system.now)))
 
 pub meaning-returns-in_err-receiver-in-Call : goal.meaning-returns-in_err-receiver-in-Call
 meaning-returns-in_err-receiver-in-Call g t c =
@@ -156,13 +159,17 @@ pub operation-returns-in_err-meaning-in-And-2 : goal.operation-returns-in_err-me
 operation-returns-in_err-meaning-in-And-2 g t c =
     thrown c.from_residual-in_err-meaning-in-And-2.ensures (said c.in-And.is (and_stops_right (boxed c.deref-in-And.ensures c.in_ok-meaning-in-And.ensures) c.truth.ensures c.if-truth.true (boxed c.deref-then-truth.ensures c.in_err-meaning-in-And-2.ensures)))
 
-pub operation-returns-in_ok-meaning-in-And-2 : goal.operation-returns-in_ok-meaning-in-And-2
-operation-returns-in_ok-meaning-in-And-2 g t c =
-    said c.in-And.is (and_goes (boxed c.deref-in-And.ensures c.in_ok-meaning-in-And.ensures) c.truth.ensures c.if-truth.true (boxed c.deref-then-truth.ensures c.in_ok-meaning-in-And-2.ensures) c.truth-then-truth.ensures)
-
-pub operation-returns-else-truth : goal.operation-returns-else-truth
-operation-returns-else-truth g t c =
-    said c.in-And.is (and_ends (boxed c.deref-in-And.ensures c.in_ok-meaning-in-And.ensures) c.truth.ensures c.if-truth.false)
+pub operation-returns-after-truth : goal.operation-returns-after-truth
+operation-returns-after-truth g t c = elim c.if-truth.branch [
+  | operation-then-truth+in_ok-meaning-in-And-2+in-Texts-1 w ↦ rejoined g.R.Reader.tells w.reader-is w.result-is
+      (said c.in-And.is (and_goes (boxed c.deref-in-And.ensures c.in_ok-meaning-in-And.ensures) c.truth.ensures w.if-truth.true (boxed w.deref-then-truth.ensures w.in_ok-meaning-in-And-2.ensures) w.truth-then-truth.ensures))
+  | operation-then-truth+in_ok-meaning-in-And-2+in-Nodes-1 w ↦ rejoined g.R.Reader.tells w.reader-is w.result-is
+      (said c.in-And.is (and_goes (boxed c.deref-in-And.ensures c.in_ok-meaning-in-And.ensures) c.truth.ensures w.if-truth.true (boxed w.deref-then-truth.ensures w.in_ok-meaning-in-And-2.ensures) w.truth-then-truth.ensures))
+  | operation-then-truth+in_ok-meaning-in-And-2+in-Truth-1 w ↦ rejoined g.R.Reader.tells w.reader-is w.result-is
+      (said c.in-And.is (and_goes (boxed c.deref-in-And.ensures c.in_ok-meaning-in-And.ensures) c.truth.ensures w.if-truth.true (boxed w.deref-then-truth.ensures w.in_ok-meaning-in-And-2.ensures) w.truth-then-truth.ensures))
+  | operation-else-truth w ↦ rejoined g.R.Reader.tells w.reader-is w.result-is
+      (said c.in-And.is (and_ends (boxed c.deref-in-And.ensures c.in_ok-meaning-in-And.ensures) c.truth.ensures w.if-truth.false))
+]
 
 pub operation-returns-in_err-meaning-in-Or : goal.operation-returns-in_err-meaning-in-Or
 operation-returns-in_err-meaning-in-Or g t c =
@@ -172,13 +179,29 @@ pub operation-returns-in_err-meaning-in-Or-2 : goal.operation-returns-in_err-mea
 operation-returns-in_err-meaning-in-Or-2 g t c =
     thrown c.from_residual-in_err-meaning-in-Or-2.ensures (said c.in-Or.is (or_stops_right (boxed c.deref-in-Or.ensures c.in_ok-meaning-in-Or.ensures) c.truth-in-Or.ensures c.if-truth-2.false (boxed c.deref-else-truth-2.ensures c.in_err-meaning-in-Or-2.ensures)))
 
-pub operation-returns-in_ok-meaning-in-Or-2 : goal.operation-returns-in_ok-meaning-in-Or-2
-operation-returns-in_ok-meaning-in-Or-2 g t c =
-    said c.in-Or.is (or_goes (boxed c.deref-in-Or.ensures c.in_ok-meaning-in-Or.ensures) c.truth-in-Or.ensures c.if-truth-2.false (boxed c.deref-else-truth-2.ensures c.in_ok-meaning-in-Or-2.ensures) c.truth-else-truth-2.ensures)
+pub operation-returns-after-truth-2 : goal.operation-returns-after-truth-2
+operation-returns-after-truth-2 g t c = elim c.if-truth-2.branch [
+  | operation-then-truth-2 w ↦ rejoined g.R.Reader.tells w.reader-is w.result-is
+      (said c.in-Or.is (or_ends (boxed c.deref-in-Or.ensures c.in_ok-meaning-in-Or.ensures) c.truth-in-Or.ensures w.if-truth-2.true))
+  | operation-else-truth-2+in_ok-meaning-in-Or-2+in-Texts-1 w ↦ rejoined g.R.Reader.tells w.reader-is w.result-is
+      (said c.in-Or.is (or_goes (boxed c.deref-in-Or.ensures c.in_ok-meaning-in-Or.ensures) c.truth-in-Or.ensures w.if-truth-2.false (boxed w.deref-else-truth-2.ensures w.in_ok-meaning-in-Or-2.ensures) w.truth-else-truth-2.ensures))
+  | operation-else-truth-2+in_ok-meaning-in-Or-2+in-Nodes-1 w ↦ rejoined g.R.Reader.tells w.reader-is w.result-is
+      (said c.in-Or.is (or_goes (boxed c.deref-in-Or.ensures c.in_ok-meaning-in-Or.ensures) c.truth-in-Or.ensures w.if-truth-2.false (boxed w.deref-else-truth-2.ensures w.in_ok-meaning-in-Or-2.ensures) w.truth-else-truth-2.ensures))
+  | operation-else-truth-2+in_ok-meaning-in-Or-2+in-Truth-1 w ↦ rejoined g.R.Reader.tells w.reader-is w.result-is
+      (said c.in-Or.is (or_goes (boxed c.deref-in-Or.ensures c.in_ok-meaning-in-Or.ensures) c.truth-in-Or.ensures w.if-truth-2.false (boxed w.deref-else-truth-2.ensures w.in_ok-meaning-in-Or-2.ensures) w.truth-else-truth-2.ensures))
+]
 
-pub operation-returns-then-truth-2 : goal.operation-returns-then-truth-2
-operation-returns-then-truth-2 g t c =
-    said c.in-Or.is (or_ends (boxed c.deref-in-Or.ensures c.in_ok-meaning-in-Or.ensures) c.truth-in-Or.ensures c.if-truth-2.true)
+pub operation-returns-in_err-left-in-OrBoth : goal.operation-returns-in_err-left-in-OrBoth
+operation-returns-in_err-left-in-OrBoth g t c =
+    thrown c.from_residual-in_err-left-in-OrBoth.ensures (said c.in-OrBoth.is (or_both_stops (boxed c.deref-in-OrBoth.ensures c.in_err-left-in-OrBoth.ensures)))
+
+pub operation-returns-in_err-meaning-in-OrBoth : goal.operation-returns-in_err-meaning-in-OrBoth
+operation-returns-in_err-meaning-in-OrBoth g t c =
+    thrown c.from_residual-in_err-meaning-in-OrBoth.ensures (said c.in-OrBoth.is (or_both_stops_right (boxed c.deref-in-OrBoth.ensures c.in_ok-left-in-OrBoth.ensures) (boxed c.deref-in-OrBoth-2.ensures c.in_err-meaning-in-OrBoth.ensures)))
+
+pub operation-returns-in_ok-meaning-in-OrBoth : goal.operation-returns-in_ok-meaning-in-OrBoth
+operation-returns-in_ok-meaning-in-OrBoth g t c =
+    said c.in-OrBoth.is (or_both_goes (boxed c.deref-in-OrBoth.ensures c.in_ok-left-in-OrBoth.ensures) (boxed c.deref-in-OrBoth-2.ensures c.in_ok-meaning-in-OrBoth.ensures) c.either.ensures)
 
 pub operation-returns-in_err-meaning-in-If : goal.operation-returns-in_err-meaning-in-If
 operation-returns-in_err-meaning-in-If g t c =
@@ -194,7 +217,7 @@ operation-returns-after-holds g t c = elim c.if-holds.branch [
 
 pub meaning-returns-in-Variable : goal.meaning-returns-in-Variable
 meaning-returns-in-Variable g t c =
-    said c.in-Variable.is (leaf _ c.requires refl c.variable.ensures)
+    said c.in-Variable.is (leaf _ c.requires refl c.variable.ensures (plain_coded (program_of c.args.context.now.system.now) _ _ c.variable.ensures (named_plain (texts_in c.args.context.now.system.now) c.args.context.now.names.now c.in-Variable.number)))
 
 pub meaning-returns-in_err-meaning-in-Cast : goal.meaning-returns-in_err-meaning-in-Cast
 meaning-returns-in_err-meaning-in-Cast g t c =
@@ -277,7 +300,7 @@ first_element-returns-then-branch g t c =
     let so_far = c.elements.invariant in
     let within : c.elements.i < c.args.list.count = omega (arith, c.elements-test.true) in
     let reads = subst (λ b. ReadsAt p (tells c.elements.reader) (tells c.at_element.new.reader) place (element c.elements.i) e (Ok b)) c.if-branch.true (at_value c.get-element.ensures c.in_ok-at_element.ensures.reads) in
-    first_found p (tells c.args.reader.now) (tells c.elements.reader) (tells c.at_element.new.reader) place e element c.args.list.count c.elements.i c.get-element.result within so_far.1 so_far.2 reads c.get-element.ensures
+    first_found p (tells c.args.reader.now) (tells c.elements.reader) (tells c.at_element.new.reader) place e element c.args.list.count c.elements.i c.from.result within so_far.1 so_far.2 reads (c.from.ensures (texts_in c.args.context.now.system.now) ∙ c.get-element.ensures) (element_plain c.args.context.now.system.now c.args.list.origin c.elements.i)
 
 pub first_element-elements-preserved : goal.first_element-elements-preserved
 first_element-elements-preserved g t c =
@@ -317,3 +340,160 @@ at_all_elements-elements-init g t c =
 pub first_element-elements-init : goal.first_element-elements-init
 first_element-elements-init g t c =
     (c.in_ok-names.ensures, grows_self c.requires, none, omega arith)
+
+pub set_form-returns-in-Empty : goal.set_form-returns-in-Empty
+set_form-returns-in-Empty g t c =
+    said c.in-Empty.is (empty_goes c.requires.sound c.none.ensures)
+
+pub set_form-returns-in_err-left-in-Sets : goal.set_form-returns-in_err-left-in-Sets
+set_form-returns-in_err-left-in-Sets g t c =
+    thrown c.from_residual.ensures (said c.in-Sets.is (sets_stops (boxed c.deref.ensures c.in_err-left-in-Sets.ensures)))
+
+pub set_form-returns-in_err-right-in-Sets : goal.set_form-returns-in_err-right-in-Sets
+set_form-returns-in_err-right-in-Sets g t c =
+    thrown c.from_residual-in_err-right-in-Sets.ensures (said c.in-Sets.is (sets_stops_right (boxed c.deref.ensures c.in_ok-left-in-Sets.ensures) (boxed c.deref-in-Sets.ensures c.in_err-right-in-Sets.ensures)))
+
+pub set_form-returns-in_err-made-in-Sets : goal.set_form-returns-in_err-made-in-Sets
+set_form-returns-in_err-made-in-Sets g t c =
+    out_of_memory (grows_then c.in_ok-left-in-Sets.ensures.kept c.in_ok-right-in-Sets.ensures.kept) c.from_residual-in_err-made-in-Sets.ensures
+
+pub set_form-returns-in_ok-made-in-Sets : goal.set_form-returns-in_ok-made-in-Sets
+set_form-returns-in_ok-made-in-Sets g t c =
+    said c.in-Sets.is (sets_goes (boxed c.deref.ensures c.in_ok-left-in-Sets.ensures) (boxed c.deref-in-Sets.ensures c.in_ok-right-in-Sets.ensures) c.in_ok-made-in-Sets.ensures.value c.in_ok-made-in-Sets.ensures.coded)
+
+pub set_form-returns-in_err-element-in-Single : goal.set_form-returns-in_err-element-in-Single
+set_form-returns-in_err-element-in-Single g t c =
+    thrown c.from_residual-in_err-element-in-Single.ensures (said c.in-Single.is (single_stops (boxed c.deref-in-Single.ensures c.in_err-element-in-Single.ensures)))
+
+pub set_form-returns-in_err-made-in-Single : goal.set_form-returns-in_err-made-in-Single
+set_form-returns-in_err-made-in-Single g t c =
+    out_of_memory c.in_ok-element-in-Single.ensures.kept c.from_residual-in_err-made-in-Single.ensures
+
+pub set_form-returns-in_ok-made-in-Single : goal.set_form-returns-in_ok-made-in-Single
+set_form-returns-in_ok-made-in-Single g t c =
+    said c.in-Single.is (single_goes (boxed c.deref-in-Single.ensures c.in_ok-element-in-Single.ensures) c.in_ok-made-in-Single.ensures.value c.in_ok-made-in-Single.ensures.elements)
+
+pub set_form-returns-in_err-set-in-Contains : goal.set_form-returns-in_err-set-in-Contains
+set_form-returns-in_err-set-in-Contains g t c =
+    thrown c.from_residual-in_err-set-in-Contains.ensures (said c.in-Contains.is (contains_stops (boxed c.deref-in-Contains.ensures c.in_err-set-in-Contains.ensures)))
+
+pub set_form-returns-in_err-element-in-Contains : goal.set_form-returns-in_err-element-in-Contains
+set_form-returns-in_err-element-in-Contains g t c =
+    thrown c.from_residual-in_err-element-in-Contains.ensures (said c.in-Contains.is (contains_stops_right (boxed c.deref-in-Contains.ensures c.in_ok-set-in-Contains.ensures) (boxed c.deref-in-Contains-2.ensures c.in_err-element-in-Contains.ensures)))
+
+pub set_form-returns-in_ok-element-in-Contains : goal.set_form-returns-in_ok-element-in-Contains
+set_form-returns-in_ok-element-in-Contains g t c =
+    said c.in-Contains.is (contains_goes (boxed c.deref-in-Contains.ensures c.in_ok-set-in-Contains.ensures) (boxed c.deref-in-Contains-2.ensures c.in_ok-element-in-Contains.ensures) c.contains.ensures)
+
+pub set_form-returns-in_err-set-in-Size : goal.set_form-returns-in_err-set-in-Size
+set_form-returns-in_err-set-in-Size g t c =
+    thrown c.from_residual-in_err-set-in-Size.ensures (said c.in-Size.is (size_stops (boxed c.deref-in-Size.ensures c.in_err-set-in-Size.ensures)))
+
+pub set_form-returns-in_ok-set-in-Size : goal.set_form-returns-in_ok-set-in-Size
+set_form-returns-in_ok-set-in-Size g t c =
+    said c.in-Size.is (size_goes (boxed c.deref-in-Size.ensures c.in_ok-set-in-Size.ensures) (c.size.ensures c.args.context.now.system.now c.in_ok-set-in-Size.ensures.is.coded) (search rules))
+
+pub over_form-returns-in_err-set-in-QuantifiedSet : goal.over_form-returns-in_err-set-in-QuantifiedSet
+over_form-returns-in_err-set-in-QuantifiedSet g t c =
+    thrown c.from_residual.ensures (said c.in-QuantifiedSet.is (over_set_stops (boxed c.deref.ensures c.in_err-set-in-QuantifiedSet.ensures)))
+
+pub over_form-returns-in_err-list-in-QuantifiedSet : goal.over_form-returns-in_err-list-in-QuantifiedSet
+over_form-returns-in_err-list-in-QuantifiedSet g t c =
+    out_of_memory c.in_ok-set-in-QuantifiedSet.ensures.kept c.from_residual-in_err-list-in-QuantifiedSet.ensures
+
+pub over_form-returns-in_ok-list-in-QuantifiedSet : goal.over_form-returns-in_ok-list-in-QuantifiedSet
+over_form-returns-in_ok-list-in-QuantifiedSet g t c =
+    said c.in-QuantifiedSet.is (over_set_goes (boxed c.deref.ensures c.in_ok-set-in-QuantifiedSet.ensures) c.in_ok-list-in-QuantifiedSet.ensures (boxed_over c.deref-in-QuantifiedSet.ensures c.over_elements.ensures))
+
+pub over_form-returns-in_err-meaning-in-Each : goal.over_form-returns-in_err-meaning-in-Each
+over_form-returns-in_err-meaning-in-Each g t c =
+    thrown c.from_residual-in_err-meaning-in-Each.ensures (said c.in-Each.is (each_stops (boxed c.deref-in-Each.ensures c.in_err-meaning-in-Each.ensures)))
+
+pub over_form-returns-in_ok-meaning-in-Each : goal.over_form-returns-in_ok-meaning-in-Each
+over_form-returns-in_ok-meaning-in-Each g t c =
+    said c.in-Each.is (each_goes (boxed c.deref-in-Each.ensures c.in_ok-meaning-in-Each.ensures) c.of-list.ensures (boxed_over c.deref-in-Each-2.ensures c.each.ensures))
+
+pub over_form-returns-in_err-set-in-EachOfSet : goal.over_form-returns-in_err-set-in-EachOfSet
+over_form-returns-in_err-set-in-EachOfSet g t c =
+    thrown c.from_residual-in_err-set-in-EachOfSet.ensures (said c.in-EachOfSet.is (each_of_set_stops (boxed c.deref-in-EachOfSet.ensures c.in_err-set-in-EachOfSet.ensures)))
+
+pub over_form-returns-in_err-list-in-EachOfSet : goal.over_form-returns-in_err-list-in-EachOfSet
+over_form-returns-in_err-list-in-EachOfSet g t c =
+    out_of_memory c.in_ok-set-in-EachOfSet.ensures.kept c.from_residual-in_err-list-in-EachOfSet.ensures
+
+pub over_form-returns-in_ok-list-in-EachOfSet : goal.over_form-returns-in_ok-list-in-EachOfSet
+over_form-returns-in_ok-list-in-EachOfSet g t c =
+    said c.in-EachOfSet.is (each_of_set_goes (boxed c.deref-in-EachOfSet.ensures c.in_ok-set-in-EachOfSet.ensures) c.in_ok-list-in-EachOfSet.ensures (boxed_over c.deref-in-EachOfSet-2.ensures c.each-in-EachOfSet.ensures))
+
+pub each-elements-init : goal.each-elements-init
+each-elements-init g t c =
+    let system = c.args.context.now.system.now in
+    let p = program_of system in
+    let tells = g.R.Reader.tells in
+    let element = element_in system c.args.list in
+    let place = place_in c.args.context.now in
+    let e = expression_of c.args.body.now in
+    let empty = c.default_of-so_far.ensures.value (texts_in system) (first_text system) in (
+      c.in_ok-names.ensures,
+      grows_self c.requires,
+      subst (λ (v : Value). Joined (tells c.args.reader.now).has element (read_with p place e) c.args.kind 0 v) (sym empty) nothing,
+      c.default_of-so_far.ensures.elements p,
+      omega arith,
+    )
+
+pub each-returns-in_err-more : goal.each-returns-in_err-more
+each-returns-in_err-more g t c =
+    let system = c.args.context.now.system.now in
+    let p = program_of system in
+    let tells = g.R.Reader.tells in
+    let element = element_in system c.args.list in
+    let place = place_in c.args.context.now in
+    let e = expression_of c.args.body.now in
+    let so_far = c.elements.invariant in
+    let within : c.elements.i < c.args.list.count = omega (arith, c.elements-test.true) in
+    thrown_over c.from_residual-in_err-more.ensures
+    (join_stopped p (tells c.args.reader.now) (tells c.elements.reader) (tells c.with_element.new.reader) place e element c.args.kind c.args.list.count c.elements.i (value_of (texts_in system) c.elements.so_far) c.in_err-more.field-0.0 within so_far.1 so_far.2 (with_value c.get-element.ensures c.in_err-more.ensures.reads))
+
+pub each-returns-in_err-so_far : goal.each-returns-in_err-so_far
+each-returns-in_err-so_far g t c =
+    let system = c.args.context.now.system.now in
+    let p = program_of system in
+    let tells = g.R.Reader.tells in
+    let element = element_in system c.args.list in
+    let place = place_in c.args.context.now in
+    let e = expression_of c.args.body.now in
+    join_short p (tells c.args.reader.now) (tells c.elements.reader) (tells c.with_element.new.reader) place e element c.args.kind c.args.list.count c.from_residual-in_err-so_far.result (grows_then c.elements.invariant.1 c.in_ok-more.ensures.reads.kept) c.from_residual-in_err-so_far.ensures
+
+pub each-elements-preserved : goal.each-elements-preserved
+each-elements-preserved g t c =
+    let system = c.args.context.now.system.now in
+    let p = program_of system in
+    let tells = g.R.Reader.tells in
+    let element = element_in system c.args.list in
+    let place = place_in c.args.context.now in
+    let e = expression_of c.args.body.now in
+    let so_far = c.elements.invariant in
+    let within : c.elements.i < c.args.list.count = omega (arith, c.elements-test.true) in
+    let here = join_further p (tells c.args.reader.now) (tells c.elements.reader) (tells c.with_element.new.reader) place e element c.args.kind c.args.list.count c.elements.i (value_of (texts_in system) c.elements.so_far) c.in_ok-more.more so_far.2 (with_value c.get-element.ensures c.in_ok-more.ensures.reads) in (
+      c.in_ok-more.ensures.room,
+      grows_then so_far.1 c.in_ok-more.ensures.reads.kept,
+      subst (λ (v : Value). Joined (tells c.with_element.new.reader).has element (read_with p place e) c.args.kind (c.elements.i + 1) v) (sym c.in_ok-so_far.ensures.value) here,
+      c.in_ok-so_far.ensures.coded,
+      omega (arith, within),
+    )
+
+pub each-returns : goal.each-returns
+each-returns g t c =
+    let system = c.args.context.now.system.now in
+    let p = program_of system in
+    let tells = g.R.Reader.tells in
+    let element = element_in system c.args.list in
+    let place = place_in c.args.context.now in
+    let e = expression_of c.args.body.now in
+    let so_far = c.elements.invariant in
+    let all : c.elements.i ≡ c.args.list.count = omega (arith, c.elements-test.false, so_far.4) in
+    join_ended p (tells c.args.reader.now) (tells c.elements.reader) (tells c.elements.reader) place e element c.args.kind c.args.list.count c.elements.i c.elements.so_far all so_far.1 so_far.2 so_far.3
+
+pub at_element-returns-clause-reads : goal.at_element-returns-clause-reads
+at_element-returns-clause-reads g t c =
+    truth_of c.in_ok-with_element.ensures.reads (c.truth.ensures (texts_in c.args.context.now.system.now))

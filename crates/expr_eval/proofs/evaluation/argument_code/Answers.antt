@@ -1,13 +1,12 @@
 use Rattle.std.proofs.Common.{◌≡◌, ap, sym, subst, ◌∙◌}
 use Rattle.attr_rules.specs.declared.kinds.Kind.{Kind}
-use Rattle.attr_rules.specs.declared.kinds.Kind.TheVariants as kinds
 use Rattle.equation_law.specs.Codes.{IsCode, value_at, value_of}
 use Rattle.equation_law.specs.Names.{OfText}
 use Rattle.equation_law.specs.Systems.{program_of}
 use Rattle.equation_law.specs.Values.{as_argument}
 use Rattle.equation_law.proofs.Pooled.{first_text}
 use Rattle.expr_eval.specs.Evaluating.{texts_in}
-use Rattle.expr_eval.proofs.Given.{read_argument, small_code, text_is}
+use Rattle.expr_eval.proofs.Given.{coded_argument, small_code, text_is}
 use Rattle.expr_eval.proofs.evaluation.argument_code.Goals as goal
 
 pub returns-then-is_text-clause-code : goal.returns-then-is_text-clause-code
@@ -28,4 +27,4 @@ returns-clause-code c = small_code (program_of c.args.system.now) c.args.kind c.
 pub returns-clause-value : goal.returns-clause-value
 returns-clause-value c =
     let texts = texts_in c.args.system.now in
-    ap (as_argument c.args.kind) (c.code.ensures.value texts (first_text c.args.system.now)) ∙ read_argument c.args.kind (value_of texts c.args.value)
+    coded_argument texts c.args.kind c.code.result (value_of texts c.args.value) (c.code.ensures.value texts (first_text c.args.system.now))

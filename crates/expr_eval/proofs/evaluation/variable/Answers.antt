@@ -1,5 +1,5 @@
 -- A name has its value, or there is none of this number.
-use Rattle.std.proofs.Common.{◌<◌, ◌≤◌, arith, length, refl, sym}
+use Rattle.std.proofs.Common.{◌<◌, ◌≤◌, arith, length, refl, sym, ◌∙◌}
 use Rattle.std.proofs.lemmas.Bool.{ltb-false, ltb-true}
 use Rattle.std.proofs.lemmas.Option.{slice_get_past, slice_get_read}
 use Rattle.expr_eval.specs.Evaluating.{texts_in}
@@ -10,7 +10,7 @@ pub returns-in-Some : goal.returns-in-Some
 returns-in-Some c =
     let names = c.args.context.now.names.now in
     let within : c.args.number < length names = ltb-true c.args.number (length names) (sym c.in-Some.ensures.lookup.0) in
-    named_there (texts_in c.args.context.now.system.now) names c.args.number c.in-Some.value.now (slice_get_read names (length names) c.args.number c.in-Some.value.now refl within c.in-Some.ensures.lookup.1)
+    c.from.ensures (texts_in c.args.context.now.system.now) ∙ named_there (texts_in c.args.context.now.system.now) names c.args.number c.in-Some.value.now (slice_get_read names (length names) c.args.number c.in-Some.value.now refl within c.in-Some.ensures.lookup.1)
 
 pub returns-in-None : goal.returns-in-None
 returns-in-None c =

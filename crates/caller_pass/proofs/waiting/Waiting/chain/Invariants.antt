@@ -1,6 +1,7 @@
--- The list has the instances so far.
-use Rattle.std.proofs.Common.{◌≡◌, map}
+-- The list has the instances so far, each with the path of its local set.
+use Rattle.std.proofs.Common.{map}
+use Rattle.caller_pass.proofs.Listing.{AreListed}
 use Rattle.caller_pass.proofs.waiting.Waiting.chain.Given as goal
 
 abbrev pub invariant-loop-instance : goal.invariant-loop-instance
-invariant-loop-instance l = l.list.items ≡ map (λ i. i.now) l.yielded
+invariant-loop-instance l = AreListed (map (λ x. (x.0.now, x.1.now)) l.yielded) l.list.items

@@ -5,4 +5,4 @@ use Rattle.caller_pass.specs.Waiting.{waits}
 use Rattle.caller_pass.proofs.waiting.Waiting.contains.Goals as goal
 
 pub returns : goal.returns
-returns c = c.contains_key.ensures ∙ is_some-lookup (equality.ghosts.eq c.args.i) c.self.inside.slots.entries ∙ ap (λ es. waits es c.args.i) c.self.view_is
+returns c = c.contains_key.ensures ∙ is_some-lookup (equality.ghosts.eq c.args.i) c.self.inside.waiters.entries ∙ ap (λ es. waits es c.args.i) c.self.view_is

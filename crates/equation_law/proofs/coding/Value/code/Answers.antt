@@ -7,9 +7,9 @@ use Rattle.equation_law.proofs.Codes.{signed}
 use Rattle.equation_law.proofs.coding.Value.code.Goals as goal
 
 pub returns-in-Int-clause-value : goal.returns-in-Int-clause-value
-returns-in-Int-clause-value c = λ texts first.
+returns-in-Int-clause-value c = λ texts first one.
     let z = c.int.result in
     let r = c.cast_unsigned.result in
     let back = to_z-of_z w32 z (record { sfits = c.int.type_inv }) in
     let same = sym (signed r c.cast_unsigned.type_inv) ∙ ap (to_z w32) (c.cast_unsigned.ensures ∙ ap (of_z w32) back) ∙ back ∙ c.int.ensures texts in
-    ap (λ k. value_at texts k r) c.in-Int.is ∙ ap Int same ∙ sym (ap (λ k. as_kind k (value_of texts c.args.self)) c.in-Int.is)
+    ap (λ k. value_at texts k r) c.in-Int.is ∙ ap Int same ∙ sym (ap (λ k. as_kind k (value_of texts c.args.self.now)) c.in-Int.is)

@@ -1,4 +1,4 @@
-use Rattle.std.proofs.Common.{rules, [], refl, sym, arith}
+use Rattle.std.proofs.Common.{inl, rules, [], refl, sym, arith}
 use Rattle.equation_law.specs.declared.coding.Instance.TheVariants.{Attr as attribute_at}
 use Rattle.equation_law.specs.Codes.{codes_in, instance_of}
 use Rattle.equation_law.specs.Systems.{program_of}
@@ -39,7 +39,7 @@ pub claim-requires-in-Some-clause-slot : goal.claim-requires-in-Some-clause-slot
 claim-requires-in-Some-clause-slot c = fits c.args.self.now c.loop-code.pass c.loop-code.pass c.args.attr.0 c.args.node.0 c.args.args c.loop-code.place c.loop-code.slot.0 c.loop-code.invariant.way c.loop-code.invariant.own (at_least_itself c.loop-code.pass)
 
 pub claim-requires-in-Some-clause-key : goal.claim-requires-in-Some-clause-key
-claim-requires-in-Some-clause-key c = record { of = (instance_of (program_of c.args.self.now.system.value) (attribute_at c.args.attr c.args.node c.args.args)); instance = c.requires.instance; key = (key_next c.args.self.now c.loop-code.pass c.loop-code.pass c.args.attr.0 c.args.node.0 c.args.args c.loop-code.place c.loop-code.slot.0 c.loop-code.invariant.way c.loop-code.invariant.own (at_least_itself c.loop-code.pass) c.in-Some.code 0 (search rules) (sym c.in-Some.ensures) (program_of c.args.self.now.system.value) c.requires.coded.1) }
+claim-requires-in-Some-clause-key c = inl (record { of = (instance_of (program_of c.args.self.now.system.value) (attribute_at c.args.attr c.args.node c.args.args)); instance = c.requires.instance; key = (key_next c.args.self.now c.loop-code.pass c.loop-code.pass c.args.attr.0 c.args.node.0 c.args.args c.loop-code.place c.loop-code.slot.0 c.loop-code.invariant.way c.loop-code.invariant.own (at_least_itself c.loop-code.pass) c.in-Some.code 0 (search rules) (sym c.in-Some.ensures) (program_of c.args.self.now.system.value) c.requires.coded.1) })
 
 pub returns-in_err-slot-2-clause-kept : goal.returns-in_err-slot-2-clause-kept
 returns-in_err-slot-2-clause-kept c = at_least_then c.loop-code.invariant.kept c.claim-in-Some.ensures.kept

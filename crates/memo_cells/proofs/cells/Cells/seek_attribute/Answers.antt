@@ -3,7 +3,7 @@ use Rattle.equation_law.specs.Systems.{program_of}
 use Rattle.equation_law.proofs.Pooled.{texts_pooled}
 use Rattle.memo_cells.specs.Keys.{attribute_word}
 use Rattle.memo_cells.proofs.More.{at_least_itself, at_least_then}
-use Rattle.memo_cells.proofs.Ways.{if_none, fits, nowhere_first, nowhere_on, place_less, way_next}
+use Rattle.memo_cells.proofs.Ways.{if_none, fits, nowhere_first, nowhere_on, place_less, way_next, way_plain}
 use Rattle.memo_cells.proofs.cells.Cells.seek_attribute.Goals as goal
 
 pub returns-in_err-slot-clause-none : goal.returns-in_err-slot-clause-none
@@ -40,3 +40,6 @@ loop-code-preserved c = record {
   way = way_next c.args.self.now c.loop-code.pass c.seek-in-Some.new.pass c.args.attr.0 c.args.node.0 c.args.args c.loop-code.place c.loop-code.slot.0 c.loop-code.invariant.way c.loop-code.invariant.own c.seek-in-Some.ensures.kept c.in-Some.code c.in_ok-slot-2.slot.0 (search rules) (sym c.in-Some.ensures) c.in_ok-slot-2.ensures.slot;
   claims = c.seek-in-Some.ensures.claims ∙ c.loop-code.invariant.claims;
 }
+
+pub returns-clause-plain : goal.returns-clause-plain
+returns-clause-plain c = way_plain c.args.self.now c.loop-code.pass c.args.attr.0 c.args.node.0 _ c.loop-code.slot.0 c.loop-code.invariant.own c.loop-code.invariant.way

@@ -1,0 +1,241 @@
+-- The right sides of equations of circular attributes are well made.
+use Rattle.std.proofs.Common.{◌≡◌, ℕ, Bool, true, false, not, ◌||◌, ◌&&◌, List, Option, Some, None, map, refl, ap, subst, ◌∙◌}
+use Rattle.std.proofs.lemmas.Bool.{and_from, and_parts}
+use Rattle.rag_io.specs.declared.Place.{Place}
+use Rattle.ast_grammar.specs.Grammar.{Class}
+use Rattle.jrag_reader.specs.declared.expression.Operator.{Operator}
+use Rattle.jrag_reader.specs.declared.expression.Operator.TheVariants as signs
+use Rattle.jrag_reader.specs.declared.expression.Quantifier.{Quantifier}
+use Rattle.jrag_reader.specs.declared.expression.Quantifier.TheVariants as quantifiers
+use Rattle.jrag_reader.specs.Expressions as read
+use Rattle.jrag_reader.specs.Expressions.{Expr, Name}
+use Rattle.jrag_reader.specs.Items.{Item}
+use Rattle.attr_rules.specs.declared.accessors.Access.{Access}
+use Rattle.attr_rules.specs.declared.accessors.Access.TheVariants as access
+use Rattle.attr_rules.specs.declared.expression.Quantifier as kept_quantifier
+use Rattle.attr_rules.specs.declared.expression.Quantifier.TheVariants as kept_quantifiers
+use Rattle.attr_rules.specs.declared.types.ValueType.{ValueType}
+use Rattle.attr_rules.specs.Expression.{Expression, Arguments, no_more, argument, Truth, Int, Text, Null, Empty, This, Variable, Source, Child, Element, Count, Has, Token, Call, Cast, InstanceOf, Quantified, QuantifiedSet, Each, EachOfSet, Sets, Single, Contains, Size, Not, Negate, Binary, And, Or, OrBoth, If}
+use Rattle.attr_rules.specs.Rising.{has_call, have_call}
+use Rattle.attr_rules.specs.Rules.{EquationsMadeWell, MadeWell, circular_at}
+use Rattle.attr_rules.specs.Types.{of_class}
+use Rattle.attr_rules.specs.WellMade.{IsWellMade, are_well_made, is_placed, is_well_made}
+use Rattle.attr_types.specs.declared.ranges.Elements.{Elements}
+use Rattle.attr_types.specs.declared.ranges.Elements.TheVariants as elements
+use Rattle.attr_types.specs.declared.scope.Member as member
+use Rattle.attr_types.specs.declared.scope.Member.TheVariants as members
+use Rattle.attr_types.specs.declared.set_forms.SetForm.{SetForm}
+use Rattle.attr_types.specs.declared.set_forms.SetForm.TheVariants as forms
+use Rattle.attr_types.specs.BothSides.{all_with_both, either, said_where, with_both}
+use Rattle.attr_types.specs.Heads.{attributes_of}
+use Rattle.attr_types.specs.Phases.{equation_of, rules_of, scope_of}
+use Rattle.attr_types.specs.Places.{else_place}
+use Rattle.attr_types.specs.Scope.{Scope, member_on, variable_named}
+use Rattle.attr_types.specs.SetForms.{form_named, form_said, form_type, one_said, pair_said, set_known}
+use Rattle.attr_types.specs.Targets.{target_given}
+use Rattle.attr_types.specs.Typed as typed
+use Rattle.attr_types.specs.Typed.{arguments_said, body_of, call_said, count, first_in, inside, joined, known, name_said, over_said, range_of, said_alone, said_over, types_known}
+use Rattle.attr_types.specs.Written.{declarations, givens}
+use Rattle.attr_types.proofs.ItemsFound.{all_found, map_found}
+
+module _ (circular : ℕ → Bool) where
+  either_calls : (c : Bool) (a b : Expression) → has_call circular (either c a b) ≡ (has_call circular a || has_call circular b)
+  either_calls true a b = refl
+  either_calls false a b = refl
+
+  -- what `||` says changes no call
+  mutual
+    calls_kept : (e : Expression) → has_call circular (with_both circular e) ≡ has_call circular e
+    calls_kept (Truth b) = refl
+    calls_kept (Int z) = refl
+    calls_kept (Text n) = refl
+    calls_kept Null = refl
+    calls_kept Empty = refl
+    calls_kept This = refl
+    calls_kept (Variable k) = refl
+    calls_kept (Source k) = refl
+    calls_kept (Child k e) = calls_kept e
+    calls_kept (Count k e) = calls_kept e
+    calls_kept (Has k e) = calls_kept e
+    calls_kept (Token t k e) = calls_kept e
+    calls_kept (Cast c e) = calls_kept e
+    calls_kept (InstanceOf c e) = calls_kept e
+    calls_kept (Single e) = calls_kept e
+    calls_kept (Size e) = calls_kept e
+    calls_kept (Not e) = calls_kept e
+    calls_kept (Negate e) = calls_kept e
+    calls_kept (Element k a b) = (λ j. calls_kept a j || calls_kept b j)
+    calls_kept (Quantified q k a b) = (λ j. calls_kept a j || calls_kept b j)
+    calls_kept (QuantifiedSet q a b) = (λ j. calls_kept a j || calls_kept b j)
+    calls_kept (Each t k a b) = (λ j. calls_kept a j || calls_kept b j)
+    calls_kept (EachOfSet t a b) = (λ j. calls_kept a j || calls_kept b j)
+    calls_kept (Sets o t a b) = (λ j. calls_kept a j || calls_kept b j)
+    calls_kept (Contains a b) = (λ j. calls_kept a j || calls_kept b j)
+    calls_kept (Binary o a b) = (λ j. calls_kept a j || calls_kept b j)
+    calls_kept (And a b) = (λ j. calls_kept a j || calls_kept b j)
+    calls_kept (OrBoth a b) = (λ j. calls_kept a j || calls_kept b j)
+    calls_kept (Call n at e es) = (λ j. circular n || (calls_kept e j || all_calls_kept es j))
+    calls_kept (Or a b) = either_calls (has_call circular a) (with_both circular a) (with_both circular b) ∙ (λ j. calls_kept a j || calls_kept b j)
+    calls_kept (If c a at b) = (λ j. calls_kept c j || (calls_kept a j || calls_kept b j))
+
+    all_calls_kept : (es : Arguments) → have_call circular (all_with_both circular es) ≡ have_call circular es
+    all_calls_kept no_more = refl
+    all_calls_kept (argument e es) = (λ j. calls_kept e j || all_calls_kept es j)
+
+  abbrev IsMade : Expression → Type 0
+  IsMade e = is_well_made circular (with_both circular e) ≡ true
+
+  abbrev AreMade : Arguments → Type 0
+  AreMade es = are_well_made circular (all_with_both circular es) ≡ true
+
+  two : (a b : Expression) → IsMade a → IsMade b → (is_well_made circular (with_both circular a) && is_well_made circular (with_both circular b)) ≡ true
+  two a b p q = and_from (is_well_made circular (with_both circular a)) (is_well_made circular (with_both circular b)) p q
+
+  either_made : (a b : Expression) (c : Bool) → has_call circular a ≡ c → IsMade a → IsMade b → is_well_made circular (either c (with_both circular a) (with_both circular b)) ≡ true
+  either_made a b true is p q = two a b p q
+  either_made a b false is p q =
+      and_from (not (has_call circular (with_both circular a))) (is_well_made circular (with_both circular a) && is_well_made circular (with_both circular b)) (ap not (calls_kept a ∙ is)) (two a b p q)
+
+  joined_made : (o : Operator) (a b : Expression) → IsMade a → IsMade b → IsMade (joined o a b)
+  joined_made signs.Multiply a b p q = two a b p q
+  joined_made signs.Add a b p q = two a b p q
+  joined_made signs.Subtract a b p q = two a b p q
+  joined_made signs.Less a b p q = two a b p q
+  joined_made signs.AtMost a b p q = two a b p q
+  joined_made signs.Greater a b p q = two a b p q
+  joined_made signs.AtLeast a b p q = two a b p q
+  joined_made signs.Equal a b p q = two a b p q
+  joined_made signs.Differ a b p q = two a b p q
+  joined_made signs.And a b p q = two a b p q
+  joined_made signs.Or a b p q = either_made a b (has_call circular a) refl p q
+
+  first_made : (es : Arguments) → AreMade es → IsMade (first_in es)
+  first_made no_more p = refl
+  first_made (argument e es) p = (and_parts (is_well_made circular (with_both circular e)) (are_well_made circular (all_with_both circular es)) p).0
+
+  read_made : (x : Access) (k : ℕ) (e i : Expression) → IsMade e → IsMade i → IsMade (typed.read x k e i)
+  read_made access.Child k e i p q = p
+  read_made (access.Token t) k e i p q = p
+  read_made access.Has k e i p q = p
+  read_made access.Count k e i p q = p
+  read_made access.Elements k e i p q = p
+  read_made access.Element k e i p q = two e i p q
+
+  call_made : (o : Option member.Member) (at : Place) (e : Expression) (es : Arguments) → IsMade e → AreMade es → IsMade (call_said o at e es)
+  call_made None at e es p q = refl
+  call_made (Some (members.Reads x)) at e es p q = read_made x.access x.component e (first_in es) p (first_made es q)
+  call_made (Some (members.Calls a)) at e es p q = and_from (is_well_made circular (with_both circular e)) (are_well_made circular (all_with_both circular es)) p q
+
+  one_made : (f : SetForm) (a : Expression) → IsMade a → IsMade (one_said f a)
+  one_made (forms.Makes o) a p = refl
+  one_made forms.Single a p = p
+  one_made forms.Contains a p = refl
+  one_made forms.Size a p = p
+
+  pair_made : (f : SetForm) (t : Option ValueType) (a b : Expression) → IsMade a → IsMade b → IsMade (pair_said f t a b)
+  pair_made (forms.Makes o) None a b p q = refl
+  pair_made (forms.Makes o) (Some t) a b p q = two a b p q
+  pair_made forms.Single t a b p q = refl
+  pair_made forms.Contains t a b p q = two a b p q
+  pair_made forms.Size t a b p q = refl
+
+  form_made : (f : SetForm) (t : Option ValueType) (es : Arguments) → AreMade es → IsMade (form_said f t es)
+  form_made f t no_more p = refl
+  form_made f t (argument a no_more) p = one_made f a (and_parts (is_well_made circular (with_both circular a)) true p).0
+  form_made f t (argument a (argument b no_more)) p =
+      let rest = and_parts (is_well_made circular (with_both circular a)) (is_well_made circular (with_both circular b) && true) p in
+      pair_made f t a b rest.0 (and_parts (is_well_made circular (with_both circular b)) true rest.1).0
+  form_made f t (argument a (argument b (argument c es))) p = refl
+
+  alone_made : (s : Scope) (n : Name) (k : ℕ) (ts : List (Option ValueType)) (es : Arguments) (o : Option SetForm) → AreMade es → IsMade (said_alone s n k ts es o)
+  alone_made s n k ts es None p = call_made (member_on s (Some (of_class s.this)) n.text k) n.place This es refl p
+  alone_made s n k ts es (Some f) p = form_made f (form_type s.grammar f ts) es p
+
+  condition_made : (q : kept_quantifier.Quantifier) (o : Elements) (e b : Expression) → IsMade e → IsMade b → IsMade (typed.condition_over q o e b)
+  condition_made q (elements.OfList x) e b p r = two e b p r
+  condition_made q (elements.OfSet k) e b p r = two e b p r
+
+  union_made : (t : Option ValueType) (o : Elements) (e b : Expression) → IsMade e → IsMade b → IsMade (typed.union_over t o e b)
+  union_made None o e b p r = refl
+  union_made (Some t) (elements.OfList x) e b p r = two e b p r
+  union_made (Some t) (elements.OfSet k) e b p r = two e b p r
+
+  elements_made : (q : Quantifier) (t : Option ValueType) (o : Elements) (e b : Expression) → IsMade e → IsMade b → IsMade (said_over q t o e b)
+  elements_made quantifiers.Each t o e b p r = union_made (set_known t) o e b p r
+  elements_made quantifiers.Any t o e b p r = condition_made kept_quantifiers.Any o e b p r
+  elements_made quantifiers.All t o e b p r = condition_made kept_quantifiers.All o e b p r
+  elements_made quantifiers.First t o e b p r = condition_made kept_quantifiers.First o e b p r
+
+  over_made : (q : Quantifier) (t : Option ValueType) (o : Option Elements) (e b : Expression) → IsMade e → IsMade b → IsMade (over_said q t o e b)
+  over_made q t None e b p r = refl
+  over_made q t (Some o) e b p r = elements_made q t o e b p r
+
+  name_made : (o : Option ℕ) → IsMade (name_said o)
+  name_made None = refl
+  name_made (Some k) = refl
+
+  -- only the literals `false` and `empty` are else parts without a place
+  placed : (s : Scope) (e : Expr) → is_placed (else_place e) (with_both circular (body_of s e)) ≡ true
+  placed s (read.Truth p true) = refl
+  placed s (read.Truth p false) = refl
+  placed s (read.Empty p) = refl
+  placed s (read.Null p) = refl
+  placed s (read.This p) = refl
+  placed s (read.Int p n) = refl
+  placed s (read.Text p n) = refl
+  placed s (read.Source p n) = refl
+  placed s (read.Variable n) = refl
+  placed s (read.Call n es) = refl
+  placed s (read.Member e n es) = refl
+  placed s (read.New p n es) = refl
+  placed s (read.Quantified q p n r e) = refl
+  placed s (read.Group p e) = refl
+  placed s (read.Cast p n e) = refl
+  placed s (read.Not p e) = refl
+  placed s (read.Negate p e) = refl
+  placed s (read.Binary o a b) = refl
+  placed s (read.InstanceOf e n) = refl
+  placed s (read.If c a b) = refl
+
+  mutual
+    made : (s : Scope) (e : Expr) → IsMade (body_of s e)
+    made s (read.Truth p b) = refl
+    made s (read.Null p) = refl
+    made s (read.Empty p) = refl
+    made s (read.This p) = refl
+    made s (read.Int p n) = refl
+    made s (read.Text p n) = refl
+    made s (read.Source p n) = refl
+    made s (read.Variable n) = name_made (variable_named s n.text)
+    made s (read.Call n es) = alone_made s n (count es) (types_known s es) (arguments_said s es) (form_named n.text) (all_made s es)
+    made s (read.Member e n es) = call_made (member_on s (known s e) n.text (count es)) n.place (body_of s e) (arguments_said s es) (made s e) (all_made s es)
+    made s (read.New p n es) = refl
+    made s (read.Quantified q p n r e) = over_made q (known (inside s q n r) e) (range_of s q r) (body_of s r) (body_of (inside s q n r) e) (made s r) (made (inside s q n r) e)
+    made s (read.Group p e) = made s e
+    made s (read.Cast p n e) = made s e
+    made s (read.Not p e) = made s e
+    made s (read.Negate p e) = made s e
+    made s (read.Binary o a b) = joined_made o (body_of s a) (body_of s b) (made s a) (made s b)
+    made s (read.InstanceOf e n) = made s e
+    made s (read.If c a b) =
+        let of = λ (x : Expression). is_well_made circular (with_both circular x) in
+        and_from (is_placed (else_place b) (with_both circular (body_of s b))) (of (body_of s c) && (of (body_of s a) && of (body_of s b))) (placed s b)
+        (and_from (of (body_of s c)) (of (body_of s a) && of (body_of s b)) (made s c) (two (body_of s a) (body_of s b) (made s a) (made s b)))
+
+    all_made : (s : Scope) (es : read.Arguments) → AreMade (arguments_said s es)
+    all_made s read.no_more = refl
+    all_made s (read.argument e es) = and_from (is_well_made circular (with_both circular (body_of s e))) (are_well_made circular (all_with_both circular (arguments_said s es))) (made s e) (all_made s es)
+
+  said_made : (s : Scope) (e : Expr) (b : Bool) → b ≡ true → IsWellMade circular (said_where b circular (body_of s e))
+  said_made s e true is = made s e
+  said_made s e false is = absurd (cc)
+
+pub equations_made : (g : List Class) (items : List Item) → EquationsMadeWell (rules_of g items)
+unfolding rules_of
+equations_made g items =
+    let attributes = attributes_of g (declarations items) in
+    all_found (MadeWell attributes) (map (equation_of g attributes) (givens items)) (λ i x is.
+    let found = map_found (equation_of g attributes) (givens items) i x is in
+    let e = found.0 in
+    let t = target_given g attributes e in
+    subst (MadeWell attributes) found.2 (λ circular. said_made (circular_at attributes) (scope_of g attributes e t) e.body (circular_at attributes t.attribute.0) circular))

@@ -1,0 +1,102 @@
+// The right sides of equations: what they break, and what they say.
+ghost use Rattle.std.specs.Prelude.{◌≡◌, ◌++◌, ◌∷◌, [], IfOk, OnOk, map};
+ghost use Rattle.ast_grammar.specs.Grammar.{superclasses_of};
+ghost use Rattle.broken_rules.specs.Answers.{Ends};
+ghost use Rattle.broken_rules.specs.Notes.{Notes};
+ghost use Rattle.attr_rules.specs.KeptEquations.{equation_in};
+ghost use Rattle.attr_types.specs.declared.standing.Stands.TheVariants.{Anywhere};
+ghost use Rattle.attr_types.specs.Phases.{bodies_broken, equation_broken, equation_of, wanted_by};
+ghost use Rattle.attr_types.specs.Seen.{seen_given};
+ghost use Rattle.attr_types.specs.Targets.{target_given, targets_of};
+
+use crate::bodies::type_operand;
+use crate::both_sides::said_for;
+use crate::paths::equation_names;
+use crate::scope::Scope;
+use crate::standing::Stands;
+use crate::written::Given;
+use ast_grammar::Grammar;
+use attr_rules::{Attributes, KeptEquation, Kind, Target};
+use broken_rules::{Earliest, ReadFault};
+use rag_io::Memory;
+use std::alloc::Global;
+
+// The type that an equation has to fit.
+fn wanted_by(attributes: &Attributes, target: Target) -> Kind
+    ensures { result ≡ wanted_by attributes.now.attributes target }
+{
+    if u32::from(target.attribute.0) < attributes.len() {
+        attributes.attr(target.attribute).kind
+    } else {
+        Kind::Truth
+    }
+}
+
+// What an equation breaks, which is for this, and what it says.
+fn check_body(
+    alloc: Global,
+    grammar: &Grammar,
+    attributes: &Attributes,
+    equation: &Given<'_>,
+    target: Target,
+    faults: &mut Earliest,
+) -> Result<KeptEquation, Memory>
+    requires attributes { attributes.now.superclasses ≡ superclasses_of grammar.now }
+    requires target { target ≡ target_given grammar.now attributes.now.attributes (seen_given equation.now) }
+    ensures noted { OnOk result (Notes (equation_broken grammar.now attributes.now.attributes (seen_given equation.now)) faults.old faults.new) }
+    ensures says { IfOk result (λ e. equation_in e ≡ equation_of grammar.now attributes.now.attributes (seen_given equation.now)) }
+{
+    let variables = equation_names(
+        alloc,
+        grammar,
+        equation.attribute,
+        equation.path,
+        target.reach,
+    )?;
+    let scope = Scope {
+        grammar,
+        attributes,
+        class: target.class,
+        variables: &variables,
+    };
+    let wanted = wanted_by(attributes, target);
+    let body = type_operand(
+        alloc,
+        &scope,
+        equation.body,
+        Stands::Anywhere,
+        wanted,
+        faults,
+    )?;
+    let body = said_for(attributes, target.attribute, body);
+    Ok(KeptEquation { target, body })
+}
+
+fn push(list: &mut Vec<KeptEquation>, equation: KeptEquation) -> Result<(), Memory>
+    ensures { OnOk result (list.new.items ≡ list.old.items ++ equation ∷ []) }
+{
+    list.push(equation).map_err(|_| Memory)
+}
+
+/// The phase of expressions: the equations for these, where no rule on expressions is broken.
+pub(crate) fn check_bodies(
+    alloc: Global,
+    grammar: &Grammar,
+    attributes: &Attributes,
+    equations: &[Given<'_>],
+    targets: &[Target],
+) -> Result<Vec<KeptEquation>, ReadFault>
+    requires attributes { attributes.now.superclasses ≡ superclasses_of grammar.now }
+    requires targets { targets.now ≡ targets_of grammar.now attributes.now.attributes (map seen_given equations.now) }
+    ensures phase { Ends (bodies_broken grammar.now attributes.now.attributes (map seen_given equations.now)) result }
+    ensures says { IfOk result (λ list. map equation_in list.items ≡ map (equation_of grammar.now attributes.now.attributes) (map seen_given equations.now)) }
+{
+    let mut faults = Earliest::new();
+    let mut list = Vec::new(alloc);
+    for (equation, target) in equations.iter().zip(targets) {
+        let body = check_body(alloc, grammar, attributes, equation, *target, &mut faults)?;
+        push(&mut list, body)?;
+    }
+    faults.answer()?;
+    Ok(list)
+}

@@ -1,0 +1,140 @@
+-- Closing a local set: the cells that come to be seen settled pay for its evaluations.
+use Rattle.std.proofs.Common.{◌≡◌, ℕ, ◌+◌, ◌*◌, ◌<◌, ◌≤◌, ⊎_elim, ◌⊎◌, true, List, [], Result, Ok, Err, refl, sym, ap, subst, ◌∙◌, arith}
+use Rattle.std.specs.Result.{IsErr, IsErrAnd, IsOk}
+use Rattle.solutions.specs.Leading.{none}
+use Rattle.equation_law.specs.declared.coding.Instance.{Instance as CodedInstance}
+use Rattle.equation_law.specs.Codes.{instance_of}
+use Rattle.equation_law.specs.Equations.{equations_of}
+use Rattle.equation_law.specs.Loops.{Chain}
+use Rattle.equation_law.specs.Names.{Instance}
+use Rattle.equation_law.specs.Program.{Program}
+use Rattle.equation_law.specs.Systems.{program_of}
+use Rattle.memo_cells.specs.declared.view.Frame.{Frame}
+use Rattle.memo_cells.specs.declared.view.View.{View}
+use Rattle.memo_cells.specs.Standing.{IsPassOf, Knows}
+use Rattle.memo_cells.specs.Views.{IsAtLeast}
+use Rattle.memo_cells.proofs.More.{at_least_itself, at_least_then}
+use Rattle.circular_eval.specs.declared.advancing.CircFault.{CircFault}
+use Rattle.circular_eval.specs.declared.advancing.CircFault.TheVariants as set_fault
+use Rattle.circular_eval.specs.declared.local.Local.{Local}
+use Rattle.circular_eval.specs.Advancing.{AnswersFault as AnswersCircular, IsMissing}
+use Rattle.caller_pass.specs.declared.faults.AskFault.{AskFault}
+use Rattle.caller_pass.specs.declared.faults.AskFault.TheVariants.{CellsFull, Circular, Memory}
+use Rattle.caller_pass.specs.Answering.{AnswersFault, ClaimsKeys, ClosesMore, IsSameFault, Solves, SolvesFor, unsettled}
+use Rattle.caller_pass.proofs.Claiming.{claims_same, claims_then, fills_from}
+use Rattle.caller_pass.proofs.Falling.{by_value, left_falls, left_less, left_unsettled, not_taken, taken, taken_by}
+use Rattle.caller_pass.proofs.Knowing.{known_cell, settled_known}
+use Rattle.caller_pass.proofs.Paying.{knows_or_not}
+use Rattle.caller_pass.proofs.Going.{solve_fault}
+
+still_taken : (v w : View) → IsAtLeast v w → (q : ℕ) → taken v [] q ≡ true → taken w [] q ≡ true
+still_taken v w kept q h = ⊎_elim (λ x. by_value w [] q x.0 x.1 (kept.values q x.0 x.1 x.2)) (λ x. absurd x.1) (taken_by v [] q h)
+
+-- what is seen settled stays so
+pub unsettled_less : (v w : View) (n : ℕ) → IsAtLeast v w → unsettled w n ≤ unsettled v n
+unsettled_less v w n kept =
+    let less = left_less (taken v []) (taken w []) n (still_taken v w kept) in
+    let before = left_unsettled v n in
+    let now = left_unsettled w n in
+    omega (arith, less, before, now)
+
+-- an instance came to be known
+pub unsettled_falls : (p : Program) (f : Frame) → p ≡ program_of f.system.value → (v w : View) → IsPassOf f v → IsPassOf f w → IsAtLeast v w → (i : Instance) → ¬ Knows p v i → Knows p w i → unsettled w f.cells < unsettled v f.cells
+unsettled_falls p f same v w own then kept i unknown k =
+    let cell = known_cell p f w i then k in
+    let free = not_taken v [] k.slot (λ key c h. unknown (settled_known p f v same own w i k.slot key c then kept cell h)) (λ e h. absurd h) in
+    let falls = left_falls (taken v []) (taken w []) f.cells k.slot (still_taken v w kept) cell.1.0 free (by_value w [] k.slot k.key k.code k.settled) in
+    let before = left_unsettled v f.cells in
+    let now = left_unsettled w f.cells in
+    omega (arith, falls, before, now)
+
+-- the fault of a local set
+pub same_fault : (p : Program) (f : Frame) (v : View) (i : Instance) (from : CircFault) (e : AskFault) → IsSameFault from e → AnswersCircular p i f v from → AnswersFault p f v i e
+same_fault p f v i set_fault.CellsFull e is a = subst (λ (x : AskFault). AnswersFault p f v i x) (sym is) (fills_from p i f v a)
+same_fault p f v i set_fault.Memory e is a = subst (λ (x : AskFault). AnswersFault p f v i x) (sym is) tt
+
+module _ (p : Program) (f : Frame) (same : p ≡ program_of f.system.value) (v w : View) (own : IsPassOf f v) (then : IsPassOf f w) (kept : IsAtLeast v w) (i : Instance) (unknown : ¬ Knows p v i) (claims : ClaimsKeys p i v w) (before after : ℕ) (evals : after ≡ before + 1) where
+  -- it is sealed
+  pub closes_now : Knows p w i → (done : Unit {0}) → ClosesMore p f v w i before after (Ok done)
+  closes_now known done =
+      let falls = unsettled_falls p f same v w own then kept i unknown known in
+      record { fault = λ e is. cc; claims = claims; cost = λ ok. omega (arith, falls, evals); known = λ ok k. omega (arith, falls, evals); falls = λ ok. falls }
+
+  -- a fault
+  pub closes_fault : (e : CircFault) (r : Result Unit AskFault) → IsErr r × IsErrAnd r (λ x. IsSameFault e x) → AnswersCircular p i f w e → ClosesMore p f v w i before after r
+  closes_fault e (Ok x) h a = let none = h.0 in cc
+  closes_fault e (Err d) h a = record {
+    fault = λ x is. let same_one : d ≡ x = cc in subst (λ (y : AskFault). AnswersFault p f w i y) same_one (same_fault p f w i e d h.1 a);
+    claims = claims;
+    cost = λ ok. cc;
+    known = λ ok k. cc;
+    falls = λ ok. cc;
+  }
+
+  -- what was needed is settled, or wasn't
+  pub closes_for : (u : View) → IsPassOf f u → IsAtLeast w u → (l : Local) → instance_of p l.start ≡ i → (n : CodedInstance) → IsMissing p w l n → (now : ℕ) (r : Result Unit AskFault) → SolvesFor p f w u l (instance_of p n) after now r → ClosesMore p f v u i before now r
+  closes_for u own_u later l start n missing now r h = record {
+    fault = λ e is. subst (λ (j : Instance). AnswersFault p f u j e) start (h.fault e is);
+    claims = claims_then p i (instance_of p n) v w u (subst (λ (j : Instance). Chain p j (instance_of p n)) start missing.reached) claims later h.claims;
+    cost = λ ok.
+        let cost = h.cost ok in
+        let less = unsettled_less v w f.cells kept in
+        omega (arith, cost, less, evals);
+    known = λ ok k. ⊎_elim
+        (λ yet.
+        let cost = h.cost ok in
+        let falls = unsettled_falls p f same v w own then kept i unknown yet in
+        omega (arith, cost, falls, evals))
+        (λ not_yet.
+        let cost = h.start ok (subst (λ (j : Instance). ¬ Knows p w j) (sym start) not_yet) (subst (λ (j : Instance). Knows p u j) (sym start) k) in
+        let less = unsettled_less v w f.cells kept in
+        omega (arith, cost, less, evals))
+        (knows_or_not p f w i same then);
+    falls = λ ok.
+        let falls = unsettled_falls p f same w u then own_u later (instance_of p n) missing.unknown (h.settled ok) in
+        let less = unsettled_less v w f.cells kept in
+        omega (arith, falls, less);
+  }
+
+-- What holds before each turn of closing the set of i: `v` is what was known at first, and `w` what is known.
+pub record IsClosing (p : Program) (f : Frame) (v w : View) (i : Instance) (before now : ℕ) : Type 0 where
+  pub own : IsPassOf f w
+  pub kept : IsAtLeast v w
+  pub claims : ClaimsKeys p i v w
+  pub cost : now + 2 * unsettled w f.cells ≤ before + 2 * unsettled v f.cells
+  pub known : Knows p w i → now + 2 * unsettled w f.cells < before + 2 * unsettled v f.cells
+
+pub closing_first : (p : Program) (f : Frame) (v : View) (i : Instance) (evals : ℕ) → IsPassOf f v → ¬ Knows p v i → IsClosing p f v v i evals evals
+closing_first p f v i evals own unknown = record { own = own; kept = at_least_itself v; claims = claims_same p i v v refl; cost = omega arith; known = λ k. absurd (unknown k) }
+
+module _ (p : Program) (f : Frame) (same : p ≡ program_of f.system.value) (v w u : View) (i : Instance) (before now : ℕ) (c : IsClosing p f v w i before now) (own : IsPassOf f u) (kept : IsAtLeast w u) where
+  -- it was looked whether i is sealed
+  pub closing_looked : u.claims ≡ w.claims → IsClosing p f v u i before now
+  closing_looked quiet = record {
+    own = own;
+    kept = at_least_then c.kept kept;
+    claims = claims_then p i i v w u none c.claims kept (claims_same p i w u quiet);
+    cost = (let cost = c.cost in let less = unsettled_less w u f.cells kept in omega (arith, cost, less));
+    known = λ k. ⊎_elim
+        (λ yet. let cost = c.known yet in let less = unsettled_less w u f.cells kept in omega (arith, cost, less))
+        (λ not_yet. let cost = c.cost in let falls = unsettled_falls p f same w u c.own own kept i not_yet k in omega (arith, cost, falls))
+        (knows_or_not p f w i same c.own);
+  }
+
+  -- the set went on
+  module _ (after : ℕ) (r : Result Unit AskFault) (h : ClosesMore p f w u i now after r) where
+    pub closing_more : IsOk r → IsClosing p f v u i before after
+    closing_more ok = record {
+      own = own;
+      kept = at_least_then c.kept kept;
+      claims = claims_then p i i v w u none c.claims kept h.claims;
+      cost = (let cost = c.cost in let more = h.cost ok in omega (arith, cost, more));
+      known = λ k. let cost = c.cost in let more = h.known ok k in omega (arith, cost, more);
+    }
+
+    pub closing_fault : (e : AskFault) → r ≡ Err e → (all : Result Unit AskFault) → IsErr all × IsErrAnd all (λ x. x ≡ e) → Solves p f v u i before after all
+    closing_fault e is all given = solve_fault p f v u i before after e all given (claims_then p i i v w u none c.claims kept h.claims) (h.fault e is)
+
+-- it is sealed
+pub closed : (p : Program) (f : Frame) (v w : View) (i : Instance) (before now : ℕ) → IsClosing p f v w i before now → Knows p w i → (done : Unit {0}) → Solves p f v w i before now (Ok done)
+closed p f v w i before now c k done = record { answer = k; claims = c.claims; cost = λ ok. c.known k }

@@ -1,0 +1,89 @@
+-- The elements of a set that is the value of an instance, and their codes.
+use Rattle.std.proofs.Common.{◌≡◌, ℕ, zero, suc, ◌<◌, inl, inr, ⊎_elim, Bool, true, false, not, List, [], ◌∷◌, All, length, map, refl, sym, ap, subst, ◌∙◌, arith}
+use Rattle.std.proofs.lemmas.List.Elements.{All-head, All-tail}
+use Rattle.attr_rules.specs.declared.kinds.Kind.{Kind}
+use Rattle.attr_rules.specs.declared.kinds.Kind.TheVariants as kinds
+use Rattle.attr_rules.specs.Rules.{is_single}
+use Rattle.ast_grammar.specs.declared.grammar.ClassId.{ClassId}
+use Rattle.equation_law.specs.declared.coding.Value.{Value as CodedValue}
+use Rattle.equation_law.specs.declared.coding.Value.TheVariants as coded
+use Rattle.equation_law.specs.Checked.{IsNodeOf, IsValue, int, node, nodes, text, texts, truth}
+use Rattle.equation_law.specs.Codes.{AreElements, nodes_of, reference_of, value_of}
+use Rattle.equation_law.specs.Names.{At, Instance, NodeName, Source, node_cmp, text_cmp}
+use Rattle.equation_law.specs.Program.{Program, text_of}
+use Rattle.equation_law.specs.Sets.{SetBy, has, set_of}
+use Rattle.equation_law.specs.Values.{Nodes, Texts, Value}
+use Rattle.memo_cells.specs.declared.view.View.{View}
+use Rattle.memo_cells.specs.Naming.{IsElementCode}
+use Rattle.memo_cells.specs.Showing.{ShowsAtLeast, ShowsCode, has_code}
+use Rattle.memo_cells.specs.Views.{Has}
+use Rattle.set_words.specs.Raising.{set_codes}
+use Rattle.set_words.proofs.Members.{among, is_among, node_code, node_in, text_code, text_in}
+
+all_has : (P : ℕ → Type 0) (cs : List ℕ) (c : ℕ) → All P cs → Has cs c → P c
+all_has P [] c a h = absurd h
+all_has P (x ∷ cs) c a h = ⊎_elim (λ is. subst P (sym is) (All-head P x cs a)) (λ later. all_has P cs c (All-tail P x cs a) later) h
+
+-- whether a value is a set
+abbrev is_set_value : Value → Bool
+is_set_value (Texts s) = true
+is_set_value (Nodes s) = true
+is_set_value _ = false
+
+of_kind : (p : Program) (k : Kind) (v : Value) → IsValue p k v → is_single k ≡ not (is_set_value v)
+of_kind p _ _ (truth b) = refl
+of_kind p _ _ (int z h) = refl
+of_kind p _ _ (text t h) = refl
+of_kind p _ _ (node c r h) = refl
+of_kind p _ _ (texts s h) = refl
+of_kind p _ _ (nodes c s h) = refl
+
+texts_kind : (p : Program) (k : Kind) (v : Value) → IsValue p k v → (s : SetBy text_cmp) → v ≡ Texts s → k ≡ kinds.Texts
+texts_kind p _ _ (truth b) s e = cc
+texts_kind p _ _ (int z h) s e = cc
+texts_kind p _ _ (text t h) s e = cc
+texts_kind p _ _ (node c r h) s e = cc
+texts_kind p _ _ (texts t h) s e = refl
+texts_kind p _ _ (nodes c t h) s e = cc
+
+nodes_kind : (p : Program) (k : Kind) (v : Value) → IsValue p k v → (s : SetBy node_cmp) → v ≡ Nodes s → (d : ClassId) × (k ≡ kinds.Nodes d) × ((n : NodeName) → has s n ≡ true → IsNodeOf p d (At n))
+nodes_kind p _ _ (truth b) s e = cc
+nodes_kind p _ _ (int z h) s e = cc
+nodes_kind p _ _ (text t h) s e = cc
+nodes_kind p _ _ (node c r h) s e = cc
+nodes_kind p _ _ (texts t h) s e = cc
+nodes_kind p _ _ (nodes c t h) s e = let same : t ≡ s = cc in (c, refl, subst (λ (u : SetBy node_cmp). (n : NodeName) → has u n ≡ true → IsNodeOf p c (At n)) same h)
+
+not_both : {b : Bool} → b ≡ true → b ≡ false → ⊥
+not_both a b = let both = sym a ∙ b in cc
+
+module _ (p : Program) where
+  -- each code of the set is that of an element of its type
+  pub are_elements : (k : Kind) (x : CodedValue) → IsValue p k (value_of (text_of p) x) → AreElements p x → (c : ℕ) → Has (set_codes x) c → IsElementCode p k c × (has_code (text_of p) k (value_of (text_of p) x) c ≡ true)
+  are_elements k (coded.Truth b) typed good c h = absurd h
+  are_elements k (coded.Int z) typed good c h = absurd h
+  are_elements k (coded.Text n) typed good c h = absurd h
+  are_elements k (coded.Node n) typed good c h = absurd h
+  are_elements k (coded.Texts cs) typed good c h =
+      let kind = texts_kind p k (value_of (text_of p) (coded.Texts cs)) typed (set_of {R = text_cmp} (map (text_of p) cs)) refl in
+      subst (λ (j : Kind). IsElementCode p j c × (has_code (text_of p) j (value_of (text_of p) (coded.Texts cs)) c ≡ true)) (sym kind) (all_has (λ d. d < length p.texts) cs c good h, text_in (text_of p) cs c (is_among cs c h))
+  are_elements k (coded.Nodes cs) typed good c h =
+      let kind = nodes_kind p k (value_of (text_of p) (coded.Nodes cs)) typed (set_of {R = node_cmp} (nodes_of cs)) refl in
+      subst (λ (j : Kind). IsElementCode p j c × (has_code (text_of p) j (value_of (text_of p) (coded.Nodes cs)) c ≡ true)) (sym kind.1) (its kind.0 kind.2 c (all_has (λ d. 0 < d) cs c good h) h)
+    where
+      its : (d : ClassId) → ((n : NodeName) → has (set_of {R = node_cmp} (nodes_of cs)) n ≡ true → IsNodeOf p d (At n)) → (c : ℕ) → 0 < c → Has cs c → IsElementCode p (kinds.Nodes d) c × (has_code (text_of p) (kinds.Nodes d) (value_of (text_of p) (coded.Nodes cs)) c ≡ true)
+      its d of zero some h = absurd (omega (arith, some))
+      its d of (suc n) some h = let yes = node_in cs (suc n) (Source n) refl (is_among cs (suc n) h) in ((some, of (Source n) yes), yes)
+
+  -- where the words show each code, they show the set
+  pub shows_set : (v : View) (i : Instance) (k : Kind) (x : CodedValue) → IsValue p k (value_of (text_of p) x) → is_single k ≡ false → ((c : ℕ) → Has (set_codes x) c → ShowsCode p v i c) → ShowsAtLeast p v i k (value_of (text_of p) x)
+  shows_set v i k (coded.Truth b) typed set shown = absurd (not_both (of_kind p k (value_of (text_of p) (coded.Truth b)) typed) set)
+  shows_set v i k (coded.Int z) typed set shown = absurd (not_both (of_kind p k (value_of (text_of p) (coded.Int z)) typed) set)
+  shows_set v i k (coded.Text n) typed set shown = absurd (not_both (of_kind p k (value_of (text_of p) (coded.Text n)) typed) set)
+  shows_set v i k (coded.Node n) typed set shown = absurd (not_both (of_kind p k (value_of (text_of p) (coded.Node n)) typed) set)
+  shows_set v i k (coded.Texts cs) typed set shown =
+      let kind = texts_kind p k (value_of (text_of p) (coded.Texts cs)) typed (set_of {R = text_cmp} (map (text_of p) cs)) refl in
+      subst (λ (j : Kind). ShowsAtLeast p v i j (value_of (text_of p) (coded.Texts cs))) (sym kind) (λ t h. let r = text_code (text_of p) cs t h in (r.0, r.2, shown r.0 (among cs r.0 r.1)))
+  shows_set v i k (coded.Nodes cs) typed set shown =
+      let kind = nodes_kind p k (value_of (text_of p) (coded.Nodes cs)) typed (set_of {R = node_cmp} (nodes_of cs)) refl in
+      subst (λ (j : Kind). ShowsAtLeast p v i j (value_of (text_of p) (coded.Nodes cs))) (sym kind.1) (λ n h. let r = node_code cs n h in (r.0, r.2, shown r.0 (among cs r.0 r.1)))

@@ -1,0 +1,56 @@
+-- Settling an instance whose equation ended.
+use Rattle.std.proofs.Common.{◌≡◌, ℕ, inr, false, true, List, Result, Ok, Err, sym, ap, subst}
+use Rattle.equation_law.specs.declared.coding.Value.{Value as CodedValue}
+use Rattle.equation_law.specs.Checked.{IsInstance, IsProgram, IsValue}
+use Rattle.equation_law.specs.Codes.{value_of}
+use Rattle.equation_law.specs.Equations.{equations_of, kind_in}
+use Rattle.equation_law.specs.Names.{Instance}
+use Rattle.equation_law.specs.Program.{Program, text_of}
+use Rattle.equation_law.specs.Systems.{program_of}
+use Rattle.equation_law.proofs.QueryValues.{value_typed}
+use Rattle.memo_cells.specs.declared.view.Frame.{Frame}
+use Rattle.memo_cells.specs.declared.view.View.{View}
+use Rattle.memo_cells.specs.Naming.{IsCellOf, IsElementCode}
+use Rattle.memo_cells.specs.Showing.{has_code}
+use Rattle.memo_cells.specs.Views.{Has}
+use Rattle.memo_cells.specs.Working.{Held, program_at}
+use Rattle.set_words.specs.Raising.{ClaimsWords, LacksWord, MayShowAll, ShowsAll, set_codes}
+use Rattle.caller_pass.specs.declared.faults.AskFault.{AskFault}
+use Rattle.caller_pass.specs.declared.faults.AskFault.TheVariants.{CellsFull}
+use Rattle.caller_pass.specs.Answering.{AnswersShow, ClaimsKeys, FillsCells}
+use Rattle.caller_pass.specs.Knowing.{HasEnded}
+use Rattle.caller_pass.proofs.Claiming.{claims_words, fills_words}
+use Rattle.caller_pass.proofs.Elements.{are_elements, shows_set}
+use Rattle.caller_pass.proofs.Knowing.{ended_value}
+
+module _ (p : Program) (good : IsProgram p) (f : Frame) (v : View) (i : Instance) (instance : IsInstance p i) (plain : (equations_of p).circular i ≡ false) (slot : ℕ) (cell : IsCellOf p f v i slot) (x : CodedValue) (ended : HasEnded p v i x) where
+  typed : IsValue p (kind_in p i) (value_of (text_of p) x)
+  typed = value_typed p good i instance (value_of (text_of p) x) (ended_value p v i x ended)
+
+  its_elements : (c : ℕ) → Has (set_codes x) c → IsElementCode p (kind_in p i) c × (has_code (text_of p) (kind_in p i) (value_of (text_of p) x) c ≡ true)
+  its_elements = are_elements p (kind_in p i) x typed ended.elements
+
+  -- its words may show the set
+  pub may_show : MayShowAll p f v i slot (set_codes x)
+  may_show = record { cell = cell; instance = instance; value = value_of (text_of p) x; may = inr (plain, ended_value p v i x ended); elements = its_elements }
+
+  module _ (codes : List ℕ) (are : codes ≡ set_codes x) where
+    pub may_show_codes : MayShowAll p f v i slot codes
+    may_show_codes = subst (λ (cs : List ℕ). MayShowAll p f v i slot cs) (sym are) may_show
+
+    -- what was claimed, what was wanting, and what they show then, by the cells as they are then
+    module _ (e : Held) (cells : e.0 ≡ f) (same : p ≡ program_of f.system.value) where
+      back : (P : Program → Frame → Type 0) → P (program_at e) e.0 → P p f
+      back P h = subst (λ (q : Program). P q f) (sym same) (subst (λ (g : Frame). P (program_of g.system.value) g) cells h)
+
+      pub show_claims : ClaimsWords (program_at e) v e.1 i codes → ClaimsKeys p i v e.1
+      show_claims h = claims_words p i (value_of (text_of p) x) (ended_value p v i x ended) (set_codes x) its_elements v e.1 (subst (λ (cs : List ℕ). ClaimsWords p v e.1 i cs) are (back (λ q g. ClaimsWords q v e.1 i codes) h))
+
+      pub show_full : LacksWord (program_at e) e.0 e.1 i codes → FillsCells p i f e.1
+      show_full h = fills_words p i (value_of (text_of p) x) (ended_value p v i x ended) (set_codes x) its_elements f e.1 (subst (λ (cs : List ℕ). LacksWord p f e.1 i cs) are (back (λ q g. LacksWord q g e.1 i codes) h))
+
+      pub show_done : (done : Unit {0}) → ShowsAll (program_at e) e.1 i codes → AnswersShow p f e.1 i x (Ok done)
+      show_done done h set = shows_set p e.1 i (kind_in p i) x typed set (subst (λ (cs : List ℕ). ShowsAll p e.1 i cs) are (back (λ q g. ShowsAll q e.1 i codes) h))
+
+pub show_fault : (p : Program) (f : Frame) (v : View) (i : Instance) (x : CodedValue) (e : AskFault) → e ≡ CellsFull → FillsCells p i f v → AnswersShow p f v i x (Err e)
+show_fault p f v i x e is full = subst (λ (d : AskFault). AnswersShow p f v i x (Err d)) (sym is) full

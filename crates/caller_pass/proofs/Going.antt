@@ -1,0 +1,245 @@
+-- Solving on demand: what holds before each turn, and what each turn comes to.
+use Rattle.std.proofs.Common.{◌≡◌, ℕ, ◌+◌, ◌*◌, ◌<◌, ◌⊎◌, inl, inr, ⊎_elim, true, false, List, [], ◌∷◌, ◌++◌, length, map, Option, Some, None, Result, Ok, Err, refl, sym, ap, subst, ◌∙◌, arith}
+use Rattle.std.specs.Result.{IsErr, IsErrAnd}
+use Rattle.rag_io.specs.Pool.{ArePooled}
+use Rattle.solutions.specs.Leading.{none}
+use Rattle.equation_law.specs.declared.coding.Instance.{Instance as CodedInstance}
+use Rattle.equation_law.specs.Checked.{IsInstance, IsProgram}
+use Rattle.equation_law.specs.Codes.{IsCoded, instance_of}
+use Rattle.equation_law.specs.Equations.{equations_of}
+use Rattle.equation_law.specs.Loops.{Chain, HasLoop}
+use Rattle.equation_law.specs.Names.{Instance}
+use Rattle.equation_law.specs.Program.{Program}
+use Rattle.equation_law.specs.Systems.{program_of}
+use Rattle.equation_law.proofs.Solution.{loopless}
+use Rattle.memo_cells.specs.declared.view.Frame.{Frame}
+use Rattle.memo_cells.specs.declared.view.View.{View}
+use Rattle.memo_cells.specs.Naming.{ClaimsKeysTo, IsCellOf}
+use Rattle.memo_cells.specs.Standing.{IsPassOf, Knows}
+use Rattle.memo_cells.specs.Views.{Has, IsAtLeast}
+use Rattle.memo_cells.specs.Working.{GoesOn, Held, program_at}
+use Rattle.memo_cells.proofs.More.{at_least_then}
+use Rattle.memo_cells.proofs.Naming.{knows_later}
+use Rattle.circular_eval.specs.declared.local.Local.{Local}
+use Rattle.caller_pass.specs.declared.faults.AskFault.{AskFault}
+use Rattle.caller_pass.specs.declared.faults.AskFault.TheVariants.{CellsFull, Circular, Memory}
+use Rattle.caller_pass.specs.declared.solving.Went.{Went}
+use Rattle.caller_pass.specs.declared.solving.Went.TheVariants.{Further, Need, Settled}
+use Rattle.caller_pass.specs.declared.waiting.Waiter.{Waiter}
+use Rattle.caller_pass.specs.Answering.{AnswersFault, AnswersStep, ClaimsKeys, GoesThrough, IsLoop, IsNext, LeavesOne, SameWay, Solves, WayChanges, unsettled}
+use Rattle.caller_pass.specs.Waiting.{AnswersWait, AreWaiting, IsFrame, IsLineTo, IsPlaced, IsStack, IsWayOf, LooksAgain, WaitsBy, waits}
+use Rattle.caller_pass.proofs.Claiming.{claims_same, claims_then, claims_to, fills_more, fills_to}
+use Rattle.caller_pass.proofs.Falling.{measure}
+use Rattle.caller_pass.proofs.Frames.{placed_later, stack_fewer, stack_more, stack_on, stack_one, waiting_later, waiting_more}
+use Rattle.caller_pass.proofs.Knowing.{has_value}
+use Rattle.caller_pass.proofs.Lines.{chain_then, loop_of, waits_chain}
+use Rattle.caller_pass.proofs.Paid.{pays_all, pays_back, pays_first, pays_further, pays_more, top_reached}
+use Rattle.caller_pass.proofs.Paying.{AreApart, Pays}
+use Rattle.caller_pass.proofs.Turning.{falls_back, falls_further, falls_more}
+
+-- different circular instances that lead to i, and aren't known
+pub record IsOuter (p : Program) (v : View) (i : Instance) (hs : List Instance) : Type 0 where
+  pub apart : AreApart hs
+  pub unknown : (h : Instance) → Has hs h → ¬ Knows p v h
+  pub are_circular : (h : Instance) → Has hs h → (equations_of p).circular h ≡ true
+  pub leads : (h : Instance) → Has hs h → Chain p h i
+
+-- The instances of the stack wait for its top, whose turn it is; `v` is what was known at first, and `w` what is known. The evaluations are paid,
+-- unless i has a loop.
+pub record IsSolving (p : Program) (f : Frame) (v w : View) (i : Instance) (es : List (CodedInstance × Waiter)) (top : CodedInstance × Waiter) (before now : ℕ) : Type 0 where
+  pub own : IsPassOf f w
+  pub kept : IsAtLeast v w
+  pub stack : IsStack p f w i es top
+  pub claims : ClaimsKeys p i v w
+  pub paid : (hs : List Instance) → IsOuter p v i hs → HasLoop p i ⊎ Pays p w f.cells hs es top now (before + 2 * unsettled v f.cells)
+
+-- a turn of t, by the cells of which it was
+pub record WentThrough (p : Program) (f : Frame) (w u : View) (t : CodedInstance) (x y : Waiter) (before after : ℕ) (r : Result Went AskFault) : Type 0 where
+  pub own : IsPassOf f u
+  pub kept : IsAtLeast w u
+  pub claims : ClaimsKeys p (instance_of p t) w u
+  pub slot : y.slot ≡ x.slot
+  pub answer : AnswersStep p f u (instance_of p t) x.way y.way r
+  pub evals : after ≡ before + 1
+
+pub through : (d e : Held) (f : Frame) (t : CodedInstance) (x y : Waiter) (before after : ℕ) (r : Result Went AskFault) → d.0 ≡ f → GoesThrough (program_at d) d e t x y before after r → WentThrough (program_of f.system.value) f d.1 e.1 t x y before after r
+through d e f t x y before after r is h =
+    let g = subst (λ (g : Frame). GoesThrough (program_of g.system.value) (g, d.1, d.2) e t x y before after r) is h in
+    record {
+      own = subst (λ (c : Frame). IsPassOf c e.1) g.on.cells g.on.own;
+      kept = g.on.kept;
+      claims = g.claims;
+      slot = g.slot;
+      answer = g.answer;
+      evals = g.evals;
+    }
+
+-- a fault that is handed on
+pub solve_fault : (p : Program) (f : Frame) (v w : View) (i : Instance) (before after : ℕ) (e : AskFault) (r : Result Unit AskFault) → IsErr r × IsErrAnd r (λ x. x ≡ e) → ClaimsKeys p i v w → AnswersFault p f w i e → Solves p f v w i before after r
+solve_fault p f v w i before after e (Ok x) h claims a = let none = h.0 in cc
+solve_fault p f v w i before after e (Err d) h claims a = record { answer = subst (λ (y : AskFault). AnswersFault p f w i y) (sym h.1) a; claims = claims; cost = λ ok. cc }
+
+-- a loop by the line to what stands in it already
+waited_loop : (p : Program) (f g : Frame) (v u : View) (i : Instance) (es : List (CodedInstance × Waiter)) (t : CodedInstance) (x y : Waiter) (on : CodedInstance) (line : List Instance) → IsStack p f v i es (t, x) → AreWaiting p g u (es ++ (t, y) ∷ []) (instance_of p on) → ((g : Frame) (u : View) → AreWaiting p g u (es ++ (t, y) ∷ []) (instance_of p on) → IsLineTo p (es ++ (t, y) ∷ []) (instance_of p on) line) → waits (es ++ (t, y) ∷ []) on ≡ true → (equations_of p).circular (instance_of p on) ≡ false → IsLoop p i (instance_of p on) line
+waited_loop p f g v u i [] t x y on line stack waiting lines there plain =
+    let first : (t, x) ≡ stack.first = cc in
+    subst (λ (j : Instance). IsLoop p j (instance_of p on) line) (ap (λ (e : CodedInstance × Waiter). instance_of p e.0) first ∙ stack.is) (loop_of p (t, y) [] on line (lines g u waiting) there plain)
+waited_loop p f g v u i (e ∷ es) t x y on line stack waiting lines there plain =
+    let first : e ≡ stack.first = cc in
+    subst (λ (j : Instance). IsLoop p j (instance_of p on) line) (ap (λ (d : CodedInstance × Waiter). instance_of p d.0) first ∙ stack.is) (loop_of p e (es ++ (t, y) ∷ []) on line (lines g u waiting) there plain)
+
+-- before the first turn
+pub begun : (p : Program) (f : Frame) (v w : View) → p ≡ program_of f.system.value → IsPassOf f v → IsPassOf f w → IsAtLeast v w → (i : CodedInstance) (x : Waiter) → IsInstance p (instance_of p i) → IsCoded p i → (equations_of p).circular (instance_of p i) ≡ false → ¬ Knows p v (instance_of p i) → IsCellOf p f w (instance_of p i) x.slot.0 → x.way ≡ None → ClaimsKeysTo p v w (instance_of p i) → (evals : ℕ) → IsSolving p f v w (instance_of p i) [] (i, x) evals evals
+begun p f v w same own then kept i x instance coded plain unknown cell way claims evals =
+    let placed : IsPlaced p f w (i, x) = record { instance = instance; coded = coded; undeclared = plain; slot = cell } in
+    record {
+      own = then;
+      kept = kept;
+      stack = stack_one p f w i x placed way;
+      claims = claims_to p (instance_of p i) v w claims;
+      paid = λ hs out. inr (pays_first p f same v w own then kept i x unknown cell way placed hs out.apart out.unknown out.are_circular evals);
+    }
+
+module _ {p : Program} {f : Frame} {v w u : View} {i : Instance} {es : List (CodedInstance × Waiter)} {t : CodedInstance} {x y : Waiter} {before now after : ℕ} {r : Result Went AskFault} (same : p ≡ program_of f.system.value) (pooled : ArePooled p.texts) (s : IsSolving p f v w i es (t, x) before now) (g : WentThrough p f w u t x y now after r) where
+  reached : Chain p i (instance_of p t)
+  reached = top_reached p f w i es (t, x) s.stack
+
+  pub claims_now : ClaimsKeys p i v u
+  claims_now = claims_then p i (instance_of p t) v w u reached s.claims g.kept g.claims
+
+  pub kept_now : IsAtLeast v u
+  kept_now = at_least_then s.kept g.kept
+
+  -- a fault
+  pub step_fault : (e : AskFault) → AnswersStep p f u (instance_of p t) x.way y.way (Err e) → AnswersFault p f u i e
+  step_fault (Circular on chain) a = absurd a
+  step_fault CellsFull a = fills_more p i (instance_of p t) f u reached a
+  step_fault Memory a = tt
+
+  -- it waits for a local set now, or doesn't any more
+  module _ (changes : WayChanges p f u (instance_of p t) x.way y.way) where
+    way_of : (old new : Option Local) → WayChanges p f u (instance_of p t) old new → IsWayOf p f u (instance_of p t) new
+    way_of None None h = absurd h
+    way_of None (Some l) h = h
+    way_of (Some l) None h = tt
+    way_of (Some l) (Some m) h = absurd h
+
+    stack_further : IsStack p f u i es (t, y)
+    stack_further = stack_on p f w u g.kept i es t x s.stack y g.slot (way_of x.way y.way changes)
+
+    pub went_further : IsSolving p f v u i es (t, y) before after
+    went_further = record {
+      own = g.own;
+      kept = kept_now;
+      stack = stack_further;
+      claims = claims_now;
+      paid = λ hs out. ⊎_elim inl (λ pays. subst (λ (n : ℕ). HasLoop p i ⊎ Pays p u f.cells hs es (t, y) n (before + 2 * unsettled v f.cells)) (sym g.evals) (pays_further p f same pooled w u s.own g.own g.kept i hs out.leads es t x s.stack now (before + 2 * unsettled v f.cells) pays y g.slot stack_further changes)) (s.paid hs out);
+    }
+
+    pub fell_further : measure u es (t, y) f.cells < measure w es (t, x) f.cells
+    fell_further = falls_further p f same pooled w u s.own g.own g.kept i es t x s.stack y g.slot changes
+
+  -- it waits for another one
+  module _ (n : CodedInstance) (next : IsNext p f u (instance_of p t) y.way n) (ways : SameWay x.way y.way) where
+    pub waiting_now : AreWaiting p f u (es ++ (t, y) ∷ []) (instance_of p n)
+    waiting_now = waiting_more p f u es (t, y) (instance_of p n) (waiting_later p f w u g.kept es (instance_of p t) s.stack.waiting) next.waits
+
+    next_reached : Chain p i (instance_of p n)
+    next_reached = chain_then p reached (waits_chain p f u (instance_of p t) y.way (instance_of p n) next.waits)
+
+    module _ {o : View} (own : IsPassOf f o) (later : IsAtLeast u o) (claims : ClaimsKeysTo p u o (instance_of p n)) where
+      pub claims_more : ClaimsKeys p i v o
+      claims_more = claims_then p i (instance_of p n) v u o next_reached claims_now later (claims_to p (instance_of p n) u o claims)
+
+      -- a fault
+      pub wait_fault : (new : List (CodedInstance × Waiter)) (e : AskFault) → AnswersWait p f o (es ++ (t, y) ∷ []) n new (Err e) → AnswersFault p f o i e
+      wait_fault new (Circular on chain) a =
+          let loop = waited_loop p f f w u i es t x y n (map (instance_of p) chain) s.stack waiting_now a.2 a.1 next.undeclared in
+          subst (λ (c : CodedInstance). IsLoop p i (instance_of p c) (map (instance_of p) chain)) (sym a.0) loop
+      wait_fault new CellsFull a = fills_more p i (instance_of p n) f o next_reached (fills_to p (instance_of p n) f o a)
+      wait_fault new Memory a = tt
+
+      -- the next one is on top
+      module _ (z : Waiter) (cell : IsCellOf p f o (instance_of p n) z.slot.0) (way : z.way ≡ None) (free : waits (es ++ (t, y) ∷ []) n ≡ false) where
+        placed : IsPlaced p f o (n, z)
+        placed = record { instance = next.instance; coded = next.coded; undeclared = next.undeclared; slot = cell }
+
+        unknown : ¬ Knows p w (instance_of p n)
+        unknown k = next.unknown (knows_later w u g.kept p (instance_of p n) k)
+
+        stack_next : IsStack p f o i (es ++ (t, y) ∷ []) (n, z)
+        stack_next = stack_more p f w u g.kept i es t x s.stack o later y g.slot n z next.waits (record { placed = placed; way = subst (λ (q : Option Local). IsWayOf p f o (instance_of p n) q) (sym way) tt }) free
+
+        went_next : IsSolving p f v o i (es ++ (t, y) ∷ []) (n, z) before after
+        went_next = record {
+          own = own;
+          kept = at_least_then kept_now later;
+          stack = stack_next;
+          claims = claims_more;
+          paid = λ hs out. ⊎_elim inl (λ pays. inr (subst (λ (m : ℕ). Pays p o f.cells hs (es ++ (t, y) ∷ []) (n, z) m (before + 2 * unsettled v f.cells)) (sym g.evals) (pays_more p f same pooled w o s.own own (at_least_then g.kept later) i hs out.leads es t x s.stack now (before + 2 * unsettled v f.cells) pays y g.slot ways n z unknown stack_next))) (s.paid hs out);
+        }
+
+        fell_next : measure o (es ++ (t, y) ∷ []) (n, z) f.cells < measure w es (t, x) f.cells
+        fell_next = falls_more p f same pooled w o s.own own (at_least_then g.kept later) i es t x s.stack y g.slot n z way unknown placed free
+
+        pub went_more : (new : List (CodedInstance × Waiter)) → new ≡ es ++ (t, y) ∷ [] → IsSolving p f v o i new (n, z) before after
+        went_more new is = subst (λ l. IsSolving p f v o i l (n, z) before after) (sym is) went_next
+
+        pub fell_more : (new : List (CodedInstance × Waiter)) → new ≡ es ++ (t, y) ∷ [] → measure o new (n, z) f.cells < measure w es (t, x) f.cells
+        fell_more new is = subst (λ l. measure o l (n, z) f.cells < measure w es (t, x) f.cells) (sym is) fell_next
+
+  -- it is settled
+  module _ (known : Knows p u (instance_of p t)) (way : x.way ≡ None) where
+    -- the one that waited for it is on top again
+    module _ {o : View} (own : IsPassOf f o) (later : IsAtLeast u o) (quiet : o.claims ≡ u.claims) (ds : List (CodedInstance × Waiter)) (last : CodedInstance × Waiter) (is : es ≡ ds ++ last ∷ []) (free : waits ds last.0 ≡ false) (z : Waiter) (looks : LooksAgain p o last.1 z) where
+      then_kept : IsAtLeast w o
+      then_kept = at_least_then g.kept later
+
+      stack_back : IsStack p f o i ds (last.0, z)
+      stack_back = stack_fewer p f w o then_kept i es t x s.stack ds last is free z looks
+
+      pub went_back : IsSolving p f v o i ds (last.0, z) before after
+      went_back = record {
+        own = own;
+        kept = at_least_then kept_now later;
+        stack = stack_back;
+        claims = claims_then p i i v u o none claims_now later (claims_same p i u o quiet);
+        paid = λ hs out. ⊎_elim inl (λ pays. inr (subst (λ (m : ℕ). Pays p o f.cells hs ds (last.0, z) m (before + 2 * unsettled v f.cells)) (sym g.evals) (pays_back p f same pooled w o s.own own then_kept i hs out.leads es t x s.stack now (before + 2 * unsettled v f.cells) pays (knows_later u o later p (instance_of p t) known) way ds last is z looks stack_back))) (s.paid hs out);
+      }
+
+      pub fell_back : measure o ds (last.0, z) f.cells < measure w es (t, x) f.cells
+      fell_back = falls_back p f same pooled w o s.own own then_kept i es t x s.stack (knows_later u o later p (instance_of p t) known) way ds last is z looks.slot
+
+    -- it is the one that was asked for
+    module _ (empty : es ≡ []) where
+      it_is : instance_of p t ≡ i
+      it_is =
+          let starts : (t, x) ∷ [] ≡ s.stack.first ∷ s.stack.rest = ap (λ l. l ++ (t, x) ∷ []) (sym empty) ∙ s.stack.starts in
+          let first : (t, x) ≡ s.stack.first = cc in
+          ap (λ (e : CodedInstance × Waiter). instance_of p e.0) first ∙ s.stack.is
+
+      all_known : Knows p u i
+      all_known = subst (λ (j : Instance). Knows p u j) it_is known
+
+      -- so it has no loop
+      total : (hs : List Instance) → IsOuter p v i hs → ((h : Instance) → Has hs h → Knows p u h) → after + 2 * unsettled u f.cells + length hs < before + 2 * unsettled v f.cells
+      total hs out outer_known = ⊎_elim
+          (λ loop. (let value = has_value p f u same g.own i all_known in absurd (loopless p i value.0 value.1 loop)))
+          (λ pays. subst (λ (m : ℕ). m + 2 * unsettled u f.cells + length hs < before + 2 * unsettled v f.cells) (sym g.evals) (pays_all p f same pooled w u s.own g.own g.kept i hs out.leads es t x s.stack now (before + 2 * unsettled v f.cells) pays known way empty outer_known))
+          (s.paid hs out)
+
+      pub solved_all : (done : Unit {0}) → Solves p f v u i before after (Ok done)
+      solved_all done =
+          let cheap = total [] (record { apart = tt; unknown = λ h there. absurd there; are_circular = λ h there. absurd there; leads = λ h there. absurd there }) (λ h there. absurd there) in
+          record { answer = all_known; claims = claims_now; cost = λ ok. omega (arith, cheap) }
+
+      pub leaves_one : LeavesOne p f v u i before after
+      leaves_one h leads its unknown later =
+          let one : IsOuter p v i (h ∷ []) = record {
+            apart = ((λ no. no), tt);
+            unknown = λ j there. ⊎_elim (λ at. subst (λ (k : Instance). ¬ Knows p v k) (sym at) unknown) absurd there;
+            are_circular = λ j there. ⊎_elim (λ at. subst (λ (k : Instance). (equations_of p).circular k ≡ true) (sym at) its) absurd there;
+            leads = λ j there. ⊎_elim (λ at. subst (λ (k : Instance). Chain p k i) (sym at) leads) absurd there;
+          } in
+          let cheap = total (h ∷ []) one (λ j there. ⊎_elim (λ at. subst (λ (k : Instance). Knows p u k) (sym at) later) absurd there) in
+          omega (arith, cheap)

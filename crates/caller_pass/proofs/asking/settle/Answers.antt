@@ -1,0 +1,14 @@
+use Rattle.std.proofs.Common.{◌≡◌, true, false, sym, ap, subst, ◌∙◌}
+use Rattle.equation_law.specs.declared.system.System.{System}
+use Rattle.equation_law.specs.Codes.{instance_of}
+use Rattle.equation_law.specs.Equations.{is_declared}
+use Rattle.equation_law.specs.Systems.{program_of}
+use Rattle.equation_law.proofs.Declared.{as_declared}
+use Rattle.memo_cells.specs.Working.{Held, program_at}
+use Rattle.caller_pass.proofs.asking.settle.Goals as goal
+
+pub close-requires-clause-is_circular : goal.close-requires-clause-is_circular
+close-requires-clause-is_circular g c = as_declared (program_at c.args.desk.now) c.requires.program (instance_of (program_at c.args.desk.now) c.args.i) c.requires.instance ∙ subst (λ (s : System). is_declared (program_of s) (instance_of (program_of s) c.args.i) ≡ true) (sym c.desk.invariant.1 ∙ ap (λ (h : Held). h.0.system.value) c.desk.view_is) (sym c.is_declared.ensures ∙ c.if-is_declared.true)
+
+pub solve-requires-clause-undeclared : goal.solve-requires-clause-undeclared
+solve-requires-clause-undeclared g c = as_declared (program_at c.args.desk.now) c.requires.program (instance_of (program_at c.args.desk.now) c.args.i) c.requires.instance ∙ subst (λ (s : System). is_declared (program_of s) (instance_of (program_of s) c.args.i) ≡ false) (sym c.desk.invariant.1 ∙ ap (λ (h : Held). h.0.system.value) c.desk.view_is) (sym c.is_declared.ensures ∙ c.if-is_declared.false)

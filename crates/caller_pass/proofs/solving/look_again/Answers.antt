@@ -1,0 +1,27 @@
+use Rattle.std.proofs.Common.{None, refl, sym, ap, subst, ◌∙◌}
+use Rattle.memo_cells.specs.Working.{Held, IsOwn, ReadsOn, program_at}
+use Rattle.memo_cells.proofs.More.{at_least_itself}
+use Rattle.caller_pass.specs.declared.waiting.Waiter.{Waiter}
+use Rattle.caller_pass.specs.Waiting.{LooksAgain}
+use Rattle.caller_pass.proofs.Frames.{looked_known}
+use Rattle.caller_pass.proofs.solving.look_again.Goals.{in-None, in-Some}
+use Rattle.caller_pass.proofs.solving.look_again.Goals as goal
+
+still : (d : Held) → IsOwn d → ReadsOn d d
+still d own = record { on = record { cells = refl; lender = refl; own = own; kept = at_least_itself d.1 }; claims = refl }
+
+pub returns-else-known-clause-on : goal.returns-else-known-clause-on
+returns-else-known-clause-on c = elim c.match-waiter.branch [
+  | in-None w ↦ subst (λ (d : Held). ReadsOn c.args.desk.now d) (sym w.desk-is) (still c.args.desk.now c.requires.own)
+  | in-Some w ↦ subst (λ (d : Held). ReadsOn c.args.desk.now d) (sym w.desk-is) w.settled_code.ensures.on
+]
+
+pub returns-then-known-clause-looked : goal.returns-then-known-clause-looked
+returns-then-known-clause-looked c = elim c.match-waiter.branch [
+  | in-None w ↦ let no = sym w.known-is ∙ c.if-known.true in cc
+  | in-Some w ↦
+      let d = c.args.desk.now in
+      let p = program_at d in
+      let there = sym w.is_some-known.ensures ∙ sym w.known-is ∙ c.if-known.true in
+      subst (λ (x : Waiter). LooksAgain p c.match-waiter.desk.1 c.args.waiter.now (record { slot = x.slot; way = None })) (sym w.waiter-is) (looked_known p w.settled_code.new.self.0 w.settled_code.new.self.1 c.match-waiter.desk.1 (ap (λ (e : Held). e.1) w.desk-is) c.args.waiter.now w.in-Some.local w.in-Some.is w.first.result w.first.ensures w.settled_code.result there w.settled_code.ensures.known)
+]

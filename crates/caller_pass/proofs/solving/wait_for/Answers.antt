@@ -1,0 +1,29 @@
+use Rattle.std.proofs.Common.{List, map, refl, sym, ap, subst, ◌∙◌}
+use Rattle.equation_law.specs.declared.coding.Instance.{Instance as CodedInstance}
+use Rattle.equation_law.specs.Codes.{instance_of}
+use Rattle.memo_cells.specs.declared.view.Frame.{Frame}
+use Rattle.memo_cells.specs.Naming.{IsCellOf}
+use Rattle.memo_cells.specs.Working.{program_at}
+use Rattle.caller_pass.specs.declared.waiting.Waiter.{Waiter}
+use Rattle.caller_pass.specs.Waiting.{AreWaiting, IsLineTo, waits}
+use Rattle.caller_pass.proofs.solving.wait_for.Goals as goal
+
+pub returns-then-contains-clause-answer : goal.returns-then-contains-clause-answer
+returns-then-contains-clause-answer c =
+    let p = program_at c.args.desk.now in
+    let pushed = c.in_ok-push.ensures in (
+      refl,
+      ap (λ es. waits es c.args.next) (sym pushed) ∙ sym c.contains.ensures ∙ c.if-contains.true,
+      λ g u w. subst (λ (es : List (CodedInstance × Waiter)). IsLineTo p es (instance_of p c.args.next) (map (instance_of p) c.in_ok-chain.chain)) pushed
+          (c.in_ok-chain.ensures p g u (subst (λ (es : List (CodedInstance × Waiter)). AreWaiting p g u es (instance_of p c.args.next)) (sym pushed) w)),
+    )
+
+pub returns-clause-answer : goal.returns-clause-answer
+returns-clause-answer c =
+    let p = program_at c.args.desk.now in
+    let pushed = c.in_ok-push.ensures in (
+      pushed,
+      subst (λ (f : Frame). IsCellOf p f c.claim_cell.new.self.1 (instance_of p c.args.next) c.in_ok-slot.slot.0) c.claim_cell.ensures.on.cells c.in_ok-slot.ensures.slot,
+      refl,
+      ap (λ es. waits es c.args.next) (sym pushed) ∙ sym c.contains.ensures ∙ c.if-contains.false,
+    )

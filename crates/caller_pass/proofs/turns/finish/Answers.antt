@@ -1,0 +1,48 @@
+use Rattle.std.proofs.Common.{◌≡◌, ap, sym, subst, ◌∙◌}
+use Rattle.equation_law.specs.declared.system.System.{System}
+use Rattle.attr_rules.specs.declared.kinds.Kind.{Kind}
+use Rattle.attr_rules.specs.Rules.{is_single}
+use Rattle.equation_law.specs.Codes.{instance_of, value_of}
+use Rattle.equation_law.specs.Equations.{kind_in}
+use Rattle.equation_law.specs.Program.{text_of}
+use Rattle.equation_law.specs.Systems.{program_of}
+use Rattle.equation_law.proofs.Pooled.{first_text}
+use Rattle.memo_cells.specs.declared.view.Frame.{Frame}
+use Rattle.memo_cells.specs.Naming.{IsCellOf}
+use Rattle.memo_cells.specs.Showing.{ShowsAtLeast}
+use Rattle.memo_cells.specs.Standing.{Knows, MaySettle}
+use Rattle.memo_cells.specs.Working.{Held, program_at}
+use Rattle.memo_cells.proofs.Naming.{cell_later}
+use Rattle.solutions.specs.Leading.{none}
+use Rattle.caller_pass.proofs.Claiming.{claims_same, claims_then}
+use Rattle.caller_pass.proofs.Knowing.{may_settle}
+use Rattle.caller_pass.proofs.turns.finish.Goals as goal
+
+pub settle-requires-clause-code : goal.settle-requires-clause-code
+settle-requires-clause-code c =
+    let d = c.args.desk.now in
+    let e = c.show.new.desk in
+    let p = program_at d in
+    let i = instance_of p c.args.i in
+    let on = c.in_ok-show.ensures.on in
+    let kinds = subst (λ (s : System). c.kind_of-kind.result ≡ kind_in (program_of s) (instance_of (program_of s) c.args.i)) (sym c.desk.invariant.1 ∙ ap (λ (x : Held). x.0.system.value) c.desk.view_is ∙ ap (λ (g : Frame). g.system.value) on.cells) c.kind_of-kind.ensures in
+    subst (λ (g : Frame). MaySettle (program_of g.system.value) e.1 c.args.slot.0 c.code.result) (sym on.cells)
+    (may_settle p d.0 d.1 e.1 i c.args.slot.0 c.code.result c.kind_of-kind.result c.args.value.now on.kept (cell_later d.1 e.1 on.kept p d.0 i c.args.slot.0 c.requires.slot) c.requires.ended c.requires.undeclared kinds (c.code.ensures.value (text_of p) (first_text d.0.system.value)) c.code.ensures.small c.code.type_inv
+    (λ single. subst (λ (k : Kind). ShowsAtLeast p e.1 i k (value_of (text_of p) c.args.value.now)) (sym kinds) (c.in_ok-show.ensures.answer (ap is_single (sym kinds) ∙ single))))
+
+pub returns-clause-claims : goal.returns-clause-claims
+returns-clause-claims c =
+    let d = c.args.desk.now in
+    let p = program_at d in
+    let i = instance_of p c.args.i in
+    claims_then p i i d.1 c.show.new.desk.1 c.settle.new.self.1 none c.in_ok-show.ensures.claims c.settle.ensures.on.on.kept (claims_same p i c.show.new.desk.1 c.settle.new.self.1 c.settle.ensures.on.claims)
+
+pub returns-clause-answer : goal.returns-clause-answer
+returns-clause-answer c =
+    let d = c.args.desk.now in
+    let e = c.show.new.desk in
+    let p = program_at d in
+    let i = instance_of p c.args.i in
+    let on = c.in_ok-show.ensures.on in
+    subst (λ (g : Frame). Knows (program_of g.system.value) c.settle.new.self.1 i) on.cells
+    (c.settle.ensures.known i (subst (λ (g : Frame). IsCellOf (program_of g.system.value) g e.1 i c.args.slot.0) (sym on.cells) (cell_later d.1 e.1 on.kept p d.0 i c.args.slot.0 c.requires.slot)))

@@ -1,0 +1,49 @@
+use Rattle.std.proofs.Common.{refl, Result, ◌∙◌, ◌≡◌}
+use Rattle.equation_law.specs.Codes.{instance_of}
+use Rattle.memo_cells.specs.Working.{program_at}
+use Rattle.caller_pass.specs.declared.faults.AskFault.{AskFault}
+use Rattle.caller_pass.specs.declared.faults.AskFault.TheVariants.{CellsFull}
+use Rattle.caller_pass.specs.Answering.{AnswersShow}
+use Rattle.caller_pass.proofs.Finishing.{may_show_codes, show_claims, show_done, show_fault, show_full}
+use Rattle.caller_pass.proofs.Stepping.{err_is}
+use Rattle.caller_pass.proofs.turns.show.Goals as goal
+
+pub raise_codes-requires-clause-may : goal.raise_codes-requires-clause-may
+raise_codes-requires-clause-may c =
+    let d = c.args.desk.now in
+    let i = instance_of (program_at d) c.args.i in
+    (i, may_show_codes (program_at d) c.requires.program d.0 d.1 i c.requires.instance c.requires.undeclared c.args.slot.0 c.requires.slot c.args.value.now c.requires.ended c.deref.result.now (c.deref.ensures.value ∙ c.in_ok-codes.ensures))
+
+pub returns-in_err-raise_codes-clause-claims : goal.returns-in_err-raise_codes-clause-claims
+returns-in_err-raise_codes-clause-claims c =
+    let d = c.args.desk.now in
+    let i = instance_of (program_at d) c.args.i in
+    let are = c.deref.ensures.value ∙ c.in_ok-codes.ensures in
+    let may = may_show_codes (program_at d) c.requires.program d.0 d.1 i c.requires.instance c.requires.undeclared c.args.slot.0 c.requires.slot c.args.value.now c.requires.ended c.deref.result.now are in
+    show_claims (program_at d) c.requires.program d.0 d.1 i c.requires.instance c.requires.undeclared c.args.slot.0 c.requires.slot c.args.value.now c.requires.ended c.deref.result.now are c.raise_codes.new.work c.in_err-raise_codes.ensures.on.cells refl (c.in_err-raise_codes.ensures.claims i may)
+
+pub returns-in_err-raise_codes-clause-answer : goal.returns-in_err-raise_codes-clause-answer
+returns-in_err-raise_codes-clause-answer c =
+    let d = c.args.desk.now in
+    let p = program_at d in
+    let i = instance_of p c.args.i in
+    let are = c.deref.ensures.value ∙ c.in_ok-codes.ensures in
+    let may = may_show_codes p c.requires.program d.0 d.1 i c.requires.instance c.requires.undeclared c.args.slot.0 c.requires.slot c.args.value.now c.requires.ended c.deref.result.now are in
+    let full = show_full p c.requires.program d.0 d.1 i c.requires.instance c.requires.undeclared c.args.slot.0 c.requires.slot c.args.value.now c.requires.ended c.deref.result.now are c.raise_codes.new.work c.in_err-raise_codes.ensures.on.cells refl (c.in_err-raise_codes.ensures.full i may) in
+    err_is (AnswersShow p d.0 c.raise_codes.new.work.1 i c.args.value.now) (λ (e : AskFault). e ≡ CellsFull) c.from_residual-in_err-raise_codes.result c.from_residual-in_err-raise_codes.ensures (λ e is. show_fault p d.0 c.raise_codes.new.work.1 i c.args.value.now e is full)
+
+pub returns-clause-claims : goal.returns-clause-claims
+returns-clause-claims c =
+    let d = c.args.desk.now in
+    let i = instance_of (program_at d) c.args.i in
+    let are = c.deref.ensures.value ∙ c.in_ok-codes.ensures in
+    let may = may_show_codes (program_at d) c.requires.program d.0 d.1 i c.requires.instance c.requires.undeclared c.args.slot.0 c.requires.slot c.args.value.now c.requires.ended c.deref.result.now are in
+    show_claims (program_at d) c.requires.program d.0 d.1 i c.requires.instance c.requires.undeclared c.args.slot.0 c.requires.slot c.args.value.now c.requires.ended c.deref.result.now are c.raise_codes.new.work c.in_ok-raise_codes.ensures.on.cells refl (c.in_ok-raise_codes.ensures.claims i may)
+
+pub returns-clause-answer : goal.returns-clause-answer
+returns-clause-answer c =
+    let d = c.args.desk.now in
+    let i = instance_of (program_at d) c.args.i in
+    let are = c.deref.ensures.value ∙ c.in_ok-codes.ensures in
+    let may = may_show_codes (program_at d) c.requires.program d.0 d.1 i c.requires.instance c.requires.undeclared c.args.slot.0 c.requires.slot c.args.value.now c.requires.ended c.deref.result.now are in
+    show_done (program_at d) c.requires.program d.0 d.1 i c.requires.instance c.requires.undeclared c.args.slot.0 c.requires.slot c.args.value.now c.requires.ended c.deref.result.now are c.raise_codes.new.work c.in_ok-raise_codes.ensures.on.cells refl tt (c.in_ok-raise_codes.ensures.shown i may)

@@ -1,0 +1,234 @@
+// Settling an instance on demand, with an explicit stack of what waits.
+ghost use Rattle.std.specs.Prelude.{◌≡◌, ◌++◌, ◌∷◌, [], false, true, IfOk, IsOk};
+ghost use Rattle.circular_eval.specs.Advancing.{IsMissing};
+ghost use Rattle.circular_eval.specs.Local.{IsLocal};
+ghost use Rattle.equation_law.specs.Checked.{IsInstance, IsProgram};
+ghost use Rattle.equation_law.specs.Codes.{IsCoded, instance_of};
+ghost use Rattle.equation_law.specs.Equations.{equations_of};
+ghost use Rattle.memo_cells.specs.Naming.{ClaimsKeysTo};
+ghost use Rattle.memo_cells.specs.Standing.{Knows};
+ghost use Rattle.memo_cells.specs.Working.{GoesOn, IsOwn, ReadsOn, program_at};
+ghost use Rattle.caller_pass.specs.Answering.{ClosesMore, GoesThrough, LeavesOne, Solves, SolvesFor};
+ghost use Rattle.caller_pass.specs.Waiting.{AnswersWait, IsBehind, IsFrame, LooksAgain, waits};
+
+use crate::desk::Desk;
+use crate::evals::Steps;
+use crate::faults::AskFault;
+use crate::turns::{finish, go_on, is_declared, turn};
+use crate::waiting::{Waiter, Waiting, push_all, push_path};
+use circular_eval::{CircTurn, Local};
+use equation_law::{Chain, Instance};
+use expr_eval::Turn;
+use rag_io::Memory;
+use std::alloc::Global;
+use std::sync::ledger::Ledger;
+
+/// What a turn comes to.
+#[derive(Clone, Copy, Debug, PartialEq, Eq)]
+pub(crate) enum Went {
+    /// The cell of the instance is settled.
+    Settled,
+    /// The instance waits for a local set now, or doesn't any more.
+    Further,
+    /// An instance that isn't circular has to be settled first.
+    Need(Instance),
+}
+
+/// One turn of an instance that isn't circular: its local set goes on, if it waits for one, or else its equation is evaluated.
+fn step<L: Ledger>(
+    alloc: Global,
+    desk: &mut Desk<'_>,
+    i: Instance,
+    waiter: &mut Waiter,
+    evals: &mut Steps<L>,
+) -> Result<Went, AskFault>
+    requires program { IsProgram (program_at desk.old) }
+    requires frame { IsFrame (program_at desk.old) desk.old.0 desk.old.1 (i, waiter.old) }
+    ensures went { GoesThrough (program_at desk.old) desk.old desk.new i waiter.old waiter.new evals.old evals.new result }
+{
+    if let Some(local) = &mut waiter.way {
+        return match go_on(alloc, desk, local, evals)? {
+            CircTurn::Need(next) => Ok(Went::Need(next)),
+            CircTurn::Closed => {
+                waiter.way = None;
+                Ok(Went::Further)
+            }
+        };
+    }
+    match turn(alloc, desk, i, evals)? {
+        Turn::Done(value) => {
+            finish(alloc, desk, i, waiter.slot, &value)?;
+            Ok(Went::Settled)
+        }
+        Turn::Need(next) => {
+            if !is_declared(desk.system, &next) {
+                return Ok(Went::Need(next));
+            }
+            waiter.way = Some(Local::start(alloc, next)?);
+            Ok(Went::Further)
+        }
+    }
+}
+
+/// Lets an instance wait for the value of another one, to which it leads, and answers how that one stands.
+fn wait_for(
+    alloc: Global,
+    desk: &mut Desk<'_>,
+    waiting: &mut Waiting,
+    last: (Instance, Waiter),
+    next: Instance,
+) -> Result<Waiter, AskFault>
+    requires next { IsInstance (program_at desk.old) (instance_of (program_at desk.old) next) }
+    requires coded { IsCoded (program_at desk.old) next }
+    requires own { IsOwn desk.old }
+    requires other { waits waiting.old last.0 ≡ false }
+    ensures on { GoesOn desk.old desk.new }
+    ensures claims { ClaimsKeysTo (program_at desk.old) desk.old.1 desk.new.1 (instance_of (program_at desk.old) next) }
+    ensures answer { AnswersWait (program_at desk.old) desk.old.0 desk.new.1 (waiting.old ++ last ∷ []) next waiting.new result }
+{
+    let (top, waiter) = last;
+    waiting.push(top, waiter)?;
+    if waiting.contains(next) {
+        let chain = waiting.chain(alloc, next)?;
+        return Err(AskFault::Circular { on: next, chain });
+    }
+    let slot = desk.claim_cell(next)?;
+    Ok(Waiter { slot, way: None })
+}
+
+/// Where the local set through which an instance waits begins with one that was sealed meanwhile, it doesn't wait for that any more.
+fn look_again(desk: &mut Desk<'_>, waiter: &mut Waiter)
+    requires own { IsOwn desk.old }
+    ensures on { ReadsOn desk.old desk.new }
+    ensures looked { LooksAgain (program_at desk.old) desk.new.1 waiter.old waiter.new }
+{
+    let known = match &waiter.way {
+        None => false,
+        Some(local) => desk.settled_code(local.first()).is_some(),
+    };
+    if known {
+        waiter.way = None;
+    }
+}
+
+/// Settles the cell of an instance that isn't circular. What is demanded for it waits in an explicit stack, each instance with its slot, and
+/// with the local set through which it waits where it demands a circular one.
+pub(crate) fn solve<L: Ledger>(
+    alloc: Global,
+    desk: &mut Desk<'_>,
+    i: Instance,
+    evals: &mut Steps<L>,
+) -> Result<(), AskFault>
+    requires program { IsProgram (program_at desk.old) }
+    requires own { IsOwn desk.old }
+    requires instance { IsInstance (program_at desk.old) (instance_of (program_at desk.old) i) }
+    requires coded { IsCoded (program_at desk.old) i }
+    requires undeclared { (equations_of (program_at desk.old)).circular (instance_of (program_at desk.old) i) ≡ false }
+    requires unknown { ¬ Knows (program_at desk.old) desk.old.1 (instance_of (program_at desk.old) i) }
+    ensures on { GoesOn desk.old desk.new }
+    ensures solved { Solves (program_at desk.old) desk.old.0 desk.old.1 desk.new.1 (instance_of (program_at desk.old) i) evals.old evals.new result }
+    ensures outer { IsOk result → LeavesOne (program_at desk.old) desk.old.0 desk.old.1 desk.new.1 (instance_of (program_at desk.old) i) evals.old evals.new }
+{
+    let mut waiting = Waiting::new(alloc);
+    let mut top = i;
+    let mut waiter = Waiter {
+        slot: desk.claim_cell(i)?,
+        way: None,
+    };
+    'turns: loop {
+        match step(alloc, desk, top, &mut waiter, evals)? {
+            Went::Further => {}
+            Went::Need(next) => {
+                waiter = wait_for(alloc, desk, &mut waiting, (top, waiter), next)?;
+                top = next;
+            }
+            Went::Settled => match waiting.pop() {
+                None => return Ok(()),
+                Some(last) => {
+                    (top, waiter) = last;
+                    look_again(desk, &mut waiter);
+                }
+            },
+        }
+    }
+}
+
+/// The chain of a fault, led to by what a local set leads to the first of it by.
+fn behind(alloc: Global, local: &Local, chain: &Chain) -> Result<Chain, Memory>
+    ensures { IfOk result (λ whole. IsBehind local.now chain.now whole) }
+{
+    let mut list = Vec::new(alloc);
+    push_path(alloc, &mut list, local)?;
+    push_all(&mut list, chain.list())?;
+    Ok(Chain::new(list))
+}
+
+/// Settles what a local set needs.
+fn solve_for<L: Ledger>(
+    alloc: Global,
+    desk: &mut Desk<'_>,
+    local: &Local,
+    next: Instance,
+    evals: &mut Steps<L>,
+) -> Result<(), AskFault>
+    requires program { IsProgram (program_at desk.old) }
+    requires own { IsOwn desk.old }
+    requires local { IsLocal (program_at desk.old) desk.old.0 desk.old.1 local.now }
+    requires missing { IsMissing (program_at desk.old) desk.old.1 local.now next }
+    ensures on { GoesOn desk.old desk.new }
+    ensures solved { SolvesFor (program_at desk.old) desk.old.0 desk.old.1 desk.new.1 local.now (instance_of (program_at desk.old) next) evals.old evals.new result }
+{
+    match solve(alloc, desk, next, evals) {
+        Ok(()) => Ok(()),
+        Err(AskFault::Circular { on, chain }) => {
+            let chain = behind(alloc, local, &chain)?;
+            Err(AskFault::Circular { on, chain })
+        }
+        Err(AskFault::CellsFull) => Err(AskFault::CellsFull),
+        Err(AskFault::Memory) => Err(AskFault::Memory),
+    }
+}
+
+/// Goes on with a local set, and settles what it needs.
+fn close_more<L: Ledger>(
+    alloc: Global,
+    desk: &mut Desk<'_>,
+    local: &mut Local,
+    evals: &mut Steps<L>,
+) -> Result<(), AskFault>
+    requires program { IsProgram (program_at desk.old) }
+    requires own { IsOwn desk.old }
+    requires local { IsLocal (program_at desk.old) desk.old.0 desk.old.1 local.old }
+    requires unknown { ¬ Knows (program_at desk.old) desk.old.1 (instance_of (program_at desk.old) local.old.start) }
+    ensures on { GoesOn desk.old desk.new }
+    ensures local { IsLocal (program_at desk.old) desk.old.0 desk.new.1 local.new × (local.new.start ≡ local.old.start) }
+    ensures more { ClosesMore (program_at desk.old) desk.old.0 desk.old.1 desk.new.1 (instance_of (program_at desk.old) local.old.start) evals.old evals.new result }
+{
+    match go_on(alloc, desk, local, evals)? {
+        CircTurn::Closed => Ok(()),
+        CircTurn::Need(next) => solve_for(alloc, desk, local, next, evals),
+    }
+}
+
+/// Seals a circular instance.
+pub(crate) fn close<L: Ledger>(
+    alloc: Global,
+    desk: &mut Desk<'_>,
+    i: Instance,
+    evals: &mut Steps<L>,
+) -> Result<(), AskFault>
+    requires program { IsProgram (program_at desk.old) }
+    requires own { IsOwn desk.old }
+    requires instance { IsInstance (program_at desk.old) (instance_of (program_at desk.old) i) }
+    requires coded { IsCoded (program_at desk.old) i }
+    requires is_circular { (equations_of (program_at desk.old)).circular (instance_of (program_at desk.old) i) ≡ true }
+    requires unknown { ¬ Knows (program_at desk.old) desk.old.1 (instance_of (program_at desk.old) i) }
+    ensures on { GoesOn desk.old desk.new }
+    ensures solved { Solves (program_at desk.old) desk.old.0 desk.old.1 desk.new.1 (instance_of (program_at desk.old) i) evals.old evals.new result }
+{
+    let mut local = Local::start(alloc, i)?;
+    'closing: while desk.settled_code(i).is_none() {
+        close_more(alloc, desk, &mut local, evals)?;
+    }
+    Ok(())
+}

@@ -1,0 +1,172 @@
+-- Making a circular instance a member.
+use Rattle.std.proofs.Common.{◌≡◌, ℕ, suc, ◌<◌, true, List, [], ◌∷◌, ◌++◌, Option, Some, None, Result, Ok, Err, length, inl, inr, ⊎_elim, refl, sym, ap, subst, ◌∙◌, arith}
+use Rattle.solutions.specs.Leading.{none}
+use Rattle.attr_rules.specs.declared.kinds.Kind.{Kind}
+use Rattle.attr_rules.specs.declared.kinds.Kind.TheVariants as kinds
+use Rattle.equation_law.specs.declared.coding.Instance.{Instance as CodedInstance}
+use Rattle.equation_law.specs.declared.coding.Value.{Value as CodedValue}
+use Rattle.equation_law.specs.declared.system.System.{System}
+use Rattle.equation_law.specs.Checked.{IsProgram, IsValue, nodes, texts, truth}
+use Rattle.equation_law.specs.Codes.{AreElements, instance_of, value_of}
+use Rattle.equation_law.specs.Equations.{HasValue, equations_of, is_ordered, kind_in}
+use Rattle.equation_law.specs.Loops.{Chain}
+use Rattle.equation_law.specs.Names.{Instance}
+use Rattle.equation_law.specs.Orders.{FitsKind}
+use Rattle.equation_law.specs.Program.{Program, text_of}
+use Rattle.equation_law.specs.Reading.{Settles, Told}
+use Rattle.equation_law.specs.Systems.{program_of}
+use Rattle.equation_law.specs.Values.{Value, as_kind}
+use Rattle.equation_law.proofs.QueryValues.{value_typed}
+use Rattle.equation_law.proofs.Solution.{circular_site, one}
+use Rattle.memo_cells.specs.declared.keys.Slot.{Slot}
+use Rattle.memo_cells.specs.declared.view.Frame.{Frame}
+use Rattle.memo_cells.specs.declared.view.View.{View}
+use Rattle.memo_cells.specs.Naming.{ClaimsKeysTo, IsCellOf, LacksCell}
+use Rattle.memo_cells.specs.Showing.{ShowsAtLeast}
+use Rattle.memo_cells.specs.Standing.{AreApproximations}
+use Rattle.memo_cells.specs.Views.{times}
+use Rattle.memo_cells.specs.Working.{GoesOn, Held, IsKnown, TellsPass, program_at}
+use Rattle.set_words.specs.Shown.{IsShownValue}
+use Rattle.circular_eval.specs.declared.advancing.CircFault.{CircFault}
+use Rattle.circular_eval.specs.declared.local.Local.{Local}
+use Rattle.circular_eval.specs.declared.members.Member.{Member}
+use Rattle.circular_eval.specs.Advancing.{AnswersFault, ClaimsFrom, FillsFrom}
+use Rattle.circular_eval.specs.Left.{left, member_bound}
+use Rattle.circular_eval.specs.Local.{IsAbsent, IsLedBy, IsLocal}
+use Rattle.circular_eval.specs.Visiting.{Admits, GoesOnWith, IsNew, IsReady}
+use Rattle.circular_eval.proofs.Entries.{length_more}
+use Rattle.circular_eval.proofs.Going.{chain_more, claims_from_keys, fills_from_keys, member_chain, program_on}
+use Rattle.circular_eval.proofs.Growing.{IsFit, left_more, local_more, local_same}
+use Rattle.circular_eval.proofs.Later.{local_later}
+use Rattle.circular_eval.proofs.Looking.{fits_read}
+
+-- a value of a circular type may be that of a circular instance
+typed_fits : (p : Program) (k : Kind) (x : Value) → is_ordered k ≡ true → IsValue p k x → FitsKind k x
+typed_fits p kinds.Truth _ e (truth b) = (b, refl)
+typed_fits p kinds.Int x e h = cc
+typed_fits p kinds.Text x e h = cc
+typed_fits p (kinds.Node c) x e h = cc
+typed_fits p kinds.Texts _ e (texts s h) = (s, refl)
+typed_fits p (kinds.Nodes c) _ e (nodes _ s h) = (s, refl)
+
+pub ordered_kind : (p : Program) (i : Instance) → (equations_of p).circular i ≡ true → is_ordered (kind_in p i) ≡ true
+unfolding equations_of
+ordered_kind p i c = (circular_site p i c).ordered
+
+-- on the same cells, with the same set in all but the worklist
+pub record IsSame (l m : Local) : Type 0 where
+  pub start : m.start ≡ l.start
+  pub entries : m.members.entries ≡ l.members.entries
+  pub need : m.need ≡ l.need
+
+module _ (s : System) (d : Held) (l : Local) (r : IsReady s d l) where
+  abbrev p : Program
+  p = program_at d
+
+  pub program_is : IsProgram p
+  program_is = subst (λ (q : System). IsProgram (program_of q)) (sym r.same) r.program
+
+  pub local_is_here : IsLocal p d.0 d.1 l
+  local_is_here = subst (λ (q : System). IsLocal (program_of q) d.0 d.1 l) (sym r.same) r.local
+
+  pub near_is : AreApproximations p d.1
+  near_is = r.own.approximations
+
+  -- the set stays as it is
+  pub goes_same : (e : Held) → GoesOn d e → ClaimsFrom p (instance_of p l.start) d.1 e.1 → (m : Local) → IsSame l m → GoesOnWith p d e l m
+  goes_same e on claims m same = record {
+    on = on;
+    local = local_same p d.0 e.1 l m same.start same.entries same.need (local_later p d.1 e.1 on.kept d.0 l local_is_here);
+    start = same.start;
+    claims = claims;
+    some = λ h. subst (λ (es : List (CodedInstance × Member)). 0 < length es) (sym same.entries) h;
+  }
+
+  module _ (i : CodedInstance) (by : Option ℕ) (new : IsNew p l i by) where
+    led_chain : (b : Option ℕ) → IsLedBy p l.members.entries l.start (length l.members.entries) i b → Chain p (instance_of p l.start) (instance_of p i)
+    led_chain None h = subst (λ (x : CodedInstance). Chain p (instance_of p l.start) (instance_of p x)) (sym h) none
+    led_chain (Some b) h = chain_more p (instance_of p l.start) (instance_of p h.1.0.0) (instance_of p i) (member_chain p d.0 d.1 l local_is_here b h.1.0 h.1.1) h.1.2
+
+    new_chain : Chain p (instance_of p l.start) (instance_of p i)
+    new_chain = led_chain by new.led
+
+    -- claims of its cell
+    pub keys_claimed : (e f : Held) → GoesOn d e → e.1.claims ≡ d.1.claims → ClaimsKeysTo (program_at e) e.1 f.1 (instance_of (program_at e) i) → ClaimsFrom p (instance_of p l.start) d.1 f.1
+    keys_claimed e f on same claims q =
+        ⊎_elim (λ a. inl (a ∙ ap (λ (cs : List ℕ). times q cs) same)) inr
+        (claims_from_keys p (instance_of p l.start) (instance_of p i) e.1 f.1 new_chain (subst (λ (u : Program). ClaimsKeysTo u e.1 f.1 (instance_of u i)) (program_on d e on) claims) q)
+
+    pub cell_lacks : (e f : Held) → GoesOn d e → LacksCell (program_at e) e.0 f.1 (instance_of (program_at e) i) → FillsFrom p (instance_of p l.start) d.0 f.1
+    cell_lacks e f on full = fills_from_keys p (instance_of p l.start) (instance_of p i) d.0 f.1 new_chain (subst (λ (u : Program × Frame). LacksCell u.0 u.1 f.1 (instance_of u.0 i)) (λ j. (program_on d e on j, on.cells j)) full)
+
+    -- it is no member yet
+    pub is_absent : IsAbsent l.members.entries i
+    is_absent e there is = new.absent (e, there, ap (λ (x : CodedInstance). instance_of p x) is)
+
+    -- nothing was added
+    pub refused : (e : Held) → GoesOn d e → ClaimsFrom p (instance_of p l.start) d.1 e.1 → (m : Local) → IsSame l m → (fault : CircFault) → AnswersFault p (instance_of p l.start) d.0 e.1 fault → (x : Result Unit CircFault) → x ≡ Err fault → Admits d e l m x
+    refused e on claims m same fault answer x is = subst (λ (y : Result Unit CircFault). Admits d e l m y) (sym is) (record { goes = goes_same e on claims m same; grown = tt; some = tt; fault = answer })
+
+    -- it was added
+    pub admitted : (e : Held) → GoesOn d e → ClaimsFrom p (instance_of p l.start) d.1 e.1 → (m : Local) (n : Member) → n.by ≡ by → IsFit p d.0 e.1 (instance_of p i) n → length l.members.entries < member_bound → m.start ≡ l.start → m.need ≡ l.need → m.members.entries ≡ l.members.entries ++ (i, n) ∷ [] → (u : Unit) → Admits d e l m (Ok u)
+    admitted e on claims m n of fit few start need entries u =
+        let later = local_later p d.1 e.1 on.kept d.0 l local_is_here in
+        let longer : length (l.members.entries ++ (i, n) ∷ []) ≡ suc (length l.members.entries) = length_more l.members.entries (i, n) in
+        let some : 0 < length m.members.entries = subst (λ (es : List (CodedInstance × Member)). 0 < length es) (sym entries) (omega (arith, longer)) in
+        record {
+          goes = record {
+            on = on;
+            local = local_more p d.0 e.1 l later i n (subst (λ (b : Option ℕ). IsNew p l i b) (sym of) new) fit m start need entries;
+            start = start;
+            claims = claims;
+            some = λ h. some;
+          };
+          grown = subst (λ (es : List (CodedInstance × Member)). left es < left l.members.entries) (sym entries) (left_more l.members.entries (i, n) few);
+          some = some;
+          fault = tt;
+        }
+
+    -- the value that it was sealed with
+    sealed_fit : (e : Held) → GoesOn d e → (x : CodedValue) → ((w : Value) × IsKnown p e.1 (instance_of p i) w × (value_of (text_of p) x ≡ as_kind (kind_in p (instance_of p i)) w)) → AreElements p x → AreApproximations p e.1 → (n : Member) → n.slot ≡ None → n.value ≡ x → IsFit p d.0 e.1 (instance_of p i) n
+    sealed_fit e on x known elements near n slot is =
+        let j = instance_of p i in
+        let k = kind_in p j in
+        let typed : IsValue p k known.0 = value_typed p program_is j new.instance known.0 known.1.1 in
+        let fits : FitsKind k known.0 = typed_fits p k known.0 (ordered_kind p j new.is_circular) typed in
+        let same : value_of (text_of p) x ≡ known.0 = known.2 ∙ fits_read k known.0 fits in
+        let seen = near.settled j known.1.0 in
+        let shown : ShowsAtLeast p e.1 j k known.0 = subst (λ (y : Value). ShowsAtLeast p e.1 j k y) (one p j seen.0 known.0 seen.1 known.1.1) seen.2 in
+        subst (λ (y : Member). IsFit p d.0 e.1 j y) (λ q. record { slot = sym slot q; value = sym is q; by = n.by })
+        (record {
+          elements = elements;
+          fits = subst (λ (y : Value). FitsKind k y) (sym same) fits;
+          shown = subst (λ (y : Value). ShowsAtLeast p e.1 j k y) (sym same) shown;
+          placed = (known.1.0, subst (λ (y : Value). HasValue p j y) (sym same) known.1.1);
+        })
+
+    pub settled_fit : {W : Type 0} (held : W → Held) (y : W) (t : Told W) → TellsPass held y t → GoesOn d (held y) → (x : CodedValue) → Settles p t (instance_of p i) (Ok (Some x)) → (n : Member) → n.slot ≡ None → n.value ≡ x → IsFit p d.0 (held y).1 (instance_of p i) n
+    settled_fit held y t told on x settles n slot is =
+        sealed_fit (held y) on x
+        (settles.0.0, subst (λ (u : Program). IsKnown u (held y).1 (instance_of p i) settles.0.0) (program_on d (held y) on) (told.known (instance_of p i) settles.0.0 settles.0.1), settles.0.2)
+        settles.1
+        (subst (λ (u : Program). AreApproximations u (held y).1) (program_on d (held y) on) on.own.approximations)
+        n slot is
+
+    -- its cell, as it is said of what is held before and after
+    pub cell_here : (e f : Held) → GoesOn d e → (k : ℕ) → IsCellOf (program_at e) e.0 f.1 (instance_of (program_at e) i) k → IsCellOf p d.0 f.1 (instance_of p i) k
+    cell_here e f on k cell = subst (λ (u : Program × Frame). IsCellOf u.0 u.1 f.1 (instance_of u.0 i) k) (λ j. (program_on d e on j, on.cells j)) cell
+
+    pub cell_out : (f : Held) → GoesOn d f → (k : ℕ) → IsCellOf p d.0 f.1 (instance_of p i) k → IsCellOf (program_of s) f.0 f.1 (instance_of (program_of s) i) k
+    cell_out f on k cell = subst (λ (u : Program × Frame). IsCellOf u.0 u.1 f.1 (instance_of u.0 i) k) (λ j. (ap program_of r.same j, sym on.cells j)) cell
+
+    pub shown_here : (e f : Held) → GoesOn d e → (slot : Slot) (kind : Kind) (x : CodedValue) → ((j : Instance) → IsCellOf (program_of s) e.0 e.1 j slot.0 → kind_in (program_of s) j ≡ kind → is_ordered kind ≡ true → IsShownValue (program_of s) e.1 f.1 j x) → kind ≡ kind_in (program_of s) (instance_of (program_of s) i) → IsCellOf p d.0 e.1 (instance_of p i) slot.0 → IsShownValue p e.1 f.1 (instance_of p i) x
+    shown_here e f on slot kind x shown is cell =
+        let ordered : is_ordered (kind_in (program_of s) (instance_of (program_of s) i)) ≡ true = subst (λ (u : System). is_ordered (kind_in (program_of u) (instance_of (program_of u) i)) ≡ true) r.same (ordered_kind p (instance_of p i) new.is_circular) in
+        subst (λ (u : System). IsShownValue (program_of u) e.1 f.1 (instance_of (program_of u) i) x) (sym r.same)
+        (shown (instance_of (program_of s) i) (cell_out e on slot.0 cell) (sym is) (ap is_ordered is ∙ ordered))
+
+    -- the value that its words show
+    pub shown_fit : (e : Held) (v : View) (slot : Slot) → IsCellOf p d.0 e.1 (instance_of p i) slot.0 → (x : CodedValue) → IsShownValue p v e.1 (instance_of p i) x → (n : Member) → n.slot ≡ Some slot → n.value ≡ x → IsFit p d.0 e.1 (instance_of p i) n
+    shown_fit e v slot cell x shown n at is =
+        subst (λ (y : Member). IsFit p d.0 e.1 (instance_of p i) y) (λ q. record { slot = sym at q; value = sym is q; by = n.by })
+        (record { elements = shown.elements; fits = shown.fits; shown = shown.shown; placed = cell })

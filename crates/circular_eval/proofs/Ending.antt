@@ -1,0 +1,122 @@
+-- Passes over a local set until it is closed.
+use Rattle.std.proofs.Common.{◌≡◌, ◌<◌, List, [], ◌∷◌, Option, Some, None, Result, Ok, Err, length, map, slice_get, refl, sym, subst, arith}
+use Rattle.equation_law.specs.declared.coding.Instance.{Instance as CodedInstance}
+use Rattle.equation_law.specs.declared.system.System.{System}
+use Rattle.equation_law.specs.Codes.{instance_of}
+use Rattle.equation_law.specs.Program.{Program}
+use Rattle.memo_cells.specs.declared.keys.Slot.{Slot}
+use Rattle.memo_cells.specs.declared.view.Frame.{Frame}
+use Rattle.memo_cells.specs.Standing.{Knows, MaySeal}
+use Rattle.memo_cells.specs.Steps.{AreSealed}
+use Rattle.memo_cells.specs.Views.{Has}
+use Rattle.memo_cells.specs.Working.{Held, ReadsOn, program_at}
+use Rattle.circular_eval.specs.declared.advancing.CircFault.{CircFault}
+use Rattle.circular_eval.specs.declared.advancing.CircFault.TheVariants.{Memory}
+use Rattle.circular_eval.specs.declared.advancing.CircTurn.{CircTurn}
+use Rattle.circular_eval.specs.declared.advancing.CircTurn.TheVariants as turn
+use Rattle.circular_eval.specs.declared.local.Local.{Local}
+use Rattle.circular_eval.specs.declared.members.Member.{Member}
+use Rattle.circular_eval.specs.declared.visiting.Visited.{Visited}
+use Rattle.circular_eval.specs.declared.visiting.Visited.TheVariants.{Changed, Need, Same}
+use Rattle.circular_eval.specs.Advancing.{AnswersFault}
+use Rattle.circular_eval.specs.Left.{left}
+use Rattle.circular_eval.specs.Local.{AreSlots, Members}
+use Rattle.circular_eval.specs.Visiting.{Admits, Advances, AnswersClose, AnswersPass, AreConfirmed, Begins, Closes, GoesOnWith, IsNew, IsReady, Passes}
+use Rattle.circular_eval.proofs.Admitting.{local_is_here, near_is, program_is}
+use Rattle.circular_eval.proofs.Closing.{may_seal, member_sealed}
+use Rattle.circular_eval.proofs.Entries.{at_has}
+use Rattle.circular_eval.proofs.Going.{program_on, ready_then, with_itself, with_then}
+use Rattle.circular_eval.proofs.Passing.{goes_read}
+
+-- passes, one after the other
+module _ (d e f : Held) (l m n : Local) (h : GoesOnWith (program_at d) d e l m) where
+  pass_back : (y : Result Visited CircFault) → Passes e f m n y → AnswersPass (program_at d) d.0 f.1 m n y
+  pass_back y v = subst (λ (u : Program × Frame). AnswersPass u.0 u.1 f.1 m n y) (λ j. (program_on d e h.on j, h.on.cells j)) v.answer
+
+  pub close_need : (x : CodedInstance) → Passes e f m n (Ok (Need x)) → Closes d f l n (Ok (Some x))
+  close_need x v = record { goes = with_then d e f l m n h v.goes; answer = pass_back (Ok (Need x)) v }
+
+  pub close_same : Passes e f m n (Ok Same) → Closes d f l n (Ok None)
+  close_same v = record { goes = with_then d e f l m n h v.goes; answer = pass_back (Ok Same) v }
+
+  pub close_fault : (fault : CircFault) → Passes e f m n (Err fault) → (y : Result (Option CodedInstance) CircFault) → y ≡ Err fault → Closes d f l n y
+  close_fault fault v y is =
+      subst (λ (z : Result (Option CodedInstance) CircFault). Closes d f l n z) (sym is)
+      (record { goes = with_then d e f l m n h v.goes; answer = subst (λ (u : CodedInstance). AnswersFault (program_at d) (instance_of (program_at d) u) d.0 f.1 fault) h.start (pass_back (Err fault) v) })
+
+  pub close_less : Passes e f m n (Ok Changed) → left n.members.entries < left m.members.entries
+  close_less v = pass_back (Ok Changed) v
+
+nothing : (es : Members) → length es ≡ 0 → (e : CodedInstance × Member) → Has es e → ⊥
+nothing [] h e there = there
+nothing (x ∷ es) h e there = absurd (omega (arith, h))
+
+head_of : (es : Members) → 0 < length es → (e : CodedInstance × Member) × (slice_get es 0 ≡ Some e)
+head_of [] h = absurd (omega (arith, h))
+head_of (e ∷ es) h = (e, refl)
+
+-- the start
+pub first_new : (s : System) (d : Held) (l : Local) → IsReady s d l → length l.members.entries ≡ 0 → (i : CodedInstance) → i ≡ l.start → IsNew (program_at d) l i None
+first_new s d l r none i is =
+    let here = local_is_here s d l r in
+    subst (λ (j : CodedInstance). IsNew (program_at d) l j None) (sym is)
+    (record { instance = here.instance; coded = here.coded; is_circular = here.is_circular; absent = λ m. nothing l.members.entries none m.0 m.1; led = refl })
+
+pub begin_none : (s : System) (d : Held) (l : Local) (u : Unit) → IsReady s d l → 0 < length l.members.entries → Begins d d l l (Ok u)
+begin_none s d l u r some = record { goes = with_itself s d l r; some = some; fault = tt }
+
+pub begin_admits : (d e : Held) (l m : Local) (y : Result Unit CircFault) → Admits d e l m y → Begins d e l m y
+begin_admits d e l m y h = record { goes = h.goes; some = h.some; fault = h.fault }
+
+-- going on
+pub on_refused : (d e : Held) (l m : Local) (fault : CircFault) → Begins d e l m (Err fault) → (y : Result CircTurn CircFault) → y ≡ Err fault → Advances d e l m y
+on_refused d e l m fault h y is =
+    subst (λ (z : Result CircTurn CircFault). Advances d e l m z) (sym is)
+    (record { goes = h.goes; answer = subst (λ (u : CodedInstance). AnswersFault (program_at d) (instance_of (program_at d) u) d.0 e.1 fault) (sym h.goes.start) h.fault })
+
+module _ (d e f : Held) (l m n : Local) (h : GoesOnWith (program_at d) d e l m) where
+  close_back : (y : Result (Option CodedInstance) CircFault) → Closes e f m n y → AnswersClose (program_at d) d.0 f.1 m n y
+  close_back y v = subst (λ (u : Program × Frame). AnswersClose u.0 u.1 f.1 m n y) (λ j. (program_on d e h.on j, h.on.cells j)) v.answer
+
+  pub on_fault : (fault : CircFault) → Closes e f m n (Err fault) → (y : Result CircTurn CircFault) → y ≡ Err fault → Advances d f l n y
+  on_fault fault v y is =
+      subst (λ (z : Result CircTurn CircFault). Advances d f l n z) (sym is)
+      (record { goes = with_then d e f l m n h v.goes; answer = subst (λ (u : CodedInstance). AnswersFault (program_at d) (instance_of (program_at d) u) d.0 f.1 fault) (sym v.goes.start) (close_back (Err fault) v) })
+
+  pub on_need : (x : CodedInstance) → Closes e f m n (Ok (Some x)) → Advances d f l n (Ok (turn.Need x))
+  on_need x v = record { goes = with_then d e f l m n h v.goes; answer = close_back (Ok (Some x)) v }
+
+  pub on_late : Closes e f m n (Ok None) → (y : Result CircTurn CircFault) → y ≡ Err Memory → Advances d f l n y
+  on_late v y is = subst (λ (z : Result CircTurn CircFault). Advances d f l n z) (sym is) (record { goes = with_then d e f l m n h v.goes; answer = tt })
+
+  module _ (s : System) (r : IsReady s d l) (some : 0 < length m.members.entries) (closed : Closes e f m n (Ok None)) where
+    pub on_goes : GoesOnWith (program_at d) d f l n
+    on_goes = with_then d e f l m n h closed.goes
+
+    ready : IsReady s f n
+    ready = ready_then s d f l n r on_goes
+
+    confirmed : AreConfirmed (program_at f) f.1 n.members.entries
+    confirmed = subst (λ (u : Program). AreConfirmed u f.1 n.members.entries) (sym (program_on d f on_goes.on)) (close_back (Ok None) closed)
+
+    module _ (slots : List Slot) (are : AreSlots n.members.entries slots) where
+      pub on_may : MaySeal (program_at f) f.0 f.1 (map (λ x. x.0) slots)
+      on_may = may_seal (program_at f) (program_is s f n ready) f.1 (near_is s f n ready) f.0 n.start n.members.entries (local_is_here s f n ready).set confirmed slots are
+
+      module _ (g : Held) (on : ReadsOn f g) (sealed : AreSealed f.1 g.1 (map (λ x. x.0) slots)) where
+        each : (x : CodedInstance × Member) → Has n.members.entries x → Knows (program_at f) g.1 (instance_of (program_at f) x.0)
+        each x there = member_sealed (program_at f) (program_is s f n ready) f.1 (near_is s f n ready) f.0 n.start n.members.entries (local_is_here s f n ready).set confirmed slots are g.1 on.on.kept sealed x there
+
+        each_here : (x : CodedInstance × Member) → Has n.members.entries x → Knows (program_at d) g.1 (instance_of (program_at d) x.0)
+        each_here x there = subst (λ (u : Program). Knows u g.1 (instance_of u x.0)) (program_on d f on_goes.on) (each x there)
+
+        start_sealed : Knows (program_at d) g.1 (instance_of (program_at d) n.start)
+        start_sealed =
+            let x = head_of n.members.entries (closed.goes.some some) in
+            subst (λ (i : CodedInstance). Knows (program_at d) g.1 (instance_of (program_at d) i)) ((local_is_here s f n ready).set.first x.0 x.1) (each_here x.0 (at_has n.members.entries 0 x.0 x.1))
+
+        pub on_closed : Advances d g l n (Ok turn.Closed)
+        on_closed = record {
+          goes = with_then d f g l n n on_goes (goes_read s f g n n ready on (record { start = refl; entries = refl; need = refl }));
+          answer = record { start = start_sealed; members = each_here };
+        }

@@ -1,0 +1,113 @@
+-- Going on by what the equation of a member is stuck at.
+use Rattle.std.proofs.Common.{◌≡◌, ℕ, ◌<◌, Bool, true, false, Some, Result, Ok, Err, length, refl, sym, ap, subst, ◌∙◌}
+use Rattle.solutions.specs.Asking.{Halts}
+use Rattle.solutions.proofs.Looping.{halts_meets}
+use Rattle.equation_law.specs.declared.coding.Instance.{Instance as CodedInstance}
+use Rattle.equation_law.specs.declared.system.System.{System}
+use Rattle.equation_law.specs.Checked.{IsInstance}
+use Rattle.equation_law.specs.Codes.{instance_of}
+use Rattle.equation_law.specs.Equations.{equations_of, is_declared}
+use Rattle.equation_law.specs.Loops.{Chain, Leads}
+use Rattle.equation_law.specs.Names.{Instance}
+use Rattle.equation_law.specs.Program.{Program}
+use Rattle.equation_law.specs.Systems.{program_of}
+use Rattle.equation_law.specs.Values.{Value}
+use Rattle.equation_law.proofs.Declared.{as_declared}
+use Rattle.expr_eval.specs.declared.sites.Turn.{Turn}
+use Rattle.expr_eval.specs.declared.sites.Turn.TheVariants as turns
+use Rattle.memo_cells.specs.Standing.{Knows}
+use Rattle.memo_cells.specs.Working.{Held, program_at}
+use Rattle.circular_eval.specs.declared.advancing.CircFault.{CircFault}
+use Rattle.circular_eval.specs.declared.local.Local.{Local}
+use Rattle.circular_eval.specs.declared.visiting.Visited.{Visited}
+use Rattle.circular_eval.specs.declared.visiting.Visited.TheVariants.{Changed, Need}
+use Rattle.circular_eval.specs.Local.{IsMember, Members, ReadsHere, here, local_value, settled}
+use Rattle.circular_eval.specs.Visiting.{Admits, ComesAt, IsNew, IsReady, Visits}
+use Rattle.circular_eval.proofs.Admitting.{local_is_here, near_is, program_is}
+use Rattle.circular_eval.proofs.Entries.{at_low}
+use Rattle.circular_eval.proofs.Going.{chain_more, claims_from_none, member_chain}
+use Rattle.circular_eval.proofs.Growing.{local_needs}
+use Rattle.circular_eval.proofs.Holding.{goes_itself}
+use Rattle.circular_eval.proofs.Lowering.{met_is, stuck_leads}
+
+-- a visit that admitted a member
+pub admit_changed : (d e : Held) (l m : Local) (number : ℕ) (u : Unit) → Admits d e l m (Ok u) → Visits d e l m number (Ok Changed)
+admit_changed d e l m number u h = record { goes = h.goes; answer = h.grown }
+
+pub admit_refused : (d e : Held) (l m : Local) (number : ℕ) (fault : CircFault) → Admits d e l m (Err fault) → (y : Result Visited CircFault) → y ≡ Err fault → Visits d e l m number y
+admit_refused d e l m number fault h y is = subst (λ (z : Result Visited CircFault). Visits d e l m number z) (sym is) (record { goes = h.goes; answer = h.fault })
+
+-- what came, by its turn
+pub turn_is : (d : Held) (l : Local) (number : ℕ) (t u : Turn) → t ≡ u → ComesAt (program_at d) d.1 l.members.entries number t → ComesAt (program_at d) d.1 l.members.entries number u
+turn_is d l number t u is h = subst (λ (z : Turn). ComesAt (program_at d) d.1 l.members.entries number z) is h
+
+module _ (s : System) (d : Held) (l : Local) (r : IsReady s d l) (number : ℕ) (n : CodedInstance) (came : ComesAt (program_at d) d.1 l.members.entries number (turns.Need n)) where
+  abbrev p : Program
+  p = program_at d
+
+  abbrev es : Members
+  es = l.members.entries
+
+  abbrev i : Instance
+  i = instance_of p came.entry.0
+
+  abbrev j : Instance
+  j = instance_of p n
+
+  member : IsMember p d.0 d.1 es l.start number came.entry
+  member = (local_is_here s d l r).set.members number came.entry came.at
+
+  halting : Halts (ReadsHere p d.1 es) ((equations_of p).equation i) j came.comes.0.0
+  halting = came.comes.0.1
+
+  needed : IsInstance p j
+  needed = met_is p (program_is s d l r) d.1 (near_is s d l r) d.0 l.start es (local_is_here s d l r).set i member.instance j (halts_meets halting).0
+
+  not_read : (w : Value) → ReadsHere p d.1 es j w → ⊥
+  not_read = (halts_meets halting).1
+
+  leads : Leads p i j
+  leads = stuck_leads p (program_is s d l r) d.1 (near_is s d l r) d.0 l.start es (local_is_here s d l r).set i member.instance member.is_circular j came.comes.0.0 halting
+
+  declared_here : (b : Bool) → b ≡ is_declared (program_of s) (instance_of (program_of s) n) → (equations_of p).circular j ≡ b
+  declared_here b e = as_declared p (program_is s d l r) j needed ∙ subst (λ (u : System). is_declared (program_of u) (instance_of (program_of u) n) ≡ b) (sym r.same) (sym e)
+
+  -- a circular one is met
+  pub need_new : true ≡ is_declared (program_of s) (instance_of (program_of s) n) → IsNew p l n (Some number)
+  need_new e =
+      let c = declared_here true e in
+      record {
+        instance = needed;
+        coded = came.comes.1;
+        is_circular = c;
+        absent = λ m. not_read (local_value p es j) (here (sym (as_declared p (program_is s d l r) j needed) ∙ c) m);
+        led = (at_low es number came.entry came.at, (came.entry, came.at, leads));
+      }
+
+  -- another one is missing
+  module _ (plain : false ≡ is_declared (program_of s) (instance_of (program_of s) n)) where
+    undeclared : (equations_of p).circular j ≡ false
+    undeclared = declared_here false plain
+
+    not_known : ¬ Knows p d.1 j
+    not_known k = let v = (near_is s d l r).settled j k in not_read v.0 (settled (sym (as_declared p (program_is s d l r) j needed) ∙ undeclared) (k, v.1))
+
+    pub need_missing : (m : Local) → m.start ≡ l.start → m.members ≡ l.members → m.need ≡ Some (number, n) → Visits d d l m number (Ok (Need n))
+    need_missing m start members need = record {
+      goes = record {
+        on = goes_itself d r.own;
+        local = local_needs p d.0 d.1 l m number n came.entry came.at leads start members need (local_is_here s d l r);
+        start = start;
+        claims = claims_from_none p (instance_of p l.start) d.1 d.1 refl;
+        some = λ h. subst (λ (k : ℕ). 0 < k) (sym (ap (λ x. length x.entries) members)) h;
+      };
+      answer = record {
+        instance = needed;
+        coded = came.comes.1;
+        undeclared = undeclared;
+        unknown = not_known;
+        reached = subst (λ (x : CodedInstance). Chain p (instance_of p x) j) (sym start) (chain_more p (instance_of p l.start) i j (member_chain p d.0 d.1 l (local_is_here s d l r) number came.entry came.at) leads);
+        number = number;
+        noted = need;
+      };
+    }

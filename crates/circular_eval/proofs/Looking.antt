@@ -1,0 +1,93 @@
+-- What an evaluation under a local set reads.
+use Rattle.std.proofs.Common.{◌≡◌, false, true, Option, Some, None, Result, Ok, Err, refl, sym, ap, subst, ◌∙◌}
+use Rattle.attr_rules.specs.declared.kinds.Kind.{Kind}
+use Rattle.attr_rules.specs.declared.kinds.Kind.TheVariants as kinds
+use Rattle.rag_io.specs.declared.Memory.{Memory}
+use Rattle.equation_law.specs.declared.coding.Value.{Value as CodedValue}
+use Rattle.equation_law.specs.declared.system.System.{System}
+use Rattle.equation_law.specs.Codes.{AreElements, value_of}
+use Rattle.equation_law.specs.Equations.{is_declared, kind_in}
+use Rattle.equation_law.specs.Names.{Instance}
+use Rattle.equation_law.specs.Orders.{FitsKind}
+use Rattle.equation_law.specs.Program.{Program, text_of}
+use Rattle.equation_law.specs.Reading.{Grows, IsSound, Settles, Told}
+use Rattle.equation_law.specs.Systems.{program_of}
+use Rattle.equation_law.specs.Values.{Value, as_kind}
+use Rattle.equation_law.proofs.Solution.{one}
+use Rattle.memo_cells.specs.declared.view.Frame.{Frame}
+use Rattle.memo_cells.specs.declared.view.View.{View}
+use Rattle.memo_cells.specs.Working.{Held, IsKnown, IsOwn, ReadsOn, TellsPass, program_at}
+use Rattle.memo_cells.proofs.Showing.{not_both}
+use Rattle.circular_eval.specs.Local.{AreKept, IsMemberOf, MayRead, Members, ReadsHere, here, local_value, present, settled, solved}
+use Rattle.circular_eval.specs.Looking.{told_here}
+use Rattle.circular_eval.proofs.Later.{read_later}
+
+-- a work is a reader for the program of its cells
+pub work_sound : {W : Type 0} (held : W → Held) (x : W) (r : Told W) → TellsPass held x r → IsSound (program_at (held x)) r
+work_sound held x r t = record { for = t.for; within = λ i v h. t.may i v (t.known i v h).1; one_value = λ i v w a b. one (program_at (held x)) i v w (t.can i v a) (t.can i w b) }
+
+-- what reads with it goes on
+pub work_reads : {W : Type 0} (held : W → Held) (x y : W) (r s : Told W) → TellsPass held x r → TellsPass held y s → IsOwn (held x) → Grows (program_at (held x)) r s → ReadsOn (held x) (held y)
+work_reads held x y r s t u own g = u.keeps x (g.kept x (t.itself own))
+
+-- an undeclared instance that is read is known
+known_read : {p : Program} {v : View} {es : Members} {i : Instance} {w : Value} → is_declared p i ≡ false → ReadsHere p v es i w → IsKnown p v i w
+known_read d (settled n k) = k
+known_read d (here n k) = absurd (not_both d n)
+
+-- what it answers of an undeclared instance is what the evaluation reads
+pub read_settled : {W S : Type 0} (held : W → Held) (y : W) (r : Told W) → TellsPass held y r → (s : System) (es : Members) (keeps : S → Type 0) (i : Instance) (result : Result (Option CodedValue) Memory) → is_declared (program_at (held y)) i ≡ false → Settles (program_at (held y)) r i result → Settles (program_at (held y)) (told_here (held y) s es keeps) i result
+read_settled held y r t s es keeps i (Ok (Some v)) d (a, e) = ((a.0, settled d (t.known i a.0 a.1), a.2), e)
+read_settled held y r t s es keeps i (Ok None) d a = λ w h. a w (t.has i w (known_read d h))
+read_settled held y r t s es keeps i (Err m) d a = tt
+
+-- a value that fits the type is read as it is
+pub fits_read : (k : Kind) (x : Value) → FitsKind k x → as_kind k x ≡ x
+fits_read kinds.Truth x f = ap (as_kind kinds.Truth) f.1 ∙ sym f.1
+fits_read kinds.Int x f = elim f [ ]
+fits_read kinds.Text x f = elim f [ ]
+fits_read (kinds.Node c) x f = elim f [ ]
+fits_read kinds.Texts x f = ap (as_kind kinds.Texts) f.1 ∙ sym f.1
+fits_read (kinds.Nodes c) x f = ap (as_kind (kinds.Nodes c)) f.1 ∙ sym f.1
+
+-- a member is read with its value
+pub read_member : {S : Type 0} (d : Held) (s : System) (es : Members) (keeps : S → Type 0) (i : Instance) (x : CodedValue) → is_declared (program_at d) i ≡ true → IsMemberOf (program_at d) es i → local_value (program_at d) es i ≡ value_of (text_of (program_at d)) x → FitsKind (kind_in (program_at d) i) (value_of (text_of (program_at d)) x) → AreElements (program_at d) x → Settles (program_at d) (told_here d s es keeps) i (Ok (Some x))
+read_member d s es keeps i x e m is fits elements = ((local_value (program_at d) es i, here e m, sym (ap (as_kind (kind_in (program_at d) i)) is ∙ fits_read (kind_in (program_at d) i) (value_of (text_of (program_at d)) x) fits)), elements)
+
+none_read : {p : Program} {v : View} {es : Members} {i : Instance} {w : Value} → is_declared p i ≡ true → ¬ IsMemberOf p es i → ReadsHere p v es i w → ⊥
+none_read e none (settled n k) = not_both n e
+none_read e none (here n m) = none m
+
+-- one that is no member isn't read
+pub read_absent : {S : Type 0} (d : Held) (s : System) (es : Members) (keeps : S → Type 0) (i : Instance) → is_declared (program_at d) i ≡ true → ¬ IsMemberOf (program_at d) es i → Settles (program_at d) (told_here d s es keeps) i (Ok None)
+read_absent d s es keeps i e none = λ w h. none_read e none h
+
+-- what may be read of an instance is one value
+read_once : {p : Program} {es : Members} {j : Instance} {v w : Value} → MayRead p es j v → MayRead p es j w → v ≡ w
+read_once {p} {es} {j} {v} {w} (solved n a) (solved m b) = one p j v w a b
+read_once (solved n a) (present m) = absurd (not_both n m)
+read_once (present n) (solved m b) = absurd (not_both m n)
+read_once (present n) (present m) = refl
+
+may_read : {p : Program} {v : View} {es : Members} {j : Instance} {w : Value} → ReadsHere p v es j w → MayRead p es j w
+may_read (settled n k) = solved n k.1
+may_read (here n k) = present n
+
+-- an evaluation under a local set has a sound reader
+pub here_sound : {S : Type 0} (d : Held) (s : System) (es : Members) (keeps : S → Type 0) (p : Program) → p ≡ program_at d → d.0.system.value ≡ s → IsOwn d → AreKept p es → IsSound p (told_here d s es keeps)
+here_sound d s es keeps p e same own kept = record { for = (e, same, own, kept); within = λ i v h. may_read h; one_value = λ i v w a b. read_once a b }
+
+-- and goes on with one, where what is held goes on
+pub here_grows : {S : Type 0} (d e : Held) (s : System) (es : Members) (keeps more : S → Type 0) → ReadsOn d e → ((x : S) → keeps x → more x) → (p : Program) → IsSound p (told_here d s es keeps) → Grows p (told_here d s es keeps) (told_here e s es more)
+here_grows d e s es keeps more on kept p sound =
+    let same : program_at e ≡ program_at d = ap (λ (f : Frame). program_of f.system.value) on.on.cells in
+    record {
+      sound = here_sound e s es more p (sound.for.0 ∙ sym same) (ap (λ (f : Frame). f.system.value) on.on.cells ∙ sound.for.1) on.on.own sound.for.3;
+      values = λ i v h. subst (λ (q : Program). ReadsHere q e.1 es i v) (sym same) (read_later (program_at d) d.1 e.1 on.on.kept es i v h);
+      bound = λ i v h. subst (λ (q : Program). MayRead q es i v) same h;
+      kept = kept;
+    }
+
+-- where nothing is read, it is the same
+pub here_same : {S : Type 0} (d : Held) (s : System) (es : Members) (keeps : S → Type 0) (p : Program) → IsSound p (told_here d s es keeps) → Grows p (told_here d s es keeps) (told_here d s es keeps)
+here_same d s es keeps p sound = record { sound = sound; values = λ i v h. h; bound = λ i v h. h; kept = λ x h. h }

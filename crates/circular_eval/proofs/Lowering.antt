@@ -1,0 +1,157 @@
+-- The values of a local set are a lower assignment, and what its evaluations come to are steps under it.
+use Rattle.std.proofs.Common.{◌≡◌, ℕ, true, false, cond, List, [], ◌∷◌, inl, inr, refl, sym, subst, ◌∙◌, Contains}
+use Rattle.std.proofs.lemmas.List.Elements.{Contains-get_or}
+use Rattle.solutions.specs.Asking.{Demands, Ends, Halts, Meets, asks, gives, here, later}
+use Rattle.solutions.specs.Leading.{Mixed, circular, fixed, present}
+use Rattle.solutions.proofs.Looping.{halts_meets, meets_under}
+use Rattle.solutions.proofs.Runs.{ends_more}
+use Rattle.ast_grammar.specs.declared.grammar.ClassId.{ClassId}
+use Rattle.attr_rules.specs.declared.kinds.Kind.{Kind}
+use Rattle.attr_rules.specs.declared.kinds.Kind.TheVariants as kinds
+use Rattle.equation_law.specs.declared.coding.Instance.{Instance as CodedInstance}
+use Rattle.equation_law.specs.Checked.{IsInstance, IsNodeOf, IsProgram, IsValue, nodes, texts, truth}
+use Rattle.equation_law.specs.Codes.{instance_of, reference_of, value_of}
+use Rattle.equation_law.specs.Equations.{equations_of, is_ordered, kind_in}
+use Rattle.equation_law.specs.Loops.{Leads}
+use Rattle.equation_law.specs.Lower.{IsLower}
+use Rattle.equation_law.specs.Names.{Instance, Reference, node_cmp, same_instance, text_cmp}
+use Rattle.equation_law.specs.Orders.{FitsKind}
+use Rattle.equation_law.specs.Program.{Program, text_of}
+use Rattle.equation_law.specs.Sets.{has, no_elements}
+use Rattle.equation_law.specs.Values.{Value, default_of, nodes as nodes_in, texts as texts_in}
+use Rattle.equation_law.proofs.Declared.{as_declared}
+use Rattle.equation_law.proofs.Demanded.{ended_typed as typed_end, met_instances}
+use Rattle.equation_law.proofs.Names.{same_instance_is}
+use Rattle.equation_law.proofs.Orders.{at_most_through}
+use Rattle.equation_law.proofs.QueryValues.{value_typed}
+use Rattle.equation_law.proofs.Sets.{none_has}
+use Rattle.equation_law.proofs.Solution.{circular_site}
+use Rattle.memo_cells.specs.declared.view.View.{View}
+use Rattle.memo_cells.specs.declared.view.Frame.{Frame}
+use Rattle.memo_cells.specs.Naming.{IsElementCode}
+use Rattle.memo_cells.specs.Showing.{AreShown, ShowsAtLeast, ShowsCode}
+use Rattle.memo_cells.specs.Standing.{AreApproximations, ComesTo}
+use Rattle.memo_cells.specs.Views.{Has}
+use Rattle.memo_cells.proofs.Showing.{not_both, shown_between}
+use Rattle.circular_eval.specs.declared.members.Member.{Member}
+use Rattle.circular_eval.specs.Local.{AreMembers, Members, ReadsHere, here as local_here, local_value, settled}
+use Rattle.circular_eval.proofs.Entries.{has_at}
+
+-- what holds of the bottoms and of the members holds of all values of a set
+pub local_is : (p : Program) (es : Members) (P : Instance → Value → Type 0) → ((i : Instance) → P i (default_of (kind_in p i))) → ((e : CodedInstance × Member) → Has es e → P (instance_of p e.0) (value_of (text_of p) e.1.value)) → (j : Instance) → P j (local_value p es j)
+local_is p [] P d m j = d j
+local_is p (e ∷ es) P d m j =
+    elim (same_instance j (instance_of p e.0)) as (λ b. same_instance j (instance_of p e.0) ≡ b → P j (cond b (value_of (text_of p) e.1.value) (local_value p es j))) [
+      | true ↦ λ h. subst (λ (i : Instance). P i (value_of (text_of p) e.1.value)) (sym (same_instance_is j (instance_of p e.0) h)) (m e (inl refl))
+      | false ↦ λ h. local_is p es P d (λ x q. m x (inr q)) j
+    ] refl
+
+-- the bottom of a circular type is shown by no words
+bottom_fits : (k : Kind) → is_ordered k ≡ true → FitsKind k (default_of k)
+bottom_fits kinds.Truth e = (false, refl)
+bottom_fits kinds.Int e = cc
+bottom_fits kinds.Text e = cc
+bottom_fits (kinds.Node c) e = cc
+bottom_fits kinds.Texts e = (no_elements, refl)
+bottom_fits (kinds.Nodes c) e = (no_elements, refl)
+
+bottom_shown : (p : Program) (v : View) (i : Instance) (k : Kind) → ShowsAtLeast p v i k (default_of k)
+bottom_shown p v i kinds.Truth = λ e. absurd (not_both refl e)
+bottom_shown p v i kinds.Int = tt
+bottom_shown p v i kinds.Text = tt
+bottom_shown p v i (kinds.Node c) = tt
+bottom_shown p v i kinds.Texts = λ t h. absurd (none_has text_cmp t h)
+bottom_shown p v i (kinds.Nodes c) = λ n h. absurd (none_has node_cmp n h)
+
+-- a value that the words show is of the type
+shown_text : (p : Program) (v : View) (near : AreApproximations p v) (i : Instance) → kind_in p i ≡ kinds.Texts → (c : ℕ) → ShowsCode p v i c → Contains p.texts (text_of p c)
+shown_text p v near i e c h = Contains-get_or p.texts c [] (subst (λ (k : Kind). IsElementCode p k c) e (near.codes i c h))
+
+shown_node : (p : Program) (v : View) (near : AreApproximations p v) (i : Instance) (d : ClassId) → kind_in p i ≡ kinds.Nodes d → (c : ℕ) → ShowsCode p v i c → IsNodeOf p d (reference_of c)
+shown_node p v near i d e c h = (subst (λ (k : Kind). IsElementCode p k c) e (near.codes i c h)).1
+
+pub shown_typed : (p : Program) (v : View) (near : AreApproximations p v) (i : Instance) (k : Kind) → kind_in p i ≡ k → (x : Value) → FitsKind k x → ShowsAtLeast p v i k x → IsValue p k x
+shown_typed p v near i kinds.Truth e x f l = subst (λ (y : Value). IsValue p kinds.Truth y) (sym f.1) (truth f.0)
+shown_typed p v near i kinds.Int e x f l = elim f [ ]
+shown_typed p v near i kinds.Text e x f l = elim f [ ]
+shown_typed p v near i (kinds.Node c) e x f l = elim f [ ]
+shown_typed p v near i kinds.Texts e x f l =
+    subst (λ (y : Value). IsValue p kinds.Texts y) (sym f.1)
+    (texts f.0 (λ t h. let c = l t (subst (λ (y : Value). has (texts_in y) t ≡ true) (sym f.1) h) in subst (λ (u : List ℕ). Contains p.texts u) c.1 (shown_text p v near i e c.0 c.2)))
+shown_typed p v near i (kinds.Nodes d) e x f l =
+    subst (λ (y : Value). IsValue p (kinds.Nodes d) y) (sym f.1)
+    (nodes d f.0 (λ n h. let c = l n (subst (λ (y : Value). has (nodes_in y) n ≡ true) (sym f.1) h) in subst (λ (r : Reference). IsNodeOf p d r) c.1 (shown_node p v near i d e c.0 c.2)))
+
+-- what a computation meets can be put to what it reads
+ends_with : {A : Instance → Value → Type 0} {Q : Instance → Type 0} {c : Demands Instance Value} {x : Value} {ds : List Instance} → ((j : Instance) → Meets A c j → Q j) → Ends A c x ds → Ends (λ j w. Q j × A j w) c x ds
+ends_with q gives = gives
+ends_with q (asks {j = j} a e) = asks (q j here, a) (ends_with (λ i m. q i (later a m)) e)
+
+meets_with : {A : Instance → Value → Type 0} {Q : Instance → Type 0} {c : Demands Instance Value} {n : Instance} → ((j : Instance) → Meets A c j → Q j) → Meets A c n → Meets (λ j w. Q j × A j w) c n
+meets_with q here = here
+meets_with q (later {j = j} a m) = later (q j here, a) (meets_with (λ i k. q i (later a k)) m)
+
+-- what a value of a set has to be
+pub record IsGood (p : Program) (v : View) (i : Instance) (x : Value) : Type 0 where
+  pub fits : FitsKind (kind_in p i) x
+  pub shown : ShowsAtLeast p v i (kind_in p i) x
+
+module _ (p : Program) (good : IsProgram p) (v : View) (near : AreApproximations p v) (f : Frame) (start : CodedInstance) (es : Members) (set : AreMembers p f v start es) where
+  bottom_good : (i : Instance) → (equations_of p).circular i ≡ true → IsGood p v i (default_of (kind_in p i))
+  unfolding equations_of
+  bottom_good i c = record { fits = bottom_fits (kind_in p i) (circular_site p i c).ordered; shown = bottom_shown p v i (kind_in p i) }
+
+  member_good : (e : CodedInstance × Member) → Has es e → IsGood p v (instance_of p e.0) (value_of (text_of p) e.1.value)
+  member_good e h = let at = has_at es e h in let m = set.members at.0 e at.1 in record { fits = m.fits; shown = m.shown }
+
+  pub values_good : (i : Instance) → (equations_of p).circular i ≡ true → IsGood p v i (local_value p es i)
+  values_good = local_is p es (λ i x. (equations_of p).circular i ≡ true → IsGood p v i x) bottom_good (λ e h c. member_good e h)
+
+  -- they are shown, and so they are a lower assignment
+  pub values_shown : AreShown p v (local_value p es)
+  values_shown j c = let g = values_good j c in (g.fits, g.shown)
+
+  pub values_lower : IsLower p (local_value p es)
+  values_lower = record {
+    top = near.lower.top;
+    reached = near.lower.reached;
+    fits = λ j c. (values_good j c).fits;
+    below = λ j c.
+        let g = values_good j c in
+        at_most_through (local_value p es j) (near.values j) (near.lower.top j) (shown_between p v j (kind_in p j) (local_value p es j) (near.values j) g.fits g.shown (near.circular j c)) (near.lower.below j c);
+  }
+
+  reads_typed : (j : Instance) (w : Value) → IsInstance p j → ReadsHere p v es j w → IsValue p (kind_in p j) w
+  reads_typed j w h (settled d k) = value_typed p good j h w k.1
+  reads_typed j w h (local_here d r) = let g = values_good j (as_declared p good j h ∙ d) in shown_typed p v near j (kind_in p j) refl (local_value p es j) g.fits g.shown
+
+  module _ (i : Instance) (is : IsInstance p i) where
+    -- all that it meets are instances of the program
+    pub met_is : (j : Instance) → Meets (ReadsHere p v es) ((equations_of p).equation i) j → IsInstance p j
+    met_is j m = met_instances p good i j is (ReadsHere p v es) reads_typed m
+
+    -- what it comes to is of its type
+    pub ended_typed : (x : Value) (ds : List Instance) → Ends (ReadsHere p v es) ((equations_of p).equation i) x ds → IsValue p (kind_in p i) x
+    ended_typed x ds e = typed_end p good (ReadsHere p v es) reads_typed i is x ds e
+
+    -- what it reads are instances of the program too
+    pub ends_of : (x : Value) (ds : List Instance) → Ends (ReadsHere p v es) ((equations_of p).equation i) x ds → Ends (λ j w. IsInstance p j × ReadsHere p v es j w) ((equations_of p).equation i) x ds
+    ends_of x ds e = ends_with met_is e
+
+    -- what it reads, it reads under the values of the set
+    mixed : (j : Instance) (w : Value) → IsInstance p j × ReadsHere p v es j w → Mixed (equations_of p) (local_value p es) j w
+    mixed j w (h, settled d k) = fixed (as_declared p good j h ∙ d) k.1
+    mixed j w (h, local_here d r) = present (as_declared p good j h ∙ d)
+
+    pub ends_mixed : (x : Value) (ds : List Instance) → Ends (ReadsHere p v es) ((equations_of p).equation i) x ds → Ends (Mixed (equations_of p) (local_value p es)) ((equations_of p).equation i) x ds
+    ends_mixed x ds e = ends_more mixed (ends_of x ds e)
+
+    pub comes : (x : Value) (ds : List Instance) → Ends (ReadsHere p v es) ((equations_of p).equation i) x ds → ComesTo p v i x
+    comes x ds e = record { below = local_value p es; shown = values_shown; demands = ds; ends = ends_mixed x ds e }
+
+    -- a circular instance leads to what its equation meets
+    pub meets_leads : (equations_of p).circular i ≡ true → (n : Instance) → Meets (ReadsHere p v es) ((equations_of p).equation i) n → Leads p i n
+    meets_leads c n m = circular c (local_value p es) values_lower (meets_under mixed (meets_with met_is m))
+
+    pub stuck_leads : (equations_of p).circular i ≡ true → (n : Instance) (ds : List Instance) → Halts (ReadsHere p v es) ((equations_of p).equation i) n ds → Leads p i n
+    stuck_leads c n ds h = meets_leads c n (halts_meets h).0

@@ -1,0 +1,170 @@
+-- Visits of members, one after the other.
+use Rattle.std.proofs.Common.{◌≡◌, ℕ, ◌<◌, ◌+◌, ◌-◌, ◌≤◌, true, false, Option, Some, None, IsSome, IfSome, is_some, Result, Ok, Err, length, slice_get, inl, inr, ⊎_elim, refl, sym, ap, subst, ◌∙◌, arith}
+use Rattle.std.proofs.lemmas.Bool.{cases_order}
+use Rattle.equation_law.specs.declared.coding.Instance.{Instance as CodedInstance}
+use Rattle.equation_law.specs.declared.system.System.{System}
+use Rattle.equation_law.specs.Codes.{instance_of}
+use Rattle.equation_law.specs.Program.{Program}
+use Rattle.equation_law.specs.Systems.{program_of}
+use Rattle.expr_eval.specs.declared.sites.Turn.{Turn}
+use Rattle.memo_cells.specs.declared.view.Frame.{Frame}
+use Rattle.memo_cells.specs.declared.view.View.{View}
+use Rattle.memo_cells.specs.Working.{Held, ReadsOn, program_at}
+use Rattle.memo_cells.proofs.Showing.{not_both}
+use Rattle.circular_eval.specs.declared.advancing.CircFault.{CircFault}
+use Rattle.circular_eval.specs.declared.advancing.CircFault.TheVariants.{Memory}
+use Rattle.circular_eval.specs.declared.local.Local.{Local}
+use Rattle.circular_eval.specs.declared.members.Member.{Member}
+use Rattle.circular_eval.specs.declared.visiting.Visited.{Visited}
+use Rattle.circular_eval.specs.declared.visiting.Visited.TheVariants.{Changed, Need, Same}
+use Rattle.circular_eval.specs.Advancing.{AnswersFault}
+use Rattle.circular_eval.specs.Left.{left}
+use Rattle.circular_eval.specs.Local.{AreKept, Members}
+use Rattle.circular_eval.specs.Looking.{ComesTo}
+use Rattle.circular_eval.specs.Visiting.{AnswersVisit, ComesAt, GoesOnWith, IsConfirmed, IsReady, Passes, Stays, Visits}
+use Rattle.circular_eval.proofs.Admitting.{IsSame, goes_same}
+use Rattle.circular_eval.proofs.Entries.{at_low, has_at}
+use Rattle.circular_eval.proofs.Going.{claims_from_none, program_on, ready_then, with_itself, with_then}
+use Rattle.circular_eval.proofs.Growing.{local_same}
+use Rattle.circular_eval.proofs.Later.{confirmed_later}
+
+-- one that was sealed when it was met is visited in vain
+pub same_visit : (s : System) (d : Held) (l : Local) (number : ℕ) → IsReady s d l → ((e : CodedInstance × Member) → slice_get l.members.entries number ≡ Some e → IsSome e.1.slot → ⊥) → Visits d d l l number (Ok Same)
+same_visit s d l number r final = record { goes = with_itself s d l r; answer = record { members = refl; stack = refl; confirmed = λ e at some. absurd (final e at some) } }
+
+pub kept_members : (s : System) (d : Held) (l : Local) → IsReady s d l → AreKept (program_of s) l.members.entries
+kept_members s d l r e there = let at = has_at l.members.entries e there in let m = r.local.set.members at.0 e at.1 in (m.coded, m.elements, m.fits)
+
+-- what was read
+pub goes_read : (s : System) (d e : Held) (l m : Local) → IsReady s d l → ReadsOn d e → IsSame l m → GoesOnWith (program_at d) d e l m
+goes_read s d e l m r on same = goes_same s d l r e on.on (claims_from_none (program_at d) (instance_of (program_at d) l.start) d.1 e.1 on.claims) m same
+
+pub read_refused : (s : System) (d e : Held) (l m : Local) (number : ℕ) → IsReady s d l → ReadsOn d e → IsSame l m → (y : Result Visited CircFault) → y ≡ Err Memory → Visits d e l m number y
+read_refused s d e l m number r on same y is = subst (λ (z : Result Visited CircFault). Visits d e l m number z) (sym is) (record { goes = goes_read s d e l m r on same; answer = tt })
+
+pub came_read : (s : System) (d e : Held) (l m : Local) (number : ℕ) (x : CodedInstance × Member) (turn : Turn) → IsReady s d l → ReadsOn d e → m.members.entries ≡ l.members.entries → slice_get l.members.entries number ≡ Some x → IsSome x.1.slot → ComesTo (program_of s) e.1 l.members.entries (instance_of (program_of s) x.0) turn → ComesAt (program_at e) e.1 m.members.entries number turn
+came_read s d e l m number x turn r on same at some came =
+    let here : program_of s ≡ program_at e = sym (ap program_of r.same) ∙ sym (program_on d e on.on) in
+    subst (λ (u : Program × Members). ComesAt u.0 e.1 u.1 number turn) (λ j. (here j, sym same j)) (record { entry = x; at = at; placed = some; comes = came })
+
+-- a visit after what only read
+visit_answer : (p : Program) (f : Frame) (v : View) (l m n : Local) (number : ℕ) (y : Result Visited CircFault) → m.start ≡ l.start → m.members.entries ≡ l.members.entries → m.worklist.stack ≡ l.worklist.stack → AnswersVisit p f v m n number y → AnswersVisit p f v l n number y
+visit_answer p f v l m n number (Ok (Need x)) start same stack h = h
+visit_answer p f v l m n number (Ok Changed) start same stack h = subst (λ (u : Members). left n.members.entries < left u) same h
+visit_answer p f v l m n number (Ok Same) start same stack h = record { members = h.members ∙ same; stack = h.stack ∙ stack; confirmed = h.confirmed }
+visit_answer p f v l m n number (Err fault) start same stack h = subst (λ (u : CodedInstance). AnswersFault p (instance_of p u) f v fault) start h
+
+pub visit_then : (s : System) (d e f : Held) (l m n : Local) (number : ℕ) (y : Result Visited CircFault) → IsReady s d l → ReadsOn d e → IsSame l m → m.worklist.stack ≡ l.worklist.stack → Visits e f m n number y → Visits d f l n number y
+visit_then s d e f l m n number y r on same stack h = record {
+  goes = with_then d e f l m n (goes_read s d e l m r on same) h.goes;
+  answer = visit_answer (program_at d) d.0 f.1 l m n number y same.start same.entries stack (subst (λ (u : Program × Frame). AnswersVisit u.0 u.1 f.1 m n number y) (λ j. (program_on d e on.on j, on.on.cells j)) h.answer);
+}
+
+-- a pass, so far: the members up to this one are confirmed
+pub record IsPassed (d e : Held) (l m : Local) (upto : ℕ) : Type 0 where
+  pub goes : GoesOnWith (program_at d) d e l m
+  pub same : m.members.entries ≡ l.members.entries
+  pub confirmed : (k : ℕ) (x : CodedInstance × Member) → k < upto → slice_get m.members.entries k ≡ Some x → IsConfirmed (program_at d) e.1 m.members.entries x
+
+pub pass_begins : (s : System) (d : Held) (l : Local) → IsReady s d l → IsPassed d d l l 0
+pass_begins s d l r = record { goes = with_itself s d l r; same = refl; confirmed = λ k x low at. absurd (omega (arith, low)) }
+
+pub pass_ready : (s : System) (d e : Held) (l m : Local) (upto : ℕ) → IsReady s d l → IsPassed d e l m upto → IsReady s e m
+pass_ready s d e l m upto r h = ready_then s d e l m r h.goes
+
+pub pass_whole : (d e : Held) (l m : Local) (upto : ℕ) → length m.members.entries ≤ upto → IsPassed d e l m upto → Passes d e l m (Ok Same)
+pass_whole d e l m upto most h = record {
+  goes = h.goes;
+  answer = λ x there.
+      let at = has_at m.members.entries x there in
+      let low : at.0 < length m.members.entries = at_low m.members.entries at.0 x at.1 in
+      h.confirmed at.0 x (omega (arith, low, most)) at.1;
+}
+
+module _ (d e f : Held) (l m n : Local) (upto number : ℕ) (h : IsPassed d e l m upto) where
+  back : (y : Result Visited CircFault) → Visits e f m n number y → AnswersVisit (program_at d) d.0 f.1 m n number y
+  back y v = subst (λ (u : Program × Frame). AnswersVisit u.0 u.1 f.1 m n number y) (λ j. (program_on d e h.goes.on j, h.goes.on.cells j)) v.answer
+
+  pub pass_need : (x : CodedInstance) → Visits e f m n number (Ok (Need x)) → Passes d f l n (Ok (Need x))
+  pass_need x v = record { goes = with_then d e f l m n h.goes v.goes; answer = back (Ok (Need x)) v }
+
+  pub pass_changed : Visits e f m n number (Ok Changed) → Passes d f l n (Ok Changed)
+  pass_changed v = record { goes = with_then d e f l m n h.goes v.goes; answer = subst (λ (u : Members). left n.members.entries < left u) h.same (back (Ok Changed) v) }
+
+  pub pass_fault : (fault : CircFault) → Visits e f m n number (Err fault) → (y : Result Visited CircFault) → y ≡ Err fault → Passes d f l n y
+  pass_fault fault v y is = subst (λ (z : Result Visited CircFault). Passes d f l n z) (sym is) (record { goes = with_then d e f l m n h.goes v.goes; answer = subst (λ (u : CodedInstance). AnswersFault (program_at d) (instance_of (program_at d) u) d.0 f.1 fault) h.goes.start (back (Err fault) v) })
+
+  stays : Visits e f m n number (Ok Same) → Stays (program_at d) f.1 m n number
+  stays v = back (Ok Same) v
+
+  before : (v : Visits e f m n number (Ok Same)) → (k : ℕ) (x : CodedInstance × Member) → k < upto → slice_get n.members.entries k ≡ Some x → IsConfirmed (program_at d) f.1 n.members.entries x
+  before v k x low at =
+      let st = stays v in
+      subst (λ (u : Members). IsConfirmed (program_at d) f.1 u x) (sym st.members)
+      (confirmed_later (program_at d) e.1 f.1 v.goes.on.kept m.members.entries x (h.confirmed k x low (ap (λ (u : Members). slice_get u k) (sym st.members) ∙ at)))
+
+  -- the one that waited is taken away
+  pub pass_popped : Visits e f m n number (Ok Same) → (o : Local) → o.start ≡ n.start → o.members ≡ n.members → o.need ≡ n.need → IsPassed d f l o upto
+  pass_popped v o start members need =
+      let st = stays v in
+      let entries : o.members.entries ≡ n.members.entries = ap (λ x. x.entries) members in
+      let whole = with_then d e f l m n h.goes v.goes in
+      record {
+        goes = record {
+          on = whole.on;
+          local = local_same (program_at d) d.0 f.1 n o start entries need whole.local;
+          start = start ∙ whole.start;
+          claims = whole.claims;
+          some = λ some. subst (λ (u : Members). 0 < length u) (sym entries) (whole.some some);
+        };
+        same = entries ∙ st.members ∙ h.same;
+        confirmed = λ k x low at.
+            subst (λ (u : Members). IsConfirmed (program_at d) f.1 u x) (sym entries)
+            (before v k x low (ap (λ (u : Members). slice_get u k) (sym entries) ∙ at));
+      }
+
+  -- the next one is confirmed too
+  pub pass_next : number ≡ upto → Visits e f m n number (Ok Same) → IsPassed d f l n (upto + 1)
+  pass_next is v =
+      let st = stays v in
+      record {
+        goes = with_then d e f l m n h.goes v.goes;
+        same = st.members ∙ h.same;
+        confirmed = λ k x low at.
+            elim (cases_order k upto) [
+              | inl q ↦ st.confirmed x (ap (λ (j : ℕ). slice_get n.members.entries j) (is ∙ sym q) ∙ at)
+              | inr o ↦ before v k x (⊎_elim (λ z. z) (λ z. absurd (omega (arith, low, z))) o) at
+            ];
+      }
+
+-- whether there is a member with a cell
+pub no_entry : (es : Members) (k : ℕ) → None ≡ slice_get es k → (e : CodedInstance × Member) → slice_get es k ≡ Some e → ⊥
+no_entry es k h e at = let both : None ≡ Some e = h ∙ at in cc
+
+pub final_entry : (es : Members) (k : ℕ) (x : CodedInstance × Member) → slice_get es k ≡ Some x → is_some x.1.slot ≡ false → (e : CodedInstance × Member) → slice_get es k ≡ Some e → IsSome e.1.slot → ⊥
+final_entry es k x here none e at some =
+    let both : Some e ≡ Some x = sym at ∙ here in
+    let same : e ≡ x = cc in
+    not_both none (ap (λ (u : CodedInstance × Member). is_some u.1.slot) (sym same) ∙ some)
+
+-- a pass ends
+pub popped_less : (l m n : Local) (upto : ℕ) → m.members.entries ≡ l.members.entries → m.worklist.stack ≡ l.worklist.stack → n.members ≡ m.members → 0 < length l.worklist.stack.items → (0 < length m.worklist.stack.items → length n.worklist.stack.items < length m.worklist.stack.items) → (length n.members.entries - upto) + length n.worklist.stack.items < (length l.members.entries - upto) + length l.worklist.stack.items
+popped_less l m n upto same stack members some fewer =
+    let entries : length n.members.entries ≡ length l.members.entries = ap (λ x. length x.entries) members ∙ ap length same in
+    let waits : length m.worklist.stack.items ≡ length l.worklist.stack.items = ap (λ x. length x.items) stack in
+    let less : length n.worklist.stack.items < length m.worklist.stack.items = fewer (subst (λ (k : ℕ). 0 < k) (sym waits) some) in
+    omega (arith, entries, waits, less)
+
+pub next_less : (l m : Local) (upto : ℕ) → m.members.entries ≡ l.members.entries → m.worklist.stack ≡ l.worklist.stack → upto < length l.members.entries → (length m.members.entries - (upto + 1)) + length m.worklist.stack.items < (length l.members.entries - upto) + length l.worklist.stack.items
+next_less l m upto same stack low =
+    let entries : length m.members.entries ≡ length l.members.entries = ap length same in
+    let waits : length m.worklist.stack.items ≡ length l.worklist.stack.items = ap (λ x. length x.items) stack in
+    omega (arith, entries, waits, low)
+
+pub some_waits : {X P : Type 0} (o : Option X) → IfSome o (λ x. P) → is_some o ≡ true → P
+some_waits None h e = cc
+some_waits (Some x) h e = h
+
+pub none_waits : {X : Type 0} (o : Option X) → is_some o ≡ false → o ≡ None
+none_waits None e = refl
+none_waits (Some x) e = cc

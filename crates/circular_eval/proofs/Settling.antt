@@ -1,0 +1,106 @@
+-- The answers of a reader over a local set.
+use Rattle.std.proofs.Common.{◌≡◌, true, false, cond, [], ◌∷◌, Option, Some, None, Result, Ok, Err, inl, inr, refl, sym, ap, subst, ◌∙◌}
+use Rattle.std.specs.Result.{IsErr}
+use Rattle.solutions.specs.Asking.{Ends, Halts}
+use Rattle.rag_io.specs.Pool.{ArePooled}
+use Rattle.rag_io.specs.declared.Memory.{Memory}
+use Rattle.equation_law.specs.declared.coding.Instance.{Instance as CodedInstance}
+use Rattle.equation_law.specs.declared.coding.Value.{Value as CodedValue}
+use Rattle.equation_law.specs.declared.system.System.{System}
+use Rattle.equation_law.specs.Codes.{AreElements, IsCoded, instance_of, value_of}
+use Rattle.equation_law.specs.Equations.{equations_of, is_declared, kind_in}
+use Rattle.equation_law.specs.Names.{Instance, same_instance}
+use Rattle.equation_law.specs.Orders.{FitsKind}
+use Rattle.equation_law.specs.Program.{Program, text_of}
+use Rattle.equation_law.specs.Reading.{IsSound, SettledBy, Settles, Told}
+use Rattle.equation_law.specs.Systems.{program_of}
+use Rattle.equation_law.specs.Values.{Value}
+use Rattle.equation_law.proofs.Names.{same_instance_is, same_instance_self}
+use Rattle.equation_law.proofs.Pooled.{texts_pooled}
+use Rattle.memo_cells.specs.Views.{Has}
+use Rattle.memo_cells.proofs.Showing.{not_both}
+use Rattle.expr_eval.specs.declared.sites.Turn.{Turn}
+use Rattle.expr_eval.specs.declared.sites.Turn.TheVariants as turns
+use Rattle.expr_eval.specs.Evaluating.{AnswersTurn}
+use Rattle.memo_cells.specs.Working.{Held, IsOwn, ReadsOn, TellsPass, program_at}
+use Rattle.circular_eval.specs.declared.members.Member.{Member}
+use Rattle.circular_eval.specs.Local.{AreKept, IsMemberOf, Members, ReadsHere, local_value}
+use Rattle.circular_eval.specs.Looking.{ComesTo, told_here}
+use Rattle.circular_eval.proofs.Going.{program_on}
+use Rattle.circular_eval.proofs.Looking.{here_grows, here_same, read_absent, read_member, read_settled, work_reads, work_sound}
+
+settles_err : {S : Type 0} (p : Program) (s : Told S) (i : Instance) (r : Result (Option CodedValue) Memory) → IsErr r → Settles p s i r
+settles_err p s i (Ok x) e = cc
+settles_err p s i (Err m) e = tt
+
+-- an entry that isn't the first one is behind it
+other_entry : (p : Program) (d e : CodedInstance × Member) (es : Members) (j : Instance) → Has (d ∷ es) e → instance_of p e.0 ≡ j → same_instance j (instance_of p d.0) ≡ false → Has es e
+other_entry p d e es j (inl q) is h = absurd (not_both h (ap (λ (x : CodedInstance × Member). same_instance j (instance_of p x.0)) (sym q) ∙ ap (λ (i : Instance). same_instance j i) is ∙ same_instance_self j))
+other_entry p d e es j (inr q) is h = q
+
+-- the value of a member is of its type
+local_fits : (p : Program) (es : Members) (j : Instance) → AreKept p es → IsMemberOf p es j → FitsKind (kind_in p j) (local_value p es j)
+local_fits p [] j kept (e, there, is) = absurd there
+local_fits p (d ∷ es) j kept (e, there, is) =
+    elim (same_instance j (instance_of p d.0)) as (λ b. same_instance j (instance_of p d.0) ≡ b → FitsKind (kind_in p j) (cond b (value_of (text_of p) d.1.value) (local_value p es j))) [
+      | true ↦ λ h. subst (λ (i : Instance). FitsKind (kind_in p i) (value_of (text_of p) d.1.value)) (sym (same_instance_is j (instance_of p d.0) h)) (kept d (inl refl)).2
+      | false ↦ λ h. local_fits p es j (λ x q. kept x (inr q)) (e, other_entry p d e es j there is h, is)
+    ] refl
+
+-- where memory is wanting
+pub same_settles : {S : Type 0} (d : Held) (s : System) (es : Members) (keeps : S → Type 0) (i : CodedInstance) (r : Result (Option CodedValue) Memory) → IsErr r → SettledBy (told_here d s es keeps) (told_here d s es keeps) i r
+same_settles d s es keeps i r e = record {
+  kept = λ p sound. here_same d s es keeps p sound;
+  answer = λ p sound coded. settles_err p (told_here d s es keeps) (instance_of p i) r e;
+}
+
+-- what reads with a work goes on
+pub reads : {W : Type 0} (held : W → Held) (x y : W) (r t : Told W) → TellsPass held x r → TellsPass held y t → (i : CodedInstance) (result : Result (Option CodedValue) Memory) → SettledBy r t i result → IsOwn (held x) → ReadsOn (held x) (held y)
+reads held x y r t a b i result h own = work_reads held x y r t a b own (h.kept (program_at (held x)) (work_sound held x r a))
+
+-- of an undeclared instance, what the work answers
+pub work_settles : {W S : Type 0} (held : W → Held) (x y : W) (r t : Told W) → TellsPass held x r → TellsPass held y t → (s : System) (es : Members) (keeps more : S → Type 0) → ((z : S) → ReadsOn (held x) (held y) → keeps z → more z) → (i : CodedInstance) (result : Result (Option CodedValue) Memory) → is_declared (program_of s) (instance_of (program_of s) i) ≡ false → SettledBy r t i result → SettledBy (told_here (held x) s es keeps) (told_here (held y) s es more) i result
+work_settles held x y r t a b s es keeps more goes i result e h = record {
+  kept = λ p sound.
+      let on = reads held x y r t a b i result h sound.for.2 in
+      here_grows (held x) (held y) s es keeps more on (λ z. goes z on) p sound;
+  answer = λ p sound coded.
+      let on = reads held x y r t a b i result h sound.for.2 in
+      let same : p ≡ program_at (held y) = sound.for.0 ∙ sym (program_on (held x) (held y) on.on) in
+      let here : program_of s ≡ program_at (held y) = sym (ap program_of sound.for.1) ∙ sym (program_on (held x) (held y) on.on) in
+      let work = work_sound held x r a in
+      let told : Settles p t (instance_of p i) result = h.answer p (subst (λ (q : Program). IsSound q r) (sym sound.for.0) work) coded in
+      subst (λ (q : Program). Settles q (told_here (held y) s es more) (instance_of q i) result) (sym same)
+      (read_settled held y t b s es more (instance_of (program_at (held y)) i) result (subst (λ (q : Program). is_declared q (instance_of q i) ≡ false) here e) (subst (λ (q : Program). Settles q t (instance_of q i) result) same told));
+}
+
+-- of a member, its value
+pub member_settles : {S : Type 0} (d : Held) (s : System) (es : Members) (keeps : S → Type 0) (i : CodedInstance) (x : CodedValue) → is_declared (program_of s) (instance_of (program_of s) i) ≡ true → ((p : Program) → IsMemberOf p es (instance_of p i)) → ((p : Program) → ArePooled p.texts → IsCoded p i → AreKept p es → local_value p es (instance_of p i) ≡ value_of (text_of p) x) → ((p : Program) → AreKept p es → AreElements p x) → SettledBy (told_here d s es keeps) (told_here d s es keeps) i (Ok (Some x))
+member_settles d s es keeps i x e member is elements = record {
+  kept = λ p sound. here_same d s es keeps p sound;
+  answer = λ p sound coded.
+      let q : program_of s ≡ program_at d = sym (ap program_of sound.for.1) in
+      let kept : AreKept (program_at d) es = subst (λ (u : Program). AreKept u es) sound.for.0 sound.for.3 in
+      let coded_here : IsCoded (program_at d) i = subst (λ (u : Program). IsCoded u i) sound.for.0 coded in
+      let value = is (program_at d) (texts_pooled d.0.system.value) coded_here kept in
+      subst (λ (u : Program). Settles u (told_here d s es keeps) (instance_of u i) (Ok (Some x))) (sym sound.for.0)
+      (read_member d s es keeps (instance_of (program_at d) i) x (subst (λ (u : Program). is_declared u (instance_of u i) ≡ true) q e) (member (program_at d)) value
+      (subst (λ (y : Value). FitsKind (kind_in (program_at d) (instance_of (program_at d) i)) y) value (local_fits (program_at d) es (instance_of (program_at d) i) kept (member (program_at d)))) (elements (program_at d) kept));
+}
+
+-- of another circular instance, nothing
+pub none_settles : {S : Type 0} (d : Held) (s : System) (es : Members) (keeps : S → Type 0) (i : CodedInstance) → is_declared (program_of s) (instance_of (program_of s) i) ≡ true → ((p : Program) → ArePooled p.texts → IsCoded p i → AreKept p es → ¬ IsMemberOf p es (instance_of p i)) → SettledBy (told_here d s es keeps) (told_here d s es keeps) i (Ok None)
+none_settles d s es keeps i e none = record {
+  kept = λ p sound. here_same d s es keeps p sound;
+  answer = λ p sound coded.
+      let q : program_of s ≡ program_at d = sym (ap program_of sound.for.1) in
+      let kept : AreKept (program_at d) es = subst (λ (u : Program). AreKept u es) sound.for.0 sound.for.3 in
+      let coded_here : IsCoded (program_at d) i = subst (λ (u : Program). IsCoded u i) sound.for.0 coded in
+      subst (λ (u : Program). Settles u (told_here d s es keeps) (instance_of u i) (Ok None)) (sym sound.for.0)
+      (read_absent d s es keeps (instance_of (program_at d) i) (subst (λ (u : Program). is_declared u (instance_of u i) ≡ true) q e) (none (program_at d) (texts_pooled d.0.system.value) coded_here kept));
+}
+
+-- what an evaluation came to, by what was read at its end
+pub came_to : {S : Type 0} (p : Program) (e : Held) (s : System) (es : Members) (keeps : S → Type 0) (i : Instance) (turn : Turn) → p ≡ program_at e → AnswersTurn p (told_here e s es keeps) ((equations_of p).equation i) (Ok turn) → ComesTo p e.1 es i turn
+came_to p e s es keeps i (turns.Done x) is a = ((a.demands, subst (λ (q : Program). Ends (ReadsHere q e.1 es) ((equations_of p).equation i) (value_of (text_of p) x) a.demands) (sym is) a.ends), a.coded)
+came_to p e s es keeps i (turns.Need n) is a = ((a.demands, subst (λ (q : Program). Halts (ReadsHere q e.1 es) ((equations_of p).equation i) (instance_of p n) a.demands) (sym is) a.halts), a.coded)

@@ -1,0 +1,250 @@
+-- Raising what a value has more than another one.
+use Rattle.std.proofs.Common.{◌≡◌, ◌<◌, ◌≤◌, ℕ, ℤ, zero, suc, Bool, true, false, List, [], Option, Some, None, Result, Ok, Err, inl, refl, sym, ap, subst, ◌∙◌, arith}
+use Rattle.std.specs.Int.{bit_at}
+use Rattle.std.specs.List.{All}
+use Rattle.std.specs.Result.{IsErr, IsErrAnd}
+use Rattle.ast_grammar.specs.declared.grammar.ClassId.{ClassId}
+use Rattle.attr_rules.specs.declared.kinds.Kind.{Kind}
+use Rattle.attr_rules.specs.declared.kinds.Kind.TheVariants as kinds
+use Rattle.attr_rules.specs.Rules.{is_single}
+use Rattle.attr_rules.specs.Types.{truth_kind}
+use Rattle.equation_law.specs.declared.coding.Value.{Value as CodedValue}
+use Rattle.equation_law.specs.declared.coding.Value.TheVariants as coded
+use Rattle.equation_law.specs.declared.system.System.{System}
+use Rattle.equation_law.specs.Checked.{IsNodeOf, IsValue, int as is_int, node as is_node, nodes as are_nodes, text as is_text}
+use Rattle.equation_law.specs.Codes.{reference_of, value_of}
+use Rattle.equation_law.specs.Equations.{kind_in}
+use Rattle.equation_law.specs.Names.{At, Instance, NodeName, Reference, Source}
+use Rattle.equation_law.specs.Orders.{FitsKind}
+use Rattle.equation_law.specs.Program.{Program, text_of}
+use Rattle.equation_law.specs.Sets.{has}
+use Rattle.equation_law.specs.Values.{Int, Node, Nodes, Text, Value}
+use Rattle.memo_cells.specs.Naming.{IsCellOf, IsElementCode}
+use Rattle.memo_cells.specs.Showing.{IsWordSeen, ShowsAtLeast, ShowsTrue, has_code}
+use Rattle.memo_cells.specs.Standing.{HasWord, MayRaise}
+use Rattle.memo_cells.specs.Views.{Has, times}
+use Rattle.memo_cells.specs.Working.{GoesOn, Held, IsOwn, program_at}
+use Rattle.memo_cells.proofs.Naming.{cell_later}
+use Rattle.memo_cells.proofs.Showing.{at_least_later, not_both}
+use Rattle.set_values.specs.CodedSets.{node_set, text_set}
+use Rattle.set_values.proofs.Coded.{holds_of}
+use Rattle.set_values.proofs.NodeCodes.{IsNode, has_node_code}
+use Rattle.set_values.proofs.TextCodes.{IsKnown, has_text_code}
+use Rattle.set_words.specs.Raising.{ClaimsWords, MayShowAll, set_codes}
+use Rattle.circular_eval.specs.declared.advancing.CircFault.{CircFault}
+use Rattle.circular_eval.specs.Rising.{AnswersRaise, AnswersSet, MayRise, RaisesSet, RaisesValue}
+use Rattle.circular_eval.proofs.Holding.{goes_itself}
+use Rattle.circular_eval.proofs.Raised.{err_is, no_claims}
+use Rattle.circular_eval.proofs.Rising.{kind_of_nodes, kind_of_texts, kind_of_truth, nodes_most, nodes_risen, texts_most, texts_risen, there_code, truth_most, truth_risen}
+
+-- both as they are coded
+pub as_coded : (d e : Held) (place : ℕ) (value other x y : CodedValue) (r : Result (Option CodedValue) CircFault) → value ≡ x → other ≡ y → RaisesValue d e place x y r → RaisesValue d e place value other r
+as_coded d e place value other x y r a b h = subst (λ (z : CodedValue × CodedValue). RaisesValue d e place z.0 z.1 r) (λ i. (sym a i, sym b i)) h
+
+pub may_coded : (d : Held) (i : Instance) (place : ℕ) (value other x y : CodedValue) → value ≡ x → other ≡ y → MayRise d i place value other → MayRise d i place x y
+may_coded d i place value other x y a b h = subst (λ (z : CodedValue × CodedValue). MayRise d i place z.0 z.1) (λ j. (a j, b j)) h
+
+-- truth values
+pub truth_none : (d : Held) → IsOwn d → (place : ℕ) (a b : Bool) → (a ≡ true → b ≡ true) → RaisesValue d d place (coded.Truth a) (coded.Truth b) (Ok None)
+truth_none d own place a b h = record {
+  on = goes_itself d own;
+  answer = λ i may. truth_most (text_of (program_at d)) a b h;
+  claims = λ i may. no_claims (program_at d) d.1 i [];
+}
+
+kind_is : (d : Held) (i : Instance) (place : ℕ) (a b : Bool) → MayRise d i place (coded.Truth a) (coded.Truth b) → kind_in (program_at d) i ≡ kinds.Truth
+kind_is d i place a b may = kind_of_truth (program_at d) (kind_in (program_at d) i) a may.typed
+
+pub truth_may : (d : Held) (i : Instance) (place : ℕ) (a b : Bool) → a ≡ true → MayRise d i place (coded.Truth a) (coded.Truth b) → MayRaise (program_at d) d.1 place 0 1
+truth_may d i place a b e may = inl (record { of = i; key = may.cell.0; here = may.cell.1.1; stands = may.cell.2; is_circular = may.is_circular; kind = kind_is d i place a b may; value = value_of (text_of (program_at d)) (coded.Truth a); comes = may.comes; is_true = e }, refl, refl)
+
+module _ (d e : Held) (place : ℕ) (a b : Bool) (on : GoesOn d e) (plain : (i : Instance) → IsCellOf (program_at d) d.0 e.1 i place → truth_kind (kind_in (program_at d) i) ≡ true → e.1.claims ≡ d.1.claims) where
+  later : (i : Instance) → MayRise d i place (coded.Truth a) (coded.Truth b) → IsCellOf (program_at d) d.0 e.1 i place
+  later i may = cell_later d.1 e.1 on.kept (program_at d) d.0 i place may.cell
+
+  truth_claims : (i : Instance) → MayRise d i place (coded.Truth a) (coded.Truth b) → ClaimsWords (program_at d) d.1 e.1 i []
+  truth_claims i may q = inl (ap (λ (cs : List ℕ). times q cs) (plain i (later i may) (ap truth_kind (kind_is d i place a b may))))
+
+  pub truth_full : ((i : Instance) → IsCellOf (program_at d) d.0 e.1 i place → is_single (kind_in (program_at d) i) ≡ false) → (r : Result (Option CodedValue) CircFault) → RaisesValue d e place (coded.Truth a) (coded.Truth b) r
+  truth_full set r = record {
+    on = on;
+    answer = λ i may. absurd (not_both (set i (later i may)) (ap is_single (kind_is d i place a b may)));
+    claims = truth_claims;
+  }
+
+  one_bit : (x : ℕ) → x ≤ 1 → bit_at x 0 ≡ 1 → x ≡ 1
+  one_bit zero l h = absurd (let q : ⊥ = cc in q)
+  one_bit (suc zero) l h = refl
+  one_bit (suc (suc n)) l h = absurd (omega (arith, l))
+
+  seen_true : (i : Instance) (k : Kind) (x : ℕ) → k ≡ kinds.Truth → IsWordSeen (program_at d) e.1 i k 0 x → bit_at x 0 ≡ 1 → ShowsTrue (program_at d) e.1 i
+  seen_true i k x is seen bit = let s = subst (λ (j : Kind). IsWordSeen (program_at d) e.1 i j 0 x) is seen in s.1.0 (one_bit x s.0 bit)
+
+  pub truth_more : a ≡ true → b ≡ false → (x : ℕ) → HasWord (program_at d) d.0 e.1 place 0 1 x → RaisesValue d e place (coded.Truth a) (coded.Truth b) (Ok (Some (coded.Truth true)))
+  truth_more h k x word = record {
+    on = on;
+    answer = λ i may.
+        let kind = kind_is d i place a b may in
+        subst (λ (z : Bool × Bool). AnswersRaise (program_at d) d.0 e.1 i (coded.Truth z.0) (coded.Truth z.1) (Ok (Some (coded.Truth true)))) (λ j. (sym h j, sym k j))
+        (truth_risen (program_at d) e.1 i kind (seen_true i (kind_in (program_at d) i) x kind (word.seen i (later i may)) (word.added 0 refl)));
+    claims = truth_claims;
+  }
+
+-- sets
+abbrev pub wrapped : (List ℕ → CodedValue) → Result (Option (List ℕ)) CircFault → Result (Option CodedValue) CircFault
+wrapped f (Ok None) = Ok None
+wrapped f (Ok (Some x)) = Ok (Some (f x))
+wrapped f (Err fault) = Err fault
+
+module _ (d : Held) (i : Instance) (place : ℕ) (a : List ℕ) (b : CodedValue) where
+  abbrev s : System
+  s = d.0.system.value
+
+  abbrev p : Program
+  p = program_at d
+
+  text_element : kind_in p i ≡ kinds.Texts → All (IsKnown s) a → (c : ℕ) → Has a c → IsElementCode p (kind_in p i) c × (has_code (text_of p) (kind_in p i) (value_of (text_of p) (coded.Texts a)) c ≡ true)
+  text_element k all c there =
+      let known = holds_of (IsKnown s) a all c (there_code a c there) in
+      subst (λ (j : Kind). IsElementCode p j c × (has_code (text_of p) j (value_of (text_of p) (coded.Texts a)) c ≡ true)) (sym k) (known, has_text_code s c known a all ∙ there_code a c there)
+
+  pub texts_show : MayRise d i place (coded.Texts a) b → MayShowAll p d.0 d.1 i place a
+  texts_show may = record {
+    cell = may.cell;
+    instance = may.instance;
+    value = value_of (text_of p) (coded.Texts a);
+    may = inl (may.is_circular, may.comes);
+    elements = text_element (kind_of_texts p (kind_in p i) (text_set p a) may.typed) may.elements;
+  }
+
+  nodes_at : (c : ClassId) → IsValue p (kinds.Nodes c) (Nodes (node_set a)) → (n : NodeName) → has (node_set a) n ≡ true → IsNodeOf p c (At n)
+  nodes_at c (are_nodes _ _ h) n there = h n there
+
+  node_there : (c : ClassId) (k : Kind) → k ≡ kinds.Nodes c → IsValue p k (Nodes (node_set a)) → (n : NodeName) → has (node_set a) n ≡ true → IsNodeOf p c (At n)
+  node_there c k e h n there = nodes_at c (subst (λ (j : Kind). IsValue p j (Nodes (node_set a))) e h) n there
+
+  node_code : (c : ClassId) → ((n : NodeName) → has (node_set a) n ≡ true → IsNodeOf p c (At n)) → (k : ℕ) → 0 < k → has_code (text_of p) (kinds.Nodes c) (value_of (text_of p) (coded.Nodes a)) k ≡ true → IsNodeOf p c (reference_of k)
+  node_code c h zero low e = absurd (omega (arith, low))
+  node_code c h (suc k) low e = h (Source k) e
+
+  node_element : (c : ClassId) → kind_in p i ≡ kinds.Nodes c → IsValue p (kind_in p i) (Nodes (node_set a)) → All IsNode a → (k : ℕ) → Has a k → IsElementCode p (kind_in p i) k × (has_code (text_of p) (kind_in p i) (value_of (text_of p) (coded.Nodes a)) k ≡ true)
+  node_element c q typed all k there =
+      let low = holds_of IsNode a all k (there_code a k there) in
+      let within = has_node_code k a all ∙ there_code a k there in
+      subst (λ (j : Kind). IsElementCode p j k × (has_code (text_of p) j (value_of (text_of p) (coded.Nodes a)) k ≡ true)) (sym q) ((low, node_code c (node_there c (kind_in p i) q typed) k low within), within)
+
+  pub nodes_show : MayRise d i place (coded.Nodes a) b → MayShowAll p d.0 d.1 i place a
+  nodes_show may =
+      let k = kind_of_nodes p (kind_in p i) (node_set a) may.typed in
+      record {
+        cell = may.cell;
+        instance = may.instance;
+        value = value_of (text_of p) (coded.Nodes a);
+        may = inl (may.is_circular, may.comes);
+        elements = node_element k.0 k.1 may.typed may.elements;
+      }
+
+module _ (d e : Held) (place : ℕ) (a b : List ℕ) (on : GoesOn d e) where
+  abbrev q : Program
+  q = program_at d
+
+  later_shown : (i : Instance) (k : Kind) (x : Value) → kind_in q i ≡ k → ShowsAtLeast q d.1 i (kind_in q i) x → ShowsAtLeast q e.1 i k x
+  later_shown i k x is h = at_least_later q d.1 e.1 on.kept i k x (subst (λ (j : Kind). ShowsAtLeast q d.1 i j x) is h)
+
+  texts_answer : (i : Instance) → MayRise d i place (coded.Texts a) (coded.Texts b) → (r : Result (Option (List ℕ)) CircFault) → AnswersSet q d.0 e.1 i a b r → AnswersRaise q d.0 e.1 i (coded.Texts a) (coded.Texts b) (wrapped coded.Texts r)
+  texts_answer i may (Ok None) h = texts_most d.0.system.value e.1 i a b may.of h
+  texts_answer i may (Ok (Some both)) h =
+      let k = kind_of_texts q (kind_in q i) (text_set q a) may.typed in
+      texts_risen d.0.system.value e.1 i k a b both h may.elements may.of (later_shown i kinds.Texts (value_of (text_of q) (coded.Texts b)) k may.shown)
+  texts_answer i may (Err fault) h = h
+
+  nodes_answer : (i : Instance) → MayRise d i place (coded.Nodes a) (coded.Nodes b) → (r : Result (Option (List ℕ)) CircFault) → AnswersSet q d.0 e.1 i a b r → AnswersRaise q d.0 e.1 i (coded.Nodes a) (coded.Nodes b) (wrapped coded.Nodes r)
+  nodes_answer i may (Ok None) h = nodes_most d.0.system.value e.1 i a b may.of h
+  nodes_answer i may (Ok (Some both)) h =
+      let k = kind_of_nodes q (kind_in q i) (node_set a) may.typed in
+      nodes_risen d.0.system.value e.1 i k.0 k.1 a b both h may.elements may.of (later_shown i (kinds.Nodes k.0) (value_of (text_of q) (coded.Nodes b)) k.1 may.shown)
+  nodes_answer i may (Err fault) h = h
+
+pub texts_raised : (d e : Held) (place : ℕ) (a b : List ℕ) (r : Result (Option (List ℕ)) CircFault) → RaisesSet d e place a b r → RaisesValue d e place (coded.Texts a) (coded.Texts b) (wrapped coded.Texts r)
+texts_raised d e place a b r h = record {
+  on = h.on;
+  answer = λ i may. texts_answer d e place a b h.on i may r (h.answer i (texts_show d i place a (coded.Texts b) may));
+  claims = λ i may. h.claims i (texts_show d i place a (coded.Texts b) may);
+}
+
+pub nodes_raised : (d e : Held) (place : ℕ) (a b : List ℕ) (r : Result (Option (List ℕ)) CircFault) → RaisesSet d e place a b r → RaisesValue d e place (coded.Nodes a) (coded.Nodes b) (wrapped coded.Nodes r)
+nodes_raised d e place a b r h = record {
+  on = h.on;
+  answer = λ i may. nodes_answer d e place a b h.on i may r (h.answer i (nodes_show d i place a (coded.Nodes b) may));
+  claims = λ i may. h.claims i (nodes_show d i place a (coded.Nodes b) may);
+}
+
+-- the error of raising a set is handed on
+pub handed_on : (d e : Held) (place : ℕ) (value other : CodedValue) (fault : CircFault) (r : Result (Option CodedValue) CircFault) → IsErr r × IsErrAnd r (λ x. x ≡ fault) → RaisesValue d e place value other (Err fault) → RaisesValue d e place value other r
+handed_on d e place value other fault r h x = subst (λ (q : Result (Option CodedValue) CircFault). RaisesValue d e place value other q) (sym (err_is r fault h)) x
+
+-- a value and another one of one circular type are of one form
+module _ (p : Program) (k : Kind) (value other : CodedValue) (typed : IsValue p k (value_of (text_of p) value)) (fits : FitsKind k (value_of (text_of p) other)) where
+  other_truth : (x : CodedValue) → FitsKind kinds.Truth (value_of (text_of p) x) → ((b : Bool) → x ≡ coded.Truth b → ⊥) → ⊥
+  other_truth (coded.Truth b) f n = n b refl
+  other_truth (coded.Int z) f n = let e = f.1 in cc
+  other_truth (coded.Text t) f n = let e = f.1 in cc
+  other_truth (coded.Node t) f n = let e = f.1 in cc
+  other_truth (coded.Texts t) f n = let e = f.1 in cc
+  other_truth (coded.Nodes t) f n = let e = f.1 in cc
+
+  other_texts : (x : CodedValue) → FitsKind kinds.Texts (value_of (text_of p) x) → ((b : List ℕ) → x ≡ coded.Texts b → ⊥) → ⊥
+  other_texts (coded.Truth b) f n = let e = f.1 in cc
+  other_texts (coded.Int z) f n = let e = f.1 in cc
+  other_texts (coded.Text t) f n = let e = f.1 in cc
+  other_texts (coded.Node t) f n = let e = f.1 in cc
+  other_texts (coded.Texts t) f n = n t refl
+  other_texts (coded.Nodes t) f n = let e = f.1 in cc
+
+  other_nodes : (c : ClassId) (x : CodedValue) → FitsKind (kinds.Nodes c) (value_of (text_of p) x) → ((b : List ℕ) → x ≡ coded.Nodes b → ⊥) → ⊥
+  other_nodes c (coded.Truth b) f n = let e = f.1 in cc
+  other_nodes c (coded.Int z) f n = let e = f.1 in cc
+  other_nodes c (coded.Text t) f n = let e = f.1 in cc
+  other_nodes c (coded.Node t) f n = let e = f.1 in cc
+  other_nodes c (coded.Texts t) f n = let e = f.1 in cc
+  other_nodes c (coded.Nodes t) f n = n t refl
+
+  pub not_truth : (a : Bool) → value ≡ coded.Truth a → ((b : Bool) → other ≡ coded.Truth b → ⊥) → ⊥
+  not_truth a e n = other_truth other (subst (λ (j : Kind). FitsKind j (value_of (text_of p) other)) (kind_of_truth p k a (subst (λ (x : CodedValue). IsValue p k (value_of (text_of p) x)) e typed)) fits) n
+
+  pub not_texts : (a : List ℕ) → value ≡ coded.Texts a → ((b : List ℕ) → other ≡ coded.Texts b → ⊥) → ⊥
+  not_texts a e n = other_texts other (subst (λ (j : Kind). FitsKind j (value_of (text_of p) other)) (kind_of_texts p k (text_set p a) (subst (λ (x : CodedValue). IsValue p k (value_of (text_of p) x)) e typed)) fits) n
+
+  pub not_nodes : (a : List ℕ) → value ≡ coded.Nodes a → ((b : List ℕ) → other ≡ coded.Nodes b → ⊥) → ⊥
+  not_nodes a e n =
+      let q = kind_of_nodes p k (node_set a) (subst (λ (x : CodedValue). IsValue p k (value_of (text_of p) x)) e typed) in
+      other_nodes q.0 other (subst (λ (j : Kind). FitsKind j (value_of (text_of p) other)) q.1 fits) n
+
+int_fits : (p : Program) (k : Kind) (x : Value) (z : ℤ) → IsValue p k (Int z) → FitsKind k x → ⊥
+int_fits p _ x z (is_int _ e) f = elim f [ ]
+
+text_fits : (p : Program) (k : Kind) (x : Value) (t : List ℕ) → IsValue p k (Text t) → FitsKind k x → ⊥
+text_fits p _ x t (is_text _ e) f = elim f [ ]
+
+node_fits : (p : Program) (k : Kind) (x : Value) (r : Reference) → IsValue p k (Node r) → FitsKind k x → ⊥
+node_fits p _ x r (is_node c _ e) f = elim f [ ]
+
+-- a value of a circular type is a truth value or a set
+pub not_single : (p : Program) (k : Kind) (value other : CodedValue) → IsValue p k (value_of (text_of p) value) → FitsKind k (value_of (text_of p) other) → ((a : Bool) → value ≡ coded.Truth a → ⊥) → ((a : List ℕ) → value ≡ coded.Texts a → ⊥) → ((a : List ℕ) → value ≡ coded.Nodes a → ⊥) → ⊥
+not_single p k (coded.Truth a) other typed fits x y z = x a refl
+not_single p k (coded.Int a) other typed fits x y z = int_fits p k (value_of (text_of p) other) a typed fits
+not_single p k (coded.Text a) other typed fits x y z = text_fits p k (value_of (text_of p) other) (text_of p a) typed fits
+not_single p k (coded.Node a) other typed fits x y z = node_fits p k (value_of (text_of p) other) (reference_of a.0) typed fits
+not_single p k (coded.Texts a) other typed fits x y z = y a refl
+not_single p k (coded.Nodes a) other typed fits x y z = z a refl
+
+-- the codes of a set to which an equation comes are those of its elements
+pub value_elements : (d : Held) (i : Instance) (place : ℕ) (value other : CodedValue) → MayRise d i place value other → (c : ℕ) → Has (set_codes value) c → IsElementCode (program_at d) (kind_in (program_at d) i) c × (has_code (text_of (program_at d)) (kind_in (program_at d) i) (value_of (text_of (program_at d)) value) c ≡ true)
+value_elements d i place (coded.Truth b) other may c there = absurd there
+value_elements d i place (coded.Int z) other may c there = absurd there
+value_elements d i place (coded.Text t) other may c there = absurd there
+value_elements d i place (coded.Node n) other may c there = absurd there
+value_elements d i place (coded.Texts a) other may c there = text_element d i place a other (kind_of_texts (program_at d) (kind_in (program_at d) i) (text_set (program_at d) a) may.typed) may.elements c there
+value_elements d i place (coded.Nodes a) other may c there =
+    let k = kind_of_nodes (program_at d) (kind_in (program_at d) i) (node_set a) may.typed in
+    node_element d i place a other k.0 k.1 may.typed may.elements c there

@@ -1,0 +1,6 @@
+-- The stack stays.
+use Rattle.std.proofs.Common.{◌≡◌}
+use Rattle.circular_eval.proofs.worklist.Worklist.note_reads.Given as goal
+
+abbrev pub invariant-loop-number : goal.invariant-loop-number
+invariant-loop-number l = l.self.stack ≡ l.initial.self.stack

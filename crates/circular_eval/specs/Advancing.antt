@@ -1,0 +1,88 @@
+-- What going on with a local set says.
+use Rattle.std.specs.Prelude.{◌≡◌, ℕ, true, false, ◌/◌, ◌⊎◌, List, [], ◌∷◌, ◌++◌, Some, Result, Ok, Err}
+use Rattle.equation_law.specs.declared.coding.Instance.{Instance as CodedInstance}
+use Rattle.equation_law.specs.Checked.{IsInstance}
+use Rattle.equation_law.specs.Codes.{IsCoded, instance_of}
+use Rattle.equation_law.specs.Equations.{equations_of, kind_in}
+use Rattle.equation_law.specs.Loops.{Chain, Leads}
+use Rattle.equation_law.specs.Lower.{IsLower}
+use Rattle.equation_law.specs.Names.{Instance}
+use Rattle.equation_law.specs.Program.{Program, text_of}
+use Rattle.equation_law.specs.Values.{Value}
+use Rattle.memo_cells.specs.declared.view.Frame.{Frame}
+use Rattle.memo_cells.specs.declared.view.View.{View}
+use Rattle.memo_cells.specs.Naming.{IsElementCode, IsKeyTo, IsWordOf}
+use Rattle.memo_cells.specs.Showing.{has_code}
+use Rattle.memo_cells.specs.Standing.{Knows}
+use Rattle.memo_cells.specs.Views.{Has, IsFull, times}
+use Rattle.circular_eval.specs.declared.advancing.CircFault.{CircFault}
+use Rattle.circular_eval.specs.declared.advancing.CircFault.TheVariants.{CellsFull, Memory}
+use Rattle.circular_eval.specs.declared.advancing.CircTurn.{CircTurn}
+use Rattle.circular_eval.specs.declared.advancing.CircTurn.TheVariants.{Closed, Need}
+use Rattle.circular_eval.specs.declared.local.Local.{Local}
+use Rattle.circular_eval.specs.declared.members.Member.{Member}
+
+-- each later member is led to by the one before
+abbrev pub AreLed : Program → List Instance → Type 0
+AreLed p [] = Unit {0}
+AreLed p (i ∷ []) = Unit {0}
+AreLed p (i ∷ j ∷ js) = Leads p i j × AreLed p (j ∷ js)
+
+-- a list that begins with i and ends with n, each led to by the one before
+pub record IsPath (p : Program) (i n : Instance) (path : List Instance) : Type 0 where
+  pub rest : List Instance
+  pub starts : path ≡ i ∷ rest
+  pub front : List Instance
+  pub ends : path ≡ front ++ n ∷ []
+  pub led : AreLed p path
+
+-- k is the key of a word of the set of a circular j, in which an element of a value lies that j has under some lower assignment
+pub record IsLowerWord (p : Program) (v : View) (j : Instance) (k : ℕ) : Type 0 where
+  pub word : ℕ
+  pub key : IsWordOf p v k j word
+  pub is_circular : (equations_of p).circular j ≡ true
+  pub values : Instance → Value
+  pub lower : IsLower p values
+  pub code : ℕ
+  pub element : IsElementCode p (kind_in p j) code
+  pub within : has_code (text_of p) (kind_in p j) (values j) code ≡ true
+  pub lies : code / 64 ≡ word
+
+-- k is a key of i: one on the way to the cell of an instance to which a chain leads from i, or of a word of its set
+pub record IsKeyFrom (p : Program) (v : View) (i : Instance) (k : ℕ) : Type 0 where
+  pub of : Instance
+  pub reached : Chain p i of
+  pub key : IsKeyTo p v of k ⊎ IsLowerWord p v of k
+
+-- what was claimed are cells of keys of i
+abbrev pub ClaimsFrom : Program → Instance → View → View → Type 0
+ClaimsFrom p i v w = (q : ℕ) → (times q w.claims ≡ times q v.claims) ⊎ ((k : ℕ) × Has w.keys (q, k) × IsKeyFrom p w i k)
+
+-- other keys have all the cells than some key of i
+abbrev pub FillsFrom : Program → Instance → Frame → View → Type 0
+FillsFrom p i f v = (k : ℕ) × IsKeyFrom p v i k × IsFull f v k
+
+-- an instance whose value is missing: it isn't circular, a member demands it, and its cell isn't seen settled
+pub record IsMissing (p : Program) (v : View) (l : Local) (n : CodedInstance) : Type 0 where
+  pub instance : IsInstance p (instance_of p n)
+  pub coded : IsCoded p n
+  pub undeclared : (equations_of p).circular (instance_of p n) ≡ false
+  pub unknown : ¬ Knows p v (instance_of p n)
+  pub reached : Chain p (instance_of p l.start) (instance_of p n)
+  pub number : ℕ
+  pub noted : l.need ≡ Some (number, n)
+
+-- the members of the set are seen sealed, the start among them, and each has a value in the solution
+pub record IsSealed (p : Program) (v : View) (l : Local) : Type 0 where
+  pub start : Knows p v (instance_of p l.start)
+  pub members : (e : CodedInstance × Member) → Has l.members.entries e → Knows p v (instance_of p e.0)
+
+-- where cells are wanting, other keys have all of them than some key of i
+abbrev pub AnswersFault : Program → Instance → Frame → View → CircFault → Type 0
+AnswersFault p i f v CellsFull = FillsFrom p i f v
+AnswersFault p i f v Memory = Unit {0}
+
+abbrev pub AnswersTurn : Program → Frame → View → Local → Result CircTurn CircFault → Type 0
+AnswersTurn p f v l (Ok (Need n)) = IsMissing p v l n
+AnswersTurn p f v l (Ok Closed) = IsSealed p v l
+AnswersTurn p f v l (Err fault) = AnswersFault p (instance_of p l.start) f v fault

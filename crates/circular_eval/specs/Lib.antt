@@ -1,0 +1,6 @@
+pub mod Advancing
+pub mod Left
+pub mod Local
+pub mod Looking
+pub mod Rising
+pub mod Visiting

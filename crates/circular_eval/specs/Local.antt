@@ -1,0 +1,117 @@
+-- Local sets: what they stand for.
+use Rattle.std.specs.Prelude.{◌≡◌, ℕ, zero, suc, ◌<◌, true, false, cond, List, [], ◌∷◌, Option, Some, None, slice_get}
+use Rattle.solutions.specs.Asking.{Ends}
+use Rattle.equation_law.specs.declared.coding.Instance.{Instance as CodedInstance}
+use Rattle.equation_law.specs.declared.coding.Value.{Value as CodedValue}
+use Rattle.equation_law.specs.Checked.{IsInstance}
+use Rattle.equation_law.specs.Codes.{AreElements, IsCoded, instance_of, value_of}
+use Rattle.equation_law.specs.Equations.{HasValue, equations_of, is_declared, kind_in}
+use Rattle.equation_law.specs.Loops.{Leads}
+use Rattle.equation_law.specs.Names.{Instance, same_instance}
+use Rattle.equation_law.specs.Orders.{AtMost, FitsKind}
+use Rattle.equation_law.specs.Program.{Program, text_of}
+use Rattle.equation_law.specs.Values.{Value, default_of}
+use Rattle.memo_cells.specs.declared.keys.Slot.{Slot}
+use Rattle.memo_cells.specs.declared.view.Frame.{Frame}
+use Rattle.memo_cells.specs.declared.view.View.{View}
+use Rattle.memo_cells.specs.Naming.{IsCellOf}
+use Rattle.memo_cells.specs.Showing.{ShowsAtLeast}
+use Rattle.memo_cells.specs.Standing.{Knows}
+use Rattle.memo_cells.specs.Views.{Has}
+use Rattle.memo_cells.specs.Working.{IsKnown}
+use Rattle.circular_eval.specs.declared.local.Local.{Local}
+use Rattle.circular_eval.specs.declared.members.Member.{Member}
+
+abbrev pub Members : Type 0
+Members = List (CodedInstance × Member)
+
+-- the value that the set has for i: that of the member, and the bottom of its type where i is none
+abbrev pub local_value : Program → Members → Instance → Value
+local_value p [] i = default_of (kind_in p i)
+local_value p (e ∷ es) i = cond (same_instance i (instance_of p e.0)) (value_of (text_of p) e.1.value) (local_value p es i)
+
+-- the members, where the one of this number has another value
+abbrev pub with_value : Members → ℕ → CodedValue → Members
+with_value [] n x = []
+with_value (e ∷ es) zero x = (e.0, record { slot = e.1.slot; value = x; by = e.1.by }) ∷ es
+with_value (e ∷ es) (suc n) x = e ∷ with_value es n x
+
+-- the members and their values are coded well, and the values are of the types of the members
+abbrev pub AreKept : Program → Members → Type 0
+AreKept p es = (e : CodedInstance × Member) → Has es e → IsCoded p e.0 × AreElements p e.1.value × FitsKind (kind_in p (instance_of p e.0)) (value_of (text_of p) e.1.value)
+
+-- j is a member
+abbrev pub IsMemberOf : Program → Members → Instance → Type 0
+IsMemberOf p es j = (e : CodedInstance × Member) × Has es e × (instance_of p e.0 ≡ j)
+
+-- an instance that is no member
+abbrev pub IsAbsent : Members → CodedInstance → Type 0
+IsAbsent es i = (e : CodedInstance × Member) → Has es e → e.0 ≡ i → ⊥
+
+-- what an equation may read: of undeclared instances values of the solution, and of circular ones the values of the set
+pub data MayRead (p : Program) (es : Members) : Instance → Value → Type 0 where
+  solved : {j : Instance} {w : Value} → is_declared p j ≡ false → HasValue p j w → MayRead p es j w
+  present : {j : Instance} → is_declared p j ≡ true → MayRead p es j (local_value p es j)
+
+-- what it reads: undeclared instances that are seen settled, and members
+pub data ReadsHere (p : Program) (v : View) (es : Members) : Instance → Value → Type 0 where
+  settled : {j : Instance} {w : Value} → is_declared p j ≡ false → IsKnown p v j w → ReadsHere p v es j w
+  here : {j : Instance} → is_declared p j ≡ true → IsMemberOf p es j → ReadsHere p v es j (local_value p es j)
+
+-- the number of a member, which is j
+pub record IsNumberOf (p : Program) (es : Members) (j : Instance) (number : ℕ) : Type 0 where
+  pub entry : CodedInstance × Member
+  pub at : slice_get es number ≡ Some entry
+  pub is : instance_of p entry.0 ≡ j
+
+-- the equation of i comes to at most the value that the set has for it, and all that it reads are members or seen settled
+pub record IsCurrent (p : Program) (v : View) (es : Members) (i : Instance) : Type 0 where
+  pub value : Value
+  pub demands : List Instance
+  pub ends : Ends (ReadsHere p v es) ((equations_of p).equation i) value demands
+  pub below : AtMost value (local_value p es i)
+
+-- its cell; without one its value is that of the solution, and it was seen sealed
+abbrev pub IsPlaced : Program → Frame → View → Instance → Value → Option Slot → Type 0
+IsPlaced p f v i x None = Knows p v i × HasValue p i x
+IsPlaced p f v i x (Some s) = IsCellOf p f v i s.0
+
+-- the start, or led to by a member of a smaller number
+abbrev pub IsLedBy : Program → Members → CodedInstance → ℕ → CodedInstance → Option ℕ → Type 0
+IsLedBy p es start number i None = i ≡ start
+IsLedBy p es start number i (Some by) = (by < number) × ((e : CodedInstance × Member) × (slice_get es by ≡ Some e) × Leads p (instance_of p e.0) (instance_of p i))
+
+-- a circular instance of the program with a value that the words show
+pub record IsMember (p : Program) (f : Frame) (v : View) (es : Members) (start : CodedInstance) (number : ℕ) (e : CodedInstance × Member) : Type 0 where
+  pub instance : IsInstance p (instance_of p e.0)
+  pub coded : IsCoded p e.0
+  pub is_circular : (equations_of p).circular (instance_of p e.0) ≡ true
+  pub elements : AreElements p e.1.value
+  pub fits : FitsKind (kind_in p (instance_of p e.0)) (value_of (text_of p) e.1.value)
+  pub shown : ShowsAtLeast p v (instance_of p e.0) (kind_in p (instance_of p e.0)) (value_of (text_of p) e.1.value)
+  pub placed : IsPlaced p f v (instance_of p e.0) (value_of (text_of p) e.1.value) e.1.slot
+  pub led : IsLedBy p es start number e.0 e.1.by
+
+-- the set of these members
+pub record AreMembers (p : Program) (f : Frame) (v : View) (start : CodedInstance) (es : Members) : Type 0 where
+  pub first : (e : CodedInstance × Member) → slice_get es 0 ≡ Some e → e.0 ≡ start
+  pub members : (number : ℕ) (e : CodedInstance × Member) → slice_get es number ≡ Some e → IsMember p f v es start number e
+  pub different : (m n : ℕ) (i : Instance) → IsNumberOf p es i m → IsNumberOf p es i n → m ≡ n
+
+-- these are the cells of the members that have one
+pub record AreSlots (es : Members) (slots : List Slot) : Type 0 where
+  pub within : (s : Slot) → Has slots s → (e : CodedInstance × Member) × Has es e × (e.1.slot ≡ Some s)
+  pub all : (e : CodedInstance × Member) (s : Slot) → Has es e → e.1.slot ≡ Some s → Has slots s
+
+-- what is missing isn't circular, and a member leads to it
+abbrev pub IsNeedOf : Program → Members → Option (ℕ × CodedInstance) → Type 0
+IsNeedOf p es None = Unit {0}
+IsNeedOf p es (Some (number, n)) = (e : CodedInstance × Member) × (slice_get es number ≡ Some e) × Leads p (instance_of p e.0) (instance_of p n)
+
+-- a local set of a circular instance of the program, under what a pass of the cells knows
+pub record IsLocal (p : Program) (f : Frame) (v : View) (l : Local) : Type 0 where
+  pub instance : IsInstance p (instance_of p l.start)
+  pub coded : IsCoded p l.start
+  pub is_circular : (equations_of p).circular (instance_of p l.start) ≡ true
+  pub set : AreMembers p f v l.start l.members.entries
+  pub need : IsNeedOf p l.members.entries l.need

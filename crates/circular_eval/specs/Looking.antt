@@ -1,0 +1,28 @@
+-- What an evaluation under a local set reads from, and what it comes to.
+use Rattle.std.specs.Prelude.{◌≡◌, List}
+use Rattle.solutions.specs.Asking.{Ends, Halts}
+use Rattle.equation_law.specs.declared.system.System.{System}
+use Rattle.equation_law.specs.Codes.{AreElements, IsCoded, instance_of, value_of}
+use Rattle.equation_law.specs.Equations.{equations_of}
+use Rattle.equation_law.specs.Names.{Instance}
+use Rattle.equation_law.specs.Program.{Program, text_of}
+use Rattle.equation_law.specs.Reading.{Told}
+use Rattle.expr_eval.specs.declared.sites.Turn.{Turn}
+use Rattle.expr_eval.specs.declared.sites.Turn.TheVariants as turns
+use Rattle.memo_cells.specs.declared.view.View.{View}
+use Rattle.memo_cells.specs.Working.{Held, IsOwn, program_at}
+use Rattle.circular_eval.specs.Local.{AreKept, MayRead, Members, ReadsHere}
+
+-- over what a work holds and the members of a set
+abbrev pub told_here : {S : Type 0} → Held → System → Members → (S → Type 0) → Told S
+told_here d s es keeps = record {
+  for = λ p. (p ≡ program_at d) × (d.0.system.value ≡ s) × IsOwn d × AreKept p es;
+  has = ReadsHere (program_at d) d.1 es;
+  can = MayRead (program_at d) es;
+  keeps = keeps;
+}
+
+-- what the equation of i came to under the values of the set
+abbrev pub ComesTo : Program → View → Members → Instance → Turn → Type 0
+ComesTo p v es i (turns.Done x) = ((ds : List Instance) × Ends (ReadsHere p v es) ((equations_of p).equation i) (value_of (text_of p) x) ds) × AreElements p x
+ComesTo p v es i (turns.Need n) = ((ds : List Instance) × Halts (ReadsHere p v es) ((equations_of p).equation i) (instance_of p n) ds) × IsCoded p n

@@ -1,0 +1,117 @@
+-- Visits of the members of a local set.
+use Rattle.std.specs.Prelude.{◌≡◌, ℕ, ◌<◌, true, Option, Some, None, IsSome, Result, Ok, Err, IfErr, OnOk, length, slice_get}
+use Rattle.equation_law.specs.declared.coding.Instance.{Instance as CodedInstance}
+use Rattle.equation_law.specs.declared.system.System.{System}
+use Rattle.equation_law.specs.Checked.{IsInstance, IsProgram}
+use Rattle.equation_law.specs.Codes.{IsCoded, instance_of}
+use Rattle.equation_law.specs.Equations.{equations_of}
+use Rattle.equation_law.specs.Program.{Program}
+use Rattle.equation_law.specs.Systems.{program_of}
+use Rattle.expr_eval.specs.declared.sites.Turn.{Turn}
+use Rattle.memo_cells.specs.declared.view.Frame.{Frame}
+use Rattle.memo_cells.specs.declared.view.View.{View}
+use Rattle.memo_cells.specs.Views.{Has}
+use Rattle.memo_cells.specs.Working.{GoesOn, Held, IsOwn, program_at}
+use Rattle.circular_eval.specs.declared.advancing.CircFault.{CircFault}
+use Rattle.circular_eval.specs.declared.advancing.CircTurn.{CircTurn}
+use Rattle.circular_eval.specs.declared.local.Local.{Local}
+use Rattle.circular_eval.specs.declared.members.Member.{Member}
+use Rattle.circular_eval.specs.declared.visiting.Visited.{Visited}
+use Rattle.circular_eval.specs.declared.visiting.Visited.TheVariants.{Changed, Need, Same}
+use Rattle.circular_eval.specs.Advancing.{AnswersFault, AnswersTurn, ClaimsFrom, IsMissing}
+use Rattle.circular_eval.specs.Left.{left}
+use Rattle.circular_eval.specs.Local.{IsCurrent, IsLedBy, IsLocal, IsMemberOf, Members}
+use Rattle.circular_eval.specs.Looking.{ComesTo}
+
+-- a local set of the system, under what is held
+pub record IsReady (s : System) (d : Held) (l : Local) : Type 0 where
+  pub program : IsProgram (program_of s)
+  pub same : d.0.system.value ≡ s
+  pub own : IsOwn d
+  pub local : IsLocal (program_of s) d.0 d.1 l
+
+-- what was held went on, and the local set with it
+pub record GoesOnWith (p : Program) (d e : Held) (old new : Local) : Type 0 where
+  pub on : GoesOn d e
+  pub local : IsLocal p d.0 e.1 new
+  pub start : new.start ≡ old.start
+  pub claims : ClaimsFrom p (instance_of p old.start) d.1 e.1
+  pub some : 0 < length old.members.entries → 0 < length new.members.entries
+
+-- a circular instance that is no member yet, and is the start or led to by this member
+pub record IsNew (p : Program) (l : Local) (i : CodedInstance) (by : Option ℕ) : Type 0 where
+  pub instance : IsInstance p (instance_of p i)
+  pub coded : IsCoded p i
+  pub is_circular : (equations_of p).circular (instance_of p i) ≡ true
+  pub absent : ¬ IsMemberOf p l.members.entries (instance_of p i)
+  pub led : IsLedBy p l.members.entries l.start (length l.members.entries) i by
+
+-- what the equation of the member of this number comes to, which wasn't sealed when it was met
+pub record ComesAt (p : Program) (v : View) (es : Members) (number : ℕ) (turn : Turn) : Type 0 where
+  pub entry : CodedInstance × Member
+  pub at : slice_get es number ≡ Some entry
+  pub placed : IsSome entry.1.slot
+  pub comes : ComesTo p v es (instance_of p entry.0) turn
+
+-- the member's equation holds, unless it was sealed when it was met
+abbrev pub IsConfirmed : Program → View → Members → CodedInstance × Member → Type 0
+IsConfirmed p v es e = IsSome e.1.slot → IsCurrent p v es (instance_of p e.0)
+
+abbrev pub AreConfirmed : Program → View → Members → Type 0
+AreConfirmed p v es = (e : CodedInstance × Member) → Has es e → IsConfirmed p v es e
+
+-- nothing changed but what is known of the cells, and the equation of the member of this number holds
+pub record Stays (p : Program) (v : View) (old new : Local) (number : ℕ) : Type 0 where
+  pub members : new.members.entries ≡ old.members.entries
+  pub stack : new.worklist.stack ≡ old.worklist.stack
+  pub confirmed : (e : CodedInstance × Member) → slice_get new.members.entries number ≡ Some e → IsConfirmed p v new.members.entries e
+
+-- what making a circular instance a member says, with what is held before and after
+pub record Admits (d e : Held) (old new : Local) (result : Result Unit CircFault) : Type 0 where
+  pub goes : GoesOnWith (program_at d) d e old new
+  pub grown : OnOk result (left new.members.entries < left old.members.entries)
+  pub some : OnOk result (0 < length new.members.entries)
+  pub fault : IfErr result (AnswersFault (program_at d) (instance_of (program_at d) old.start) d.0 e.1)
+
+abbrev pub AnswersVisit : Program → Frame → View → Local → Local → ℕ → Result Visited CircFault → Type 0
+AnswersVisit p f v old new number (Ok (Need n)) = IsMissing p v new n
+AnswersVisit p f v old new number (Ok Changed) = left new.members.entries < left old.members.entries
+AnswersVisit p f v old new number (Ok Same) = Stays p v old new number
+AnswersVisit p f v old new number (Err fault) = AnswersFault p (instance_of p old.start) f v fault
+
+-- what a visit of the member of this number says
+pub record Visits (d e : Held) (old new : Local) (number : ℕ) (result : Result Visited CircFault) : Type 0 where
+  pub goes : GoesOnWith (program_at d) d e old new
+  pub answer : AnswersVisit (program_at d) d.0 e.1 old new number result
+
+abbrev pub AnswersPass : Program → Frame → View → Local → Local → Result Visited CircFault → Type 0
+AnswersPass p f v old new (Ok (Need n)) = IsMissing p v new n
+AnswersPass p f v old new (Ok Changed) = left new.members.entries < left old.members.entries
+AnswersPass p f v old new (Ok Same) = AreConfirmed p v new.members.entries
+AnswersPass p f v old new (Err fault) = AnswersFault p (instance_of p old.start) f v fault
+
+-- what a pass over all members says
+pub record Passes (d e : Held) (old new : Local) (result : Result Visited CircFault) : Type 0 where
+  pub goes : GoesOnWith (program_at d) d e old new
+  pub answer : AnswersPass (program_at d) d.0 e.1 old new result
+
+abbrev pub AnswersClose : Program → Frame → View → Local → Local → Result (Option CodedInstance) CircFault → Type 0
+AnswersClose p f v old new (Ok (Some n)) = IsMissing p v new n
+AnswersClose p f v old new (Ok None) = AreConfirmed p v new.members.entries
+AnswersClose p f v old new (Err fault) = AnswersFault p (instance_of p old.start) f v fault
+
+-- what passes say until nothing changes
+pub record Closes (d e : Held) (old new : Local) (result : Result (Option CodedInstance) CircFault) : Type 0 where
+  pub goes : GoesOnWith (program_at d) d e old new
+  pub answer : AnswersClose (program_at d) d.0 e.1 old new result
+
+-- what making the start a member says
+pub record Begins (d e : Held) (old new : Local) (result : Result Unit CircFault) : Type 0 where
+  pub goes : GoesOnWith (program_at d) d e old new
+  pub some : OnOk result (0 < length new.members.entries)
+  pub fault : IfErr result (AnswersFault (program_at d) (instance_of (program_at d) old.start) d.0 e.1)
+
+-- what going on with a local set says
+pub record Advances (d e : Held) (old new : Local) (result : Result CircTurn CircFault) : Type 0 where
+  pub goes : GoesOnWith (program_at d) d e old new
+  pub answer : AnswersTurn (program_at d) d.0 e.1 new result

@@ -1,0 +1,163 @@
+// Going on with a local set.
+ghost use Rattle.std.specs.Prelude.{◌≡◌};
+ghost use Rattle.equation_law.specs.Checked.{IsProgram};
+ghost use Rattle.equation_law.specs.Codes.{instance_of};
+ghost use Rattle.equation_law.specs.Systems.{program_of};
+ghost use Rattle.memo_cells.specs.Working.{GoesOn, IsOwn};
+ghost use Rattle.circular_eval.specs.Advancing.{AnswersTurn, ClaimsFrom};
+ghost use Rattle.circular_eval.specs.Local.{IsLocal};
+ghost use Rattle.circular_eval.specs.Visiting.{Advances, Begins, Closes, IsReady, Passes};
+
+use crate::local::Local;
+use crate::visiting::{Visited, admit, visit};
+use equation_law::{Instance, System};
+use memo_cells::{CellsFull, Work};
+use rag_io::Memory;
+use std::alloc::Global;
+
+/// How a local set went on.
+#[derive(Clone, Copy, Debug, PartialEq, Eq)]
+pub enum CircTurn {
+    /// An instance that isn't circular, and whose value is missing.
+    Need(Instance),
+    /// Each instance of the set is sealed with its least value.
+    Closed,
+}
+
+/// Why a local set didn't go on.
+#[derive(Clone, Copy, Debug, PartialEq, Eq)]
+pub enum CircFault {
+    /// All cells have keys, and none of them is that of an instance to which the start leads, or of a word of its set.
+    CellsFull,
+    /// Want of memory.
+    Memory,
+}
+
+impl From<Memory> for CircFault {
+    ghost use Rattle.std.specs.Prelude.{◌≡◌};
+    ghost use Rattle.circular_eval.specs.declared.advancing.CircFault.TheVariants.{Memory as NoMemory};
+
+    ghost from_gives = { λ _ fault. fault ≡ NoMemory };
+
+    fn from(_: Memory) -> CircFault {
+        CircFault::Memory
+    }
+}
+
+impl From<CellsFull> for CircFault {
+    ghost use Rattle.std.specs.Prelude.{◌≡◌};
+    ghost use Rattle.circular_eval.specs.declared.advancing.CircFault.TheVariants.{CellsFull as Full};
+
+    ghost from_gives = { λ _ fault. fault ≡ Full };
+
+    fn from(_: CellsFull) -> CircFault {
+        CircFault::CellsFull
+    }
+}
+
+/// Visits those members that wait to be evaluated, and then each member in turn, until one changes or needs an undeclared instance. It answers
+/// `Same` where the equations of all members hold under the values that are there.
+fn confirm<W: Work>(
+    alloc: Global,
+    system: &System,
+    work: &mut W,
+    local: &mut Local,
+) -> Result<Visited, CircFault>
+    requires ready { IsReady system.now (W.held work.old) local.old }
+    ensures { Passes (W.held work.old) (W.held work.new) local.old local.new result }
+{
+    let mut confirmed = 0;
+    'pass: while confirmed < local.len() {
+        let waiting = local.next();
+        let number = waiting.unwrap_or(confirmed);
+        match visit(alloc, system, work, local, number)? {
+            Visited::Need(need) => return Ok(Visited::Need(need)),
+            Visited::Changed => return Ok(Visited::Changed),
+            Visited::Same => {}
+        }
+        if waiting.is_some() {
+            local.pop();
+        } else {
+            confirmed += 1;
+        }
+    }
+    Ok(Visited::Same)
+}
+
+/// Closes a local set: it goes on until no value rises any more, and answers the undeclared instance that is missing, if one is.
+fn close<W: Work>(
+    alloc: Global,
+    system: &System,
+    work: &mut W,
+    local: &mut Local,
+) -> Result<Option<Instance>, CircFault>
+    requires ready { IsReady system.now (W.held work.old) local.old }
+    ensures { Closes (W.held work.old) (W.held work.new) local.old local.new result }
+{
+    'passes: loop {
+        match confirm(alloc, system, work, local)? {
+            Visited::Need(need) => return Ok(Some(need)),
+            Visited::Changed => {}
+            Visited::Same => return Ok(None),
+        }
+    }
+}
+
+/// Makes the start a member, unless it is one already.
+fn begin<W: Work>(
+    alloc: Global,
+    system: &System,
+    work: &mut W,
+    local: &mut Local,
+) -> Result<(), CircFault>
+    requires ready { IsReady system.now (W.held work.old) local.old }
+    ensures { Begins (W.held work.old) (W.held work.new) local.old local.new result }
+{
+    if local.len() > 0 {
+        return Ok(());
+    }
+    let start = local.first();
+    admit(alloc, system, work, local, start, None)
+}
+
+/// Closes a local set and seals its members, unless an undeclared instance is missing.
+fn go_on<W: Work>(
+    alloc: Global,
+    system: &System,
+    work: &mut W,
+    local: &mut Local,
+) -> Result<CircTurn, CircFault>
+    requires ready { IsReady system.now (W.held work.old) local.old }
+    ensures { Advances (W.held work.old) (W.held work.new) local.old local.new result }
+{
+    begin(alloc, system, work, local)?;
+    if let Some(need) = close(alloc, system, work, local)? {
+        return Ok(CircTurn::Need(need));
+    }
+    let slots = local.slots(alloc)?;
+    work.seal(&slots);
+    Ok(CircTurn::Closed)
+}
+
+/// Goes on with a local set: its members are evaluated until an undeclared instance is missing or no value rises any more. Then the set is
+/// closed, and its members are sealed.
+///
+/// After a fault the local set stays, and may be gone on with.
+pub fn advance<W: Work>(
+    alloc: Global,
+    system: &System,
+    work: &mut W,
+    local: &mut Local,
+) -> Result<CircTurn, CircFault>
+    requires program { IsProgram (program_of system.now) }
+    requires same { (W.held work.old).0.system.value ≡ system.now }
+    requires own { IsOwn (W.held work.old) }
+    requires local { IsLocal (program_of system.now) (W.held work.old).0 (W.held work.old).1 local.old }
+    ensures on { GoesOn (W.held work.old) (W.held work.new) }
+    ensures local { IsLocal (program_of system.now) (W.held work.old).0 (W.held work.new).1 local.new }
+    ensures start { local.new.start ≡ local.old.start }
+    ensures claims { ClaimsFrom (program_of system.now) (instance_of (program_of system.now) local.old.start) (W.held work.old).1 (W.held work.new).1 }
+    ensures answer { AnswersTurn (program_of system.now) (W.held work.old).0 (W.held work.new).1 local.new result }
+{
+    go_on(alloc, system, work, local)
+}

@@ -1,0 +1,224 @@
+// Local sets.
+ghost use Rattle.std.specs.Prelude.{◌≡◌, ◌++◌, ◌∷◌, [], ℕ, true, ◌<◌, IfNone, IfOk, IfSome, None, OnErr, OnOk, Some, length, map, option_to_list, slice_get};
+ghost use Rattle.std.specs.Option.{option_and_then, option_map};
+ghost use Rattle.rag_io.specs.Pool.{ArePooled};
+ghost use Rattle.equation_law.specs.declared.coding.Instance.{Instance as CodedInstance};
+ghost use Rattle.equation_law.specs.Checked.{IsInstance};
+ghost use Rattle.equation_law.specs.Codes.{AreElements, IsCoded, instance_of, value_of};
+ghost use Rattle.equation_law.specs.Equations.{equations_of};
+ghost use Rattle.equation_law.specs.Program.{Program, text_of};
+ghost use Rattle.memo_cells.specs.declared.view.Frame.{Frame};
+ghost use Rattle.memo_cells.specs.declared.view.View.{View};
+ghost use Rattle.circular_eval.specs.Advancing.{IsPath};
+ghost use Rattle.circular_eval.specs.Local.{AreKept, AreSlots, IsAbsent, IsLocal, IsMemberOf, local_value, with_value};
+ghost use Rattle.circular_eval.specs.Left.{member_bound};
+
+use crate::members::Member;
+use crate::worklist::Worklist;
+use equation_law::{Chain, Instance, Value};
+use indexmap::IndexMap;
+use memo_cells::Slot;
+use rag_io::Memory;
+use std::alloc::Global;
+
+/// Circular instances that are solved together: a start, and what its equations lead to. They are numbered in the order in which they were
+/// met.
+#[derive(Drop)]
+pub struct Local {
+    start: Instance,
+    members: IndexMap<Instance, Member>,
+    worklist: Worklist,
+    // The undeclared instance that was missing last, and the member whose equation demands it.
+    need: Option<(usize, Instance)>,
+}
+
+/// Adds an instance last.
+fn push(list: &mut Vec<Instance>, i: Instance) -> Result<(), Memory>
+    ensures { OnOk result (list.new.items ≡ list.old.items ++ i ∷ []) }
+{
+    list.push(i).map_err(|_| Memory)
+}
+
+/// Adds a slot last, if there is one.
+fn push_slot(slots: &mut Vec<Slot>, slot: Option<Slot>) -> Result<(), Memory>
+    ensures { OnOk result (slots.new.items ≡ slots.old.items ++ option_to_list slot) }
+{
+    if let Some(slot) = slot {
+        slots.push(slot).map_err(|_| Memory)?;
+    }
+    Ok(())
+}
+
+impl Local {
+    /// The local set of a circular instance, which nobody looked at yet.
+    pub fn start(alloc: Global, i: Instance) -> Result<Local, Memory>
+        ensures start { IfOk result (λ l. l.start ≡ i) }
+        ensures local { IfOk result (λ l. (p : Program) (f : Frame) (v : View) → IsInstance p (instance_of p i) → IsCoded p i → (equations_of p).circular (instance_of p i) ≡ true → IsLocal p f v l) }
+    {
+        Ok(Local {
+            start: i,
+            members: IndexMap::new(alloc),
+            worklist: Worklist::new(alloc),
+            need: None,
+        })
+    }
+
+    /// A list of instances that begins with the start and ends with the instance that was needed last, each led to by the one before.
+    pub fn path(&self, alloc: Global) -> Result<Chain, Memory>
+        ensures { IfOk result (λ chain. (p : Program) (f : Frame) (v : View) (number : ℕ) (need : CodedInstance) → IsLocal p f v self.now → self.now.need ≡ Some (number, need) → IsPath p (instance_of p self.now.start) (instance_of p need) (map (instance_of p) chain)) }
+    {
+        let mut list = Vec::new(alloc);
+        let Some((number, need)) = self.need else {
+            return Ok(Chain::new(list));
+        };
+        push(&mut list, need)?;
+        let mut at = Some(number);
+        while let Some(number) = at {
+            let Some((instance, member)) = self.members.get_index(number) else {
+                break;
+            };
+            push(&mut list, *instance)?;
+            at = before(number, member.by);
+        }
+        list.reverse();
+        Ok(Chain::new(list))
+    }
+
+    /// The instance with which it begins.
+    pub fn first(&self) -> Instance
+        ensures { result ≡ self.now.start }
+    {
+        self.start
+    }
+
+    /// How many members there are.
+    pub(crate) fn len(&self) -> usize
+        ensures len { result ≡ length self.now.members.entries }
+        ensures few { result < member_bound }
+    {
+        self.members.len()
+    }
+
+    /// A member by its number.
+    pub(crate) fn member(&self, number: usize) -> Option<(&Instance, &Member)>
+        ensures { option_map (λ e. (e.0.now, e.1.now)) result ≡ slice_get self.now.members.entries number }
+    {
+        self.members.get_index(number)
+    }
+
+    /// The number of a member and its value.
+    pub(crate) fn find(&self, i: &Instance) -> Option<(usize, &Value)>
+        ensures none { (p : Program) → ArePooled p.texts → IsCoded p i.now → AreKept p self.now.members.entries → IfNone result (¬ IsMemberOf p self.now.members.entries (instance_of p i.now)) }
+        ensures member { (p : Program) → IfSome result (λ x. IsMemberOf p self.now.members.entries (instance_of p i.now)) }
+        ensures value { (p : Program) → ArePooled p.texts → IsCoded p i.now → AreKept p self.now.members.entries → IfSome result (λ x. local_value p self.now.members.entries (instance_of p i.now) ≡ value_of (text_of p) x.1.now) }
+        ensures elements { (p : Program) → AreKept p self.now.members.entries → IfSome result (λ x. AreElements p x.1.now) }
+    {
+        let (number, _, member) = self.members.get_full(i)?;
+        Some((number, &member.value))
+    }
+
+    /// The member that is evaluated next, if one waits.
+    pub(crate) fn next(&self) -> Option<usize>
+        ensures { IfSome result (λ number. 0 < length self.now.worklist.stack.items) }
+    {
+        self.worklist.next()
+    }
+
+    /// Takes away the member that is evaluated next.
+    pub(crate) fn pop(&mut self)
+        ensures start { self.new.start ≡ self.old.start }
+        ensures members { self.new.members ≡ self.old.members }
+        ensures need { self.new.need ≡ self.old.need }
+        ensures fewer { 0 < length self.old.worklist.stack.items → length self.new.worklist.stack.items < length self.old.worklist.stack.items }
+    {
+        self.worklist.pop();
+    }
+
+    /// Notes what is missing, and the member that demands it.
+    pub(crate) fn note_need(&mut self, number: usize, need: Instance)
+        ensures start { self.new.start ≡ self.old.start }
+        ensures members { self.new.members ≡ self.old.members }
+        ensures need { self.new.need ≡ Some (number, need) }
+    {
+        self.need = Some((number, need));
+    }
+
+    /// Notes the members whose values a member read.
+    pub(crate) fn note_reads(&mut self, number: usize, read: &[usize]) -> Result<(), Memory>
+        ensures start { self.new.start ≡ self.old.start }
+        ensures members { self.new.members ≡ self.old.members }
+        ensures need { self.new.need ≡ self.old.need }
+        ensures stack { self.new.worklist.stack ≡ self.old.worklist.stack }
+    {
+        self.worklist.note_reads(number, read)
+    }
+
+    /// A new member.
+    pub(crate) fn add(&mut self, alloc: Global, i: Instance, member: Member) -> Result<(), Memory>
+        requires { IsAbsent self.old.members.entries i }
+        ensures start { self.new.start ≡ self.old.start }
+        ensures need { self.new.need ≡ self.old.need }
+        ensures added { OnOk result (self.new.members.entries ≡ self.old.members.entries ++ (i, member) ∷ []) }
+        ensures refused { OnErr result (self.new.members.entries ≡ self.old.members.entries) }
+        ensures few { length self.old.members.entries < member_bound }
+    {
+        let number = self.members.len();
+        self.worklist.add(alloc, number, member.slot.is_some())?;
+        let Ok(_) = self.members.insert(i, member) else {
+            return Err(Memory);
+        };
+        Ok(())
+    }
+
+    // Gives a member a value.
+    fn set_value(&mut self, number: usize, value: Value)
+        ensures start { self.new.start ≡ self.old.start }
+        ensures need { self.new.need ≡ self.old.need }
+        ensures members { self.new.members.entries ≡ with_value self.old.members.entries number value }
+    {
+        if let Some(member) = self.members.get_index_mut(number) {
+            member.value = value;
+        }
+    }
+
+    /// Gives a member a value to which it rose.
+    pub(crate) fn rise(&mut self, number: usize, value: Value) -> Result<(), Memory>
+        ensures start { self.new.start ≡ self.old.start }
+        ensures need { self.new.need ≡ self.old.need }
+        ensures members { self.new.members.entries ≡ with_value self.old.members.entries number value }
+    {
+        self.set_value(number, value);
+        self.worklist.wake_readers(number)
+    }
+
+    /// The cells of the members that weren't sealed when they were met.
+    pub(crate) fn slots(&self, alloc: Global) -> Result<Vec<Slot>, Memory>
+        ensures { IfOk result (λ slots. AreSlots self.now.members.entries slots.items) }
+    {
+        let mut slots = Vec::new(alloc);
+        for number in 0..self.members.len() {
+            push_slot(&mut slots, self.slot_at(number))?;
+        }
+        Ok(slots)
+    }
+
+    // The cell of a member that wasn't sealed when it was met.
+    fn slot_at(&self, number: usize) -> Option<Slot>
+        ensures { result ≡ option_and_then (λ e. e.1.slot) (slice_get self.now.members.entries number) }
+    {
+        let (_, member) = self.members.get_index(number)?;
+        member.slot
+    }
+}
+
+// The number of the member that demanded another one first, which is smaller.
+fn before(number: usize, by: Option<usize>) -> Option<usize>
+    ensures same { (n : ℕ) → by ≡ Some n → n < number → result ≡ Some n }
+    ensures none { by ≡ None → result ≡ None }
+    ensures smaller { IfSome result (λ n. n < number) }
+{
+    match by {
+        Some(by) if by < number => Some(by),
+        _ => None,
+    }
+}

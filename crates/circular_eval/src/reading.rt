@@ -1,0 +1,90 @@
+// What the equation of a member reads.
+ghost use Rattle.std.specs.Prelude.{◌≡◌, IfOk};
+ghost use Rattle.equation_law.specs.Codes.{IsCoded, instance_of};
+ghost use Rattle.equation_law.specs.Equations.{is_declared};
+ghost use Rattle.equation_law.specs.Systems.{program_of};
+ghost use Rattle.memo_cells.specs.Working.{IsOwn, ReadsOn};
+ghost use Rattle.circular_eval.specs.Local.{AreKept};
+ghost use Rattle.circular_eval.specs.Looking.{ComesTo};
+
+use crate::local::Local;
+use equation_law::{Instance, Reader, System, Value};
+use expr_eval::{Turn, evaluate_instance};
+use memo_cells::Work;
+use rag_io::Memory;
+use std::alloc::Global;
+
+/// Whether an instance is of an attribute that is declared circular.
+pub(crate) fn is_declared(system: &System, i: &Instance) -> bool
+    ensures { result ≡ is_declared (program_of system.now) (instance_of (program_of system.now) i.now) }
+{
+    match i {
+        Instance::Attr { attr, .. } => {
+            u32::from(attr.0) < system.rules().attrs() && system.rules().attr(*attr).circular
+        }
+        Instance::Query(_) => false,
+    }
+}
+
+/// A reader that has of undeclared instances what the work has, and of circular ones the values of the members of a local set. It notes the
+/// members by their numbers.
+#[derive(Drop)]
+pub(crate) struct LocalReader<'a, W: Work> {
+    pub system: &'a System,
+    pub work: &'a mut W,
+    pub local: &'a Local,
+    pub read: &'a mut Vec<usize>,
+}
+
+impl<W: Work> Reader for LocalReader<'_, W> {
+    ghost use Rattle.std.specs.Prelude.{◌≡◌};
+    ghost use Rattle.memo_cells.specs.Working.{ReadsOn};
+    ghost use Rattle.circular_eval.specs.Looking.{told_here};
+
+    ghost tells = { λ d. told_here (W.held d.work.now) d.system.now d.local.now.members.entries (λ x. ReadsOn (W.held x.work.now) (W.held d.work.now) × (d.work.ghost_name ≡ x.work.ghost_name) × (d.local.now ≡ x.local.now) × (d.system.now ≡ x.system.now)) };
+
+    fn settled(&mut self, alloc: Global, i: &Instance) -> Result<Option<Value>, Memory> {
+        if !is_declared(self.system, i) {
+            return self.work.settled(alloc, i);
+        }
+        let Some((number, value)) = self.local.find(i) else {
+            return Ok(None);
+        };
+        self.read.push(number).map_err(|_| Memory)?;
+        Ok(Some(value.copy()?))
+    }
+}
+
+/// What an evaluation came to, and the members whose values it read.
+#[derive(Drop)]
+pub(crate) struct Came {
+    pub turn: Turn,
+    pub read: Vec<usize>,
+}
+
+/// Evaluates the equation of an instance under the values of a local set.
+pub(crate) fn evaluate<W: Work>(
+    alloc: Global,
+    system: &System,
+    work: &mut W,
+    local: &Local,
+    i: &Instance,
+) -> Result<Came, Memory>
+    requires own { IsOwn (W.held work.old) }
+    requires same { (W.held work.old).0.system.value ≡ system.now }
+    requires coded { IsCoded (program_of system.now) i.now }
+    requires kept { AreKept (program_of system.now) local.now.members.entries }
+    ensures on { ReadsOn (W.held work.old) (W.held work.new) }
+    ensures came { IfOk result (λ came. ComesTo (program_of system.now) (W.held work.new).1 local.now.members.entries (instance_of (program_of system.now) i.now) came.turn) }
+{
+    let mut read = Vec::new(alloc);
+    let mut reader = LocalReader {
+        system,
+        work,
+        local,
+        read: &mut read,
+    };
+    let turn = evaluate_instance(alloc, system, i, &mut reader);
+    let LocalReader { work: _work, .. } = reader;
+    Ok(Came { turn: turn?, read })
+}

@@ -1,0 +1,58 @@
+-- Values that are no sets: of those nothing is asked of how they are coded.
+use Rattle.std.proofs.Common.{◌≡◌, ℕ, zero, suc, Bool, true, false, List, [], ◌∷◌, map, refl, ap, ◌∙◌}
+use Rattle.attr_rules.specs.declared.expression.Operator.{Operator}
+use Rattle.attr_rules.specs.declared.expression.Operator.TheVariants.{Add, Subtract, Multiply, Less, AtMost, Greater, AtLeast, Equal}
+use Rattle.equation_law.specs.declared.coding.Single.{Single as CodedSingle}
+use Rattle.equation_law.specs.declared.coding.Single.TheVariants as singles
+use Rattle.equation_law.specs.declared.coding.Value.{Value as CodedValue}
+use Rattle.equation_law.specs.declared.coding.Value.TheVariants as coded
+use Rattle.equation_law.specs.declared.system.System.{System}
+use Rattle.equation_law.specs.Codes.{AreElements, single_of, value_of}
+use Rattle.equation_law.specs.Meaning.{named, operate}
+use Rattle.equation_law.specs.Program.{Program, text_of}
+use Rattle.equation_law.specs.Values.{Int, Node, Nodes, Text, Texts, Truth, Value}
+use Rattle.expr_eval.specs.declared.accessors.Origin.{Origin}
+use Rattle.expr_eval.specs.declared.accessors.Origin.TheVariants as origins
+use Rattle.expr_eval.specs.Elements.{element_from}
+use Rattle.expr_eval.specs.Evaluating.{texts_in}
+
+abbrev pub is_plain : Value → Bool
+is_plain (Truth b) = true
+is_plain (Int z) = true
+is_plain (Text t) = true
+is_plain (Node n) = true
+is_plain (Texts s) = false
+is_plain (Nodes s) = false
+
+pub plain_coded : (p : Program) (v : CodedValue) (w : Value) → value_of (text_of p) v ≡ w → is_plain w ≡ true → AreElements p v
+plain_coded p (coded.Truth b) w e h = tt
+plain_coded p (coded.Int z) w e h = tt
+plain_coded p (coded.Text n) w e h = tt
+plain_coded p (coded.Node n) w e h = tt
+plain_coded p (coded.Texts cs) w e h = absurd (let none : false ≡ true = ap is_plain e ∙ h in cc)
+plain_coded p (coded.Nodes cs) w e h = absurd (let none : false ≡ true = ap is_plain e ∙ h in cc)
+
+pub operate_plain : (o : Operator) (v w : Value) → is_plain (operate o v w) ≡ true
+operate_plain Add v w = refl
+operate_plain Subtract v w = refl
+operate_plain Multiply v w = refl
+operate_plain Less v w = refl
+operate_plain AtMost v w = refl
+operate_plain Greater v w = refl
+operate_plain AtLeast v w = refl
+operate_plain Equal v w = refl
+
+pub single_plain : (texts : ℕ → List ℕ) (s : CodedSingle) → is_plain (single_of texts s) ≡ true
+single_plain texts (singles.Truth b) = refl
+single_plain texts (singles.Int z) = refl
+single_plain texts (singles.Text n) = refl
+single_plain texts (singles.Node n) = refl
+
+pub named_plain : (texts : ℕ → List ℕ) (names : List CodedSingle) (k : ℕ) → is_plain (named (map (single_of texts) names) k) ≡ true
+named_plain texts [] k = refl
+named_plain texts (s ∷ names) zero = single_plain texts s
+named_plain texts (s ∷ names) (suc k) = named_plain texts names k
+
+pub element_plain : (s : System) (o : Origin) (i : ℕ) → is_plain (element_from s o i) ≡ true
+element_plain s (origins.List n k) i = refl
+element_plain s (origins.Set xs) i = named_plain (texts_in s) xs i

@@ -1,0 +1,42 @@
+-- What a reader tells that holds a pass, and that it goes on at the same cells.
+use Rattle.std.proofs.Common.{refl, sym, subst, ℕ, ◌∙◌}
+use Rattle.equation_law.specs.Names.{Instance}
+use Rattle.equation_law.specs.Systems.{program_of}
+use Rattle.memo_cells.specs.declared.view.Frame.{Frame}
+use Rattle.memo_cells.specs.Naming.{IsCellOf}
+use Rattle.memo_cells.specs.Standing.{IsPassOf}
+use Rattle.memo_cells.specs.Working.{GoesOn, Held, IsOwn, ReadsOn, TellsPass, program_at, told_by}
+use Rattle.memo_cells.proofs.More.{at_least_itself, at_least_then}
+use Rattle.memo_cells.proofs.Naming.{cell_later}
+
+-- a reader that is seen as what it holds
+pub told_pass : (d : Held) → TellsPass (λ (x : Held). x) d (told_by d)
+told_pass d = record {
+  for = refl;
+  only = λ p e. e;
+  has = λ i w k. k;
+  known = λ i w k. k;
+  can = λ i w k. k;
+  may = λ i w k. k;
+  keeps = λ x k. k;
+  itself = λ own. record { on = record { cells = refl; lender = refl; own = own; kept = at_least_itself d.1 }; claims = refl };
+}
+
+pub own_then : (d e : Held) → GoesOn d e → IsPassOf d.0 e.1
+own_then d e on = subst (λ (f : Frame). IsPassOf f e.1) on.cells on.own
+
+pub goes_itself : (d : Held) → IsOwn d → GoesOn d d
+goes_itself d own = record { cells = refl; lender = refl; own = own; kept = at_least_itself d.1 }
+
+pub goes_then : (a b c : Held) → GoesOn a b → GoesOn b c → GoesOn a c
+goes_then a b c x y = record { cells = y.cells ∙ x.cells; lender = y.lender ∙ x.lender; own = y.own; kept = at_least_then x.kept y.kept }
+
+pub reads_itself : (d : Held) → IsOwn d → ReadsOn d d
+reads_itself d own = record { on = goes_itself d own; claims = refl }
+
+pub reads_then : (a b c : Held) → ReadsOn a b → ReadsOn b c → ReadsOn a c
+reads_then a b c x y = record { on = goes_then a b c x.on y.on; claims = y.claims ∙ x.claims }
+
+-- the cell of an instance, seen where it went on to
+pub cell_on : (d e : Held) → GoesOn d e → (i : Instance) (s : ℕ) → IsCellOf (program_at d) d.0 d.1 i s → IsCellOf (program_at e) e.0 e.1 i s
+cell_on d e on i s h = subst (λ (f : Frame). IsCellOf (program_of f.system.value) f e.1 i s) (sym on.cells) (cell_later d.1 e.1 on.kept (program_at d) d.0 i s h)

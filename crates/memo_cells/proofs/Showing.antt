@@ -1,0 +1,100 @@
+-- What the words show, and what a lower assignment has, stays.
+use Rattle.std.proofs.Common.{◌≡◌, ℕ, Bool, true, false, ◌+◌, ◌*◌, ◌/◌, ◌%◌, List, sym, ap, subst, inl, inr, ⊎_elim}
+use Rattle.attr_rules.specs.declared.kinds.Kind.{Kind}
+use Rattle.attr_rules.specs.declared.kinds.Kind.TheVariants as kinds
+use Rattle.equation_law.specs.Codes.{reference_of}
+use Rattle.equation_law.specs.Equations.{equations_of, kind_in}
+use Rattle.equation_law.specs.Names.{At, Instance, Null, Reference}
+use Rattle.equation_law.specs.Orders.{AtMost, FitsKind}
+use Rattle.equation_law.specs.Program.{Program, text_of}
+use Rattle.equation_law.specs.Sets.{IsPart as IsSetPart, has}
+use Rattle.equation_law.specs.Values.{Value, has_node, nodes, texts, truth}
+use Rattle.equation_law.proofs.Orders.{at_most_through}
+use Rattle.equation_law.proofs.Sets.{empty_part}
+use Rattle.memo_cells.specs.declared.view.View.{View}
+use Rattle.memo_cells.specs.Showing.{AreShown, ShowsAtLeast, ShowsAtMost, ShowsCode, ShowsTrue, has_code}
+use Rattle.memo_cells.specs.Standing.{ComesTo, IsElement, IsFinal, IsPart, IsRaised, IsSettled, MayShow}
+use Rattle.memo_cells.specs.Views.{IsAtLeast}
+use Rattle.memo_cells.proofs.Naming.{knows_later, stands_later, word_later}
+
+-- a test that is false isn't true
+pub not_both : {b : Bool} → b ≡ false → b ≡ true → ⊥
+not_both f t = cc
+
+-- an element of a value is one of a greater value
+has_node_more : (x y : Value) (r : Reference) → AtMost x y → has_node (nodes x) r ≡ true → has_node (nodes y) r ≡ true
+has_node_more x y Null l e = e
+has_node_more x y (At n) l e = l.in_nodes n e
+
+pub has_code_more : (numbered : ℕ → List ℕ) (k : Kind) (x y : Value) (c : ℕ) → AtMost x y → has_code numbered k x c ≡ true → has_code numbered k y c ≡ true
+has_code_more numbered kinds.Truth x y c l e = e
+has_code_more numbered kinds.Int x y c l e = e
+has_code_more numbered kinds.Text x y c l e = e
+has_code_more numbered (kinds.Node d) x y c l e = e
+has_code_more numbered kinds.Texts x y c l e = l.in_texts (numbered c) e
+has_code_more numbered (kinds.Nodes d) x y c l e = has_node_more x y (reference_of c) l e
+
+-- a value without texts, without nodes, and one that isn't true
+texts_none : (x y : Value) {z : Value} → x ≡ z → IsSetPart (texts z) (texts y) → IsSetPart (texts x) (texts y)
+texts_none x y e h = subst (λ (u : Value). IsSetPart (texts u) (texts y)) (sym e) h
+
+nodes_none : (x y : Value) {z : Value} → x ≡ z → IsSetPart (nodes z) (nodes y) → IsSetPart (nodes x) (nodes y)
+nodes_none x y e h = subst (λ (u : Value). IsSetPart (nodes u) (nodes y)) (sym e) h
+
+-- a value of a type that is at most what is shown, which is at most another
+pub shown_between : (p : Program) (v : View) (i : Instance) (k : Kind) (x y : Value) → FitsKind k x → ShowsAtLeast p v i k x → ShowsAtMost p v i k y → AtMost x y
+shown_between p v i kinds.Truth x y f l m = record { in_truth = λ e. m (l e); in_texts = texts_none x y f.1 (empty_part (texts y)); in_nodes = nodes_none x y f.1 (empty_part (nodes y)) }
+shown_between p v i kinds.Int x y f l m = elim f [ ]
+shown_between p v i kinds.Text x y f l m = elim f [ ]
+shown_between p v i (kinds.Node d) x y f l m = elim f [ ]
+shown_between p v i kinds.Texts x y f l m = record {
+  in_truth = λ e. absurd (not_both (ap truth f.1) e);
+  in_texts = λ q e. let c = l q e in subst (λ (t : List ℕ). has (texts y) t ≡ true) c.1 (m c.0 c.2);
+  in_nodes = nodes_none x y f.1 (empty_part (nodes y));
+}
+shown_between p v i (kinds.Nodes d) x y f l m = record {
+  in_truth = λ e. absurd (not_both (ap truth f.1) e);
+  in_texts = texts_none x y f.1 (empty_part (texts y));
+  in_nodes = λ q e. let c = l q e in subst (λ (r : Reference). has_node (nodes y) r ≡ true) c.1 (m c.0 c.2);
+}
+
+module _ (p : Program) (v w : View) (more : IsAtLeast v w) where
+  pub true_later : (i : Instance) → ShowsTrue p v i → ShowsTrue p w i
+  true_later i h = (h.0, h.1, stands_later v w more p h.0 i h.2, more.bits h.1 h.0 0 h.3)
+
+  pub shown_later : (i : Instance) (c : ℕ) → ShowsCode p v i c → ShowsCode p w i c
+  shown_later i c h = (h.0, h.1, word_later v w more p h.0 i (c / 64) h.2, more.bits h.1 h.0 (c % 64) h.3)
+
+  pub at_least_later : (i : Instance) (k : Kind) (x : Value) → ShowsAtLeast p v i k x → ShowsAtLeast p w i k x
+  at_least_later i kinds.Truth x h = λ e. true_later i (h e)
+  at_least_later i kinds.Int x h = tt
+  at_least_later i kinds.Text x h = tt
+  at_least_later i (kinds.Node d) x h = tt
+  at_least_later i kinds.Texts x h = λ t e. let c = h t e in (c.0, c.1, shown_later i c.0 c.2)
+  at_least_later i (kinds.Nodes d) x h = λ n e. let c = h n e in (c.0, c.1, shown_later i c.0 c.2)
+
+  abbrev pub settled_later : (k c : ℕ) → IsSettled p v k c → IsSettled p w k c
+  settled_later k c h = record { of = h.of; stands = stands_later v w more p k h.of h.stands; code = h.code; shown = λ s. at_least_later h.of (kind_in p h.of) h.code.value (h.shown s); closed = λ j d. knows_later v w more p j (h.closed j d) }
+
+  pub values_shown_later : (B : Instance → Value) → AreShown p v B → AreShown p w B
+  values_shown_later B h j c = ((h j c).0, at_least_later j (kind_in p j) (B j) (h j c).1)
+
+  pub comes_later : (i : Instance) (x : Value) → ComesTo p v i x → ComesTo p w i x
+  comes_later i x h = record { below = h.below; shown = values_shown_later h.below h.shown; demands = h.demands; ends = h.ends }
+
+  pub may_show_later : (i : Instance) (x : Value) → MayShow p v i x → MayShow p w i x
+  may_show_later i x h = ⊎_elim (λ a. inl (a.0, comes_later i x a.1)) inr h
+
+  -- under a greater lower assignment too
+  module _ (T U : Instance → Value) (below : (j : Instance) → (equations_of p).circular j ≡ true → AtMost (T j) (U j)) where
+    pub final_later : (k c : ℕ) → IsFinal p v T k c → IsFinal p w U k c
+    final_later k c h = record { settled = settled_later k c h.settled; lower = λ e. at_most_through h.settled.code.value (T h.settled.of) (U h.settled.of) (h.lower e) (below h.settled.of e) }
+
+    pub raised_later : (k : ℕ) → IsRaised p v T k → IsRaised p w U k
+    raised_later k h = record { of = h.of; stands = stands_later v w more p k h.of h.stands; is_circular = h.is_circular; kind = h.kind; is_true = (below h.of h.is_circular).in_truth h.is_true }
+
+    part_later : (i : Instance) (c : ℕ) → IsPart p T i c → IsPart p U i c
+    part_later i c h = ⊎_elim (λ a. inl (a.0, has_code_more (text_of p) (kind_in p i) (T i) (U i) c (below i a.0) a.1)) inr h
+
+    pub element_later : (k b : ℕ) → IsElement p v T k b → IsElement p w U k b
+    element_later k b h = record { of = h.of; word = h.word; key = word_later v w more p k h.of h.word h.key; part = part_later h.of (64 * h.word + b) h.part; code = h.code }

@@ -1,0 +1,78 @@
+// What a reader does that holds a pass.
+ghost use Rattle.std.specs.Prelude.{◌≡◌, ◌≢◌, ◌<◌, IfNone, IfOk, IfSome, OnErr, false, map, true};
+ghost use Rattle.attr_rules.specs.Rules.{is_single};
+ghost use Rattle.attr_rules.specs.Types.{truth_kind};
+ghost use Rattle.equation_law.specs.Equations.{kind_in};
+ghost use Rattle.equation_law.specs.Names.{Instance};
+ghost use Rattle.memo_cells.specs.Keys.{Fits, key_word, set_word};
+ghost use Rattle.memo_cells.specs.Naming.{IsCellOf, IsFormed};
+ghost use Rattle.memo_cells.specs.Showing.{IsWordSeen};
+ghost use Rattle.memo_cells.specs.Standing.{HasWord, IsWordOfValue, Knows, MayRaise, MaySeal};
+ghost use Rattle.memo_cells.specs.Steps.{AreSealed};
+ghost use Rattle.memo_cells.specs.Views.{ClaimsOnly, IsFull, IsNowhere, IsSlot};
+ghost use Rattle.memo_cells.specs.Working.{GoesOn, IsOwn, ReadsOn, program_at};
+
+use crate::calls::CellsFull;
+use crate::keys::{Key, Slot};
+use equation_law::Reader;
+
+/// What reads the words of some cells through a pass.
+pub trait Words {
+    ghost use Rattle.memo_cells.specs.Working.{Held};
+
+    ghost held: { Self → Held };
+
+    /// A word of what is shown of a slot's instance.
+    fn word(&mut self, slot: Slot, word: u32) -> u64
+        requires own { IsOwn (held self.old) }
+        requires cell { (i : Instance) × IsCellOf (program_at (held self.old)) (held self.old).0 (held self.old).1 i slot.0 }
+        ensures on { ReadsOn (held self.old) (held self.new) }
+        ensures word { (i : Instance) → IsCellOf (program_at (held self.old)) (held self.old).0 (held self.new).1 i slot.0 → IsWordSeen (program_at (held self.old)) (held self.new).1 i (kind_in (program_at (held self.old)) i) word result }
+        ensures settled { (i : Instance) → IsCellOf (program_at (held self.old)) (held self.old).0 (held self.new).1 i slot.0 → Knows (program_at (held self.old)) (held self.old).1 i → IsWordOfValue (program_at (held self.old)) i word result };
+}
+
+/// A reader that holds a pass of some cells. Each call is the call of `Cells` of the same name on that pass. As a reader it has a value for
+/// exactly the instances whose cells its pass knows as settled, and the value is that of the solution.
+pub trait Work: Reader + Words {
+    ghost use Rattle.memo_cells.specs.Working.{TellsPass};
+
+    /// The one slot of a key of the system, claimed where it wasn't.
+    fn claim(&mut self, key: Key) -> Result<Slot, CellsFull>
+        requires own { IsOwn (Self.held self.old) }
+        requires slot { Fits key }
+        requires key { IsFormed (program_at (Self.held self.old)) (Self.held self.old).1 (key_word key) }
+        ensures on { GoesOn (Self.held self.old) (Self.held self.new) }
+        ensures slot { IfOk result (λ s. IsSlot (Self.held self.old).0 (Self.held self.new).1 s.0 (key_word key)) }
+        ensures full { OnErr result (IsFull (Self.held self.old).0 (Self.held self.new).1 (key_word key)) }
+        ensures claims { ClaimsOnly (Self.held self.old).1 (Self.held self.new).1 (key_word key) };
+
+    /// The one slot of a key, or None exactly where it isn't claimed.
+    fn seek(&mut self, key: Key) -> Option<Slot>
+        requires own { IsOwn (Self.held self.old) }
+        requires slot { Fits key }
+        ensures on { ReadsOn (Self.held self.old) (Self.held self.new) }
+        ensures slot { IfSome result (λ s. IsSlot (Self.held self.old).0 (Self.held self.new).1 s.0 (key_word key)) }
+        ensures none { IfNone result (IsNowhere (Self.held self.new).1 (key_word key)) };
+
+    /// Adds bits to a word of what is shown of a slot's instance, and answers the word with them.
+    fn raise(&mut self, slot: Slot, word: u32, bits: u64) -> Result<u64, CellsFull>
+        requires own { IsOwn (Self.held self.old) }
+        requires slot { slot.0 < (Self.held self.old).0.cells }
+        requires may { MayRaise (program_at (Self.held self.old)) (Self.held self.old).1 slot.0 word bits }
+        requires some { bits ≢ 0 }
+        ensures on { GoesOn (Self.held self.old) (Self.held self.new) }
+        ensures raised { IfOk result (λ x. HasWord (program_at (Self.held self.old)) (Self.held self.old).0 (Self.held self.new).1 slot.0 word bits x) }
+        ensures full { OnErr result (IsFull (Self.held self.old).0 (Self.held self.new).1 (set_word slot.0 word)) }
+        ensures set { OnErr result ((i : Instance) → IsCellOf (program_at (Self.held self.old)) (Self.held self.old).0 (Self.held self.new).1 i slot.0 → is_single (kind_in (program_at (Self.held self.old)) i) ≡ false) }
+        ensures claims { ClaimsOnly (Self.held self.old).1 (Self.held self.new).1 (set_word slot.0 word) }
+        ensures truth { (i : Instance) → IsCellOf (program_at (Self.held self.old)) (Self.held self.old).0 (Self.held self.new).1 i slot.0 → truth_kind (kind_in (program_at (Self.held self.old)) i) ≡ true → (Self.held self.new).1.claims ≡ (Self.held self.old).1.claims };
+
+    /// Marks what the words show of each slot's instance as its value.
+    fn seal(&mut self, set: &[Slot])
+        requires own { IsOwn (Self.held self.old) }
+        requires may { MaySeal (program_at (Self.held self.old)) (Self.held self.old).0 (Self.held self.old).1 (map (λ s. s.0) set.now) }
+        ensures on { ReadsOn (Self.held self.old) (Self.held self.new) }
+        ensures sealed { AreSealed (Self.held self.old).1 (Self.held self.new).1 (map (λ s. s.0) set.now) };
+
+    ghost tells_pass: { (d : Self) → TellsPass Self.held d (Self.tells d) };
+}

@@ -1,0 +1,4 @@
+pub mod Equations
+pub mod Parts
+pub mod Permitted
+pub mod Positions

@@ -1,0 +1,15 @@
+//! The rules on rising equations, M1 to M5: in the equation of a circular attribute calls of circular attributes stand in permitted positions
+//! alone, so that its value grows with theirs.
+#![tactic(auto)]
+
+mod calls;
+mod equations;
+mod laws;
+#[cfg(test)]
+mod tests;
+
+pub use equations::check_monotone;
+pub use laws::{
+    accepted_rises, accepted_rules_are_permitted, calls_are_found, permitted_rises,
+    permitted_rules_are_accepted, unbroken_is_permitted,
+};

@@ -1,0 +1,74 @@
+-- Which instances are circular, and where these start.
+use Rattle.std.proofs.Common.{◌≡◌, ℕ, Bool, true, false, ◌&&◌, cond, Option, Some, None, refl, sym, ap, subst, ◌∙◌}
+use Rattle.attr_rules.specs.Expression.{Expression}
+use Rattle.attr_rules.specs.Rising.{rises}
+use Rattle.attr_rules.specs.Rules.{RuleSet, body_at, circular_at}
+use Rattle.attr_rules.specs.declared.kinds.AttrId.{AttrId}
+use Rattle.equation_law.specs.declared.coding.Args.{Args}
+use Rattle.equation_law.specs.declared.coding.EqSite.{EqSite}
+use Rattle.equation_law.specs.declared.coding.Instance.{Instance as CodedInstance}
+use Rattle.equation_law.specs.declared.coding.Instance.TheVariants as coded
+use Rattle.equation_law.specs.declared.coding.NodeRef.{NodeRef}
+use Rattle.equation_law.specs.Codes.{instance_of}
+use Rattle.equation_law.specs.Equations.{Site, equation_of, equations_of, is_circular, is_ordered, kind_in, site_rises}
+use Rattle.equation_law.specs.Names.{Instance}
+use Rattle.equation_law.specs.Program.{Program}
+use Rattle.equation_law.specs.Values.{Value, default_of}
+use Rattle.inherited_walk.specs.Sites.{IsSite}
+use Rattle.plain_rounds.specs.Steps.{start_of}
+
+pub circular_is : (p : Program) (i : Instance) → is_circular p i ≡ (equations_of p).circular i
+unfolding equations_of
+circular_is p i = refl
+
+pub bottom_is : (p : Program) (i : Instance) → default_of (kind_in p i) ≡ (equations_of p).bottom i
+unfolding equations_of
+bottom_is p i = refl
+
+-- the equation that is found rises
+pub found_rises : (p : Program) (a : ℕ) (s : EqSite) (o : Option Site) (rules : RuleSet) (e : Expression) (b : Bool) → rules ≡ p.rules → body_at rules s.equation.0 ≡ Some e → b ≡ rises (circular_at rules.attributes) e → (site : Site) × (o ≡ Some site) × IsSite p a s site
+    → b ≡ site_rises (circular_at p.rules.attributes) o
+found_rises p a s o rules e b same body is f =
+    let at : body_at p.rules s.equation.0 ≡ Some e = subst (λ (x : RuleSet). body_at x s.equation.0 ≡ Some e) same body in
+    let there : e ≡ f.0.body = (let g = f.2.body in cc) in
+    is ∙ ap (λ (x : RuleSet). rises (circular_at x.attributes) e) same ∙ ap (rises (circular_at p.rules.attributes)) there ∙ sym (ap (site_rises (circular_at p.rules.attributes)) f.1)
+
+-- where an instance starts that isn't circular, and one that is
+pub starts_nowhere : (p : Program) (i : Instance) → (equations_of p).circular i ≡ false → None ≡ start_of p i
+starts_nowhere p i c = sym (ap (λ b. cond b (Some ((equations_of p).bottom i)) None) c)
+
+pub starts_there : (p : Program) (i : Instance) (v : Value) → (equations_of p).circular i ≡ true → v ≡ default_of (kind_in p i) → Some v ≡ start_of p i
+starts_there p i v c e = ap Some (e ∙ bottom_is p i) ∙ sym (ap (λ b. cond b (Some ((equations_of p).bottom i)) None) c)
+
+module _ (p : Program) (q : CodedInstance) (a : AttrId) (n : NodeRef) (xs : Args) (is : q ≡ coded.Attr a n xs) where
+  abbrev i : Instance
+  i = instance_of p (coded.Attr a n xs)
+
+  -- what is said of the instance is said of its code
+  of_code : (b : Bool) → b ≡ is_circular p i → b ≡ (equations_of p).circular (instance_of p q)
+  of_code b e = e ∙ circular_is p i ∙ ap (λ (x : CodedInstance). (equations_of p).circular (instance_of p x)) (sym is)
+
+  pub all_hold : (d o b : Bool) → d ≡ circular_at p.rules.attributes a.0 → o ≡ is_ordered (kind_in p (instance_of p q)) → b ≡ site_rises (circular_at p.rules.attributes) (equation_of p i) → d ≡ true → o ≡ true → b ≡ (equations_of p).circular (instance_of p q)
+  all_hold d o b e f g t u =
+      let declared : circular_at p.rules.attributes a.0 ≡ true = sym e ∙ t in
+      let kind : is_ordered (kind_in p (instance_of p q)) ≡ is_ordered (kind_in p i) = ap (λ (x : CodedInstance). is_ordered (kind_in p (instance_of p x))) is in
+      let ordered : is_ordered (kind_in p i) ≡ true = sym kind ∙ sym f ∙ u in
+      let last = site_rises (circular_at p.rules.attributes) (equation_of p i) in
+      of_code b (g ∙ sym (ap (λ x. x && (is_ordered (kind_in p i) && last)) declared ∙ ap (λ x. x && last) ordered))
+
+  pub undeclared : (d b : Bool) → d ≡ circular_at p.rules.attributes a.0 → d ≡ false → b ≡ false → b ≡ (equations_of p).circular (instance_of p q)
+  undeclared d b e t f =
+      let declared : circular_at p.rules.attributes a.0 ≡ false = sym e ∙ t in
+      of_code b (f ∙ sym (ap (λ x. x && (is_ordered (kind_in p i) && site_rises (circular_at p.rules.attributes) (equation_of p i))) declared))
+
+  pub unordered : (d o b : Bool) → d ≡ circular_at p.rules.attributes a.0 → o ≡ is_ordered (kind_in p (instance_of p q)) → d ≡ true → o ≡ false → b ≡ false → b ≡ (equations_of p).circular (instance_of p q)
+  unordered d o b e f t u g =
+      let declared : circular_at p.rules.attributes a.0 ≡ true = sym e ∙ t in
+      let kind : is_ordered (kind_in p (instance_of p q)) ≡ is_ordered (kind_in p i) = ap (λ (x : CodedInstance). is_ordered (kind_in p (instance_of p x))) is in
+      let ordered : is_ordered (kind_in p i) ≡ false = sym kind ∙ sym f ∙ u in
+      let last = site_rises (circular_at p.rules.attributes) (equation_of p i) in
+      of_code b (g ∙ sym (ap (λ x. x && (is_ordered (kind_in p i) && last)) declared ∙ ap (λ x. x && last) ordered))
+
+-- a query isn't circular
+pub no_query : (p : Program) (q : CodedInstance) (n : ℕ) → q ≡ coded.Query n → false ≡ (equations_of p).circular (instance_of p q)
+no_query p q n is = circular_is p (instance_of p (coded.Query n)) ∙ ap (λ (x : CodedInstance). (equations_of p).circular (instance_of p x)) (sym is)

@@ -1,0 +1,65 @@
+// Which instances are circular, and where these start.
+ghost use Rattle.std.specs.Prelude.{◌≡◌};
+ghost use Rattle.attr_rules.specs.Rules.{circular_at};
+ghost use Rattle.equation_law.specs.declared.coding.Instance.TheVariants.{Attr as attribute_at};
+ghost use Rattle.equation_law.specs.Codes.{IsCoded, IsRow, instance_of};
+ghost use Rattle.equation_law.specs.Equations.{equation_of, equations_of, site_rises};
+ghost use Rattle.equation_law.specs.Equations as spec;
+ghost use Rattle.equation_law.specs.Systems.{program_of};
+ghost use Rattle.plain_rounds.specs.Places.{IsHeld};
+ghost use Rattle.plain_rounds.specs.Steps.{known, start_of};
+
+use crate::rising::{is_declared, rises};
+use crate::values::NamedValue;
+use attr_rules::{AttrId, Kind};
+use equation_law::{Args, Instance, NodeRef, System, Value};
+use expr_eval::kind_of;
+use inherited_walk::find_equation;
+use std::alloc::Global;
+
+/// Whether it is a type of which circular attributes are.
+fn is_ordered(kind: Kind) -> bool
+    ensures { result ≡ spec.is_ordered kind }
+{
+    match kind {
+        Kind::Truth | Kind::Texts | Kind::Nodes(_) => true,
+        Kind::Int | Kind::Text | Kind::Node(_) => false,
+    }
+}
+
+/// Whether an attribute has an equation at a node, and it is rising.
+fn equation_rises(system: &System, attr: AttrId, node: NodeRef, args: Args) -> bool
+    ensures { result ≡ site_rises (circular_at (program_of system.now).rules.attributes) (equation_of (program_of system.now) (instance_of (program_of system.now) (attribute_at attr node args))) }
+{
+    match find_equation(system, attr, node, args) {
+        None => false,
+        Some(site) => rises(system.rules(), system.rules().body(site.equation)),
+    }
+}
+
+/// Whether an instance is circular. In a program that was checked it is where its attribute is declared so.
+pub(crate) fn is_circular(system: &System, name: &Instance) -> bool
+    ensures { result ≡ (equations_of (program_of system.now)).circular (instance_of (program_of system.now) name.now) }
+{
+    match name {
+        Instance::Query(_) => false,
+        Instance::Attr { attr, node, args } => {
+            is_declared(system.rules(), *attr)
+                && is_ordered(kind_of(system, name))
+                && equation_rises(system, *attr, *node, *args)
+        }
+    }
+}
+
+/// Where the rounds of an instance start, if it is circular.
+pub(crate) fn start_of(alloc: Global, system: &System, name: &Instance) -> Option<NamedValue>
+    ensures value { known (program_of system.now) result ≡ start_of (program_of system.now) (instance_of (program_of system.now) name.now) }
+    ensures elements { IsHeld (program_of system.now) result }
+{
+    if is_circular(system, name) {
+        let value = Value::default_of(alloc, kind_of(system, name));
+        Some(NamedValue { value })
+    } else {
+        None
+    }
+}

@@ -1,0 +1,52 @@
+-- The text of a value in a reply.
+use Rattle.std.specs.Prelude.{◌≡◌, ℕ, ℤ, Bool, true, false, List, [], ◌∷◌, ◌++◌, codes, map}
+use Rattle.std.specs.Fmt.{decimal, signed_decimal}
+use Rattle.rag_io.specs.Quoting.{quoted}
+use Rattle.equation_law.specs.Names.{At, NodeName, Null, Source, node_cmp, text_cmp}
+use Rattle.equation_law.specs.Sets.{SetBy, elements}
+use Rattle.equation_law.specs.Values.{Int, Node, Nodes, Text, Texts, Truth, Value}
+
+abbrev pub truth_text : Bool → List ℕ
+truth_text true = codes "true"
+truth_text false = codes "false"
+
+-- a source node is `@` and its number
+abbrev pub node_text : NodeName → List ℕ
+node_text (Source k) = codes "@" ++ decimal k
+
+-- texts that follow others, each behind a comma and a space
+abbrev pub further : List (List ℕ) → List ℕ
+further [] = []
+further (text ∷ texts) = codes ", " ++ (text ++ further texts)
+
+-- texts in their order, with a comma and a space between two
+abbrev pub joined : List (List ℕ) → List ℕ
+joined [] = []
+joined (text ∷ texts) = text ++ further texts
+
+-- a set by the texts of its elements
+abbrev pub in_braces : List (List ℕ) → List ℕ
+in_braces texts = codes "{" ++ (joined texts ++ codes "}")
+
+-- The text of a value in a reply. A text stands in quotes. A set stands in braces with its elements in their order: texts
+-- in that of their bytes, nodes in that of their names.
+pub data IsReplyText : Value → List ℕ → Type 0 where
+  of_truth : (b : Bool) → IsReplyText (Truth b) (truth_text b)
+  of_int : (z : ℤ) → IsReplyText (Int z) (signed_decimal z)
+  of_text : (t : List ℕ) → IsReplyText (Text t) (quoted t)
+  of_null : IsReplyText (Node Null) (codes "null")
+  of_node : (n : NodeName) → IsReplyText (Node (At n)) (node_text n)
+  of_texts : (s : SetBy text_cmp) → IsReplyText (Texts s) (in_braces (map quoted (elements s)))
+  of_nodes : (s : SetBy node_cmp) → IsReplyText (Nodes s) (in_braces (map node_text (elements s)))
+
+-- the text of the value was added
+pub record AddsText (v : Value) (old new : List ℕ) : Type 0 where
+  pub text : List ℕ
+  pub of_value : IsReplyText v text
+  pub added : new ≡ old ++ text
+
+-- the text of the value was added, and a line feed
+pub record AddsReply (v : Value) (old new : List ℕ) : Type 0 where
+  pub text : List ℕ
+  pub of_value : IsReplyText v text
+  pub added : new ≡ old ++ (text ++ 10 ∷ [])

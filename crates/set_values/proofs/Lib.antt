@@ -1,0 +1,6 @@
+pub mod Coded
+pub mod Listed
+pub mod NodeCodes
+pub mod Operators
+pub mod TextCodes
+pub mod Wraps

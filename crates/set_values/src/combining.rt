@@ -1,0 +1,77 @@
+// What is made of two sets.
+ghost use Rattle.std.specs.Prelude.{◌≡◌, ◌||◌, IfOk};
+ghost use Rattle.code_sets.specs.Members.{AreMade};
+ghost use Rattle.equation_law.specs.declared.system.System.{System as KeptSystem};
+ghost use Rattle.equation_law.specs.Codes.{AreElements, value_of};
+ghost use Rattle.equation_law.specs.Program.{text_of};
+ghost use Rattle.equation_law.specs.Systems.{program_of};
+ghost use Rattle.equation_law.specs.Values as spec;
+ghost use Rattle.set_values.specs.CodedSets.{with_operator};
+
+use attr_rules::{Kind, SetOperator};
+use code_sets::Codes;
+use equation_law::Value;
+use rag_io::Memory;
+use std::alloc::Global;
+
+/// The codes of either. Those of the smaller set are added to the others.
+fn united(mut left: Codes, mut right: Codes) -> Result<Codes, Memory>
+    ensures { IfOk result (AreMade (λ a b. a || b) left right) }
+{
+    if left.len() < right.len() {
+        right.add(&left)?;
+        return Ok(right);
+    }
+    left.add(&right)?;
+    Ok(left)
+}
+
+/// The codes that an operator makes of those of two sets.
+fn combined(
+    alloc: Global,
+    operator: SetOperator,
+    left: Codes,
+    right: Codes,
+) -> Result<Codes, Memory>
+    ensures { IfOk result (AreMade (with_operator operator) left right) }
+{
+    match operator {
+        SetOperator::Union => united(left, right),
+        SetOperator::Inter => left.inter(alloc, &right),
+        SetOperator::Minus => left.minus(alloc, &right),
+    }
+}
+
+/// What is made of two sets, both read at a type. Of a type that has no sets it is the default.
+pub fn set_operate(
+    alloc: Global,
+    operator: SetOperator,
+    kind: Kind,
+    left: Value,
+    right: Value,
+) -> Result<Value, Memory>
+    ensures value { IfOk result (λ set. (system : KeptSystem) → AreElements (program_of system) left → AreElements (program_of system) right → value_of (text_of (program_of system)) set ≡ spec.set_operate operator kind (value_of (text_of (program_of system)) left) (value_of (text_of (program_of system)) right)) }
+    ensures elements { IfOk result (λ set. (system : KeptSystem) → AreElements (program_of system) left → AreElements (program_of system) right → AreElements (program_of system) set) }
+{
+    match kind {
+        Kind::Texts => {
+            let codes = combined(
+                alloc,
+                operator,
+                left.into_texts(alloc),
+                right.into_texts(alloc),
+            )?;
+            Ok(Value::Texts(codes))
+        }
+        Kind::Nodes(_) => {
+            let codes = combined(
+                alloc,
+                operator,
+                left.into_nodes(alloc),
+                right.into_nodes(alloc),
+            )?;
+            Ok(Value::Nodes(codes))
+        }
+        Kind::Truth | Kind::Int | Kind::Text | Kind::Node(_) => Ok(Value::default_of(alloc, kind)),
+    }
+}

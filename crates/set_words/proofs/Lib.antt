@@ -1,0 +1,7 @@
+pub mod Adding
+pub mod Firsts
+pub mod Held
+pub mod Members
+pub mod Reading
+pub mod Valued
+pub mod Words

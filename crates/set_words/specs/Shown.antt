@@ -1,0 +1,47 @@
+-- What the words of a cell show, as a value.
+use Rattle.std.specs.Prelude.{◌≡◌, ◌↔◌, ◌⊎◌, ◌<◌, ◌≤◌, ◌/◌, ◌%◌, ℕ, true, List}
+use Rattle.std.specs.Int.{bit_at}
+use Rattle.code_sets.specs.Members.{has_code}
+use Rattle.equation_law.specs.declared.coding.Value.{Value as CodedValue}
+use Rattle.equation_law.specs.Codes.{AreElements, value_of}
+use Rattle.equation_law.specs.Equations.{HasValue, kind_in}
+use Rattle.equation_law.specs.Names.{Instance}
+use Rattle.equation_law.specs.Orders.{FitsKind}
+use Rattle.equation_law.specs.Program.{Program, text_of}
+use Rattle.equation_law.specs.Values.{Value, as_kind}
+use Rattle.memo_cells.specs.declared.view.View.{View}
+use Rattle.memo_cells.specs.Showing.{ShowsAtLeast, ShowsAtMost, ShowsCode}
+use Rattle.memo_cells.specs.Standing.{Knows}
+
+-- the code c lies in this word, from one code on, below another, and has its bit there
+pub record IsInWord (word bits from to c : ℕ) : Type 0 where
+  pub lies : c / 64 ≡ word
+  pub least : from ≤ c
+  pub below : c < to
+  pub bit : bit_at bits (c % 64) ≡ 1
+
+-- the bits of a word that stand for codes below one
+abbrev pub AreBelow : ℕ → ℕ → ℕ → Type 0
+AreBelow word code bits = (c : ℕ) → c / 64 ≡ word → (bit_at bits (c % 64) ≡ 1) ↔ (c < code)
+
+-- the codes of a set, with those that are in the word
+pub record AddsWord (word bits from to : ℕ) (before after : List ℕ) : Type 0 where
+  pub kept : (c : ℕ) → has_code before c ≡ true → has_code after c ≡ true
+  pub added : (c : ℕ) → IsInWord word bits from to c → has_code after c ≡ true
+  pub only : (c : ℕ) → has_code after c ≡ true → (has_code before c ≡ true) ⊎ IsInWord word bits from to c
+
+-- These codes lie from one code on, below another, and the words of i show each. All such codes are among them that the words showed before.
+pub record AreCodesShown (p : Program) (before now : View) (i : Instance) (from to : ℕ) (cs : List ℕ) : Type 0 where
+  pub least : (c : ℕ) → has_code cs c ≡ true → from ≤ c
+  pub below : (c : ℕ) → has_code cs c ≡ true → c < to
+  pub shown : (c : ℕ) → has_code cs c ≡ true → ShowsCode p now i c
+  pub all : (c : ℕ) → from ≤ c → c < to → ShowsCode p before i c → has_code cs c ≡ true
+
+-- The value x is of the type of i, at least what the words showed before, and at most what they show now. Where the pass knew i as settled before, it is the value in the
+-- solution.
+pub record IsShownValue (p : Program) (before now : View) (i : Instance) (x : CodedValue) : Type 0 where
+  pub elements : AreElements p x
+  pub fits : FitsKind (kind_in p i) (value_of (text_of p) x)
+  pub shown : ShowsAtLeast p now i (kind_in p i) (value_of (text_of p) x)
+  pub all : ShowsAtMost p before i (kind_in p i) (value_of (text_of p) x)
+  pub settled : Knows p before i → (w : Value) × HasValue p i w × (value_of (text_of p) x ≡ as_kind (kind_in p i) w)
