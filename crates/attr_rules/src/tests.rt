@@ -117,6 +117,17 @@ const TEXTS: ValueType = ValueType::Of(Kind::Texts);
 
 const NULL: ValueType = ValueType::Null;
 
+const EMPTY: ValueType = ValueType::Empty;
+
+// Sets of nodes.
+const LS: ValueType = ValueType::Of(Kind::Nodes(ClassId(1)));
+
+const MS: ValueType = ValueType::Of(Kind::Nodes(ClassId(2)));
+
+const NS: ValueType = ValueType::Of(Kind::Nodes(ClassId(3)));
+
+const PS: ValueType = ValueType::Of(Kind::Nodes(ClassId(0)));
+
 // Nodes of the classes of a grammar, and its rules.
 const P: ValueType = ValueType::Of(Kind::Node(ClassId(0)));
 
@@ -160,6 +171,14 @@ const FITTING: &[(ValueType, Kind, bool)] = &[
     (TEXT, Kind::Text, true),
     (INT, Kind::Truth, false),
     (TEXT, Kind::Texts, false),
+    (TEXTS, Kind::Texts, true),
+    (TEXTS, Kind::Nodes(ClassId(1)), false),
+    (EMPTY, Kind::Texts, true),
+    (EMPTY, Kind::Nodes(ClassId(1)), true),
+    (EMPTY, Kind::Text, false),
+    (MS, Kind::Nodes(ClassId(1)), true),
+    (LS, Kind::Nodes(ClassId(2)), false),
+    (EMPTY, Kind::Node(ClassId(1)), false),
     (NULL, Kind::Int, false),
     (NULL, Kind::Text, false),
     (NULL, Kind::Node(ClassId(0)), true),
@@ -179,7 +198,16 @@ const PAIRS: &[(ValueType, ValueType, Option<ValueType>, bool)] = &[
     (TEXT, TEXT, Some(TEXT), true),
     (INT, TRUTH, None, false),
     (TEXT, INT, None, false),
-    (TEXTS, TEXTS, None, false),
+    (TEXTS, TEXTS, Some(TEXTS), false),
+    (TEXTS, TEXT, None, false),
+    (EMPTY, TEXTS, Some(TEXTS), false),
+    (EMPTY, EMPTY, Some(EMPTY), false),
+    (EMPTY, NULL, None, false),
+    (MS, EMPTY, Some(MS), false),
+    (MS, NS, Some(LS), false),
+    (PS, LS, None, false),
+    (TEXTS, LS, None, false),
+    (LS, L, None, false),
     (NULL, NULL, Some(NULL), true),
     (NULL, L, Some(L), true),
     (M, NULL, Some(M), true),
