@@ -3,7 +3,7 @@ use Rattle.std.proofs.Common.{◌≡◌, ℕ, Bool, true, false, not, ◌&&◌, 
 use Rattle.attr_rules.specs.declared.expression.Quantifier.TheVariants.{Any, All, First}
 use Rattle.attr_rules.specs.declared.expression.SetOperator.TheVariants.{Union, Inter, Minus}
 use Rattle.attr_rules.specs.Expression.{Expression, Truth, Int, Text, Null, Empty, This, Variable, Source, Child, Element, Count, Has, Token, Call, Cast, InstanceOf, Quantified, QuantifiedSet, Each, EachOfSet, Sets, Single, Contains, Size, Not, Negate, Binary, And, Or, OrBoth, If}
-use Rattle.attr_rules.specs.Rising.{IsRising, has_call, have_call, is_bottom, rises, body_rises, range_rises, second_rises}
+use Rattle.attr_rules.specs.Rising.{IsRising, has_call, have_call, is_bottom, rises}
 use Rattle.attr_rules.specs.Rising as rising
 
 not_true : (a : Bool) → not a ≡ true → a ≡ false

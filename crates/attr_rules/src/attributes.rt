@@ -5,7 +5,7 @@ ghost use Rattle.attr_rules.specs.KeptEquations.{seen_attribute};
 ghost use Rattle.rag_io.specs.Pool.{most_texts};
 ghost use Rattle.ast_grammar.specs.Grammar.{superclasses_of};
 ghost use Rattle.attr_rules.specs.KeptAttributes.{AreFirstInherited, AreNumbered, AreRows, Extends, IsRow, attributes_in};
-ghost use Rattle.attr_rules.specs.Rules.{attribute_named, declared_at, first_inherited, first_of_name, most_attributes, number_of_attribute};
+ghost use Rattle.attr_rules.specs.Rules.{attribute_named, circular_at, declared_at, first_inherited, first_of_name, most_attributes, number_of_attribute};
 
 use crate::kinds::{Attr, AttrId};
 use crate::rows::{at_place, at_row, put_first};
@@ -194,6 +194,13 @@ impl Attributes {
         ensures { declared_at self.now.attributes a.0 ≡ Some result.now }
     {
         &self.kept[a.0 as usize].declared
+    }
+
+    /// Whether the attribute of this number is declared circular; where there is none, it isn't.
+    pub fn is_circular(&self, a: AttrId) -> bool
+        ensures { result ≡ circular_at self.now.attributes a.0 }
+    {
+        u32::from(a.0) < self.len() && self.attr(a).circular
     }
 
     /// The first inherited attribute that has the name of this one, or None where none has. It takes constant time.

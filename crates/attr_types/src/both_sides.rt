@@ -8,13 +8,6 @@ ghost use Rattle.attr_types.specs.BothSides.{all_with_both, either, said_where, 
 use attr_rules::{AttrId, Attributes, TArgs, TExpr};
 use std::mem;
 
-// Whether an attribute is circular.
-fn is_circular(attributes: &Attributes, attribute: AttrId) -> bool
-    ensures { result ≡ circular_at attributes.now.attributes attribute.0 }
-{
-    u32::from(attribute.0) < attributes.len() && attributes.attr(attribute).circular
-}
-
 // `||` of which both sides are always evaluated, where the left one calls a circular attribute.
 fn either(calls: bool, whole: TExpr) -> TExpr
     ensures { (a b : Expression) → expression_of whole ≡ Or a b → expression_of result ≡ either calls a b }
@@ -69,7 +62,7 @@ fn set_sides(attributes: &Attributes, expr: &mut TExpr) -> bool
         TExpr::Call(attribute, _, receiver, arguments) => {
             let calls = set_sides(attributes, receiver);
             let also = set_arguments(attributes, arguments);
-            is_circular(attributes, *attribute) || (calls || also)
+            attributes.is_circular(*attribute) || (calls || also)
         }
         TExpr::Or(left, right) => {
             let calls = set_sides(attributes, left);
@@ -114,7 +107,7 @@ pub(crate) fn said_for(attributes: &Attributes, attribute: AttrId, body: TExpr) 
     ensures { expression_of result ≡ said_where (circular_at attributes.now.attributes attribute.0) (circular_at attributes.now.attributes) (expression_of body) }
 {
     let mut said = body;
-    if is_circular(attributes, attribute) {
+    if attributes.is_circular(attribute) {
         set_sides(attributes, &mut said);
     }
     said

@@ -1,7 +1,6 @@
 -- What asking for an instance says, at each way out.
-use Rattle.std.proofs.Common.{◌≡◌, ℕ, ◌+◌, ◌*◌, ◌<◌, inl, inr, false, List, Option, Some, None, Result, Ok, Err, refl, sym, ap, subst, ◌∙◌, arith}
+use Rattle.std.proofs.Common.{◌≡◌, ℕ, inl, inr, false, List, Result, Ok, Err, refl, sym, subst, ◌∙◌, arith}
 use Rattle.std.specs.Result.{IsErr, IsErrAnd}
-use Rattle.rag_io.specs.declared.Memory.{Memory as NoMemory}
 use Rattle.attr_rules.specs.declared.kinds.Kind.{Kind}
 use Rattle.attr_rules.specs.Rules.{is_single}
 use Rattle.solutions.specs.Leading.{none}
@@ -19,13 +18,12 @@ use Rattle.memo_cells.specs.declared.view.Frame.{Frame}
 use Rattle.memo_cells.specs.declared.view.View.{View}
 use Rattle.memo_cells.specs.Naming.{LacksCell}
 use Rattle.memo_cells.specs.Standing.{Knows}
-use Rattle.memo_cells.specs.Views.{IsAtLeast, times}
-use Rattle.memo_cells.proofs.Naming.{knows_later}
+use Rattle.memo_cells.specs.Views.{IsAtLeast}
 use Rattle.caller_pass.specs.declared.faults.AskFault.{AskFault}
 use Rattle.caller_pass.specs.declared.faults.AskFault.TheVariants.{CellsFull, Circular, Memory}
 use Rattle.caller_pass.specs.declared.waiting.Waiter.{Waiter}
-use Rattle.caller_pass.specs.Answering.{AnswersAsk, AnswersFault, AnswersSolve, Asks, ClaimsKeys, IsCircular, Solves, unsettled}
-use Rattle.caller_pass.specs.Knowing.{FindsValue, IsKnownValue}
+use Rattle.caller_pass.specs.Answering.{AnswersAsk, AnswersFault, AnswersSolve, Asks, ClaimsKeys, IsCircular, Solves}
+use Rattle.caller_pass.specs.Knowing.{IsKnownValue}
 use Rattle.caller_pass.specs.Waiting.{AnswersWait}
 use Rattle.caller_pass.proofs.Claiming.{claims_same, claims_then}
 use Rattle.caller_pass.proofs.Closing.{unsettled_less}

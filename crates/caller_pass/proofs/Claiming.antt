@@ -1,8 +1,7 @@
 -- What was claimed for an instance, and what fills the cells.
-use Rattle.std.proofs.Common.{◌≡◌, ℕ, ◌⊎◌, inl, inr, ⊎_elim, List, false, true, refl, sym, ap, subst, ◌∙◌}
+use Rattle.std.proofs.Common.{◌≡◌, ℕ, inl, inr, ⊎_elim, List, true, ap, ◌∙◌}
 use Rattle.solutions.specs.Leading.{none}
-use Rattle.equation_law.specs.Codes.{instance_of}
-use Rattle.equation_law.specs.Equations.{HasValue, equations_of, kind_in}
+use Rattle.equation_law.specs.Equations.{HasValue, kind_in}
 use Rattle.equation_law.specs.Loops.{Chain}
 use Rattle.equation_law.specs.Names.{Instance}
 use Rattle.equation_law.specs.Program.{Program, text_of}

@@ -1,10 +1,9 @@
 -- Closing a local set: the cells that come to be seen settled pay for its evaluations.
-use Rattle.std.proofs.Common.{◌≡◌, ℕ, ◌+◌, ◌*◌, ◌<◌, ◌≤◌, ⊎_elim, ◌⊎◌, true, List, [], Result, Ok, Err, refl, sym, ap, subst, ◌∙◌, arith}
+use Rattle.std.proofs.Common.{◌≡◌, ℕ, ◌+◌, ◌*◌, ◌<◌, ◌≤◌, ⊎_elim, true, [], Result, Ok, Err, refl, sym, subst, arith}
 use Rattle.std.specs.Result.{IsErr, IsErrAnd, IsOk}
 use Rattle.solutions.specs.Leading.{none}
 use Rattle.equation_law.specs.declared.coding.Instance.{Instance as CodedInstance}
 use Rattle.equation_law.specs.Codes.{instance_of}
-use Rattle.equation_law.specs.Equations.{equations_of}
 use Rattle.equation_law.specs.Loops.{Chain}
 use Rattle.equation_law.specs.Names.{Instance}
 use Rattle.equation_law.specs.Program.{Program}
@@ -19,7 +18,6 @@ use Rattle.circular_eval.specs.declared.advancing.CircFault.TheVariants as set_f
 use Rattle.circular_eval.specs.declared.local.Local.{Local}
 use Rattle.circular_eval.specs.Advancing.{AnswersFault as AnswersCircular, IsMissing}
 use Rattle.caller_pass.specs.declared.faults.AskFault.{AskFault}
-use Rattle.caller_pass.specs.declared.faults.AskFault.TheVariants.{CellsFull, Circular, Memory}
 use Rattle.caller_pass.specs.Answering.{AnswersFault, ClaimsKeys, ClosesMore, IsSameFault, Solves, SolvesFor, unsettled}
 use Rattle.caller_pass.proofs.Claiming.{claims_same, claims_then, fills_from}
 use Rattle.caller_pass.proofs.Falling.{by_value, left_falls, left_less, left_unsettled, not_taken, taken, taken_by}

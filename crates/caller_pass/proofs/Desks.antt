@@ -15,11 +15,9 @@ use Rattle.expr_eval.specs.declared.sites.Turn.{Turn}
 use Rattle.expr_eval.specs.declared.sites.Turn.TheVariants.{Done, Need}
 use Rattle.expr_eval.specs.Evaluating.{AnswersTurn}
 use Rattle.memo_cells.specs.declared.view.Frame.{Frame}
-use Rattle.memo_cells.specs.Standing.{IsPassOf}
-use Rattle.memo_cells.specs.Working.{GoesOn, Held, IsKnown, IsOwn, ReadsOn, program_at, told_by}
-use Rattle.memo_cells.proofs.More.{at_least_itself, at_least_then}
+use Rattle.memo_cells.specs.Working.{Held, IsKnown, ReadsOn, program_at, told_by}
 use Rattle.memo_cells.proofs.Naming.{knows_later}
-use Rattle.circular_eval.proofs.Holding.{reads_then}
+use Rattle.memo_cells.proofs.Holding.{reads_then}
 use Rattle.caller_pass.specs.Knowing.{FindsValue, TurnsTo}
 
 sound : (d : Held) → IsSound (program_at d) (told_by d)

@@ -1,5 +1,5 @@
 -- The elements of a set that is the value of an instance, and their codes.
-use Rattle.std.proofs.Common.{◌≡◌, ℕ, zero, suc, ◌<◌, inl, inr, ⊎_elim, Bool, true, false, not, List, [], ◌∷◌, All, length, map, refl, sym, ap, subst, ◌∙◌, arith}
+use Rattle.std.proofs.Common.{◌≡◌, ℕ, zero, suc, ◌<◌, ⊎_elim, Bool, true, false, not, List, [], ◌∷◌, All, length, map, refl, sym, subst, ◌∙◌, arith}
 use Rattle.std.proofs.lemmas.List.Elements.{All-head, All-tail}
 use Rattle.attr_rules.specs.declared.kinds.Kind.{Kind}
 use Rattle.attr_rules.specs.declared.kinds.Kind.TheVariants as kinds
@@ -8,7 +8,7 @@ use Rattle.ast_grammar.specs.declared.grammar.ClassId.{ClassId}
 use Rattle.equation_law.specs.declared.coding.Value.{Value as CodedValue}
 use Rattle.equation_law.specs.declared.coding.Value.TheVariants as coded
 use Rattle.equation_law.specs.Checked.{IsNodeOf, IsValue, int, node, nodes, text, texts, truth}
-use Rattle.equation_law.specs.Codes.{AreElements, nodes_of, reference_of, value_of}
+use Rattle.equation_law.specs.Codes.{AreElements, nodes_of, value_of}
 use Rattle.equation_law.specs.Names.{At, Instance, NodeName, Source, node_cmp, text_cmp}
 use Rattle.equation_law.specs.Program.{Program, text_of}
 use Rattle.equation_law.specs.Sets.{SetBy, has, set_of}

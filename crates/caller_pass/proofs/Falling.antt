@@ -12,7 +12,8 @@ use Rattle.memo_cells.proofs.Counting.{any_has, has_any}
 use Rattle.circular_eval.specs.declared.local.Local.{Local}
 use Rattle.caller_pass.specs.declared.waiting.Waiter.{Waiter}
 use Rattle.caller_pass.specs.Answering.{unsettled}
-use Rattle.caller_pass.proofs.Lines.{has_left, has_snoc}
+use Rattle.memo_cells.proofs.Bits.{has_left}
+use Rattle.caller_pass.proofs.Lines.{has_snoc}
 
 -- the cell is seen settled, or an instance waits at it
 abbrev pub taken : View → List (CodedInstance × Waiter) → ℕ → Bool

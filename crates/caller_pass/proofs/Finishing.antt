@@ -1,5 +1,5 @@
 -- Settling an instance whose equation ended.
-use Rattle.std.proofs.Common.{◌≡◌, ℕ, inr, false, true, List, Result, Ok, Err, sym, ap, subst}
+use Rattle.std.proofs.Common.{◌≡◌, ℕ, inr, false, true, List, Ok, Err, sym, subst}
 use Rattle.equation_law.specs.declared.coding.Value.{Value as CodedValue}
 use Rattle.equation_law.specs.Checked.{IsInstance, IsProgram, IsValue}
 use Rattle.equation_law.specs.Codes.{value_of}

@@ -1,9 +1,7 @@
 -- The stack of those that wait, known later, one more on it, and one fewer.
-use Rattle.std.proofs.Common.{◌≡◌, ℕ, ◌⊎◌, inl, inr, ⊎_elim, true, false, is_some, List, [], ◌∷◌, ◌++◌, Option, Some, None, refl, sym, ap, subst, ◌∙◌}
+use Rattle.std.proofs.Common.{◌≡◌, ℕ, ⊎_elim, true, false, is_some, List, [], ◌∷◌, ◌++◌, Option, Some, None, refl, sym, ap, subst, ◌∙◌}
 use Rattle.equation_law.specs.declared.coding.Instance.{Instance as CodedInstance}
-use Rattle.equation_law.specs.Checked.{IsInstance}
 use Rattle.equation_law.specs.Codes.{IsCoded, instance_of}
-use Rattle.equation_law.specs.Equations.{equations_of}
 use Rattle.equation_law.specs.Names.{Instance}
 use Rattle.equation_law.specs.Program.{Program}
 use Rattle.memo_cells.specs.declared.keys.Slot.{Slot}
@@ -19,7 +17,8 @@ use Rattle.caller_pass.specs.declared.waiting.Waiter.{Waiter}
 use Rattle.caller_pass.specs.Knowing.{FindsCode}
 use Rattle.caller_pass.specs.Waiting.{AreWaiting, IsFrame, IsPlaced, IsStack, IsWay, IsWayOf, LooksAgain, WaitsBy, WayStays, waits}
 use Rattle.caller_pass.proofs.Knowing.{found_knows}
-use Rattle.caller_pass.proofs.Lines.{assoc, has_left, has_last, has_snoc}
+use Rattle.memo_cells.proofs.Bits.{has_left}
+use Rattle.caller_pass.proofs.Lines.{has_last, has_snoc}
 
 module _ (p : Program) (f : Frame) (v w : View) (kept : IsAtLeast v w) where
   pub placed_later : (e : CodedInstance × Waiter) → IsPlaced p f v e → IsPlaced p f w e

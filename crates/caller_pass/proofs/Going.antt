@@ -1,10 +1,10 @@
 -- Solving on demand: what holds before each turn, and what each turn comes to.
-use Rattle.std.proofs.Common.{◌≡◌, ℕ, ◌+◌, ◌*◌, ◌<◌, ◌⊎◌, inl, inr, ⊎_elim, true, false, List, [], ◌∷◌, ◌++◌, length, map, Option, Some, None, Result, Ok, Err, refl, sym, ap, subst, ◌∙◌, arith}
+use Rattle.std.proofs.Common.{◌≡◌, ℕ, ◌+◌, ◌*◌, ◌<◌, ◌⊎◌, inl, inr, ⊎_elim, true, false, List, [], ◌∷◌, ◌++◌, length, map, Option, Some, None, Result, Ok, Err, sym, ap, subst, ◌∙◌, arith}
 use Rattle.std.specs.Result.{IsErr, IsErrAnd}
 use Rattle.rag_io.specs.Pool.{ArePooled}
 use Rattle.solutions.specs.Leading.{none}
 use Rattle.equation_law.specs.declared.coding.Instance.{Instance as CodedInstance}
-use Rattle.equation_law.specs.Checked.{IsInstance, IsProgram}
+use Rattle.equation_law.specs.Checked.{IsInstance}
 use Rattle.equation_law.specs.Codes.{IsCoded, instance_of}
 use Rattle.equation_law.specs.Equations.{equations_of}
 use Rattle.equation_law.specs.Loops.{Chain, HasLoop}
@@ -17,20 +17,19 @@ use Rattle.memo_cells.specs.declared.view.View.{View}
 use Rattle.memo_cells.specs.Naming.{ClaimsKeysTo, IsCellOf}
 use Rattle.memo_cells.specs.Standing.{IsPassOf, Knows}
 use Rattle.memo_cells.specs.Views.{Has, IsAtLeast}
-use Rattle.memo_cells.specs.Working.{GoesOn, Held, program_at}
+use Rattle.memo_cells.specs.Working.{Held, program_at}
 use Rattle.memo_cells.proofs.More.{at_least_then}
 use Rattle.memo_cells.proofs.Naming.{knows_later}
 use Rattle.circular_eval.specs.declared.local.Local.{Local}
 use Rattle.caller_pass.specs.declared.faults.AskFault.{AskFault}
 use Rattle.caller_pass.specs.declared.faults.AskFault.TheVariants.{CellsFull, Circular, Memory}
 use Rattle.caller_pass.specs.declared.solving.Went.{Went}
-use Rattle.caller_pass.specs.declared.solving.Went.TheVariants.{Further, Need, Settled}
 use Rattle.caller_pass.specs.declared.waiting.Waiter.{Waiter}
 use Rattle.caller_pass.specs.Answering.{AnswersFault, AnswersStep, ClaimsKeys, GoesThrough, IsLoop, IsNext, LeavesOne, SameWay, Solves, WayChanges, unsettled}
-use Rattle.caller_pass.specs.Waiting.{AnswersWait, AreWaiting, IsFrame, IsLineTo, IsPlaced, IsStack, IsWayOf, LooksAgain, WaitsBy, waits}
+use Rattle.caller_pass.specs.Waiting.{AnswersWait, AreWaiting, IsLineTo, IsPlaced, IsStack, IsWayOf, LooksAgain, waits}
 use Rattle.caller_pass.proofs.Claiming.{claims_same, claims_then, claims_to, fills_more, fills_to}
 use Rattle.caller_pass.proofs.Falling.{measure}
-use Rattle.caller_pass.proofs.Frames.{placed_later, stack_fewer, stack_more, stack_on, stack_one, waiting_later, waiting_more}
+use Rattle.caller_pass.proofs.Frames.{stack_fewer, stack_more, stack_on, stack_one, waiting_later, waiting_more}
 use Rattle.caller_pass.proofs.Knowing.{has_value}
 use Rattle.caller_pass.proofs.Lines.{chain_then, loop_of, waits_chain}
 use Rattle.caller_pass.proofs.Paid.{pays_all, pays_back, pays_first, pays_further, pays_more, top_reached}

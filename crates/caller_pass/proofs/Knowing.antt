@@ -26,7 +26,7 @@ use Rattle.memo_cells.specs.Views.{Has, IsAtLeast, IsUnset}
 use Rattle.memo_cells.specs.Working.{IsKnown}
 use Rattle.memo_cells.proofs.Naming.{knows_later, stands_later, stands_once, word_once}
 use Rattle.set_words.specs.Shown.{IsShownValue}
-use Rattle.caller_pass.specs.Knowing.{FindsCode, HasEnded, IsKnownValue, IsSettledAt}
+use Rattle.caller_pass.specs.Knowing.{HasEnded, IsKnownValue, IsSettledAt}
 
 -- the cell of what is known
 pub known_cell : (p : Program) (f : Frame) (v : View) (i : Instance) → IsPassOf f v → (k : Knows p v i) → IsCellOf p f v i k.slot

@@ -1,12 +1,11 @@
 -- Where keys of what queries demand have all cells and one more is demanded, that is more than the cells can hold.
 use Rattle.std.proofs.Common.{◌≡◌, ◌≢◌, ℕ, zero, suc, ◌<◌, ◌≤◌, inl, inr, ⊎_elim, List, [], ◌∷◌, length, refl, sym, ap, subst, ◌∙◌, arith}
 use Rattle.rag_io.specs.Pool.{ArePooled}
-use Rattle.equation_law.specs.Names.{Instance, Query}
+use Rattle.equation_law.specs.Names.{Query}
 use Rattle.equation_law.specs.Program.{Program}
 use Rattle.memo_cells.specs.declared.view.Frame.{Frame}
 use Rattle.memo_cells.specs.declared.view.View.{View}
 use Rattle.memo_cells.specs.Keys.{set_word}
-use Rattle.memo_cells.specs.Naming.{IsWordOf, StandsFor}
 use Rattle.memo_cells.specs.Standing.{IsPassOf}
 use Rattle.memo_cells.specs.Views.{Has, IsAtLeast, IsFull, first_view, times}
 use Rattle.memo_cells.proofs.Naming.{stands_later, word_once}

@@ -1,5 +1,5 @@
 -- How what pays for evaluations changes from turn to turn.
-use Rattle.std.proofs.Common.{◌≡◌, ◌≢◌, ℕ, ◌+◌, ◌*◌, ◌<◌, ◌≤◌, ◌⊎◌, inl, inr, ⊎_elim, Bool, true, false, List, [], ◌∷◌, ◌++◌, length, Option, Some, None, refl, sym, ap, subst, ◌∙◌, arith}
+use Rattle.std.proofs.Common.{◌≡◌, ◌≢◌, ℕ, ◌+◌, ◌*◌, ◌<◌, ◌≤◌, ◌⊎◌, inl, inr, ⊎_elim, true, List, [], ◌∷◌, ◌++◌, length, Option, Some, None, refl, sym, ap, subst, ◌∙◌, arith}
 use Rattle.rag_io.specs.Pool.{ArePooled}
 use Rattle.solutions.specs.Leading.{none}
 use Rattle.equation_law.specs.declared.coding.Instance.{Instance as CodedInstance}
@@ -16,15 +16,16 @@ use Rattle.memo_cells.specs.declared.view.View.{View}
 use Rattle.memo_cells.specs.Naming.{IsCellOf}
 use Rattle.memo_cells.specs.Standing.{IsPassOf, Knows}
 use Rattle.memo_cells.specs.Views.{Has, IsAtLeast}
-use Rattle.memo_cells.proofs.Naming.{cell_later, knows_later}
+use Rattle.memo_cells.proofs.Naming.{cell_later}
 use Rattle.circular_eval.specs.declared.local.Local.{Local}
 use Rattle.caller_pass.specs.declared.waiting.Waiter.{Waiter}
 use Rattle.caller_pass.specs.Answering.{SameWay, WayChanges, unsettled}
 use Rattle.caller_pass.specs.Waiting.{AreWaiting, IsPlaced, IsStack, IsWayOf, LooksAgain, WaitsBy, WayStays, waits}
-use Rattle.caller_pass.proofs.Falling.{left, left_less}
+use Rattle.caller_pass.proofs.Falling.{left}
 use Rattle.caller_pass.proofs.Frames.{waiting_front}
 use Rattle.caller_pass.proofs.Knowing.{known_cell, one_cell, settled_known}
-use Rattle.caller_pass.proofs.Lines.{chain_then, has_left, has_last, has_snoc, start_chain, waiting_chain}
+use Rattle.memo_cells.proofs.Bits.{has_left}
+use Rattle.caller_pass.proofs.Lines.{chain_then, has_last, has_snoc, start_chain, waiting_chain}
 use Rattle.caller_pass.proofs.Paying.{AreApart, IsFresh, IsStart, Pays, by_done, done, done_by, empty_of, falls_so, fresh_circular, fresh_frame, has_or_not, left_done, none_some, some_once, sorted, without}
 use Rattle.caller_pass.proofs.Turning.{length_snoc, on_stack, waits_each}
 

@@ -1,11 +1,10 @@
 -- Closing a local set, at the desk.
-use Rattle.std.proofs.Common.{◌≡◌, ℕ, ◌<◌, true, false, Option, Some, None, is_some, Result, Ok, Err, refl, sym, ap, subst, ◌∙◌, arith}
+use Rattle.std.proofs.Common.{◌≡◌, ℕ, ◌<◌, true, false, Option, Some, None, is_some, Result, Ok, Err, refl, sym, subst, ◌∙◌, arith}
 use Rattle.std.specs.Result.{IsErr, IsErrAnd, IsOk}
 use Rattle.equation_law.specs.declared.coding.Instance.{Instance as CodedInstance}
 use Rattle.equation_law.specs.Checked.{IsInstance, IsProgram}
 use Rattle.equation_law.specs.Codes.{IsCoded, instance_of}
 use Rattle.equation_law.specs.Equations.{equations_of}
-use Rattle.equation_law.specs.Names.{Instance}
 use Rattle.equation_law.specs.Program.{Program}
 use Rattle.equation_law.specs.Systems.{program_of}
 use Rattle.memo_cells.specs.declared.keys.Slot.{Slot}
@@ -23,7 +22,7 @@ use Rattle.caller_pass.specs.Answering.{ClosesMore, Solves, unsettled}
 use Rattle.caller_pass.specs.Knowing.{FindsCode}
 use Rattle.caller_pass.proofs.Claiming.{claims_same}
 use Rattle.caller_pass.proofs.Closing.{IsClosing, closed, closing_fault, closing_first, closing_looked, closing_more, unsettled_less}
-use Rattle.circular_eval.proofs.Holding.{own_then}
+use Rattle.memo_cells.proofs.Holding.{own_then}
 use Rattle.caller_pass.proofs.Going.{solve_fault}
 use Rattle.caller_pass.proofs.Knowing.{found_knows}
 

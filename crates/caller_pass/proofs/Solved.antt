@@ -1,16 +1,13 @@
 -- Turns of solving, at the desk.
-use Rattle.std.proofs.Common.{◌≡◌, ℕ, ◌<◌, false, List, [], ◌∷◌, ◌++◌, Option, Some, None, Result, Ok, Err, refl, sym, ap, subst, ◌∙◌}
+use Rattle.std.proofs.Common.{◌≡◌, ℕ, ◌<◌, false, List, [], ◌∷◌, ◌++◌, None, Result, Ok, Err, refl, sym, subst, ◌∙◌}
 use Rattle.std.specs.Result.{IsErr, IsErrAnd}
-use Rattle.rag_io.specs.Pool.{ArePooled}
 use Rattle.equation_law.specs.declared.coding.Instance.{Instance as CodedInstance}
 use Rattle.equation_law.specs.Checked.{IsInstance, IsProgram}
 use Rattle.equation_law.specs.Codes.{IsCoded, instance_of}
 use Rattle.equation_law.specs.Equations.{equations_of}
-use Rattle.equation_law.specs.Program.{Program}
 use Rattle.equation_law.specs.Systems.{program_of}
 use Rattle.memo_cells.specs.declared.keys.Slot.{Slot}
 use Rattle.memo_cells.specs.declared.view.Frame.{Frame}
-use Rattle.memo_cells.specs.declared.view.View.{View}
 use Rattle.memo_cells.specs.Naming.{ClaimsKeysTo, IsCellOf, LacksCell}
 use Rattle.memo_cells.specs.Standing.{IsPassOf, Knows}
 use Rattle.memo_cells.specs.Working.{GoesOn, Held, IsOwn, ReadsOn, program_at}
@@ -23,7 +20,7 @@ use Rattle.caller_pass.specs.declared.waiting.Waiter.{Waiter}
 use Rattle.caller_pass.specs.Answering.{AnswersStep, GoesThrough, LeavesOne, Solves}
 use Rattle.caller_pass.specs.Waiting.{AnswersWait, IsFrame, LooksAgain, waits}
 use Rattle.caller_pass.proofs.Claiming.{claims_to, fills_to}
-use Rattle.circular_eval.proofs.Holding.{own_then}
+use Rattle.memo_cells.proofs.Holding.{own_then}
 use Rattle.caller_pass.proofs.Falling.{measure}
 use Rattle.caller_pass.proofs.Going.{IsSolving, WentThrough, begun, claims_more, claims_now, fell_back, fell_further, fell_more, leaves_one, solve_fault, solved_all, step_fault, through, wait_fault, went_back, went_further, went_more}
 

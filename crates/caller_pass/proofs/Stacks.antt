@@ -1,12 +1,9 @@
 -- The instances that wait, as a list.
-use Rattle.std.proofs.Common.{◌≡◌, Option, Some, None, IfSome, Bool, true, false, ◌||◌, is_some, if◌then◌else◌, List, [], ◌∷◌, ◌++◌, map, refl, sym, ap, ◌∙◌}
-use Rattle.std.specs.Map.{keys_of}
+use Rattle.std.proofs.Common.{◌≡◌, Option, Some, None, IfSome, Bool, true, false, ◌||◌, is_some, if◌then◌else◌, List, [], ◌∷◌, ◌++◌, refl, sym, ap, ◌∙◌}
 use Rattle.std.proofs.lemmas.Map.Made.{is_some-lookup}
 use Rattle.indexmap.specs.IndexMap.{IndexMap, Updates, insert_entry}
 use Rattle.equation_law.specs.declared.coding.Instance.{Instance as CodedInstance}
 use Rattle.equation_law.specs.contracts.coding.InstancePartialEq.TheImpl as equality
-use Rattle.equation_law.specs.Codes.{instance_of}
-use Rattle.equation_law.specs.Program.{Program}
 use Rattle.caller_pass.specs.declared.waiting.Waiter.{Waiter}
 use Rattle.caller_pass.specs.Waiting.{waits}
 

@@ -1,15 +1,14 @@
 -- One turn: what it claims, its faults, and what it leads to.
-use Rattle.std.proofs.Common.{◌≡◌, ℕ, inl, false, true, List, Option, Some, None, Result, Ok, Err, refl, sym, ap, subst, ◌∙◌}
+use Rattle.std.proofs.Common.{◌≡◌, false, true, Option, Some, None, Result, Ok, Err, refl, sym, ap, subst, ◌∙◌}
 use Rattle.std.specs.Result.{IsErr, IsErrAnd, IsOk}
 use Rattle.solutions.specs.Leading.{more, none}
 use Rattle.equation_law.specs.declared.coding.Instance.{Instance as CodedInstance}
-use Rattle.equation_law.specs.declared.coding.Value.{Value as CodedValue}
-use Rattle.equation_law.specs.Checked.{IsInstance, IsProgram, IsValue}
-use Rattle.equation_law.specs.Codes.{IsCoded, instance_of, value_of}
-use Rattle.equation_law.specs.Equations.{HasValue, equations_of, is_declared, kind_in}
+use Rattle.equation_law.specs.Checked.{IsInstance, IsProgram}
+use Rattle.equation_law.specs.Codes.{IsCoded, instance_of}
+use Rattle.equation_law.specs.Equations.{HasValue, equations_of, is_declared}
 use Rattle.equation_law.specs.Loops.{Leads}
 use Rattle.equation_law.specs.Names.{Instance}
-use Rattle.equation_law.specs.Program.{Program, text_of}
+use Rattle.equation_law.specs.Program.{Program}
 use Rattle.equation_law.specs.Systems.{program_of}
 use Rattle.equation_law.proofs.Declared.{as_declared}
 use Rattle.equation_law.proofs.Demanded.{met_instances}
@@ -27,10 +26,10 @@ use Rattle.circular_eval.specs.Local.{IsLocal}
 use Rattle.caller_pass.specs.declared.faults.AskFault.{AskFault}
 use Rattle.caller_pass.specs.declared.faults.AskFault.TheVariants.{CellsFull, Circular, Memory}
 use Rattle.caller_pass.specs.Answering.{AnswersFinish, AnswersStep, ClaimsKeys, IsNext, IsSameFault}
-use Rattle.caller_pass.specs.Knowing.{HasEnded, TurnsTo}
+use Rattle.caller_pass.specs.Knowing.{TurnsTo}
 use Rattle.caller_pass.specs.Waiting.{IsWay}
 use Rattle.caller_pass.proofs.Claiming.{claims_from, claims_same, claims_then, fills_from, fills_more}
-use Rattle.caller_pass.proofs.Knowing.{ended_value, halts_meets, halts_unknown, stuck_leads}
+use Rattle.caller_pass.proofs.Knowing.{halts_meets, halts_unknown, stuck_leads}
 
 -- a fault that is handed on
 pub err_is : {X E : Type 0} (P : Result X E → Type 0) (Q : E → Type 0) (r : Result X E) → IsErr r × IsErrAnd r Q → ((e : E) → Q e → P (Err e)) → P r

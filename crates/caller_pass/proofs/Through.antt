@@ -1,5 +1,5 @@
 -- What a turn comes to, at each way out of it.
-use Rattle.std.proofs.Common.{◌≡◌, ℕ, ◌+◌, false, true, List, Option, Some, None, Result, Ok, Err, refl, sym, ap, subst, ◌∙◌}
+use Rattle.std.proofs.Common.{◌≡◌, ℕ, ◌+◌, false, true, Option, Some, None, Result, Ok, Err, refl, sym, ap, subst}
 use Rattle.std.specs.Result.{IsErr, IsErrAnd}
 use Rattle.solutions.specs.Leading.{none}
 use Rattle.equation_law.specs.declared.coding.Instance.{Instance as CodedInstance}
@@ -31,8 +31,8 @@ use Rattle.caller_pass.specs.Answering.{AnswersFinish, AnswersStep, ClaimsKeys, 
 use Rattle.caller_pass.specs.Knowing.{HasEnded, TurnsTo}
 use Rattle.caller_pass.specs.Waiting.{IsFrame, IsWay, IsWayOf}
 use Rattle.caller_pass.proofs.Claiming.{claims_same, claims_then}
-use Rattle.circular_eval.proofs.Holding.{goes_then, own_then}
-use Rattle.caller_pass.proofs.Stepping.{err_is, finish_step, local_claims, local_fault, memory_step, need_instance, next_local, next_need, way_need}
+use Rattle.memo_cells.proofs.Holding.{goes_then, own_then}
+use Rattle.caller_pass.proofs.Stepping.{err_is, finish_step, local_claims, local_fault, memory_step, next_local, next_need, way_need}
 
 -- the local set through which an instance waits
 pub frame_way : (p : Program) (f : Frame) (v : View) (i : CodedInstance) (x : Waiter) (l : Local) → IsFrame p f v (i, x) → x.way ≡ Some l → IsWay p f v (instance_of p i) l

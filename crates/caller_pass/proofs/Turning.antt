@@ -1,13 +1,11 @@
 -- Turns of solving: what holds before each of them, and what a turn comes to.
-use Rattle.std.proofs.Common.{◌≡◌, ◌≢◌, ℕ, ◌+◌, ◌*◌, ◌<◌, ◌≤◌, inl, inr, ⊎_elim, Bool, true, false, List, [], ◌∷◌, ◌++◌, length, Option, Some, None, refl, sym, ap, subst, ◌∙◌, arith}
+use Rattle.std.proofs.Common.{◌≡◌, ◌≢◌, ℕ, ◌+◌, ◌<◌, ◌≤◌, ⊎_elim, Bool, true, false, List, [], ◌∷◌, ◌++◌, length, Option, Some, None, refl, sym, ap, subst, ◌∙◌, arith}
 use Rattle.std.proofs.lemmas.Bool.{or_left, or_right}
 use Rattle.rag_io.specs.Pool.{ArePooled}
 use Rattle.equation_law.specs.contracts.coding.InstancePartialEq.TheImpl as equality
 use Rattle.equation_law.specs.declared.coding.Instance.{Instance as CodedInstance}
-use Rattle.equation_law.specs.Checked.{IsProgram}
 use Rattle.equation_law.specs.Codes.{instance_of}
 use Rattle.equation_law.specs.Equations.{equations_of}
-use Rattle.equation_law.specs.Loops.{Chain}
 use Rattle.equation_law.specs.Names.{Instance}
 use Rattle.equation_law.specs.Program.{Program}
 use Rattle.equation_law.specs.Systems.{program_of}
@@ -22,11 +20,12 @@ use Rattle.memo_cells.proofs.More.{at_least_itself}
 use Rattle.memo_cells.proofs.Naming.{cell_later, stands_once}
 use Rattle.circular_eval.specs.declared.local.Local.{Local}
 use Rattle.caller_pass.specs.declared.waiting.Waiter.{Waiter}
-use Rattle.caller_pass.specs.Answering.{IsNext, WayChanges, unsettled}
+use Rattle.caller_pass.specs.Answering.{WayChanges}
 use Rattle.caller_pass.specs.Waiting.{IsPlaced, IsStack, IsWayOf, waits}
-use Rattle.caller_pass.proofs.Falling.{by_one, by_value, left, left_falls, left_less, left_unsettled, measure, not_taken, pop_keeps, push_keeps, taken, taken_by, turns_of}
+use Rattle.caller_pass.proofs.Falling.{by_one, by_value, left, left_falls, left_less, measure, not_taken, pop_keeps, taken, taken_by, turns_of}
 use Rattle.caller_pass.proofs.Knowing.{known_cell, one_cell, settled_known}
-use Rattle.caller_pass.proofs.Lines.{has_left, has_last, has_snoc}
+use Rattle.memo_cells.proofs.Bits.{has_left}
+use Rattle.caller_pass.proofs.Lines.{has_last, has_snoc}
 
 -- the program whose cells these are
 abbrev pub program_in : Frame → Program

@@ -14,11 +14,11 @@ ghost use Rattle.caller_pass.specs.Waiting.{AnswersWait, IsBehind, IsFrame, Look
 use crate::desk::Desk;
 use crate::evals::Steps;
 use crate::faults::AskFault;
-use crate::turns::{finish, go_on, is_declared, turn};
+use crate::turns::{finish, go_on, turn};
 use crate::waiting::{Waiter, Waiting, push_all, push_path};
 use circular_eval::{CircTurn, Local};
 use equation_law::{Chain, Instance};
-use expr_eval::Turn;
+use expr_eval::{Turn, is_declared};
 use rag_io::Memory;
 use std::alloc::Global;
 use std::sync::ledger::Ledger;

@@ -1,14 +1,12 @@
 // One turn: the equation of an instance is evaluated, or a local set goes on.
-ghost use Rattle.std.specs.Prelude.{◌≡◌, ◌+◌, false, not, OnOk, IfOk};
+ghost use Rattle.std.specs.Prelude.{◌≡◌, ◌+◌, false, not};
 ghost use Rattle.attr_rules.specs.Rules.{is_single};
 ghost use Rattle.circular_eval.specs.Advancing.{AnswersTurn, ClaimsFrom};
 ghost use Rattle.circular_eval.specs.Local.{IsLocal};
 ghost use Rattle.equation_law.specs.Codes.{IsCoded, instance_of};
-ghost use Rattle.equation_law.specs.Equations.{equations_of, is_declared, kind_in};
+ghost use Rattle.equation_law.specs.Equations.{equations_of};
 ghost use Rattle.equation_law.specs.Checked.{IsInstance, IsProgram};
-ghost use Rattle.equation_law.specs.Systems.{program_of};
 ghost use Rattle.memo_cells.specs.Naming.{IsCellOf};
-ghost use Rattle.memo_cells.specs.Standing.{Knows};
 ghost use Rattle.memo_cells.specs.Working.{GoesOn, IsOwn, ReadsOn, program_at};
 ghost use Rattle.caller_pass.specs.Answering.{AnswersFinish, AnswersShow, ClaimsKeys};
 ghost use Rattle.caller_pass.specs.Knowing.{HasEnded, TurnsTo};
@@ -18,7 +16,7 @@ use crate::evals::Steps;
 use crate::faults::AskFault;
 use attr_rules::Kind;
 use circular_eval::{CircFault, CircTurn, Local, advance};
-use equation_law::{Instance, System, Value};
+use equation_law::{Instance, Value};
 use expr_eval::{Turn, evaluate_instance, kind_of};
 use memo_cells::Slot;
 use rag_io::Memory;
@@ -31,18 +29,6 @@ pub(crate) fn is_set(kind: Kind) -> bool
     ensures { result ≡ not (is_single kind) }
 {
     matches!(kind, Kind::Texts | Kind::Nodes(_))
-}
-
-/// Whether an instance is of an attribute that is declared circular.
-pub(crate) fn is_declared(system: &System, i: &Instance) -> bool
-    ensures { result ≡ is_declared (program_of system.now) (instance_of (program_of system.now) i.now) }
-{
-    match i {
-        Instance::Attr { attr, .. } => {
-            u32::from(attr.0) < system.rules().attrs() && system.rules().attr(*attr).circular
-        }
-        Instance::Query(_) => false,
-    }
 }
 
 /// One evaluation of the equation of an instance under what the pass knows.

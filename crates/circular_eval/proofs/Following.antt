@@ -27,7 +27,7 @@ use Rattle.circular_eval.proofs.Admitting.{local_is_here, near_is, program_is}
 use Rattle.circular_eval.proofs.Entries.{at_low}
 use Rattle.circular_eval.proofs.Going.{chain_more, claims_from_none, member_chain}
 use Rattle.circular_eval.proofs.Growing.{local_needs}
-use Rattle.circular_eval.proofs.Holding.{goes_itself}
+use Rattle.memo_cells.proofs.Holding.{goes_itself}
 use Rattle.circular_eval.proofs.Lowering.{met_is, stuck_leads}
 
 -- a visit that admitted a member

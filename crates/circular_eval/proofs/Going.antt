@@ -27,7 +27,7 @@ use Rattle.circular_eval.specs.declared.members.Member.{Member}
 use Rattle.circular_eval.specs.Advancing.{ClaimsFrom, FillsFrom, IsKeyFrom}
 use Rattle.circular_eval.specs.Local.{AreMembers, IsLedBy, IsLocal, Members}
 use Rattle.circular_eval.specs.Visiting.{GoesOnWith, IsReady}
-use Rattle.circular_eval.proofs.Holding.{goes_itself, goes_then}
+use Rattle.memo_cells.proofs.Holding.{goes_itself, goes_then}
 
 -- a chain, and one step more
 pub chain_more : (p : Program) (i j k : Instance) → Chain p i j → Leads p j k → Chain p i k

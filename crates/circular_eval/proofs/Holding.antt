@@ -1,29 +1,11 @@
--- What a work does: it goes on, at the same cells.
-use Rattle.std.proofs.Common.{ℕ, sym, subst, ◌∙◌, refl}
+-- What is said of the cells of a work, where it goes on.
+use Rattle.std.proofs.Common.{ℕ, sym, subst}
 use Rattle.equation_law.specs.Systems.{program_of}
 use Rattle.memo_cells.specs.declared.view.Frame.{Frame}
 use Rattle.memo_cells.specs.Naming.{IsFormed}
-use Rattle.memo_cells.specs.Standing.{IsPassOf}
 use Rattle.memo_cells.specs.Views.{IsFull, IsSlot}
-use Rattle.memo_cells.specs.Working.{GoesOn, Held, IsOwn, ReadsOn, program_at}
-use Rattle.memo_cells.proofs.More.{at_least_itself, at_least_then}
+use Rattle.memo_cells.specs.Working.{GoesOn, Held, program_at}
 
-pub own_then : (d e : Held) → GoesOn d e → IsPassOf d.0 e.1
-own_then d e on = subst (λ (f : Frame). IsPassOf f e.1) on.cells on.own
-
-pub goes_itself : (d : Held) → IsOwn d → GoesOn d d
-goes_itself d own = record { cells = refl; lender = refl; own = own; kept = at_least_itself d.1 }
-
-pub goes_then : (a b c : Held) → GoesOn a b → GoesOn b c → GoesOn a c
-goes_then a b c x y = record { cells = y.cells ∙ x.cells; lender = y.lender ∙ x.lender; own = y.own; kept = at_least_then x.kept y.kept }
-
-pub reads_itself : (d : Held) → IsOwn d → ReadsOn d d
-reads_itself d own = record { on = goes_itself d own; claims = refl }
-
-pub reads_then : (a b c : Held) → ReadsOn a b → ReadsOn b c → ReadsOn a c
-reads_then a b c x y = record { on = goes_then a b c x.on y.on; claims = y.claims ∙ x.claims }
-
--- what is said of the cells where it went on from, and of those where it is
 pub formed_at : (d e : Held) (k : ℕ) → GoesOn d e → IsFormed (program_at d) e.1 k → IsFormed (program_at e) e.1 k
 formed_at d e k on h = subst (λ (f : Frame). IsFormed (program_of f.system.value) e.1 k) (sym on.cells) h
 

@@ -12,6 +12,7 @@ pub mod Later
 pub mod Left
 pub mod Looking
 pub mod Lowering
+pub mod Numbers
 pub mod Passing
 pub mod Paths
 pub mod Raised

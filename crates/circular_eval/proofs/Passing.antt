@@ -30,7 +30,7 @@ use Rattle.circular_eval.proofs.Later.{confirmed_later}
 
 -- one that was sealed when it was met is visited in vain
 pub same_visit : (s : System) (d : Held) (l : Local) (number : ℕ) → IsReady s d l → ((e : CodedInstance × Member) → slice_get l.members.entries number ≡ Some e → IsSome e.1.slot → ⊥) → Visits d d l l number (Ok Same)
-same_visit s d l number r final = record { goes = with_itself s d l r; answer = record { members = refl; stack = refl; confirmed = λ e at some. absurd (final e at some) } }
+same_visit s d l number r final = record { goes = with_itself s d l r; answer = record { members = refl; waiting = refl; confirmed = λ e at some. absurd (final e at some) } }
 
 pub kept_members : (s : System) (d : Held) (l : Local) → IsReady s d l → AreKept (program_of s) l.members.entries
 kept_members s d l r e there = let at = has_at l.members.entries e there in let m = r.local.set.members at.0 e at.1 in (m.coded, m.elements, m.fits)
@@ -48,16 +48,16 @@ came_read s d e l m number x turn r on same at some came =
     subst (λ (u : Program × Members). ComesAt u.0 e.1 u.1 number turn) (λ j. (here j, sym same j)) (record { entry = x; at = at; placed = some; comes = came })
 
 -- a visit after what only read
-visit_answer : (p : Program) (f : Frame) (v : View) (l m n : Local) (number : ℕ) (y : Result Visited CircFault) → m.start ≡ l.start → m.members.entries ≡ l.members.entries → m.worklist.stack ≡ l.worklist.stack → AnswersVisit p f v m n number y → AnswersVisit p f v l n number y
-visit_answer p f v l m n number (Ok (Need x)) start same stack h = h
-visit_answer p f v l m n number (Ok Changed) start same stack h = subst (λ (u : Members). left n.members.entries < left u) same h
-visit_answer p f v l m n number (Ok Same) start same stack h = record { members = h.members ∙ same; stack = h.stack ∙ stack; confirmed = h.confirmed }
-visit_answer p f v l m n number (Err fault) start same stack h = subst (λ (u : CodedInstance). AnswersFault p (instance_of p u) f v fault) start h
+visit_answer : (p : Program) (f : Frame) (v : View) (l m n : Local) (number : ℕ) (y : Result Visited CircFault) → m.start ≡ l.start → m.members.entries ≡ l.members.entries → m.worklist.waiting ≡ l.worklist.waiting → AnswersVisit p f v m n number y → AnswersVisit p f v l n number y
+visit_answer p f v l m n number (Ok (Need x)) start same waiting h = h
+visit_answer p f v l m n number (Ok Changed) start same waiting h = subst (λ (u : Members). left n.members.entries < left u) same h
+visit_answer p f v l m n number (Ok Same) start same waiting h = record { members = h.members ∙ same; waiting = h.waiting ∙ waiting; confirmed = h.confirmed }
+visit_answer p f v l m n number (Err fault) start same waiting h = subst (λ (u : CodedInstance). AnswersFault p (instance_of p u) f v fault) start h
 
-pub visit_then : (s : System) (d e f : Held) (l m n : Local) (number : ℕ) (y : Result Visited CircFault) → IsReady s d l → ReadsOn d e → IsSame l m → m.worklist.stack ≡ l.worklist.stack → Visits e f m n number y → Visits d f l n number y
-visit_then s d e f l m n number y r on same stack h = record {
+pub visit_then : (s : System) (d e f : Held) (l m n : Local) (number : ℕ) (y : Result Visited CircFault) → IsReady s d l → ReadsOn d e → IsSame l m → m.worklist.waiting ≡ l.worklist.waiting → Visits e f m n number y → Visits d f l n number y
+visit_then s d e f l m n number y r on same waiting h = record {
   goes = with_then d e f l m n (goes_read s d e l m r on same) h.goes;
-  answer = visit_answer (program_at d) d.0 f.1 l m n number y same.start same.entries stack (subst (λ (u : Program × Frame). AnswersVisit u.0 u.1 f.1 m n number y) (λ j. (program_on d e on.on j, on.on.cells j)) h.answer);
+  answer = visit_answer (program_at d) d.0 f.1 l m n number y same.start same.entries waiting (subst (λ (u : Program × Frame). AnswersVisit u.0 u.1 f.1 m n number y) (λ j. (program_on d e on.on j, on.on.cells j)) h.answer);
 }
 
 -- a pass, so far: the members up to this one are confirmed
@@ -148,17 +148,17 @@ final_entry es k x here none e at some =
     not_both none (ap (λ (u : CodedInstance × Member). is_some u.1.slot) (sym same) ∙ some)
 
 -- a pass ends
-pub popped_less : (l m n : Local) (upto : ℕ) → m.members.entries ≡ l.members.entries → m.worklist.stack ≡ l.worklist.stack → n.members ≡ m.members → 0 < length l.worklist.stack.items → (0 < length m.worklist.stack.items → length n.worklist.stack.items < length m.worklist.stack.items) → (length n.members.entries - upto) + length n.worklist.stack.items < (length l.members.entries - upto) + length l.worklist.stack.items
-popped_less l m n upto same stack members some fewer =
+pub popped_less : (l m n : Local) (upto : ℕ) → m.members.entries ≡ l.members.entries → m.worklist.waiting ≡ l.worklist.waiting → n.members ≡ m.members → 0 < length l.worklist.waiting.keys → (0 < length m.worklist.waiting.keys → length n.worklist.waiting.keys < length m.worklist.waiting.keys) → (length n.members.entries - upto) + length n.worklist.waiting.keys < (length l.members.entries - upto) + length l.worklist.waiting.keys
+popped_less l m n upto same waiting members some fewer =
     let entries : length n.members.entries ≡ length l.members.entries = ap (λ x. length x.entries) members ∙ ap length same in
-    let waits : length m.worklist.stack.items ≡ length l.worklist.stack.items = ap (λ x. length x.items) stack in
-    let less : length n.worklist.stack.items < length m.worklist.stack.items = fewer (subst (λ (k : ℕ). 0 < k) (sym waits) some) in
+    let waits : length m.worklist.waiting.keys ≡ length l.worklist.waiting.keys = ap (λ x. length x.keys) waiting in
+    let less : length n.worklist.waiting.keys < length m.worklist.waiting.keys = fewer (subst (λ (k : ℕ). 0 < k) (sym waits) some) in
     omega (arith, entries, waits, less)
 
-pub next_less : (l m : Local) (upto : ℕ) → m.members.entries ≡ l.members.entries → m.worklist.stack ≡ l.worklist.stack → upto < length l.members.entries → (length m.members.entries - (upto + 1)) + length m.worklist.stack.items < (length l.members.entries - upto) + length l.worklist.stack.items
-next_less l m upto same stack low =
+pub next_less : (l m : Local) (upto : ℕ) → m.members.entries ≡ l.members.entries → m.worklist.waiting ≡ l.worklist.waiting → upto < length l.members.entries → (length m.members.entries - (upto + 1)) + length m.worklist.waiting.keys < (length l.members.entries - upto) + length l.worklist.waiting.keys
+next_less l m upto same waiting low =
     let entries : length m.members.entries ≡ length l.members.entries = ap length same in
-    let waits : length m.worklist.stack.items ≡ length l.worklist.stack.items = ap (λ x. length x.items) stack in
+    let waits : length m.worklist.waiting.keys ≡ length l.worklist.waiting.keys = ap (λ x. length x.keys) waiting in
     omega (arith, entries, waits, low)
 
 pub some_waits : {X P : Type 0} (o : Option X) → IfSome o (λ x. P) → is_some o ≡ true → P

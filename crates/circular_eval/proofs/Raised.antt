@@ -16,7 +16,7 @@ use Rattle.circular_eval.specs.Left.{code_bound}
 use Rattle.circular_eval.specs.Rising.{AnswersSet, RaisesSet}
 use Rattle.circular_eval.proofs.Entries.{at_has}
 use Rattle.circular_eval.proofs.Going.{program_on}
-use Rattle.circular_eval.proofs.Holding.{goes_itself}
+use Rattle.memo_cells.proofs.Holding.{goes_itself}
 use Rattle.circular_eval.proofs.Rising.{rest_claims, rest_either, rest_in, rest_lacks, rest_may, rest_none}
 
 -- an error that was handed on

@@ -33,7 +33,7 @@ use Rattle.set_values.proofs.TextCodes.{IsKnown, has_text_code}
 use Rattle.set_words.specs.Raising.{ClaimsWords, MayShowAll, set_codes}
 use Rattle.circular_eval.specs.declared.advancing.CircFault.{CircFault}
 use Rattle.circular_eval.specs.Rising.{AnswersRaise, AnswersSet, MayRise, RaisesSet, RaisesValue}
-use Rattle.circular_eval.proofs.Holding.{goes_itself}
+use Rattle.memo_cells.proofs.Holding.{goes_itself}
 use Rattle.circular_eval.proofs.Raised.{err_is, no_claims}
 use Rattle.circular_eval.proofs.Rising.{kind_of_nodes, kind_of_texts, kind_of_truth, nodes_most, nodes_risen, texts_most, texts_risen, there_code, truth_most, truth_risen}
 

@@ -4,3 +4,4 @@ pub mod Local
 pub mod Looking
 pub mod Rising
 pub mod Visiting
+pub mod Waiting

@@ -119,7 +119,7 @@ impl Local {
 
     /// The member that is evaluated next, if one waits.
     pub(crate) fn next(&self) -> Option<usize>
-        ensures { IfSome result (λ number. 0 < length self.now.worklist.stack.items) }
+        ensures { IfSome result (λ number. 0 < length self.now.worklist.waiting.keys) }
     {
         self.worklist.next()
     }
@@ -129,7 +129,7 @@ impl Local {
         ensures start { self.new.start ≡ self.old.start }
         ensures members { self.new.members ≡ self.old.members }
         ensures need { self.new.need ≡ self.old.need }
-        ensures fewer { 0 < length self.old.worklist.stack.items → length self.new.worklist.stack.items < length self.old.worklist.stack.items }
+        ensures fewer { 0 < length self.old.worklist.waiting.keys → length self.new.worklist.waiting.keys < length self.old.worklist.waiting.keys }
     {
         self.worklist.pop();
     }
@@ -148,7 +148,7 @@ impl Local {
         ensures start { self.new.start ≡ self.old.start }
         ensures members { self.new.members ≡ self.old.members }
         ensures need { self.new.need ≡ self.old.need }
-        ensures stack { self.new.worklist.stack ≡ self.old.worklist.stack }
+        ensures waiting { self.new.worklist.waiting ≡ self.old.worklist.waiting }
     {
         self.worklist.note_reads(number, read)
     }

@@ -1,7 +1,6 @@
 // What the equation of a member reads.
 ghost use Rattle.std.specs.Prelude.{◌≡◌, IfOk};
 ghost use Rattle.equation_law.specs.Codes.{IsCoded, instance_of};
-ghost use Rattle.equation_law.specs.Equations.{is_declared};
 ghost use Rattle.equation_law.specs.Systems.{program_of};
 ghost use Rattle.memo_cells.specs.Working.{IsOwn, ReadsOn};
 ghost use Rattle.circular_eval.specs.Local.{AreKept};
@@ -9,22 +8,10 @@ ghost use Rattle.circular_eval.specs.Looking.{ComesTo};
 
 use crate::local::Local;
 use equation_law::{Instance, Reader, System, Value};
-use expr_eval::{Turn, evaluate_instance};
+use expr_eval::{Turn, evaluate_instance, is_declared};
 use memo_cells::Work;
 use rag_io::Memory;
 use std::alloc::Global;
-
-/// Whether an instance is of an attribute that is declared circular.
-pub(crate) fn is_declared(system: &System, i: &Instance) -> bool
-    ensures { result ≡ is_declared (program_of system.now) (instance_of (program_of system.now) i.now) }
-{
-    match i {
-        Instance::Attr { attr, .. } => {
-            u32::from(attr.0) < system.rules().attrs() && system.rules().attr(*attr).circular
-        }
-        Instance::Query(_) => false,
-    }
-}
 
 /// A reader that has of undeclared instances what the work has, and of circular ones the values of the members of a local set. It notes the
 /// members by their numbers.

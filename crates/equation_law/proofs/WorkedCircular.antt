@@ -32,6 +32,7 @@ use Rattle.equation_law.proofs.Orders.{at_most_itself, node_total}
 use Rattle.equation_law.proofs.Sets.{has-set_of, has-union, has_none, or_nothing, same_parts}
 use Rattle.equation_law.proofs.SetsOrder.{elements_none, elements_set_of}
 use Rattle.equation_law.proofs.Solution.{are_rising, loopless}
+use Rattle.equation_law.proofs.WorkedLoops.{at_one_node, call}
 
 -- what holds of all in a list
 abbrev Each : (Instance → Type 0) → List Instance → Type 0
@@ -64,35 +65,20 @@ stable_on p list S n h i =
 abbrev circular_truth : Attr
 circular_truth = record { class = record { 0 = 0 }; sort = Syn; kind = kinds.Truth; params = no_params; circular = true; start = False }
 
--- a call at the root
-abbrev call : ℕ → Expression
-call a = Call a (record { line = 1; column = 1 }) This no_more
-
 -- the equation of an attribute at nodes of a class
 abbrev equation_at : ℕ → Reach → ℕ → Expression → Equation
 equation_at c r a body = record { target = record { class = record { 0 = c }; reach = r; attribute = record { 0 = a } }; body = body }
 
-abbrev one_class : List Class
-one_class = record { name = codes "N"; abstract = false; superclass = None; components = [] } ∷ []
-
 abbrev booleans : Program
-booleans = record {
-  grammar = one_class;
-  rules = record {
-    superclasses = superclasses_of one_class;
-    attributes =
-        record { name = codes "x"; declared = circular_truth } ∷
-        record { name = codes "y"; declared = circular_truth } ∷
-        record { name = codes "c"; declared = plain_attribute (record { 0 = 0 }) kinds.Truth } ∷
-        record { name = codes "d"; declared = circular_truth } ∷
-        record { name = codes "e"; declared = circular_truth } ∷
-        [];
-    equations = equation_at 0 Own 0 (call 1) ∷ equation_at 0 Own 1 (call 0) ∷ equation_at 0 Own 2 (call 3) ∷ equation_at 0 Own 3 (call 2) ∷ equation_at 0 Own 4 (Not (call 4)) ∷ [];
-  };
-  tree = record { class = record { 0 = 0 }; parent = 0; component = 0; tokens = [] } ∷ [];
-  texts = [] ∷ [];
-  queries = [];
-}
+booleans =
+    at_one_node
+    (record { name = codes "x"; declared = circular_truth } ∷
+    record { name = codes "y"; declared = circular_truth } ∷
+    record { name = codes "c"; declared = plain_attribute (record { 0 = 0 }) kinds.Truth } ∷
+    record { name = codes "d"; declared = circular_truth } ∷
+    record { name = codes "e"; declared = circular_truth } ∷
+    [])
+    (equation_at 0 Own 0 (call 1) ∷ equation_at 0 Own 1 (call 0) ∷ equation_at 0 Own 2 (call 3) ∷ equation_at 0 Own 3 (call 2) ∷ equation_at 0 Own 4 (Not (call 4)) ∷ [])
 
 abbrev x : Instance
 x = at_source 0 0

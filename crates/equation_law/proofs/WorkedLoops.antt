@@ -22,7 +22,7 @@ use Rattle.equation_law.proofs.Names.{same_instance_is}
 use Rattle.equation_law.proofs.Solution.{loopless, none_circular}
 
 -- a call at the root
-abbrev call : ℕ → Expression
+abbrev pub call : ℕ → Expression
 call a = Call a (record { line = 1; column = 1 }) This no_more
 
 abbrev attributes : List Declared
@@ -43,18 +43,23 @@ abbrev equations : List Equation
 equations =
     at_n 0 (call 1) ∷ at_n 1 (call 0) ∷ at_n 2 (IntLiteral (pos 5)) ∷ at_n 3 (call 0) ∷ at_n 4 (And (TruthLiteral false) (call 5)) ∷ at_n 5 (Or (call 4) (call 5)) ∷ []
 
-abbrev classes : List Class
-classes = record { name = codes "N"; abstract = false; superclass = None; components = [] } ∷ []
+-- a class N
+abbrev one_class : List Class
+one_class = record { name = codes "N"; abstract = false; superclass = None; components = [] } ∷ []
 
--- the program
-abbrev looping : Program
-looping = record {
-  grammar = classes;
-  rules = record { superclasses = superclasses_of classes; attributes = attributes; equations = equations };
+-- the program with these attributes and equations, and a tree of one N
+abbrev pub at_one_node : List Declared → List Equation → Program
+at_one_node attributes equations = record {
+  grammar = one_class;
+  rules = record { superclasses = superclasses_of one_class; attributes = attributes; equations = equations };
   tree = record { class = record { 0 = 0 }; parent = 0; component = 0; tokens = [] } ∷ [];
   texts = [] ∷ [];
   queries = [];
 }
+
+-- the program
+abbrev looping : Program
+looping = at_one_node attributes equations
 
 abbrev x : Instance
 x = at_source 0 0

@@ -1,6 +1,7 @@
 // Values, nodes and instances by their codes.
-ghost use Rattle.std.specs.Prelude.{◌≡◌, ◌<◌, ◌+◌, ◌^◌, ℕ, List, [], true, IfOk, IfSome};
+ghost use Rattle.std.specs.Prelude.{◌≡◌, ◌≢◌, ◌<◌, ◌+◌, ◌^◌, ℕ, List, [], true, IfNone, IfOk, IfSome};
 ghost use Rattle.attr_rules.specs.Rules.{is_single};
+ghost use Rattle.equation_law.specs.declared.coding.Single.{Single as CodedSingle};
 ghost use Rattle.equation_law.specs.Codes.{IsSmall, reference_of, single_of, value_at, value_of};
 ghost use Rattle.equation_law.specs.Equations.{source_or_null};
 ghost use Rattle.equation_law.specs.Values.{as_kind, default_of, int, node, text, truth};
@@ -232,7 +233,8 @@ impl Value {
 
     /// The value, where it is no set.
     pub fn single(&self) -> Option<Single>
-        ensures { IfSome result (λ single. (texts : ℕ → List ℕ) → single_of texts single ≡ value_of texts self.now) }
+        ensures some { IfSome result (λ single. (texts : ℕ → List ℕ) → single_of texts single ≡ value_of texts self.now) }
+        ensures none { IfNone result ((texts : ℕ → List ℕ) (single : CodedSingle) → single_of texts single ≢ value_of texts self.now) }
     {
         match self {
             Value::Truth(b) => Some(Single::Truth(*b)),

@@ -1,15 +1,8 @@
 -- What a tree has of nodes that it doesn't have, and which numbers its nodes have.
 use Rattle.std.proofs.Common.{◌≡◌, ℕ, zero, suc, ◌+◌, ◌<◌, ◌≤◌, ◌^◌, ◌&&◌, ◌==◌, if◌then◌else◌, true, false, List, [], ◌∷◌, Option, Some, None, IfSome, length, slice_get, refl, sym, subst, arith}
 use Rattle.std.proofs.lemmas.Option.{slice_get_past}
-use Rattle.tree_arena.specs.Nodes.{Node, child_in, count_in, hanging_from, token_in, tokens_at}
-use Rattle.tree_arena.specs.Terms.{IsTree}
-use Rattle.equation_law.proofs.Preordered as preordered
-
-pub none_past : (nodes : List Node) → IsTree nodes → (n k i : ℕ) → length nodes ≤ n → child_in nodes n k i ≡ None
-none_past nodes t n k i l = preordered.none_past nodes t n k i l
-
-pub none_counted : (nodes : List Node) → IsTree nodes → (n k : ℕ) → length nodes ≤ n → count_in nodes n k ≡ 0
-none_counted nodes t n k l = preordered.none_counted nodes t n k l
+use Rattle.tree_arena.specs.Nodes.{Node, child_in, hanging_from, token_in, tokens_at}
+pub use Rattle.equation_law.proofs.Preordered.{none_counted}
 
 -- a node has no codes past its last component
 pub no_code_behind : (nodes : List Node) (n k : ℕ) → length (tokens_at nodes n) ≤ k → token_in nodes n k ≡ None

@@ -8,4 +8,4 @@ mod evaluation;
 mod operators;
 mod sites;
 
-pub use sites::{Turn, evaluate, evaluate_instance, evaluate_query, kind_of};
+pub use sites::{Turn, evaluate, evaluate_instance, evaluate_query, is_declared, kind_of};

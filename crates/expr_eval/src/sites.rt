@@ -4,7 +4,7 @@ ghost use Rattle.attr_rules.specs.Queries.{Query as Asked};
 ghost use Rattle.attr_rules.specs.Rules.{Equation};
 ghost use Rattle.equation_law.specs.declared.coding.Instance.TheVariants.{Attr as attribute_at};
 ghost use Rattle.equation_law.specs.Codes.{IsCoded, IsRow, instance_of};
-ghost use Rattle.equation_law.specs.Equations.{equations_of, kind_in};
+ghost use Rattle.equation_law.specs.Equations.{equations_of, is_declared, kind_in};
 ghost use Rattle.equation_law.specs.Names.{Query};
 ghost use Rattle.equation_law.specs.Reading.{IsSound};
 ghost use Rattle.equation_law.specs.Systems.{program_of};
@@ -58,6 +58,16 @@ pub fn kind_of(system: &System, i: &Instance) -> Kind
     match i {
         Instance::Attr { attr, .. } => attribute_kind(system, *attr),
         Instance::Query(query) => query_kind(system, *query),
+    }
+}
+
+/// Whether an instance is of an attribute that is declared circular.
+pub fn is_declared(system: &System, i: &Instance) -> bool
+    ensures { result ≡ is_declared (program_of system.now) (instance_of (program_of system.now) i.now) }
+{
+    match i {
+        Instance::Attr { attr, .. } => system.rules().attributes().is_circular(*attr),
+        Instance::Query(_) => false,
     }
 }
 

@@ -1,5 +1,5 @@
 // The words of sets, and approximations of circular instances.
-ghost use Rattle.std.specs.Prelude.{◌≡◌, ◌≢◌, ◌<◌, ◌⊎◌, ℕ, false, map, IfOk, OnErr, true};
+ghost use Rattle.std.specs.Prelude.{◌≡◌, ◌≢◌, ◌<◌, false, map, IfOk, OnErr, true};
 ghost use Rattle.attr_rules.specs.Rules.{is_single};
 ghost use Rattle.attr_rules.specs.Types.{truth_kind};
 ghost use Rattle.equation_law.specs.Equations.{kind_in};

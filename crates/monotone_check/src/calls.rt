@@ -11,13 +11,6 @@ use attr_rules::{AttrId, Quantifier, Rules, SetOperator, TArgs, TExpr};
 use broken_rules::{Earliest, Rule};
 use rag_io::Place;
 
-/// Whether the attribute is declared circular.
-pub(crate) fn is_circular(rules: &Rules, attribute: AttrId) -> bool
-    ensures { result ≡ is_circular (rules_in rules.now) attribute.0 }
-{
-    u32::from(attribute.0) < rules.attrs() && rules.attr(attribute).circular
-}
-
 // The rule of the innermost position around a part that isn't permitted is None where all of them are.
 
 // Where the receiver or an argument of an attribute or an accessor stands.
@@ -67,7 +60,7 @@ fn note_call(
     ensures noted { Notes (call_broken (is_circular (rules_in rules.now) attribute.0) refused place) faults.old faults.new }
     ensures calls { result ≡ is_circular (rules_in rules.now) attribute.0 }
 {
-    let circular = is_circular(rules, attribute);
+    let circular = rules.attributes().is_circular(attribute);
     if let Some(rule) = refused {
         faults.note_if(circular, rule, place);
     }

@@ -4,7 +4,7 @@ ghost use Rattle.attr_rules.specs.Kept.{rules_in};
 ghost use Rattle.broken_rules.specs.Notes.{Notes};
 ghost use Rattle.monotone_check.specs.Equations.{Verdict, equation_broken, equations_broken};
 
-use crate::calls::{check_calls, is_circular};
+use crate::calls::check_calls;
 use attr_rules::{EqId, Rules};
 use broken_rules::{Broken, Earliest};
 
@@ -14,7 +14,7 @@ fn check_equation(rules: &Rules, equation: EqId, faults: &mut Earliest)
     ensures { IfSome (slice_get (rules_in rules.now).equations equation.0) (λ e. Notes (equation_broken (rules_in rules.now) e) faults.old faults.new) }
 {
     let target = rules.target(equation);
-    if is_circular(rules, target.attribute) {
+    if rules.attributes().is_circular(target.attribute) {
         check_calls(rules, rules.body(equation), None, faults);
     }
 }

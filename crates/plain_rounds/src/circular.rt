@@ -2,14 +2,14 @@
 ghost use Rattle.std.specs.Prelude.{◌≡◌};
 ghost use Rattle.attr_rules.specs.Rules.{circular_at};
 ghost use Rattle.equation_law.specs.declared.coding.Instance.TheVariants.{Attr as attribute_at};
-ghost use Rattle.equation_law.specs.Codes.{IsCoded, IsRow, instance_of};
+ghost use Rattle.equation_law.specs.Codes.{instance_of};
 ghost use Rattle.equation_law.specs.Equations.{equation_of, equations_of, site_rises};
 ghost use Rattle.equation_law.specs.Equations as spec;
 ghost use Rattle.equation_law.specs.Systems.{program_of};
 ghost use Rattle.plain_rounds.specs.Places.{IsHeld};
 ghost use Rattle.plain_rounds.specs.Steps.{known, start_of};
 
-use crate::rising::{is_declared, rises};
+use crate::rising::rises;
 use crate::values::NamedValue;
 use attr_rules::{AttrId, Kind};
 use equation_law::{Args, Instance, NodeRef, System, Value};
@@ -44,7 +44,7 @@ pub(crate) fn is_circular(system: &System, name: &Instance) -> bool
     match name {
         Instance::Query(_) => false,
         Instance::Attr { attr, node, args } => {
-            is_declared(system.rules(), *attr)
+            system.rules().attributes().is_circular(*attr)
                 && is_ordered(kind_of(system, name))
                 && equation_rises(system, *attr, *node, *args)
         }

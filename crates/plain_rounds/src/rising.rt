@@ -5,14 +5,7 @@ ghost use Rattle.attr_rules.specs.Kept.{rules_in};
 ghost use Rattle.attr_rules.specs.Rising as spec;
 ghost use Rattle.attr_rules.specs.Rules.{circular_at};
 
-use attr_rules::{AttrId, Quantifier, Rules, SetOperator, TArgs, TExpr};
-
-/// Whether an attribute is declared circular.
-pub(crate) fn is_declared(rules: &Rules, attribute: AttrId) -> bool
-    ensures { result ≡ circular_at (rules_in rules.now).attributes attribute.0 }
-{
-    u32::from(attribute.0) < rules.attrs() && rules.attr(attribute).circular
-}
+use attr_rules::{Quantifier, Rules, SetOperator, TArgs, TExpr};
 
 /// Whether one of two expressions calls a circular attribute.
 #[cycle(calls)]
@@ -64,7 +57,7 @@ fn calls(rules: &Rules, expression: &TExpr) -> bool
         TExpr::And(a, b) | TExpr::Or(a, b) => one_calls(rules, a, b),
         TExpr::OrBoth(a, b) => one_calls(rules, a, b),
         TExpr::Call(attribute, _, receiver, arguments) => {
-            let circular = is_declared(rules, *attribute);
+            let circular = rules.attributes().is_circular(*attribute);
             let in_receiver = calls(rules, receiver);
             let in_arguments = calls_in(rules, arguments);
             circular || in_receiver || in_arguments

@@ -1,5 +1,5 @@
 // The text of a value in a reply.
-ghost use Rattle.std.specs.Prelude.{◌≡◌, ◌++◌, ◌∷◌, [], OnOk, codes, map};
+ghost use Rattle.std.specs.Prelude.{◌≡◌, ◌++◌, [], OnOk, codes, map};
 ghost use Rattle.std.specs.Fmt.{decimal, signed_decimal};
 ghost use Rattle.rag_io.specs.Quoting.{quoted};
 ghost use Rattle.equation_law.specs.Codes.{AreElements, reference_of, value_of};

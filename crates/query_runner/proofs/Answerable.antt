@@ -15,8 +15,6 @@ use Rattle.jrag_reader.specs.Items.{Item as AspectItem}
 use Rattle.monotone_check.specs.Equations.{equations_broken}
 use Rattle.monotone_check.proofs.PermittedRises.{equations_rise}
 use Rattle.equation_law.specs.Checked.{IsProgram, IsTyped}
-use Rattle.equation_law.specs.declared.system.System.{System}
-use Rattle.equation_law.specs.Systems.{program_of}
 use Rattle.tree_arena.specs.Nodes.{Node}
 use Rattle.tree_arena.specs.Terms.{IsTreeOf}
 use Rattle.tree_reader.proofs.Said.{said_tree}
@@ -68,11 +66,6 @@ rules_allowed rules g aspects grammar a are = subst (AreRules g) (sym are) (acce
 -- and the equations of circular attributes in them rise
 rules_rise : (rules : RuleSet) (g : List Class) (aspects : List AspectItem) → AreAccepted g aspects → rules ≡ rules_of g aspects → EquationsRise rules
 rules_rise rules g aspects a are = subst EquationsRise (sym are) (equations_rise (rules_of g aspects) (equations_made g aspects) (clean_last (phases_of g aspects) (equations_broken (rules_of g aspects)) a.clean))
-
--- the texts of a program that is kept are those of a pool
-pub texts_pooled : (s : System) → ArePooled (program_of s).texts
-unfolding program_of
-texts_pooled s = s.pooled
 
 -- the four files say a program that breaks no rule, whose texts are those of a pool
 pub is_program : (held : Contents) (p : Program) → SaysProgram held p → ArePooled p.texts → IsProgram p

@@ -1,5 +1,5 @@
 // Sets of one element, the members of a set, and how many there are.
-ghost use Rattle.std.specs.Prelude.{◌≡◌, ◌<◌, ℕ, IfOk, All, length, pos};
+ghost use Rattle.std.specs.Prelude.{◌≡◌, ◌<◌, IfOk, All, length, pos};
 ghost use Rattle.std.specs.Int.{int_wrap};
 ghost use mir.Syntax.{w32};
 ghost use Rattle.equation_law.specs.declared.system.System.{System as KeptSystem};

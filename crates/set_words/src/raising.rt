@@ -1,6 +1,5 @@
 // Raising the words of a set.
-ghost use Rattle.std.specs.Prelude.{◌≡◌, ◌<◌, ◌≤◌, ◌+◌, ◌*◌, ◌/◌, ◌^◌, ℕ, IfOk, OnErr, OnOk, length, slice_index, drop};
-ghost use Rattle.std.specs.Int.{bit_at};
+ghost use Rattle.std.specs.Prelude.{◌≡◌, ◌<◌, ◌+◌, ◌*◌, ◌/◌, IfOk, OnErr, OnOk, length};
 ghost use Rattle.equation_law.specs.Names.{Instance as StandingInstance};
 ghost use Rattle.memo_cells.specs.Working.{GoesOn, IsOwn, program_at};
 ghost use Rattle.set_words.specs.Raising.{ClaimsWords, HasBits, LacksWord, MayShowAll, ShowsAll, set_codes};

@@ -1,4 +1,4 @@
-use Rattle.std.proofs.Common.{Option, Some, None, Ok, Err, refl, sym, ap, subst, ◌∙◌}
+use Rattle.std.proofs.Common.{Option, Ok, Err, refl, sym, ap, subst, ◌∙◌}
 use Rattle.equation_law.specs.declared.coding.Value.{Value}
 use Rattle.equation_law.specs.Checked.{IsInstance, IsProgram}
 use Rattle.equation_law.specs.Codes.{IsCoded, instance_of}
@@ -12,7 +12,7 @@ use Rattle.caller_pass.specs.declared.faults.AskFault.TheVariants.{Memory}
 use Rattle.caller_pass.specs.Answering.{Solves}
 use Rattle.caller_pass.specs.Knowing.{FindsValue}
 use Rattle.caller_pass.proofs.Asked.{asked_fault, asked_known, asked_memory, asked_unread, asked_value, solves_before}
-use Rattle.circular_eval.proofs.Holding.{goes_then}
+use Rattle.memo_cells.proofs.Holding.{goes_then}
 use Rattle.caller_pass.proofs.asking.answer.Goals as goal
 
 pub returns-in_err-value-clause-on : goal.returns-in_err-value-clause-on

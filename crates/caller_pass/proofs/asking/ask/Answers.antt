@@ -8,7 +8,7 @@ use Rattle.memo_cells.specs.Standing.{IsPassOf}
 use Rattle.memo_cells.specs.Views.{IsAtLeast}
 use Rattle.memo_cells.specs.Working.{Held}
 use Rattle.caller_pass.specs.Answering.{Asks}
-use Rattle.circular_eval.proofs.Holding.{own_then}
+use Rattle.memo_cells.proofs.Holding.{own_then}
 use Rattle.caller_pass.proofs.asking.ask.Goals as goal
 
 pub invariant_of-desk : goal.invariant_of-desk

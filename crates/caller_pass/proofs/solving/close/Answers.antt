@@ -1,5 +1,5 @@
 use Rattle.std.proofs.Common.{not, refl, ap, ◌∙◌}
-use Rattle.circular_eval.proofs.Holding.{goes_itself}
+use Rattle.memo_cells.proofs.Holding.{goes_itself}
 use Rattle.caller_pass.proofs.Sealing.{is_closed, looked_on, more_falls, more_fault, more_local, more_on, more_program, more_sealing, more_unknown, sealing_first, sealing_memory}
 use Rattle.caller_pass.proofs.solving.close.Goals as goal
 

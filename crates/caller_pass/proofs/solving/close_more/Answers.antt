@@ -1,4 +1,4 @@
-use Rattle.std.proofs.Common.{Result, Ok, Err, refl, sym, ap, subst, ◌∙◌}
+use Rattle.std.proofs.Common.{Ok, refl, sym, ap, subst}
 use Rattle.equation_law.specs.Checked.{IsProgram}
 use Rattle.equation_law.specs.Codes.{instance_of}
 use Rattle.equation_law.specs.Names.{Instance}
@@ -13,7 +13,7 @@ use Rattle.circular_eval.proofs.Later.{local_later}
 use Rattle.caller_pass.specs.Answering.{SolvesFor}
 use Rattle.caller_pass.proofs.Claiming.{claims_from}
 use Rattle.caller_pass.proofs.Closing.{closes_fault, closes_for, closes_now}
-use Rattle.circular_eval.proofs.Holding.{goes_then, own_then}
+use Rattle.memo_cells.proofs.Holding.{goes_then, own_then}
 use Rattle.caller_pass.proofs.solving.close_more.Goals as goal
 
 pub go_on-requires-clause-program : goal.go_on-requires-clause-program

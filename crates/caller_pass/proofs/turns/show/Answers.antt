@@ -1,4 +1,4 @@
-use Rattle.std.proofs.Common.{refl, Result, ◌∙◌, ◌≡◌}
+use Rattle.std.proofs.Common.{refl, ◌∙◌, ◌≡◌}
 use Rattle.equation_law.specs.Codes.{instance_of}
 use Rattle.memo_cells.specs.Working.{program_at}
 use Rattle.caller_pass.specs.declared.faults.AskFault.{AskFault}

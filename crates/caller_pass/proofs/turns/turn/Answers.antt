@@ -4,7 +4,7 @@ use Rattle.equation_law.specs.Program.{Program}
 use Rattle.equation_law.specs.Systems.{program_of}
 use Rattle.memo_cells.specs.Working.{Held, IsOwn}
 use Rattle.caller_pass.specs.Knowing.{TurnsTo}
-use Rattle.circular_eval.proofs.Holding.{reads_itself}
+use Rattle.memo_cells.proofs.Holding.{reads_itself}
 use Rattle.caller_pass.proofs.Desks.{sound_for, turned}
 use Rattle.caller_pass.proofs.turns.turn.Goals as goal
 

@@ -29,7 +29,7 @@ returns-in-Changed g c =
 pub pass-smaller-then-is_some : goal.pass-smaller-then-is_some
 pass-smaller-then-is_some g c =
     let st = (subst (λ (v : Visited). Visits (g.W.Words.held c.pass.work) (g.W.Words.held c.visit.new.work) c.pass.local c.visit.new.local c.unwrap_or-number.result (Ok v)) c.in-Same.is c.in_ok-need.ensures) in
-    popped_less c.pass.local c.visit.new.local c.pop.new.self c.pass.confirmed st.answer.members st.answer.stack c.pop.ensures.members (some_waits c.next-waiting.result c.next-waiting.ensures (sym c.is_some.ensures ∙ c.if-is_some.true)) c.pop.ensures.fewer
+    popped_less c.pass.local c.visit.new.local c.pop.new.self c.pass.confirmed st.answer.members st.answer.waiting c.pop.ensures.members (some_waits c.next-waiting.result c.next-waiting.ensures (sym c.is_some.ensures ∙ c.if-is_some.true)) c.pop.ensures.fewer
 
 pub pass-preserved-then-is_some : goal.pass-preserved-then-is_some
 pass-preserved-then-is_some g c =
@@ -43,7 +43,7 @@ overflow_add-confirmed g c =
 pub pass-smaller : goal.pass-smaller
 pass-smaller g c =
     let st = (subst (λ (v : Visited). Visits (g.W.Words.held c.pass.work) (g.W.Words.held c.visit.new.work) c.pass.local c.visit.new.local c.unwrap_or-number.result (Ok v)) c.in-Same.is c.in_ok-need.ensures) in
-    next_less c.pass.local c.visit.new.local c.pass.confirmed st.answer.members st.answer.stack (subst (λ (k : ℕ). c.pass.confirmed < k) c.len.ensures.len c.pass-test.true)
+    next_less c.pass.local c.visit.new.local c.pass.confirmed st.answer.members st.answer.waiting (subst (λ (k : ℕ). c.pass.confirmed < k) c.len.ensures.len c.pass-test.true)
 
 pub pass-preserved : goal.pass-preserved
 pass-preserved g c =

@@ -7,4 +7,4 @@ abbrev pub invariant-pass : goal.invariant-pass
 invariant-pass g l = IsPassed (g.W.Words.held l.initial.work) (g.W.Words.held l.work) l.initial.local l.local l.confirmed
 
 abbrev pub decreases-pass : goal.decreases-pass
-decreases-pass g l = (length l.local.members.entries - l.confirmed) + length l.local.worklist.stack.items
+decreases-pass g l = (length l.local.members.entries - l.confirmed) + length l.local.worklist.waiting.keys

@@ -6,7 +6,8 @@ use Rattle.memo_cells.specs.Working.{program_at}
 use Rattle.memo_cells.proofs.More.{at_least_itself}
 use Rattle.memo_cells.proofs.Naming.{key_later}
 use Rattle.memo_cells.proofs.Ways.{claims_key, claims_on, fits, formed_on_way, key_next, key_on_way, on_err, place_less, way_next}
-use Rattle.circular_eval.proofs.Holding.{formed_at, full_back, goes_then, own_then, slot_back}
+use Rattle.memo_cells.proofs.Holding.{goes_then, own_then}
+use Rattle.circular_eval.proofs.Holding.{formed_at, full_back, slot_back}
 use Rattle.circular_eval.proofs.claiming.claim_attribute.Goals as goal
 
 pub claim-requires-clause-key : goal.claim-requires-clause-key

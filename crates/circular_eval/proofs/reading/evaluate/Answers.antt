@@ -6,7 +6,7 @@ use Rattle.circular_eval.specs.Looking.{ComesTo}
 use Rattle.circular_eval.proofs.Raised.{err_ok}
 use Rattle.circular_eval.proofs.Settling.{came_to}
 use Rattle.equation_law.specs.Systems.{program_of}
-use Rattle.circular_eval.proofs.Holding.{reads_itself}
+use Rattle.memo_cells.proofs.Holding.{reads_itself}
 use Rattle.circular_eval.proofs.Looking.{here_sound}
 use Rattle.circular_eval.proofs.reading.evaluate.Goals as goal
 

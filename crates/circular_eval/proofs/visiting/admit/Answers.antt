@@ -11,7 +11,7 @@ use Rattle.memo_cells.proofs.Naming.{cell_later}
 use Rattle.circular_eval.specs.declared.advancing.CircFault.TheVariants.{CellsFull, Memory}
 use Rattle.circular_eval.proofs.Admitting.{admitted, cell_here, cell_lacks, cell_out, is_absent, keys_claimed, refused, settled_fit, shown_fit, shown_here}
 use Rattle.circular_eval.proofs.Going.{claims_from_none, claims_from_then, program_on}
-use Rattle.circular_eval.proofs.Holding.{goes_then}
+use Rattle.memo_cells.proofs.Holding.{goes_then}
 use Rattle.circular_eval.proofs.Looking.{work_sound}
 use Rattle.circular_eval.proofs.Raised.{err_is}
 use Rattle.circular_eval.proofs.Settling.{reads}

@@ -1,6 +1,7 @@
 use Rattle.std.proofs.Common.{ap, sym, arith}
 use Rattle.equation_law.specs.Equations.{source_or_null}
-use Rattle.expr_eval.proofs.Trees.{child_fits, none_past}
+use Rattle.equation_law.proofs.Preordered.{none_past}
+use Rattle.expr_eval.proofs.Trees.{child_fits}
 use Rattle.expr_eval.proofs.accessors.child_at.Goals as goal
 
 pub returns-then-node-len : goal.returns-then-node-len

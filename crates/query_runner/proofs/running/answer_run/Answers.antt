@@ -7,7 +7,8 @@ use Rattle.query_runner.specs.Named.{seen_file, seen_names}
 use Rattle.query_runner.specs.Output.{broken_line}
 use Rattle.query_runner.specs.Words.{Run}
 use Rattle.query_runner.specs.declared.running.Answer.TheVariants.{Output}
-use Rattle.query_runner.proofs.Answerable.{is_program, texts_pooled}
+use Rattle.equation_law.proofs.Pooled.{texts_pooled}
+use Rattle.query_runner.proofs.Answerable.{is_program}
 use Rattle.query_runner.proofs.Preparing.{broken_answer, full_answer, reply_answer, stop_answer, unbuilt_answer}
 use Rattle.query_runner.proofs.running.answer_run.Goals as goal
 

@@ -8,7 +8,7 @@ use Rattle.memo_cells.specs.declared.view.Frame.{Frame}
 use Rattle.memo_cells.specs.Naming.{IsCellOf}
 use Rattle.memo_cells.specs.Working.{Held, program_at}
 use Rattle.caller_pass.specs.Knowing.{FindsCode, IsKnownValue, IsSettledAt}
-use Rattle.circular_eval.proofs.Holding.{own_then}
+use Rattle.memo_cells.proofs.Holding.{own_then}
 use Rattle.caller_pass.proofs.Knowing.{found_knows, is_not, known_shown, known_value_is, not_is, set_ordered}
 use Rattle.caller_pass.proofs.desk.Desk.known_value.Goals as goal
 

@@ -1,6 +1,6 @@
 use Rattle.std.proofs.Common.{sym, ◌∙◌}
 use Rattle.equation_law.specs.Program.{text_of}
-use Rattle.circular_eval.proofs.Holding.{reads_then}
+use Rattle.memo_cells.proofs.Holding.{reads_then}
 use Rattle.circular_eval.proofs.Settling.{member_settles, none_settles, same_settles, work_settles}
 use Rattle.circular_eval.proofs.reading.LocalReaderReader.settled.Goals as goal
 

@@ -1,6 +1,7 @@
 -- What is read is a program.
 use Rattle.equation_law.specs.Systems.{program_of}
-use Rattle.query_runner.proofs.Answerable.{is_program, texts_pooled}
+use Rattle.equation_law.proofs.Pooled.{texts_pooled}
+use Rattle.query_runner.proofs.Answerable.{is_program}
 use Rattle.query_runner.proofs.run_tests.demands.system_said.Goals as goal
 
 pub returns-in-Ok : goal.returns-in-Ok
