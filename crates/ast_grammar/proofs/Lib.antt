@@ -7,6 +7,7 @@ pub mod Inherited
 pub mod Keeping
 pub mod Kept
 pub mod Made
+pub mod OneFile
 pub mod OneGrammar
 pub mod Positions
 pub mod Read

@@ -1,4 +1,5 @@
 pub mod Building
+pub mod FromBytes
 pub mod Grammar
 pub mod Kept
 pub mod Reading

@@ -2,14 +2,14 @@
 #![tactic(auto)]
 
 mod building;
+mod from_bytes;
 mod grammar;
 mod laws;
 mod naming;
 mod numbering;
 mod reading;
-#[cfg(test)]
-mod tests;
 
+pub use from_bytes::read_ast_bytes;
 pub use grammar::{ClassId, Component, Grammar, Shape};
 pub use laws::one_grammar;
 pub use reading::read_ast;

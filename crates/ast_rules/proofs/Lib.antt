@@ -1,4 +1,3 @@
-pub mod AstFits
 pub mod AstSentences
 pub mod Components
 pub mod Inheriting
@@ -9,6 +8,5 @@ pub mod OneReading
 pub mod Rising
 pub mod Said
 pub mod Seen
-pub mod Sentences
 pub mod SomeRule
 pub mod Stopping

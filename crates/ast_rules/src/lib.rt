@@ -3,15 +3,12 @@
 
 mod ast_table;
 mod building;
-#[cfg(test)]
-mod file_tests;
+mod language;
 mod loops;
 mod members;
 mod naming;
 mod phases;
 mod reading;
-#[cfg(test)]
-mod tests;
 mod written;
 
 pub use naming::type_of;

@@ -103,26 +103,3 @@ impl Sort {
         }
     }
 }
-
-impl Attr {
-    ghost use Rattle.attr_rules.specs.Rules.{plain_attribute};
-
-    /// A synthesized attribute of a class, of this type, without parameters.
-    pub fn plain(class: ClassId, kind: Kind) -> Attr
-        ensures { result ≡ plain_attribute class kind }
-    {
-        Attr {
-            class,
-            sort: Sort::Syn,
-            kind,
-            params: Params {
-                count: 0,
-                first: Kind::Truth,
-                second: Kind::Truth,
-                third: Kind::Truth,
-            },
-            circular: false,
-            start: Start::Plain,
-        }
-    }
-}

@@ -10,8 +10,6 @@ mod paths;
 mod queries;
 mod rows;
 mod rules;
-#[cfg(test)]
-mod tests;
 mod types;
 
 pub use accessors::{Access, Accessor, accessor_of, is_spelled};

@@ -8,8 +8,6 @@ mod broken;
 mod earliest;
 mod laws;
 mod rule;
-#[cfg(test)]
-mod tests;
 
 pub use broken::{Broken, ReadFault};
 pub use earliest::Earliest;

@@ -2,7 +2,5 @@
 #![tactic(auto)]
 
 mod codes;
-#[cfg(test)]
-mod tests;
 
 pub use codes::{Code, Codes};

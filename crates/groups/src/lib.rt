@@ -6,8 +6,6 @@
 
 mod counting;
 mod grouping;
-#[cfg(test)]
-mod tests;
 
 pub use counting::places;
 pub use grouping::Groups;

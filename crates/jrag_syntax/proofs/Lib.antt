@@ -1,4 +1,3 @@
-pub mod JragFits
 pub mod JragSentences
 pub mod OneReading
 pub mod Read

@@ -1,5 +1,5 @@
 -- What the parse says of the tokens.
-use Rattle.std.proofs.Common.{◌≡◌, ℕ, ◌<◌, List, length, take, get_or, ap, subst, ◌∙◌, arith}
+use Rattle.std.proofs.Common.{◌≡◌, ℕ, ◌<◌, List, length, take, get_or, ap, ◌∙◌, arith}
 use Rattle.std.specs.Option.{option_map}
 use Rattle.std.proofs.lemmas.List.{length-map}
 use Rattle.std.proofs.lemmas.Option.{slice_get-map, slice_get-get_or}
@@ -8,35 +8,26 @@ use Rattle.ll_parser.specs.Grammar.{IsSentence, IsFault, Leading}
 use Rattle.ll_parser.specs.Sentences.{FirstFault}
 use Rattle.ll_parser.proofs.Sentences.{fault_there, sentence_there}
 use Rattle.rag_io.specs.declared.token.Token as memory
-use Rattle.rag_io.specs.declared.token.TokenKind.TheVariants.{End}
 use Rattle.rag_io.specs.Tokens.{Lexed, seen_token, seen_tokens}
 use Rattle.jrag_syntax.proofs.JragSentences.{printed_sentences}
 use Rattle.jrag_syntax.specs.JragGrammar.{jrag_grammar}
 use Rattle.jrag_syntax.specs.JragPrintedGrammar.{jrag_printed_grammar}
 use Rattle.jrag_syntax.specs.Reading.{nonterminal_of, classes_of, syntax_rule, SaysEvents, StopsWith}
-use Rattle.jrag_syntax.specs.Tokens.{token_class, class_of_parts}
+use Rattle.jrag_syntax.specs.Tokens.{token_class}
 use Rattle.jrag_syntax.specs.declared.classes.Start.{Start}
 
 module _ (start : Start) where
-  -- the end of a file has the number 0
-  pub zero_at_end : (t : Lexed) → t.kind ≡ End → token_class start t ≡ 0
-  zero_at_end t is = ap (λ k. class_of_parts start k t.text) is
-
   -- a sentence of the table's grammar is one of the printed grammar
-  pub says_events : {ts : List Lexed} (cs : List ℕ) {es : List ℕ} → cs ≡ classes_of start ts
-      → IsSentence jrag_grammar (nonterminal_of start) cs es → SaysEvents start ts es
-  says_events {ts} cs {es} same s =
-      let reading : IsSentence jrag_grammar (nonterminal_of start) (classes_of start ts) es =
-      subst (λ (zs : List ℕ). IsSentence jrag_grammar (nonterminal_of start) zs es) same s in
-      record { sentence = sentence_there (printed_sentences start) reading; reading = reading }
+  pub says_events : {ts : List Lexed} {es : List ℕ} → IsSentence jrag_grammar (nonterminal_of start) (classes_of start ts) es → SaysEvents start ts es
+  says_events reading = record { sentence = sentence_there (printed_sentences start) reading; reading = reading }
 
   -- a fault of the table's grammar is one of the printed grammar, at one of the tokens
-  pub stops_with : (ts : List memory.Token) (cs : List ℕ) (i : ℕ) (d : memory.Token) (b : Broken) {es : List ℕ} → cs ≡ classes_of start (seen_tokens ts)
-      → IsFault jrag_grammar (nonterminal_of start) cs i → Leading jrag_grammar (nonterminal_of start) (take i cs) es
+  pub stops_with : (ts : List memory.Token) (i : ℕ) (d : memory.Token) (b : Broken) {es : List ℕ}
+      → IsFault jrag_grammar (nonterminal_of start) (classes_of start (seen_tokens ts)) i
+      → Leading jrag_grammar (nonterminal_of start) (take i (classes_of start (seen_tokens ts))) es
       → b.place ≡ (seen_token (get_or ts i d)).place → b.rule ≡ syntax_rule (seen_token (get_or ts i d)) → StopsWith start (seen_tokens ts) b es
-  stops_with ts cs i d b {es} same f leading place rule =
-      let fault : FirstFault jrag_printed_grammar (nonterminal_of start) (classes_of start (seen_tokens ts)) i =
-      subst (λ (zs : List ℕ). FirstFault jrag_printed_grammar (nonterminal_of start) zs i) same (fault_there (printed_sentences start) f) in
+  stops_with ts i d b f leading place rule =
+      let fault : FirstFault jrag_printed_grammar (nonterminal_of start) (classes_of start (seen_tokens ts)) i = fault_there (printed_sentences start) f in
       let within : i < length ts = let inside = fault.inside in omega (arith, length-map (seen_tokens ts) (token_class start), length-map ts seen_token) in
       record {
         fault = record {
@@ -47,5 +38,5 @@ module _ (start : Start) where
           place = place;
           rule = rule;
         };
-        leading = subst (λ (zs : List ℕ). Leading jrag_grammar (nonterminal_of start) (take i zs) es) same leading;
+        leading = leading;
       }

@@ -1,4 +1,5 @@
 pub mod JragClaims
+pub mod JragFits
 pub mod JragGrammar
 pub mod JragPrintedGrammar
 pub mod Reading

@@ -1,7 +1,6 @@
 -- What reading the syntax of aspects answers.
-use Rattle.std.specs.Prelude.{◌≡◌, ℕ, List, Vec, Bool, false, map, take, codes, slice_get, Some, Result, Ok, Err, if◌then◌else◌}
+use Rattle.std.specs.Prelude.{◌≡◌, ℕ, List, Bool, false, map, take, codes, slice_get, Some, Result, Ok, Err, if◌then◌else◌}
 use Rattle.std.specs.Str.{bytes_eq}
-use Rattle.std.specs.declared.alloc.Global.{Global}
 use Rattle.broken_rules.specs.declared.broken.Broken.{Broken}
 use Rattle.broken_rules.specs.declared.broken.ReadFault.{ReadFault}
 use Rattle.broken_rules.specs.declared.broken.ReadFault.TheVariants as faults
@@ -63,9 +62,3 @@ abbrev pub LeavesEvents : Start → List Lexed → Result (Unit {0}) ReadFault �
 LeavesEvents start ts (Ok _) events = SaysEvents start ts events
 LeavesEvents start ts (Err (faults.Broken b)) events = StopsWith start ts b events
 LeavesEvents start ts (Err faults.Memory) events = Unit {0}
-
--- what reading some tokens answers
-abbrev pub ReadsEvents : Start → List Lexed → Result (Vec ℕ Global) ReadFault → Type 0
-ReadsEvents start ts (Ok events) = SaysEvents start ts events.items
-ReadsEvents start ts (Err (faults.Broken b)) = IsSyntaxFault start ts b
-ReadsEvents start ts (Err faults.Memory) = Unit {0}

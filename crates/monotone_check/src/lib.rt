@@ -5,8 +5,6 @@
 mod calls;
 mod equations;
 mod laws;
-#[cfg(test)]
-mod tests;
 
 pub use equations::check_monotone;
 pub use laws::{

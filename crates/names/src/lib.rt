@@ -1,9 +1,6 @@
 //! Names that are told apart by their bytes, with their numbers.
 #![tactic(auto)]
 
-#[cfg(test)]
-mod tests;
-
 use indexmap::IndexSet;
 use rag_io::Memory;
 use std::alloc::Global;

@@ -7,8 +7,6 @@
 
 mod jumps;
 mod subclasses;
-#[cfg(test)]
-mod tests;
 
 ghost use Rattle.std.specs.Prelude.{◌↔◌, ◌≡◌, ℕ, IfOk, IsTrue, false, length, slice_index_or, vec_len};
 ghost use Rattle.superclasses.specs.Superclasses.{IsAbove};

@@ -4,8 +4,6 @@
 //! that the reader names where the pool is full.
 #![tactic(auto)]
 
-#[cfg(test)]
-mod tests;
 mod texts;
 
 pub use texts::{place_of, pool_texts};

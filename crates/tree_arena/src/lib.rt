@@ -8,8 +8,6 @@ mod ends;
 mod keeping;
 mod laws;
 mod parts;
-#[cfg(test)]
-mod tests;
 mod tree;
 
 pub use laws::{accessors_of_terms, children_and_parents, one_term, trees_of_terms};

@@ -4,6 +4,7 @@ pub mod Clean
 pub mod Coding
 pub mod Growing
 pub mod NodeReaching
+pub mod OneFile
 pub mod OneTree
 pub mod Reaching
 pub mod Read

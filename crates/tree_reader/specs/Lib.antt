@@ -1,4 +1,5 @@
 pub mod Breaking
+pub mod FromBytes
 pub mod Grown
 pub mod Laying
 pub mod Reading

@@ -6,15 +6,15 @@
 #![tactic(auto)]
 
 mod frames;
+mod from_bytes;
 mod laws;
 mod laying;
 mod misplaced;
 mod reading;
 mod steps;
-#[cfg(test)]
-mod tests;
 mod values;
 mod wants;
 
+pub use from_bytes::read_tree_bytes;
 pub use laws::one_tree;
 pub use reading::read_tree;

@@ -1,5 +1,5 @@
 -- What the parse says of the tokens of a file.
-use Rattle.std.proofs.Common.{◌≡◌, ℕ, ◌<◌, List, length, map, get_or, refl, ap, subst, ◌∙◌, arith}
+use Rattle.std.proofs.Common.{ℕ, ◌<◌, List, length, map, get_or, refl, ap, ◌∙◌, arith}
 use Rattle.std.specs.Option.{option_map}
 use Rattle.std.proofs.lemmas.List.{length-map}
 use Rattle.std.proofs.lemmas.Option.{slice_get-map, slice_get-get_or}
@@ -17,13 +17,12 @@ use Rattle.tree_syntax.specs.TreeGrammar.{tree_grammar}
 use Rattle.tree_syntax.specs.TreePrintedGrammar.{tree_printed_grammar}
 
 -- a fault of the table's grammar is one of the printed grammar
-pub printed_fault : {cs ds : List ℕ} {i : ℕ} → cs ≡ ds → IsFault tree_grammar 0 cs i → FirstFault tree_printed_grammar 0 ds i
-printed_fault {i = i} same fault = subst (λ (zs : List ℕ). FirstFault tree_printed_grammar 0 zs i) same (fault_there printed_sentences fault)
+pub printed_fault : {cs : List ℕ} {i : ℕ} → IsFault tree_grammar 0 cs i → FirstFault tree_printed_grammar 0 cs i
+printed_fault fault = fault_there printed_sentences fault
 
 -- a sentence of the table's grammar is one of the printed grammar, and writes something
-pub is_text : {ts : List Lexed} (cs : List ℕ) {es : List ℕ} → cs ≡ map token_class ts → IsSentence tree_grammar 0 cs es → IsText ts
-is_text {ts} cs {es} same s =
-    let reading : IsSentence tree_grammar 0 (map token_class ts) es = subst (λ (zs : List ℕ). IsSentence tree_grammar 0 zs es) same s in
+pub is_text : {ts : List Lexed} {es : List ℕ} → IsSentence tree_grammar 0 (map token_class ts) es → IsText ts
+is_text reading =
     let sentence = sentence_there printed_sentences reading in
     let written = written_of sentence in
     record { sentence = sentence; written = written.0; writes = written.1 }

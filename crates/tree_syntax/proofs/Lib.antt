@@ -4,5 +4,4 @@ pub mod Made
 pub mod OneFault
 pub mod OneWritten
 pub mod Spelled
-pub mod TreeFits
 pub mod TreeSentences

@@ -1,9 +1,8 @@
 //! The syntax of the texts of source trees: [`check_syntax`] checks that the tokens of a file write one node.
 #![tactic(auto)]
 
+mod language;
 mod reading;
-#[cfg(test)]
-mod tests;
 mod tree_table;
 
 pub use reading::check_syntax;

@@ -3,8 +3,6 @@
 
 mod laws;
 mod parts;
-#[cfg(test)]
-mod tests;
 mod writing;
 
 pub use laws::written_again;
