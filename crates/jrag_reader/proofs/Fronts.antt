@@ -2,7 +2,7 @@
 use Rattle.std.proofs.Common.{◌≡◌, ℕ, ◌+◌, ◌≤◌, ◌==◌, Bool, true, false, cond, if◌then◌else◌, List, [], ◌∷◌, ◌++◌, length, drop, Option, Some, None, refl, sym, ap, ◌∙◌, arith}
 use Rattle.ll_parser.specs.Grammar.{shift}
 use Rattle.rag_io.specs.Tokens.{Lexed}
-use Rattle.jrag_reader.specs.Limits.{counted, left, long_at, long_broken, long_event}
+use Rattle.aspect_limits.specs.Limits.{counted, left, long_at, long_broken, long_event}
 use Rattle.jrag_reader.proofs.Counting.{tokens_in, tokens_more}
 
 -- no tokens, nothing broken

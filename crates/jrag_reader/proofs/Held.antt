@@ -12,7 +12,7 @@ use Rattle.jrag_syntax.specs.declared.classes.Start.{Start}
 use Rattle.jrag_reader.specs.declared.parts.Part as kept
 use Rattle.jrag_reader.specs.Answers.{HoldsPart, IsRefusal, ReadsParts}
 use Rattle.jrag_reader.specs.Building.{EndsWith, Runs}
-use Rattle.jrag_reader.specs.Limits.{limits_broken}
+use Rattle.aspect_limits.specs.Limits.{limits_broken}
 use Rattle.jrag_reader.specs.Parts.{Part}
 use Rattle.jrag_reader.specs.Reading.{SaysPart}
 use Rattle.jrag_reader.specs.Running.{Progress, nothing}

@@ -13,7 +13,7 @@ pub mod MakesDetails
 pub mod MakesExpressions
 pub mod MakesItems
 pub mod MakesOptionals
-pub mod NotedLong
+pub mod OneFile
 pub mod OneReading
 pub mod Ongoing
 pub mod PartsBuilt
@@ -22,6 +22,7 @@ pub mod Rebuilding
 pub mod Refused
 pub mod Rows
 pub mod Said
+pub mod SeenForms
 pub mod Shapes
 pub mod SideBySide
 pub mod Sorted

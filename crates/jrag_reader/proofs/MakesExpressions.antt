@@ -3,14 +3,14 @@ use Rattle.std.proofs.Common.{◌≡◌, ℕ, true, List, [], ◌∷◌, Option,
 use Rattle.ll_parser.specs.Table.{every}
 use Rattle.jrag_syntax.specs.Tokens.{token_class}
 use Rattle.jrag_syntax.specs.declared.classes.Start.{Start}
-use Rattle.jrag_reader.specs.Expressions as expressions
+use Rattle.aspect_items.specs.Expressions as expressions
 use Rattle.jrag_reader.specs.Forms.{Form, OneOf, Word, Quantifier, Expression, Sourced, Arguments, form, sign, members, forms_of_expressions}
 use Rattle.jrag_reader.specs.Forms.{choice, equality, relation, sum, product, unary, operand, postfix, primary, literals, quantifiers, names}
 use Rattle.jrag_reader.specs.Forms as levels
 use Rattle.jrag_reader.specs.Making.{make, make_binary, literal_by, operator_by, quantifier_by, name_of, integer_of, named}
 use Rattle.jrag_reader.specs.Parts.{Part, Formed, Quantifying}
 use Rattle.jrag_reader.specs.Saying.{IsAmong}
-use Rattle.jrag_reader.specs.declared.expression.Quantifier as declared
+use Rattle.aspect_items.specs.declared.expression.Quantifier as declared
 use Rattle.jrag_reader.proofs.Fits.{fits}
 use Rattle.jrag_reader.proofs.Rows.{Makes, holds_of_member, found, one, two, row, no_more}
 use Rattle.jrag_reader.proofs.SideBySide.{over, ◌on◌, token, word, quantifier, expression, sourced, arguments}

@@ -2,7 +2,7 @@
 use Rattle.std.proofs.Common.{ℕ, [], ◌∷◌, ◌++◌, refl}
 use Rattle.jrag_syntax.specs.declared.classes.Start.{Start}
 use Rattle.jrag_reader.specs.Forms.{Form, Word, Expression, OfType, Parameters, Lazy, Modifiers, Circularity, Body, Condition, Path, Method, Root, Item, Aspects, Opened, form, sign, target, choice, forms_of_items}
-use Rattle.jrag_reader.specs.Items.{Declared, Inherits, Equates, Collects, Contributes}
+use Rattle.aspect_items.specs.Items.{Declared, Inherits, Equates, Collects, Contributes}
 use Rattle.jrag_reader.specs.Parts.{Made, Items}
 use Rattle.jrag_reader.specs.Parts as parts
 use Rattle.jrag_reader.specs.Saying.{IsAmong}

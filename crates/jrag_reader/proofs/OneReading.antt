@@ -17,9 +17,9 @@ use Rattle.jrag_syntax.specs.declared.classes.Start.{Start}
 use Rattle.jrag_syntax.specs.declared.classes.Start.TheVariants as starts
 use Rattle.jrag_syntax.proofs.JragSentences.{printed_events}
 use Rattle.jrag_syntax.proofs.OneReading.{one_said, one_syntax_fault, said_or_fault}
-use Rattle.jrag_reader.specs.Expressions.{Expr}
-use Rattle.jrag_reader.specs.Items.{Item}
-use Rattle.jrag_reader.specs.Limits.{limits_broken, long_broken}
+use Rattle.aspect_items.specs.Expressions.{Expr}
+use Rattle.aspect_items.specs.Items.{Item}
+use Rattle.aspect_limits.specs.Limits.{limits_broken, long_broken}
 use Rattle.jrag_reader.specs.Parts.{Part, Items, expr_in, items_in}
 use Rattle.jrag_reader.specs.Reading.{IsFirstBroken, SaysExpr, SaysItems, SaysWhole, stopped, too_many}
 use Rattle.jrag_reader.proofs.Again.{one_part}

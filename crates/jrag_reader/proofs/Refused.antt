@@ -16,7 +16,7 @@ use Rattle.jrag_syntax.specs.Reading.{SaysEvents, StopsWith}
 use Rattle.jrag_syntax.specs.Tokens.{token_class}
 use Rattle.jrag_syntax.specs.declared.classes.Start.{Start}
 use Rattle.jrag_reader.specs.Answers.{IsRefusal}
-use Rattle.jrag_reader.specs.Limits.{limits_broken, long_broken}
+use Rattle.aspect_limits.specs.Limits.{limits_broken, long_broken}
 use Rattle.jrag_reader.specs.Reading.{IsFirstBroken, stopped, too_many}
 use Rattle.jrag_reader.proofs.Counting.{tokens_in, stop_count}
 

@@ -5,12 +5,12 @@ use Rattle.ll_parser.specs.Table.{member}
 use Rattle.rag_io.specs.Tokens.{Lexed}
 use Rattle.jrag_syntax.specs.Tokens.{token_class}
 use Rattle.jrag_syntax.specs.declared.classes.Start.{Start}
-use Rattle.jrag_reader.specs.Expressions.{Expr, Name}
+use Rattle.aspect_items.specs.Expressions.{Expr, Name}
 use Rattle.jrag_reader.specs.Forms.{Sort}
 use Rattle.jrag_reader.specs.Forms as sorts
-use Rattle.jrag_reader.specs.Items.{WrittenType, Parameter, Signature, Circular, Item}
+use Rattle.aspect_items.specs.Items.{WrittenType, Parameter, Signature, Circular, Item}
 use Rattle.jrag_reader.specs.Parts.{Part, Token, Named, Quantifying, Formed, Arguments, Typed, Parameters, Flag, Modifiers, Circularity, Perhaps, Behind, PerhapsNamed, Made, Items, Opened, name_in, expr_in}
-use Rattle.jrag_reader.specs.declared.expression.Quantifier.{Quantifier}
+use Rattle.aspect_items.specs.declared.expression.Quantifier.{Quantifier}
 use Rattle.jrag_reader.proofs.Fits.{fits, all_fit}
 
 infixr 67 ◌on◌

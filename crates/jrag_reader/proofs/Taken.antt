@@ -7,14 +7,14 @@ use Rattle.rag_io.specs.Tokens.{Lexed}
 use Rattle.rag_io.specs.declared.token.Token.{Token as KeptToken}
 use Rattle.jrag_syntax.specs.declared.classes.Start.{Start}
 use Rattle.jrag_syntax.specs.declared.classes.Start.TheVariants as starts
-use Rattle.jrag_reader.specs.declared.expression.Expr.{Expr as KeptExpr}
-use Rattle.jrag_reader.specs.declared.items.Item.{Item as KeptItem}
+use Rattle.aspect_items.specs.declared.expression.Expr.{Expr as KeptExpr}
+use Rattle.aspect_items.specs.declared.items.Item.{Item as KeptItem}
 use Rattle.jrag_reader.specs.declared.parts.Unbuilt.{Unbuilt}
 use Rattle.jrag_reader.specs.Answers.{HoldsPart}
-use Rattle.jrag_reader.specs.Expressions.{Expr, seen_expr}
+use Rattle.aspect_items.specs.Expressions.{Expr, seen_expr}
 use Rattle.jrag_reader.specs.Forms as sorts
 use Rattle.jrag_reader.specs.Forms.{choice}
-use Rattle.jrag_reader.specs.Items.{Item, seen_item}
+use Rattle.aspect_items.specs.Items.{Item, seen_item}
 use Rattle.jrag_reader.specs.Parts.{Part, Token, Named, Quantifying, Formed, Items, expr_in, items_in, token_in, top}
 use Rattle.jrag_reader.specs.Reading.{SaysExpr, SaysItems, SaysWhole, sort_of}
 use Rattle.jrag_reader.specs.Stack.{Takes, seen_token_and_code}

@@ -4,6 +4,7 @@ use Rattle.std.specs.Result.{IsErr}
 use Rattle.jrag_reader.specs.Parts.{Part, take}
 use Rattle.jrag_reader.specs.Stack.{Makes, Takes}
 use Rattle.jrag_reader.specs.declared.parts.Unbuilt.{Unbuilt}
+use Rattle.jrag_reader.specs.declared.parts.Unbuilt.TheVariants.{Memory}
 
 -- What was taken goes on with the parts below.
 pub taking : {A B M : Type 0} (seen : M → A) (o : Option (A × List Part)) (k : A → List Part → Option B) (x : M) (new : List Part)
@@ -22,3 +23,17 @@ pub refusing : {A B M : Type 0} (seen : M → A) (o : Option (A × List Part)) (
 refusing seen None k u below (Ok x) new missed failed = absurd (cc)
 refusing seen None k u below (Err v) new missed failed = tt
 refusing seen (Some a) k u below r new missed failed = elim missed [ ]
+
+-- Want of memory is an answer to whatever is to be made.
+wants_memory : {A : Type 0} (o : Option A) (new : A) → Makes o (Err Memory) new
+wants_memory None new = tt
+wants_memory (Some made) new = tt
+
+pub unmade : {A : Type 0} (o : Option A) (u : Unbuilt) (new : A) → u ≡ Memory → Makes o (Err u) new
+unmade o u new is = subst (λ (v : Unbuilt). Makes o (Err v) new) (sym is) (wants_memory o new)
+
+-- Where what is asked for isn't there, an error is the answer.
+pub missing : {A B M : Type 0} (seen : M → A) (o : Option (A × List Part)) (k : A → List Part → Option B) (u v : Unbuilt) (below : List Part) (new : B)
+    → Takes seen o (Err u) below → Makes (take o k) (Err v) new
+missing seen None k u v below new missed = tt
+missing seen (Some a) k u v below new missed = elim missed [ ]

@@ -6,11 +6,11 @@ use Rattle.broken_rules.specs.declared.broken.ReadFault.TheVariants as faults
 use Rattle.rag_io.specs.Tokens.{Lexed}
 use Rattle.jrag_syntax.specs.declared.classes.Start.{Start}
 use Rattle.jrag_syntax.specs.declared.classes.Start.TheVariants as starts
-use Rattle.jrag_reader.specs.declared.aspects.Aspects as kept_aspects
-use Rattle.jrag_reader.specs.declared.expression.Expr as kept_expr
+use Rattle.aspect_items.specs.declared.aspects.Aspects as kept_aspects
+use Rattle.aspect_items.specs.declared.expression.Expr as kept_expr
 use Rattle.jrag_reader.specs.declared.parts.Part as kept
-use Rattle.jrag_reader.specs.Expressions.{seen_expr}
-use Rattle.jrag_reader.specs.Items.{seen_aspects}
+use Rattle.aspect_items.specs.Expressions.{seen_expr}
+use Rattle.aspect_items.specs.Items.{seen_aspects}
 use Rattle.jrag_reader.specs.Parts.{Part, Token}
 use Rattle.jrag_reader.specs.Reading.{IsFirstBroken, SaysExpr, SaysItems, SaysWhole}
 use Rattle.jrag_reader.specs.Stack.{tops}

@@ -1,10 +1,7 @@
 pub mod Answers
 pub mod Building
-pub mod Built
-pub mod Expressions
 pub mod Forms
-pub mod Items
-pub mod Limits
+pub mod FromBytes
 pub mod Making
 pub mod Parts
 pub mod Reading

@@ -5,13 +5,13 @@ use Rattle.rag_io.specs.Decimal.{decimal}
 use Rattle.rag_io.specs.Tokens.{Lexed}
 use Rattle.jrag_syntax.specs.Tokens.{token_class}
 use Rattle.jrag_syntax.specs.declared.classes.Start.{Start}
-use Rattle.jrag_reader.specs.declared.expression.Operator.{Operator}
-use Rattle.jrag_reader.specs.declared.expression.Operator.TheVariants as operators
-use Rattle.jrag_reader.specs.declared.expression.Quantifier.{Quantifier}
-use Rattle.jrag_reader.specs.declared.expression.Quantifier.TheVariants as quantifiers
-use Rattle.jrag_reader.specs.Expressions as expressions
-use Rattle.jrag_reader.specs.Expressions.{Expr, Name, arguments_of}
-use Rattle.jrag_reader.specs.Items.{TypeName, Boolean, Integer, String, Class, Parameter, Signature, Declared, Inherits, Equates, Collects, Contributes}
+use Rattle.aspect_items.specs.declared.expression.Operator.{Operator}
+use Rattle.aspect_items.specs.declared.expression.Operator.TheVariants as operators
+use Rattle.aspect_items.specs.declared.expression.Quantifier.{Quantifier}
+use Rattle.aspect_items.specs.declared.expression.Quantifier.TheVariants as quantifiers
+use Rattle.aspect_items.specs.Expressions as expressions
+use Rattle.aspect_items.specs.Expressions.{Expr, Name, arguments_of}
+use Rattle.aspect_items.specs.Items.{TypeName, Boolean, Integer, String, Class, Parameter, Signature, Declared, Inherits, Equates, Collects, Contributes}
 use Rattle.jrag_reader.specs.Parts.{Part, Named, Quantifying, Formed, Arguments, Typed, Parameters, Flag, Modifiers, Circularity, Perhaps, Behind, PerhapsNamed, Made, Items, Opened}
 use Rattle.jrag_reader.specs.Parts.{take, top, token_in, name_in, quantifier_in, expr_in, arguments_in, type_in, parameters_in, flag_in, modifiers_in, circularity_in, perhaps_in, behind_in, perhaps_named_in, item_in, items_in, opened_in}
 

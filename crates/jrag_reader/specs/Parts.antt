@@ -2,9 +2,9 @@
 use Rattle.std.specs.Prelude.{ℕ, Bool, List, [], ◌∷◌, Option, Some, None}
 use Rattle.std.specs.Option.{option_and_then, option_map}
 use Rattle.rag_io.specs.Tokens.{Lexed}
-use Rattle.jrag_reader.specs.Expressions.{Expr, Name, Variable}
-use Rattle.jrag_reader.specs.declared.expression.Quantifier.{Quantifier}
-use Rattle.jrag_reader.specs.Items.{WrittenType, Parameter, Signature, Circular, Item}
+use Rattle.aspect_items.specs.Expressions.{Expr, Name, Variable}
+use Rattle.aspect_items.specs.declared.expression.Quantifier.{Quantifier}
+use Rattle.aspect_items.specs.Items.{WrittenType, Parameter, Signature, Circular, Item}
 
 pub data Part : Type 0 where
   -- a token, and the number of the text that it writes

@@ -8,10 +8,10 @@ use Rattle.jrag_syntax.specs.Reading.{SaysEvents, StopsWith}
 use Rattle.jrag_syntax.specs.Tokens.{token_class}
 use Rattle.jrag_syntax.specs.declared.classes.Start.{Start}
 use Rattle.jrag_syntax.specs.declared.classes.Start.TheVariants as starts
-use Rattle.jrag_reader.specs.Expressions.{Expr}
+use Rattle.aspect_items.specs.Expressions.{Expr}
 use Rattle.jrag_reader.specs.Forms.{Sort, Expression, Aspects, choice}
-use Rattle.jrag_reader.specs.Items.{Item}
-use Rattle.jrag_reader.specs.Limits.{limits_broken}
+use Rattle.aspect_items.specs.Items.{Item}
+use Rattle.aspect_limits.specs.Limits.{limits_broken}
 use Rattle.jrag_reader.specs.Parts.{Part, Items, expr_in}
 use Rattle.jrag_reader.specs.Saying.{Says}
 

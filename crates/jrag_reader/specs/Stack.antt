@@ -3,33 +3,38 @@ use Rattle.std.specs.Prelude.{◌≡◌, ℕ, List, map, reverse, Option, Some, 
 use Rattle.std.specs.Option.{option_map}
 use Rattle.rag_io.specs.Tokens.{Lexed, seen_token}
 use Rattle.rag_io.specs.declared.token.Token.{Token as KeptToken}
-use Rattle.jrag_reader.specs.declared.expression.Name.{Name as KeptName}
-use Rattle.jrag_reader.specs.declared.expression.Quantifier.{Quantifier}
+use Rattle.aspect_items.specs.declared.expression.Name.{Name as KeptName}
+use Rattle.aspect_items.specs.declared.expression.Quantifier.{Quantifier}
 use Rattle.jrag_reader.specs.declared.parts.Part as memory
 use Rattle.jrag_reader.specs.declared.parts.Part.TheVariants as kept
+use Rattle.jrag_reader.specs.declared.parts.Said as memory_said
+use Rattle.jrag_reader.specs.declared.parts.Said.TheVariants as said
 use Rattle.jrag_reader.specs.declared.parts.Unbuilt.{Unbuilt}
 use Rattle.jrag_reader.specs.declared.parts.Unbuilt.TheVariants.{Misfit, Memory}
-use Rattle.jrag_reader.specs.Expressions.{Name, seen_expr, seen_name}
-use Rattle.jrag_reader.specs.Items.{seen_circular, seen_item, seen_parameter, seen_signature, seen_type}
+use Rattle.aspect_items.specs.Expressions.{Name, seen_expr, seen_name}
+use Rattle.aspect_items.specs.Items.{seen_circular, seen_item, seen_parameter, seen_signature, seen_type}
 use Rattle.jrag_reader.specs.Parts.{Part, Token, Named, Quantifying, Formed, Arguments, Typed, Parameters, Flag, Modifiers, Circularity, Perhaps, Behind, PerhapsNamed, Made, Items, Opened}
+
+abbrev pub seen_said : memory_said.Said → Part
+seen_said (said.Name n) = Named (seen_name n)
+seen_said (said.Quantifier q n) = Quantifying q (seen_name n)
+seen_said (said.Expr e) = Formed (seen_expr e)
+seen_said (said.Arguments es) = Arguments (map seen_expr es.items)
+seen_said (said.Type t) = Typed (seen_type t)
+seen_said (said.Parameters ps) = Parameters (map seen_parameter ps.items)
+seen_said (said.Flag b) = Flag b
+seen_said (said.Modifiers lazy higher) = Modifiers lazy higher
+seen_said (said.Circularity c) = Circularity (option_map seen_circular c)
+seen_said (said.Perhaps e) = Perhaps (option_map seen_expr e)
+seen_said (said.Behind s) = Behind (option_map seen_signature s)
+seen_said (said.PerhapsNamed n) = PerhapsNamed (option_map seen_name n)
+seen_said (said.Item i) = Made (seen_item i)
+seen_said (said.Items is) = Items (map seen_item is.items)
+seen_said (said.Opened is) = Opened (map seen_item is.items)
 
 abbrev pub seen_part : memory.Part → Part
 seen_part (kept.Token t code) = Token (seen_token t) code
-seen_part (kept.Name n) = Named (seen_name n)
-seen_part (kept.Quantifier q n) = Quantifying q (seen_name n)
-seen_part (kept.Expr e) = Formed (seen_expr e)
-seen_part (kept.Arguments es) = Arguments (map seen_expr es.items)
-seen_part (kept.Type t) = Typed (seen_type t)
-seen_part (kept.Parameters ps) = Parameters (map seen_parameter ps.items)
-seen_part (kept.Flag b) = Flag b
-seen_part (kept.Modifiers lazy higher) = Modifiers lazy higher
-seen_part (kept.Circularity c) = Circularity (option_map seen_circular c)
-seen_part (kept.Perhaps e) = Perhaps (option_map seen_expr e)
-seen_part (kept.Behind s) = Behind (option_map seen_signature s)
-seen_part (kept.PerhapsNamed n) = PerhapsNamed (option_map seen_name n)
-seen_part (kept.Item i) = Made (seen_item i)
-seen_part (kept.Items is) = Items (map seen_item is.items)
-seen_part (kept.Opened is) = Opened (map seen_item is.items)
+seen_part (kept.Said s) = seen_said s
 
 -- a stack from its top
 abbrev pub tops : List memory.Part → List Part

@@ -3,16 +3,17 @@ ghost use Rattle.std.specs.Prelude.{◌≡◌, IfOk, ◌∷◌, ◌++◌, [], ma
 ghost use Rattle.std.specs.Option.{option_map};
 ghost use Rattle.rag_io.specs.Tokens.{seen_token};
 ghost use Rattle.jrag_syntax.specs.Tokens.{token_class};
-ghost use Rattle.jrag_reader.specs.Expressions.{Binary, seen_expr, seen_name};
+ghost use Rattle.aspect_items.specs.Expressions.{Binary, seen_expr, seen_name};
 ghost use Rattle.jrag_reader.specs.Making as specs;
 ghost use Rattle.jrag_reader.specs.Parts.{Formed};
-ghost use Rattle.jrag_reader.specs.Stack.{Makes, Takes, seen_part, tops};
+ghost use Rattle.jrag_reader.specs.Stack.{Makes, Takes, seen_said, tops};
 
-use crate::expression::{Expr, Name, Operator, Quantifier};
 use crate::parts::{
-    Part, Unbuilt, pop_arguments, pop_expr, pop_name, pop_quantifier, pop_token, push,
+    Part, Said, Unbuilt, misfit, no_memory, pop_arguments, pop_expr, pop_name, pop_quantifier,
+    pop_token, say,
 };
 use crate::{classes, events};
+use aspect_items::{Expr, Name, Operator, Quantifier};
 use jrag_syntax::{Start, class_of};
 use rag_io::{Memory, Token, capped};
 use std::alloc::Global;
@@ -89,12 +90,12 @@ fn quantifier_of(class: u8) -> Option<Quantifier>
 }
 
 // A word, with the quantifier that it may be.
-fn named<'a>(quantifier: Option<Quantifier>, name: Name) -> Part<'a>
-    ensures { seen_part result ≡ specs.named quantifier (seen_name name) }
+fn named(quantifier: Option<Quantifier>, name: Name) -> Said
+    ensures { seen_said result ≡ specs.named quantifier (seen_name name) }
 {
     match quantifier {
-        Some(quantifier) => Part::Quantifier(quantifier, name),
-        None => Part::Name(name),
+        Some(quantifier) => Said::Quantifier(quantifier, name),
+        None => Said::Name(name),
     }
 }
 
@@ -104,7 +105,7 @@ fn make_name(alloc: Global, start: Start, parts: &mut Vec<Part<'_>>) -> Result<(
     let (token, _) = pop_token(parts)?;
     let name = name_of(alloc, &token)?;
     let quantifier = quantifier_of(class_of(start, &token));
-    Ok(push(parts, named(quantifier, name))?)
+    say(parts, named(quantifier, name))
 }
 
 // A literal onto the stack, where the token is one.
@@ -112,7 +113,7 @@ fn push_literal(literal: Option<Expr>, parts: &mut Vec<Part<'_>>) -> Result<(), 
     ensures { Makes (option_map (λ e. Formed e ∷ tops parts.old.items) (option_map seen_expr literal)) result (tops parts.new.items) }
 {
     match literal {
-        Some(literal) => Ok(push(parts, Part::Expr(literal))?),
+        Some(literal) => say(parts, Said::Expr(literal)),
         None => Err(Unbuilt::Misfit),
     }
 }
@@ -128,7 +129,7 @@ fn make_text(parts: &mut Vec<Part<'_>>) -> Result<(), Unbuilt>
     ensures { Makes (specs.make_text (tops parts.old.items)) result (tops parts.new.items) }
 {
     let (token, code) = pop_token(parts)?;
-    Ok(push(parts, Part::Expr(Expr::Text(place_of(&token), code)))?)
+    say(parts, Said::Expr(Expr::Text(place_of(&token), code)))
 }
 
 fn make_source(parts: &mut Vec<Part<'_>>) -> Result<(), Unbuilt>
@@ -137,7 +138,7 @@ fn make_source(parts: &mut Vec<Part<'_>>) -> Result<(), Unbuilt>
     let (digits, _) = pop_token(parts)?;
     let (at, _) = pop_token(parts)?;
     let source = Expr::Source(place_of(&at), integer_of(&digits));
-    Ok(push(parts, Part::Expr(source))?)
+    say(parts, Said::Expr(source))
 }
 
 pub(crate) fn make_first_argument(alloc: Global, parts: &mut Vec<Part<'_>>) -> Result<(), Unbuilt>
@@ -146,7 +147,7 @@ pub(crate) fn make_first_argument(alloc: Global, parts: &mut Vec<Part<'_>>) -> R
     let argument = pop_expr(parts)?;
     let mut arguments = Vec::new(alloc);
     push_argument(&mut arguments, argument)?;
-    Ok(push(parts, Part::Arguments(arguments))?)
+    say(parts, Said::Arguments(arguments))
 }
 
 fn push_argument(arguments: &mut Vec<Expr>, argument: Expr) -> Result<(), Memory>
@@ -159,10 +160,14 @@ pub(crate) fn make_argument(parts: &mut Vec<Part<'_>>) -> Result<(), Unbuilt>
     ensures { Makes (specs.make_argument (tops parts.old.items)) result (tops parts.new.items) }
 {
     let argument = pop_expr(parts)?;
-    let _comma = pop_token(parts)?;
-    let mut arguments = pop_arguments(parts)?;
+    let Ok(_comma) = pop_token(parts) else {
+        return Err(misfit(argument));
+    };
+    let Ok(mut arguments) = pop_arguments(parts) else {
+        return Err(misfit(argument));
+    };
     push_argument(&mut arguments, argument)?;
-    Ok(push(parts, Part::Arguments(arguments))?)
+    say(parts, Said::Arguments(arguments))
 }
 
 // Arguments in parentheses.
@@ -171,7 +176,9 @@ fn take_arguments(parts: &mut Vec<Part<'_>>) -> Result<Vec<Expr>, Unbuilt>
 {
     let _close = pop_token(parts)?;
     let arguments = pop_arguments(parts)?;
-    let _open = pop_token(parts)?;
+    let Ok(_open) = pop_token(parts) else {
+        return Err(misfit(arguments));
+    };
     Ok(arguments)
 }
 
@@ -179,80 +186,132 @@ fn make_call(parts: &mut Vec<Part<'_>>) -> Result<(), Unbuilt>
     ensures { Makes (specs.make_call (tops parts.old.items)) result (tops parts.new.items) }
 {
     let arguments = take_arguments(parts)?;
-    let name = pop_name(parts)?;
-    Ok(push(parts, Part::Expr(Expr::Call(name, arguments)))?)
+    let Ok(name) = pop_name(parts) else {
+        return Err(misfit(arguments));
+    };
+    say(parts, Said::Expr(Expr::Call(name, arguments)))
 }
 
 fn make_member(alloc: Global, parts: &mut Vec<Part<'_>>) -> Result<(), Unbuilt>
     ensures { Makes (specs.make_member (tops parts.old.items)) result (tops parts.new.items) }
 {
     let arguments = take_arguments(parts)?;
-    let name = pop_name(parts)?;
-    let _dot = pop_token(parts)?;
-    let receiver = boxed(alloc, pop_expr(parts)?)?;
+    let Ok(name) = pop_name(parts) else {
+        return Err(misfit(arguments));
+    };
+    let Ok(_dot) = pop_token(parts) else {
+        return Err(misfit((arguments, name)));
+    };
+    let Ok(receiver) = pop_expr(parts) else {
+        return Err(misfit((arguments, name)));
+    };
+    let Ok(receiver) = boxed(alloc, receiver) else {
+        return Err(no_memory((arguments, name)));
+    };
     let member = Expr::Member(receiver, name, arguments);
-    Ok(push(parts, Part::Expr(member))?)
+    say(parts, Said::Expr(member))
 }
 
 fn make_new(parts: &mut Vec<Part<'_>>) -> Result<(), Unbuilt>
     ensures { Makes (specs.make_new (tops parts.old.items)) result (tops parts.new.items) }
 {
     let arguments = take_arguments(parts)?;
-    let class = pop_name(parts)?;
-    let (word, _) = pop_token(parts)?;
+    let Ok(class) = pop_name(parts) else {
+        return Err(misfit(arguments));
+    };
+    let Ok((word, _)) = pop_token(parts) else {
+        return Err(misfit((arguments, class)));
+    };
     let made = Expr::New(place_of(&word), class, arguments);
-    Ok(push(parts, Part::Expr(made))?)
+    say(parts, Said::Expr(made))
 }
 
 fn make_quantified(alloc: Global, parts: &mut Vec<Part<'_>>) -> Result<(), Unbuilt>
     ensures { Makes (specs.make_quantified (tops parts.old.items)) result (tops parts.new.items) }
 {
     let _close = pop_token(parts)?;
-    let read = boxed(alloc, pop_expr(parts)?)?;
-    let _bar = pop_token(parts)?;
-    let range = boxed(alloc, pop_expr(parts)?)?;
-    let _colon = pop_token(parts)?;
-    let bound = pop_name(parts)?;
-    let _open = pop_token(parts)?;
-    let (quantifier, word) = pop_quantifier(parts)?;
+    let read = pop_expr(parts)?;
+    let Ok(_bar) = pop_token(parts) else {
+        return Err(misfit(read));
+    };
+    let Ok(range) = pop_expr(parts) else {
+        return Err(misfit(read));
+    };
+    let Ok(_colon) = pop_token(parts) else {
+        return Err(misfit((read, range)));
+    };
+    let Ok(bound) = pop_name(parts) else {
+        return Err(misfit((read, range)));
+    };
+    let Ok(_open) = pop_token(parts) else {
+        return Err(misfit((read, range, bound)));
+    };
+    let Ok(word) = pop_quantifier(parts) else {
+        return Err(misfit((read, range, bound)));
+    };
+    let (quantifier, word) = word;
+    let Ok(read) = boxed(alloc, read) else {
+        return Err(no_memory((range, bound, word)));
+    };
+    let Ok(range) = boxed(alloc, range) else {
+        return Err(no_memory((read, bound, word)));
+    };
     let quantified = Expr::Quantified(quantifier, word.place, bound, range, read);
-    Ok(push(parts, Part::Expr(quantified))?)
+    say(parts, Said::Expr(quantified))
 }
 
 fn make_group(alloc: Global, parts: &mut Vec<Part<'_>>) -> Result<(), Unbuilt>
     ensures { Makes (specs.make_group (tops parts.old.items)) result (tops parts.new.items) }
 {
     let _close = pop_token(parts)?;
-    let inner = boxed(alloc, pop_expr(parts)?)?;
-    let (open, _) = pop_token(parts)?;
-    Ok(push(parts, Part::Expr(Expr::Group(place_of(&open), inner)))?)
+    let inner = pop_expr(parts)?;
+    let Ok((open, _)) = pop_token(parts) else {
+        return Err(misfit(inner));
+    };
+    let inner = boxed(alloc, inner)?;
+    say(parts, Said::Expr(Expr::Group(place_of(&open), inner)))
 }
 
 fn make_cast(alloc: Global, parts: &mut Vec<Part<'_>>) -> Result<(), Unbuilt>
     ensures { Makes (specs.make_cast (tops parts.old.items)) result (tops parts.new.items) }
 {
-    let operand = boxed(alloc, pop_expr(parts)?)?;
-    let _close = pop_token(parts)?;
-    let class = pop_name(parts)?;
-    let (open, _) = pop_token(parts)?;
+    let operand = pop_expr(parts)?;
+    let Ok(_close) = pop_token(parts) else {
+        return Err(misfit(operand));
+    };
+    let Ok(class) = pop_name(parts) else {
+        return Err(misfit(operand));
+    };
+    let Ok((open, _)) = pop_token(parts) else {
+        return Err(misfit((operand, class)));
+    };
+    let Ok(operand) = boxed(alloc, operand) else {
+        return Err(no_memory(class));
+    };
     let cast = Expr::Cast(place_of(&open), class, operand);
-    Ok(push(parts, Part::Expr(cast))?)
+    say(parts, Said::Expr(cast))
 }
 
 fn make_not(alloc: Global, parts: &mut Vec<Part<'_>>) -> Result<(), Unbuilt>
     ensures { Makes (specs.make_not (tops parts.old.items)) result (tops parts.new.items) }
 {
-    let operand = boxed(alloc, pop_expr(parts)?)?;
-    let (sign, _) = pop_token(parts)?;
-    Ok(push(parts, Part::Expr(Expr::Not(place_of(&sign), operand)))?)
+    let operand = pop_expr(parts)?;
+    let Ok((sign, _)) = pop_token(parts) else {
+        return Err(misfit(operand));
+    };
+    let operand = boxed(alloc, operand)?;
+    say(parts, Said::Expr(Expr::Not(place_of(&sign), operand)))
 }
 
 fn make_negate(alloc: Global, parts: &mut Vec<Part<'_>>) -> Result<(), Unbuilt>
     ensures { Makes (specs.make_negate (tops parts.old.items)) result (tops parts.new.items) }
 {
-    let operand = boxed(alloc, pop_expr(parts)?)?;
-    let (sign, _) = pop_token(parts)?;
-    Ok(push(parts, Part::Expr(Expr::Negate(place_of(&sign), operand)))?)
+    let operand = pop_expr(parts)?;
+    let Ok((sign, _)) = pop_token(parts) else {
+        return Err(misfit(operand));
+    };
+    let operand = boxed(alloc, operand)?;
+    say(parts, Said::Expr(Expr::Negate(place_of(&sign), operand)))
 }
 
 // Two operands onto the stack, where what stands between them is an operator.
@@ -266,7 +325,7 @@ fn push_binary(
         result (tops parts.new.items) }
 {
     match operator {
-        Some(operator) => Ok(push(parts, Part::Expr(Expr::Binary(operator, left, right)))?),
+        Some(operator) => say(parts, Said::Expr(Expr::Binary(operator, left, right))),
         None => Err(Unbuilt::Misfit),
     }
 }
@@ -275,9 +334,19 @@ fn push_binary(
 fn make_binary(alloc: Global, start: Start, parts: &mut Vec<Part<'_>>) -> Result<(), Unbuilt>
     ensures { Makes (specs.make_binary start (tops parts.old.items)) result (tops parts.new.items) }
 {
-    let right = boxed(alloc, pop_expr(parts)?)?;
-    let (sign, _) = pop_token(parts)?;
-    let left = boxed(alloc, pop_expr(parts)?)?;
+    let right = pop_expr(parts)?;
+    let Ok((sign, _)) = pop_token(parts) else {
+        return Err(misfit(right));
+    };
+    let Ok(left) = pop_expr(parts) else {
+        return Err(misfit(right));
+    };
+    let Ok(right) = boxed(alloc, right) else {
+        return Err(no_memory(left));
+    };
+    let Ok(left) = boxed(alloc, left) else {
+        return Err(no_memory(right));
+    };
     push_binary(operator_of(class_of(start, &sign)), left, right, parts)
 }
 
@@ -285,21 +354,45 @@ fn make_instance(alloc: Global, parts: &mut Vec<Part<'_>>) -> Result<(), Unbuilt
     ensures { Makes (specs.make_instance (tops parts.old.items)) result (tops parts.new.items) }
 {
     let class = pop_name(parts)?;
-    let _word = pop_token(parts)?;
-    let operand = boxed(alloc, pop_expr(parts)?)?;
-    Ok(push(parts, Part::Expr(Expr::InstanceOf(operand, class)))?)
+    let Ok(_word) = pop_token(parts) else {
+        return Err(misfit(class));
+    };
+    let Ok(operand) = pop_expr(parts) else {
+        return Err(misfit(class));
+    };
+    let Ok(operand) = boxed(alloc, operand) else {
+        return Err(no_memory(class));
+    };
+    say(parts, Said::Expr(Expr::InstanceOf(operand, class)))
 }
 
 fn make_choice(alloc: Global, parts: &mut Vec<Part<'_>>) -> Result<(), Unbuilt>
     ensures { Makes (specs.make_choice (tops parts.old.items)) result (tops parts.new.items) }
 {
-    let otherwise = boxed(alloc, pop_expr(parts)?)?;
-    let _colon = pop_token(parts)?;
-    let then = boxed(alloc, pop_expr(parts)?)?;
-    let _mark = pop_token(parts)?;
-    let condition = boxed(alloc, pop_expr(parts)?)?;
+    let otherwise = pop_expr(parts)?;
+    let Ok(_colon) = pop_token(parts) else {
+        return Err(misfit(otherwise));
+    };
+    let Ok(then) = pop_expr(parts) else {
+        return Err(misfit(otherwise));
+    };
+    let Ok(_mark) = pop_token(parts) else {
+        return Err(misfit((otherwise, then)));
+    };
+    let Ok(condition) = pop_expr(parts) else {
+        return Err(misfit((otherwise, then)));
+    };
+    let Ok(otherwise) = boxed(alloc, otherwise) else {
+        return Err(no_memory((then, condition)));
+    };
+    let Ok(then) = boxed(alloc, then) else {
+        return Err(no_memory((otherwise, condition)));
+    };
+    let Ok(condition) = boxed(alloc, condition) else {
+        return Err(no_memory((otherwise, then)));
+    };
     let choice = Expr::If(condition, then, otherwise);
-    Ok(push(parts, Part::Expr(choice))?)
+    say(parts, Said::Expr(choice))
 }
 
 /// The form of an expression.

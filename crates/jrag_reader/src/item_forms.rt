@@ -2,23 +2,22 @@
 ghost use Rattle.std.specs.Prelude.{◌≡◌, ◌∷◌, ◌++◌, [], IfOk, map};
 ghost use Rattle.rag_io.specs.Tokens.{seen_token};
 ghost use Rattle.jrag_syntax.specs.Tokens.{token_class};
-ghost use Rattle.jrag_reader.specs.Expressions.{seen_name};
-ghost use Rattle.jrag_reader.specs.Items.{seen_item, seen_parameter, seen_signature, seen_type_name};
+ghost use Rattle.aspect_items.specs.Expressions.{seen_name};
+ghost use Rattle.aspect_items.specs.Items.{seen_item, seen_parameter, seen_signature, seen_type_name};
 ghost use Rattle.jrag_reader.specs.Making as specs;
 ghost use Rattle.jrag_reader.specs.Stack.{Makes, Takes, seen_names, tops};
 
-use crate::expression::Name;
 use crate::expression_forms::{make_argument, make_expression, make_first_argument};
-use crate::items::{
-    Circular, Collection, Contribution, Equation, Inherited, Item, Parameter, Signature,
-    Synthesized, Type, TypeName,
-};
 use crate::parts::{
-    Part, Unbuilt, pop_behind, pop_circularity, pop_expr, pop_flag, pop_item, pop_items,
-    pop_modifiers, pop_name, pop_opened, pop_parameters, pop_perhaps, pop_perhaps_named, pop_token,
-    pop_type, push,
+    Part, Said, Unbuilt, misfit, pop_behind, pop_circularity, pop_expr, pop_flag, pop_item,
+    pop_items, pop_modifiers, pop_name, pop_opened, pop_parameters, pop_perhaps, pop_perhaps_named,
+    pop_token, pop_type, say,
 };
 use crate::{classes, events};
+use aspect_items::{
+    Circular, Collection, Contribution, Equation, Inherited, Item, Name, Parameter, Signature,
+    Synthesized, Type, TypeName,
+};
 use jrag_syntax::{Start, class_of};
 use rag_io::{Memory, Token};
 use std::alloc::Global;
@@ -32,7 +31,7 @@ fn make_open(parts: &mut Vec<Part<'_>>) -> Result<(), Unbuilt>
     let _name = pop_name(parts)?;
     let _word = pop_token(parts)?;
     let items = pop_items(parts)?;
-    Ok(push(parts, Part::Opened(items))?)
+    say(parts, Said::Opened(items))
 }
 
 fn push_item(items: &mut Vec<Item>, item: Item) -> Result<(), Memory>
@@ -45,9 +44,11 @@ fn make_item(parts: &mut Vec<Part<'_>>) -> Result<(), Unbuilt>
     ensures { Makes (specs.make_item (tops parts.old.items)) result (tops parts.new.items) }
 {
     let item = pop_item(parts)?;
-    let mut items = pop_opened(parts)?;
+    let Ok(mut items) = pop_opened(parts) else {
+        return Err(misfit(item));
+    };
     push_item(&mut items, item)?;
-    Ok(push(parts, Part::Opened(items))?)
+    say(parts, Said::Opened(items))
 }
 
 fn make_close(parts: &mut Vec<Part<'_>>) -> Result<(), Unbuilt>
@@ -55,7 +56,7 @@ fn make_close(parts: &mut Vec<Part<'_>>) -> Result<(), Unbuilt>
 {
     let _brace = pop_token(parts)?;
     let items = pop_opened(parts)?;
-    Ok(push(parts, Part::Items(items))?)
+    say(parts, Said::Items(items))
 }
 
 // A name, and its parameters in parentheses.
@@ -64,8 +65,12 @@ fn take_signature(parts: &mut Vec<Part<'_>>) -> Result<Signature, Unbuilt>
 {
     let _close = pop_token(parts)?;
     let parameters = pop_parameters(parts)?;
-    let _open = pop_token(parts)?;
-    let name = pop_name(parts)?;
+    let Ok(_open) = pop_token(parts) else {
+        return Err(misfit(parameters));
+    };
+    let Ok(name) = pop_name(parts) else {
+        return Err(misfit(parameters));
+    };
     Ok(Signature { name, parameters })
 }
 
@@ -84,7 +89,9 @@ fn take_target(parts: &mut Vec<Part<'_>>) -> Result<(Name, Name), Unbuilt>
     let _close = pop_token(parts)?;
     let _open = pop_token(parts)?;
     let name = pop_name(parts)?;
-    let class = take_class(parts)?;
+    let Ok(class) = take_class(parts) else {
+        return Err(misfit(name));
+    };
     Ok((name, class))
 }
 
@@ -93,12 +100,24 @@ fn make_synthesized(parts: &mut Vec<Part<'_>>) -> Result<(), Unbuilt>
 {
     let _semicolon = pop_token(parts)?;
     let body = pop_perhaps(parts)?;
-    let circular = pop_circularity(parts)?;
-    let signature = take_signature(parts)?;
-    let class = take_class(parts)?;
-    let of = pop_type(parts)?;
-    let (lazy, higher_order) = pop_modifiers(parts)?;
-    let _word = pop_token(parts)?;
+    let Ok(circular) = pop_circularity(parts) else {
+        return Err(misfit(body));
+    };
+    let Ok(signature) = take_signature(parts) else {
+        return Err(misfit((body, circular)));
+    };
+    let Ok(class) = take_class(parts) else {
+        return Err(misfit((body, circular, signature)));
+    };
+    let Ok(of) = pop_type(parts) else {
+        return Err(misfit((body, circular, signature, class)));
+    };
+    let Ok((lazy, higher_order)) = pop_modifiers(parts) else {
+        return Err(misfit((body, circular, signature, class, of)));
+    };
+    let Ok(_word) = pop_token(parts) else {
+        return Err(misfit((body, circular, signature, class, of)));
+    };
     let item = Item::Synthesized(Synthesized {
         lazy,
         higher_order,
@@ -108,7 +127,7 @@ fn make_synthesized(parts: &mut Vec<Part<'_>>) -> Result<(), Unbuilt>
         circular,
         body,
     });
-    Ok(push(parts, Part::Item(item))?)
+    say(parts, Said::Item(item))
 }
 
 fn make_inherited(parts: &mut Vec<Part<'_>>) -> Result<(), Unbuilt>
@@ -116,11 +135,21 @@ fn make_inherited(parts: &mut Vec<Part<'_>>) -> Result<(), Unbuilt>
 {
     let _semicolon = pop_token(parts)?;
     let circular = pop_circularity(parts)?;
-    let signature = take_signature(parts)?;
-    let class = take_class(parts)?;
-    let of = pop_type(parts)?;
-    let lazy = pop_flag(parts)?;
-    let _word = pop_token(parts)?;
+    let Ok(signature) = take_signature(parts) else {
+        return Err(misfit(circular));
+    };
+    let Ok(class) = take_class(parts) else {
+        return Err(misfit((circular, signature)));
+    };
+    let Ok(of) = pop_type(parts) else {
+        return Err(misfit((circular, signature, class)));
+    };
+    let Ok(lazy) = pop_flag(parts) else {
+        return Err(misfit((circular, signature, class, of)));
+    };
+    let Ok(_word) = pop_token(parts) else {
+        return Err(misfit((circular, signature, class, of)));
+    };
     let item = Item::Inherited(Inherited {
         lazy,
         of,
@@ -128,7 +157,7 @@ fn make_inherited(parts: &mut Vec<Part<'_>>) -> Result<(), Unbuilt>
         signature,
         circular,
     });
-    Ok(push(parts, Part::Item(item))?)
+    say(parts, Said::Item(item))
 }
 
 fn make_equation(parts: &mut Vec<Part<'_>>) -> Result<(), Unbuilt>
@@ -136,18 +165,28 @@ fn make_equation(parts: &mut Vec<Part<'_>>) -> Result<(), Unbuilt>
 {
     let _semicolon = pop_token(parts)?;
     let body = pop_expr(parts)?;
-    let _equals = pop_token(parts)?;
-    let inherited = pop_behind(parts)?;
-    let signature = take_signature(parts)?;
-    let class = take_class(parts)?;
-    let _word = pop_token(parts)?;
+    let Ok(_equals) = pop_token(parts) else {
+        return Err(misfit(body));
+    };
+    let Ok(inherited) = pop_behind(parts) else {
+        return Err(misfit(body));
+    };
+    let Ok(signature) = take_signature(parts) else {
+        return Err(misfit((body, inherited)));
+    };
+    let Ok(class) = take_class(parts) else {
+        return Err(misfit((body, inherited, signature)));
+    };
+    let Ok(_word) = pop_token(parts) else {
+        return Err(misfit((body, inherited, signature, class)));
+    };
     let item = Item::Equation(Equation {
         class,
         signature,
         inherited,
         body,
     });
-    Ok(push(parts, Part::Item(item))?)
+    say(parts, Said::Item(item))
 }
 
 fn make_collection(parts: &mut Vec<Part<'_>>) -> Result<(), Unbuilt>
@@ -155,13 +194,28 @@ fn make_collection(parts: &mut Vec<Part<'_>>) -> Result<(), Unbuilt>
 {
     let _semicolon = pop_token(parts)?;
     let root = pop_perhaps_named(parts)?;
-    let method = pop_perhaps_named(parts)?;
-    let _close = pop_token(parts)?;
-    let fresh = pop_expr(parts)?;
-    let _open = pop_token(parts)?;
-    let (name, class) = take_target(parts)?;
-    let of = pop_type(parts)?;
-    let _word = pop_token(parts)?;
+    let Ok(method) = pop_perhaps_named(parts) else {
+        return Err(misfit(root));
+    };
+    let Ok(_close) = pop_token(parts) else {
+        return Err(misfit((root, method)));
+    };
+    let Ok(fresh) = pop_expr(parts) else {
+        return Err(misfit((root, method)));
+    };
+    let Ok(_open) = pop_token(parts) else {
+        return Err(misfit((root, method, fresh)));
+    };
+    let Ok(target) = take_target(parts) else {
+        return Err(misfit((root, method, fresh)));
+    };
+    let Ok(of) = pop_type(parts) else {
+        return Err(misfit((root, method, fresh, target)));
+    };
+    let Ok(_word) = pop_token(parts) else {
+        return Err(misfit((root, method, fresh, target, of)));
+    };
+    let (name, class) = target;
     let item = Item::Collection(Collection {
         of,
         class,
@@ -170,7 +224,7 @@ fn make_collection(parts: &mut Vec<Part<'_>>) -> Result<(), Unbuilt>
         method,
         root,
     });
-    Ok(push(parts, Part::Item(item))?)
+    say(parts, Said::Item(item))
 }
 
 fn make_contribution(parts: &mut Vec<Part<'_>>) -> Result<(), Unbuilt>
@@ -178,13 +232,28 @@ fn make_contribution(parts: &mut Vec<Part<'_>>) -> Result<(), Unbuilt>
 {
     let _semicolon = pop_token(parts)?;
     let receiver = pop_expr(parts)?;
-    let _for = pop_token(parts)?;
-    let (name, class) = take_target(parts)?;
-    let _to = pop_token(parts)?;
-    let condition = pop_perhaps(parts)?;
-    let value = pop_expr(parts)?;
-    let _word = pop_token(parts)?;
-    let contributor = pop_name(parts)?;
+    let Ok(_for) = pop_token(parts) else {
+        return Err(misfit(receiver));
+    };
+    let Ok(target) = take_target(parts) else {
+        return Err(misfit(receiver));
+    };
+    let Ok(_to) = pop_token(parts) else {
+        return Err(misfit((receiver, target)));
+    };
+    let Ok(condition) = pop_perhaps(parts) else {
+        return Err(misfit((receiver, target)));
+    };
+    let Ok(value) = pop_expr(parts) else {
+        return Err(misfit((receiver, target, condition)));
+    };
+    let Ok(_word) = pop_token(parts) else {
+        return Err(misfit((receiver, target, condition, value)));
+    };
+    let Ok(contributor) = pop_name(parts) else {
+        return Err(misfit((receiver, target, condition, value)));
+    };
+    let (name, class) = target;
     let item = Item::Contribution(Contribution {
         contributor,
         value,
@@ -193,14 +262,14 @@ fn make_contribution(parts: &mut Vec<Part<'_>>) -> Result<(), Unbuilt>
         name,
         receiver,
     });
-    Ok(push(parts, Part::Item(item))?)
+    say(parts, Said::Item(item))
 }
 
 fn make_present(parts: &mut Vec<Part<'_>>) -> Result<(), Unbuilt>
     ensures { Makes (specs.make_present (tops parts.old.items)) result (tops parts.new.items) }
 {
     let _word = pop_token(parts)?;
-    Ok(push(parts, Part::Flag(true))?)
+    say(parts, Said::Flag(true))
 }
 
 // `lazy`, and perhaps `nta`.
@@ -209,7 +278,7 @@ fn make_lazy_first(parts: &mut Vec<Part<'_>>) -> Result<(), Unbuilt>
 {
     let higher_order = pop_flag(parts)?;
     let _word = pop_token(parts)?;
-    Ok(push(parts, Part::Modifiers(true, higher_order))?)
+    say(parts, Said::Modifiers(true, higher_order))
 }
 
 // `nta`, and perhaps `lazy`.
@@ -218,7 +287,7 @@ fn make_higher_order_first(parts: &mut Vec<Part<'_>>) -> Result<(), Unbuilt>
 {
     let lazy = pop_flag(parts)?;
     let _word = pop_token(parts)?;
-    Ok(push(parts, Part::Modifiers(lazy, true))?)
+    say(parts, Said::Modifiers(lazy, true))
 }
 
 // The name of a type, by its word.
@@ -242,7 +311,7 @@ fn make_type(alloc: Global, start: Start, parts: &mut Vec<Part<'_>>) -> Result<(
         set: false,
         name: type_name_of(alloc, start, &token)?,
     };
-    Ok(push(parts, Part::Type(of))?)
+    say(parts, Said::Type(of))
 }
 
 fn make_set(alloc: Global, start: Start, parts: &mut Vec<Part<'_>>) -> Result<(), Unbuilt>
@@ -257,7 +326,7 @@ fn make_set(alloc: Global, start: Start, parts: &mut Vec<Part<'_>>) -> Result<()
         set: true,
         name: type_name_of(alloc, start, &token)?,
     };
-    Ok(push(parts, Part::Type(of))?)
+    say(parts, Said::Type(of))
 }
 
 // A type and a name.
@@ -265,7 +334,9 @@ fn take_parameter(parts: &mut Vec<Part<'_>>) -> Result<Parameter, Unbuilt>
     ensures { Takes seen_parameter (specs.parameter_on (tops parts.old.items)) result (tops parts.new.items) }
 {
     let name = pop_name(parts)?;
-    let of = pop_type(parts)?;
+    let Ok(of) = pop_type(parts) else {
+        return Err(misfit(name));
+    };
     Ok(Parameter { of, name })
 }
 
@@ -281,17 +352,21 @@ fn make_first_parameter(alloc: Global, parts: &mut Vec<Part<'_>>) -> Result<(), 
     let parameter = take_parameter(parts)?;
     let mut parameters = Vec::new(alloc);
     push_parameter(&mut parameters, parameter)?;
-    Ok(push(parts, Part::Parameters(parameters))?)
+    say(parts, Said::Parameters(parameters))
 }
 
 fn make_parameter(parts: &mut Vec<Part<'_>>) -> Result<(), Unbuilt>
     ensures { Makes (specs.make_parameter (tops parts.old.items)) result (tops parts.new.items) }
 {
     let parameter = take_parameter(parts)?;
-    let _comma = pop_token(parts)?;
-    let mut parameters = pop_parameters(parts)?;
+    let Ok(_comma) = pop_token(parts) else {
+        return Err(misfit(parameter));
+    };
+    let Ok(mut parameters) = pop_parameters(parts) else {
+        return Err(misfit(parameter));
+    };
     push_parameter(&mut parameters, parameter)?;
-    Ok(push(parts, Part::Parameters(parameters))?)
+    say(parts, Said::Parameters(parameters))
 }
 
 fn make_circular(parts: &mut Vec<Part<'_>>) -> Result<(), Unbuilt>
@@ -299,13 +374,17 @@ fn make_circular(parts: &mut Vec<Part<'_>>) -> Result<(), Unbuilt>
 {
     let _close = pop_token(parts)?;
     let bottom = pop_expr(parts)?;
-    let _open = pop_token(parts)?;
-    let (word, _) = pop_token(parts)?;
+    let Ok(_open) = pop_token(parts) else {
+        return Err(misfit(bottom));
+    };
+    let Ok((word, _)) = pop_token(parts) else {
+        return Err(misfit(bottom));
+    };
     let circular = Circular {
         place: place_of(&word),
         bottom,
     };
-    Ok(push(parts, Part::Circularity(Some(circular)))?)
+    say(parts, Said::Circularity(Some(circular)))
 }
 
 // An expression behind `=` or `when`.
@@ -313,16 +392,20 @@ fn make_body(parts: &mut Vec<Part<'_>>) -> Result<(), Unbuilt>
     ensures { Makes (specs.make_body (tops parts.old.items)) result (tops parts.new.items) }
 {
     let expr = pop_expr(parts)?;
-    let _word = pop_token(parts)?;
-    Ok(push(parts, Part::Perhaps(Some(expr)))?)
+    let Ok(_word) = pop_token(parts) else {
+        return Err(misfit(expr));
+    };
+    say(parts, Said::Perhaps(Some(expr)))
 }
 
 fn make_path(parts: &mut Vec<Part<'_>>) -> Result<(), Unbuilt>
     ensures { Makes (specs.make_path (tops parts.old.items)) result (tops parts.new.items) }
 {
     let signature = take_signature(parts)?;
-    let _dot = pop_token(parts)?;
-    Ok(push(parts, Part::Behind(Some(signature)))?)
+    let Ok(_dot) = pop_token(parts) else {
+        return Err(misfit(signature));
+    };
+    say(parts, Said::Behind(Some(signature)))
 }
 
 // A name behind `with` or `root`.
@@ -330,8 +413,10 @@ fn make_named(parts: &mut Vec<Part<'_>>) -> Result<(), Unbuilt>
     ensures { Makes (specs.make_named (tops parts.old.items)) result (tops parts.new.items) }
 {
     let name = pop_name(parts)?;
-    let _word = pop_token(parts)?;
-    Ok(push(parts, Part::PerhapsNamed(Some(name)))?)
+    let Ok(_word) = pop_token(parts) else {
+        return Err(misfit(name));
+    };
+    say(parts, Said::PerhapsNamed(Some(name)))
 }
 
 // The form of a part of an item, or of an expression.
@@ -344,21 +429,21 @@ fn make_detail(
     ensures { Makes (specs.make_detail start form (tops parts.old.items)) result (tops parts.new.items) }
 {
     match form {
-        events::NO_ARGUMENTS => Ok(push(parts, Part::Arguments(Vec::new(alloc)))?),
+        events::NO_ARGUMENTS => say(parts, Said::Arguments(Vec::new(alloc))),
         events::FIRST_ARGUMENT => make_first_argument(alloc, parts),
         events::ARGUMENT => make_argument(parts),
         events::PRESENT => make_present(parts),
-        events::ABSENT => Ok(push(parts, Part::Flag(false))?),
-        events::NO_MODIFIERS => Ok(push(parts, Part::Modifiers(false, false))?),
+        events::ABSENT => say(parts, Said::Flag(false)),
+        events::NO_MODIFIERS => say(parts, Said::Modifiers(false, false)),
         events::LAZY_FIRST => make_lazy_first(parts),
         events::HIGHER_ORDER_FIRST => make_higher_order_first(parts),
         events::TYPE => make_type(alloc, start, parts),
         events::SET => make_set(alloc, start, parts),
-        events::NO_PARAMETERS => Ok(push(parts, Part::Parameters(Vec::new(alloc)))?),
+        events::NO_PARAMETERS => say(parts, Said::Parameters(Vec::new(alloc))),
         events::FIRST_PARAMETER => make_first_parameter(alloc, parts),
         events::PARAMETER => make_parameter(parts),
         events::CIRCULAR => make_circular(parts),
-        events::NOT_CIRCULAR => Ok(push(parts, Part::Circularity(None))?),
+        events::NOT_CIRCULAR => say(parts, Said::Circularity(None)),
         _ => make_expression(alloc, start, form, parts),
     }
 }
@@ -374,11 +459,11 @@ fn make_optional(
 {
     match form {
         events::BODY | events::CONDITION => make_body(parts),
-        events::NO_BODY | events::NO_CONDITION => Ok(push(parts, Part::Perhaps(None))?),
+        events::NO_BODY | events::NO_CONDITION => say(parts, Said::Perhaps(None)),
         events::PATH => make_path(parts),
-        events::NO_PATH => Ok(push(parts, Part::Behind(None))?),
+        events::NO_PATH => say(parts, Said::Behind(None)),
         events::METHOD | events::ROOT => make_named(parts),
-        events::NO_METHOD | events::NO_ROOT => Ok(push(parts, Part::PerhapsNamed(None))?),
+        events::NO_METHOD | events::NO_ROOT => say(parts, Said::PerhapsNamed(None)),
         _ => make_detail(alloc, start, form, parts),
     }
 }
@@ -394,7 +479,7 @@ pub(crate) fn make(
 {
     match form {
         events::BEGIN | events::END => Ok(()),
-        events::NO_ITEMS => Ok(push(parts, Part::Items(Vec::new(alloc)))?),
+        events::NO_ITEMS => say(parts, Said::Items(Vec::new(alloc))),
         events::OPEN => make_open(parts),
         events::ITEM => make_item(parts),
         events::CLOSE => make_close(parts),

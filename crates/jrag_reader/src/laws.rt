@@ -4,8 +4,8 @@ ghost use Rattle.broken_rules.specs.declared.broken.Broken.{Broken as BrokenRule
 ghost use Rattle.rag_io.specs.Tokens.{Lexed};
 ghost use Rattle.jrag_syntax.specs.declared.classes.Start.{Start};
 ghost use Rattle.jrag_syntax.specs.declared.classes.Start.TheVariants.{File, Expression};
-ghost use Rattle.jrag_reader.specs.Expressions.{Expr};
-ghost use Rattle.jrag_reader.specs.Items.{Item};
+ghost use Rattle.aspect_items.specs.Expressions.{Expr};
+ghost use Rattle.aspect_items.specs.Items.{Item};
 ghost use Rattle.jrag_reader.specs.Reading.{IsFirstBroken, SaysExpr, SaysItems};
 
 /// With a pool of texts, some tokens say one list of items or one expression at most, or have one first broken rule at most, and not both:

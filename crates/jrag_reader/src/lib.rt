@@ -1,26 +1,20 @@
 //! The reader of aspects and of single expressions.
 #![tactic(auto)]
 
-mod aspects;
 mod building;
-mod built_forms;
 mod classes;
 mod events;
-mod expression;
 mod expression_forms;
+mod from_bytes;
 mod item_forms;
-mod items;
 mod laws;
-mod limits;
 mod parts;
 mod reading;
 
-pub use aspects::Aspects;
-pub use built_forms::built;
-pub use expression::{Expr, Name, Operator, Quantifier};
-pub use items::{
-    Circular, Collection, Contribution, Equation, Inherited, Item, Parameter, Signature,
-    Synthesized, Type, TypeName,
+pub use aspect_items::{
+    Aspects, Circular, Collection, Contribution, Equation, Expr, Inherited, Item, Name, Operator,
+    Parameter, Quantifier, Signature, Synthesized, Type, TypeName,
 };
+pub use from_bytes::read_jrag_bytes;
 pub use laws::one_reading;
 pub use reading::{read_expr, read_jrag};

@@ -1,23 +1,27 @@
 // Parts of what is read, on a stack: what the last tokens say.
-ghost use Rattle.std.specs.Prelude.{◌≡◌, ◌∷◌, IfOk, map};
+ghost use Rattle.std.specs.Prelude.{◌≡◌, ◌∷◌, IfOk, Some, map};
 ghost use Rattle.std.specs.Option.{option_and_then, option_map};
 ghost use Rattle.jrag_reader.specs.declared.parts.Unbuilt.TheVariants.{Memory as OutOfMemory};
-ghost use Rattle.jrag_reader.specs.Expressions.{seen_expr, seen_name};
-ghost use Rattle.jrag_reader.specs.Items.{seen_circular, seen_item, seen_parameter, seen_signature, seen_type};
+ghost use Rattle.aspect_items.specs.Expressions.{seen_expr, seen_name};
+ghost use Rattle.aspect_items.specs.Items.{seen_circular, seen_item, seen_parameter, seen_signature, seen_type};
 ghost use Rattle.jrag_reader.specs.Parts as specs;
 ghost use Rattle.jrag_reader.specs.Parts.{top};
-ghost use Rattle.jrag_reader.specs.Stack.{Takes, seen_part, seen_quantifier, seen_token_and_code, tops};
+ghost use Rattle.jrag_reader.specs.Stack.{Makes, Takes, seen_part, seen_quantifier, seen_said, seen_token_and_code, tops};
 
-use crate::expression::{Expr, Name, Quantifier};
-use crate::items::{Circular, Item, Parameter, Signature, Type};
+use aspect_items::{Circular, Expr, Item, Name, Parameter, Quantifier, Signature, Type};
 use rag_io::{Memory, Token};
-use std::alloc::AllocFailed;
 
 /// What some tokens side by side say.
 #[derive(Drop)]
 pub(crate) enum Part<'a> {
     /// A token, and the number of its text in the pool if it is one.
     Token(Token<'a>, u32),
+    Said(Said),
+}
+
+/// What they say where they are no token alone.
+#[derive(Drop)]
+pub(crate) enum Said {
     Name(Name),
     /// A name that is also the word of a quantifier.
     Quantifier(Quantifier, Name),
@@ -60,15 +64,22 @@ impl From<Memory> for Unbuilt {
     }
 }
 
-// What is answered where a part isn't the one that is asked for. It takes the part whole.
-fn misfit(_other: Option<Part<'_>>) -> Unbuilt
+/// What is answered where a part isn't the one that is asked for. It takes what was taken so far.
+pub(crate) fn misfit<T: Drop>(_taken: T) -> Unbuilt
     ensures { result ≡ Unbuilt.Misfit }
 {
     Unbuilt::Misfit
 }
 
+/// What is answered where there was no memory. It takes what was taken so far.
+pub(crate) fn no_memory<T: Drop>(_taken: T) -> Unbuilt
+    ensures { result ≡ Unbuilt.Memory }
+{
+    Unbuilt::Memory
+}
+
 // There was no memory for a part.
-fn unpushed_memory(_unpushed: AllocFailed<Part<'_>>) -> Memory {
+fn unpushed_memory<T: Drop>(_unpushed: T) -> Memory {
     Memory
 }
 
@@ -78,6 +89,16 @@ pub(crate) fn push<'a>(parts: &mut Vec<Part<'a>>, part: Part<'a>) -> Result<(), 
     match parts.push(part) {
         Ok(()) => Ok(()),
         Err(unpushed) => Err(unpushed_memory(unpushed)),
+    }
+}
+
+/// Puts what is made onto the parts.
+pub(crate) fn say(parts: &mut Vec<Part<'_>>, said: Said) -> Result<(), Unbuilt>
+    ensures { Makes (Some (seen_said said ∷ tops parts.old.items)) result (tops parts.new.items) }
+{
+    match push(parts, Part::Said(said)) {
+        Ok(()) => Ok(()),
+        Err(_) => Err(Unbuilt::Memory),
     }
 }
 
@@ -102,7 +123,7 @@ pub(crate) fn pop_name(parts: &mut Vec<Part<'_>>) -> Result<Name, Unbuilt>
     ensures { Takes seen_name (top specs.name_in (tops parts.old.items)) result (tops parts.new.items) }
 {
     match parts.pop() {
-        Some(Part::Name(name) | Part::Quantifier(_, name)) => Ok(name),
+        Some(Part::Said(Said::Name(name) | Said::Quantifier(_, name))) => Ok(name),
         other => Err(misfit(other)),
     }
 }
@@ -111,7 +132,7 @@ pub(crate) fn pop_quantifier(parts: &mut Vec<Part<'_>>) -> Result<(Quantifier, N
     ensures { Takes seen_quantifier (top specs.quantifier_in (tops parts.old.items)) result (tops parts.new.items) }
 {
     match parts.pop() {
-        Some(Part::Quantifier(quantifier, name)) => Ok((quantifier, name)),
+        Some(Part::Said(Said::Quantifier(quantifier, name))) => Ok((quantifier, name)),
         other => Err(misfit(other)),
     }
 }
@@ -121,8 +142,8 @@ pub(crate) fn pop_expr(parts: &mut Vec<Part<'_>>) -> Result<Expr, Unbuilt>
     ensures { Takes seen_expr (top specs.expr_in (tops parts.old.items)) result (tops parts.new.items) }
 {
     match parts.pop() {
-        Some(Part::Expr(expr)) => Ok(expr),
-        Some(Part::Name(name) | Part::Quantifier(_, name)) => Ok(Expr::Variable(name)),
+        Some(Part::Said(Said::Expr(expr))) => Ok(expr),
+        Some(Part::Said(Said::Name(name) | Said::Quantifier(_, name))) => Ok(Expr::Variable(name)),
         other => Err(misfit(other)),
     }
 }
@@ -131,7 +152,7 @@ pub(crate) fn pop_arguments(parts: &mut Vec<Part<'_>>) -> Result<Vec<Expr>, Unbu
     ensures { Takes (λ v. map seen_expr v.items) (top specs.arguments_in (tops parts.old.items)) result (tops parts.new.items) }
 {
     match parts.pop() {
-        Some(Part::Arguments(arguments)) => Ok(arguments),
+        Some(Part::Said(Said::Arguments(arguments))) => Ok(arguments),
         other => Err(misfit(other)),
     }
 }
@@ -140,7 +161,7 @@ pub(crate) fn pop_type(parts: &mut Vec<Part<'_>>) -> Result<Type, Unbuilt>
     ensures { Takes seen_type (top specs.type_in (tops parts.old.items)) result (tops parts.new.items) }
 {
     match parts.pop() {
-        Some(Part::Type(of)) => Ok(of),
+        Some(Part::Said(Said::Type(of))) => Ok(of),
         other => Err(misfit(other)),
     }
 }
@@ -149,7 +170,7 @@ pub(crate) fn pop_parameters(parts: &mut Vec<Part<'_>>) -> Result<Vec<Parameter>
     ensures { Takes (λ v. map seen_parameter v.items) (top specs.parameters_in (tops parts.old.items)) result (tops parts.new.items) }
 {
     match parts.pop() {
-        Some(Part::Parameters(parameters)) => Ok(parameters),
+        Some(Part::Said(Said::Parameters(parameters))) => Ok(parameters),
         other => Err(misfit(other)),
     }
 }
@@ -166,7 +187,7 @@ fn flag_in(popped: &Option<Part<'_>>) -> Option<bool>
     ensures { result ≡ option_and_then specs.flag_in (option_map seen_part popped.now) }
 {
     match popped {
-        Some(Part::Flag(there)) => Some(*there),
+        Some(Part::Said(Said::Flag(there))) => Some(*there),
         _ => None,
     }
 }
@@ -183,7 +204,7 @@ fn modifiers_in(popped: &Option<Part<'_>>) -> Option<(bool, bool)>
     ensures { result ≡ option_and_then specs.modifiers_in (option_map seen_part popped.now) }
 {
     match popped {
-        Some(Part::Modifiers(lazy, higher_order)) => Some((*lazy, *higher_order)),
+        Some(Part::Said(Said::Modifiers(lazy, higher_order))) => Some((*lazy, *higher_order)),
         _ => None,
     }
 }
@@ -192,7 +213,7 @@ pub(crate) fn pop_circularity(parts: &mut Vec<Part<'_>>) -> Result<Option<Circul
     ensures { Takes (option_map seen_circular) (top specs.circularity_in (tops parts.old.items)) result (tops parts.new.items) }
 {
     match parts.pop() {
-        Some(Part::Circularity(circular)) => Ok(circular),
+        Some(Part::Said(Said::Circularity(circular))) => Ok(circular),
         other => Err(misfit(other)),
     }
 }
@@ -201,7 +222,7 @@ pub(crate) fn pop_perhaps(parts: &mut Vec<Part<'_>>) -> Result<Option<Expr>, Unb
     ensures { Takes (option_map seen_expr) (top specs.perhaps_in (tops parts.old.items)) result (tops parts.new.items) }
 {
     match parts.pop() {
-        Some(Part::Perhaps(expr)) => Ok(expr),
+        Some(Part::Said(Said::Perhaps(expr))) => Ok(expr),
         other => Err(misfit(other)),
     }
 }
@@ -210,7 +231,7 @@ pub(crate) fn pop_behind(parts: &mut Vec<Part<'_>>) -> Result<Option<Signature>,
     ensures { Takes (option_map seen_signature) (top specs.behind_in (tops parts.old.items)) result (tops parts.new.items) }
 {
     match parts.pop() {
-        Some(Part::Behind(inherited)) => Ok(inherited),
+        Some(Part::Said(Said::Behind(inherited))) => Ok(inherited),
         other => Err(misfit(other)),
     }
 }
@@ -219,7 +240,7 @@ pub(crate) fn pop_perhaps_named(parts: &mut Vec<Part<'_>>) -> Result<Option<Name
     ensures { Takes (option_map seen_name) (top specs.perhaps_named_in (tops parts.old.items)) result (tops parts.new.items) }
 {
     match parts.pop() {
-        Some(Part::PerhapsNamed(name)) => Ok(name),
+        Some(Part::Said(Said::PerhapsNamed(name))) => Ok(name),
         other => Err(misfit(other)),
     }
 }
@@ -228,7 +249,7 @@ pub(crate) fn pop_item(parts: &mut Vec<Part<'_>>) -> Result<Item, Unbuilt>
     ensures { Takes seen_item (top specs.item_in (tops parts.old.items)) result (tops parts.new.items) }
 {
     match parts.pop() {
-        Some(Part::Item(item)) => Ok(item),
+        Some(Part::Said(Said::Item(item))) => Ok(item),
         other => Err(misfit(other)),
     }
 }
@@ -237,7 +258,7 @@ pub(crate) fn pop_items(parts: &mut Vec<Part<'_>>) -> Result<Vec<Item>, Unbuilt>
     ensures { Takes (λ v. map seen_item v.items) (top specs.items_in (tops parts.old.items)) result (tops parts.new.items) }
 {
     match parts.pop() {
-        Some(Part::Items(items)) => Ok(items),
+        Some(Part::Said(Said::Items(items))) => Ok(items),
         other => Err(misfit(other)),
     }
 }
@@ -246,7 +267,7 @@ pub(crate) fn pop_opened(parts: &mut Vec<Part<'_>>) -> Result<Vec<Item>, Unbuilt
     ensures { Takes (λ v. map seen_item v.items) (top specs.opened_in (tops parts.old.items)) result (tops parts.new.items) }
 {
     match parts.pop() {
-        Some(Part::Opened(items)) => Ok(items),
+        Some(Part::Said(Said::Opened(items))) => Ok(items),
         other => Err(misfit(other)),
     }
 }

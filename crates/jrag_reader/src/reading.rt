@@ -5,12 +5,11 @@ ghost use Rattle.jrag_syntax.specs.Reading.{SaysEvents, StopsWith};
 ghost use Rattle.token_texts.specs.Texts.{Extends, pooled_texts};
 ghost use Rattle.jrag_reader.specs.Answers.{AnswersItems, AnswersExpr, ReadsParts, IsRefusal};
 
-use crate::aspects::Aspects;
 use crate::building::build;
 use crate::events;
-use crate::expression::Expr;
-use crate::limits::note_long;
 use crate::parts::{Part, pop_expr, pop_items, pop_token};
+use aspect_items::{Aspects, Expr};
+use aspect_limits::note_long;
 use broken_rules::{Broken, Earliest, ReadFault, Rule};
 use jrag_syntax::{Start, push_events};
 use rag_io::{Memory, Pool, Token};

@@ -7,4 +7,4 @@ pub returns : goal.returns
 returns c =
     making seen_token_and_code (top token_in (tops c.args.parts.now.items)) _
     (c.in_ok-token.token, c.in_ok-token.field-0-1) (tops c.pop_token.new.parts.items) _ _ c.in_ok-token.ensures
-    (rw (← c.class_of.ensures, ← c.quantifier_of-quantifier.ensures, ← c.in_ok-name.ensures, ← c.named.ensures) c.in_ok-push.ensures)
+    (rw (← c.class_of.ensures, ← c.quantifier_of-quantifier.ensures, ← c.in_ok-name.ensures, ← c.named.ensures) c.say.ensures)

@@ -11,4 +11,4 @@ returns c =
     (making seen_token_and_code (top token_in (tops c.pop_token-2.new.parts.items)) _ c.in_ok-_open._open (tops c.pop_token-3.new.parts.items) _ _ c.in_ok-_open.ensures
     (making seen_token_and_code (top token_in (tops c.pop_token-3.new.parts.items)) _
     (c.in_ok-word.word, c.in_ok-word.field-0-1) (tops c.pop_token-4.new.parts.items) _ _ c.in_ok-word.ensures
-    (rw (← c.in_ok-type_name_of.ensures, ← c.place_of.ensures) c.in_ok-push.ensures))))
+    (rw (← c.in_ok-type_name_of.ensures, ← c.place_of.ensures) c.say.ensures))))
