@@ -4,15 +4,15 @@ use Rattle.std.proofs.lemmas.List.{length-map}
 use Rattle.ast_grammar.specs.Grammar.{Class, IsGrammar}
 use Rattle.broken_rules.specs.Answers.{Answers}
 use Rattle.broken_rules.proofs.Clean.{phase_none}
-use Rattle.jrag_reader.specs.Built.{all_built}
-use Rattle.jrag_reader.specs.Items.{Item}
-use Rattle.attr_types.specs.Heads.{attribute_of, attributes_of}
+use Rattle.built_forms.specs.Built.{all_built}
+use Rattle.aspect_items.specs.Items.{Item}
+use Rattle.attr_heads.specs.Heads.{attribute_of, attributes_of}
 use Rattle.attr_types.specs.Phases.{phases_of, rules_of}
 use Rattle.attr_rules.specs.Rules.{AreRules}
-use Rattle.attr_types.specs.Written.{declarations}
+use Rattle.attr_scope.specs.Written.{declarations}
 use Rattle.attr_types.proofs.CompleteClean.{complete_rules, covered_rules}
-use Rattle.attr_types.proofs.DeclaredClean.{declared_attributes, few_declared}
-use Rattle.attr_types.proofs.AlikeClean.{alike}
+use Rattle.attr_heads.proofs.DeclaredClean.{declared_attributes, few_declared}
+use Rattle.attr_heads.proofs.AlikeClean.{alike}
 use Rattle.attr_types.proofs.EquationsClean.{equations_there}
 
 pub accepted : (g : List Class) (items : List Item) → IsGrammar g → all_built items ≡ true → Answers (phases_of g items) None → AreRules g (rules_of g items)

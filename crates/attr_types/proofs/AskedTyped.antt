@@ -12,12 +12,12 @@ use Rattle.attr_rules.specs.Rules.{RuleSet}
 use Rattle.attr_rules.specs.Types.{kept_kind}
 use Rattle.attr_rules.specs.Typing as typing
 use Rattle.attr_rules.specs.Typing.{Fit, HasType, Names}
-use Rattle.attr_types.specs.declared.scope.Member.{Member}
+use Rattle.attr_scope.specs.declared.scope.Member.{Member}
 use Rattle.attr_types.specs.Asked.{query_for, query_named, query_with, scope_in}
-use Rattle.attr_types.specs.Scope.{arguments_wanted, member_of, type_called}
-use Rattle.attr_types.specs.ScopeKept.{IsScope}
-use Rattle.attr_types.proofs.ListsTyped.{no_list}
-use Rattle.attr_types.proofs.MembersTyped.{member_found, member_says, names_at}
+use Rattle.attr_scope.specs.Scope.{arguments_wanted, member_of, type_called}
+use Rattle.attr_scope.specs.ScopeKept.{IsScope}
+use Rattle.expr_typing.proofs.ListsTyped.{no_list}
+use Rattle.expr_typing.proofs.MembersTyped.{member_found, member_says, names_at}
 
 -- a query is typed, and kept at its type
 pub record IsAsked (N : Names) (q : Query) : Type 0 where

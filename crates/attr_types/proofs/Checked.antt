@@ -1,33 +1,36 @@
 -- What a check of aspects says, by what its phases gave.
 use Rattle.std.proofs.Common.{◌≡◌, ℕ, All, List, [], ◌∷◌, map, length, Option, None, sym, ap, subst, ◌∙◌}
+use Rattle.std.specs.Prelude.{Result, IfOk}
+use Rattle.std.proofs.lemmas.Result.{IfOk-weaker}
 use Rattle.std.proofs.lemmas.Simd.{map-map}
-use Rattle.rag_io.specs.declared.token.Place.{Place}
 use Rattle.ast_grammar.specs.Grammar.{Class, superclasses_of}
 use Rattle.broken_rules.specs.declared.broken.Broken.{Broken}
 use Rattle.broken_rules.specs.declared.broken.ReadFault.{ReadFault}
-use Rattle.broken_rules.specs.Answers.{Answers, clean, Refuses, Stops}
+use Rattle.broken_rules.specs.Answers.{Answers, Says, clean, Refuses, Stops}
 use Rattle.broken_rules.specs.Order.{first_of}
 use Rattle.broken_rules.proofs.Answering.{passes_if}
 use Rattle.broken_rules.proofs.Exits.{refuses_here, refuses_later}
 use Rattle.broken_rules.proofs.Order.{none_is}
-use Rattle.jrag_reader.specs.declared.aspects.Aspects as memory
-use Rattle.jrag_reader.specs.declared.items.Item as memory_item
-use Rattle.jrag_reader.specs.Items.{Item, seen_aspects, seen_item}
+use Rattle.aspect_items.specs.declared.aspects.Aspects as memory
+use Rattle.aspect_items.specs.declared.items.Item as memory_item
+use Rattle.aspect_items.specs.Items.{Item, seen_aspects, seen_item}
 use Rattle.attr_rules.specs.declared.dispatch.Dispatch.{Dispatch}
 use Rattle.attr_rules.specs.declared.dispatch.Target.{Target}
 use Rattle.attr_rules.specs.declared.rules.KeptEquation.{KeptEquation}
-use Rattle.attr_types.specs.declared.written.Given as kept_given
-use Rattle.attr_types.specs.declared.written.Head as kept_head
-use Rattle.attr_types.specs.Completeness.{complete_broken, places_of}
+use Rattle.attr_rules.specs.declared.rules.Rules.{Rules}
+use Rattle.attr_rules.specs.Kept.{rules_in}
+use Rattle.attr_scope.specs.declared.written.Given as kept_given
+use Rattle.attr_scope.specs.declared.written.Head as kept_head
+use Rattle.attr_coverage.specs.Completeness.{complete_broken, places_of}
 use Rattle.attr_rules.specs.Dispatching.{Dispatches, IsTarget}
-use Rattle.attr_types.specs.Heads.{attributes_of, heads_broken}
+use Rattle.attr_heads.specs.Heads.{attributes_of, heads_broken}
 use Rattle.attr_rules.specs.KeptEquations.{equation_in, kept_target}
-use Rattle.attr_types.specs.Phases.{bodies_broken, equation_of, phases_of, rules_of}
+use Rattle.attr_types.specs.Phases.{bodies_broken, equation_of, phases_of, phases_over, rules_of, rules_over}
 use Rattle.attr_rules.specs.Rules.{Attribute, AttributeSet, Equation, RuleSet}
-use Rattle.attr_types.specs.Seen.{seen_given, seen_head}
-use Rattle.attr_types.specs.Targets.{targets_broken, targets_of}
-use Rattle.attr_types.specs.Written.{Given, Head, declarations, givens}
-use Rattle.attr_types.proofs.TargetsClean.{targets_within}
+use Rattle.attr_scope.specs.Seen.{seen_given, seen_head}
+use Rattle.attr_heads.specs.Targets.{targets_broken, targets_of}
+use Rattle.attr_scope.specs.Written.{Given, Head, declarations, givens}
+use Rattle.attr_heads.proofs.TargetsClean.{targets_within}
 
 -- the same list of broken rules
 as_well : {bs cs : List Broken} → bs ≡ cs → first_of bs ≡ None → first_of cs ≡ None
@@ -36,77 +39,59 @@ as_well is h = ap first_of (sym is) ∙ h
 stops_too : {bs cs : List Broken} (e : ReadFault) → bs ≡ cs → Stops bs e → Stops cs e
 stops_too e is h = subst (λ bs. Stops bs e) is h
 
-module _ (g : List Class) (items : List Item) where
-  -- what the items say
-  abbrev pub all_heads : List Head
-  all_heads = declarations items
-
-  abbrev pub all_attributes : List Attribute
-  all_attributes = attributes_of g all_heads
-
-  abbrev pub all_givens : List Given
-  all_givens = givens items
-
-  abbrev pub all_targets : List Target
-  all_targets = targets_of g all_attributes all_givens
-
+module _ (g : List Class) (hs : List Head) (es : List Given) where
   -- the lists of the phases
   abbrev first_list : List Broken
-  first_list = heads_broken g all_heads
+  first_list = heads_broken g hs
 
   abbrev second_list : List Broken
-  second_list = targets_broken g all_attributes all_givens
+  second_list = targets_broken g (attributes_of g hs) es
 
   abbrev third_list : List Broken
-  third_list = complete_broken g all_attributes all_targets (places_of all_heads)
+  third_list = complete_broken g (attributes_of g hs) (targets_of g (attributes_of g hs) es) (places_of hs)
 
   abbrev fourth_list : List Broken
-  fourth_list = bodies_broken g all_attributes all_givens
+  fourth_list = bodies_broken g (attributes_of g hs) es
 
-  pub first_is : {hs : List Head} → hs ≡ all_heads → heads_broken g hs ≡ first_list
-  first_is heads = ap (heads_broken g) heads
+  pub second_is : {attributes : List Attribute} → attributes ≡ attributes_of g hs → targets_broken g attributes es ≡ second_list
+  second_is attributes = ap (λ (a : List Attribute). targets_broken g a es) attributes
 
-  pub second_is : {attributes : List Attribute} {es : List Given} → attributes ≡ all_attributes → es ≡ all_givens → targets_broken g attributes es ≡ second_list
-  second_is attributes es = (λ i. targets_broken g (attributes i) (es i))
+  pub third_is : {attributes : List Attribute} {ts : List Target} → attributes ≡ attributes_of g hs → ts ≡ targets_of g (attributes_of g hs) es → complete_broken g attributes ts (places_of hs) ≡ third_list
+  third_is attributes ts = (λ i. complete_broken g (attributes i) (ts i) (places_of hs))
 
-  pub third_is : {attributes : List Attribute} {ts : List Target} {hs : List Head} {places : List Place} → attributes ≡ all_attributes → ts ≡ all_targets → hs ≡ all_heads → places ≡ places_of hs → complete_broken g attributes ts places ≡ third_list
-  third_is attributes ts hs places = (λ i. complete_broken g (attributes i) (ts i) ((places ∙ ap places_of hs) i))
-
-  pub fourth_is : {attributes : List Attribute} {es : List Given} → attributes ≡ all_attributes → es ≡ all_givens → bodies_broken g attributes es ≡ fourth_list
-  fourth_is attributes es = (λ i. bodies_broken g (attributes i) (es i))
+  pub fourth_is : {attributes : List Attribute} → attributes ≡ attributes_of g hs → bodies_broken g attributes es ≡ fourth_list
+  fourth_is attributes = ap (λ (a : List Attribute). bodies_broken g a es) attributes
 
   -- a phase stops behind others that passed
-  module _ (e : ReadFault) {ps : List Broken} (one : ps ≡ first_list) where
-    pub first_stops : Stops ps e → Refuses (phases_of g items) e
-    first_stops h = refuses_here first_list (second_list ∷ third_list ∷ fourth_list ∷ []) e (stops_too e one h)
+  module _ (e : ReadFault) where
+    pub first_stops : Stops first_list e → Refuses (phases_over g hs es) e
+    first_stops h = refuses_here first_list (second_list ∷ third_list ∷ fourth_list ∷ []) e h
 
-    behind_one : first_of ps ≡ None → Refuses (second_list ∷ third_list ∷ fourth_list ∷ []) e → Refuses (phases_of g items) e
-    behind_one first h = refuses_later first_list (second_list ∷ third_list ∷ fourth_list ∷ []) e (as_well one first) h
+    behind_one : first_of first_list ≡ None → Refuses (second_list ∷ third_list ∷ fourth_list ∷ []) e → Refuses (phases_over g hs es) e
+    behind_one first h = refuses_later first_list (second_list ∷ third_list ∷ fourth_list ∷ []) e first h
 
-    pub second_stops : {qs : List Broken} → qs ≡ second_list → first_of ps ≡ None → Stops qs e → Refuses (phases_of g items) e
+    pub second_stops : {qs : List Broken} → qs ≡ second_list → first_of first_list ≡ None → Stops qs e → Refuses (phases_over g hs es) e
     second_stops two first h = behind_one first (refuses_here second_list (third_list ∷ fourth_list ∷ []) e (stops_too e two h))
 
-    behind_two : {qs : List Broken} → qs ≡ second_list → first_of ps ≡ None → first_of qs ≡ None → Refuses (third_list ∷ fourth_list ∷ []) e → Refuses (phases_of g items) e
+    behind_two : {qs : List Broken} → qs ≡ second_list → first_of first_list ≡ None → first_of qs ≡ None → Refuses (third_list ∷ fourth_list ∷ []) e → Refuses (phases_over g hs es) e
     behind_two two first second h = behind_one first (refuses_later second_list (third_list ∷ fourth_list ∷ []) e (as_well two second) h)
 
-    pub third_stops : {qs rs : List Broken} → qs ≡ second_list → rs ≡ third_list → first_of ps ≡ None → first_of qs ≡ None → Stops rs e → Refuses (phases_of g items) e
+    pub third_stops : {qs rs : List Broken} → qs ≡ second_list → rs ≡ third_list → first_of first_list ≡ None → first_of qs ≡ None → Stops rs e → Refuses (phases_over g hs es) e
     third_stops two three first second h = behind_two two first second (refuses_here third_list (fourth_list ∷ []) e (stops_too e three h))
 
-    pub fourth_stops : {qs rs ss : List Broken} → qs ≡ second_list → rs ≡ third_list → ss ≡ fourth_list → first_of ps ≡ None → first_of qs ≡ None → first_of rs ≡ None → Stops ss e → Refuses (phases_of g items) e
+    pub fourth_stops : {qs rs ss : List Broken} → qs ≡ second_list → rs ≡ third_list → ss ≡ fourth_list → first_of first_list ≡ None → first_of qs ≡ None → first_of rs ≡ None → Stops ss e → Refuses (phases_over g hs es) e
     fourth_stops two three four first second third h =
         behind_two two first second (refuses_later third_list (fourth_list ∷ []) e (as_well three third) (refuses_here fourth_list [] e (stops_too e four h)))
 
   -- all passed
-  pub none_broken : {ps qs rs ss : List Broken} → ps ≡ first_list → qs ≡ second_list → rs ≡ third_list → ss ≡ fourth_list → first_of ps ≡ None → first_of qs ≡ None → first_of rs ≡ None → first_of ss ≡ None
-      → Answers (phases_of g items) None
-  none_broken one two three four first second third fourth = passes_if (as_well one first) (passes_if (as_well two second) (passes_if (as_well three third) (passes_if (as_well four fourth) clean)))
+  pub none_broken : {qs rs ss : List Broken} → qs ≡ second_list → rs ≡ third_list → ss ≡ fourth_list → first_of first_list ≡ None → first_of qs ≡ None → first_of rs ≡ None → first_of ss ≡ None → Answers (phases_over g hs es) None
+  none_broken two three four first second third fourth = passes_if first (passes_if (as_well two second) (passes_if (as_well three third) (passes_if (as_well four fourth) clean)))
 
   -- the rules
-  pub rules_made : {kept : RuleSet} {attributes : AttributeSet} (list : List KeptEquation) {es : List Given} → kept ≡ record { superclasses = attributes.superclasses; attributes = attributes.attributes; equations = map equation_in list }
-      → attributes ≡ record { superclasses = superclasses_of g; attributes = all_attributes } → es ≡ all_givens → map equation_in list ≡ map (equation_of g attributes.attributes) es → kept ≡ rules_of g items
-  unfolding rules_of
-  rules_made {kept} {attributes} list {es} is known given bodies =
-      is ∙ (λ i. record { superclasses = (known i).superclasses; attributes = (known i).attributes; equations = (bodies ∙ (λ j. map (equation_of g (known j).attributes) (given j))) i })
+  pub rules_made : {kept : RuleSet} {attributes : AttributeSet} (list : List KeptEquation) → kept ≡ record { superclasses = attributes.superclasses; attributes = attributes.attributes; equations = map equation_in list }
+      → attributes ≡ record { superclasses = superclasses_of g; attributes = attributes_of g hs } → map equation_in list ≡ map (equation_of g attributes.attributes) es → kept ≡ rules_over g hs es
+  rules_made {kept} {attributes} list is known bodies =
+      is ∙ (λ i. record { superclasses = (known i).superclasses; attributes = (known i).attributes; equations = (bodies ∙ (λ j. map (equation_of g (known j).attributes) es)) i })
 
 -- what was read of the items, through copies of the lists
 pub heads_read : (aspects : memory.Aspects) {items : List memory_item.Item} {list heads : List kept_head.Head}
@@ -115,6 +100,18 @@ heads_read aspects copied are copied_again = ap (map seen_head) copied_again ∙
 
 pub givens_read : (aspects : memory.Aspects) {items : List memory_item.Item} {list given : List kept_given.Given} → items ≡ aspects.items.items → map seen_given list ≡ givens (map seen_item items) → given ≡ list → map seen_given given ≡ givens (seen_aspects aspects)
 givens_read aspects copied are copied_again = ap (map seen_given) copied_again ∙ are ∙ ap (λ items. givens (map seen_item items)) copied
+
+-- what holds of what the items declare and give
+module _ (g : List Class) (items : List Item) {hs : List Head} {es : List Given} (heads : hs ≡ declarations items) (given : es ≡ givens items) where
+  pub says_so : {T : Type 0} (r : Result T ReadFault) → Says (phases_over g hs es) r → Says (phases_of g items) r
+  says_so r h = subst (λ (x : Type 0). x) (λ i. Says (phases_over g (heads i) (given i)) r) h
+
+  rules_so : {kept : RuleSet} → kept ≡ rules_over g hs es → kept ≡ rules_of g items
+  unfolding rules_of
+  rules_so is = is ∙ (λ i. rules_over g (heads i) (given i))
+
+  pub rules_if : (r : Result Rules ReadFault) → IfOk r (λ rules. rules_in rules ≡ rules_over g hs es) → IfOk r (λ rules. rules_in rules ≡ rules_of g items)
+  rules_if r h = IfOk-weaker r (λ rules. rules_in rules ≡ rules_over g hs es) (λ rules. rules_in rules ≡ rules_of g items) (λ rules is. rules_so is) h
 
 -- what the equations are for
 pub kept_targets : (g : List Class) (attributes : List Attribute) (list : List KeptEquation) (es : List Given) → map equation_in list ≡ map (equation_of g attributes) es → map kept_target list ≡ targets_of g attributes es

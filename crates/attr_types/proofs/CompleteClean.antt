@@ -12,17 +12,18 @@ use Rattle.ast_grammar.specs.Grammar.{Class, is_sub, superclasses_of}
 use Rattle.attr_rules.specs.declared.dispatch.Target.{Target}
 use Rattle.attr_rules.specs.declared.kinds.Attr.{Attr}
 use Rattle.attr_rules.specs.Rules.{Attribute, IsConcrete, Uncovered, attribute_at, declared_at, declared_of, equation_number, first_of_name, is_inherited, nearest_equation, target_in}
-use Rattle.attr_types.specs.Completeness.{complete_broken, is_missing, is_open, lacking, missing_broken, open_broken, place_of, places_of}
-use Rattle.attr_types.specs.Covering.{covers, is_concrete, is_concrete_of, is_covered, is_uncovered}
-use Rattle.attr_types.specs.Heads.{attribute_of, attributes_of, class_numbers}
+use Rattle.attr_coverage.specs.Completeness.{complete_broken, is_missing, is_open, lacking, missing_broken, open_broken, place_of, places_of}
+use Rattle.attr_coverage.specs.Covering.{covers, is_concrete, is_concrete_of, is_covered, is_uncovered}
+use Rattle.attr_heads.specs.Heads.{attribute_of, attributes_of}
+use Rattle.attr_scope.specs.Classes.{class_numbers}
 use Rattle.attr_types.specs.Phases.{equation_of, rules_of}
-use Rattle.attr_types.specs.Targets.{target_given, targets_of}
-use Rattle.attr_types.specs.Written.{declarations, givens}
-use Rattle.jrag_reader.specs.Items.{Item}
-use Rattle.attr_types.proofs.Completing.{lacking_by}
-use Rattle.attr_types.proofs.ItemsFound.{range_fails, some_from}
-use Rattle.attr_types.proofs.Rounds.{concrete_within}
-use Rattle.attr_types.proofs.UncoveredClasses.{all_found}
+use Rattle.attr_heads.specs.Targets.{target_given, targets_of}
+use Rattle.attr_scope.specs.Written.{declarations, givens}
+use Rattle.aspect_items.specs.Items.{Item}
+use Rattle.attr_coverage.proofs.Completing.{lacking_by}
+use Rattle.attr_scope.proofs.ItemsFound.{range_fails, some_from}
+use Rattle.attr_coverage.proofs.Rounds.{concrete_within}
+use Rattle.attr_coverage.proofs.UncoveredClasses.{all_found}
 
 -- the targets of equations are those that the list gives
 same_targets : {X Y Z : Type 0} (f : X → Y) (t : Y → Z) (h : X → Z) (xs : List X) → ((x : X) → t (f x) ≡ h x) → map t (map f xs) ≡ map h xs

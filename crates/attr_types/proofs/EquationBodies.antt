@@ -10,19 +10,19 @@ use Rattle.ast_grammar.specs.Grammar.{Class, superclasses_of}
 use Rattle.attr_rules.specs.declared.dispatch.Target.{Target}
 use Rattle.attr_rules.specs.declared.kinds.Kind.{Kind}
 use Rattle.attr_rules.specs.declared.rules.KeptEquation.{KeptEquation}
-use Rattle.attr_types.specs.declared.written.Given as kept_given
+use Rattle.attr_scope.specs.declared.written.Given as kept_given
 use Rattle.attr_rules.specs.KeptEquations.{equation_in}
-use Rattle.attr_types.specs.Seen.{seen_given}
-use Rattle.attr_types.specs.declared.standing.Stands.TheVariants.{Anywhere}
-use Rattle.attr_types.specs.Bodies.{operand_broken}
+use Rattle.attr_scope.specs.Seen.{seen_given}
+use Rattle.expr_typing.specs.declared.standing.Stands.TheVariants.{Anywhere}
+use Rattle.attr_bodies.specs.Bodies.{operand_broken}
 use Rattle.attr_types.specs.Phases.{equation_broken, equation_of, said_for, scope_of, wanted_by}
 use Rattle.attr_rules.specs.Expression.{Expression}
 use Rattle.attr_rules.specs.Rules.{Attribute, AttributeSet}
-use Rattle.attr_types.specs.Paths.{equation_names}
-use Rattle.attr_types.specs.Scope.{Scope, Variable}
-use Rattle.attr_types.specs.Targets.{target_given}
-use Rattle.attr_types.specs.Typed.{body_of}
-use Rattle.attr_types.specs.Written.{Given}
+use Rattle.attr_heads.specs.Paths.{equation_names}
+use Rattle.attr_scope.specs.Scope.{Scope, Variable}
+use Rattle.attr_heads.specs.Targets.{target_given}
+use Rattle.expr_typing.specs.Typed.{body_of}
+use Rattle.attr_scope.specs.Written.{Given}
 
 module _ (g : List Class) (a : AttributeSet) (e : Given) (t : Target) {vs : List Variable} (same : a.superclasses ≡ superclasses_of g) (is : t ≡ target_given g a.attributes e) (named : vs ≡ equation_names g e.attribute e.path t.reach) where
   -- where its right side stands

@@ -5,11 +5,12 @@ use Rattle.std.proofs.lemmas.Bool.{and_parts}
 use Rattle.std.proofs.lemmas.List.{map-append}
 use Rattle.broken_rules.proofs.Clean.{append_none, flat_map_found}
 use Rattle.ast_grammar.specs.Grammar.{Class}
-use Rattle.jrag_reader.specs.Built.{all_built, is_built, is_built_item, is_built_body}
-use Rattle.jrag_reader.specs.Expressions.{Expr}
-use Rattle.jrag_reader.specs.Items.{Item, Declared, Inherits, Equates, Collects, Contributes, Parameter, Signature, Synthesized}
-use Rattle.attr_types.specs.declared.standing.Stands.TheVariants.{Anywhere}
-use Rattle.attr_types.specs.Bodies.{expr_broken, misfit}
+use Rattle.built_forms.specs.Built.{all_built, is_built, is_built_item, is_built_body}
+use Rattle.aspect_items.specs.Expressions.{Expr}
+use Rattle.aspect_items.specs.Items.{Item, Declared, Inherits, Equates, Collects, Contributes, Parameter, Signature, Synthesized}
+use Rattle.expr_typing.specs.declared.standing.Stands.TheVariants.{Anywhere}
+use Rattle.attr_bodies.specs.Bodies.{expr_broken}
+use Rattle.expr_typing.specs.Fitting.{misfit}
 use Rattle.attr_types.specs.Phases.{bodies_broken, equation_broken, equation_of, kind_or_truth, scope_of, wanted_by}
 use Rattle.attr_rules.specs.declared.dispatch.Reach.{Reach}
 use Rattle.attr_rules.specs.declared.dispatch.Reach.TheVariants.{Own, Component as AtComponent, Children}
@@ -19,21 +20,22 @@ use Rattle.attr_rules.specs.declared.kinds.Kind.TheVariants as kinds
 use Rattle.attr_rules.specs.declared.types.ValueType.TheVariants as types
 use Rattle.attr_rules.specs.Rules.{Attribute, IsEquation, bound_kinds, circular_at, declared_at}
 use Rattle.attr_rules.specs.Typing.{HasType}
-use Rattle.attr_types.specs.Parameters.{parameter_kind}
-use Rattle.attr_types.specs.Paths.{bound_names, equation_names, index_name, index_named, parameter_named}
-use Rattle.attr_types.specs.Scope.{Variable, variable_type}
-use Rattle.attr_types.specs.Targets.{target_given, targets_broken}
-use Rattle.attr_types.specs.Typed.{known}
+use Rattle.attr_heads.specs.Parameters.{parameter_kind}
+use Rattle.attr_heads.specs.Paths.{bound_names, equation_names, index_name, index_named, parameter_named}
+use Rattle.attr_scope.specs.Scope.{Variable, variable_type}
+use Rattle.attr_heads.specs.Targets.{target_given, targets_broken}
+use Rattle.expr_typing.specs.Typed.{known}
 use Rattle.attr_rules.specs.Types.{fits, parameter_kinds}
-use Rattle.attr_types.specs.Written.{Given, given_by, given_in, given_with, givens}
-use Rattle.attr_types.specs.WrittenTypes.{type_written}
+use Rattle.attr_scope.specs.Written.{Given, given_by, given_in, given_with, givens}
+use Rattle.attr_scope.specs.WrittenTypes.{type_written}
 use Rattle.attr_types.proofs.BothTyped.{said_typed}
-use Rattle.attr_types.proofs.FormsTyped.{fitting}
-use Rattle.attr_types.proofs.ItemsFound.{all_found, built_found, map_found, some_there}
-use Rattle.attr_types.proofs.MembersTyped.{kind_known, names_in, variable_kind}
-use Rattle.attr_types.proofs.ParametersClean.{AreTyped, IsTyped, same_kinds}
-use Rattle.attr_types.proofs.TargetsClean.{HasParameters, IsFound, given_parameters, given_target}
-use Rattle.attr_types.proofs.TypedClean.{typed}
+use Rattle.expr_typing.proofs.FormsTyped.{fitting}
+use Rattle.attr_scope.proofs.ItemsFound.{all_found, map_found, some_there}
+use Rattle.attr_types.proofs.BuiltFound.{built_found}
+use Rattle.expr_typing.proofs.MembersTyped.{kind_known, names_in, variable_kind}
+use Rattle.attr_heads.proofs.ParametersClean.{AreTyped, IsTyped, same_kinds}
+use Rattle.attr_heads.proofs.TargetsClean.{HasParameters, IsFound, given_parameters, given_target}
+use Rattle.attr_bodies.proofs.TypedClean.{typed}
 
 body_there : (s : Synthesized) (o : Option Expr) (e : Given) → is_built_body o ≡ true → option_map (given_with s) o ≡ Some e → is_built e.body ≡ true
 body_there s None e built is = absurd (cc)

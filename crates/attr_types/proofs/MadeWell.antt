@@ -3,13 +3,13 @@ use Rattle.std.proofs.Common.{◌≡◌, ℕ, Bool, true, false, not, ◌||◌, 
 use Rattle.std.proofs.lemmas.Bool.{and_from, and_parts}
 use Rattle.rag_io.specs.declared.Place.{Place}
 use Rattle.ast_grammar.specs.Grammar.{Class}
-use Rattle.jrag_reader.specs.declared.expression.Operator.{Operator}
-use Rattle.jrag_reader.specs.declared.expression.Operator.TheVariants as signs
-use Rattle.jrag_reader.specs.declared.expression.Quantifier.{Quantifier}
-use Rattle.jrag_reader.specs.declared.expression.Quantifier.TheVariants as quantifiers
-use Rattle.jrag_reader.specs.Expressions as read
-use Rattle.jrag_reader.specs.Expressions.{Expr, Name}
-use Rattle.jrag_reader.specs.Items.{Item}
+use Rattle.aspect_items.specs.declared.expression.Operator.{Operator}
+use Rattle.aspect_items.specs.declared.expression.Operator.TheVariants as signs
+use Rattle.aspect_items.specs.declared.expression.Quantifier.{Quantifier}
+use Rattle.aspect_items.specs.declared.expression.Quantifier.TheVariants as quantifiers
+use Rattle.aspect_items.specs.Expressions as read
+use Rattle.aspect_items.specs.Expressions.{Expr, Name}
+use Rattle.aspect_items.specs.Items.{Item}
 use Rattle.attr_rules.specs.declared.accessors.Access.{Access}
 use Rattle.attr_rules.specs.declared.accessors.Access.TheVariants as access
 use Rattle.attr_rules.specs.declared.expression.Quantifier as kept_quantifier
@@ -20,23 +20,23 @@ use Rattle.attr_rules.specs.Rising.{has_call, have_call}
 use Rattle.attr_rules.specs.Rules.{EquationsMadeWell, MadeWell, circular_at}
 use Rattle.attr_rules.specs.Types.{of_class}
 use Rattle.attr_rules.specs.WellMade.{IsWellMade, are_well_made, is_placed, is_well_made}
-use Rattle.attr_types.specs.declared.ranges.Elements.{Elements}
-use Rattle.attr_types.specs.declared.ranges.Elements.TheVariants as elements
-use Rattle.attr_types.specs.declared.scope.Member as member
-use Rattle.attr_types.specs.declared.scope.Member.TheVariants as members
-use Rattle.attr_types.specs.declared.set_forms.SetForm.{SetForm}
-use Rattle.attr_types.specs.declared.set_forms.SetForm.TheVariants as forms
+use Rattle.expr_typing.specs.declared.ranges.Elements.{Elements}
+use Rattle.expr_typing.specs.declared.ranges.Elements.TheVariants as elements
+use Rattle.attr_scope.specs.declared.scope.Member as member
+use Rattle.attr_scope.specs.declared.scope.Member.TheVariants as members
+use Rattle.expr_typing.specs.declared.set_forms.SetForm.{SetForm}
+use Rattle.expr_typing.specs.declared.set_forms.SetForm.TheVariants as forms
 use Rattle.attr_types.specs.BothSides.{all_with_both, either, said_where, with_both}
-use Rattle.attr_types.specs.Heads.{attributes_of}
+use Rattle.attr_heads.specs.Heads.{attributes_of}
 use Rattle.attr_types.specs.Phases.{equation_of, rules_of, scope_of}
-use Rattle.attr_types.specs.Places.{else_place}
-use Rattle.attr_types.specs.Scope.{Scope, member_on, variable_named}
-use Rattle.attr_types.specs.SetForms.{form_named, form_said, form_type, one_said, pair_said, set_known}
-use Rattle.attr_types.specs.Targets.{target_given}
-use Rattle.attr_types.specs.Typed as typed
-use Rattle.attr_types.specs.Typed.{arguments_said, body_of, call_said, count, first_in, inside, joined, known, name_said, over_said, range_of, said_alone, said_over, types_known}
-use Rattle.attr_types.specs.Written.{declarations, givens}
-use Rattle.attr_types.proofs.ItemsFound.{all_found, map_found}
+use Rattle.expr_typing.specs.Places.{else_place}
+use Rattle.attr_scope.specs.Scope.{Scope, member_on, variable_named}
+use Rattle.expr_typing.specs.SetForms.{form_named, form_said, form_type, one_said, pair_said, set_known}
+use Rattle.attr_heads.specs.Targets.{target_given}
+use Rattle.expr_typing.specs.Typed as typed
+use Rattle.expr_typing.specs.Typed.{arguments_said, body_of, call_said, count, first_in, inside, joined, known, name_said, over_said, range_of, said_alone, said_over, types_known}
+use Rattle.attr_scope.specs.Written.{declarations, givens}
+use Rattle.attr_scope.proofs.ItemsFound.{all_found, map_found}
 
 module _ (circular : ℕ → Bool) where
   either_calls : (c : Bool) (a b : Expression) → has_call circular (either c a b) ≡ (has_call circular a || has_call circular b)

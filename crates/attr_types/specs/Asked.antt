@@ -9,9 +9,9 @@ use Rattle.attr_rules.specs.Expression as said
 use Rattle.attr_rules.specs.Queries.{Query}
 use Rattle.attr_rules.specs.Rules.{RuleSet}
 use Rattle.attr_rules.specs.Types.{kept_kind}
-use Rattle.attr_types.specs.declared.scope.Member.{Member}
-use Rattle.attr_types.specs.Scope.{Scope, arguments_wanted, member_of, type_called}
-use Rattle.attr_types.specs.Typed.{call_said}
+use Rattle.attr_scope.specs.declared.scope.Member.{Member}
+use Rattle.attr_scope.specs.Scope.{Scope, arguments_wanted, member_of, type_called}
+use Rattle.expr_typing.specs.Typed.{call_said}
 
 -- what may be named at nodes of a class
 abbrev pub scope_in : List Class → RuleSet → ClassId → Scope

@@ -6,10 +6,10 @@ ghost use Rattle.attr_rules.specs.Kept.{rules_in};
 ghost use Rattle.attr_rules.specs.Queries.{query_of};
 ghost use Rattle.attr_types.specs.Asked.{query_named};
 
-use crate::scope::Scope;
-use crate::typed::called;
 use ast_grammar::{ClassId, Grammar};
 use attr_rules::{QueryEq, Rules, TArgs, TExpr};
+use attr_scope::Scope;
+use expr_typing::called;
 use rag_io::{Memory, Place};
 use std::alloc::Global;
 

@@ -1,21 +1,39 @@
 // Aspects over a grammar, checked.
-ghost use Rattle.std.specs.Prelude.{◌≡◌, IfOk, true};
+ghost use Rattle.std.specs.Prelude.{◌≡◌, IfOk, map, true};
 ghost use Rattle.broken_rules.specs.Answers.{Says};
 ghost use Rattle.attr_rules.specs.Kept.{rules_in};
-ghost use Rattle.attr_types.specs.Phases.{phases_of, rules_of};
-ghost use Rattle.jrag_reader.specs.Built.{all_built};
-ghost use Rattle.jrag_reader.specs.Items.{seen_aspects};
+ghost use Rattle.attr_scope.specs.Seen.{seen_given, seen_head};
+ghost use Rattle.attr_types.specs.Phases.{phases_of, phases_over, rules_of, rules_over};
+ghost use Rattle.built_forms.specs.Built.{all_built};
+ghost use Rattle.aspect_items.specs.Items.{seen_aspects};
 
-use crate::completeness::{check_completeness, places_of};
 use crate::equations::check_bodies;
-use crate::heads::check_heads;
-use crate::targets::check_targets;
-use crate::written::{declarations, givens};
+use aspect_items::Aspects;
 use ast_grammar::Grammar;
+use attr_coverage::check_completeness;
+use attr_heads::{check_heads, check_targets};
 use attr_rules::{Dispatch, Rules};
+use attr_scope::{Given, Head, declarations, givens};
 use broken_rules::ReadFault;
-use jrag_reader::Aspects;
 use std::alloc::Global;
+
+// The rules that these declarations and equations make.
+fn check_written(
+    alloc: Global,
+    grammar: &Grammar,
+    heads: &[Head<'_>],
+    equations: &[Given<'_>],
+) -> Result<Rules, ReadFault>
+    ensures phases { Says (phases_over grammar.now (map seen_head heads.now) (map seen_given equations.now)) result }
+    ensures rules { IfOk result (λ rules. rules_in rules ≡ rules_over grammar.now (map seen_head heads.now) (map seen_given equations.now)) }
+{
+    let attributes = check_heads(alloc, grammar, heads)?;
+    let targets = check_targets(alloc, grammar, &attributes, equations)?;
+    let dispatch = Dispatch::of_targets(alloc, grammar, attributes.len(), &targets)?;
+    check_completeness(alloc, grammar, heads, &attributes, &dispatch)?;
+    let list = check_bodies(alloc, grammar, &attributes, equations, &targets)?;
+    Ok(Rules::of_parts(attributes, dispatch, list))
+}
 
 /// Checks aspects, all of whose forms are evaluated so far, over a grammar, and makes their rules. Attributes and equations are numbered in
 /// the order of the file; the equation in a declaration is one of them.
@@ -36,12 +54,6 @@ pub fn check(alloc: Global, grammar: &Grammar, aspects: &Aspects) -> Result<Rule
     ensures rules { IfOk result (λ rules. rules_in rules ≡ rules_of grammar.now (seen_aspects aspects.now)) }
 {
     let heads = declarations(alloc, &aspects.items)?;
-    let attributes = check_heads(alloc, grammar, &heads)?;
     let equations = givens(alloc, &aspects.items)?;
-    let targets = check_targets(alloc, grammar, &attributes, &equations)?;
-    let dispatch = Dispatch::of_targets(alloc, grammar, attributes.len(), &targets)?;
-    let places = places_of(alloc, &heads)?;
-    check_completeness(alloc, grammar, &attributes, &dispatch, &places)?;
-    let list = check_bodies(alloc, grammar, &attributes, &equations, &targets)?;
-    Ok(Rules::of_parts(attributes, dispatch, list))
+    check_written(alloc, grammar, &heads, &equations)
 }

@@ -4,20 +4,19 @@ ghost use Rattle.ast_grammar.specs.Grammar.{superclasses_of};
 ghost use Rattle.broken_rules.specs.Answers.{Ends};
 ghost use Rattle.broken_rules.specs.Notes.{Notes};
 ghost use Rattle.attr_rules.specs.KeptEquations.{equation_in};
-ghost use Rattle.attr_types.specs.declared.standing.Stands.TheVariants.{Anywhere};
+ghost use Rattle.expr_typing.specs.declared.standing.Stands.TheVariants.{Anywhere};
 ghost use Rattle.attr_types.specs.Phases.{bodies_broken, equation_broken, equation_of, wanted_by};
-ghost use Rattle.attr_types.specs.Seen.{seen_given};
-ghost use Rattle.attr_types.specs.Targets.{target_given, targets_of};
+ghost use Rattle.attr_scope.specs.Seen.{seen_given};
+ghost use Rattle.attr_heads.specs.Targets.{target_given, targets_of};
 
-use crate::bodies::type_operand;
 use crate::both_sides::said_for;
-use crate::paths::equation_names;
-use crate::scope::Scope;
-use crate::standing::Stands;
-use crate::written::Given;
 use ast_grammar::Grammar;
+use attr_bodies::type_operand;
+use attr_heads::equation_names;
 use attr_rules::{Attributes, KeptEquation, Kind, Target};
+use attr_scope::{Given, Scope};
 use broken_rules::{Earliest, ReadFault};
+use expr_typing::Stands;
 use rag_io::Memory;
 use std::alloc::Global;
 

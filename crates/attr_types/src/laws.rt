@@ -3,10 +3,10 @@ ghost use Rattle.std.specs.Prelude.{◌≡◌, ◌↔◌, ℕ, List, None, true}
 ghost use Rattle.ast_grammar.specs.Grammar.{Class, IsGrammar};
 ghost use Rattle.broken_rules.specs.Answers.{Answers};
 ghost use Rattle.attr_rules.specs.Rules.{AreRules, EquationsMadeWell, RuleSet, Uncovered};
-ghost use Rattle.attr_types.specs.Covering.{covers, is_uncovered};
+ghost use Rattle.attr_coverage.specs.Covering.{covers, is_uncovered};
 ghost use Rattle.attr_types.specs.Phases.{phases_of, rules_of};
-ghost use Rattle.jrag_reader.specs.Built.{all_built};
-ghost use Rattle.jrag_reader.specs.Items.{Item};
+ghost use Rattle.built_forms.specs.Built.{all_built};
+ghost use Rattle.aspect_items.specs.Items.{Item};
 
 /// Aspects that break no rule over a grammar make rules of it: each equation is of a class that has the attribute, its right side is well
 /// typed and fits, and each concrete class has an equation for each of its attributes.

@@ -2,29 +2,10 @@
 #![tactic(auto)]
 
 mod asked;
-mod bodies;
 mod both_sides;
-mod calls;
 mod checking;
-mod completeness;
-mod covering;
-mod declared;
 mod equations;
-mod heads;
-mod inheriting;
 mod laws;
-mod parameters;
-mod paths;
-mod ranges;
-mod scope;
-mod set_forms;
-mod sides;
-mod standing;
-mod starts;
-mod targets;
-mod typed;
-mod written;
-mod written_types;
 
 pub use asked::query_of_call;
 pub use checking::check;

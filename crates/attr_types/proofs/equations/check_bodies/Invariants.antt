@@ -4,7 +4,7 @@ use Rattle.std.specs.List.{flat_map}
 use Rattle.broken_rules.specs.Notes.{Notes}
 use Rattle.attr_rules.specs.KeptEquations.{equation_in}
 use Rattle.attr_types.specs.Phases.{equation_broken, equation_of}
-use Rattle.attr_types.specs.Seen.{seen_given}
+use Rattle.attr_scope.specs.Seen.{seen_given}
 use Rattle.attr_types.proofs.equations.check_bodies.Given as goal
 
 abbrev pub invariant-loop-equation : goal.invariant-loop-equation

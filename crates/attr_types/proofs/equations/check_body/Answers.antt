@@ -1,5 +1,5 @@
 use Rattle.std.proofs.Common.{ap, map, ◌∙◌}
-use Rattle.attr_types.specs.Seen.{seen_given, seen_variable}
+use Rattle.attr_scope.specs.Seen.{seen_given, seen_variable}
 use Rattle.attr_rules.specs.Expression.{expression_of}
 use Rattle.attr_types.proofs.EquationBodies.{body_noted, body_said}
 use Rattle.attr_types.proofs.equations.check_body.Goals as goal

@@ -1,0 +1,4 @@
+pub mod ArgumentSteps
+pub mod Sizes
+pub mod TypedClean
+pub mod TypedForms

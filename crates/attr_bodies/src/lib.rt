@@ -1,0 +1,6 @@
+//! Expressions as they are written: what they break, and what they say.
+#![tactic(auto)]
+
+mod bodies;
+
+pub use bodies::type_operand;

@@ -1,0 +1,6 @@
+pub mod Completing
+pub mod Following
+pub mod Marks
+pub mod PartWay
+pub mod Rounds
+pub mod UncoveredClasses

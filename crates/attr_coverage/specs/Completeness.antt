@@ -1,0 +1,52 @@
+-- The rules that each concrete class has an equation for each of its attributes, and that no inherited one can be met uncovered: J7 and J8.
+use Rattle.std.specs.Prelude.{ℕ, List, [], Bool, ◌&&◌, Option, Some, None, is_none, map, if◌then◌else◌}
+use Rattle.std.specs.List.{list_any}
+use Rattle.rag_io.specs.declared.token.Place.{Place}
+use Rattle.broken_rules.specs.declared.broken.Broken.{Broken}
+use Rattle.broken_rules.specs.declared.rule.Rule.TheVariants.{J7, J8}
+use Rattle.broken_rules.specs.Notes.{at, broken_if, each_from}
+use Rattle.ast_grammar.specs.Grammar.{Class, is_sub, superclasses_of}
+use Rattle.attr_rules.specs.declared.dispatch.Target.{Target}
+use Rattle.attr_rules.specs.declared.kinds.Attr.{Attr}
+use Rattle.attr_rules.specs.Rules.{Attribute, declared_at, first_of_name, is_inherited, nearest_equation}
+use Rattle.attr_coverage.specs.Covering.{is_concrete, is_covered, is_uncovered}
+use Rattle.attr_scope.specs.Classes.{class_numbers}
+use Rattle.attr_scope.specs.Written.{Head}
+
+-- nodes of class c have the attribute of number a, which is declared for class d, and no equation gives it a value there
+abbrev pub is_missing : List Class → List Target → ℕ → ℕ → ℕ → Bool
+is_missing g targets a d c = is_concrete g c && (is_sub g c d && is_none (nearest_equation (superclasses_of g) targets c a))
+
+-- nodes of class c have the inherited attribute of number a, which is declared for class d, and it can be met uncovered there
+abbrev pub is_open : List Class → List Target → Option ℕ → ℕ → ℕ → Bool
+is_open g targets first d c = is_sub g c d && is_uncovered g (is_covered (superclasses_of g) targets first) c
+
+-- J7 at the name of an attribute of class d
+abbrev pub missing_broken : List Class → List Target → ℕ → ℕ → Place → List Broken
+missing_broken g targets a d place = broken_if (list_any (is_missing g targets a d) (class_numbers g)) (at place J7)
+
+-- J8 at the name of an inherited attribute of class d, by the first one of its name
+abbrev pub open_broken : List Class → List Target → Option ℕ → ℕ → Place → List Broken
+open_broken g targets first d place = broken_if (list_any (is_open g targets first d) (class_numbers g)) (at place J8)
+
+-- J7 or J8 of the attribute of number a
+abbrev pub lacking_of : List Class → List Attribute → List Target → ℕ → Place → Attr → List Broken
+lacking_of g attributes targets a place d = if is_inherited d.sort then open_broken g targets (first_of_name attributes a) d.class.0 place else missing_broken g targets a d.class.0 place
+
+abbrev pub lacking_at : List Class → List Attribute → List Target → ℕ → Place → Option Attr → List Broken
+lacking_at g attributes targets a place None = []
+lacking_at g attributes targets a place (Some d) = lacking_of g attributes targets a place d
+
+abbrev pub lacking : List Class → List Attribute → List Target → ℕ → Place → List Broken
+lacking g attributes targets a place = lacking_at g attributes targets a place (declared_at attributes a)
+
+-- what attributes break that lack an equation, whose names in the declarations stand at these places
+abbrev pub complete_broken : List Class → List Attribute → List Target → List Place → List Broken
+complete_broken g attributes targets places = each_from (lacking g attributes targets) 0 places
+
+-- where the name in a declaration stands
+abbrev pub place_of : Head → Place
+place_of s = s.signature.name.place
+
+abbrev pub places_of : List Head → List Place
+places_of list = map place_of list

@@ -1,0 +1,3 @@
+pub mod Completeness
+pub mod Covering
+pub mod CoveringKept

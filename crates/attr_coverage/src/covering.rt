@@ -1,0 +1,168 @@
+// The classes of which there can be a node at which no equation gives a value to an inherited attribute.
+ghost use Rattle.std.specs.Prelude.{◌≡◌, ◌<◌, ◌==◌, ◌&&◌, ℕ, List, IfOk, OnOk, false, length, not, replicate};
+ghost use Rattle.std.specs.Option.{option_map};
+ghost use Rattle.ast_grammar.specs.Grammar.{superclasses_of};
+ghost use Rattle.attr_rules.specs.declared.dispatch.Target.{Target};
+ghost use Rattle.attr_rules.specs.Dispatching.{Dispatches};
+ghost use Rattle.attr_rules.specs.Rules.{is_for_nodes, number_of_attribute};
+ghost use Rattle.attr_coverage.specs.Covering.{is_concrete, is_concrete_below, is_covered, is_uncovered, may_hang};
+ghost use Rattle.attr_coverage.specs.CoveringKept.{Adds, AreListed, Grows, mark_at};
+
+use ast_grammar::{ClassId, Component, Grammar, Shape};
+use attr_rules::{AttrId, Dispatch};
+use rag_io::Memory;
+use std::alloc::Global;
+
+/// The classes that are found so far: a mark for each class, and those that are marked, in the order in which they were found.
+#[derive(Drop)]
+struct Found {
+    marks: Vec<bool>,
+    classes: Vec<ClassId>,
+}
+
+/// There are nodes of the class.
+pub(crate) fn is_concrete(grammar: &Grammar, class: ClassId) -> bool
+    ensures { result ≡ is_concrete grammar.now class.0 }
+{
+    u32::from(class.0) < grammar.classes() && !grammar.is_abstract(class)
+}
+
+// There are nodes of the class, which is another one or a subclass of it.
+fn is_concrete_below(grammar: &Grammar, class: ClassId, above: ClassId) -> bool
+    ensures { result ≡ is_concrete_below grammar.now above.0 class.0 }
+{
+    is_concrete(grammar, class) && grammar.is_sub(class, above)
+}
+
+/// The class of this number is marked.
+pub(crate) fn is_marked(marks: &[bool], class: ClassId) -> bool
+    ensures { result ≡ mark_at marks.now class.0 }
+{
+    marks.get(class.0 as usize).copied().unwrap_or(false)
+}
+
+// Nodes hang at components of this shape.
+fn is_for_nodes(shape: Shape) -> bool
+    ensures { result ≡ is_for_nodes shape }
+{
+    match shape {
+        Shape::Child | Shape::List | Shape::Optional => true,
+        Shape::Text | Shape::Int | Shape::Truth => false,
+    }
+}
+
+// An equation covers what hangs at a component of nodes of a class.
+fn is_covered(
+    grammar: &Grammar,
+    dispatch: &Dispatch,
+    first: Option<AttrId>,
+    class: ClassId,
+    component: u32,
+) -> bool
+    ensures { (targets : List Target) → Dispatches (superclasses_of grammar.now) targets dispatch.now → result ≡ is_covered (superclasses_of grammar.now) targets (option_map number_of_attribute first) class.0 component }
+{
+    match first {
+        None => false,
+        Some(attribute) => dispatch
+            .find_covering(grammar.subclasses(), class, component, attribute)
+            .is_some(),
+    }
+}
+
+// Nodes hang at the component, which is one of nodes of a class, and no equation covers them.
+fn is_open(
+    grammar: &Grammar,
+    dispatch: &Dispatch,
+    first: Option<AttrId>,
+    class: ClassId,
+    k: u32,
+    component: &Component,
+) -> bool
+    ensures { (targets : List Target) → Dispatches (superclasses_of grammar.now) targets dispatch.now → result ≡ (is_for_nodes component.now.shape && not (is_covered (superclasses_of grammar.now) targets (option_map number_of_attribute first) class.0 k)) }
+{
+    is_for_nodes(component.shape) && !is_covered(grammar, dispatch, first, class, k)
+}
+
+impl Found {
+    // No class is found.
+    fn new(alloc: Global, classes: u32) -> Result<Found, Memory>
+        ensures marks { IfOk result (λ f. f.marks.items ≡ replicate classes false) }
+        ensures listed { IfOk result AreListed }
+    {
+        let marks = vec![in alloc; false; classes as usize].map_err(|_| Memory)?;
+        let classes = Vec::new(alloc);
+        Ok(Found { marks, classes })
+    }
+
+    // A class is found.
+    fn add(&mut self, class: ClassId) -> Result<(), Memory>
+        requires { class.0 < length self.old.marks.items }
+        ensures grown { OnOk result (Grows self.old self.new) }
+        ensures added { OnOk result (Adds (λ c. class.0 == c) self.old self.new) }
+    {
+        if !is_marked(&self.marks, class) {
+            self.classes.push(class).map_err(|_| Memory)?;
+            self.marks[class.0 as usize] = true;
+        }
+        Ok(())
+    }
+
+    // The concrete classes from one on downwards are found.
+    fn add_below(&mut self, grammar: &Grammar, above: ClassId) -> Result<(), Memory>
+        requires { length self.old.marks.items ≡ length grammar.now }
+        ensures grown { OnOk result (Grows self.old self.new) }
+        ensures added { OnOk result (Adds (is_concrete_below grammar.now above.0) self.old self.new) }
+    {
+        for number in 0..grammar.classes() {
+            let class = ClassId(number as u16);
+            if is_concrete_below(grammar, class, above) {
+                self.add(class)?;
+            }
+        }
+        Ok(())
+    }
+
+    // The classes of what may hang uncovered at nodes of a class are found.
+    fn follow(
+        &mut self,
+        grammar: &Grammar,
+        dispatch: &Dispatch,
+        first: Option<AttrId>,
+        class: ClassId,
+    ) -> Result<(), Memory>
+        requires class { class.0 < length grammar.now }
+        requires long { length self.old.marks.items ≡ length grammar.now }
+        ensures grown { OnOk result (Grows self.old self.new) }
+        ensures added { (targets : List Target) → Dispatches (superclasses_of grammar.now) targets dispatch.now → OnOk result (Adds (may_hang grammar.now (is_covered (superclasses_of grammar.now) targets (option_map number_of_attribute first)) class.0) self.old self.new) }
+    {
+        for k in 0..grammar.arity(class) {
+            let component = grammar.component(class, k);
+            if is_open(grammar, dispatch, first, class, k, component) {
+                self.add_below(grammar, component.class)?;
+            }
+        }
+        Ok(())
+    }
+}
+
+/// Marks the classes of which there can be a node at which no equation gives a value to the inherited attributes of a name, by the first of
+/// them. Each class is followed once, so it takes one look for an equation for each component of each class, and as many steps as there are
+/// classes for each that isn't covered.
+pub(crate) fn uncovered_classes(
+    alloc: Global,
+    grammar: &Grammar,
+    dispatch: &Dispatch,
+    first: Option<AttrId>,
+) -> Result<Vec<bool>, Memory>
+    ensures { (targets : List Target) → Dispatches (superclasses_of grammar.now) targets dispatch.now → IfOk result (λ marks. (c : ℕ) → mark_at marks.items c ≡ is_uncovered grammar.now (is_covered (superclasses_of grammar.now) targets (option_map number_of_attribute first)) c) }
+{
+    let mut found = Found::new(alloc, grammar.classes())?;
+    found.add_below(grammar, grammar.first_class())?;
+    let mut next = 0;
+    while next < found.classes.len() {
+        let class = found.classes[next];
+        found.follow(grammar, dispatch, first, class)?;
+        next += 1;
+    }
+    Ok(found.marks)
+}

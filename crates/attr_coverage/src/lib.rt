@@ -1,0 +1,7 @@
+//! The rules that each attribute has its equations: completeness, and the classes at which an inherited attribute can be met uncovered.
+#![tactic(auto)]
+
+mod completeness;
+mod covering;
+
+pub use completeness::check_completeness;

@@ -1,0 +1,11 @@
+pub mod AlikeClean
+pub mod DeclaredClean
+pub mod Declaring
+pub mod Differing
+pub mod HeadsNoted
+pub mod InheritedNoted
+pub mod KindsKnown
+pub mod ParametersClean
+pub mod ParametersNoted
+pub mod TargetsClean
+pub mod TargetsNoted

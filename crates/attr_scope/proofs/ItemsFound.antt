@@ -1,0 +1,51 @@
+-- Items of lists by their places, and what a test that passes or fails says of them.
+use Rattle.std.proofs.Common.{◌≡◌, ℕ, zero, suc, ◌+◌, ◌<◌, List, [], ◌∷◌, Bool, true, false, ◌||◌, All, Option, Some, None, is_none, option_map, get_or, take, map, position, slice_get, refl, ap, sym, ◌∙◌, subst, arith}
+use Rattle.std.specs.List.{list_any, range_with_len}
+use Rattle.std.proofs.lemmas.List.Quantifiers.{position-Some}
+use Rattle.std.proofs.lemmas.Option.{get_or_from_slice_get, slice_get-get_or, slice_get_within}
+use Rattle.broken_rules.specs.declared.broken.Broken.{Broken}
+use Rattle.broken_rules.specs.Notes.{each_after}
+use Rattle.broken_rules.proofs.Clean.{each_after_none}
+
+-- what holds of each item
+pub all_found : {X : Type 0} (P : X → Type 0) (xs : List X) → ((i : ℕ) (x : X) → slice_get xs i ≡ Some x → P x) → All P xs
+all_found P xs each = λ i d lt. each i (get_or xs i d) (slice_get-get_or xs i d lt)
+
+-- an item of a list of images is that of an item
+pub map_found : {X Y : Type 0} (f : X → Y) (xs : List X) (i : ℕ) (y : Y) → slice_get (map f xs) i ≡ Some y → (x : X) × (slice_get xs i ≡ Some x) × (f x ≡ y)
+map_found f [] i y e = absurd (cc)
+map_found f (x ∷ xs) zero y e = (x, refl, cc)
+map_found f (x ∷ xs) (suc i) y e = map_found f xs i y e
+
+-- the item at a position passes the test
+pub position_found : {X : Type 0} (p : X → Bool) (xs : List X) (i : ℕ) → position p xs ≡ Some i → (x : X) × (slice_get xs i ≡ Some x) × (p x ≡ true)
+position_found p [] i e = absurd (cc)
+position_found p (x ∷ xs) i e = let at = position-Some p (x ∷ xs) i x e in (get_or (x ∷ xs) i x, slice_get-get_or (x ∷ xs) i x at.0, at.1)
+
+-- what is there
+pub some_there : {X : Type 0} (o : Option X) → is_none o ≡ false → (x : X) × (o ≡ Some x)
+some_there None e = absurd (cc)
+some_there (Some x) e = (x, refl)
+
+-- what an image is of
+pub some_from : {X Y : Type 0} (f : X → Y) (o : Option X) (y : Y) → option_map f o ≡ Some y → (x : X) × (o ≡ Some x) × (f x ≡ y)
+some_from f None y e = absurd (cc)
+some_from f (Some x) y e = (x, refl, cc)
+
+-- what each item breaks after those before it
+pub after_found : {X : Type 0} (f : List X → X → List Broken) (xs : List X) (i : ℕ) (x : X) → each_after f [] xs ≡ [] → slice_get xs i ≡ Some x → f (take i xs) x ≡ []
+after_found f xs i x none e = ap (f (take i xs)) (sym (get_or_from_slice_get xs i x x e)) ∙ each_after_none f xs i x none (slice_get_within xs i x e)
+
+pub either_false : (a b : Bool) → (a || b) ≡ false → (a ≡ false) × (b ≡ false)
+either_false true b e = absurd (cc)
+either_false false b e = (refl, e)
+
+-- a test that no number of a range passes
+pub range_fails : (p : ℕ → Bool) (first count k : ℕ) → list_any p (range_with_len first count) ≡ false → k < count → p (first + k) ≡ false
+range_fails p first zero k e lt = absurd (omega arith)
+range_fails p first (suc count) zero e lt =
+    let here : first ≡ first + zero = omega arith in
+    subst (λ n. p n ≡ false) here (either_false (p first) (list_any p (range_with_len (first + 1) count)) e).0
+range_fails p first (suc count) (suc k) e lt =
+    let shifted : (first + 1) + k ≡ first + suc k = omega arith in
+    subst (λ n. p n ≡ false) shifted (range_fails p (first + 1) count k (either_false (p first) (list_any p (range_with_len (first + 1) count)) e).1 (omega arith))

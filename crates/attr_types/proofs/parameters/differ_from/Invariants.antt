@@ -1,9 +1,0 @@
--- Those so far are the same.
-use Rattle.std.proofs.Common.{◌≡◌, drop, map}
-use Rattle.jrag_reader.specs.Items.{seen_parameter}
-use Rattle.attr_types.specs.Parameters.{differ, parameter_types}
-use Rattle.attr_types.proofs.parameters.differ_from.Given as goal
-
-abbrev pub invariant-loop-k : goal.invariant-loop-k
-invariant-loop-k l =
-    differ l.grammar (parameter_types l.grammar (map seen_parameter l.others)) (map seen_parameter l.parameters) ≡ differ l.grammar (drop l.k (parameter_types l.grammar (map seen_parameter l.others))) (drop l.k (map seen_parameter l.parameters))

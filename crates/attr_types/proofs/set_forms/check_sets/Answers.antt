@@ -1,6 +1,0 @@
-use Rattle.std.proofs.Common.{rules}
-use Rattle.broken_rules.proofs.Noting.{notes}
-use Rattle.attr_types.proofs.set_forms.check_sets.Goals as goal
-
-pub returns : goal.returns
-returns c = search (rules, notes)

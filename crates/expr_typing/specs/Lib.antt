@@ -1,0 +1,6 @@
+pub mod Calls
+pub mod Fitting
+pub mod Places
+pub mod SetForms
+pub mod Standing
+pub mod Typed
