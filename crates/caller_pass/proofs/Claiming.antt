@@ -12,7 +12,7 @@ use Rattle.memo_cells.specs.Naming.{ClaimsKeysTo, IsElementCode, IsKeyTo, LacksC
 use Rattle.memo_cells.specs.Showing.{has_code}
 use Rattle.memo_cells.specs.Views.{Has, IsAtLeast, times}
 use Rattle.memo_cells.proofs.Naming.{key_later, word_later}
-use Rattle.set_words.specs.Raising.{ClaimsWords, IsWordWith, LacksWord}
+use Rattle.memo_cells.specs.SetRaising.{ClaimsWords, IsWordWith, LacksWord}
 use Rattle.circular_eval.specs.Advancing.{ClaimsFrom, FillsFrom, IsKeyFrom, IsLowerWord}
 use Rattle.caller_pass.specs.Answering.{ClaimsKeys, FillsCells, IsElementKey, IsKeyOf}
 use Rattle.caller_pass.proofs.Lines.{chain_then}

@@ -17,8 +17,8 @@ use Rattle.memo_cells.specs.declared.view.View.{View}
 use Rattle.memo_cells.specs.Naming.{IsElementCode}
 use Rattle.memo_cells.specs.Showing.{ShowsAtLeast, ShowsCode, has_code}
 use Rattle.memo_cells.specs.Views.{Has}
-use Rattle.set_words.specs.Raising.{set_codes}
-use Rattle.set_words.proofs.Members.{among, is_among, node_code, node_in, text_code, text_in}
+use Rattle.memo_cells.specs.SetRaising.{set_codes}
+use Rattle.memo_cells.proofs.SetMembers.{among, is_among, node_code, node_in, text_code, text_in}
 
 all_has : (P : ℕ → Type 0) (cs : List ℕ) (c : ℕ) → All P cs → Has cs c → P c
 all_has P [] c a h = absurd h

@@ -14,7 +14,7 @@ use Rattle.memo_cells.specs.Naming.{IsCellOf, IsElementCode}
 use Rattle.memo_cells.specs.Showing.{has_code}
 use Rattle.memo_cells.specs.Views.{Has}
 use Rattle.memo_cells.specs.Working.{Held, program_at}
-use Rattle.set_words.specs.Raising.{ClaimsWords, LacksWord, MayShowAll, ShowsAll, set_codes}
+use Rattle.memo_cells.specs.SetRaising.{ClaimsWords, LacksWord, MayShowAll, ShowsAll, set_codes}
 use Rattle.caller_pass.specs.declared.faults.AskFault.{AskFault}
 use Rattle.caller_pass.specs.declared.faults.AskFault.TheVariants.{CellsFull}
 use Rattle.caller_pass.specs.Answering.{AnswersShow, ClaimsKeys, FillsCells}

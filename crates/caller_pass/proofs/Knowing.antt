@@ -25,7 +25,7 @@ use Rattle.memo_cells.specs.Standing.{IsCodeOf, IsPassOf, Knows, MaySettle}
 use Rattle.memo_cells.specs.Views.{Has, IsAtLeast, IsUnset}
 use Rattle.memo_cells.specs.Working.{IsKnown}
 use Rattle.memo_cells.proofs.Naming.{knows_later, stands_later, stands_once, word_once}
-use Rattle.set_words.specs.Shown.{IsShownValue}
+use Rattle.memo_cells.specs.SetShown.{IsShownValue}
 use Rattle.caller_pass.specs.Knowing.{HasEnded, IsKnownValue, IsSettledAt}
 
 -- the cell of what is known

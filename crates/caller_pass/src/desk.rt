@@ -4,9 +4,8 @@ ghost use Rattle.std.specs.Prelude.{◌≡◌};
 use crate::turns::is_set;
 use equation_law::{Code, Instance, Reader, System, Value};
 use expr_eval::kind_of;
-use memo_cells::{Cells, CellsFull, Key, Pass, Slot, Words, Work};
+use memo_cells::{Cells, CellsFull, Key, Pass, Slot, Words, Work, value_shown};
 use rag_io::Memory;
-use set_words::value_shown;
 use std::alloc::Global;
 use std::marker::Model;
 

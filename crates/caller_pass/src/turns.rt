@@ -18,9 +18,8 @@ use attr_rules::Kind;
 use circular_eval::{CircFault, CircTurn, Local, advance};
 use equation_law::{Instance, Value};
 use expr_eval::{Turn, evaluate_instance, kind_of};
-use memo_cells::Slot;
+use memo_cells::{Slot, codes_of, raise_codes};
 use rag_io::Memory;
-use set_words::{codes_of, raise_codes};
 use std::alloc::Global;
 use std::sync::ledger::Ledger;
 

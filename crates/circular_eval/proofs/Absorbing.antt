@@ -13,7 +13,7 @@ use Rattle.equation_law.specs.Values.{Value}
 use Rattle.expr_eval.specs.declared.sites.Turn.TheVariants as turns
 use Rattle.memo_cells.specs.declared.keys.Slot.{Slot}
 use Rattle.memo_cells.specs.Working.{Held, program_at}
-use Rattle.set_words.specs.Raising.{set_codes}
+use Rattle.memo_cells.specs.SetRaising.{set_codes}
 use Rattle.circular_eval.specs.declared.advancing.CircFault.{CircFault}
 use Rattle.circular_eval.specs.declared.advancing.CircFault.TheVariants.{CellsFull, Memory}
 use Rattle.circular_eval.specs.declared.local.Local.{Local}

@@ -26,7 +26,7 @@ use Rattle.memo_cells.specs.Showing.{ShowsAtLeast}
 use Rattle.memo_cells.specs.Standing.{AreApproximations}
 use Rattle.memo_cells.specs.Views.{times}
 use Rattle.memo_cells.specs.Working.{GoesOn, Held, IsKnown, TellsPass, program_at}
-use Rattle.set_words.specs.Shown.{IsShownValue}
+use Rattle.memo_cells.specs.SetShown.{IsShownValue}
 use Rattle.circular_eval.specs.declared.advancing.CircFault.{CircFault}
 use Rattle.circular_eval.specs.declared.local.Local.{Local}
 use Rattle.circular_eval.specs.declared.members.Member.{Member}

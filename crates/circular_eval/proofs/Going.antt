@@ -21,7 +21,7 @@ use Rattle.memo_cells.specs.Working.{GoesOn, Held, program_at}
 use Rattle.memo_cells.proofs.Naming.{key_later, word_later}
 use Rattle.memo_cells.proofs.Raising.{higher}
 use Rattle.memo_cells.proofs.Showing.{has_code_more}
-use Rattle.set_words.specs.Raising.{ClaimsWords, IsWordWith, LacksWord}
+use Rattle.memo_cells.specs.SetRaising.{ClaimsWords, IsWordWith, LacksWord}
 use Rattle.circular_eval.specs.declared.local.Local.{Local}
 use Rattle.circular_eval.specs.declared.members.Member.{Member}
 use Rattle.circular_eval.specs.Advancing.{ClaimsFrom, FillsFrom, IsKeyFrom}

@@ -9,7 +9,7 @@ use Rattle.memo_cells.specs.declared.view.Frame.{Frame}
 use Rattle.memo_cells.specs.declared.view.View.{View}
 use Rattle.memo_cells.specs.Views.{Has}
 use Rattle.memo_cells.specs.Working.{GoesOn, Held, IsOwn, program_at}
-use Rattle.set_words.specs.Raising.{ClaimsWords, LacksWord, MayShowAll, ShowsAll}
+use Rattle.memo_cells.specs.SetRaising.{ClaimsWords, LacksWord, MayShowAll, ShowsAll}
 use Rattle.circular_eval.specs.declared.advancing.CircFault.{CircFault}
 use Rattle.circular_eval.specs.declared.advancing.CircFault.TheVariants.{CellsFull, Memory}
 use Rattle.circular_eval.specs.Left.{code_bound}

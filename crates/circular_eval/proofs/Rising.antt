@@ -34,7 +34,7 @@ use Rattle.set_values.specs.CodedSets.{node_set, text_set}
 use Rattle.set_values.proofs.Coded.{holds_made, holds_of}
 use Rattle.set_values.proofs.NodeCodes.{IsNode, has_node_code}
 use Rattle.set_values.proofs.TextCodes.{IsKnown, has_text_code}
-use Rattle.set_words.specs.Raising.{ClaimsWords, IsWordWith, LacksWord, MayShowAll}
+use Rattle.memo_cells.specs.SetRaising.{ClaimsWords, IsWordWith, LacksWord, MayShowAll}
 use Rattle.circular_eval.specs.Left.{code_bound, missing}
 use Rattle.circular_eval.specs.Rising.{IsMore, IsRisen}
 use Rattle.circular_eval.proofs.Left.{missing_less}

@@ -30,7 +30,7 @@ use Rattle.set_values.specs.CodedSets.{node_set, text_set}
 use Rattle.set_values.proofs.Coded.{holds_of}
 use Rattle.set_values.proofs.NodeCodes.{IsNode, has_node_code}
 use Rattle.set_values.proofs.TextCodes.{IsKnown, has_text_code}
-use Rattle.set_words.specs.Raising.{ClaimsWords, MayShowAll, set_codes}
+use Rattle.memo_cells.specs.SetRaising.{ClaimsWords, MayShowAll, set_codes}
 use Rattle.circular_eval.specs.declared.advancing.CircFault.{CircFault}
 use Rattle.circular_eval.specs.Rising.{AnswersRaise, AnswersSet, MayRise, RaisesSet, RaisesValue}
 use Rattle.memo_cells.proofs.Holding.{goes_itself}

@@ -14,7 +14,7 @@ use Rattle.memo_cells.specs.Naming.{IsCellOf}
 use Rattle.memo_cells.specs.Showing.{ShowsAtLeast, ShowsCode}
 use Rattle.memo_cells.specs.Standing.{ComesTo}
 use Rattle.memo_cells.specs.Working.{GoesOn, Held, program_at}
-use Rattle.set_words.specs.Raising.{ClaimsWords, LacksWord, MayShowAll, set_codes}
+use Rattle.memo_cells.specs.SetRaising.{ClaimsWords, LacksWord, MayShowAll, set_codes}
 use Rattle.circular_eval.specs.declared.advancing.CircFault.{CircFault}
 use Rattle.circular_eval.specs.declared.advancing.CircFault.TheVariants.{CellsFull, Memory}
 use Rattle.circular_eval.specs.Left.{code_bound, room}

@@ -2,15 +2,14 @@
 ghost use Rattle.std.specs.Prelude.{◌<◌};
 ghost use Rattle.equation_law.specs.Names.{Instance};
 ghost use Rattle.memo_cells.specs.Working.{IsOwn, program_at};
-ghost use Rattle.set_words.specs.Raising.{MayShowAll};
+ghost use Rattle.memo_cells.specs.SetRaising.{MayShowAll};
 ghost use Rattle.circular_eval.specs.Left.{code_bound};
 ghost use Rattle.circular_eval.specs.Rising.{MayRise, RaisesSet, RaisesValue};
 
 use crate::advancing::CircFault;
 use code_sets::{Code, Codes};
 use equation_law::Value;
-use memo_cells::{Slot, Work};
-use set_words::raise_codes;
+use memo_cells::{Slot, Work, raise_codes};
 use std::alloc::Global;
 
 // A code lies below the bound of codes.

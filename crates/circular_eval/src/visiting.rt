@@ -12,8 +12,7 @@ use crate::raising::raise_value;
 use crate::reading::evaluate;
 use equation_law::{Instance, System, Value};
 use expr_eval::{Turn, is_declared, kind_of};
-use memo_cells::Work;
-use set_words::value_shown;
+use memo_cells::{Work, value_shown};
 use std::alloc::Global;
 
 /// What a visit came to.

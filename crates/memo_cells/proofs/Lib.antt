@@ -16,6 +16,13 @@ pub mod Places
 pub mod Raising
 pub mod Sealing
 pub mod Seeing
+pub mod SetAdding
+pub mod SetFirsts
+pub mod SetHolding
+pub mod SetMembers
+pub mod SetReading
+pub mod SetValues
+pub mod SetWords
 pub mod Showing
 pub mod Telling
 pub mod Ways

@@ -1,5 +1,7 @@
 pub mod Keys
 pub mod Naming
+pub mod SetRaising
+pub mod SetShown
 pub mod Showing
 pub mod Standing
 pub mod Steps

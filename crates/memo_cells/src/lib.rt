@@ -1,4 +1,5 @@
-//! The memo table: a cell for each instance whose value was asked for, with its value once that is settled.
+//! The memo table: a cell for each instance whose value was asked for, with its value once that is settled. The words of a set are raised from
+//! its codes, and its value is read from the words.
 #![tactic(auto)]
 
 mod calls;
@@ -6,9 +7,9 @@ mod cells;
 mod instances;
 mod keys;
 mod probe;
+mod set_raising;
+mod set_showing;
 mod steps;
-#[cfg(test)]
-mod tests;
 mod truths;
 mod view;
 mod words;
@@ -17,5 +18,7 @@ mod work;
 pub use calls::CellsFull;
 pub use cells::{Cells, Pass};
 pub use keys::{Key, Slot};
+pub use set_raising::{codes_of, raise_codes};
+pub use set_showing::value_shown;
 pub use view::{Frame, View};
 pub use work::{Words, Work};

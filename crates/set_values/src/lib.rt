@@ -4,8 +4,6 @@
 mod combining;
 mod listing;
 mod members;
-#[cfg(test)]
-mod tests;
 
 pub use combining::set_operate;
 pub use listing::elements;

@@ -1,0 +1,84 @@
+-- The codes that the words show are read word by word.
+use Rattle.std.proofs.Common.{◌≡◌, ◌↔◌, ℕ, true, false, ◌+◌, ◌*◌, ◌<◌, ◌≤◌, ◌/◌, ◌%◌, inl, ⊎_elim, List, [], sym, subst, arith}
+use mathlib.Core.Logic.{dite}
+use native.Mathlib.Decide.{ℕ_discrete}
+use Rattle.std.specs.Int.{bit_at}
+use Rattle.std.proofs.lemmas.Nat.Bits.{bit_at-zero}
+use Rattle.code_sets.specs.Members.{has_code}
+use Rattle.attr_rules.specs.Rules.{is_single}
+use Rattle.equation_law.specs.Equations.{kind_in}
+use Rattle.equation_law.specs.Names.{Instance}
+use Rattle.equation_law.specs.Program.{Program}
+use Rattle.equation_law.specs.Systems.{program_of}
+use Rattle.memo_cells.specs.declared.view.Frame.{Frame}
+use Rattle.memo_cells.specs.declared.view.View.{View}
+use Rattle.memo_cells.specs.Naming.{IsCellOf}
+use Rattle.memo_cells.specs.Showing.{IsWordSeen, ShowsCode}
+use Rattle.memo_cells.specs.Views.{IsAtLeast}
+use Rattle.memo_cells.specs.Working.{Held, IsOwn, ReadsOn, program_at}
+use Rattle.memo_cells.proofs.Holding.{reads_itself, reads_then}
+use Rattle.memo_cells.proofs.Naming.{cell_later}
+use Rattle.memo_cells.proofs.Showing.{shown_later}
+use Rattle.memo_cells.proofs.Telling.{codes_seen}
+use Rattle.memo_cells.specs.SetShown.{AddsWord, AreCodesShown}
+
+-- as `AreCodesShown`, of the words below n
+pub record AreShownBelow (p : Program) (before now : View) (i : Instance) (from to n : ℕ) (cs : List ℕ) : Type 0 where
+  pub least : (c : ℕ) → has_code cs c ≡ true → from ≤ c
+  pub below : (c : ℕ) → has_code cs c ≡ true → c < to
+  pub shown : (c : ℕ) → has_code cs c ≡ true → ShowsCode p now i c
+  pub all : (c : ℕ) → from ≤ c → c < to → c / 64 < n → ShowsCode p before i c → has_code cs c ≡ true
+
+shown_none : (p : Program) (v : View) (i : Instance) (from to : ℕ) → AreShownBelow p v v i from to 0 []
+shown_none p v i from to = record { least = λ c h. cc; below = λ c h. cc; shown = λ c h. cc; all = λ c l b lt h. absurd (omega (arith, lt)) }
+
+-- a word without bits adds no code
+pub adds_none : (word from to : ℕ) (cs : List ℕ) → AddsWord word 0 from to cs cs
+adds_none word from to cs = record { kept = λ c h. h; added = λ c w. let none = bit_at-zero (c % 64) in let bit = w.bit in absurd (omega (arith, none, bit)); only = λ c h. inl h }
+
+module _ (p : Program) (before now later : View) (kept : IsAtLeast before later) (more : IsAtLeast now later) (i : Instance) (from to n bits : ℕ) (cs next : List ℕ) where
+  -- one word more
+  shown_next : AreShownBelow p before now i from to n cs → ((b : ℕ) → b < 64 → (bit_at bits b ≡ 1) ↔ ShowsCode p later i (64 * n + b)) → AddsWord n bits from to cs next → AreShownBelow p before later i from to (n + 1) next
+  shown_next so_far word adds = record {
+    least = λ c h. ⊎_elim (so_far.least c) (λ w. w.least) (adds.only c h);
+    below = λ c h. ⊎_elim (so_far.below c) (λ w. w.below) (adds.only c h);
+    shown = λ c h.
+        ⊎_elim (λ old. shown_later p now later more i c (so_far.shown c old))
+        (λ w. let lies = w.lies in let at : 64 * n + c % 64 ≡ c = omega (arith, lies) in subst (ShowsCode p later i) at ((word (c % 64) (omega arith)).0 w.bit)) (adds.only c h);
+    all = λ c l b lt h.
+        dite (ℕ_discrete (c / 64) n)
+        (λ lies.
+        let at : 64 * n + c % 64 ≡ c = omega (arith, lies) in
+        let bit : bit_at bits (c % 64) ≡ 1 = (word (c % 64) (omega arith)).1 (subst (ShowsCode p later i) (sym at) (shown_later p before later kept i c h)) in
+        adds.added c (record { lies = lies; least = l; below = b; bit = bit }))
+        (λ apart. adds.kept c (so_far.all c l b (omega (arith, lt, apart)) h));
+  }
+
+-- what a loop over the words keeps: d is what was held first, and e what is held now
+pub record ReadsBelow (d e : Held) (place from to n : ℕ) (cs : List ℕ) : Type 0 where
+  pub on : ReadsOn d e
+  pub shown : (i : Instance) → IsCellOf (program_at d) d.0 d.1 i place → is_single (kind_in (program_at d) i) ≡ false → AreShownBelow (program_at d) d.1 e.1 i from to n cs
+
+pub reads_none : (d : Held) (place from to : ℕ) → IsOwn d → ReadsBelow d d place from to 0 []
+reads_none d place from to own = record { on = reads_itself d own; shown = λ i cell set. shown_none (program_at d) d.1 i from to }
+
+-- a word that was read at e, and held as g then
+module _ (d e g : Held) (place from to n bits : ℕ) (cs next : List ℕ) (so_far : ReadsBelow d e place from to n cs) (on : ReadsOn e g) (word : (i : Instance) → IsCellOf (program_at e) e.0 g.1 i place → IsWordSeen (program_at e) g.1 i (kind_in (program_at e) i) n bits) where
+  both : ReadsOn d g
+  both = reads_then d e g so_far.on on
+
+  -- the same at the cells that were held first
+  word_first : (i : Instance) → IsCellOf (program_at d) d.0 g.1 i place → IsWordSeen (program_at d) g.1 i (kind_in (program_at d) i) n bits
+  word_first = subst (λ (f : Frame). (i : Instance) → IsCellOf (program_of f.system.value) f g.1 i place → IsWordSeen (program_of f.system.value) g.1 i (kind_in (program_of f.system.value) i) n bits) so_far.on.on.cells word
+
+  pub reads_next : AddsWord n bits from to cs next → ReadsBelow d g place from to (n + 1) next
+  reads_next adds = record {
+    on = both;
+    shown = λ i cell set.
+        shown_next (program_at d) d.1 e.1 g.1 both.on.kept on.on.kept i from to n bits cs next (so_far.shown i cell set)
+        (codes_seen (program_at d) g.1 i (kind_in (program_at d) i) n bits set (word_first i (cell_later d.1 g.1 both.on.kept (program_at d) d.0 i place cell))) adds;
+  }
+
+-- all words that codes below the end lie in
+pub shown_all : (p : Program) (before now : View) (i : Instance) (from to n : ℕ) (cs : List ℕ) → (to ≤ 64 * n) → AreShownBelow p before now i from to n cs → AreCodesShown p before now i from to cs
+shown_all p before now i from to n cs end h = record { least = h.least; below = h.below; shown = h.shown; all = λ c l b s. h.all c l b (omega (arith, b, end)) s }

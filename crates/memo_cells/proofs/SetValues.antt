@@ -1,0 +1,151 @@
+-- What the words show, as a value.
+use Rattle.std.proofs.Common.{◌≡◌, ◌↔◌, ℕ, zero, suc, true, false, Bool, ◌+◌, ◌<◌, List, Some, length, map, refl, sym, ap, ◌∙◌, subst, arith}
+use Rattle.std.specs.Cmp.Lexicographic.{nat_list_cmp_total}
+use Rattle.std.specs.List.{slice_get}
+use Rattle.std.proofs.lemmas.Cmp.{eq_by_cmp_equiv, nat_cmp_total}
+use Rattle.std.proofs.lemmas.Map.Views.{All-from_any}
+use Rattle.std.proofs.lemmas.Option.{slice_get_within}
+use Rattle.code_sets.specs.Members.{has_code}
+use Rattle.solutions.proofs.Lower.{lower_below}
+use Rattle.rag_io.specs.Pool.{ArePooled}
+use Rattle.ast_grammar.specs.declared.grammar.ClassId.{ClassId}
+use Rattle.tree_arena.specs.Nodes.{Node}
+use Rattle.attr_rules.specs.declared.kinds.Kind.{Kind}
+use Rattle.attr_rules.specs.declared.kinds.Kind.TheVariants as kinds
+use Rattle.equation_law.specs.declared.coding.Value.TheVariants as coded
+use Rattle.equation_law.specs.Checked.{IsNodeOf, at, null}
+use Rattle.equation_law.specs.Codes.{nodes_of, reference_of}
+use Rattle.equation_law.specs.Equations.{HasValue, equations_of, kind_in}
+use Rattle.equation_law.specs.Loops.{fits_in, join_in, order_in}
+use Rattle.equation_law.specs.Names.{Instance, Null, Reference, Source, node_cmp, text_cmp}
+use Rattle.equation_law.specs.Orders.{FitsKind}
+use Rattle.equation_law.specs.Program.{Program, text_of}
+use Rattle.equation_law.specs.Sets.{has, set_of}
+use Rattle.equation_law.specs.Values.{Nodes, Texts, Truth, Value, as_kind, has_node, nodes, texts, truth}
+use Rattle.equation_law.proofs.Keys.{both_ways}
+use Rattle.equation_law.proofs.Lists.{some_of}
+use Rattle.equation_law.proofs.Names.{code_anti, node_anti}
+use Rattle.equation_law.proofs.Orders.{node_total}
+use Rattle.equation_law.proofs.Sets.{same_parts}
+use Rattle.equation_law.proofs.Solution.{are_joins, are_rising, one}
+use Rattle.memo_cells.specs.declared.view.Frame.{Frame}
+use Rattle.memo_cells.specs.declared.view.View.{View}
+use Rattle.memo_cells.specs.Naming.{IsElementCode}
+use Rattle.memo_cells.specs.Showing.{ShowsAtLeast, ShowsAtMost, ShowsCode, ShowsTrue, has_code as has_element}
+use Rattle.memo_cells.specs.Standing.{AreApproximations, Knows}
+use Rattle.memo_cells.specs.Views.{IsAtLeast}
+use Rattle.memo_cells.proofs.Showing.{true_later}
+use Rattle.memo_cells.proofs.Telling.{shown_in}
+use Rattle.memo_cells.specs.SetShown.{AreCodesShown, IsShownValue}
+use Rattle.memo_cells.proofs.SetMembers.{node_code, node_in, text_code, text_in}
+
+-- the code of a node of the program is at most the number of nodes
+node_low : (p : Program) (d : ClassId) (c : ℕ) (r : Reference) → reference_of c ≡ r → 0 < c → IsNodeOf p d r → c < length p.tree + 1
+node_low p d c _ e some null = absurd (positive c e some)
+  where
+    positive : (c : ℕ) → reference_of c ≡ Null → 0 < c → ⊥
+    positive zero e some = omega (arith, some)
+    positive (suc k) e some = cc
+node_low p d zero _ e some (at {k = k} h) = absurd (omega (arith, some))
+node_low p d (suc n) _ e some (at {k = k} h) =
+    let same : n ≡ k = cc in
+    let there : (x : Node) × (slice_get p.tree k ≡ Some x) × (x.class ≡ h.class) = some_of (λ (x : Node). x.class) (slice_get p.tree k) h.class h.of in
+    let low : k < length p.tree = slice_get_within p.tree k there.0 there.1 in
+    omega (arith, same, low)
+
+-- a code that isn't null's is of an element of the set
+reference_in : (cs : List ℕ) (c : ℕ) → 0 < c → has_code cs c ≡ true → has_node (set_of {R = node_cmp} (nodes_of cs)) (reference_of c) ≡ true
+reference_in cs zero some e = absurd (omega (arith, some))
+reference_in cs (suc k) some e = node_in cs (suc k) (Source k) refl e
+
+module _ (p : Program) (before now : View) (kept : IsAtLeast before now) (a : AreApproximations p before) (b : AreApproximations p now) (f : Frame) (pooled : ArePooled p.texts) (i : Instance) where
+  -- what is shown to be true is true
+  true_in : (w : Value) → HasValue p i w → kind_in p i ≡ kinds.Truth → ShowsTrue p now i → truth w ≡ true
+  true_in w has kind h =
+      elim ((equations_of p).circular i) as (λ t. (equations_of p).circular i ≡ t → truth w ≡ true) [
+        | true ↦ λ e.
+            let low = lower_below (equations_of p) (order_in p) (fits_in p) (join_in p) (are_rising p) (are_joins p) b.values b.lower i w e has in
+            let most : ShowsTrue p now i → truth (b.values i) ≡ true = subst (λ (k : Kind). ShowsAtMost p now i k (b.values i)) kind (b.circular i e) in
+            low.in_truth (most h)
+        | false ↦ λ e. let s = b.truths i e kind h in ap truth (one p i w s.0 has s.1) ∙ s.2
+      ] refl
+
+  truth_settled : (t : Bool) → kind_in p i ≡ kinds.Truth → ((t ≡ true) ↔ ShowsTrue p now i) → Knows p before i → (w : Value) × HasValue p i w × (Truth t ≡ as_kind (kind_in p i) w)
+  truth_settled t kind shows known =
+      let s = a.settled i known in
+      let least : ShowsAtLeast p before i kinds.Truth s.0 = subst (λ (k : Kind). ShowsAtLeast p before i k s.0) kind s.2 in
+      let same : t ≡ truth s.0 = both_ways t (truth s.0) (λ e. true_in s.0 s.1 kind (shows.0 e)) (λ e. shows.1 (true_later p before now kept i (least e))) in
+      (s.0, s.1, subst (λ (k : Kind). Truth t ≡ as_kind k s.0) (sym kind) (ap Truth same))
+
+  pub truth_shown : (t : Bool) → kind_in p i ≡ kinds.Truth → ((t ≡ true) ↔ ShowsTrue p now i) → IsShownValue p before now i (coded.Truth t)
+  truth_shown t kind shows = record {
+    elements = tt;
+    fits = subst (λ (k : Kind). FitsKind k (Truth t)) (sym kind) (t, refl);
+    shown = subst (λ (k : Kind). ShowsAtLeast p now i k (Truth t)) (sym kind) shows.0;
+    all = subst (λ (k : Kind). ShowsAtMost p before i k (Truth t)) (sym kind) (λ h. shows.1 (true_later p before now kept i h));
+    settled = truth_settled t kind shows;
+  }
+
+  -- the value of i has the element of a code that is shown
+  element_in : (k : Kind) → kind_in p i ≡ k → (w : Value) → HasValue p i w → (c : ℕ) → ShowsCode p now i c → has_element (text_of p) k w c ≡ true
+  element_in k kind w has c h = subst (λ (l : Kind). has_element (text_of p) l w c ≡ true) kind (shown_in p f now pooled b i w has c h)
+
+  -- a code that was shown is of an element of the type
+  element_code : (k : Kind) → kind_in p i ≡ k → (c : ℕ) → ShowsCode p before i c → IsElementCode p k c
+  element_code k kind c h = subst (λ (l : Kind). IsElementCode p l c) kind (a.codes i c h)
+
+  module _ (cs : List ℕ) (kind : kind_in p i ≡ kinds.Texts) (codes : AreCodesShown p before now i 0 (length p.texts) cs) where
+    -- the text of a code that was shown is in the set
+    text_there : (c : ℕ) → ShowsCode p before i c → has (set_of {R = text_cmp} (map (text_of p) cs)) (text_of p c) ≡ true
+    text_there c h = text_in (text_of p) cs c (codes.all c (omega arith) (element_code kinds.Texts kind c h) h)
+
+    texts_settled : Knows p before i → (w : Value) × HasValue p i w × (Texts (set_of {R = text_cmp} (map (text_of p) cs)) ≡ as_kind (kind_in p i) w)
+    texts_settled known =
+        let s = a.settled i known in
+        let least : ShowsAtLeast p before i kinds.Texts s.0 = subst (λ (k : Kind). ShowsAtLeast p before i k s.0) kind s.2 in
+        let same = same_parts {R = text_cmp} nat_list_cmp_total code_anti (set_of {R = text_cmp} (map (text_of p) cs)) (texts s.0)
+        (λ t e.
+        let c = text_code (text_of p) cs t e in
+        subst (λ (u : List ℕ). has (texts s.0) u ≡ true) c.2 (element_in kinds.Texts kind s.0 s.1 c.0 (codes.shown c.0 c.1)))
+        (λ t e.
+        let c = least t e in
+        let there = codes.all c.0 (omega arith) (element_code kinds.Texts kind c.0 c.2) c.2 in
+        subst (λ (u : List ℕ). has (set_of {R = text_cmp} (map (text_of p) cs)) u ≡ true) c.1 (text_in (text_of p) cs c.0 there)) in
+        (s.0, s.1, subst (λ (k : Kind). Texts (set_of {R = text_cmp} (map (text_of p) cs)) ≡ as_kind k s.0) (sym kind) (ap Texts same))
+
+    pub texts_shown : IsShownValue p before now i (coded.Texts cs)
+    texts_shown = record {
+      elements = All-from_any (eq_by_cmp_equiv nat_cmp_total) (λ c. c < length p.texts) cs codes.below;
+      fits = subst (λ (k : Kind). FitsKind k (Texts (set_of {R = text_cmp} (map (text_of p) cs)))) (sym kind) (set_of {R = text_cmp} (map (text_of p) cs), refl);
+      shown = subst (λ (k : Kind). ShowsAtLeast p now i k (Texts (set_of {R = text_cmp} (map (text_of p) cs)))) (sym kind) (λ t e. let c = text_code (text_of p) cs t e in (c.0, c.2, codes.shown c.0 c.1));
+      all = subst (λ (k : Kind). ShowsAtMost p before i k (Texts (set_of {R = text_cmp} (map (text_of p) cs)))) (sym kind) text_there;
+      settled = texts_settled;
+    }
+
+  module _ (d : ClassId) (cs : List ℕ) (kind : kind_in p i ≡ kinds.Nodes d) (codes : AreCodesShown p before now i 1 (length p.tree + 1) cs) where
+    -- the node of a code that was shown is in the set
+    node_there : (c : ℕ) → ShowsCode p before i c → has_node (set_of {R = node_cmp} (nodes_of cs)) (reference_of c) ≡ true
+    node_there c h = let code = element_code (kinds.Nodes d) kind c h in reference_in cs c code.0 (codes.all c code.0 (node_low p d c (reference_of c) refl code.0 code.1) h)
+
+    nodes_settled : Knows p before i → (w : Value) × HasValue p i w × (Nodes (set_of {R = node_cmp} (nodes_of cs)) ≡ as_kind (kind_in p i) w)
+    nodes_settled known =
+        let s = a.settled i known in
+        let least : ShowsAtLeast p before i (kinds.Nodes d) s.0 = subst (λ (k : Kind). ShowsAtLeast p before i k s.0) kind s.2 in
+        let same = same_parts {R = node_cmp} node_total node_anti (set_of {R = node_cmp} (nodes_of cs)) (nodes s.0)
+        (λ n e.
+        let c = node_code cs n e in
+        subst (λ (r : Reference). has_node (nodes s.0) r ≡ true) c.2 (element_in (kinds.Nodes d) kind s.0 s.1 c.0 (codes.shown c.0 c.1)))
+        (λ n e.
+        let c = least n e in
+        let code = element_code (kinds.Nodes d) kind c.0 c.2 in
+        node_in cs c.0 n c.1 (codes.all c.0 code.0 (node_low p d c.0 (reference_of c.0) refl code.0 code.1) c.2)) in
+        (s.0, s.1, subst (λ (k : Kind). Nodes (set_of {R = node_cmp} (nodes_of cs)) ≡ as_kind k s.0) (sym kind) (ap Nodes same))
+
+    pub nodes_shown : IsShownValue p before now i (coded.Nodes cs)
+    nodes_shown = record {
+      elements = All-from_any (eq_by_cmp_equiv nat_cmp_total) (λ c. 0 < c) cs codes.least;
+      fits = subst (λ (k : Kind). FitsKind k (Nodes (set_of {R = node_cmp} (nodes_of cs)))) (sym kind) (set_of {R = node_cmp} (nodes_of cs), refl);
+      shown = subst (λ (k : Kind). ShowsAtLeast p now i k (Nodes (set_of {R = node_cmp} (nodes_of cs)))) (sym kind) (λ n e. let c = node_code cs n e in (c.0, c.2, codes.shown c.0 c.1));
+      all = subst (λ (k : Kind). ShowsAtMost p before i k (Nodes (set_of {R = node_cmp} (nodes_of cs)))) (sym kind) node_there;
+      settled = nodes_settled;
+    }

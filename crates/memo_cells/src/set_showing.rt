@@ -1,0 +1,97 @@
+// The value that the words of a cell show.
+ghost use Rattle.std.specs.Prelude.{◌≡◌, ◌<◌, ◌^◌, IfOk, OnOk, false, true};
+ghost use Rattle.attr_rules.specs.Rules.{is_single};
+ghost use Rattle.equation_law.specs.Equations.{is_ordered, kind_in};
+ghost use Rattle.equation_law.specs.Names.{Instance as StandingInstance};
+ghost use Rattle.equation_law.specs.Systems.{program_of};
+ghost use Rattle.memo_cells.specs.Naming.{IsCellOf};
+ghost use Rattle.memo_cells.specs.Working.{IsOwn, ReadsOn, program_at};
+ghost use Rattle.memo_cells.specs.SetShown.{AddsWord, AreBelow, AreCodesShown, IsShownValue};
+
+use crate::keys::Slot;
+use crate::work::Words;
+use attr_rules::Kind;
+use code_sets::{Code, Codes};
+use equation_law::{System, Value};
+use rag_io::Memory;
+use std::alloc::Global;
+
+/// Adds the codes whose bits a word has, from one code on, below another. A refusal leaves none of them added.
+pub(crate) fn add_word(
+    codes: &mut Codes,
+    word: u32,
+    bits: u64,
+    from: Code,
+    to: Code,
+) -> Result<(), Memory>
+    requires { word < 2 ^ 26 }
+    ensures { OnOk result (AddsWord word bits from to codes.old codes.new) }
+{
+    let below = bits_below(word, to);
+    let before = bits_below(word, from);
+    codes.add_word(word, bits & below & !before)
+}
+
+// The bits of a word that stand for codes below one.
+fn bits_below(word: u32, code: Code) -> u64
+    requires { word < 2 ^ 26 }
+    ensures { AreBelow word code result }
+{
+    let count = code.saturating_sub(word * 64);
+    if count < 64 {
+        (1 << count) - 1
+    } else {
+        u64::MAX
+    }
+}
+
+/// The codes that the words of a cell show, from one code on, below another.
+fn codes_shown<W: Words>(
+    alloc: Global,
+    work: &mut W,
+    slot: Slot,
+    from: Code,
+    to: Code,
+) -> Result<Codes, Memory>
+    requires own { IsOwn (W.held work.old) }
+    requires cell { (i : StandingInstance) × IsCellOf (program_at (W.held work.old)) (W.held work.old).0 (W.held work.old).1 i slot.0 }
+    ensures on { ReadsOn (W.held work.old) (W.held work.new) }
+    ensures shown { IfOk result (λ codes. (i : StandingInstance) → IsCellOf (program_at (W.held work.old)) (W.held work.old).0 (W.held work.old).1 i slot.0 → is_single (kind_in (program_at (W.held work.old)) i) ≡ false → AreCodesShown (program_at (W.held work.old)) (W.held work.old).1 (W.held work.new).1 i from to codes) }
+{
+    let mut codes = Codes::none(alloc);
+    for word in 0..to.div_ceil(64) {
+        let bits = work.word(slot, word);
+        if bits != 0 {
+            add_word(&mut codes, word, bits, from, to)?;
+        }
+    }
+    Ok(codes)
+}
+
+/// The value of a set or a truth value that the words of a cell show; of another type, its default.
+pub fn value_shown<W: Words>(
+    alloc: Global,
+    system: &System,
+    work: &mut W,
+    slot: Slot,
+    kind: Kind,
+) -> Result<Value, Memory>
+    requires own { IsOwn (W.held work.old) }
+    requires same { (W.held work.old).0.system.value ≡ system.now }
+    requires cell { (i : StandingInstance) × IsCellOf (program_of system.now) (W.held work.old).0 (W.held work.old).1 i slot.0 }
+    ensures on { ReadsOn (W.held work.old) (W.held work.new) }
+    ensures shown { IfOk result (λ x. (i : StandingInstance) → IsCellOf (program_of system.now) (W.held work.old).0 (W.held work.old).1 i slot.0 → kind_in (program_of system.now) i ≡ kind → is_ordered kind ≡ true → IsShownValue (program_of system.now) (W.held work.old).1 (W.held work.new).1 i x) }
+{
+    match kind {
+        Kind::Truth => Ok(Value::Truth(work.word(slot, 0) == 1)),
+        Kind::Texts => {
+            let texts = system.pool().len();
+            Ok(Value::Texts(codes_shown(alloc, work, slot, 0, texts)?))
+        }
+        Kind::Nodes(_) => {
+            let nodes = system.tree().len() + 1;
+            Ok(Value::Nodes(codes_shown(alloc, work, slot, 1, nodes)?))
+        }
+        Kind::Int | Kind::Text | Kind::Node(_) => Ok(Value::default_of(alloc, kind)),
+    }
+}

@@ -1,6 +1,0 @@
-use Rattle.std.proofs.Common.{rules}
-use Rattle.set_words.proofs.Firsts.{gathers_next}
-use Rattle.set_words.proofs.raising.first_word.Goals as goal
-
-pub loop-count-preserved : goal.loop-count-preserved
-loop-count-preserved c = gathers_next c.args.codes.now _ c.loop-count.count c.loop-count.bits c.loop-count.invariant (search rules) (search rules)
