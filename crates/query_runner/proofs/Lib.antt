@@ -1,16 +1,2 @@
-pub mod Answerable
-pub mod Answered
-pub mod Contributed
-pub mod Ends
-pub mod Fits
-pub mod Lines
 pub mod OneAnswer
-pub mod OneReading
-pub mod OneReply
-pub mod Pieces
 pub mod Preparing
-pub mod ReplyLines
-pub mod SayingQueries
-pub mod Stopping
-pub mod Tested
-pub mod Unread

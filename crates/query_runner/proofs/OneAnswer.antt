@@ -3,19 +3,27 @@ use Rattle.std.proofs.Common.{◌≡◌, ◌≤◌, ℕ, List, ◌++◌, length,
 use Rattle.rag_io.specs.Outside.{Named, IsLong, IsShort}
 use Rattle.broken_rules.specs.declared.broken.Broken.{Broken}
 use Rattle.ast_grammar.specs.Grammar.{Class}
+use Rattle.ast_grammar.proofs.OneFile.{same_broken, same_grammar, says_or_breaks}
 use Rattle.attr_types.specs.Phases.{rules_of}
-use Rattle.jrag_reader.specs.Items.{Item as AspectItem}
+use Rattle.aspect_items.specs.Items.{Item as AspectItem}
+use Rattle.jrag_reader.proofs.OneFile.{same_aspects, same_broken as same_aspects_broken, says_or_breaks as aspects_or_break}
 use Rattle.tree_arena.specs.Terms.{Forest}
 use Rattle.tree_arena.proofs.AccessorsOnce.{one_term}
 use Rattle.tree_arena.proofs.AccessorsTrees.{term_alone}
+use Rattle.tree_reader.proofs.OneFile.{same_broken as same_tree_broken, says_or_breaks as reads_or_breaks}
 use Rattle.tree_writer.specs.Canonical.{canonical}
 use Rattle.equation_law.specs.Program.{Program}
-use Rattle.query_runner.specs.Files as files
-use Rattle.query_runner.specs.Files.{PairContents, Contents, File, IsBroken, IsCheckBroken, IsCheckNotBuilt, IsNotBuilt, IsTreeBroken, SaysCounts, SaysProgram, SaysText, counts_of, forms, no_queries}
-use Rattle.query_runner.specs.Output.{Answers, AreReplies, CheckOutput, HoldsAll, HoldsPair, HoldsShort, IsFirstLong, IsRefused, Output, TreeOutput, broken, broken_check, broken_line, broken_tree, pair_in_order, pair_name_of, check_not_built, counted, files_of, full, here, in_order, later, misused, name_of, not_built, printed, refused, replied, too_long}
-use Rattle.query_runner.specs.Words.{Check, PairNames, Command, FileNames, PrintTree, Run, command_of}
-use Rattle.query_runner.proofs.OneReading.{accepted_or_refused, accepted_there, aspects_or_break, both_rules, both_texts, both_trees, breaks_there, broken_there, built_or_not, nodes_there, one_refusal, queries_there, reads_or_breaks, refused_there, same_aspects, same_aspects_broken, same_broken, same_grammar, same_program, same_tree_broken, says_or_breaks, unbuilt_there}
-use Rattle.query_runner.proofs.OneReply.{one_replies}
+use Rattle.program_reader.specs.Files as files
+use Rattle.run_io.specs.Files.{PairContents, Contents, File}
+use Rattle.program_reader.specs.Files.{IsBroken, IsCheckBroken, IsCheckNotBuilt, IsNotBuilt, IsTreeBroken, SaysCounts, SaysProgram, SaysText, counts_of, forms, no_queries}
+use Rattle.run_io.specs.Holding.{here, later}
+use Rattle.query_runner.specs.Output.{Answers, CheckOutput, IsRefused, Output, TreeOutput, broken, broken_check, broken_line, broken_tree, check_not_built, counted, full, misused, not_built, printed, refused, replied, too_long}
+use Rattle.query_replies.specs.Replies.{AreReplies}
+use Rattle.run_io.specs.Holding.{HoldsAll, HoldsPair, HoldsShort, IsFirstLong}
+use Rattle.run_io.specs.Files.{pair_in_order, pair_name_of, files_of, in_order, name_of}
+use Rattle.run_io.specs.Words.{Check, PairNames, Command, FileNames, PrintTree, Run, command_of}
+use Rattle.program_reader.proofs.OneReading.{accepted_or_refused, accepted_there, both_rules, both_texts, both_trees, breaks_there, broken_there, built_or_not, nodes_there, one_refusal, queries_there, refused_there, same_program, unbuilt_there}
+use Rattle.query_replies.proofs.OneReply.{one_replies}
 
 -- a file is held once
 same_bytes : {files : List Named} {name a b : List ℕ} → HoldsShort files name a → HoldsShort files name b → a ≡ b

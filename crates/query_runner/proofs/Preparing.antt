@@ -5,15 +5,18 @@ use Rattle.broken_rules.specs.declared.broken.Broken.{Broken}
 use Rattle.query_runner.specs.declared.running.Answer.{Answer}
 use Rattle.query_runner.specs.declared.running.Answer.TheVariants as answers
 use Rattle.query_runner.specs.declared.running.Failure.{Failure}
-use Rattle.query_runner.specs.declared.fetching.Stop.{Stop}
-use Rattle.query_runner.specs.declared.fetching.Stop.TheVariants as stops
+use Rattle.run_io.specs.declared.fetching.Stop.{Stop}
+use Rattle.run_io.specs.declared.fetching.Stop.TheVariants as stops
 use Rattle.query_runner.specs.declared.running.Failure.TheVariants as failures
 use Rattle.query_runner.specs.Answered.{AnswersWhereTold, Stopped, status_of, text_of}
-use Rattle.query_runner.specs.Fetched.{FirstLongWhereTold, HoldsPairFetched, HoldsFetched, StopsAll}
-use Rattle.query_runner.specs.Files.{PairContents, Contents, File, IsBroken, IsCheckBroken, IsCheckNotBuilt, IsNotBuilt, IsTreeBroken, SaysCounts, SaysProgram, SaysText}
-use Rattle.query_runner.specs.Output.{Answers, AreReplies, broken, broken_check, broken_line, broken_tree, pair_name_of, check_not_built, counted, files_of, full, misused, most_cells, printed, refused, replied, too_long, not_built, name_of}
+use Rattle.run_io.specs.Fetched.{FirstLongWhereTold, HoldsPairFetched, HoldsFetched, StopsAll}
+use Rattle.run_io.specs.Files.{PairContents, Contents, File}
+use Rattle.program_reader.specs.Files.{IsBroken, IsCheckBroken, IsCheckNotBuilt, IsNotBuilt, IsTreeBroken, SaysCounts, SaysProgram, SaysText}
+use Rattle.query_runner.specs.Output.{Answers, broken, broken_check, broken_line, broken_tree, check_not_built, counted, full, misused, most_cells, printed, refused, replied, too_long, not_built}
+use Rattle.query_replies.specs.Replies.{AreReplies}
+use Rattle.run_io.specs.Files.{pair_name_of, files_of, name_of}
 use Rattle.caller_pass.specs.Overfull.{IsOverfull}
-use Rattle.query_runner.specs.Words.{Check, PairNames, Command, FileNames, PrintTree, Run, command_of}
+use Rattle.run_io.specs.Words.{Check, PairNames, Command, FileNames, PrintTree, Run, command_of}
 use Rattle.equation_law.specs.Program.{Program}
 
 pub usage_answer : (words : List (List ℕ)) (files : Option (List Named)) → command_of words ≡ None → AnswersWhereTold words files answers.Usage

@@ -1,8 +1,8 @@
 -- What is to be written, as the code keeps it.
 use Rattle.std.specs.Prelude.{◌≡◌, ℕ, List, ◌++◌, Option, Some, None, Result, Err, IfOk, codes}
 use Rattle.rag_io.specs.Outside.{Named}
-use Rattle.query_runner.specs.declared.fetching.Stop.{Stop}
-use Rattle.query_runner.specs.declared.fetching.Stop.TheVariants as stops
+use Rattle.run_io.specs.declared.fetching.Stop.{Stop}
+use Rattle.run_io.specs.declared.fetching.Stop.TheVariants as stops
 use Rattle.query_runner.specs.declared.running.Answer.{Answer}
 use Rattle.query_runner.specs.declared.running.Failure.{Failure}
 use Rattle.query_runner.specs.declared.running.Failure.TheVariants as failures

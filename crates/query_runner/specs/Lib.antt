@@ -1,17 +1,3 @@
 pub mod Answered
-pub mod Built
-pub mod Fetched
-pub mod Files
-pub mod Named
-pub mod Names
 pub mod Output
-pub mod Queries
-pub mod QueryClaims
-pub mod QueryGrammar
-pub mod QuerySteps
-pub mod Replies
 pub mod Run
-pub mod Sentences
-pub mod Tokens
-pub mod Unread
-pub mod Words

@@ -1,45 +1,16 @@
 -- What the program is to write.
-use Rattle.std.specs.Prelude.{◌≡◌, ℕ, suc, ◌≤◌, List, [], ◌∷◌, ◌++◌, Some, None, codes, length}
+use Rattle.std.specs.Prelude.{◌≡◌, ℕ, List, ◌++◌, Some, None, codes}
 use Rattle.std.specs.Fmt.{decimal}
-use Rattle.rag_io.specs.Outside.{Named, content_of, longest_file, IsLong, IsShort}
+use Rattle.rag_io.specs.Outside.{Named}
 use Rattle.broken_rules.specs.Codes.{code_of}
 use Rattle.broken_rules.specs.declared.broken.Broken.{Broken}
-use Rattle.attr_rules.specs.Queries.{Query as Asked}
-use Rattle.equation_law.specs.Loops.{HasLoop}
-use Rattle.equation_law.specs.Names.{Query}
-use Rattle.equation_law.specs.Values.{Value}
 use Rattle.equation_law.specs.Program.{Program}
-use Rattle.equation_law.specs.Equations.{HasValue}
 use Rattle.caller_pass.specs.Overfull.{IsOverfull}
-use Rattle.query_lang.specs.Replies.{IsReplyText}
-use Rattle.query_runner.specs.Files.{Contents, PairContents, SaysCounts, SaysProgram, SaysText, File, Ast, Jrag, Tree, Queries, IsBroken, IsCheckBroken, IsCheckNotBuilt, IsNotBuilt, IsTreeBroken}
-use Rattle.query_runner.specs.Words.{Check, Command, FileNames, PairNames, PrintTree, Run, command_of}
-
--- One line for each query from the q-th on: the text of its value in the solution, or `circular` where it has a
--- loop, and a line feed.
-pub data AreReplies (p : Program) : ℕ → List Asked → List ℕ → Type 0 where
-  none : {q : ℕ} → AreReplies p q [] []
-  reply : {q : ℕ} {e : Asked} {es : List Asked} {v : Value} {text rest : List ℕ} → HasValue p (Query q) v → IsReplyText v text
-      → AreReplies p (suc q) es rest → AreReplies p q (e ∷ es) (text ++ 10 ∷ rest)
-  looped : {q : ℕ} {e : Asked} {es : List Asked} {rest : List ℕ} → HasLoop p (Query q)
-      → AreReplies p (suc q) es rest → AreReplies p q (e ∷ es) (codes "circular" ++ 10 ∷ rest)
-
--- The shelf holds these bytes under a name, and they aren't too many.
-pub record HoldsShort (files : List Named) (name bytes : List ℕ) : Type 0 where
-  pub held : content_of files name ≡ Some bytes
-  pub fits : length bytes ≤ longest_file
-
--- It holds these bytes under the four names.
-pub record HoldsAll (files : List Named) (names : FileNames) (held : Contents) : Type 0 where
-  pub ast : HoldsShort files names.ast held.ast
-  pub jrag : HoldsShort files names.jrag held.jrag
-  pub tree : HoldsShort files names.tree held.tree
-  pub queries : HoldsShort files names.queries held.queries
-
--- It holds these bytes under the two names.
-pub record HoldsPair (files : List Named) (names : PairNames) (held : PairContents) : Type 0 where
-  pub ast : HoldsShort files names.ast held.ast
-  pub other : HoldsShort files names.other held.other
+use Rattle.query_replies.specs.Replies.{AreReplies}
+use Rattle.run_io.specs.Files.{Contents, PairContents, File, files_of, name_of, pair_name_of}
+use Rattle.run_io.specs.Holding.{HoldsAll, HoldsPair, IsFirstLong}
+use Rattle.program_reader.specs.Files.{SaysCounts, SaysProgram, SaysText, IsBroken, IsCheckBroken, IsCheckNotBuilt, IsNotBuilt, IsTreeBroken}
+use Rattle.run_io.specs.Words.{Check, Command, FileNames, PairNames, PrintTree, Run, command_of}
 
 -- The output for some words, over the files that a shelf holds: the replies of the program that they say.
 pub record Output (words : List (List ℕ)) (files : List Named) (text : List ℕ) : Type 0 where
@@ -66,36 +37,6 @@ pub record TreeOutput (words : List (List ℕ)) (files : List Named) (text : Lis
   pub read : command_of words ≡ Some (PrintTree names)
   pub held : HoldsPair files names contents
   pub said : SaysText contents text
-
-abbrev pub name_of : FileNames → File → List ℕ
-name_of names Ast = names.ast
-name_of names Jrag = names.jrag
-name_of names Tree = names.tree
-name_of names Queries = names.queries
-
--- `check` and `tree` have two files
-abbrev pub pair_name_of : PairNames → File → List ℕ
-pair_name_of names Ast = names.ast
-pair_name_of names Jrag = names.other
-pair_name_of names Tree = names.other
-pair_name_of names Queries = names.other
-
--- the files in the order of the command
-abbrev pub in_order : FileNames → List (List ℕ)
-in_order names = names.ast ∷ names.jrag ∷ names.tree ∷ names.queries ∷ []
-
-abbrev pub pair_in_order : PairNames → List (List ℕ)
-pair_in_order names = names.ast ∷ names.other ∷ []
-
-abbrev pub files_of : Command → List (List ℕ)
-files_of (Run names) = in_order names
-files_of (Check names) = pair_in_order names
-files_of (PrintTree names) = pair_in_order names
-
--- the first of some files that is too long, those before it being held and short enough
-pub data IsFirstLong (files : List Named) : List (List ℕ) → List ℕ → Type 0 where
-  here : {name : List ℕ} {names : List (List ℕ)} → IsLong files name → IsFirstLong files (name ∷ names) name
-  later : {name found : List ℕ} {names : List (List ℕ)} → IsShort files name → IsFirstLong files names found → IsFirstLong files (name ∷ names) found
 
 -- the line of a broken rule
 abbrev pub broken_line : List ℕ → Broken → List ℕ

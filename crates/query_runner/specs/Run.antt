@@ -1,22 +1,8 @@
 -- What a run of the program leaves in the sink.
-use Rattle.std.specs.Prelude.{◌≡◌, ℕ, ◌≤◌, List, ◌++◌, length, take, Option, Some, None}
+use Rattle.std.specs.Prelude.{ℕ, List, Option, Some, None}
 use Rattle.rag_io.specs.Outside.{Named}
 use Rattle.query_runner.specs.Output.{Answers}
-
--- a sink that tells took this text
-abbrev pub Took : Option (List ℕ) → List ℕ → Option (List ℕ) → Type 0
-Took None text new = Unit {0}
-Took (Some old) text new = new ≡ Some (old ++ text)
-
--- it took a front of the text
-pub record TookPart (old text : List ℕ) (new : Option (List ℕ)) : Type 0 where
-  pub count : ℕ
-  pub within : count ≤ length text
-  pub took : new ≡ Some (old ++ take count text)
-
-abbrev pub TookSome : Option (List ℕ) → List ℕ → Option (List ℕ) → Type 0
-TookSome None text new = Unit {0}
-TookSome (Some old) text new = TookPart old text new
+use Rattle.run_io.specs.Taking.{Took, TookSome}
 
 -- exactly the answer of this status was put, and nothing else
 pub record PutsAnswer (words : List (List ℕ)) (files : List Named) (old : Option (List ℕ)) (new : Option (List ℕ)) (status : ℕ) : Type 0 where

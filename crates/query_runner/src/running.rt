@@ -2,18 +2,20 @@
 ghost use Rattle.std.specs.Prelude.{◌≡◌, ◌≢◌, ◌⊎◌, ◌≤◌, ◌++◌, ℕ, List, None, Some, Ok, Err, map, IfOk, IfErr};
 ghost use Rattle.rag_io.specs.Outside.{Rose};
 ghost use Rattle.query_runner.specs.Answered.{AnswersWhereTold, Stopped, status_of, text_of};
-ghost use Rattle.query_runner.specs.Run.{Took, WritesAnswer, WritesPart};
+ghost use Rattle.run_io.specs.Taking.{Took};
+ghost use Rattle.query_runner.specs.Run.{WritesAnswer, WritesPart};
 ghost use Rattle.query_runner.specs.Output.{broken_line, usage};
-ghost use Rattle.query_runner.specs.Words.{Check as AsksCheck, PrintTree, Run as AsksRun, command_of, text_of_word};
-ghost use Rattle.query_runner.specs.Named.{seen_names, seen_pair_names};
+ghost use Rattle.run_io.specs.Words.{Check as AsksCheck, PrintTree, Run as AsksRun, command_of, text_of_word};
+ghost use Rattle.run_io.specs.Named.{seen_names, seen_pair_names};
 
-use crate::fetching::{Stop, fetch_all, fetch_pair};
-use crate::files::{Refusal, counts_text, read_system, tree_text};
-use crate::putting::put_all;
-use crate::replies::{ReplyFault, reply_lines};
-use crate::words::{Command, Names, PairNames, command_of, name_of, pair_name_of};
 use broken_rules::Broken;
+use program_reader::{Refusal, counts_text, read_system, tree_text};
+use query_replies::{ReplyFault, reply_lines};
 use rag_io::{Gate, Shelf, Sink};
+use run_io::{
+    Command, Names, PairNames, Stop, command_of, fetch_all, fetch_pair, name_of, pair_name_of,
+    put_all,
+};
 use std::alloc::Global;
 use std::thread::Threads;
 

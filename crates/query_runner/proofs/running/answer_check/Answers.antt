@@ -1,10 +1,10 @@
 -- Each end of the counting has its answer.
 use Rattle.std.proofs.Common.{◌≡◌, ℕ, List, ◌++◌, IfOk, codes, refl, subst}
 use Rattle.query_runner.specs.Answered.{status_of, text_of}
-use Rattle.query_runner.specs.Fetched.{seen_pair}
-use Rattle.query_runner.specs.Named.{seen_file, seen_pair_names}
+use Rattle.run_io.specs.Fetched.{seen_pair}
+use Rattle.run_io.specs.Named.{seen_file, seen_pair_names}
 use Rattle.query_runner.specs.Output.{broken_line}
-use Rattle.query_runner.specs.Words.{Check}
+use Rattle.run_io.specs.Words.{Check}
 use Rattle.query_runner.specs.declared.running.Answer.TheVariants.{Output}
 use Rattle.query_runner.proofs.Preparing.{broken_check_answer, counts_answer, stop_answer, unbuilt_check_answer}
 use Rattle.query_runner.proofs.running.answer_check.Goals as goal

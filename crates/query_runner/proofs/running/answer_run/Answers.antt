@@ -2,13 +2,13 @@
 use Rattle.std.proofs.Common.{◌≡◌, ℕ, List, ◌++◌, Err, IfOk, ap, codes, refl, subst}
 use Rattle.equation_law.specs.Systems.{program_of}
 use Rattle.query_runner.specs.Answered.{status_of, text_of}
-use Rattle.query_runner.specs.Fetched.{seen_contents}
-use Rattle.query_runner.specs.Named.{seen_file, seen_names}
+use Rattle.run_io.specs.Fetched.{seen_contents}
+use Rattle.run_io.specs.Named.{seen_file, seen_names}
 use Rattle.query_runner.specs.Output.{broken_line}
-use Rattle.query_runner.specs.Words.{Run}
+use Rattle.run_io.specs.Words.{Run}
 use Rattle.query_runner.specs.declared.running.Answer.TheVariants.{Output}
 use Rattle.equation_law.proofs.Pooled.{texts_pooled}
-use Rattle.query_runner.proofs.Answerable.{is_program}
+use Rattle.program_reader.proofs.Answerable.{is_program}
 use Rattle.query_runner.proofs.Preparing.{broken_answer, full_answer, reply_answer, stop_answer, unbuilt_answer}
 use Rattle.query_runner.proofs.running.answer_run.Goals as goal
 

@@ -1,10 +1,10 @@
 -- Each end of the printing of a tree has its answer.
 use Rattle.std.proofs.Common.{◌≡◌, ℕ, List, IfOk, refl, subst}
 use Rattle.query_runner.specs.Answered.{status_of, text_of}
-use Rattle.query_runner.specs.Fetched.{seen_pair}
-use Rattle.query_runner.specs.Named.{seen_file, seen_pair_names}
+use Rattle.run_io.specs.Fetched.{seen_pair}
+use Rattle.run_io.specs.Named.{seen_file, seen_pair_names}
 use Rattle.query_runner.specs.Output.{broken_line}
-use Rattle.query_runner.specs.Words.{PrintTree}
+use Rattle.run_io.specs.Words.{PrintTree}
 use Rattle.query_runner.specs.declared.running.Answer.TheVariants.{Output}
 use Rattle.query_runner.proofs.Preparing.{broken_tree_answer, stop_answer, tree_answer}
 use Rattle.query_runner.proofs.running.answer_tree.Goals as goal

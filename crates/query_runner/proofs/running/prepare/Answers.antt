@@ -1,6 +1,6 @@
 -- Words that ask for nothing have the usage text as their answer.
 use Rattle.std.proofs.Common.{map}
-use Rattle.query_runner.specs.Words.{text_of_word}
+use Rattle.run_io.specs.Words.{text_of_word}
 use Rattle.query_runner.proofs.Preparing.{usage_answer}
 use Rattle.query_runner.proofs.running.prepare.Goals as goal
 

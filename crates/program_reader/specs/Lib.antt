@@ -1,0 +1,9 @@
+pub mod Built
+pub mod Files
+pub mod Names
+pub mod Queries
+pub mod QueryClaims
+pub mod QueryGrammar
+pub mod QuerySteps
+pub mod Tokens
+pub mod Unread
