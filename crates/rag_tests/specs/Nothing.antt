@@ -1,0 +1,5 @@
+-- A reader that has no value.
+use Rattle.equation_law.specs.Reading.{Told}
+
+abbrev pub nothing : {S : Type 0} → Told S
+nothing {S} = record { for = λ p. Unit {0}; has = λ i v. ⊥; can = λ i v. ⊥; keeps = λ earlier. Unit {0} }

@@ -1,0 +1,34 @@
+//! The tests of what no case of `rag_cases` can say: what the gate, the shelf and the sink see, what a pass knows, full tables, texts that fill
+//! the pool, the rounds as the slow way to the same replies, and public calls that no run of the program reaches.
+#![tactic(auto)]
+
+#[cfg(test)]
+mod calls;
+#[cfg(test)]
+mod cells;
+#[cfg(test)]
+mod codes;
+#[cfg(test)]
+mod demand;
+#[cfg(test)]
+mod events;
+#[cfg(test)]
+mod forms;
+#[cfg(test)]
+mod kept;
+#[cfg(test)]
+mod limits;
+#[cfg(test)]
+mod long;
+#[cfg(test)]
+mod named;
+#[cfg(test)]
+mod numbers;
+#[cfg(test)]
+mod outside;
+#[cfg(test)]
+mod programs;
+#[cfg(test)]
+mod texts;
+#[cfg(test)]
+mod trees;

@@ -1,0 +1,67 @@
+// The systems that texts say, and long texts.
+ghost use Rattle.std.specs.Prelude.{◌≤◌, IfOk, length};
+ghost use Rattle.rag_io.specs.Outside.{longest_file};
+ghost use Rattle.equation_law.specs.Checked.{IsProgram};
+ghost use Rattle.equation_law.specs.Systems.{program_of};
+
+use equation_law::System;
+use program_reader::read_system;
+use rag_io::LONGEST_FILE;
+use run_io::Contents;
+use std::alloc::{AllocError, Global};
+use std::process::Abort;
+use std::test::Fail;
+
+/// The texts of a grammar, aspects, a tree and queries.
+#[derive(Clone, Copy)]
+pub(crate) struct Texts<'a> {
+    pub(crate) ast: &'a str,
+    pub(crate) jrag: &'a str,
+    pub(crate) tree: &'a str,
+    pub(crate) queries: &'a str,
+}
+
+/// The number of nodes below each node of a chain.
+pub(crate) const COUNTED: &str = "aspect A { syn int L.d() = hasL() ? getL().d() + 1 : 0; }";
+
+fn bytes_of(rt: &impl Abort, alloc: Global, text: &str) -> Result<Vec<u8>, Fail>
+    ensures { IfOk result (λ bytes. length bytes.items ≤ longest_file) }
+{
+    assert!(rt; text.len() <= LONGEST_FILE);
+    Ok(Vec::from_slice(alloc, text.as_bytes())?)
+}
+
+/// The system that four texts say.
+pub(crate) fn system_said(rt: &impl Abort, alloc: Global, texts: Texts<'_>) -> Result<System, Fail>
+    ensures { IfOk result (λ system. IsProgram (program_of system)) }
+{
+    let contents = Contents {
+        ast: bytes_of(rt, alloc, texts.ast)?,
+        jrag: bytes_of(rt, alloc, texts.jrag)?,
+        tree: bytes_of(rt, alloc, texts.tree)?,
+        queries: bytes_of(rt, alloc, texts.queries)?,
+    };
+    match read_system(alloc, &contents) {
+        Ok(system) => Ok(system),
+        Err(_) => Err("refused".into()),
+    }
+}
+
+/// A text so many times.
+pub(crate) fn repeated(alloc: Global, part: &str, times: usize) -> Result<String, AllocError> {
+    let mut text = String::new(alloc);
+    for _ in 0..times {
+        text.push_str(part)?;
+    }
+    Ok(text)
+}
+
+/// So many nodes, each below the one before.
+pub(crate) fn chained_tree(alloc: Global, nodes: usize) -> Result<String, AllocError> {
+    let before = nodes.saturating_sub(1);
+    let mut tree = repeated(alloc, "L([", before)?;
+    tree.push_str("L([])")?;
+    let ends = repeated(alloc, "])", before)?;
+    tree.push_str(&ends)?;
+    Ok(tree)
+}
