@@ -4,7 +4,7 @@ ghost use Rattle.rag_io.specs.Outside.{longest_file};
 ghost use Rattle.equation_law.specs.Checked.{IsProgram};
 ghost use Rattle.equation_law.specs.Systems.{program_of};
 
-use crate::programs::{Texts, system_said};
+use crate::programs::{Checks, Texts, check_said};
 use aspect_items::Expr;
 use ast_grammar::{ClassId, Grammar};
 use attr_rules::{AttrId, EqId};
@@ -94,11 +94,18 @@ fn check_sites(rt: &impl Abort, alloc: Global, system: &System) -> Result<(), Fa
     Ok(())
 }
 
+// Where equations are found, and what they evaluate to.
+struct Sites;
+
+impl Checks for Sites {
+    fn check(&self, rt: &impl Abort, alloc: Global, system: &System) -> Result<(), Fail> {
+        check_sites(rt, alloc, system)
+    }
+}
+
 #[test]
 fn equations_are_found_and_evaluated(rt: HostRuntime) -> Result<(), Fail> {
-    let alloc = rt.alloc();
-    let system = system_said(&rt, alloc, TEXTS)?;
-    check_sites(&rt, alloc, &system)
+    check_said(&rt, rt.alloc(), TEXTS, &Sites)
 }
 
 fn check_names(rt: &impl Abort, grammar: &Grammar) {
@@ -113,12 +120,20 @@ fn check_ends(rt: &impl Abort, tree: &Tree) {
     }
 }
 
+// What components are called, and where subtrees end.
+struct Ends;
+
+impl Checks for Ends {
+    fn check(&self, rt: &impl Abort, _alloc: Global, system: &System) -> Result<(), Fail> {
+        check_names(rt, system.grammar());
+        check_ends(rt, system.tree());
+        Ok(())
+    }
+}
+
 #[test]
 fn components_have_names_and_subtrees_ends(rt: HostRuntime) -> Result<(), Fail> {
-    let system = system_said(&rt, rt.alloc(), TEXTS)?;
-    check_names(&rt, system.grammar());
-    check_ends(&rt, system.tree());
-    Ok(())
+    check_said(&rt, rt.alloc(), TEXTS, &Ends)
 }
 
 // Whether the expression is `@3.v(..)` with so many arguments.
@@ -133,14 +148,21 @@ fn is_call_at_3(expr: &Expr, arguments: usize) -> bool {
     }
 }
 
+// The expression that a text says.
+fn expr_said(alloc: Global, text: &[u8], pool: &mut Pool) -> Result<Expr, Fail>
+    requires { length text.now ≤ longest_file }
+{
+    let tokens = scan(alloc, text)?;
+    match read_expr(alloc, &tokens, pool) {
+        Ok(expr) => Ok(expr),
+        Err(_) => Err("no expression".into()),
+    }
+}
+
 #[test]
 fn single_expressions_name_nodes(rt: HostRuntime) -> Result<(), Fail> {
-    let alloc = rt.alloc();
-    let mut pool = Pool::new(alloc)?;
-    let tokens = scan(alloc, b"@3.v(1, \"x\")")?;
-    let Ok(expr) = read_expr(alloc, &tokens, &mut pool) else {
-        return Err("no expression".into());
-    };
+    let mut pool = Pool::new(rt.alloc())?;
+    let expr = expr_said(rt.alloc(), b"@3.v(1, \"x\")", &mut pool)?;
     assert!(rt; is_call_at_3(&expr, 2));
     assert_eq!(rt; pool.find(b"x"), Some(1));
     Ok(())

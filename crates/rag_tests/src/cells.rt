@@ -2,11 +2,12 @@
 ghost use Rattle.std.specs.Prelude.{◌≡◌};
 ghost use Rattle.memo_cells.specs.Standing.{IsPassOf};
 
-use crate::programs::{Texts, system_said};
+use crate::programs::{Checks, Texts, check_said};
 use attr_rules::AttrId;
 use equation_law::{Code, NodeRef, System, Value};
 use memo_cells::{Cells, Key, Pass, Slot, codes_of};
 use std::alloc::Global;
+use std::process::Abort;
 use std::test::Fail;
 
 const TEXTS: Texts<'_> = Texts {
@@ -52,14 +53,21 @@ fn make(alloc: Global, system: &System, count: u32) -> Result<(u32, u32, u32), F
     Ok((cells.size(), settled, claimed))
 }
 
+struct NewCells;
+
+impl Checks for NewCells {
+    fn check(&self, rt: &impl Abort, alloc: Global, system: &System) -> Result<(), Fail> {
+        for count in [1024, 1025, 65536, 4194304] {
+            assert_eq!(rt; make(alloc, system, count)?, (count, 0, 0));
+        }
+        Ok(())
+    }
+}
+
 #[test]
 fn new_cells_have_no_key(rt: HostRuntime) -> Result<(), Fail> {
-    let system = system_said(&rt, rt.alloc(), TEXTS)?;
-    for count in [1024, 1025, 65536, 4194304] {
-        assert_eq!(rt; make(rt.alloc(), &system, count)?, (count, 0, 0));
-    }
     assert!(rt; codes_of(rt.alloc(), &Value::Truth(true))?.is_empty());
-    Ok(())
+    check_said(&rt, rt.alloc(), TEXTS, &NewCells)
 }
 
 // Claims a query of the system: where it was before, where it stands now, the code that is settled there, and the word that it shows. None
@@ -108,9 +116,16 @@ fn other_claim(alloc: Global, system: &System) -> Result<(Option<u32>, u32), Fai
     Ok((other, cells.settled_count(&mut pass)))
 }
 
+struct Claimed;
+
+impl Checks for Claimed {
+    fn check(&self, rt: &impl Abort, alloc: Global, system: &System) -> Result<(), Fail> {
+        assert_eq!(rt; other_claim(alloc, system)?, (None, 0));
+        Ok(())
+    }
+}
+
 #[test]
 fn each_key_has_one_slot(rt: HostRuntime) -> Result<(), Fail> {
-    let system = system_said(&rt, rt.alloc(), TEXTS)?;
-    assert_eq!(rt; other_claim(rt.alloc(), &system)?, (None, 0));
-    Ok(())
+    check_said(&rt, rt.alloc(), TEXTS, &Claimed)
 }

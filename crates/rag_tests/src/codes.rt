@@ -59,6 +59,11 @@ fn expect_has(rt: &impl Abort, codes: &Codes, list: &[Code]) -> Result<(), Fail>
     Ok(())
 }
 
+// The codes of a set that two make.
+fn list_of(alloc: Global, made: Result<Codes, Memory>) -> Result<Vec<Code>, Fail> {
+    Ok(made?.list(alloc)?)
+}
+
 // What two sets make.
 fn expect_made(
     rt: &impl Abort,
@@ -67,12 +72,16 @@ fn expect_made(
     right: &Codes,
     want: [&[Code]; 3],
 ) -> Result<(), Fail> {
-    let [either, both, first] = want;
-    expect_set(rt, alloc, &left.union(right)?, either)?;
-    expect_set(rt, alloc, &left.inter(alloc, right)?, both)?;
-    expect_set(rt, alloc, &left.minus(alloc, right)?, first)?;
-    let copy = left.copy()?;
-    assert_eq!(rt; copy.len(), left.len());
+    assert_eq!(rt; list_of(alloc, left.union(right))?.as_slice(), want[0]);
+    assert_eq!(rt;
+        list_of(alloc, left.inter(alloc, right))?.as_slice(),
+        want[1]
+    );
+    assert_eq!(rt;
+        list_of(alloc, left.minus(alloc, right))?.as_slice(),
+        want[2]
+    );
+    assert_eq!(rt; list_of(alloc, left.copy())?.len(), left.len());
     Ok(())
 }
 

@@ -5,7 +5,7 @@ ghost use Rattle.equation_law.specs.Codes.{IsCoded, instance_of};
 ghost use Rattle.equation_law.specs.Systems.{program_of};
 ghost use Rattle.memo_cells.specs.Standing.{IsPassOf, Knows};
 
-use crate::programs::{COUNTED, Texts, chained_tree, system_said};
+use crate::programs::{COUNTED, Checks, Texts, chained_tree, check_said};
 use caller_pass::{AskFault, Steps, ask};
 use equation_law::{Instance, Single, System, Value};
 use memo_cells::{Cells, Pass};
@@ -113,21 +113,28 @@ fn expect_full<L: Ledger>(
     Ok(())
 }
 
+// A system whose second query needs more cells than there are: what the first one settled stays, and its replies end there.
+struct FullCells;
+
+impl Checks for FullCells {
+    fn check(&self, rt: &impl Abort, alloc: Global, system: &System) -> Result<(), Fail> {
+        expect_full::<Brand>(rt, alloc, system, Blank::new(1))?;
+        let lines = reply_lines(alloc, &Silent, system, 1024);
+        assert_eq!(rt; lines.err(), Some(ReplyFault::Cells));
+        Ok(())
+    }
+}
+
 #[test]
 fn full_cells_keep_what_is_settled(rt: HostRuntime) -> Result<(), Fail> {
-    let alloc = rt.alloc();
-    let tree = chained_tree(alloc, 1_100)?;
+    let tree = chained_tree(rt.alloc(), 1_100)?;
     let texts = Texts {
         ast: "L ::= [L];",
         jrag: COUNTED,
         tree: tree.as_str(),
         queries: "@600.d()\n@0.d()",
     };
-    let system = system_said(&rt, alloc, texts)?;
-    expect_full::<Brand>(&rt, alloc, &system, Blank::new(1))?;
-    let lines = reply_lines(alloc, &Silent, &system, 1024);
-    assert_eq!(rt; lines.err(), Some(ReplyFault::Cells));
-    Ok(())
+    check_said(&rt, rt.alloc(), texts, &FullCells)
 }
 
 // `a` demands 499 attributes of one node, each with another argument, and `b` ever more.
@@ -136,15 +143,13 @@ const COUNTED_DOWN: &str =
 
 #[test]
 fn full_cells_of_arguments_keep_what_is_settled(rt: HostRuntime) -> Result<(), Fail> {
-    let alloc = rt.alloc();
     let texts = Texts {
         ast: "N;",
         jrag: COUNTED_DOWN,
         tree: "N()",
         queries: "@0.a()\n@0.b()",
     };
-    let system = system_said(&rt, alloc, texts)?;
-    expect_full::<Brand>(&rt, alloc, &system, Blank::new(1))
+    check_said(&rt, rt.alloc(), texts, &FullCells)
 }
 
 // Asks for what is known: it takes no evaluation.
@@ -196,17 +201,24 @@ fn expect_twice<L: Ledger>(
     }
 }
 
+// What is asked for twice.
+struct Twice;
+
+impl Checks for Twice {
+    fn check(&self, rt: &impl Abort, alloc: Global, system: &System) -> Result<(), Fail> {
+        expect_twice::<Brand>(rt, alloc, system, Blank::new(1))
+    }
+}
+
 #[test]
 fn what_is_known_is_given_again(rt: HostRuntime) -> Result<(), Fail> {
-    let alloc = rt.alloc();
     let texts = Texts {
         ast: "N;",
         jrag: "aspect A { syn int N.z() = 5; }",
         tree: "N()",
         queries: "@0.z()",
     };
-    let system = system_said(&rt, alloc, texts)?;
-    expect_twice::<Brand>(&rt, alloc, &system, Blank::new(1))
+    check_said(&rt, rt.alloc(), texts, &Twice)
 }
 
 const ATTRIBUTES: u32 = 6;
@@ -270,36 +282,44 @@ fn rounds_lines(alloc: Global, system: &System) -> Result<String, Fail> {
     Ok(text)
 }
 
-// Checks that rounds and demand give the same lines.
-fn expect_same(rt: &impl Abort, alloc: Global, system: &System, aspects: &str) -> Result<(), Fail>
-    requires { IsProgram (program_of system.now) }
-{
-    match reply_lines(alloc, &Silent, system, 1024) {
-        Ok(lines) => {
-            let slow = rounds_lines(alloc, system)?;
-            assert_eq!(rt; lines.as_slice(), slow.as_bytes(), "{aspects}");
-            Ok(())
+// The lines of rounds and of demand, which are the same.
+struct BothWays;
+
+impl Checks for BothWays {
+    fn check(&self, rt: &impl Abort, alloc: Global, system: &System) -> Result<(), Fail> {
+        let slow = rounds_lines(alloc, system)?;
+        match reply_lines(alloc, &Silent, system, 1024) {
+            Ok(lines) => assert_eq!(rt; lines.as_slice(), slow.as_bytes()),
+            Err(_) => panic!(rt; "no lines"),
         }
-        Err(_) => Err("no lines".into()),
+        Ok(())
     }
+}
+
+fn expect_same(
+    rt: &impl Abort,
+    alloc: Global,
+    random: &mut Pcg32,
+    tree: &str,
+    queries: &str,
+) -> Result<(), Fail> {
+    let aspects = random_aspects(alloc, random)?;
+    let texts = Texts {
+        ast: "L ::= [L];",
+        jrag: aspects.as_str(),
+        tree,
+        queries,
+    };
+    check_said(rt, alloc, texts, &BothWays)
 }
 
 #[test]
 fn rounds_and_demand_agree(rt: HostRuntime) -> Result<(), Fail> {
-    let alloc = rt.alloc();
     let mut random = Pcg32::new(8, 1);
-    let tree = chained_tree(alloc, NODES as usize)?;
-    let queries = all_queries(alloc)?;
+    let tree = chained_tree(rt.alloc(), NODES as usize)?;
+    let queries = all_queries(rt.alloc())?;
     for _ in 0..40 {
-        let aspects = random_aspects(alloc, &mut random)?;
-        let texts = Texts {
-            ast: "L ::= [L];",
-            jrag: aspects.as_str(),
-            tree: tree.as_str(),
-            queries: queries.as_str(),
-        };
-        let system = system_said(&rt, alloc, texts)?;
-        expect_same(&rt, alloc, &system, &aspects)?;
+        expect_same(&rt, rt.alloc(), &mut random, &tree, &queries)?;
     }
     Ok(())
 }

@@ -3,7 +3,8 @@ ghost use Rattle.std.specs.Prelude.{◌≤◌, length};
 ghost use Rattle.equation_law.specs.Program.{most_replies};
 
 use crate::calls::Nothing;
-use ast_grammar::{ClassId, Grammar, read_ast_bytes};
+use crate::programs::grammar_of;
+use ast_grammar::{ClassId, Grammar};
 use attr_rules::{Attributes, Dispatch, Kind, Operator, QueryEq, Rules, SetOperator, TExpr};
 use code_sets::Codes;
 use equation_law::{NodeRef, Queries, Single, System, Value};
@@ -152,14 +153,6 @@ fn queries_of_forms(alloc: Global) -> Result<Vec<QueryEq>, Fail> {
     Ok(queries)
 }
 
-fn grammar_of(rt: &impl Abort, alloc: Global) -> Result<Grammar, Fail> {
-    assert!(rt; GRAMMAR.len() <= LONGEST_FILE);
-    match read_ast_bytes(alloc, GRAMMAR.as_bytes()) {
-        Ok(grammar) => Ok(grammar),
-        Err(_) => Err("no grammar".into()),
-    }
-}
-
 // No attribute and no equation.
 fn no_rules(alloc: Global, grammar: &Grammar) -> Result<Rules, Memory> {
     let attributes = Attributes::of_list(alloc, grammar, &[])?;
@@ -179,7 +172,7 @@ fn source(rt: &impl Abort, alloc: Global, grammar: &Grammar) -> Result<(Tree, Po
 fn system_of(rt: &impl Abort, alloc: Global, queries: Vec<QueryEq>) -> Result<System, Fail>
     requires { length queries.items ≤ most_replies }
 {
-    let grammar = grammar_of(rt, alloc)?;
+    let grammar = grammar_of(rt, alloc, GRAMMAR)?;
     let rules = no_rules(alloc, &grammar)?;
     let (tree, pool) = source(rt, alloc, &grammar)?;
     Ok(System::new(grammar, rules, tree, pool, Queries::new(queries)))

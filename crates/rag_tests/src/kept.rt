@@ -4,23 +4,16 @@ ghost use Rattle.ast_grammar.specs.Grammar.{superclasses_of};
 ghost use Rattle.attr_rules.specs.Dispatching.{IsTarget};
 ghost use Rattle.attr_rules.specs.KeptEquations.{kept_target};
 
-use ast_grammar::{ClassId, Grammar, read_ast_bytes};
+use crate::programs::grammar_of;
+use ast_grammar::{ClassId, Grammar};
 use attr_rules::{
     Access, Accessor, Attr, AttrId, Attributes, Dispatch, EqId, KeptEquation, Kind, NamedAttr,
     Params, Reach, Rules, Sort, Start, TExpr, Target, ValueType, accessor_of, is_spelled,
 };
-use rag_io::{LONGEST_FILE, Memory};
+use rag_io::Memory;
 use std::alloc::{AllocError, Global};
 use std::process::Abort;
 use std::test::Fail;
-
-fn grammar_of(rt: &impl Abort, alloc: Global, text: &str) -> Result<Grammar, Fail> {
-    assert!(rt; text.len() <= LONGEST_FILE);
-    match read_ast_bytes(alloc, text.as_bytes()) {
-        Ok(grammar) => Ok(grammar),
-        Err(_) => Err("no grammar".into()),
-    }
-}
 
 // Two components of P and its subclass Q, and a third one of the subclass R of Q.
 const PARTS: &str = "P ::= A:X B:X; Q : P; R : Q ::= C:X; X; Y : X;";

@@ -1,12 +1,11 @@
 // Texts that fill the pool.
-use crate::outside::{CountingGate, written};
+use crate::outside::expect;
 use crate::programs::Texts;
 use rag_io::{MOST_TEXTS, Pool, PoolFault};
 use std::alloc::Global;
 use std::fmt::Write;
 use std::process::Abort;
 use std::test::Fail;
-use std::thread::Threads;
 
 // Fills a pool: the empty text, and the numbers up to 65,535.
 fn fill(rt: &impl Abort, alloc: Global, pool: &mut Pool) -> Result<(), Fail> {
@@ -17,12 +16,8 @@ fn fill(rt: &impl Abort, alloc: Global, pool: &mut Pool) -> Result<(), Fail> {
     Ok(())
 }
 
-#[test]
-fn a_pool_has_65536_texts(rt: HostRuntime) -> Result<(), Fail> {
-    let Ok(mut pool) = Pool::new(rt.alloc()) else {
-        panic!(rt; "no memory");
-    };
-    fill(&rt, rt.alloc(), &mut pool)?;
+// A full pool takes the texts that it has, and no other one.
+fn check_full(rt: &impl Abort, pool: &mut Pool) {
     let adds = [
         (b"65536".as_slice(), Err(PoolFault::Full)),
         (b"65535".as_slice(), Ok(65_535)),
@@ -33,6 +28,13 @@ fn a_pool_has_65536_texts(rt: HostRuntime) -> Result<(), Fail> {
         assert_eq!(rt; pool.find(text), answer.ok());
         assert_eq!(rt; pool.len(), 65_536);
     }
+}
+
+#[test]
+fn a_pool_has_65536_texts(rt: HostRuntime) -> Result<(), Fail> {
+    let mut pool = Pool::new(rt.alloc())?;
+    fill(&rt, rt.alloc(), &mut pool)?;
+    check_full(&rt, &mut pool);
     Ok(())
 }
 
@@ -62,19 +64,6 @@ fn numbered_tree(alloc: Global, nodes: u32) -> Result<String, Fail> {
     Ok(text)
 }
 
-fn expect<R: Threads + Sync + Abort>(
-    rt: &R,
-    alloc: Global,
-    line: &str,
-    texts: Texts<'_>,
-    want: &str,
-) -> Result<(), Fail> {
-    let (status, text) = written(rt, alloc, line, texts, None, &CountingGate::new())?;
-    assert_eq!(rt; status, 1);
-    assert_eq!(rt; text.as_slice(), want.as_bytes());
-    Ok(())
-}
-
 #[test]
 fn a_text_too_many_in_aspects_breaks_j17(rt: HostRuntime) -> Result<(), Fail> {
     let alloc = rt.alloc();
@@ -90,7 +79,7 @@ fn a_text_too_many_in_aspects_breaks_j17(rt: HostRuntime) -> Result<(), Fail> {
         alloc,
         "check g.ast a.jrag",
         texts,
-        "a.jrag:65537:12: J17\n",
+        (1, "a.jrag:65537:12: J17\n"),
     )
 }
 
@@ -109,6 +98,6 @@ fn a_text_too_many_in_a_tree_breaks_n7(rt: HostRuntime) -> Result<(), Fail> {
         alloc,
         "tree g.ast t.tree",
         texts,
-        "t.tree:32769:12: N7\n",
+        (1, "t.tree:32769:12: N7\n"),
     )
 }

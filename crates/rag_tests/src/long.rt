@@ -1,5 +1,5 @@
 // Files that are too long to stand in a case, and drawn ones.
-use crate::outside::{CountingGate, written};
+use crate::outside::{RUN, expect};
 use crate::programs::{Texts, repeated};
 use crate::trees::rewritten;
 use rand_core::Rng;
@@ -9,21 +9,6 @@ use std::fmt::Write;
 use std::process::Abort;
 use std::test::Fail;
 use std::thread::Threads;
-
-fn expect<R: Threads + Sync + Abort>(
-    rt: &R,
-    alloc: Global,
-    line: &str,
-    texts: Texts<'_>,
-    want: (u8, &str),
-) -> Result<(), Fail> {
-    let (status, text) = written(rt, alloc, line, texts, None, &CountingGate::new())?;
-    assert_eq!(rt; text.as_slice(), want.1.as_bytes());
-    assert_eq!(rt; status, want.0);
-    Ok(())
-}
-
-const RUN: &str = "run g.ast a.jrag t.tree q.txt";
 
 // The classes of a tree in which each node but a leaf has two children.
 fn doubled_classes(alloc: Global, root: &str) -> Result<String, Fail> {

@@ -1,5 +1,5 @@
 // The rounds over instances that callers name.
-use crate::programs::{Texts, system_said};
+use crate::programs::{Checks, Texts, check_said};
 use attr_rules::AttrId;
 use equation_law::System;
 use plain_rounds::{
@@ -140,10 +140,17 @@ fn check_no_instances(rt: &impl Abort, alloc: Global, system: &System) -> Result
     Ok(())
 }
 
+// The values of instances, and what is none.
+struct Instances;
+
+impl Checks for Instances {
+    fn check(&self, rt: &impl Abort, alloc: Global, system: &System) -> Result<(), Fail> {
+        check_rounds(rt, alloc, system)?;
+        check_no_instances(rt, alloc, system)
+    }
+}
+
 #[test]
 fn named_instances_have_values(rt: HostRuntime) -> Result<(), Fail> {
-    let alloc = rt.alloc();
-    let system = system_said(&rt, alloc, TEXTS)?;
-    check_rounds(&rt, alloc, &system)?;
-    check_no_instances(&rt, alloc, &system)
+    check_said(&rt, rt.alloc(), TEXTS, &Instances)
 }

@@ -127,24 +127,30 @@ fn in_turn(alloc: Global, count: u32, groups: u32) -> Result<Vec<Option<u32>>, A
     Ok(keys)
 }
 
-#[test]
-fn many_numbers_are_grouped(rt: HostRuntime) -> Result<(), Fail> {
-    let keys = in_turn(rt.alloc(), 700, 7)?;
-    assert!(rt; keys.len() < MOST_NUMBERS && are_within(&keys, 7));
-    let groups = Groups::of(rt.alloc(), &keys, 7)?;
+fn check_members(rt: &impl Abort, groups: &Groups) {
     for g in 0..groups.len() {
         let members = groups.group(g);
         assert_eq!(rt; members.len(), 100, "{g}");
         assert!(rt; members.iter().all(|number| *number % 7 == g), "{g}");
         assert!(rt; members.is_sorted(), "{g}");
     }
+}
+
+fn are_in_turn(places: &[u32]) -> bool {
+    places
+        .iter()
+        .enumerate()
+        .all(|(number, place)| *place as usize == number / 7)
+}
+
+#[test]
+fn many_numbers_are_grouped(rt: HostRuntime) -> Result<(), Fail> {
+    let keys = in_turn(rt.alloc(), 700, 7)?;
+    assert!(rt; keys.len() < MOST_NUMBERS && are_within(&keys, 7));
+    let groups = Groups::of(rt.alloc(), &keys, 7)?;
+    check_members(&rt, &groups);
     let found = places(rt.alloc(), &keys, 7)?;
-    assert!(rt;
-        found
-            .iter()
-            .enumerate()
-            .all(|(number, place)| *place as usize == number / 7)
-    );
+    assert!(rt; are_in_turn(&found));
     Ok(())
 }
 
@@ -332,10 +338,7 @@ const FAR: [(usize, usize, bool); 8] = [
     (256, 255, false),
 ];
 
-#[test]
-fn long_lines_have_subclasses(rt: HostRuntime) -> Result<(), Fail> {
-    let superclasses = line(rt.alloc(), 256)?;
-    let subclasses = subclasses(&rt, rt.alloc(), &superclasses)?;
+fn expect_far(rt: &impl Abort, subclasses: &Subclasses) {
     for (class, above, want) in FAR {
         assert_eq!(rt; subclasses.is_sub(class, above), want, "{class} {above}");
         if want {
@@ -343,5 +346,12 @@ fn long_lines_have_subclasses(rt: HostRuntime) -> Result<(), Fail> {
             assert_eq!(rt; common, Some(above), "{class} {above}");
         }
     }
+}
+
+#[test]
+fn long_lines_have_subclasses(rt: HostRuntime) -> Result<(), Fail> {
+    let superclasses = line(rt.alloc(), 256)?;
+    let subclasses = subclasses(&rt, rt.alloc(), &superclasses)?;
+    expect_far(&rt, &subclasses);
     Ok(())
 }

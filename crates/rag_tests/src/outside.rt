@@ -108,7 +108,22 @@ pub(crate) fn written<R: Threads + Sync>(
     Ok((status, Vec::from_slice(alloc, sink.taken())?))
 }
 
-const RUN: &str = "run g.ast a.jrag t.tree q.txt";
+/// The words of a run over all four files.
+pub(crate) const RUN: &str = "run g.ast a.jrag t.tree q.txt";
+
+/// Checks the status and what is written.
+pub(crate) fn expect<R: Threads + Sync + Abort>(
+    rt: &R,
+    alloc: Global,
+    line: &str,
+    texts: Texts<'_>,
+    want: (u8, &str),
+) -> Result<(), Fail> {
+    let (status, text) = written(rt, alloc, line, texts, None, &CountingGate::new())?;
+    assert_eq!(rt; text.as_slice(), want.1.as_bytes());
+    assert_eq!(rt; status, want.0);
+    Ok(())
+}
 
 #[test]
 fn tells_the_gate_of_each_reply(rt: HostRuntime) -> Result<(), Fail> {
@@ -172,33 +187,36 @@ fn refuses_a_file_that_is_too_long(rt: HostRuntime) -> Result<(), Fail> {
         tree: "N()",
         queries: long.as_str(),
     };
-    let (status, text) = written(&rt, alloc, RUN, texts, None, &CountingGate::new())?;
-    assert_eq!(rt; status, 1);
-    assert_eq!(rt; text.as_slice(), b"q.txt: too long\n".as_slice());
-    Ok(())
+    expect(&rt, alloc, RUN, texts, (1, "q.txt: too long\n"))
+}
+
+// What is fetched in turn, where the second fetch fails: the answer, and the bytes.
+const FETCHES: [(&str, Result<(), FetchFault>, &[u8]); 4] = [
+    ("g.ast", Ok(()), b"N;"),
+    ("g.ast", Err(FetchFault::Failed), b""),
+    ("b.jrag", Err(FetchFault::Failed), b""),
+    ("a.jrag", Ok(()), b""),
+];
+
+fn check_fetches(rt: &impl Abort, alloc: Global, shelf: &mut MemoryShelf) {
+    for (name, answer, bytes) in FETCHES {
+        let mut into = Vec::new(alloc);
+        assert_eq!(rt; shelf.fetch(name, &mut into), answer);
+        assert_eq!(rt; into.as_slice(), bytes);
+    }
 }
 
 #[test]
 fn fetches_fail_as_planned(rt: HostRuntime) -> Result<(), Fail> {
-    let alloc = rt.alloc();
     let texts = Texts {
         ast: "N;",
         jrag: "",
         tree: "N()",
         queries: "",
     };
-    let mut shelf = shelf_of(alloc, texts, vec![in alloc; 1u32]?)?;
-    let fetches = [
-        ("g.ast", Ok(()), b"N;".as_slice()),
-        ("g.ast", Err(FetchFault::Failed), b"".as_slice()),
-        ("b.jrag", Err(FetchFault::Failed), b"".as_slice()),
-        ("a.jrag", Ok(()), b"".as_slice()),
-    ];
-    for (name, answer, bytes) in fetches {
-        let mut into = Vec::new(alloc);
-        assert_eq!(rt; shelf.fetch(name, &mut into), answer);
-        assert_eq!(rt; into.as_slice(), bytes);
-    }
+    let fails = vec![in rt.alloc(); 1u32]?;
+    let mut shelf = shelf_of(rt.alloc(), texts, fails)?;
+    check_fetches(&rt, rt.alloc(), &mut shelf);
     Ok(())
 }
 
@@ -212,14 +230,17 @@ const PUTS: [(&str, bool, &str); 6] = [
     ("", true, "abcdefghij"),
 ];
 
+fn failing_sink(alloc: Global) -> Result<MemorySink, Fail> {
+    let fails = Vec::from_slice(alloc, &[(1u32, 2u32), (3, 50)])?;
+    match MemorySink::with_room(alloc, 10, fails) {
+        Ok(sink) => Ok(sink),
+        Err(_) => Err("no memory".into()),
+    }
+}
+
 #[test]
 fn puts_fail_as_planned(rt: HostRuntime) -> Result<(), Fail> {
-    let alloc = rt.alloc();
-    let mut fails = vec![in alloc; (1u32, 2u32)]?;
-    fails.push((3, 50))?;
-    let Ok(mut sink) = MemorySink::with_room(alloc, 10, fails) else {
-        panic!(rt; "no memory");
-    };
+    let mut sink = failing_sink(rt.alloc())?;
     for (piece, is_put, taken) in PUTS {
         let answer = if is_put {
             Ok(())

@@ -4,6 +4,7 @@ ghost use Rattle.rag_io.specs.Outside.{longest_file};
 ghost use Rattle.equation_law.specs.Checked.{IsProgram};
 ghost use Rattle.equation_law.specs.Systems.{program_of};
 
+use ast_grammar::{Grammar, read_ast_bytes};
 use equation_law::System;
 use program_reader::read_system;
 use rag_io::LONGEST_FILE;
@@ -44,6 +45,32 @@ pub(crate) fn system_said(rt: &impl Abort, alloc: Global, texts: Texts<'_>) -> R
     match read_system(alloc, &contents) {
         Ok(system) => Ok(system),
         Err(_) => Err("refused".into()),
+    }
+}
+
+/// What is checked of a system.
+pub(crate) trait Checks {
+    fn check(&self, rt: &impl Abort, alloc: Global, system: &System) -> Result<(), Fail>
+        requires { IsProgram (program_of system.now) };
+}
+
+/// Checks the system that four texts say.
+pub(crate) fn check_said(
+    rt: &impl Abort,
+    alloc: Global,
+    texts: Texts<'_>,
+    checks: &impl Checks,
+) -> Result<(), Fail> {
+    let system = system_said(rt, alloc, texts)?;
+    checks.check(rt, alloc, &system)
+}
+
+/// The grammar that a text says.
+pub(crate) fn grammar_of(rt: &impl Abort, alloc: Global, text: &str) -> Result<Grammar, Fail> {
+    assert!(rt; text.len() <= LONGEST_FILE);
+    match read_ast_bytes(alloc, text.as_bytes()) {
+        Ok(grammar) => Ok(grammar),
+        Err(_) => Err("no grammar".into()),
     }
 }
 

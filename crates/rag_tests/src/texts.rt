@@ -146,16 +146,24 @@ fn expect_pooled(
     Ok(())
 }
 
+// The same with a new pool, in which a text has this number then.
+fn expect_new(
+    rt: &impl Abort,
+    alloc: Global,
+    rows: &[Pooled<'_>],
+    count: u32,
+    last: (&[u8], Option<u32>),
+) -> Result<(), Fail> {
+    let mut pool = Pool::new(alloc)?;
+    expect_pooled(rt, alloc, &mut pool, rows, count)?;
+    assert_eq!(rt; pool.find(last.0), last.1);
+    Ok(())
+}
+
 #[test]
 fn texts_of_tokens_are_numbered(rt: HostRuntime) -> Result<(), Fail> {
-    let alloc = rt.alloc();
-    let mut pool = Pool::new(alloc)?;
-    expect_pooled(&rt, alloc, &mut pool, &FROM_NEW, 5)?;
-    assert_eq!(rt; pool.find(b"\n".as_slice()), Some(3));
-    let mut pool = Pool::new(alloc)?;
-    expect_pooled(&rt, alloc, &mut pool, &FRONT, 3)?;
-    assert_eq!(rt; pool.find(b"c".as_slice()), None);
-    Ok(())
+    expect_new(&rt, rt.alloc(), &FROM_NEW, 5, (b"\n", Some(3)))?;
+    expect_new(&rt, rt.alloc(), &FRONT, 3, (b"c", None))
 }
 
 #[test]
@@ -315,16 +323,24 @@ fn expect_aspects(
     Ok(())
 }
 
-#[test]
-fn aspects_may_have_texts_too_many(rt: HostRuntime) -> Result<(), Fail> {
-    let alloc = rt.alloc();
+fn expect_room(rt: &impl Abort, alloc: Global, row: &Aspect<'_>) -> Result<(), Fail> {
+    let mut pool = numbered_pool(alloc, MOST_TEXTS - 1)?;
+    expect_aspects(rt, alloc, row, &mut pool)
+}
+
+fn expect_all_full(rt: &impl Abort, alloc: Global) -> Result<(), Fail> {
     let mut pool = numbered_pool(alloc, MOST_TEXTS)?;
     for row in &FULL {
-        expect_aspects(&rt, alloc, row, &mut pool)?;
+        expect_aspects(rt, alloc, row, &mut pool)?;
     }
+    Ok(())
+}
+
+#[test]
+fn aspects_may_have_texts_too_many(rt: HostRuntime) -> Result<(), Fail> {
+    expect_all_full(&rt, rt.alloc())?;
     for row in &ROOM {
-        let mut pool = numbered_pool(alloc, MOST_TEXTS - 1)?;
-        expect_aspects(&rt, alloc, row, &mut pool)?;
+        expect_room(&rt, rt.alloc(), row)?;
     }
     Ok(())
 }
@@ -380,11 +396,10 @@ fn expect_exprs(
 
 #[test]
 fn a_pool_keeps_the_texts_of_expressions(rt: HostRuntime) -> Result<(), Fail> {
-    let alloc = rt.alloc();
-    let mut pool = Pool::new(alloc)?;
-    expect_exprs(&rt, alloc, &mut pool, &WITH_ONE_POOL)?;
-    let mut pool = numbered_pool(alloc, MOST_TEXTS)?;
-    expect_exprs(&rt, alloc, &mut pool, &WITH_FULL_POOL)
+    let mut pool = Pool::new(rt.alloc())?;
+    expect_exprs(&rt, rt.alloc(), &mut pool, &WITH_ONE_POOL)?;
+    let mut full = numbered_pool(rt.alloc(), MOST_TEXTS)?;
+    expect_exprs(&rt, rt.alloc(), &mut full, &WITH_FULL_POOL)
 }
 
 // What stands before a name and behind it.
@@ -451,6 +466,12 @@ fn expect_words(
     Ok(())
 }
 
+// What an expression breaks, with a new pool.
+fn fault_said(rt: &impl Abort, alloc: Global, text: &str) -> Result<Fault, Fail> {
+    let mut pool = Pool::new(alloc)?;
+    Ok(expr_said(rt, alloc, text, &mut pool)?.0)
+}
+
 fn expect_word(
     rt: &impl Abort,
     alloc: Global,
@@ -460,8 +481,7 @@ fn expect_word(
     rule: Rule,
 ) -> Result<(), Fail> {
     let text = format!(in alloc; "{before}{word}{behind}")?;
-    let mut pool = Pool::new(alloc)?;
-    let (fault, _) = expr_said(rt, alloc, &text, &mut pool)?;
+    let fault = fault_said(rt, alloc, &text)?;
     let column = u32::try_from(before.len().saturating_add(1)).unwrap_or(0);
     assert_eq!(rt; fault, Some((1, column, rule)), "{before}{word}");
     Ok(())

@@ -1,7 +1,7 @@
 // Nodes of trees by their numbers, and trees whose texts are read and written back.
-use crate::programs::repeated;
+use crate::programs::{grammar_of, repeated};
 use crate::texts::{Fault, fault_of, numbered_pool};
-use ast_grammar::{ClassId, Grammar, read_ast_bytes};
+use ast_grammar::{ClassId, Grammar};
 use broken_rules::Rule;
 use program_reader::tree_text;
 use rag_io::{LONGEST_FILE, MOST_TEXTS, Pool};
@@ -11,14 +11,6 @@ use std::process::Abort;
 use std::test::Fail;
 use tree_arena::{Tokens, Tree};
 use tree_reader::read_tree_bytes;
-
-fn grammar_of(rt: &impl Abort, alloc: Global, text: &str) -> Result<Grammar, Fail> {
-    assert!(rt; text.len() <= LONGEST_FILE);
-    match read_ast_bytes(alloc, text.as_bytes()) {
-        Ok(grammar) => Ok(grammar),
-        Err(_) => Err("no grammar".into()),
-    }
-}
 
 fn tree_of(rt: &impl Abort, alloc: Global, grammar: &Grammar, text: &str) -> Result<Tree, Fail> {
     assert!(rt; text.len() <= LONGEST_FILE);
@@ -203,12 +195,22 @@ fn expect_roots(
     Ok(())
 }
 
+fn expect_root(
+    rt: &impl Abort,
+    alloc: Global,
+    grammar: &Grammar,
+    row: &(&str, Root),
+) -> Result<(), Fail> {
+    let mut pool = numbered_pool(alloc, MOST_TEXTS - 1)?;
+    let found = root_of(rt, alloc, grammar, row.0, &mut pool)?;
+    assert_eq!(rt; found, row.1, "{}", row.0);
+    assert_eq!(rt; pool.find(b"1".as_slice()), Some(1));
+    Ok(())
+}
+
 fn expect_room(rt: &impl Abort, alloc: Global, grammar: &Grammar) -> Result<(), Fail> {
-    for (text, want) in ROOM {
-        let mut pool = numbered_pool(alloc, MOST_TEXTS - 1)?;
-        let found = root_of(rt, alloc, grammar, text, &mut pool)?;
-        assert_eq!(rt; found, want, "{text}");
-        assert_eq!(rt; pool.find(b"1".as_slice()), Some(1));
+    for row in &ROOM {
+        expect_root(rt, alloc, grammar, row)?;
     }
     Ok(())
 }
@@ -226,11 +228,20 @@ const WRONG: [(&str, &str, Root); 2] = [
     ("R ::= r:R*;", "R(\"a\")", Err(Some((1, 3, Rule::N4)))),
 ];
 
+fn wrong_root(
+    rt: &impl Abort,
+    alloc: Global,
+    grammar: &str,
+    text: &str,
+    pool: &mut Pool,
+) -> Result<Root, Fail> {
+    let grammar = grammar_of(rt, alloc, grammar)?;
+    root_of(rt, alloc, &grammar, text, pool)
+}
+
 fn expect_wrong(rt: &impl Abort, alloc: Global, pool: &mut Pool) -> Result<(), Fail> {
     for (grammar, text, want) in WRONG {
-        let grammar = grammar_of(rt, alloc, grammar)?;
-        let found = root_of(rt, alloc, &grammar, text, pool)?;
-        assert_eq!(rt; found, want, "{text}");
+        assert_eq!(rt; wrong_root(rt, alloc, grammar, text, pool)?, want, "{text}");
     }
     Ok(())
 }
