@@ -1,21 +1,21 @@
 -- The codes of a word one by one, and how many there are.
-use Rattle.std.proofs.Common.{◌≡◌, ◌≢◌, ℕ, zero, suc, ◌+◌, ◌*◌, ◌<◌, ◌≤◌, ◌/◌, ◌%◌, ◌^◌, ◌==◌, Bool, true, false, cond, List, [], ◌∷◌, ◌++◌, length, count_ones, refl, sym, ap, ◌∙◌, arith, append-nil, append_assoc, length-append}
+use Rattle.std.proofs.Common.{◌≡◌, ◌≢◌, ℕ, zero, suc, ◌+◌, ◌*◌, ◌<◌, ◌≤◌, ◌/◌, ◌%◌, ◌^◌, ◌==◌, Bool, true, false, cond, List, [], ◌∷◌, ◌++◌, length, drop, get_or, count_ones, refl, sym, ap, ◌∙◌, arith, append-nil, append_assoc, length-append}
 use mathlib.Core.Logic.{dite}
 use native.Mathlib.Decide.{ℕ_discrete}
 use mir.Syntax.{w64}
 use Rattle.std.specs.Int.{bit_at, trailing_zeros}
 use Rattle.std.specs.Int.Bits.{bit_xor}
 use Rattle.std.specs.Int.Count.{ones_step}
-use Rattle.std.specs.List.{All, filter, range_with_len}
-use Rattle.std.specs.Map.{keys_of}
+use Rattle.std.specs.List.{AllByRecursion, filter, range_with_len}
 use Rattle.std.specs.Ordering.{eq_by_cmp, nat_cmp}
-use Rattle.std.proofs.lemmas.List.Elements.{All-from_recursion, recursion_from_All}
+use Rattle.std.proofs.lemmas.List.Elements.{All-from_recursion}
 use Rattle.std.proofs.lemmas.Map.Views.{length-le_from_below}
 use Rattle.std.proofs.Math.Nat.{pow-suc}
 use Rattle.std.proofs.lemmas.Nat.{one_shl, ones_le_self, shr-shr}
 use Rattle.std.proofs.lemmas.Nat.Bits.{bit_at-lt, bit_at-pow_other, bit_at-pow_same, bit_at-trailing_zeros, bit_at_xor}
-use Rattle.code_sets.specs.Members.{Rises, has_code}
-use Rattle.code_sets.specs.Words.{codes_of_word, codes_of_words, has_bit}
+use Rattle.code_sets.specs.Members.{has_code}
+use Rattle.code_sets.specs.declared.word.Word.{Word}
+use Rattle.code_sets.specs.Words.{AreWords, IsWord, codes_of_word, codes_of_words, has_bit, numbers_of}
 use Rattle.code_sets.proofs.Rising.{apart, tied}
 use Rattle.code_sets.proofs.Words.{no_bit, word_has, word_lacks, words_below, words_rise}
 
@@ -126,8 +126,12 @@ pub word_len : (w bits : ℕ) → bits < 2 ^ 64 → length (codes_of_word w bits
 unfolding codes_of_word
 word_len w bits small = count_word 64 w bits (omega arith) small
 
-pub words_len : (es : List (ℕ × ℕ)) → Rises (keys_of es) → All (λ w. w < 2 ^ 26) (keys_of es) → length (codes_of_words es) ≤ 2 ^ 32
-words_len es r small = length-le_from_below (2 ^ 32) (codes_of_words es) (words_rise es r) (All-from_recursion (λ c. c < 2 ^ 32) (codes_of_words es) (words_below (2 ^ 26) es (recursion_from_All (λ w. w < 2 ^ 26) (keys_of es) small)))
+pub words_small : (es : List Word) → AllByRecursion IsWord es → AllByRecursion (λ w. w < 2 ^ 26) (numbers_of es)
+words_small [] h = tt
+words_small (e ∷ es) h = (h.0.small, words_small es h.1)
+
+pub words_len : (es : List Word) → AreWords es → length (codes_of_words es) ≤ 2 ^ 32
+words_len es h = length-le_from_below (2 ^ 32) (codes_of_words es) (words_rise es h.rise) (All-from_recursion (λ c. c < 2 ^ 32) (codes_of_words es) (words_below (2 ^ 26) es (words_small es h.each)))
 
 -- ---- loops over the bits of a word, and over words
 
@@ -149,19 +153,16 @@ push_fewer w bits some small = let e = ap length (lowest_first w bits some small
 pub push_all : (items start : List ℕ) (w bits : ℕ) → bits ≡ 0 → items ++ codes_of_word w bits ≡ start → items ≡ start
 push_all items start w bits none so_far = sym (append-nil items) ∙ ap (λ (l : List ℕ). items ++ l) (sym (ap (codes_of_word w) none ∙ word_none w)) ∙ so_far
 
--- the codes of one word more are in a list
-pub list_next : (items next all : List ℕ) (e : ℕ × ℕ) (it left : List (ℕ × ℕ)) → it ≡ e ∷ left → next ≡ items ++ codes_of_word e.0 e.1
-    → items ++ codes_of_words it ≡ all → next ++ codes_of_words left ≡ all
-list_next items next all e it left first pushed so_far =
-    ap (λ (l : List ℕ). l ++ codes_of_words left) pushed
-    ∙ append_assoc items (codes_of_word e.0 e.1) (codes_of_words left)
-    ∙ ap (λ (l : List (ℕ × ℕ)). items ++ codes_of_words l) (sym first)
-    ∙ so_far
-
 -- those of one word more are counted
-pub count_next : (n total : ℕ) (e : ℕ × ℕ) (it left : List (ℕ × ℕ)) → it ≡ e ∷ left → e.1 < 2 ^ 64
-    → n + length (codes_of_words it) ≡ total → n + count_ones e.1 + length (codes_of_words left) ≡ total
-count_next n total e it left first small so_far =
-    let parts = ap (λ (l : List (ℕ × ℕ)). length (codes_of_words l)) first ∙ length-append (codes_of_word e.0 e.1) (codes_of_words left) in
-    let word = word_len e.0 e.1 small in
+drop_at : (es : List Word) (i : ℕ) (d : Word) → i < length es → drop i es ≡ get_or es i d ∷ drop (suc i) es
+drop_at [] i d h = absurd (omega (arith, h))
+drop_at (e ∷ es) zero d h = refl
+drop_at (e ∷ es) (suc i) d h = drop_at es i d (omega (arith, h))
+
+pub count_next : (es : List Word) (i : ℕ) (d : Word) (n total : ℕ) → i < length es → (get_or es i d).bits < 2 ^ 64
+    → n + length (codes_of_words (drop i es)) ≡ total → n + count_ones (get_or es i d).bits + length (codes_of_words (drop (i + 1) es)) ≡ total
+count_next es i d n total h small so_far =
+    let next : suc i ≡ i + 1 = omega arith in
+    let parts = ap (λ (l : List Word). length (codes_of_words l)) (drop_at es i d h ∙ ap (λ k. get_or es i d ∷ drop k es) next) ∙ length-append (codes_of_word (get_or es i d).number (get_or es i d).bits) (codes_of_words (drop (i + 1) es)) in
+    let word = word_len (get_or es i d).number (get_or es i d).bits small in
     omega (arith, parts, word, so_far)

@@ -1,21 +1,20 @@
 -- The codes of words: they rise, and which they are is told by the bits.
-use Rattle.std.proofs.Common.{◌≡◌, ◌≢◌, ℕ, ◌+◌, ◌-◌, ◌*◌, ◌<◌, ◌≤◌, ◌/◌, ◌%◌, ◌^◌, ⊎_elim, ◌==◌, Bool, true, false, ◌&&◌, ◌||◌, not, cond, List, [], ◌∷◌, Option, Some, unwrap_or, refl, sym, ap, ◌∙◌, arith, max, min}
-use mathlib.Core.Logic.{dite}
-use native.Mathlib.Decide.{ℕ_discrete}
+use Rattle.std.proofs.Common.{◌≡◌, ◌≢◌, ℕ, ◌+◌, ◌-◌, ◌*◌, ◌<◌, ◌≤◌, ◌/◌, ◌%◌, ◌^◌, ⊎_elim, ◌==◌, Bool, true, false, ◌&&◌, ◌||◌, not, List, [], ◌∷◌, ◌++◌, refl, ap, ◌∙◌, arith, max, min}
 use mir.Syntax.{w64}
-use Rattle.std.specs.BTreeMap.{is_at}
 use Rattle.std.specs.Int.{bit_at, bit_not}
 use Rattle.std.specs.Int.Bits.{bit_and, bit_or}
 use Rattle.std.specs.List.{AllByRecursion, range_with_len}
 use Rattle.std.specs.List.Sorted.{IsStrictlySortedBy}
-use Rattle.std.specs.Map.{keys_of, lookup}
 use Rattle.std.specs.Ordering.{nat_cmp}
 use Rattle.std.proofs.lemmas.Bool.{cases_lt}
+use Rattle.std.proofs.lemmas.Grind.{flat_map-append}
+use Rattle.std.proofs.lemmas.List.{map-append}
 use Rattle.std.proofs.lemmas.List.Kept.{IsStrictlySortedBy-filter}
 use Rattle.std.proofs.lemmas.Nat.Bits.{bit_at-lt, bit_at-zero, bit_at_and, bit_at_not, bit_at_or}
 use Rattle.code_sets.specs.Members.{Rises, has_code}
-use Rattle.code_sets.specs.Words.{codes_of_word, codes_of_words, has_bit}
-use Rattle.code_sets.proofs.Rising.{apart, each_both, each_kept, each_map, has_both, has_kept, has_not_above, has_not_below, has_range, less_is, range_below, range_from, range_rises, rises_both, tied}
+use Rattle.code_sets.specs.declared.word.Word.{Word}
+use Rattle.code_sets.specs.Words.{codes_of_word, codes_of_words, has_bit, numbers_of}
+use Rattle.code_sets.proofs.Rising.{each_both, each_kept, each_map, has_kept, has_not_above, has_not_below, has_range, less_is, range_below, range_from, range_rises, rises_both}
 
 -- ---- truth values
 
@@ -23,7 +22,7 @@ and_yes : (a b : Bool) → b ≡ true → (a && b) ≡ a
 and_yes true b e = e
 and_yes false b e = refl
 
-or_no : (a b : Bool) → b ≡ false → (a || b) ≡ a
+pub or_no : (a b : Bool) → b ≡ false → (a || b) ≡ a
 or_no true b e = refl
 or_no false b e = e
 
@@ -52,46 +51,38 @@ module _ (w bits : ℕ) where
 
 -- ---- words in order
 
--- the bits of the word of this number, and none where there is no such word
-abbrev pub bits_at : List (ℕ × ℕ) → ℕ → ℕ
-bits_at es w = unwrap_or (lookup (is_at (nat_cmp w)) es) 0
-
-pub words_from : (b : ℕ) (es : List (ℕ × ℕ)) → AllByRecursion (λ w. b ≤ w) (keys_of es) → AllByRecursion (λ c. 64 * b ≤ c) (codes_of_words es)
+pub words_from : (b : ℕ) (es : List Word) → AllByRecursion (λ w. b ≤ w) (numbers_of es) → AllByRecursion (λ c. 64 * b ≤ c) (codes_of_words es)
 words_from b [] h = tt
-words_from b (e ∷ es) h = each_both (λ c. 64 * b ≤ c) (codes_of_word e.0 e.1) (codes_of_words es) (word_from e.0 e.1 b h.0) (words_from b es h.1)
+words_from b (e ∷ es) h = each_both (λ c. 64 * b ≤ c) (codes_of_word e.number e.bits) (codes_of_words es) (word_from e.number e.bits b h.0) (words_from b es h.1)
 
-words_after : (e : ℕ × ℕ) (es : List (ℕ × ℕ)) → Rises (keys_of (e ∷ es)) → AllByRecursion (λ c. 64 * (e.0 + 1) ≤ c) (codes_of_words es)
+pub words_after : (e : Word) (es : List Word) → Rises (numbers_of (e ∷ es)) → AllByRecursion (λ c. 64 * (e.number + 1) ≤ c) (codes_of_words es)
 unfolding IsStrictlySortedBy
-words_after e es r = words_from (e.0 + 1) es (each_map (λ w h. let l = less_is e.0 w h in omega (arith, l)) (keys_of es) r.0)
+words_after e es r = words_from (e.number + 1) es (each_map (λ w h. let l = less_is e.number w h in omega (arith, l)) (numbers_of es) r.0)
 
-pub words_rise : (es : List (ℕ × ℕ)) → Rises (keys_of es) → Rises (codes_of_words es)
+pub words_rise : (es : List Word) → Rises (numbers_of es) → Rises (codes_of_words es)
 unfolding IsStrictlySortedBy
 words_rise [] r = tt
-words_rise (e ∷ es) r = rises_both (64 * (e.0 + 1)) (codes_of_word e.0 e.1) (codes_of_words es) (word_rises e.0 e.1) (words_rise es r.1) (word_below e.0 e.1 (e.0 + 1) (omega arith)) (words_after e es r)
+words_rise (e ∷ es) r = rises_both (64 * (e.number + 1)) (codes_of_word e.number e.bits) (codes_of_words es) (word_rises e.number e.bits) (words_rise es r.1) (word_below e.number e.bits (e.number + 1) (omega arith)) (words_after e es r)
 
-pub words_below : (m : ℕ) (es : List (ℕ × ℕ)) → AllByRecursion (λ w. w < m) (keys_of es) → AllByRecursion (λ c. c < 64 * m) (codes_of_words es)
+pub words_below : (m : ℕ) (es : List Word) → AllByRecursion (λ w. w < m) (numbers_of es) → AllByRecursion (λ c. c < 64 * m) (codes_of_words es)
 words_below m [] h = tt
-words_below m (e ∷ es) h = each_both (λ c. c < 64 * m) (codes_of_word e.0 e.1) (codes_of_words es) (word_below e.0 e.1 m h.0) (words_below m es h.1)
+words_below m (e ∷ es) h = each_both (λ c. c < 64 * m) (codes_of_word e.number e.bits) (codes_of_words es) (word_below e.number e.bits m h.0) (words_below m es h.1)
+
+pub words_both : (es fs : List Word) → codes_of_words (es ++ fs) ≡ codes_of_words es ++ codes_of_words fs
+words_both es fs = flat_map-append (λ e. codes_of_word e.number e.bits) es fs
+
+pub numbers_both : (es fs : List Word) → numbers_of (es ++ fs) ≡ numbers_of es ++ numbers_of fs
+numbers_both es fs = map-append (λ e. e.number) es fs
+
+-- words of higher numbers, or of lower ones, have no code of a word
+pub words_lack_above : (es : List Word) (w c : ℕ) → AllByRecursion (λ n. w < n) (numbers_of es) → c / 64 ≡ w → has_code (codes_of_words es) c ≡ false
+words_lack_above es w c h e = has_not_above (64 * (w + 1)) (codes_of_words es) c (words_from (w + 1) es (each_map (λ n l. omega (arith, l)) (numbers_of es) h)) (omega (arith, e))
+
+pub words_lack_below : (es : List Word) (w c : ℕ) → AllByRecursion (λ n. n < w) (numbers_of es) → c / 64 ≡ w → has_code (codes_of_words es) c ≡ false
+words_lack_below es w c h e = has_not_below (64 * w) (codes_of_words es) c (words_below w es h) (omega (arith, e))
 
 pub no_bit : (c : ℕ) → has_bit 0 c ≡ false
 no_bit c = ap (λ b. b == 1) (bit_at-zero (c % 64))
-
--- whether a code is there is told by its bit in its word
-pub words_have : (es : List (ℕ × ℕ)) → Rises (keys_of es) → (c : ℕ) → has_code (codes_of_words es) c ≡ has_bit (bits_at es (c / 64)) c
-unfolding IsStrictlySortedBy
-words_have [] r c = sym (no_bit c)
-words_have (e ∷ es) r c =
-    dite (ℕ_discrete (c / 64) e.0)
-    (λ same.
-    has_both (codes_of_word e.0 e.1) (codes_of_words es) c
-    ∙ or_no _ _ (has_not_above (64 * (e.0 + 1)) (codes_of_words es) c (words_after e es r) (omega (arith, same)))
-    ∙ word_has e.0 e.1 c same
-    ∙ ap (λ b. has_bit (unwrap_or (cond b (Some e.1) (lookup (is_at (nat_cmp (c / 64))) es)) 0) c) (sym (tied (c / 64) e.0 same)))
-    (λ other.
-    has_both (codes_of_word e.0 e.1) (codes_of_words es) c
-    ∙ ap (λ b. b || has_code (codes_of_words es) c) (word_lacks e.0 e.1 c other)
-    ∙ words_have es r.1 c
-    ∙ ap (λ b. has_bit (unwrap_or (cond b (Some e.1) (lookup (is_at (nat_cmp (c / 64))) es)) 0) c) (sym (apart (c / 64) e.0 other)))
 
 -- ---- bits of two words
 
@@ -112,12 +103,3 @@ has_each a b c = ap (λ x. x == 1) (bit_at_and a b (c % 64)) ∙ both_one (bit_a
 
 pub has_others : (a c : ℕ) → a < 2 ^ 64 → has_bit (bit_not w64 a) c ≡ not (has_bit a c)
 has_others a c h = ap (λ x. x == 1) (bit_at_not w64 a (c % 64) h (omega arith)) ∙ other_one (bit_at a (c % 64)) (bit_at-lt a (c % 64))
-
--- ---- a word that is looked up
-
--- the bits of a word, by the codes that a set has
-abbrev pub AreBitsOf : List ℕ → ℕ → ℕ → Type 0
-AreBitsOf xs w bits = (c : ℕ) → c / 64 ≡ w → has_bit bits c ≡ has_code xs c
-
-pub word_found : (es : List (ℕ × ℕ)) (w : ℕ) (o : Option ℕ) → Rises (keys_of es) → o ≡ lookup (is_at (nat_cmp w)) es → AreBitsOf (codes_of_words es) w (unwrap_or o 0)
-word_found es w o r found c same = ap (λ o. has_bit (unwrap_or o 0) c) found ∙ ap (λ w. has_bit (bits_at es w) c) (sym same) ∙ sym (words_have es r c)

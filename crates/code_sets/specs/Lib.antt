@@ -1,2 +1,5 @@
+pub mod Kept
 pub mod Members
+pub mod Merges
+pub mod Places
 pub mod Words

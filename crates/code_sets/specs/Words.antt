@@ -1,8 +1,8 @@
 -- Codes as the bits of words of 64: the bit b of the word w stands for the code 64 * w + b.
-use Rattle.std.specs.Prelude.{◌≢◌, ◌*◌, ◌<◌, ◌%◌, ◌^◌, ◌==◌, ℕ, Bool, List}
+use Rattle.std.specs.Prelude.{◌≢◌, ◌*◌, ◌<◌, ◌%◌, ◌^◌, ◌==◌, ℕ, Bool, List, map}
 use Rattle.std.specs.Int.{bit_at}
-use Rattle.std.specs.List.{All, filter, flat_map, range_with_len}
-use Rattle.std.specs.Map.{keys_of, values_of}
+use Rattle.std.specs.List.{AllByRecursion, filter, flat_map, range_with_len}
+use Rattle.code_sets.specs.declared.word.Word.{Word}
 use Rattle.code_sets.specs.Members.{Rises}
 
 -- whether bits have the one that stands for the code in its word
@@ -13,12 +13,19 @@ has_bit bits c = bit_at bits (c % 64) == 1
 unfoldable pub codes_of_word : ℕ → ℕ → List ℕ
 codes_of_word word bits = filter (has_bit bits) (range_with_len (64 * word) 64)
 
--- the codes of words, each of which stands beside its number
-abbrev pub codes_of_words : List (ℕ × ℕ) → List ℕ
-codes_of_words words = flat_map (λ e. codes_of_word e.0 e.1) words
+abbrev pub codes_of_words : List Word → List ℕ
+codes_of_words words = flat_map (λ word. codes_of_word word.number word.bits) words
 
--- Words in the order of their numbers. Their codes are numbers of 32 bits, and each has some.
-pub record AreWords (words : List (ℕ × ℕ)) : Type 0 where
-  pub rise : Rises (keys_of words)
-  pub small : All (λ word. word < 2 ^ 26) (keys_of words)
-  pub some : All (λ bits. bits ≢ 0) (values_of words)
+abbrev pub numbers_of : List Word → List ℕ
+numbers_of words = map (λ word. word.number) words
+
+-- a word of 64 bits has codes, and they are numbers of 32 bits
+pub record IsWord (word : Word) : Type 0 where
+  pub small : word.number < 2 ^ 26
+  pub some : word.bits ≢ 0
+  pub fits : word.bits < 2 ^ 64
+
+-- words in the order of their numbers
+pub record AreWords (words : List Word) : Type 0 where
+  pub rise : Rises (numbers_of words)
+  pub each : AllByRecursion IsWord words

@@ -2,5 +2,8 @@
 #![tactic(auto)]
 
 mod codes;
+mod kept;
+mod merges;
+mod word;
 
 pub use codes::{Code, Codes};

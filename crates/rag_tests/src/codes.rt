@@ -64,6 +64,15 @@ fn list_of(alloc: Global, made: Result<Codes, Memory>) -> Result<Vec<Code>, Fail
     Ok(made?.list(alloc)?)
 }
 
+// Sets are the same where neither has a code more.
+fn expect_same(rt: &impl Abort, alloc: Global, left: &Codes, right: &Codes) -> Result<(), Fail> {
+    assert!(rt; left.same(left));
+    let is_within = left.minus(alloc, right)?.is_empty();
+    let has_all = right.minus(alloc, left)?.is_empty();
+    assert_eq!(rt; left.same(right), is_within && has_all);
+    Ok(())
+}
+
 // What two sets make.
 fn expect_made(
     rt: &impl Abort,
@@ -93,6 +102,7 @@ fn sets_are_made_of_two(rt: HostRuntime) -> Result<(), Fail> {
         expect_has(&rt, &left_codes, left)?;
         let want = [either, both, first];
         expect_made(&rt, rt.alloc(), &left_codes, &right_codes, want)?;
+        expect_same(&rt, rt.alloc(), &left_codes, &right_codes)?;
     }
     Ok(())
 }
