@@ -64,7 +64,7 @@ fn is_covered(
     match first {
         None => false,
         Some(attribute) => dispatch
-            .find_covering(grammar.subclasses(), class, component, attribute)
+            .find_covering(class, component, attribute)
             .is_some(),
     }
 }

@@ -1,41 +1,119 @@
--- The nearest of some classes that has something.
-use Rattle.std.proofs.Common.{◌≡◌, ℕ, suc, true, false, List, length, Option, Some, None, is_some, refl, ap, sym, subst, ◌∙◌}
-use Rattle.std.specs.Option.{option_map, option_or}
+-- What covers at nodes of a class, from its superclasses, the nearest first.
+use Rattle.std.proofs.Common.{◌≡◌, ℕ, suc, ◌+◌, ◌≤◌, List, [], ◌∷◌, ◌++◌, Option, Some, None, Vec, All, inl, inr, length, slice_get, refl, ap, sym, subst, ◌∙◌, arith}
+use Rattle.std.specs.declared.alloc.Global.{Global}
+use Rattle.std.specs.Option.{option_or}
+use Rattle.std.proofs.lemmas.Bool.{cases_lt}
+use Rattle.std.proofs.lemmas.List.{length_push}
+use Rattle.std.proofs.lemmas.Option.{slice_get_past}
+use Rattle.ast_grammar.proofs.Keeping.{push_cases}
+use Rattle.ast_grammar.proofs.Positions.{position_none}
 use Rattle.superclasses.specs.Superclasses.{line_of, line_up, superclass_of, upwards}
-use Rattle.superclasses.proofs.Lines.{up_none}
+use Rattle.attr_rules.specs.declared.covering.Covering.{Covering}
+use Rattle.attr_rules.specs.declared.dispatch.Reach.{Reach}
+use Rattle.attr_rules.specs.declared.dispatch.Reach.TheVariants.{Component as AtComponent, Children}
+use Rattle.attr_rules.specs.declared.dispatch.Target.{Target}
 use Rattle.attr_rules.specs.declared.kinds.EqId.{EqId}
-use Rattle.attr_rules.specs.Rules.{first_of_line, number_of_equation}
-use Rattle.attr_rules.proofs.KeptPaths.{none_kept}
+use Rattle.attr_rules.specs.Dispatching.{AddsClass, AreCovered, AreOwnPaths, CoversUpwards, IsTarget, covered_by, covered_in, covering_in, number_among, number_for, number_in}
+use Rattle.attr_rules.specs.Rules.{equation_at, first_of_line, is_target, own_covering}
+use Rattle.attr_rules.proofs.Dispatched.{no_line, other_attribute, other_class}
+use Rattle.attr_rules.proofs.FirstPlaces.{or_none}
+use Rattle.attr_rules.proofs.NearestRows.{or_assoc}
+use Rattle.attr_rules.proofs.RowLists.{there}
 
--- what is there comes first
-found_first : (p : Option EqId) (q : Option ℕ) → is_some p ≡ true → option_map number_of_equation p ≡ option_or (option_map number_of_equation p) q
-found_first None q h = absurd cc
-found_first (Some e) q h = refl
+module _ (s : List (Option ℕ)) (own : List (Vec (Target × EqId) Global)) (class attributes : ℕ) where
+  -- what covers so far, and the classes that are left, at most so many
+  pub record Gathers (left : ℕ) (above : Option ℕ) (c : Covering) : Type 0 where
+    pub wide : length c.children.items ≡ attributes
+    pub each : (k a : ℕ) → option_or (covered_by c k a) (first_of_line (covering_in own k a) (line_up left s above)) ≡ first_of_line (covering_in own k a) (upwards s class)
 
-module _ (f : ℕ → Option ℕ) (s : List (Option ℕ)) (class : ℕ) where
-  -- the classes before have nothing, and at most so many are left
-  abbrev pub Left : ℕ → Option ℕ → Type 0
-  Left left next = first_of_line f (line_up left s next) ≡ first_of_line f (upwards s class)
+  -- what a class in the lists has
+  here : (c k a : ℕ) (paths : Vec (Target × EqId) Global) → slice_get own c ≡ Some paths → option_or (number_for paths.items (AtComponent k) a) (number_for paths.items Children a) ≡ covering_in own k a c
+  here c k a paths e = sym (ap (λ o. option_or (number_among o (AtComponent k) a) (number_among o Children a)) e)
 
-  pub left_all : {many : ℕ} → many ≡ suc (length s) → Left many (Some class)
+  pub gathers_first : (paths : Vec (Target × EqId) Global) (nothing first : Covering) {left : ℕ} {above : Option ℕ} → slice_get own class ≡ Some paths → length nothing.children.items ≡ attributes → ((k a : ℕ) → covered_by nothing k a ≡ None)
+      → AddsClass paths.items nothing first → left ≡ length s → above ≡ superclass_of s class → Gathers left above first
   unfolding line_of
-  left_all {many} all = ap (λ n. first_of_line f (line_up n s (Some class))) all
+  gathers_first paths nothing first {left} {above} held wide none adds all up = record {
+    wide = adds.long ∙ wide;
+    each = λ k a.
+        let f : ℕ → Option ℕ = covering_in own k a in
+        let is : covered_by first k a ≡ f class =
+        adds.each k a ∙ ap (λ o. option_or o (option_or (number_for paths.items (AtComponent k) a) (number_for paths.items Children a))) (none k a) ∙ here class k a paths held in
+        ap (λ o. option_or o (first_of_line f (line_up left s above))) is ∙ ap (λ o. option_or (f class) (first_of_line f (line_up left s o))) up ∙ ap (λ n. option_or (f class) (first_of_line f (line_up n s (superclass_of s class)))) all;
+  }
+
+  module _ (left number : ℕ) {above up : Option ℕ} {before : Covering} (is : above ≡ Some number) (next : up ≡ superclass_of s number) (so_far : Gathers (suc left) above before) where
+    -- what covers so far and what the classes have that are left, the next one first
+    at_next : (k a : ℕ) → option_or (covered_by before k a) (option_or (covering_in own k a number) (first_of_line (covering_in own k a) (line_up left s up))) ≡ first_of_line (covering_in own k a) (upwards s class)
+    at_next k a =
+        let f : ℕ → Option ℕ = covering_in own k a in
+        ap (λ o. option_or (covered_by before k a) (option_or (f number) (first_of_line f (line_up left s o)))) next ∙ ap (λ o. option_or (covered_by before k a) (first_of_line f (line_up (suc left) s o))) (sym is) ∙ so_far.each k a
+
+    -- the next class has a list, or none
+    pub gathers_held : (paths : Vec (Target × EqId) Global) (after : Covering) → slice_get own number ≡ Some paths → AddsClass paths.items before after → Gathers left up after
+    gathers_held paths after held adds = record {
+      wide = adds.long ∙ so_far.wide;
+      each = λ k a.
+          let rest = first_of_line (covering_in own k a) (line_up left s up) in
+          ap (λ o. option_or o rest) (adds.each k a) ∙ or_assoc (covered_by before k a) (option_or (number_for paths.items (AtComponent k) a) (number_for paths.items Children a)) rest
+          ∙ ap (λ o. option_or (covered_by before k a) (option_or o rest)) (here number k a paths held) ∙ at_next k a;
+    }
+
+    pub gathers_past : slice_get own number ≡ None → Gathers left up before
+    gathers_past past = record {
+      wide = so_far.wide;
+      each = λ k a.
+          let rest = first_of_line (covering_in own k a) (line_up left s up) in
+          let none : covering_in own k a number ≡ None = ap (λ o. option_or (number_among o (AtComponent k) a) (number_among o Children a)) past in
+          ap (λ o. option_or (covered_by before k a) (option_or o rest)) (sym none) ∙ at_next k a;
+    }
 
   -- no class is left
-  pub left_none : (left : ℕ) {next : Option ℕ} {o : Option EqId} → o ≡ None → next ≡ None → Left left next → option_map number_of_equation o ≡ first_of_line f (upwards s class)
-  left_none left {next} {o} is none so_far = ap (option_map number_of_equation) is ∙ ap (first_of_line f) (sym (up_none left s)) ∙ subst (Left left) none so_far
+  pub gathers_end : (left : ℕ) (above : Option ℕ) {c : Covering} → line_up left s above ≡ [] → Gathers left above c → CoversUpwards s own class c
+  gathers_end left above {c} none so_far k a = sym (or_none (covered_by c k a)) ∙ ap (λ cs. option_or (covered_by c k a) (first_of_line (covering_in own k a) cs)) (sym none) ∙ so_far.each k a
 
-  pub left_end : (next : Option ℕ) {left : ℕ} → left ≡ 0 → Left left next → None ≡ first_of_line f (upwards s class)
-  left_end next {left} end so_far = subst (λ n. Left n next) end so_far
+-- a list has nothing for what is no attribute
+pub none_for : (own : List (Vec (Target × EqId) Global)) (c attributes : ℕ) (paths : Vec (Target × EqId) Global) {long : ℕ} {items : List (Target × EqId)} → slice_get own c ≡ Some paths → items ≡ paths.items → long ≡ attributes
+    → ((d a : ℕ) → attributes ≤ a → number_in own d Children a ≡ None) → (a : ℕ) → long ≤ a → number_for items Children a ≡ None
+none_for own c attributes paths held is wide none a past = ap (λ ps. number_for ps Children a) is ∙ sym (ap (λ o. number_among o Children a) held) ∙ none c a (subst (λ n. n ≤ a) wide past)
 
-  module _ (left number : ℕ) (o : Option EqId) {many : ℕ} {next : Option ℕ} (more : many ≡ suc left) (there : next ≡ Some number) (is : option_map number_of_equation o ≡ f number) (so_far : Left many next) where
-    -- what the next class and those after it have
-    at_next : option_or (option_map number_of_equation o) (first_of_line f (line_up left s (superclass_of s number))) ≡ first_of_line f (upwards s class)
-    at_next = ap (λ p. option_or p (first_of_line f (line_up left s (superclass_of s number)))) is ∙ subst (λ n. Left n (Some number)) more (subst (Left many) there so_far)
+-- what covers at so many classes
+pub record CoversEach (s : List (Option ℕ)) (own : List (Vec (Target × EqId) Global)) (count : ℕ) (coverings : List Covering) : Type 0 where
+  pub long : length coverings ≡ count
+  pub each : (class : ℕ) (c : Covering) → slice_get coverings class ≡ Some c → CoversUpwards s own class c
 
-    -- the next class has nothing, or something
-    pub left_less : {up : Option ℕ} → is_some o ≡ false → up ≡ superclass_of s number → Left left up
-    left_less {up} none above = subst (Left left) (sym above) (sym (ap (λ p. option_or p (first_of_line f (line_up left s (superclass_of s number)))) (none_kept o none)) ∙ at_next)
+module _ (s : List (Option ℕ)) (own : List (Vec (Target × EqId) Global)) where
+  pub covers_none : {coverings : List Covering} → coverings ≡ [] → CoversEach s own 0 coverings
+  covers_none {coverings} none = record { long = ap length none; each = λ class c e. absurd (let some : slice_get [] class ≡ Some c = sym (ap (λ cs. slice_get cs class) none) ∙ e in cc) }
 
-    pub left_found : is_some o ≡ true → option_map number_of_equation o ≡ first_of_line f (upwards s class)
-    left_found held = found_first o (first_of_line f (line_up left s (superclass_of s number))) held ∙ at_next
+  pub covers_more : (count : ℕ) (c : Covering) {coverings later : List Covering} → CoversUpwards s own count c → later ≡ coverings ++ c ∷ [] → CoversEach s own count coverings → CoversEach s own (count + 1) later
+  covers_more count c {coverings} {later} covers pushed before = record {
+    long = (let one : length later ≡ length coverings + 1 = ap length pushed ∙ length_push coverings c in omega (arith, before.long));
+    each = λ class d e. elim (push_cases coverings c d class (ap (λ cs. slice_get cs class) (sym pushed) ∙ e)) [
+      | inl h ↦ before.each class d h
+      | inr h ↦ subst (CoversUpwards s own class) h.1 (subst (λ n. CoversUpwards s own n c) (sym (h.0 ∙ before.long)) covers)
+    ];
+  }
+
+module _ (s : List (Option ℕ)) (attributes : ℕ) (targets : List Target) (inside : All (IsTarget (length s) attributes) targets) (own : List (Vec (Target × EqId) Global)) (owns : AreOwnPaths (length s) targets own) where
+  -- no class has an equation for what is no attribute
+  pub none_past : (c a : ℕ) → attributes ≤ a → number_in own c Children a ≡ None
+  none_past c a past = owns.each c Children a refl ∙ position_none (is_target c Children a) targets (λ k d h. other_attribute (length s) attributes a c Children past _ (inside k d h))
+
+  -- nor has what is no class one
+  no_equation : (class : ℕ) (r : Reach) (a : ℕ) → length s ≤ class → equation_at targets class r a ≡ None
+  no_equation class r a past = position_none (is_target class r a) targets (λ k d h. other_class (length s) attributes a class r past _ (inside k d h))
+
+  same_own : (k a c : ℕ) → covering_in own k a c ≡ own_covering targets k a c
+  same_own k a c i = option_or (owns.each c (AtComponent k) a refl i) (owns.each c Children a refl i)
+
+  pub covers_all : {coverings : List Covering} → CoversEach s own (length own) coverings → AreCovered s targets coverings
+  covers_all {coverings} covers class k a = elim (cases_lt class (length s)) [
+    | inl h ↦
+        let t = there coverings class (omega (arith, h, covers.long, owns.long)) in
+        ap (λ o. covered_in o k a) t.1 ∙ covers.each class t.0 t.1 k a ∙ ap (λ (f : ℕ → Option ℕ). first_of_line f (upwards s class)) (λ i c. same_own k a c i)
+    | inr h ↦
+        let nothing : own_covering targets k a class ≡ None = λ i. option_or (no_equation class (AtComponent k) a h i) (no_equation class Children a h i) in
+        ap (λ o. covered_in o k a) (slice_get_past coverings class (omega (arith, h, covers.long, owns.long)))
+        ∙ sym (ap (λ o. option_or o (first_of_line (own_covering targets k a) (line_of s class))) nothing ∙ ap (first_of_line (own_covering targets k a)) (no_line s class h))
+  ]

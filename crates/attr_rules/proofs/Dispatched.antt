@@ -9,16 +9,17 @@ use Rattle.std.proofs.lemmas.Option.{slice_get_past}
 use Rattle.ast_grammar.proofs.Positions.{position_none}
 use Rattle.superclasses.specs.Superclasses.{AreWithin, line_of, line_up, superclass_of, upwards}
 use Rattle.attr_rules.specs.declared.dispatch.Dispatch.{Dispatch}
+use Rattle.attr_rules.specs.declared.dispatch.Reach.{Reach}
 use Rattle.attr_rules.specs.declared.dispatch.Reach.TheVariants.{Own}
 use Rattle.attr_rules.specs.declared.dispatch.Target.{Target}
 use Rattle.attr_rules.specs.declared.kinds.EqId.{EqId}
-use Rattle.attr_rules.specs.Dispatching.{AreOwnRows, ArePaths, Dispatches, IsNearestRow, IsTarget, number_at}
+use Rattle.attr_rules.specs.Dispatching.{AreCovered, AreOwnRows, Dispatches, IsNearestRow, IsTarget, number_at}
 use Rattle.attr_rules.specs.RowsKept.{in_row}
 use Rattle.attr_rules.specs.Rules.{first_of_line, is_target, nearest_equation, number_of_equation, own_equation, same_reach}
 use Rattle.attr_rules.proofs.RowLists.{AreEach, at_each, there}
 
 -- what is no class has no superclass
-no_line : (s : List (Option ℕ)) (class : ℕ) → length s ≤ class → line_of s class ≡ []
+pub no_line : (s : List (Option ℕ)) (class : ℕ) → length s ≤ class → line_of s class ≡ []
 unfolding line_of
 no_line s class past = ap (line_up (length s) s) (get_or-eq_default s None past) ∙ nothing_above (length s)
   where
@@ -44,30 +45,30 @@ nothing_in_line : (f : ℕ → Option ℕ) → ((c : ℕ) → f c ≡ None) → 
 nothing_in_line f h [] = refl
 nothing_in_line f h (c ∷ line) = ap (λ o. option_or o (first_of_line f line)) (h c) ∙ nothing_in_line f h line
 
-other_attribute : (classes attributes a c : ℕ) → attributes ≤ a → (t : Target) → IsTarget classes attributes t → is_target c Own a t ≡ false
-other_attribute classes attributes a c past t h =
+pub other_attribute : (classes attributes a c : ℕ) (r : Reach) → attributes ≤ a → (t : Target) → IsTarget classes attributes t → is_target c r a t ≡ false
+other_attribute classes attributes a c r past t h =
     let below : t.attribute.0 < attributes = h.attribute in
     let other : ((t.class.0 == c) && (t.attribute.0 == a)) ≡ false = grind (arith, nat_tests) in
-    and_right (same_reach t.reach Own) _ other
+    and_right (same_reach t.reach r) _ other
 
-other_class : (classes attributes a c : ℕ) → classes ≤ c → (t : Target) → IsTarget classes attributes t → is_target c Own a t ≡ false
-other_class classes attributes a c past t h =
+pub other_class : (classes attributes a c : ℕ) (r : Reach) → classes ≤ c → (t : Target) → IsTarget classes attributes t → is_target c r a t ≡ false
+other_class classes attributes a c r past t h =
     let below : t.class.0 < classes = h.class in
     let other : ((t.class.0 == c) && (t.attribute.0 == a)) ≡ false = grind (arith, nat_tests) in
-    and_right (same_reach t.reach Own) _ other
+    and_right (same_reach t.reach r) _ other
 
 module _ (s : List (Option ℕ)) (attributes : ℕ) (targets : List Target) (inside : All (IsTarget (length s) attributes) targets) where
   no_attribute : (class a : ℕ) → attributes ≤ a → nearest_equation s targets class a ≡ None
-  no_attribute class a past = nothing_in_line (own_equation targets a) (λ c. position_none (is_target c Own a) targets (λ k d h. other_attribute (length s) attributes a c past _ (inside k d h))) (upwards s class)
+  no_attribute class a past = nothing_in_line (own_equation targets a) (λ c. position_none (is_target c Own a) targets (λ k d h. other_attribute (length s) attributes a c Own past _ (inside k d h))) (upwards s class)
 
   no_class : (class a : ℕ) → length s ≤ class → nearest_equation s targets class a ≡ None
   no_class class a past =
-      ap (λ o. option_or o (first_of_line (own_equation targets a) (line_of s class))) (position_none (is_target class Own a) targets (λ k d h. other_class (length s) attributes a class past _ (inside k d h)))
+      ap (λ o. option_or o (first_of_line (own_equation targets a) (line_of s class))) (position_none (is_target class Own a) targets (λ k d h. other_class (length s) attributes a class Own past _ (inside k d h)))
       ∙ ap (first_of_line (own_equation targets a)) (no_line s class past)
 
 pub dispatched : (s : List (Option ℕ)) (attributes : ℕ) (targets : List Target) (own : List (Vec (Option EqId) Global)) (d : Dispatch) → AreWithin s → All (IsTarget (length s) attributes) targets → length targets < 2 ^ 32
-    → AreOwnRows (length s) attributes targets own → AreEach (IsNearestRow s own) (length own) d.rows.items → ArePaths targets d.paths → Dispatches s targets d
-dispatched s attributes targets own d within inside few owns rows paths = record {
+    → AreOwnRows (length s) attributes targets own → AreEach (IsNearestRow s own) (length own) d.rows.items → AreCovered s targets d.coverings.items → Dispatches s targets d
+dispatched s attributes targets own d within inside few owns rows covered = record {
   numbered = few;
   classes = rows.long ∙ owns.long;
   each = λ class a. elim (cases_lt class (length s)) [
@@ -77,7 +78,7 @@ dispatched s attributes targets own d within inside few owns rows paths = record
     ]
     | inr h ↦ ap (λ o. option_map number_of_equation (in_row o a)) (slice_get_past d.rows.items class (omega (arith, h, rows.long, owns.long))) ∙ sym (no_class s attributes targets inside class a h)
   ];
-  paths = paths;
+  covered = covered;
 }
   where
     known : (class : ℕ) → class < length s → class < length own

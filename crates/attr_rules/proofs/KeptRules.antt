@@ -60,10 +60,10 @@ module _ (s : List (Option ℕ)) (equations : List KeptEquation) (d : Dispatch) 
         (number_within (length targets) (own_equation targets a) (upwards s class) o (λ c. at_within targets c Own a) found)
 
   -- the equation that covers what hangs at a component, for the first attribute of a name
-  module _ (class k : ℕ) (first : AttrId) (o : Option EqId) (above : List (Option ℕ)) (same : above ≡ s)
-      (finds : (targets : List Target) → Dispatches above targets d → option_map number_of_equation o ≡ covering_equation above targets class k first.0) where
+  module _ (class k : ℕ) (first : AttrId) (o : Option EqId)
+      (finds : (above : List (Option ℕ)) (targets : List Target) → Dispatches above targets d → option_map number_of_equation o ≡ covering_equation above targets class k first.0) where
     covering : option_map number_of_equation o ≡ covering_equation s (map kept_target equations) class k first.0
-    covering = subst (λ r. Dispatches r (map kept_target equations) d → option_map number_of_equation o ≡ covering_equation r (map kept_target equations) class k first.0) same (finds (map kept_target equations)) dispatches
+    covering = finds s (map kept_target equations) dispatches
 
     pub covering_found : (n : Option ℕ) → option_map number_of_attribute (Some first) ≡ n → option_map number_of_equation o ≡ option_and_then (covering_equation s (map target_in (map equation_in equations)) class k) n
     covering_found n of_name =

@@ -1,4 +1,5 @@
 pub mod CoveringLines
+pub mod CoveringSteps
 pub mod Dispatched
 pub mod FirstPlaces
 pub mod KeptPaths
@@ -6,6 +7,7 @@ pub mod KeptRules
 pub mod LeftOut
 pub mod NamedAttributes
 pub mod NearestRows
+pub mod OwnPaths
 pub mod OwnRows
 pub mod Permitted
 pub mod RowLists

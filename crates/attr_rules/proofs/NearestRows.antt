@@ -54,7 +54,7 @@ filled_in row above {held} {from} {new} {after} same is fills left =
     let long : length new ≡ row.len = ap length all ∙ length-filled row.items above ∙ sym row.ok.0 in
     ap (λ (v : Vec (Option EqId) Global). v.items) left ∙ with_items_is row new long ∙ all
 
-or_assoc : {X : Type 0} (o p q : Option X) → option_or (option_or o p) q ≡ option_or o (option_or p q)
+pub or_assoc : {X : Type 0} (o p q : Option X) → option_or (option_or o p) q ≡ option_or o (option_or p q)
 or_assoc None p q = refl
 or_assoc (Some x) p q = refl
 

@@ -81,12 +81,12 @@ put_within t e rows {held} {new} {after} same puts left =
     subst (λ old. PutsFirst t e old after.items) same (subst (λ now. PutsFirst t e held now) (sym is) puts)
 
 -- what stands in a list after an item is set, at its place and at another
-set_same : {Y : Type 0} (ys : List Y) (n : ℕ) (y : Y) → n < length ys → slice_get (set ys n y) n ≡ Some y
+pub set_same : {Y : Type 0} (ys : List Y) (n : ℕ) (y : Y) → n < length ys → slice_get (set ys n y) n ≡ Some y
 set_same [] n y h = absurd (omega arith)
 set_same (z ∷ ys) zero y h = refl
 set_same (z ∷ ys) (suc n) y h = set_same ys n y (omega arith)
 
-set_other : {Y : Type 0} (ys : List Y) (n k : ℕ) (y : Y) → (k ≡ n → ⊥) → slice_get (set ys n y) k ≡ slice_get ys k
+pub set_other : {Y : Type 0} (ys : List Y) (n k : ℕ) (y : Y) → (k ≡ n → ⊥) → slice_get (set ys n y) k ≡ slice_get ys k
 set_other [] n k y apart = refl
 set_other (z ∷ ys) zero zero y apart = absurd (apart refl)
 set_other (z ∷ ys) zero (suc k) y apart = refl

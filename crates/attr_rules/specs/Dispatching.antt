@@ -1,18 +1,19 @@
 -- Rows of equations: for each class a place for each attribute.
 use Rattle.std.specs.Prelude.{◌≡◌, ◌==◌, ◌&&◌, ℕ, ◌<◌, ◌^◌, true, false, List, [], ◌∷◌, Option, Some, None, Vec, if◌then◌else◌, length, replicate, slice_get}
-use Rattle.std.specs.Option.{option_map, option_or}
+use Rattle.std.specs.Option.{option_and_then, option_map, option_or}
 use Rattle.std.specs.declared.alloc.Global.{Global}
 use Rattle.superclasses.specs.Superclasses.{upwards}
 use Rattle.std.specs.HashMap.{HashMap}
 use Rattle.std.specs.Map.{lookup}
 use Rattle.attr_rules.specs.declared.dispatch.Dispatch.{Dispatch}
 use Rattle.attr_rules.specs.declared.dispatch.Reach.{Reach}
-use Rattle.attr_rules.specs.declared.dispatch.Reach.TheVariants.{Own}
-use Rattle.attr_rules.specs.declared.paths.Key.{Key}
+use Rattle.attr_rules.specs.declared.dispatch.Reach.TheVariants.{Own, Component as AtComponent, Children}
+use Rattle.attr_rules.specs.declared.covering.Covering.{Covering}
+use Rattle.attr_rules.specs.declared.covering.Key.{Key}
 use Rattle.attr_rules.specs.declared.dispatch.Target.{Target}
 use Rattle.attr_rules.specs.declared.kinds.EqId.{EqId}
 use Rattle.attr_rules.specs.RowsKept.{at_place, at_row, with_first}
-use Rattle.attr_rules.specs.Rules.{equation_at, first_of_line, is_target, nearest_equation, number_of_equation, own_equation, same_reach}
+use Rattle.attr_rules.specs.Rules.{covering_equation, equation_at, first_of_line, is_target, nearest_equation, number_of_equation, own_equation, same_reach}
 
 -- the number of the equation at a place
 abbrev pub number_at : List (Vec (Option EqId) Global) → ℕ → ℕ → Option ℕ
@@ -52,23 +53,81 @@ pub record IsTarget (classes attributes : ℕ) (t : Target) : Type 0 where
   pub class : t.class.0 < classes
   pub attribute : t.attribute.0 < attributes
 
--- the number of the equation that is kept for a path
-abbrev pub kept_path : List (Key × EqId) → ℕ → Reach → ℕ → Option ℕ
-kept_path paths class r a = option_map number_of_equation (lookup (λ (k : Key). same_reach k.reach r && ((k.class == class) && (k.attribute == a))) paths)
+-- the component at which nodes hang
+abbrev pub component_in : Reach → Option ℕ
+component_in Own = None
+component_in (AtComponent k) = Some k
+component_in Children = None
 
--- an equation with a path is kept, unless one is kept for the same; all else stays
-abbrev pub KeepsFirst : {S : Type 0} → Target → EqId → HashMap Key EqId S → HashMap Key EqId S → Type 0
-KeepsFirst t e before after = (class : ℕ) (r : Reach) (a : ℕ) → same_reach r Own ≡ false
-    → kept_path after.entries class r a ≡ option_or (kept_path before.entries class r a) (if is_target class r a t then Some e.0 else None)
+-- the number of the first of some equations for these nodes and this attribute
+abbrev pub number_for : List (Target × EqId) → Reach → ℕ → Option ℕ
+number_for paths r a = option_map number_of_equation (lookup (λ (t : Target). same_reach t.reach r && (t.attribute.0 == a)) paths)
 
--- the first equation of each class is kept for each path and attribute
-abbrev pub ArePaths : List Target → List (Key × EqId) → Type 0
-ArePaths targets paths = (class : ℕ) (r : Reach) (a : ℕ) → same_reach r Own ≡ false → kept_path paths class r a ≡ equation_at targets class r a
+abbrev pub number_among : Option (Vec (Target × EqId) Global) → Reach → ℕ → Option ℕ
+number_among None r a = None
+number_among (Some paths) r a = number_for paths.items r a
 
--- The rows give the equation of each attribute at nodes of each class, and none of what is no attribute or class; equations with a path are
--- kept by their paths.
+-- the same of those of a class
+abbrev pub number_in : List (Vec (Target × EqId) Global) → ℕ → Reach → ℕ → Option ℕ
+number_in lists class r a = number_among (slice_get lists class) r a
+
+-- an equation with a path comes last among those of its class; all else stays
+pub record AddsPath (t : Target) (e : EqId) (before after : List (Vec (Target × EqId) Global)) : Type 0 where
+  pub long : length after ≡ length before
+  pub each : (class : ℕ) (r : Reach) (a : ℕ) → same_reach r Own ≡ false → number_in after class r a ≡ option_or (number_in before class r a) (if is_target class r a t then Some e.0 else None)
+
+-- the equations with a path of exactly each class
+pub record AreOwnPaths (classes : ℕ) (targets : List Target) (lists : List (Vec (Target × EqId) Global)) : Type 0 where
+  pub long : length lists ≡ classes
+  pub each : (class : ℕ) (r : Reach) (a : ℕ) → same_reach r Own ≡ false → number_in lists class r a ≡ equation_at targets class r a
+
+-- the number of the equation that is kept for a component and an attribute
+abbrev pub kept_for : List (Key × EqId) → ℕ → ℕ → Option ℕ
+kept_for named k a = option_map number_of_equation (lookup (λ (key : Key). (key.component == k) && (key.attribute == a)) named)
+
+-- an equation is kept for a component and an attribute, unless one is kept for the same; all else stays
+abbrev pub KeepsFirst : {S : Type 0} → Key → EqId → HashMap Key EqId S → HashMap Key EqId S → Type 0
+KeepsFirst key e before after = (k a : ℕ) → kept_for after.entries k a ≡ option_or (kept_for before.entries k a) (if (key.component == k) && (key.attribute == a) then Some e.0 else None)
+
+-- the number of the equation at the place of an attribute
+abbrev pub number_of_place : List (Option EqId) → ℕ → Option ℕ
+number_of_place row a = option_map number_of_equation (at_place row a)
+
+-- Equations of one class more are kept for the components that they are for, unless one is kept for the same; where one of a nearer class is for
+-- every child, it is kept in their place.
+abbrev pub KeepsNamed : {S : Type 0} → List (Option EqId) → List (Target × EqId) → HashMap Key EqId S → HashMap Key EqId S → Type 0
+KeepsNamed children paths before after = (k a : ℕ)
+    → kept_for after.entries k a ≡ option_or (kept_for before.entries k a) (option_and_then (λ e. option_or (number_of_place children a) (Some e)) (number_for paths (AtComponent k) a))
+
+-- the number of the equation that covers what hangs at a component: the one that is kept for it, or else the one for every child
+abbrev pub covered_by : Covering → ℕ → ℕ → Option ℕ
+covered_by c k a = option_or (kept_for c.named k a) (number_of_place c.children.items a)
+
+-- the equations of one class more cover what nothing covered, those for the component before those for every child
+pub record AddsClass (paths : List (Target × EqId)) (before after : Covering) : Type 0 where
+  pub long : length after.children.items ≡ length before.children.items
+  pub each : (k a : ℕ) → covered_by after k a ≡ option_or (covered_by before k a) (option_or (number_for paths (AtComponent k) a) (number_for paths Children a))
+
+-- the equation of exactly this class that covers, by those of each class
+abbrev pub covering_in : List (Vec (Target × EqId) Global) → ℕ → ℕ → ℕ → Option ℕ
+covering_in own k a class = option_or (number_in own class (AtComponent k) a) (number_in own class Children a)
+
+-- what covers is that of the nearest class that has something, from this one upwards
+abbrev pub CoversUpwards : List (Option ℕ) → List (Vec (Target × EqId) Global) → ℕ → Covering → Type 0
+CoversUpwards superclasses own class c = (k a : ℕ) → covered_by c k a ≡ first_of_line (covering_in own k a) (upwards superclasses class)
+
+abbrev pub covered_in : Option Covering → ℕ → ℕ → Option ℕ
+covered_in None k a = None
+covered_in (Some c) k a = covered_by c k a
+
+-- what covers at each class is the equation of the nearest class that has one
+abbrev pub AreCovered : List (Option ℕ) → List Target → List Covering → Type 0
+AreCovered superclasses targets coverings = (class k a : ℕ) → covered_in (slice_get coverings class) k a ≡ covering_equation superclasses targets class k a
+
+-- The rows give the equation of each attribute at nodes of each class, and none of what is no attribute or class; for what hangs at each of
+-- their components the equation that covers it is kept.
 pub record Dispatches (superclasses : List (Option ℕ)) (targets : List Target) (d : Dispatch) : Type 0 where
   pub numbered : length targets < 2 ^ 32
   pub classes : length d.rows.items ≡ length superclasses
   pub each : (class a : ℕ) → number_at d.rows.items class a ≡ nearest_equation superclasses targets class a
-  pub paths : ArePaths targets d.paths
+  pub covered : AreCovered superclasses targets d.coverings.items

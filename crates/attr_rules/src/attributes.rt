@@ -219,13 +219,6 @@ impl Attributes {
         at_place(&self.inherited, name as usize)
     }
 
-    /// Which classes are subclasses of which.
-    pub fn subclasses(&self) -> &Subclasses
-        ensures { result.now ≡ self.now.superclasses }
-    {
-        &self.subclasses
-    }
-
     /// The attribute of this name that is declared for the class or a superclass, or None where none is. It takes the time of one look-up.
     pub fn find(&self, class: ClassId, name: &[u8]) -> Option<AttrId>
         requires { class.0 < length self.now.superclasses }

@@ -1,18 +1,18 @@
 // Which equation gives an attribute its value at nodes of a class.
-ghost use Rattle.std.specs.Prelude.{◌≡◌, ◌<◌, ◌^◌, List, All, IfOk, length};
+ghost use Rattle.std.specs.Prelude.{◌≡◌, ◌<◌, ◌^◌, ℕ, List, Option, All, IfOk, length};
 ghost use Rattle.std.specs.Option.{option_map};
 ghost use Rattle.ast_grammar.specs.Grammar.{superclasses_of};
-ghost use Rattle.attr_rules.specs.Dispatching.{AreEmptyRows, AreOwnRows, Dispatches, IsNearestRow, IsTarget, PutsFirst, filled};
+ghost use Rattle.attr_rules.specs.Dispatching.{AreCovered, AreEmptyRows, AreOwnRows, Dispatches, IsNearestRow, IsTarget, PutsFirst, filled};
 ghost use Rattle.attr_rules.specs.Rules.{covering_equation, number_of_equation};
 ghost use Rattle.attr_rules.specs.RowsKept.{at_row};
 
+use crate::covering::Covering;
 use crate::kinds::{AttrId, EqId};
-use crate::paths::Paths;
+use crate::paths::own_paths;
 use crate::rows::{at_row, put_first};
 use ast_grammar::{ClassId, Grammar};
 use rag_io::Memory;
 use std::alloc::Global;
-use superclasses::Subclasses;
 
 /// At which nodes an equation of a class gives a value: at those of the class (`eq C.y() = ..`), at what hangs at a component of them
 /// (`eq C.getX().y() = ..`), or at whatever hangs at them (`eq C.getChild().y() = ..`).
@@ -24,8 +24,9 @@ pub enum Reach {
 }
 
 impl Reach {
+    ghost use Rattle.attr_rules.specs.Dispatching.{component_in};
     ghost use Rattle.attr_rules.specs.Rules.{same_reach};
-    ghost use Rattle.attr_rules.specs.declared.dispatch.Reach.TheVariants.{Own};
+    ghost use Rattle.attr_rules.specs.declared.dispatch.Reach.TheVariants.{Children, Own};
 
     /// Whether it is the nodes of the class: the equation has no path.
     pub(crate) fn is_own(self) -> bool
@@ -34,6 +35,26 @@ impl Reach {
         match self {
             Reach::Own => true,
             Reach::Component(_) | Reach::Children => false,
+        }
+    }
+
+    /// Whether it is whatever hangs at nodes of the class.
+    pub(crate) fn is_children(self) -> bool
+        ensures { result ≡ same_reach self Children }
+    {
+        match self {
+            Reach::Children => true,
+            Reach::Component(_) | Reach::Own => false,
+        }
+    }
+
+    /// The component, if it is what hangs at one.
+    pub(crate) fn component(self) -> Option<u32>
+        ensures { result ≡ component_in self }
+    {
+        match self {
+            Reach::Component(component) => Some(component),
+            Reach::Own | Reach::Children => None,
         }
     }
 }
@@ -47,12 +68,12 @@ pub struct Target {
     pub attribute: AttrId,
 }
 
-/// The equation of each attribute at nodes of each class: that of the nearest class, from the node's class upwards. A row for each class has
-/// a place for each attribute, so it is found in constant time. Equations with a path are found class by class.
+/// The equation of each attribute at nodes of each class, and at what hangs at each of their components: that of the nearest class, from the
+/// node's class upwards. It is looked for once for each class, and then found in constant time.
 #[derive(Drop)]
 pub struct Dispatch {
     rows: Vec<Vec<Option<EqId>>>,
-    paths: Paths,
+    coverings: Vec<Covering>,
 }
 
 // Equations go by numbers of 32 bits. A file has no room for more.
@@ -142,9 +163,30 @@ fn nearest_row(
     Ok(row)
 }
 
+// What covers at nodes of each class.
+fn coverings(
+    alloc: Global,
+    grammar: &Grammar,
+    attributes: u32,
+    targets: &[Target],
+) -> Result<Vec<Covering>, Memory>
+    requires few { length targets.now < 2 ^ 32 }
+    requires within { All (IsTarget (length (superclasses_of grammar.now)) attributes) targets.now }
+    ensures { IfOk result (λ v. AreCovered (superclasses_of grammar.now) targets.now v.items) }
+{
+    let own = own_paths(alloc, grammar.classes(), targets)?;
+    let mut coverings = Vec::new(alloc);
+    for class in 0..own.len() {
+        let covering = Covering::of_class(alloc, grammar, attributes, &own, class)?;
+        coverings.push(covering).map_err(|_| Memory)?;
+    }
+    Ok(coverings)
+}
+
 impl Dispatch {
     /// The equations for these, by their places in the list, among so many attributes. It takes time in proportion to the equations, and for
-    /// each class to its superclasses times the attributes.
+    /// each class to its superclasses times the attributes, and to its equations with a path and those of its superclasses. Memory goes to a
+    /// place for each class and attribute, and to each equation for a component once for each subclass.
     pub fn of_targets(
         alloc: Global,
         grammar: &Grammar,
@@ -161,8 +203,8 @@ impl Dispatch {
             let row = nearest_row(alloc, grammar, &own, class)?;
             rows.push(row).map_err(|_| Memory)?;
         }
-        let paths = Paths::of_targets(alloc, targets)?;
-        Ok(Dispatch { rows, paths })
+        let coverings = coverings(alloc, grammar, attributes, targets)?;
+        Ok(Dispatch { rows, coverings })
     }
 
     /// The equation of an attribute at nodes of a class, or None where there is none. It takes constant time.
@@ -174,25 +216,11 @@ impl Dispatch {
 
     /// The equation with a path that covers what hangs at a component of nodes of a class, for the first inherited attribute of a name, or
     /// None where there is none: that of the nearest class, from this one upwards, and in a class one for the component before one for
-    /// every child. It takes time in proportion to the superclasses.
-    pub fn find_covering(
-        &self,
-        subclasses: &Subclasses,
-        class: ClassId,
-        component: u32,
-        attribute: AttrId,
-    ) -> Option<EqId>
-        ensures { (targets : List Target) → Dispatches subclasses.now targets self.now → option_map number_of_equation result ≡ covering_equation subclasses.now targets class.0 component attribute.0 }
+    /// every child. It takes constant time.
+    pub fn find_covering(&self, class: ClassId, component: u32, attribute: AttrId) -> Option<EqId>
+        ensures { (superclasses : List (Option ℕ)) (targets : List Target) → Dispatches superclasses targets self.now → option_map number_of_equation result ≡ covering_equation superclasses targets class.0 component attribute.0 }
     {
-        let mut next = Some(class.0 as usize);
-        for _ in 0..=self.rows.len() {
-            let number = next?;
-            let covering = self.paths.covering(number, component, attribute);
-            if covering.is_some() {
-                return covering;
-            }
-            next = subclasses.superclass(number);
-        }
-        None
+        let covering = self.coverings.get(class.0 as usize)?;
+        covering.find(component, attribute)
     }
 }

@@ -3,6 +3,7 @@
 
 mod accessors;
 mod attributes;
+mod covering;
 mod dispatch;
 mod expression;
 mod kinds;

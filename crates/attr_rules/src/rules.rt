@@ -97,15 +97,13 @@ impl Rules {
 
     /// The equation that gives an inherited attribute its value at what hangs at a component of nodes of a class: that of the nearest
     /// class, from this one upwards, and in a class one for the component before one for every child. None where there is none. It
-    /// takes time in proportion to the superclasses.
+    /// takes constant time.
     pub fn inh_equation(&self, class: ClassId, component: u32, a: AttrId) -> Option<EqId>
         ensures number { option_map number_of_equation result ≡ covering_number (rules_in self.now) class component a.0 }
         ensures within { IfSome result (λ e. e.0 < length (rules_in self.now).equations) }
     {
         let first = self.attributes.first_of_name(a)?;
-        let subclasses = self.attributes.subclasses();
-        self.dispatch
-            .find_covering(subclasses, class, component, first)
+        self.dispatch.find_covering(class, component, first)
     }
 
     /// What an equation is for.

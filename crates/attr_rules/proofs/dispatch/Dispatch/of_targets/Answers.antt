@@ -22,4 +22,4 @@ returns c =
     let classes : c.classes.result ≡ length s = c.classes.ensures.number ∙ sym (length-superclasses_of c.args.grammar.now) in
     let all : c.loop-class.class ≡ length own.items = omega (arith, c.len-class-end.ensures, own.ok.0) in
     dispatched s c.args.attributes c.args.targets.now own.items _ c.classes.ensures.allowed.within c.requires c.in_ok-numbers_suffice.ensures
-    (subst (λ n. AreOwnRows n c.args.attributes c.args.targets.now own.items) classes c.in_ok-own.ensures) (subst (λ n. AreEach (IsNearestRow s own.items) n c.loop-class.rows.items) all c.loop-class.invariant) c.in_ok-paths.ensures
+    (subst (λ n. AreOwnRows n c.args.attributes c.args.targets.now own.items) classes c.in_ok-own.ensures) (subst (λ n. AreEach (IsNearestRow s own.items) n c.loop-class.rows.items) all c.loop-class.invariant) c.in_ok-coverings.ensures
