@@ -113,7 +113,7 @@ module _ (s : System) (d : Held) (l : Local) (r : IsReady s d l) (number : ℕ) 
       pub absorb_same : q ≡ Ok None → Visits d f l l number (Ok Same)
       absorb_same none = record {
         goes = goes l (record { start = refl; entries = refl; need = refl });
-        answer = record { members = refl; waiting = refl; confirmed = λ c there some. current (subst (λ (z : Result (Option CodedValue) CircFault). AnswersRaise p d.0 f.1 i x e.1.value z) none (raises.answer i may_rise)) c there };
+        answer = record { members = refl; due = refl; confirmed = λ c there some. current (subst (λ (z : Result (Option CodedValue) CircFault). AnswersRaise p d.0 f.1 i x e.1.value z) none (raises.answer i may_rise)) c there };
       }
 
       -- it rose

@@ -13,6 +13,7 @@ use Rattle.memo_cells.specs.Working.{Held, ReadsOn, program_at}
 use Rattle.memo_cells.proofs.Showing.{not_both}
 use Rattle.circular_eval.specs.declared.advancing.CircFault.{CircFault}
 use Rattle.circular_eval.specs.declared.advancing.CircFault.TheVariants.{Memory}
+use Rattle.circular_eval.specs.declared.due.Due.{Due}
 use Rattle.circular_eval.specs.declared.local.Local.{Local}
 use Rattle.circular_eval.specs.declared.members.Member.{Member}
 use Rattle.circular_eval.specs.declared.visiting.Visited.{Visited}
@@ -21,6 +22,7 @@ use Rattle.circular_eval.specs.Advancing.{AnswersFault}
 use Rattle.circular_eval.specs.Left.{left}
 use Rattle.circular_eval.specs.Local.{AreKept, Members}
 use Rattle.circular_eval.specs.Looking.{ComesTo}
+use Rattle.circular_eval.specs.Waiting.{due_count}
 use Rattle.circular_eval.specs.Visiting.{AnswersVisit, ComesAt, GoesOnWith, IsConfirmed, IsReady, Passes, Stays, Visits}
 use Rattle.circular_eval.proofs.Admitting.{IsSame, goes_same}
 use Rattle.circular_eval.proofs.Entries.{at_low, has_at}
@@ -30,7 +32,7 @@ use Rattle.circular_eval.proofs.Later.{confirmed_later}
 
 -- one that was sealed when it was met is visited in vain
 pub same_visit : (s : System) (d : Held) (l : Local) (number : ℕ) → IsReady s d l → ((e : CodedInstance × Member) → slice_get l.members.entries number ≡ Some e → IsSome e.1.slot → ⊥) → Visits d d l l number (Ok Same)
-same_visit s d l number r final = record { goes = with_itself s d l r; answer = record { members = refl; waiting = refl; confirmed = λ e at some. absurd (final e at some) } }
+same_visit s d l number r final = record { goes = with_itself s d l r; answer = record { members = refl; due = refl; confirmed = λ e at some. absurd (final e at some) } }
 
 pub kept_members : (s : System) (d : Held) (l : Local) → IsReady s d l → AreKept (program_of s) l.members.entries
 kept_members s d l r e there = let at = has_at l.members.entries e there in let m = r.local.set.members at.0 e at.1 in (m.coded, m.elements, m.fits)
@@ -48,16 +50,16 @@ came_read s d e l m number x turn r on same at some came =
     subst (λ (u : Program × Members). ComesAt u.0 e.1 u.1 number turn) (λ j. (here j, sym same j)) (record { entry = x; at = at; placed = some; comes = came })
 
 -- a visit after what only read
-visit_answer : (p : Program) (f : Frame) (v : View) (l m n : Local) (number : ℕ) (y : Result Visited CircFault) → m.start ≡ l.start → m.members.entries ≡ l.members.entries → m.worklist.waiting ≡ l.worklist.waiting → AnswersVisit p f v m n number y → AnswersVisit p f v l n number y
-visit_answer p f v l m n number (Ok (Need x)) start same waiting h = h
-visit_answer p f v l m n number (Ok Changed) start same waiting h = subst (λ (u : Members). left n.members.entries < left u) same h
-visit_answer p f v l m n number (Ok Same) start same waiting h = record { members = h.members ∙ same; waiting = h.waiting ∙ waiting; confirmed = h.confirmed }
-visit_answer p f v l m n number (Err fault) start same waiting h = subst (λ (u : CodedInstance). AnswersFault p (instance_of p u) f v fault) start h
+visit_answer : (p : Program) (f : Frame) (v : View) (l m n : Local) (number : ℕ) (y : Result Visited CircFault) → m.start ≡ l.start → m.members.entries ≡ l.members.entries → m.worklist.due ≡ l.worklist.due → AnswersVisit p f v m n number y → AnswersVisit p f v l n number y
+visit_answer p f v l m n number (Ok (Need x)) start same due h = h
+visit_answer p f v l m n number (Ok Changed) start same due h = subst (λ (u : Members). left n.members.entries < left u) same h
+visit_answer p f v l m n number (Ok Same) start same due h = record { members = h.members ∙ same; due = h.due ∙ due; confirmed = h.confirmed }
+visit_answer p f v l m n number (Err fault) start same due h = subst (λ (u : CodedInstance). AnswersFault p (instance_of p u) f v fault) start h
 
-pub visit_then : (s : System) (d e f : Held) (l m n : Local) (number : ℕ) (y : Result Visited CircFault) → IsReady s d l → ReadsOn d e → IsSame l m → m.worklist.waiting ≡ l.worklist.waiting → Visits e f m n number y → Visits d f l n number y
-visit_then s d e f l m n number y r on same waiting h = record {
+pub visit_then : (s : System) (d e f : Held) (l m n : Local) (number : ℕ) (y : Result Visited CircFault) → IsReady s d l → ReadsOn d e → IsSame l m → m.worklist.due ≡ l.worklist.due → Visits e f m n number y → Visits d f l n number y
+visit_then s d e f l m n number y r on same due h = record {
   goes = with_then d e f l m n (goes_read s d e l m r on same) h.goes;
-  answer = visit_answer (program_at d) d.0 f.1 l m n number y same.start same.entries waiting (subst (λ (u : Program × Frame). AnswersVisit u.0 u.1 f.1 m n number y) (λ j. (program_on d e on.on j, on.on.cells j)) h.answer);
+  answer = visit_answer (program_at d) d.0 f.1 l m n number y same.start same.entries due (subst (λ (u : Program × Frame). AnswersVisit u.0 u.1 f.1 m n number y) (λ j. (program_on d e on.on j, on.on.cells j)) h.answer);
 }
 
 -- a pass, so far: the members up to this one are confirmed
@@ -68,6 +70,22 @@ pub record IsPassed (d e : Held) (l m : Local) (upto : ℕ) : Type 0 where
 
 pub pass_begins : (s : System) (d : Held) (l : Local) → IsReady s d l → IsPassed d d l l 0
 pass_begins s d l r = record { goes = with_itself s d l r; same = refl; confirmed = λ k x low at. absurd (omega (arith, low)) }
+
+-- which member is next changes nothing
+pub pass_looked : (d e : Held) (l m o : Local) (upto : ℕ) → o.start ≡ m.start → o.members ≡ m.members → o.need ≡ m.need → IsPassed d e l m upto → IsPassed d e l o upto
+pass_looked d e l m o upto start members need h =
+    let entries : o.members.entries ≡ m.members.entries = ap (λ x. x.entries) members in
+    record {
+      goes = record {
+        on = h.goes.on;
+        local = local_same (program_at d) d.0 e.1 m o start entries need h.goes.local;
+        start = start ∙ h.goes.start;
+        claims = h.goes.claims;
+        some = λ some. subst (λ (u : Members). 0 < length u) (sym entries) (h.goes.some some);
+      };
+      same = entries ∙ h.same;
+      confirmed = λ k x low at. subst (λ (u : Members). IsConfirmed (program_at d) e.1 u x) (sym entries) (h.confirmed k x low (ap (λ (u : Members). slice_get u k) (sym entries) ∙ at));
+    }
 
 pub pass_ready : (s : System) (d e : Held) (l m : Local) (upto : ℕ) → IsReady s d l → IsPassed d e l m upto → IsReady s e m
 pass_ready s d e l m upto r h = ready_then s d e l m r h.goes
@@ -103,25 +121,9 @@ module _ (d e f : Held) (l m n : Local) (upto number : ℕ) (h : IsPassed d e l 
       subst (λ (u : Members). IsConfirmed (program_at d) f.1 u x) (sym st.members)
       (confirmed_later (program_at d) e.1 f.1 v.goes.on.kept m.members.entries x (h.confirmed k x low (ap (λ (u : Members). slice_get u k) (sym st.members) ∙ at)))
 
-  -- the one that waited is taken away
-  pub pass_popped : Visits e f m n number (Ok Same) → (o : Local) → o.start ≡ n.start → o.members ≡ n.members → o.need ≡ n.need → IsPassed d f l o upto
-  pass_popped v o start members need =
-      let st = stays v in
-      let entries : o.members.entries ≡ n.members.entries = ap (λ x. x.entries) members in
-      let whole = with_then d e f l m n h.goes v.goes in
-      record {
-        goes = record {
-          on = whole.on;
-          local = local_same (program_at d) d.0 f.1 n o start entries need whole.local;
-          start = start ∙ whole.start;
-          claims = whole.claims;
-          some = λ some. subst (λ (u : Members). 0 < length u) (sym entries) (whole.some some);
-        };
-        same = entries ∙ st.members ∙ h.same;
-        confirmed = λ k x low at.
-            subst (λ (u : Members). IsConfirmed (program_at d) f.1 u x) (sym entries)
-            (before v k x low (ap (λ (u : Members). slice_get u k) (sym entries) ∙ at));
-      }
+  -- what was confirmed still is
+  pub pass_stays : Visits e f m n number (Ok Same) → IsPassed d f l n upto
+  pass_stays v = record { goes = with_then d e f l m n h.goes v.goes; same = (stays v).members ∙ h.same; confirmed = before v }
 
   -- the next one is confirmed too
   pub pass_next : number ≡ upto → Visits e f m n number (Ok Same) → IsPassed d f l n (upto + 1)
@@ -148,23 +150,30 @@ final_entry es k x here none e at some =
     not_both none (ap (λ (u : CodedInstance × Member). is_some u.1.slot) (sym same) ∙ some)
 
 -- a pass ends
-pub popped_less : (l m n : Local) (upto : ℕ) → m.members.entries ≡ l.members.entries → m.worklist.waiting ≡ l.worklist.waiting → n.members ≡ m.members → 0 < length l.worklist.waiting.keys → (0 < length m.worklist.waiting.keys → length n.worklist.waiting.keys < length m.worklist.waiting.keys) → (length n.members.entries - upto) + length n.worklist.waiting.keys < (length l.members.entries - upto) + length l.worklist.waiting.keys
-popped_less l m n upto same waiting members some fewer =
+pub popped_less : (l m n : Local) (upto : ℕ) → m.members.entries ≡ l.members.entries → m.worklist.due ≡ l.worklist.due → n.members ≡ m.members → 0 < length l.worklist.due.sweep.keys → (0 < length m.worklist.due.sweep.keys → due_count n.worklist.due < due_count m.worklist.due) → (length n.members.entries - upto) + due_count n.worklist.due < (length l.members.entries - upto) + due_count l.worklist.due
+popped_less l m n upto same due members some fewer =
     let entries : length n.members.entries ≡ length l.members.entries = ap (λ x. length x.entries) members ∙ ap length same in
-    let waits : length m.worklist.waiting.keys ≡ length l.worklist.waiting.keys = ap (λ x. length x.keys) waiting in
-    let less : length n.worklist.waiting.keys < length m.worklist.waiting.keys = fewer (subst (λ (k : ℕ). 0 < k) (sym waits) some) in
-    omega (arith, entries, waits, less)
+    let count : due_count m.worklist.due ≡ due_count l.worklist.due = ap due_count due in
+    let less : due_count n.worklist.due < due_count m.worklist.due = fewer (subst (λ (d : Due). 0 < length d.sweep.keys) (sym due) some) in
+    omega (arith, entries, count, less)
 
-pub next_less : (l m : Local) (upto : ℕ) → m.members.entries ≡ l.members.entries → m.worklist.waiting ≡ l.worklist.waiting → upto < length l.members.entries → (length m.members.entries - (upto + 1)) + length m.worklist.waiting.keys < (length l.members.entries - upto) + length l.worklist.waiting.keys
-next_less l m upto same waiting low =
+pub next_less : (l m : Local) (upto : ℕ) → m.members.entries ≡ l.members.entries → m.worklist.due ≡ l.worklist.due → upto < length l.members.entries → (length m.members.entries - (upto + 1)) + due_count m.worklist.due < (length l.members.entries - upto) + due_count l.worklist.due
+next_less l m upto same due low =
     let entries : length m.members.entries ≡ length l.members.entries = ap length same in
-    let waits : length m.worklist.waiting.keys ≡ length l.worklist.waiting.keys = ap (λ x. length x.keys) waiting in
-    omega (arith, entries, waits, low)
+    let count : due_count m.worklist.due ≡ due_count l.worklist.due = ap due_count due in
+    omega (arith, entries, count, low)
 
-pub some_waits : {X P : Type 0} (o : Option X) → IfSome o (λ x. P) → is_some o ≡ true → P
-some_waits None h e = cc
-some_waits (Some x) h e = h
+-- what is left of a pass doesn't hang on which member is next
+pub looked_less : (l m n : Local) (upto more : ℕ) → m.members ≡ l.members → due_count m.worklist.due ≡ due_count l.worklist.due → (length n.members.entries - more) + due_count n.worklist.due < (length m.members.entries - upto) + due_count m.worklist.due → (length n.members.entries - more) + due_count n.worklist.due < (length l.members.entries - upto) + due_count l.worklist.due
+looked_less l m n upto more members count less =
+    let entries : length m.members.entries ≡ length l.members.entries = ap (λ x. length x.entries) members in
+    omega (arith, entries, count, less)
 
-pub none_waits : {X : Type 0} (o : Option X) → is_some o ≡ false → o ≡ None
-none_waits None e = refl
-none_waits (Some x) e = cc
+-- whether a member is due
+pub some_due : {X P : Type 0} (o : Option X) → IfSome o (λ x. P) → is_some o ≡ true → P
+some_due None h e = cc
+some_due (Some x) h e = h
+
+pub none_due : {X : Type 0} (o : Option X) → is_some o ≡ false → o ≡ None
+none_due None e = refl
+none_due (Some x) e = cc

@@ -63,7 +63,7 @@ AreConfirmed p v es = (e : CodedInstance × Member) → Has es e → IsConfirmed
 -- nothing changed but what is known of the cells, and the equation of the member of this number holds
 pub record Stays (p : Program) (v : View) (old new : Local) (number : ℕ) : Type 0 where
   pub members : new.members.entries ≡ old.members.entries
-  pub waiting : new.worklist.waiting ≡ old.worklist.waiting
+  pub due : new.worklist.due ≡ old.worklist.due
   pub confirmed : (e : CodedInstance × Member) → slice_get new.members.entries number ≡ Some e → IsConfirmed p v new.members.entries e
 
 -- what making a circular instance a member says, with what is held before and after

@@ -55,7 +55,7 @@ impl From<CellsFull> for CircFault {
     }
 }
 
-/// Visits those members that wait to be evaluated, and then each member in turn, until one changes or needs an undeclared instance. It answers
+/// Visits those members that are due, and then each member in turn, until one changes or needs an undeclared instance. It answers
 /// `Same` where the equations of all members hold under the values that are there.
 fn confirm<W: Work>(
     alloc: Global,
@@ -68,14 +68,14 @@ fn confirm<W: Work>(
 {
     let mut confirmed = 0;
     'pass: while confirmed < local.len() {
-        let waiting = local.next();
-        let number = waiting.unwrap_or(confirmed);
+        let due = local.next();
+        let number = due.unwrap_or(confirmed);
         match visit(alloc, system, work, local, number)? {
             Visited::Need(need) => return Ok(Visited::Need(need)),
             Visited::Changed => return Ok(Visited::Changed),
             Visited::Same => {}
         }
-        if waiting.is_some() {
+        if due.is_some() {
             local.pop();
         } else {
             confirmed += 1;

@@ -4,6 +4,7 @@
 
 mod advancing;
 mod claiming;
+mod due;
 mod local;
 mod members;
 mod raising;

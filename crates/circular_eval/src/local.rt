@@ -12,6 +12,7 @@ ghost use Rattle.memo_cells.specs.declared.view.View.{View};
 ghost use Rattle.circular_eval.specs.Advancing.{IsPath};
 ghost use Rattle.circular_eval.specs.Local.{AreKept, AreSlots, IsAbsent, IsLocal, IsMemberOf, local_value, with_value};
 ghost use Rattle.circular_eval.specs.Left.{member_bound};
+ghost use Rattle.circular_eval.specs.Waiting.{due_count};
 
 use crate::members::Member;
 use crate::worklist::Worklist;
@@ -117,9 +118,13 @@ impl Local {
         Some((number, &member.value))
     }
 
-    /// The member that is evaluated next, if one waits.
-    pub(crate) fn next(&self) -> Option<usize>
-        ensures { IfSome result (λ number. 0 < length self.now.worklist.waiting.keys) }
+    /// The member that is evaluated next, if one is due.
+    pub(crate) fn next(&mut self) -> Option<usize>
+        ensures start { self.new.start ≡ self.old.start }
+        ensures members { self.new.members ≡ self.old.members }
+        ensures need { self.new.need ≡ self.old.need }
+        ensures some { IfSome result (λ number. 0 < length self.new.worklist.due.sweep.keys) }
+        ensures count { due_count self.new.worklist.due ≡ due_count self.old.worklist.due }
     {
         self.worklist.next()
     }
@@ -129,7 +134,7 @@ impl Local {
         ensures start { self.new.start ≡ self.old.start }
         ensures members { self.new.members ≡ self.old.members }
         ensures need { self.new.need ≡ self.old.need }
-        ensures fewer { 0 < length self.old.worklist.waiting.keys → length self.new.worklist.waiting.keys < length self.old.worklist.waiting.keys }
+        ensures fewer { 0 < length self.old.worklist.due.sweep.keys → due_count self.new.worklist.due < due_count self.old.worklist.due }
     {
         self.worklist.pop();
     }
@@ -148,7 +153,7 @@ impl Local {
         ensures start { self.new.start ≡ self.old.start }
         ensures members { self.new.members ≡ self.old.members }
         ensures need { self.new.need ≡ self.old.need }
-        ensures waiting { self.new.worklist.waiting ≡ self.old.worklist.waiting }
+        ensures due { self.new.worklist.due ≡ self.old.worklist.due }
     {
         self.worklist.note_reads(number, read)
     }

@@ -1,7 +1,8 @@
 // Which member of a local set is evaluated next. Nothing but time hangs on it: a set is sealed only after a pass over all its members.
-ghost use Rattle.std.specs.Prelude.{◌≡◌, ◌≢◌, ◌<◌, ◌-◌, ℕ, [], true, Contains, IfSome, OnOk, length};
-ghost use Rattle.circular_eval.specs.Waiting.{IsReader, IsWithin};
+ghost use Rattle.std.specs.Prelude.{◌≡◌, ◌≢◌, ◌<◌, ℕ, [], true, Contains, IfSome, OnOk, length};
+ghost use Rattle.circular_eval.specs.Waiting.{IsDue, IsReader, IsWithin, StillDue, due_count};
 
+use crate::due::Due;
 use indexmap::IndexSet;
 use rag_io::Memory;
 use std::alloc::Global;
@@ -9,8 +10,7 @@ use std::alloc::Global;
 /// The members that are to be evaluated, by their numbers.
 #[derive(Drop)]
 pub struct Worklist {
-    // The next one stands last.
-    waiting: IndexSet<usize>,
+    due: Due,
     // The members that read the value of each.
     readers: Vec<IndexSet<usize>>,
 }
@@ -26,13 +26,13 @@ fn insert(numbers: &mut IndexSet<usize>, number: usize) -> Result<(), Memory>
     Ok(())
 }
 
-/// Puts each number of a set last that isn't there.
-fn insert_all(numbers: &mut IndexSet<usize>, more: &IndexSet<usize>) -> Result<(), Memory>
-    ensures all { OnOk result (IsWithin more.now.keys numbers.new.keys) }
-    ensures kept { IsWithin numbers.old.keys numbers.new.keys }
+/// Each of the members that read a value is due, since it rose.
+fn wake_all(due: &mut Due, readers: &IndexSet<usize>, risen: usize) -> Result<(), Memory>
+    ensures all { OnOk result ((k : ℕ) → Contains readers.now.keys k → IsDue due.new k) }
+    ensures kept { StillDue due.old due.new }
 {
-    for number in more.as_slice() {
-        insert(numbers, *number)?;
+    for number in readers.as_slice() {
+        due.wake(*number, risen)?;
     }
     Ok(())
 }
@@ -40,39 +40,40 @@ fn insert_all(numbers: &mut IndexSet<usize>, more: &IndexSet<usize>) -> Result<(
 impl Worklist {
     /// No members.
     pub(crate) fn new(alloc: Global) -> Worklist
-        ensures waiting { result.waiting.keys ≡ [] }
+        ensures due { due_count result.due ≡ 0 }
         ensures readers { result.readers.items ≡ [] }
     {
         Worklist {
-            waiting: IndexSet::new(alloc),
+            due: Due::new(alloc),
             readers: Vec::new(alloc),
         }
     }
 
-    /// The member that is evaluated next, if one waits.
-    pub(crate) fn next(&self) -> Option<usize>
-        ensures waits { IfSome result (Contains self.now.waiting.keys) }
-        ensures some { IfSome result (λ number. 0 < length self.now.waiting.keys) }
+    /// The member that is evaluated next, if one is due.
+    pub(crate) fn next(&mut self) -> Option<usize>
+        ensures some { IfSome result (λ number. 0 < length self.new.due.sweep.keys) }
+        ensures kept { StillDue self.old.due self.new.due }
+        ensures count { due_count self.new.due ≡ due_count self.old.due }
     {
-        self.waiting.last().copied()
+        self.due.next()
     }
 
     /// Takes away the member that is evaluated next.
     pub(crate) fn pop(&mut self)
-        ensures { 0 < length self.old.waiting.keys → length self.new.waiting.keys < length self.old.waiting.keys }
+        ensures { 0 < length self.old.due.sweep.keys → due_count self.new.due < due_count self.old.due }
     {
-        let _member = self.waiting.pop();
+        self.due.pop();
     }
 
-    /// A new member, which is evaluated next where it is unsettled.
+    /// A new member, which is due where it is unsettled.
     pub(crate) fn add(
         &mut self,
         alloc: Global,
         number: usize,
         unsettled: bool,
     ) -> Result<(), Memory>
-        ensures waits { OnOk result (unsettled ≡ true → Contains self.new.waiting.keys number) }
-        ensures kept { IsWithin self.old.waiting.keys self.new.waiting.keys }
+        ensures due { OnOk result (unsettled ≡ true → IsDue self.new.due number) }
+        ensures kept { StillDue self.old.due self.new.due }
     {
         if self.readers.len() <= number {
             let Ok(()) = self.readers.push(IndexSet::new(alloc)) else {
@@ -80,14 +81,14 @@ impl Worklist {
             };
         }
         if unsettled {
-            insert(&mut self.waiting, number)?;
+            self.due.add(number)?;
         }
         Ok(())
     }
 
     /// Notes the members whose values a member read.
     pub(crate) fn note_reads(&mut self, reader: usize, read: &[usize]) -> Result<(), Memory>
-        ensures { self.new.waiting ≡ self.old.waiting }
+        ensures { self.new.due ≡ self.old.due }
     {
         for number in read {
             if let Some(readers) = self.readers.get_mut(*number) {
@@ -97,14 +98,14 @@ impl Worklist {
         Ok(())
     }
 
-    /// The value of a member rose to that of its equation: the members that read it are evaluated again, and the member itself only if it did.
+    /// The value of a member rose to that of its equation: the members that read it are due, and the member itself only if it did.
     pub(crate) fn wake_readers(&mut self, number: usize) -> Result<(), Memory>
-        ensures woken { OnOk result ((k : ℕ) → IsReader self.old number k → Contains self.new.waiting.keys k) }
-        ensures kept { (k : ℕ) → k ≢ number → Contains self.old.waiting.keys k → Contains self.new.waiting.keys k }
+        ensures woken { OnOk result ((k : ℕ) → IsReader self.old number k → IsDue self.new.due k) }
+        ensures kept { (k : ℕ) → k ≢ number → IsDue self.old.due k → IsDue self.new.due k }
     {
-        self.waiting.swap_remove(&number);
+        self.due.remove(number);
         if let Some(readers) = self.readers.get(number) {
-            insert_all(&mut self.waiting, readers)?;
+            wake_all(&mut self.due, readers, number)?;
         }
         Ok(())
     }

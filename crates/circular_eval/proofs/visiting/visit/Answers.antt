@@ -48,4 +48,4 @@ follow-requires-clause-came g c =
 
 pub returns : goal.returns
 returns g c =
-    visit_then c.args.system.now (g.W.Words.held c.args.work.now) (g.W.Words.held c.evaluate.new.work) (g.W.Words.held c.follow.new.work) c.args.local.now c.note_reads.new.self c.follow.new.local c.args.number c.follow.result c.requires.ready c.evaluate.ensures.on (record { start = c.note_reads.ensures.start; entries = ap (λ x. x.entries) c.note_reads.ensures.members; need = c.note_reads.ensures.need }) c.note_reads.ensures.waiting c.follow.ensures
+    visit_then c.args.system.now (g.W.Words.held c.args.work.now) (g.W.Words.held c.evaluate.new.work) (g.W.Words.held c.follow.new.work) c.args.local.now c.note_reads.new.self c.follow.new.local c.args.number c.follow.result c.requires.ready c.evaluate.ensures.on (record { start = c.note_reads.ensures.start; entries = ap (λ x. x.entries) c.note_reads.ensures.members; need = c.note_reads.ensures.need }) c.note_reads.ensures.due c.follow.ensures

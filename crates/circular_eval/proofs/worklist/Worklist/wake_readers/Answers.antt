@@ -2,20 +2,20 @@ use Rattle.std.proofs.Common.{◌≡◌, ◌<◌, ◌≤◌, ◌∙◌, List, le
 use Rattle.std.specs.Prelude.{Contains}
 use Rattle.std.proofs.Math.ListN.{get_or}
 use Rattle.std.proofs.lemmas.Option.{get_or_from_slice_get, slice_get_within}
-use Rattle.circular_eval.proofs.Numbers.{Numbers, taken_kept}
+use Rattle.circular_eval.proofs.Numbers.{Numbers}
 use Rattle.circular_eval.proofs.worklist.Worklist.wake_readers.Goals as goal
 
-pub returns-in_err-insert_all-clause-kept : goal.returns-in_err-insert_all-clause-kept
-returns-in_err-insert_all-clause-kept c k other h = c.insert_all.ensures.kept.has k (taken_kept c.args.self.now.waiting c.swap_remove.new.self c.args.number k c.swap_remove.ensures.updates other h)
+pub returns-in_err-wake_all-clause-kept : goal.returns-in_err-wake_all-clause-kept
+returns-in_err-wake_all-clause-kept c k other h = c.wake_all.ensures.kept.due k (c.remove.ensures k other h)
 
-pub returns-in_ok-insert_all-clause-woken : goal.returns-in_ok-insert_all-clause-woken
-returns-in_ok-insert_all-clause-woken c k reader =
+pub returns-in_ok-wake_all-clause-woken : goal.returns-in_ok-wake_all-clause-woken
+returns-in_ok-wake_all-clause-woken c k reader =
     let at : c.in-Some.readers.now ≡ get_or c.args.self.now.readers.items c.args.number c.in-Some.readers.now = c.in-Some.ensures.lookup.1 ∙ ap (λ (xs : List Numbers). get_or xs c.args.number c.in-Some.readers.now) c.deref.ensures.value in
     let same : c.in-Some.readers.now ≡ reader.readers = at ∙ get_or_from_slice_get c.args.self.now.readers.items c.args.number reader.readers c.in-Some.readers.now reader.noted in
-    c.in_ok-insert_all.ensures.all.has k (subst (λ (s : Numbers). Contains s.keys k) (sym same) reader.has)
+    c.in_ok-wake_all.ensures.all k (subst (λ (s : Numbers). Contains s.keys k) (sym same) reader.has)
 
-pub returns-in_ok-insert_all-clause-kept : goal.returns-in_ok-insert_all-clause-kept
-returns-in_ok-insert_all-clause-kept c k other h = c.insert_all.ensures.kept.has k (taken_kept c.args.self.now.waiting c.swap_remove.new.self c.args.number k c.swap_remove.ensures.updates other h)
+pub returns-in_ok-wake_all-clause-kept : goal.returns-in_ok-wake_all-clause-kept
+returns-in_ok-wake_all-clause-kept c k other h = c.wake_all.ensures.kept.due k (c.remove.ensures k other h)
 
 pub returns-in_default-clause-woken : goal.returns-in_default-clause-woken
 returns-in_default-clause-woken c k reader =
@@ -24,4 +24,4 @@ returns-in_default-clause-woken c k reader =
     absurd (omega (arith, low, high))
 
 pub returns-in_default-clause-kept : goal.returns-in_default-clause-kept
-returns-in_default-clause-kept c k other h = taken_kept c.args.self.now.waiting c.swap_remove.new.self c.args.number k c.swap_remove.ensures.updates other h
+returns-in_default-clause-kept c k other h = c.remove.ensures k other h
