@@ -5,5 +5,6 @@ pub mod Queries
 pub mod QueryClaims
 pub mod QueryGrammar
 pub mod QuerySteps
+pub mod Steps
 pub mod Tokens
 pub mod Unread

@@ -1,14 +1,15 @@
 // From the bytes of the files to what they say.
-ghost use Rattle.std.specs.Prelude.{◌≡◌, ◌≤◌, length, IfOk, IfErr};
+ghost use Rattle.std.specs.Prelude.{◌≡◌, ◌≤◌, length, Ok, IfOk, IfErr};
 ghost use Rattle.std.specs.List.{count_by};
 ghost use Rattle.ast_grammar.specs.Grammar.{superclasses_of};
 ghost use Rattle.rag_io.specs.Outside.{longest_file};
 ghost use Rattle.attr_rules.specs.Kept.{rules_in};
-ghost use Rattle.equation_law.specs.Systems.{program_of};
+ghost use Rattle.equation_law.specs.Systems.{program_of, queries_in};
 ghost use Rattle.aspect_items.specs.Items.{seen_aspects};
 ghost use Rattle.program_reader.specs.declared.files.Refusal.TheVariants.{Memory as NoMemory};
 ghost use Rattle.program_reader.specs.Unread.{unread_for};
 ghost use Rattle.program_reader.specs.Built.{AnswersRules, AnswersAsked, BreaksFile, Refuses, IsRefusal, IsCheckRefusal, IsTreeRefusal, is_contributed};
+ghost use Rattle.program_reader.specs.Steps.{AnswersAspectRules, RefusesTreeOrQueries, SaysTreeAndQueries};
 ghost use Rattle.run_io.specs.Fetched.{seen_contents, seen_pair, AreShort, AreBothShort};
 ghost use Rattle.program_reader.specs.Files.{SaysCounts, SaysProgram, SaysText, counts_line, counts_of, no_texts};
 
@@ -128,6 +129,43 @@ fn broken_file(file: FileKind, fault: ReadFault) -> Refusal
     }
 }
 
+// The rules of the aspects that some bytes say over a grammar. The aspects themselves aren't needed any more then.
+fn read_aspects(
+    alloc: Global,
+    grammar: &Grammar,
+    bytes: &[u8],
+    pool: &mut Pool,
+) -> Result<Rules, Unread>
+    requires { length bytes.now ≤ longest_file }
+    ensures { AnswersAspectRules grammar.now pool.old bytes.now pool.new result }
+{
+    let aspects = read_jrag_bytes(alloc, bytes, pool)?;
+    read_rules(alloc, grammar, &aspects)
+}
+
+// The tree that the third file says, and the queries that the last one asks there.
+fn read_tree_and_queries(
+    alloc: Global,
+    grammar: &Grammar,
+    rules: &Rules,
+    contents: &Contents,
+    pool: &mut Pool,
+) -> Result<(Tree, Queries), Refusal>
+    requires short { AreShort (seen_contents contents.now) }
+    requires classes { (rules_in rules.now).superclasses ≡ superclasses_of grammar.now }
+    ensures said { IfOk result (λ read. SaysTreeAndQueries grammar.now (rules_in rules.now) pool.old (seen_contents contents.now) pool.new read.0 (queries_in read.1)) }
+    ensures refused { IfErr result (λ refusal. RefusesTreeOrQueries grammar.now (rules_in rules.now) pool.old (seen_contents contents.now) refusal) }
+{
+    let tree = match read_tree_bytes(alloc, grammar, &contents.tree, pool) {
+        Ok(tree) => tree,
+        Err(fault) => return Err(broken_file(FileKind::Tree, fault)),
+    };
+    match read_asked(alloc, grammar, rules, &tree, &contents.queries)? {
+        Some(queries) => Ok((tree, queries)),
+        None => Err(Refusal::NotBuilt(FileKind::Queries)),
+    }
+}
+
 /// The system that the four files say, tested in the order of the command.
 pub fn read_system(alloc: Global, contents: &Contents) -> Result<System, Refusal>
     requires { AreShort (seen_contents contents.now) }
@@ -139,22 +177,20 @@ pub fn read_system(alloc: Global, contents: &Contents) -> Result<System, Refusal
         Ok(grammar) => grammar,
         Err(fault) => return Err(broken_file(FileKind::Ast, fault)),
     };
-    let aspects = match read_jrag_bytes(alloc, &contents.jrag, &mut pool) {
-        Ok(aspects) => aspects,
-        Err(fault) => return Err(broken_file(FileKind::Jrag, fault)),
-    };
-    let rules = match read_rules(alloc, &grammar, &aspects) {
+    let rules = match read_aspects(alloc, &grammar, &contents.jrag, &mut pool) {
         Ok(rules) => rules,
         Err(unread) => return Err(refusal_of(FileKind::Jrag, unread)),
     };
-    let tree = match read_tree_bytes(alloc, &grammar, &contents.tree, &mut pool) {
-        Ok(tree) => tree,
-        Err(fault) => return Err(broken_file(FileKind::Tree, fault)),
-    };
-    match read_asked(alloc, &grammar, &rules, &tree, &contents.queries)? {
-        Some(queries) => Ok(System::new(grammar, rules, tree, pool, queries)),
-        None => Err(Refusal::NotBuilt(FileKind::Queries)),
-    }
+    let (tree, queries) = read_tree_and_queries(alloc, &grammar, &rules, contents, &mut pool)?;
+    Ok(System::new(grammar, rules, tree, pool, queries))
+}
+
+// A text that is said, or want of memory for it.
+fn or_refused(text: Result<Vec<u8>, Memory>) -> Result<Vec<u8>, Refusal>
+    ensures said { IfOk result (λ given. text ≡ Ok given) }
+    ensures refused { IfErr result (λ refusal. refusal ≡ NoMemory) }
+{
+    Ok(text?)
 }
 
 /// The canonical text of the tree that a grammar and a tree file say, tested in this order.
@@ -172,7 +208,7 @@ pub fn tree_text(alloc: Global, contents: &PairContents) -> Result<Vec<u8>, Refu
         Ok(tree) => tree,
         Err(fault) => return Err(broken_file(FileKind::Tree, fault)),
     };
-    Ok(write_tree(alloc, &grammar, &tree, &pool)?)
+    or_refused(write_tree(alloc, &grammar, &tree, &pool))
 }
 
 #[tactic(auto, unfolding(crate::specs::Built::is_contributed))]
@@ -252,5 +288,5 @@ pub fn counts_text(alloc: Global, contents: &PairContents) -> Result<Vec<u8>, Re
         Ok(rules) => counted(&grammar, &rules, &aspects),
         Err(unread) => return Err(refusal_of(FileKind::Jrag, unread)),
     };
-    Ok(line_of(alloc, counts)?)
+    or_refused(line_of(alloc, counts))
 }

@@ -1,6 +1,12 @@
-use Rattle.std.proofs.Common.{List, ℕ, subst, Err, Ok}
+use Rattle.std.proofs.Common.{◌≡◌, List, ℕ, subst, Err, Ok, ap, sym, ◌∙◌}
+use Rattle.std.proofs.lemmas.Result.{IfErr-weaker, IfOk-at_ok, IfOk-weaker}
 use Rattle.ast_grammar.specs.FromBytes.{AnswersGrammar, ReadsGrammar}
+use Rattle.attr_rules.specs.Rules.{RuleSet}
+use Rattle.aspect_items.specs.Items.{seen_aspects}
 use Rattle.run_io.specs.Fetched.{seen_pair}
+use Rattle.program_reader.specs.Built.{IsCheckRefusal}
+use Rattle.program_reader.specs.Files.{SaysCounts, counts_of}
+use Rattle.program_reader.specs.declared.files.Refusal.TheVariants.{Memory as NoMemory}
 use Rattle.program_reader.proofs.Unread.{check_aspects_refused, check_grammar_refused, check_rules_refused, written_there}
 use Rattle.program_reader.proofs.files.counts_text.Goals as goal
 
@@ -22,3 +28,25 @@ returns-in-Err-read_rules-clause-refused c =
     (subst (λ (b : List ℕ). ReadsGrammar b c.in-Ok.grammar) c.deref.ensures.value c.in-Ok.ensures)
     (written_there c.read_jrag_bytes.new.pool c.in_ok-pool.ensures.said c.deref-2.ensures.value (Ok c.in-Ok-read_jrag_bytes.aspects) c.in-Ok-read_jrag_bytes.ensures.says)
     c.in-Err-read_rules.ensures c.refusal_of.ensures
+
+pub returns-clause-said : goal.returns-clause-said
+returns-clause-said c =
+    let g = c.in-Ok.grammar in
+    let aspects = seen_aspects c.in-Ok-read_jrag_bytes.aspects in
+    let held = seen_pair c.args.contents.now in
+    IfOk-weaker c.or_refused.result (λ text. c.line_of.result ≡ Ok text) (λ text. SaysCounts held text.items)
+    (λ text same. record {
+      classes = g;
+      aspects = aspects;
+      between = c.read_jrag_bytes.new.pool;
+      grammar = subst (λ (b : List ℕ). ReadsGrammar b g) c.deref.ensures.value c.in-Ok.ensures;
+      written = written_there c.read_jrag_bytes.new.pool c.in_ok-pool.ensures.said c.deref-2.ensures.value (Ok c.in-Ok-read_jrag_bytes.aspects) c.in-Ok-read_jrag_bytes.ensures.says;
+      accepted = c.in-Ok-read_rules.ensures.accepted;
+      counted = IfOk-at_ok _ same c.line_of.ensures ∙ c.counted-counts.ensures ∙ ap (λ (r : RuleSet). counts_of g r aspects) c.in-Ok-read_rules.ensures.are;
+    })
+    c.or_refused.ensures.said
+
+pub returns-clause-refused : goal.returns-clause-refused
+returns-clause-refused c =
+    let held = seen_pair c.args.contents.now in
+    IfErr-weaker c.or_refused.result (λ refusal. refusal ≡ NoMemory) (IsCheckRefusal held) (λ refusal none. subst (IsCheckRefusal held) (sym none) tt) c.or_refused.ensures.refused

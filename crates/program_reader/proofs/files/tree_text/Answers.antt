@@ -2,7 +2,7 @@ use Rattle.std.proofs.Common.{List, ℕ, subst, Err, Ok}
 use Rattle.ast_grammar.specs.FromBytes.{AnswersGrammar, ReadsGrammar}
 use Rattle.run_io.specs.Fetched.{seen_pair}
 use Rattle.program_reader.proofs.Answerable.{tree_allowed}
-use Rattle.program_reader.proofs.Unread.{lone_grammar_refused, lone_tree_refused, says_text, source_there}
+use Rattle.program_reader.proofs.Unread.{lone_grammar_refused, lone_tree_refused, source_there, text_said}
 use Rattle.program_reader.proofs.files.tree_text.Goals as goal
 
 pub returns-in-Err-clause-refused : goal.returns-in-Err-clause-refused
@@ -21,7 +21,7 @@ pub write_tree-requires : goal.write_tree-requires
 write_tree-requires c = tree_allowed c.in-Ok-read_tree_bytes.ensures.says
 
 pub returns-clause-said : goal.returns-clause-said
-returns-clause-said c = says_text (seen_pair c.args.contents.now) c.in_ok-write_tree.field-0.items
+returns-clause-said c = text_said (seen_pair c.args.contents.now) c.or_refused.result c.write_tree.result
     (subst (λ (b : List ℕ). ReadsGrammar b c.in-Ok.grammar) c.deref.ensures.value c.in-Ok.ensures)
     (source_there c.read_tree_bytes.new.pool c.in_ok-pool.ensures.said c.deref-2.ensures.value c.in-Ok.grammar (Ok c.in-Ok-read_tree_bytes.tree) c.in-Ok-read_tree_bytes.ensures.says)
-    (tree_allowed c.in-Ok-read_tree_bytes.ensures.says) c.in_ok-write_tree.ensures
+    (tree_allowed c.in-Ok-read_tree_bytes.ensures.says) c.write_tree.ensures c.or_refused.ensures.said
