@@ -17,6 +17,7 @@ use Rattle.solutions.proofs.Runs.{ends_more}
 use Rattle.equation_law.specs.declared.coding.Args.{Args}
 use Rattle.equation_law.specs.declared.coding.Value.{Value as CodedValue}
 use Rattle.equation_law.specs.declared.coding.Value.TheVariants as coded
+use Rattle.equation_law.specs.declared.system.System.{System}
 use Rattle.equation_law.specs.Codes.{AreElements, value_of}
 use Rattle.equation_law.specs.Equations.{world_of}
 use Rattle.equation_law.specs.Meaning.{Place, World, call_at, meaning_of, with_arguments, cast_to, child_at, count_at, element_at, elements_at, is_instance, is_there, operate, over_elements, token_at, united}
@@ -26,9 +27,11 @@ use Rattle.equation_law.specs.Sets.{no_elements}
 use Rattle.equation_law.specs.Reading.{Grows, IsSound, Told}
 use Rattle.equation_law.specs.Values.{Value, Int, Node, Nodes, Truth, contains, default_of, elements_of, int, node, set_operate, single, size_of, truth}
 use Rattle.expr_eval.specs.declared.evaluation.Halt.{Halt}
+use Rattle.expr_eval.specs.declared.saved.Saved.{Saved}
 use Rattle.expr_eval.specs.declared.evaluation.Halt.TheVariants.{Need, Memory}
-use Rattle.expr_eval.specs.Elements.{OverReads, read_with}
-use Rattle.expr_eval.specs.Evaluating.{Answers, ArgumentsRead, CallReads, Collects, Given, Reads, end, more, read_at}
+use Rattle.expr_eval.specs.Evaluating.{Answers, CallReads, Collects, Given, end, more, read_at}
+use Rattle.expr_eval.specs.Reads.{Advances, ArgumentsRead, IsReady, Reads, State, state}
+use Rattle.expr_eval.proofs.Growing.{saved_more}
 use Rattle.expr_eval.proofs.Plain.{operate_plain, plain_coded}
 
 -- what it has it keeps
@@ -37,6 +40,16 @@ grows_self h = record { sound = h; values = λ i v a. a; bound = λ i v a. a; ke
 
 pub grows_then : {S : Type 0} {p : Program} {r m s : Told S} → Grows p r m → Grows p m s → Grows p r s
 grows_then g h = record { sound = h.sound; values = λ i v a. h.values i v (g.values i v a); bound = λ i v a. g.bound i v (h.bound i v a); kept = λ x a. h.kept x (g.kept x a) }
+
+pub advances_self : {S : Type 0} {p : Program} {r : State S} → IsReady p r → Advances p r r
+advances_self h = record { sound = h; values = λ i v a. a; bound = λ i v a. a; kept = λ x a. a }
+
+pub advances_then : {S : Type 0} {p : Program} {r m s : State S} → Advances p r m → Advances p m s → Advances p r s
+advances_then g h = record { sound = h.sound; values = λ i v a. h.values i v (g.values i v a); bound = λ i v a. g.bound i v (h.bound i v a); kept = λ x a. h.kept x (g.kept x a) }
+
+-- the reader alone goes on
+pub advances_read : {S : Type 0} {p : Program} {r : State S} {s : Told S} → IsReady p r → Grows p r.told s → Advances p r (state r.system s r.saved)
+advances_read {r = r} h g = record { sound = record { sound = g.sound; saved = saved_more g.values r.saved h.saved }; values = g.values; bound = g.bound; kept = g.kept }
 
 -- demands put one after the other
 pub ends_next : {A : Instance → Value → Type 0} {c : Demands Instance Value} (k : Value → Demands Instance Value) {v w : Value} {ds es : List Instance} → Ends A c v ds → Ends A (k v) w es → Ends A (next c k) w (ds ++ es)
@@ -53,7 +66,7 @@ halts_first k (after a e) = after a (halts_first k e)
 
 module _ {S : Type 0} (p : Program) (s : Told S) (c : Demands Instance Value) (k : Value → Demands Instance Value) where
   -- a part that has no value leaves the whole without one
-  part_err : (h : Halt) → Answers p s c (Err h) → Answers p s (next c k) (Err h)
+  pub part_err : (h : Halt) → Answers p s c (Err h) → Answers p s (next c k) (Err h)
   part_err (Need i) a = record { demands = a.demands; halts = halts_first k a.halts; coded = a.coded }
   part_err Memory a = tt
 
@@ -63,7 +76,7 @@ module _ {S : Type 0} (p : Program) (s : Told S) (c : Demands Instance Value) (k
   part_ok v (Err (Need i)) g a = record { demands = g.demands ++ a.demands; halts = halts_next k g.ends a.halts; coded = a.coded }
   part_ok v (Err Memory) g a = tt
 
-given_more : {S : Type 0} {p : Program} {m s : Told S} {c : Demands Instance Value} {v : CodedValue} → Grows p m s → Given p m c v → Given p s c v
+given_more : {S : Type 0} {p : Program} {m s : State S} {c : Demands Instance Value} {v : CodedValue} → Advances p m s → Given p m.told c v → Given p s.told c v
 given_more g a = record { demands = a.demands; ends = ends_more g.values a.ends; coded = a.coded }
 
 pub gives_value : {S : Type 0} {p : Program} {s : Told S} {w : Value} {x : CodedValue} → value_of (text_of p) x ≡ w → AreElements p x → Given p s (Gives w) x
@@ -79,7 +92,7 @@ tested p s b t x y res e a = subst (λ z. Answers p s (cond z x y) res) (sym e) 
 
 -- a value that demands come to, and what follows with it
 module _ {S : Type 0} (p : Program) (s : Told S) where
-  behind_value : (c : Demands Instance Value) (v : Value) (k : Value → Demands Instance Value) (res : Result CodedValue Halt) {ds : List Instance} → Ends s.has c v ds → Answers p s (k v) res → Answers p s (next c k) res
+  pub behind_value : (c : Demands Instance Value) (v : Value) (k : Value → Demands Instance Value) (res : Result CodedValue Halt) {ds : List Instance} → Ends s.has c v ds → Answers p s (k v) res → Answers p s (next c k) res
   behind_value c v k (Ok w) {ds = ds} ends a = record { demands = ds ++ a.demands; ends = ends_next k ends a.ends; coded = a.coded }
   behind_value c v k (Err (Need i)) {ds = ds} ends a = record { demands = ds ++ a.demands; halts = halts_next k ends a.halts; coded = a.coded }
   behind_value c v k (Err Memory) ends a = tt
@@ -101,278 +114,247 @@ collects_more f (more ends rest) = more (ends_more f ends) (collects_more f rest
 
 module _ {p : Program} {place : Place} where
   -- an expression that is kept in this form
-  pub said : {S : Type 0} {r s : Told S} {e f : TExpr} {res : Result CodedValue Halt} → e ≡ f → Reads p r s place (expression_of f) res → Reads p r s place (expression_of e) res
+  pub said : {S : Type 0} {r s : State S} {e f : TExpr} {res : Result CodedValue Halt} → e ≡ f → Reads p r s place (expression_of f) res → Reads p r s place (expression_of e) res
   said {r = r} {s = s} {res = res} h a = subst (λ x. Reads p r s place (expression_of x) res) (sym h) a
 
   -- a part that lies in a box
-  pub boxed : {S : Type 0} {r s : Told S} {d a : TExpr} {res : Result CodedValue Halt} → d ≡ a → Reads p r s place (expression_of d) res → Reads p r s place (expression_of a) res
+  pub boxed : {S : Type 0} {r s : State S} {d a : TExpr} {res : Result CodedValue Halt} → d ≡ a → Reads p r s place (expression_of d) res → Reads p r s place (expression_of a) res
   boxed {r = r} {s = s} {res = res} h a = subst (λ x. Reads p r s place (expression_of x) res) h a
 
   -- the answer of a part that is handed on
-  pub thrown : {S : Type 0} {r s : Told S} {e : Expression} {h : Halt} {res : Result CodedValue Halt} → IsErr res × IsErrAnd res (λ m. m ≡ h) → Reads p r s place e (Err h) → Reads p r s place e res
+  pub thrown : {S : Type 0} {r s : State S} {e : Expression} {h : Halt} {res : Result CodedValue Halt} → IsErr res × IsErrAnd res (λ m. m ≡ h) → Reads p r s place e (Err h) → Reads p r s place e res
   thrown {r = r} {s = s} {e = e} {res = res} f a = let g = err_from_is_err_and res f.1 in subst (Reads p r s place e) (sym (g.1 ∙ ap Err g.2)) a
 
   -- a form without parts
-  pub leaf : {S : Type 0} {r : Told S} {e : Expression} {x : CodedValue} (w : Value) → IsSound p r → read_at p place e ≡ Gives w → value_of (text_of p) x ≡ w → AreElements p x → Reads p r r place e (Ok x)
-  leaf {r = r} {e = e} {x = x} w h is v good = record { kept = grows_self h; is = subst (λ c. Given p r c x) (sym is) (gives_value v good) }
+  pub leaf : {S : Type 0} {r : State S} {e : Expression} {x : CodedValue} (w : Value) → IsReady p r → read_at p place e ≡ Gives w → value_of (text_of p) x ≡ w → AreElements p x → Reads p r r place e (Ok x)
+  leaf {r = r} {e = e} {x = x} w h is v good = record { kept = advances_self h; is = subst (λ c. Given p r.told c x) (sym is) (gives_value v good) }
 
   -- a whole that begins with the part
-  stops : {S : Type 0} {r s : Told S} (whole part : Expression) (h : Halt) (k : Value → Demands Instance Value) → read_at p place whole ≡ next (read_at p place part) k → Reads p r s place part (Err h) → Reads p r s place whole (Err h)
-  stops {s = s} whole part h k b a = record { kept = a.kept; is = subst (λ c. Answers p s c (Err h)) (sym b) (part_err p s (read_at p place part) k h a.is) }
+  stops : {S : Type 0} {r s : State S} (whole part : Expression) (h : Halt) (k : Value → Demands Instance Value) → read_at p place whole ≡ next (read_at p place part) k → Reads p r s place part (Err h) → Reads p r s place whole (Err h)
+  stops {s = s} whole part h k b a = record { kept = a.kept; is = subst (λ c. Answers p s.told c (Err h)) (sym b) (part_err p s.told (read_at p place part) k h a.is) }
 
   -- a whole goes on behind a part with a value
-  goes : {S : Type 0} {r m s : Told S} (whole part : Expression) (v : CodedValue) (res : Result CodedValue Halt) (k : Value → Demands Instance Value) → read_at p place whole ≡ next (read_at p place part) k → Reads p r m place part (Ok v) → Grows p m s
-      → Answers p s (k (value_of (text_of p) v)) res → Reads p r s place whole res
+  goes : {S : Type 0} {r m s : State S} (whole part : Expression) (v : CodedValue) (res : Result CodedValue Halt) (k : Value → Demands Instance Value) → read_at p place whole ≡ next (read_at p place part) k → Reads p r m place part (Ok v) → Advances p m s
+      → Answers p s.told (k (value_of (text_of p) v)) res → Reads p r s place whole res
   goes {s = s} whole part v res k b a g n =
-      record { kept = grows_then a.kept g; is = subst (λ c. Answers p s c res) (sym b) (part_ok p s (read_at p place part) k v res (given_more g a.is) n) }
+      record { kept = advances_then a.kept g; is = subst (λ c. Answers p s.told c res) (sym b) (part_ok p s.told (read_at p place part) k v res (given_more g a.is) n) }
 
   -- and ends with a value
-  ends : {S : Type 0} {r s : Told S} (whole part : Expression) (v x : CodedValue) (k : Value → Demands Instance Value) → read_at p place whole ≡ next (read_at p place part) k → Reads p r s place part (Ok v) → (w : Value) → k (value_of (text_of p) v) ≡ Gives w
+  ends : {S : Type 0} {r s : State S} (whole part : Expression) (v x : CodedValue) (k : Value → Demands Instance Value) → read_at p place whole ≡ next (read_at p place part) k → Reads p r s place part (Ok v) → (w : Value) → k (value_of (text_of p) v) ≡ Gives w
       → value_of (text_of p) x ≡ w → AreElements p x → Reads p r s place whole (Ok x)
-  ends {s = s} whole part v x k b a w is e good = goes whole part v (Ok x) k b a (grows_self a.kept.sound) (subst (λ c. Given p s c x) (sym is) (gives_value e good))
+  ends {s = s} whole part v x k b a w is e good = goes whole part v (Ok x) k b a (advances_self a.kept.sound) (subst (λ c. Given p s.told c x) (sym is) (gives_value e good))
 
   -- what follows a first part begins with a second one
-  second_stops : {S : Type 0} {m s : Told S} (part : Expression) (h : Halt) (k : Value → Demands Instance Value) → Reads p m s place part (Err h) → Answers p s (next (read_at p place part) k) (Err h)
-  second_stops {s = s} part h k a = part_err p s (read_at p place part) k h a.is
+  second_stops : {S : Type 0} {m s : State S} (part : Expression) (h : Halt) (k : Value → Demands Instance Value) → Reads p m s place part (Err h) → Answers p s.told (next (read_at p place part) k) (Err h)
+  second_stops {s = s} part h k a = part_err p s.told (read_at p place part) k h a.is
 
-  second_goes : {S : Type 0} {m s : Told S} (part : Expression) (v x : CodedValue) (k : Value → Demands Instance Value) → Reads p m s place part (Ok v) → (w : Value) → k (value_of (text_of p) v) ≡ Gives w → value_of (text_of p) x ≡ w
-      → AreElements p x → Answers p s (next (read_at p place part) k) (Ok x)
-  second_goes {s = s} part v x k a w is e good = part_ok p s (read_at p place part) k v (Ok x) a.is (subst (λ c. Given p s c x) (sym is) (gives_value e good))
+  second_goes : {S : Type 0} {m s : State S} (part : Expression) (v x : CodedValue) (k : Value → Demands Instance Value) → Reads p m s place part (Ok v) → (w : Value) → k (value_of (text_of p) v) ≡ Gives w → value_of (text_of p) x ≡ w
+      → AreElements p x → Answers p s.told (next (read_at p place part) k) (Ok x)
+  second_goes {s = s} part v x k a w is e good = part_ok p s.told (read_at p place part) k v (Ok x) a.is (subst (λ c. Given p s.told c x) (sym is) (gives_value e good))
 
   -- a call
-  pub call_stops : {S : Type 0} {r s : Told S} {a : Expression} {es : Arguments} {h : Halt} {t : ℕ} {here : TextPlace} → Reads p r s place a (Err h) → Reads p r s place (Call t here a es) (Err h)
+  pub call_stops : {S : Type 0} {r s : State S} {a : Expression} {es : Arguments} {h : Halt} {t : ℕ} {here : TextPlace} → Reads p r s place a (Err h) → Reads p r s place (Call t here a es) (Err h)
   call_stops {a = a} {es = es} {h = h} {t = t} {here = here} x = stops (Call t here a es) a h _ refl x
 
   -- its arguments have no values
-  pub call_stops_at : {S : Type 0} {r m s : Told S} {a : Expression} {es : Arguments} {ks : List Kind} {v : CodedValue} {h : Halt} {t : ℕ} {here : TextPlace} → Reads p r m place a (Ok v) → ArgumentsRead p m s place ks es (Err h) → Reads p r s place (Call t here a es) (Err h)
+  pub call_stops_at : {S : Type 0} {r m s : State S} {a : Expression} {es : Arguments} {ks : List Kind} {v : CodedValue} {h : Halt} {t : ℕ} {here : TextPlace} → Reads p r m place a (Ok v) → ArgumentsRead p m s place ks es (Err h) → Reads p r s place (Call t here a es) (Err h)
   call_stops_at {a = a} {es = es} {v = v} {h = Need i} {t = t} {here = here} x y =
       let stopped = y.is.stopped (λ vs. call_at (world_of p) t (node (value_of (text_of p) v)) vs) in
       goes (Call t here a es) a v (Err (Need i)) (behind_receiver p place t es) refl x y.kept (record { demands = stopped.0; halts = stopped.1; coded = y.is.coded })
   call_stops_at {a = a} {es = es} {v = v} {h = Memory} {t = t} {here = here} x y = goes (Call t here a es) a v (Err Memory) (behind_receiver p place t es) refl x y.kept tt
 
-  pub call_goes : {S : Type 0} {r m n s : Told S} {a : Expression} {es : Arguments} {xs : Args} {v : CodedValue} {t : ℕ} {here : TextPlace} {res : Result CodedValue Halt} → Reads p r m place a (Ok v) → ArgumentsRead p m n place (attribute_parameters p t) es (Ok xs) → CallReads p n s t v xs res → Reads p r s place (Call t here a es) res
-  call_goes {s = s} {a = a} {es = es} {v = v} {t = t} {here = here} {res = res} x y c =
-      goes (Call t here a es) a v res (behind_receiver p place t es) refl x (grows_then y.kept c.kept)
-      (collected p s place (λ vs. call_at (world_of p) t (node (value_of (text_of p) v)) vs) res (collects_more c.kept.values y.is.collects) (c.is y.is.values y.is.are))
+  pub call_goes : {S : Type 0} {r m n : State S} {u : Told S} {a : Expression} {es : Arguments} {xs : Args} {v : CodedValue} {t : ℕ} {here : TextPlace} {res : Result CodedValue Halt} → Reads p r m place a (Ok v) → ArgumentsRead p m n place (attribute_parameters p t) es (Ok xs) → CallReads p n.told u t v xs res
+      → Reads p r (state n.system u n.saved) place (Call t here a es) res
+  call_goes {u = u} {a = a} {es = es} {v = v} {t = t} {here = here} {res = res} x y c =
+      goes (Call t here a es) a v res (behind_receiver p place t es) refl x (advances_then y.kept (advances_read y.kept.sound c.kept))
+      (collected p u place (λ vs. call_at (world_of p) t (node (value_of (text_of p) v)) vs) res (collects_more c.kept.values y.is.collects) (c.is y.is.values y.is.are))
 
   -- the child of a receiver
-  pub child_stops : {S : Type 0} {r s : Told S} {a : Expression} {h : Halt} {k : ℕ} → Reads p r s place a (Err h) → Reads p r s place (Child k a) (Err h)
+  pub child_stops : {S : Type 0} {r s : State S} {a : Expression} {h : Halt} {k : ℕ} → Reads p r s place a (Err h) → Reads p r s place (Child k a) (Err h)
   child_stops {a = a} {h = h} {k = k} x = stops (Child k a) a h _ refl x
 
-  pub child_goes : {S : Type 0} {r s : Told S} {a : Expression} {v x : CodedValue} {k : ℕ} → Reads p r s place a (Ok v) → value_of (text_of p) x ≡ Node (child_at (world_of p) k (node (value_of (text_of p) v))) → Reads p r s place (Child k a) (Ok x)
+  pub child_goes : {S : Type 0} {r s : State S} {a : Expression} {v x : CodedValue} {k : ℕ} → Reads p r s place a (Ok v) → value_of (text_of p) x ≡ Node (child_at (world_of p) k (node (value_of (text_of p) v))) → Reads p r s place (Child k a) (Ok x)
   child_goes {a = a} {v = v} {x = x} {k = k} y e = ends (Child k a) a v x _ refl y _ refl e (plain_coded p x _ e refl)
 
   -- a cast, and a test of a class
-  pub cast_stops : {S : Type 0} {r s : Told S} {a : Expression} {h : Halt} {k : ClassId} → Reads p r s place a (Err h) → Reads p r s place (Cast k a) (Err h)
+  pub cast_stops : {S : Type 0} {r s : State S} {a : Expression} {h : Halt} {k : ClassId} → Reads p r s place a (Err h) → Reads p r s place (Cast k a) (Err h)
   cast_stops {a = a} {h = h} {k = k} x = stops (Cast k a) a h _ refl x
 
-  pub cast_goes : {S : Type 0} {r s : Told S} {a : Expression} {v x : CodedValue} {k : ClassId} → Reads p r s place a (Ok v) → value_of (text_of p) x ≡ Node (cast_to (world_of p) k (node (value_of (text_of p) v))) → Reads p r s place (Cast k a) (Ok x)
+  pub cast_goes : {S : Type 0} {r s : State S} {a : Expression} {v x : CodedValue} {k : ClassId} → Reads p r s place a (Ok v) → value_of (text_of p) x ≡ Node (cast_to (world_of p) k (node (value_of (text_of p) v))) → Reads p r s place (Cast k a) (Ok x)
   cast_goes {a = a} {v = v} {x = x} {k = k} y e = ends (Cast k a) a v x _ refl y _ refl e (plain_coded p x _ e refl)
 
-  pub instance_stops : {S : Type 0} {r s : Told S} {a : Expression} {h : Halt} {k : ClassId} → Reads p r s place a (Err h) → Reads p r s place (InstanceOf k a) (Err h)
+  pub instance_stops : {S : Type 0} {r s : State S} {a : Expression} {h : Halt} {k : ClassId} → Reads p r s place a (Err h) → Reads p r s place (InstanceOf k a) (Err h)
   instance_stops {a = a} {h = h} {k = k} x = stops (InstanceOf k a) a h _ refl x
 
-  pub instance_goes : {S : Type 0} {r s : Told S} {a : Expression} {v x : CodedValue} {k : ClassId} → Reads p r s place a (Ok v) → value_of (text_of p) x ≡ Truth (is_instance (world_of p) k (node (value_of (text_of p) v))) → Reads p r s place (InstanceOf k a) (Ok x)
+  pub instance_goes : {S : Type 0} {r s : State S} {a : Expression} {v x : CodedValue} {k : ClassId} → Reads p r s place a (Ok v) → value_of (text_of p) x ≡ Truth (is_instance (world_of p) k (node (value_of (text_of p) v))) → Reads p r s place (InstanceOf k a) (Ok x)
   instance_goes {a = a} {v = v} {x = x} {k = k} y e = ends (InstanceOf k a) a v x _ refl y _ refl e (plain_coded p x _ e refl)
 
-  -- a form over the elements of a receiver's list
-  pub over_stops : {S : Type 0} {r s : Told S} {a b : Expression} {h : Halt} {q : Quantifier} {k : ℕ} → Reads p r s place a (Err h) → Reads p r s place (Quantified q k a b) (Err h)
-  over_stops {a = a} {b = b} {h = h} {q = q} {k = k} x = stops (Quantified q k a b) a h _ refl x
-
-  pub over_goes : {S : Type 0} {r m s : Told S} {a b : Expression} {v : CodedValue} {q : Quantifier} {k : ℕ} {xs : List Value} {res : Result CodedValue Halt} → Reads p r m place a (Ok v) → xs ≡ elements_at (world_of p) k (node (value_of (text_of p) v))
-      → OverReads p m s place (over_elements q xs) b res → Reads p r s place (Quantified q k a b) res
-  over_goes {s = s} {a = a} {b = b} {v = v} {q = q} {k = k} {res = res} x e c =
-      goes (Quantified q k a b) a v res _ refl x c.kept (subst (λ (ys : List Value). Answers p s (over_elements q ys (read_with p place b)) res) e c.is)
-
   -- an element of the list of a receiver
-  pub element_stops : {S : Type 0} {r s : Told S} {a b : Expression} {h : Halt} {k : ℕ} → Reads p r s place a (Err h) → Reads p r s place (Element k a b) (Err h)
+  pub element_stops : {S : Type 0} {r s : State S} {a b : Expression} {h : Halt} {k : ℕ} → Reads p r s place a (Err h) → Reads p r s place (Element k a b) (Err h)
   element_stops {a = a} {b = b} {h = h} {k = k} x = stops (Element k a b) a h _ refl x
 
-  pub element_stops_at : {S : Type 0} {r m s : Told S} {a b : Expression} {v : CodedValue} {h : Halt} {k : ℕ} → Reads p r m place a (Ok v) → Reads p m s place b (Err h) → Reads p r s place (Element k a b) (Err h)
+  pub element_stops_at : {S : Type 0} {r m s : State S} {a b : Expression} {v : CodedValue} {h : Halt} {k : ℕ} → Reads p r m place a (Ok v) → Reads p m s place b (Err h) → Reads p r s place (Element k a b) (Err h)
   element_stops_at {a = a} {b = b} {v = v} {h = h} {k = k} x y = goes (Element k a b) a v (Err h) _ refl x y.kept (second_stops b h _ y)
 
-  pub element_goes : {S : Type 0} {r m s : Told S} {a b : Expression} {v w x : CodedValue} {k : ℕ} → Reads p r m place a (Ok v) → Reads p m s place b (Ok w) → value_of (text_of p) x ≡ Node (element_at (world_of p) k (node (value_of (text_of p) v)) (int (value_of (text_of p) w)))
+  pub element_goes : {S : Type 0} {r m s : State S} {a b : Expression} {v w x : CodedValue} {k : ℕ} → Reads p r m place a (Ok v) → Reads p m s place b (Ok w) → value_of (text_of p) x ≡ Node (element_at (world_of p) k (node (value_of (text_of p) v)) (int (value_of (text_of p) w)))
       → Reads p r s place (Element k a b) (Ok x)
   element_goes {a = a} {b = b} {v = v} {w = w} {x = x} {k = k} y z e = goes (Element k a b) a v (Ok x) _ refl y z.kept (second_goes b w x _ z _ refl e (plain_coded p x _ e refl))
 
   -- how many elements a list has
-  pub count_stops : {S : Type 0} {r s : Told S} {a : Expression} {h : Halt} {k : ℕ} → Reads p r s place a (Err h) → Reads p r s place (Count k a) (Err h)
+  pub count_stops : {S : Type 0} {r s : State S} {a : Expression} {h : Halt} {k : ℕ} → Reads p r s place a (Err h) → Reads p r s place (Count k a) (Err h)
   count_stops {a = a} {h = h} {k = k} x = stops (Count k a) a h _ refl x
 
-  pub count_goes : {S : Type 0} {r s : Told S} {a : Expression} {v x : CodedValue} {k : ℕ} → Reads p r s place a (Ok v) → value_of (text_of p) x ≡ Int (count_at (world_of p) k (node (value_of (text_of p) v))) → Reads p r s place (Count k a) (Ok x)
+  pub count_goes : {S : Type 0} {r s : State S} {a : Expression} {v x : CodedValue} {k : ℕ} → Reads p r s place a (Ok v) → value_of (text_of p) x ≡ Int (count_at (world_of p) k (node (value_of (text_of p) v))) → Reads p r s place (Count k a) (Ok x)
   count_goes {a = a} {v = v} {x = x} {k = k} y e = ends (Count k a) a v x _ refl y _ refl e (plain_coded p x _ e refl)
 
   -- whether there is a child
-  pub has_stops : {S : Type 0} {r s : Told S} {a : Expression} {h : Halt} {k : ℕ} → Reads p r s place a (Err h) → Reads p r s place (Has k a) (Err h)
+  pub has_stops : {S : Type 0} {r s : State S} {a : Expression} {h : Halt} {k : ℕ} → Reads p r s place a (Err h) → Reads p r s place (Has k a) (Err h)
   has_stops {a = a} {h = h} {k = k} x = stops (Has k a) a h _ refl x
 
-  pub has_goes : {S : Type 0} {r s : Told S} {a : Expression} {v x : CodedValue} {k : ℕ} → Reads p r s place a (Ok v) → value_of (text_of p) x ≡ Truth (is_there (child_at (world_of p) k (node (value_of (text_of p) v)))) → Reads p r s place (Has k a) (Ok x)
+  pub has_goes : {S : Type 0} {r s : State S} {a : Expression} {v x : CodedValue} {k : ℕ} → Reads p r s place a (Ok v) → value_of (text_of p) x ≡ Truth (is_there (child_at (world_of p) k (node (value_of (text_of p) v)))) → Reads p r s place (Has k a) (Ok x)
   has_goes {a = a} {v = v} {x = x} {k = k} y e = ends (Has k a) a v x _ refl y _ refl e (plain_coded p x _ e refl)
 
   -- the token of a receiver
-  pub token_stops : {S : Type 0} {r s : Told S} {a : Expression} {h : Halt} {t : Kind} {k : ℕ} → Reads p r s place a (Err h) → Reads p r s place (Token t k a) (Err h)
+  pub token_stops : {S : Type 0} {r s : State S} {a : Expression} {h : Halt} {t : Kind} {k : ℕ} → Reads p r s place a (Err h) → Reads p r s place (Token t k a) (Err h)
   token_stops {a = a} {h = h} {t = t} {k = k} x = stops (Token t k a) a h _ refl x
 
-  pub token_goes : {S : Type 0} {r s : Told S} {a : Expression} {v x : CodedValue} {t : Kind} {k : ℕ} → Reads p r s place a (Ok v) → value_of (text_of p) x ≡ token_at (world_of p) t k (node (value_of (text_of p) v)) → AreElements p x → Reads p r s place (Token t k a) (Ok x)
+  pub token_goes : {S : Type 0} {r s : State S} {a : Expression} {v x : CodedValue} {t : Kind} {k : ℕ} → Reads p r s place a (Ok v) → value_of (text_of p) x ≡ token_at (world_of p) t k (node (value_of (text_of p) v)) → AreElements p x → Reads p r s place (Token t k a) (Ok x)
   token_goes {a = a} {v = v} {x = x} {t = t} {k = k} y e good = ends (Token t k a) a v x _ refl y _ refl e good
 
   -- a denial
-  pub not_stops : {S : Type 0} {r s : Told S} {a : Expression} {h : Halt} → Reads p r s place a (Err h) → Reads p r s place (Not a) (Err h)
+  pub not_stops : {S : Type 0} {r s : State S} {a : Expression} {h : Halt} → Reads p r s place a (Err h) → Reads p r s place (Not a) (Err h)
   not_stops {a = a} {h = h} x = stops (Not a) a h _ refl x
 
-  pub not_goes : {S : Type 0} {r s : Told S} {a : Expression} {v x : CodedValue} → Reads p r s place a (Ok v) → ((texts : ℕ → List ℕ) → value_of texts x ≡ Truth (not (truth (value_of texts v)))) → Reads p r s place (Not a) (Ok x)
+  pub not_goes : {S : Type 0} {r s : State S} {a : Expression} {v x : CodedValue} → Reads p r s place a (Ok v) → ((texts : ℕ → List ℕ) → value_of texts x ≡ Truth (not (truth (value_of texts v)))) → Reads p r s place (Not a) (Ok x)
   not_goes {a = a} {v = v} {x = x} y e = ends (Not a) a v x _ refl y _ refl (e (text_of p)) (plain_coded p x _ (e (text_of p)) refl)
 
   -- a change of sign
-  pub negate_stops : {S : Type 0} {r s : Told S} {a : Expression} {h : Halt} → Reads p r s place a (Err h) → Reads p r s place (Negate a) (Err h)
+  pub negate_stops : {S : Type 0} {r s : State S} {a : Expression} {h : Halt} → Reads p r s place a (Err h) → Reads p r s place (Negate a) (Err h)
   negate_stops {a = a} {h = h} x = stops (Negate a) a h _ refl x
 
-  pub negate_goes : {S : Type 0} {r s : Told S} {a : Expression} {v x : CodedValue} → Reads p r s place a (Ok v) → ((texts : ℕ → List ℕ) → value_of texts x ≡ Int (int_wrap w32 (neg_ℤ (int (value_of texts v))))) → Reads p r s place (Negate a) (Ok x)
+  pub negate_goes : {S : Type 0} {r s : State S} {a : Expression} {v x : CodedValue} → Reads p r s place a (Ok v) → ((texts : ℕ → List ℕ) → value_of texts x ≡ Int (int_wrap w32 (neg_ℤ (int (value_of texts v))))) → Reads p r s place (Negate a) (Ok x)
   negate_goes {a = a} {v = v} {x = x} y e = ends (Negate a) a v x _ refl y _ refl (e (text_of p)) (plain_coded p x _ (e (text_of p)) refl)
 
   -- a binary operator
-  pub binary_stops : {S : Type 0} {r s : Told S} {a b : Expression} {h : Halt} {o : Operator} → Reads p r s place a (Err h) → Reads p r s place (Binary o a b) (Err h)
+  pub binary_stops : {S : Type 0} {r s : State S} {a b : Expression} {h : Halt} {o : Operator} → Reads p r s place a (Err h) → Reads p r s place (Binary o a b) (Err h)
   binary_stops {a = a} {b = b} {h = h} {o = o} x = stops (Binary o a b) a h _ refl x
 
-  pub binary_stops_right : {S : Type 0} {r m s : Told S} {a b : Expression} {v : CodedValue} {h : Halt} {o : Operator} → Reads p r m place a (Ok v) → Reads p m s place b (Err h) → Reads p r s place (Binary o a b) (Err h)
+  pub binary_stops_right : {S : Type 0} {r m s : State S} {a b : Expression} {v : CodedValue} {h : Halt} {o : Operator} → Reads p r m place a (Ok v) → Reads p m s place b (Err h) → Reads p r s place (Binary o a b) (Err h)
   binary_stops_right {a = a} {b = b} {v = v} {h = h} {o = o} x y = goes (Binary o a b) a v (Err h) _ refl x y.kept (second_stops b h _ y)
 
-  pub binary_goes : {S : Type 0} {r m s : Told S} {a b : Expression} {v w x : CodedValue} {o : Operator} → Reads p r m place a (Ok v) → Reads p m s place b (Ok w) → value_of (text_of p) x ≡ operate o (value_of (text_of p) v) (value_of (text_of p) w)
+  pub binary_goes : {S : Type 0} {r m s : State S} {a b : Expression} {v w x : CodedValue} {o : Operator} → Reads p r m place a (Ok v) → Reads p m s place b (Ok w) → value_of (text_of p) x ≡ operate o (value_of (text_of p) v) (value_of (text_of p) w)
       → Reads p r s place (Binary o a b) (Ok x)
   binary_goes {a = a} {b = b} {v = v} {w = w} {x = x} {o = o} y z e = goes (Binary o a b) a v (Ok x) _ refl y z.kept (second_goes b w x _ z _ refl e (plain_coded p x _ e (operate_plain o _ _)))
 
   -- `&&`
-  pub and_stops : {S : Type 0} {r s : Told S} {a b : Expression} {h : Halt} → Reads p r s place a (Err h) → Reads p r s place (And a b) (Err h)
+  pub and_stops : {S : Type 0} {r s : State S} {a b : Expression} {h : Halt} → Reads p r s place a (Err h) → Reads p r s place (And a b) (Err h)
   and_stops {a = a} {b = b} {h = h} x = stops (And a b) a h _ refl x
 
   -- `&&` that ends on the left
-  pub and_ends : {S : Type 0} {r s : Told S} {a b : Expression} {v : CodedValue} {d : Bool} → Reads p r s place a (Ok v) → ReadsTruth d v → d ≡ false → Reads p r s place (And a b) (Ok (coded.Truth d))
+  pub and_ends : {S : Type 0} {r s : State S} {a b : Expression} {v : CodedValue} {d : Bool} → Reads p r s place a (Ok v) → ReadsTruth d v → d ≡ false → Reads p r s place (And a b) (Ok (coded.Truth d))
   and_ends {s = s} {a = a} {b = b} {v = v} {d = d} x e f =
-      goes (And a b) a v (Ok (coded.Truth d)) _ refl x (grows_self x.kept.sound) (tested p s false (truth (value_of (text_of p) v)) _ _ (Ok (coded.Truth d)) (sym (e (text_of p)) ∙ f) (gives_value (ap Truth f) tt))
+      goes (And a b) a v (Ok (coded.Truth d)) _ refl x (advances_self x.kept.sound) (tested p s.told false (truth (value_of (text_of p) v)) _ _ (Ok (coded.Truth d)) (sym (e (text_of p)) ∙ f) (gives_value (ap Truth f) tt))
 
   -- `&&` that is stuck on the right
-  pub and_stops_right : {S : Type 0} {r m s : Told S} {a b : Expression} {v : CodedValue} {h : Halt} {d : Bool} → Reads p r m place a (Ok v) → ReadsTruth d v → d ≡ true → Reads p m s place b (Err h) → Reads p r s place (And a b) (Err h)
+  pub and_stops_right : {S : Type 0} {r m s : State S} {a b : Expression} {v : CodedValue} {h : Halt} {d : Bool} → Reads p r m place a (Ok v) → ReadsTruth d v → d ≡ true → Reads p m s place b (Err h) → Reads p r s place (And a b) (Err h)
   and_stops_right {s = s} {a = a} {b = b} {v = v} {h = h} {d = d} x e f y =
-      goes (And a b) a v (Err h) _ refl x y.kept (tested p s true (truth (value_of (text_of p) v)) _ _ (Err h) (sym (e (text_of p)) ∙ f) (second_stops b h _ y))
+      goes (And a b) a v (Err h) _ refl x y.kept (tested p s.told true (truth (value_of (text_of p) v)) _ _ (Err h) (sym (e (text_of p)) ∙ f) (second_stops b h _ y))
 
   -- `&&` that ends on the right
-  pub and_goes : {S : Type 0} {r m s : Told S} {a b : Expression} {v w : CodedValue} {d t : Bool} → Reads p r m place a (Ok v) → ReadsTruth d v → d ≡ true → Reads p m s place b (Ok w) → ReadsTruth t w → Reads p r s place (And a b) (Ok (coded.Truth t))
+  pub and_goes : {S : Type 0} {r m s : State S} {a b : Expression} {v w : CodedValue} {d t : Bool} → Reads p r m place a (Ok v) → ReadsTruth d v → d ≡ true → Reads p m s place b (Ok w) → ReadsTruth t w → Reads p r s place (And a b) (Ok (coded.Truth t))
   and_goes {s = s} {a = a} {b = b} {v = v} {w = w} {t = t} x e f y g =
       goes (And a b) a v (Ok (coded.Truth t)) _ refl x y.kept
-      (tested p s true (truth (value_of (text_of p) v)) _ _ (Ok (coded.Truth t)) (sym (e (text_of p)) ∙ f) (second_goes b w (coded.Truth t) _ y _ refl (ap Truth (g (text_of p))) tt))
+      (tested p s.told true (truth (value_of (text_of p) v)) _ _ (Ok (coded.Truth t)) (sym (e (text_of p)) ∙ f) (second_goes b w (coded.Truth t) _ y _ refl (ap Truth (g (text_of p))) tt))
 
   -- `||`
-  pub or_stops : {S : Type 0} {r s : Told S} {a b : Expression} {h : Halt} → Reads p r s place a (Err h) → Reads p r s place (Or a b) (Err h)
+  pub or_stops : {S : Type 0} {r s : State S} {a b : Expression} {h : Halt} → Reads p r s place a (Err h) → Reads p r s place (Or a b) (Err h)
   or_stops {a = a} {b = b} {h = h} x = stops (Or a b) a h _ refl x
 
   -- `||` that ends on the left
-  pub or_ends : {S : Type 0} {r s : Told S} {a b : Expression} {v : CodedValue} {d : Bool} → Reads p r s place a (Ok v) → ReadsTruth d v → d ≡ true → Reads p r s place (Or a b) (Ok (coded.Truth d))
+  pub or_ends : {S : Type 0} {r s : State S} {a b : Expression} {v : CodedValue} {d : Bool} → Reads p r s place a (Ok v) → ReadsTruth d v → d ≡ true → Reads p r s place (Or a b) (Ok (coded.Truth d))
   or_ends {s = s} {a = a} {b = b} {v = v} {d = d} x e f =
-      goes (Or a b) a v (Ok (coded.Truth d)) _ refl x (grows_self x.kept.sound) (tested p s true (truth (value_of (text_of p) v)) _ _ (Ok (coded.Truth d)) (sym (e (text_of p)) ∙ f) (gives_value (ap Truth f) tt))
+      goes (Or a b) a v (Ok (coded.Truth d)) _ refl x (advances_self x.kept.sound) (tested p s.told true (truth (value_of (text_of p) v)) _ _ (Ok (coded.Truth d)) (sym (e (text_of p)) ∙ f) (gives_value (ap Truth f) tt))
 
   -- `||` that is stuck on the right
-  pub or_stops_right : {S : Type 0} {r m s : Told S} {a b : Expression} {v : CodedValue} {h : Halt} {d : Bool} → Reads p r m place a (Ok v) → ReadsTruth d v → d ≡ false → Reads p m s place b (Err h) → Reads p r s place (Or a b) (Err h)
+  pub or_stops_right : {S : Type 0} {r m s : State S} {a b : Expression} {v : CodedValue} {h : Halt} {d : Bool} → Reads p r m place a (Ok v) → ReadsTruth d v → d ≡ false → Reads p m s place b (Err h) → Reads p r s place (Or a b) (Err h)
   or_stops_right {s = s} {a = a} {b = b} {v = v} {h = h} {d = d} x e f y =
-      goes (Or a b) a v (Err h) _ refl x y.kept (tested p s false (truth (value_of (text_of p) v)) _ _ (Err h) (sym (e (text_of p)) ∙ f) (second_stops b h _ y))
+      goes (Or a b) a v (Err h) _ refl x y.kept (tested p s.told false (truth (value_of (text_of p) v)) _ _ (Err h) (sym (e (text_of p)) ∙ f) (second_stops b h _ y))
 
   -- `||` that ends on the right
-  pub or_goes : {S : Type 0} {r m s : Told S} {a b : Expression} {v w : CodedValue} {d t : Bool} → Reads p r m place a (Ok v) → ReadsTruth d v → d ≡ false → Reads p m s place b (Ok w) → ReadsTruth t w → Reads p r s place (Or a b) (Ok (coded.Truth t))
+  pub or_goes : {S : Type 0} {r m s : State S} {a b : Expression} {v w : CodedValue} {d t : Bool} → Reads p r m place a (Ok v) → ReadsTruth d v → d ≡ false → Reads p m s place b (Ok w) → ReadsTruth t w → Reads p r s place (Or a b) (Ok (coded.Truth t))
   or_goes {s = s} {a = a} {b = b} {v = v} {w = w} {t = t} x e f y g =
       goes (Or a b) a v (Ok (coded.Truth t)) _ refl x y.kept
-      (tested p s false (truth (value_of (text_of p) v)) _ _ (Ok (coded.Truth t)) (sym (e (text_of p)) ∙ f) (second_goes b w (coded.Truth t) _ y _ refl (ap Truth (g (text_of p))) tt))
+      (tested p s.told false (truth (value_of (text_of p) v)) _ _ (Ok (coded.Truth t)) (sym (e (text_of p)) ∙ f) (second_goes b w (coded.Truth t) _ y _ refl (ap Truth (g (text_of p))) tt))
 
   -- `||` of which both sides are evaluated
-  pub or_both_stops : {S : Type 0} {r s : Told S} {a b : Expression} {h : Halt} → Reads p r s place a (Err h) → Reads p r s place (OrBoth a b) (Err h)
+  pub or_both_stops : {S : Type 0} {r s : State S} {a b : Expression} {h : Halt} → Reads p r s place a (Err h) → Reads p r s place (OrBoth a b) (Err h)
   or_both_stops {a = a} {b = b} {h = h} x = stops (OrBoth a b) a h _ refl x
 
-  pub or_both_stops_right : {S : Type 0} {r m s : Told S} {a b : Expression} {v : CodedValue} {h : Halt} → Reads p r m place a (Ok v) → Reads p m s place b (Err h) → Reads p r s place (OrBoth a b) (Err h)
+  pub or_both_stops_right : {S : Type 0} {r m s : State S} {a b : Expression} {v : CodedValue} {h : Halt} → Reads p r m place a (Ok v) → Reads p m s place b (Err h) → Reads p r s place (OrBoth a b) (Err h)
   or_both_stops_right {a = a} {b = b} {v = v} {h = h} x y = goes (OrBoth a b) a v (Err h) _ refl x y.kept (second_stops b h _ y)
 
-  pub or_both_goes : {S : Type 0} {r m s : Told S} {a b : Expression} {v w x : CodedValue} → Reads p r m place a (Ok v) → Reads p m s place b (Ok w) → ((texts : ℕ → List ℕ) → value_of texts x ≡ Truth (truth (value_of texts v) || truth (value_of texts w)))
+  pub or_both_goes : {S : Type 0} {r m s : State S} {a b : Expression} {v w x : CodedValue} → Reads p r m place a (Ok v) → Reads p m s place b (Ok w) → ((texts : ℕ → List ℕ) → value_of texts x ≡ Truth (truth (value_of texts v) || truth (value_of texts w)))
       → Reads p r s place (OrBoth a b) (Ok x)
   or_both_goes {a = a} {b = b} {v = v} {w = w} {x = x} y z e = goes (OrBoth a b) a v (Ok x) _ refl y z.kept (second_goes b w x _ z _ refl (e (text_of p)) (plain_coded p x _ (e (text_of p)) refl))
 
   -- a choice
-  pub if_stops : {S : Type 0} {r s : Told S} {c a b : Expression} {here : Option TextPlace} {h : Halt} → Reads p r s place c (Err h) → Reads p r s place (If c a here b) (Err h)
+  pub if_stops : {S : Type 0} {r s : State S} {c a b : Expression} {here : Option TextPlace} {h : Halt} → Reads p r s place c (Err h) → Reads p r s place (If c a here b) (Err h)
   if_stops {c = c} {a = a} {b = b} {here = here} {h = h} x = stops (If c a here b) c h _ refl x
 
   -- a choice of the first part
-  pub if_then : {S : Type 0} {r m s : Told S} {c a b : Expression} {here : Option TextPlace} {v : CodedValue} {res : Result CodedValue Halt} {d : Bool} → Reads p r m place c (Ok v) → ReadsTruth d v → d ≡ true → Reads p m s place a res → Reads p r s place (If c a here b) res
-  if_then {s = s} {c = c} {a = a} {b = b} {here = here} {v = v} {res = res} x e f y = goes (If c a here b) c v res _ refl x y.kept (tested p s true (truth (value_of (text_of p) v)) _ _ res (sym (e (text_of p)) ∙ f) y.is)
+  pub if_then : {S : Type 0} {r m s : State S} {c a b : Expression} {here : Option TextPlace} {v : CodedValue} {res : Result CodedValue Halt} {d : Bool} → Reads p r m place c (Ok v) → ReadsTruth d v → d ≡ true → Reads p m s place a res → Reads p r s place (If c a here b) res
+  if_then {s = s} {c = c} {a = a} {b = b} {here = here} {v = v} {res = res} x e f y = goes (If c a here b) c v res _ refl x y.kept (tested p s.told true (truth (value_of (text_of p) v)) _ _ res (sym (e (text_of p)) ∙ f) y.is)
 
   -- a choice of the second part
-  pub if_otherwise : {S : Type 0} {r m s : Told S} {c a b : Expression} {here : Option TextPlace} {v : CodedValue} {res : Result CodedValue Halt} {d : Bool} → Reads p r m place c (Ok v) → ReadsTruth d v → d ≡ false → Reads p m s place b res → Reads p r s place (If c a here b) res
-  if_otherwise {s = s} {c = c} {a = a} {b = b} {here = here} {v = v} {res = res} x e f y = goes (If c a here b) c v res _ refl x y.kept (tested p s false (truth (value_of (text_of p) v)) _ _ res (sym (e (text_of p)) ∙ f) y.is)
+  pub if_otherwise : {S : Type 0} {r m s : State S} {c a b : Expression} {here : Option TextPlace} {v : CodedValue} {res : Result CodedValue Halt} {d : Bool} → Reads p r m place c (Ok v) → ReadsTruth d v → d ≡ false → Reads p m s place b res → Reads p r s place (If c a here b) res
+  if_otherwise {s = s} {c = c} {a = a} {b = b} {here = here} {v = v} {res = res} x e f y = goes (If c a here b) c v res _ refl x y.kept (tested p s.told false (truth (value_of (text_of p) v)) _ _ res (sym (e (text_of p)) ∙ f) y.is)
 
   -- there is not enough memory for what follows
-  pub out_of_memory : {S : Type 0} {r s : Told S} {e : Expression} {res : Result CodedValue Halt} → Grows p r s → IsErr res × IsErrAnd res (λ m. m ≡ Memory) → Reads p r s place e res
+  pub out_of_memory : {S : Type 0} {r s : State S} {e : Expression} {res : Result CodedValue Halt} → Advances p r s → IsErr res × IsErrAnd res (λ m. m ≡ Memory) → Reads p r s place e res
   out_of_memory {r = r} {s = s} {e = e} {res = res} g f = thrown f (record { kept = g; is = tt })
 
   -- what is made of two sets
-  pub sets_stops : {S : Type 0} {r s : Told S} {a b : Expression} {h : Halt} {o : SetOperator} {t : Kind} → Reads p r s place a (Err h) → Reads p r s place (Sets o t a b) (Err h)
+  pub sets_stops : {S : Type 0} {r s : State S} {a b : Expression} {h : Halt} {o : SetOperator} {t : Kind} → Reads p r s place a (Err h) → Reads p r s place (Sets o t a b) (Err h)
   sets_stops {a = a} {b = b} {h = h} {o = o} {t = t} x = stops (Sets o t a b) a h _ refl x
 
-  pub sets_stops_right : {S : Type 0} {r m s : Told S} {a b : Expression} {v : CodedValue} {h : Halt} {o : SetOperator} {t : Kind} → Reads p r m place a (Ok v) → Reads p m s place b (Err h) → Reads p r s place (Sets o t a b) (Err h)
+  pub sets_stops_right : {S : Type 0} {r m s : State S} {a b : Expression} {v : CodedValue} {h : Halt} {o : SetOperator} {t : Kind} → Reads p r m place a (Ok v) → Reads p m s place b (Err h) → Reads p r s place (Sets o t a b) (Err h)
   sets_stops_right {a = a} {b = b} {v = v} {h = h} {o = o} {t = t} x y = goes (Sets o t a b) a v (Err h) _ refl x y.kept (second_stops b h _ y)
 
-  pub sets_goes : {S : Type 0} {r m s : Told S} {a b : Expression} {v w x : CodedValue} {o : SetOperator} {t : Kind} → Reads p r m place a (Ok v) → Reads p m s place b (Ok w) → value_of (text_of p) x ≡ set_operate o t (value_of (text_of p) v) (value_of (text_of p) w) → AreElements p x
+  pub sets_goes : {S : Type 0} {r m s : State S} {a b : Expression} {v w x : CodedValue} {o : SetOperator} {t : Kind} → Reads p r m place a (Ok v) → Reads p m s place b (Ok w) → value_of (text_of p) x ≡ set_operate o t (value_of (text_of p) v) (value_of (text_of p) w) → AreElements p x
       → Reads p r s place (Sets o t a b) (Ok x)
   sets_goes {a = a} {b = b} {v = v} {w = w} {x = x} {o = o} {t = t} y z e good = goes (Sets o t a b) a v (Ok x) _ refl y z.kept (second_goes b w x _ z _ refl e good)
 
   -- the set of one element
-  pub single_stops : {S : Type 0} {r s : Told S} {a : Expression} {h : Halt} → Reads p r s place a (Err h) → Reads p r s place (Single a) (Err h)
+  pub single_stops : {S : Type 0} {r s : State S} {a : Expression} {h : Halt} → Reads p r s place a (Err h) → Reads p r s place (Single a) (Err h)
   single_stops {a = a} {h = h} x = stops (Single a) a h _ refl x
 
-  pub single_goes : {S : Type 0} {r s : Told S} {a : Expression} {v x : CodedValue} → Reads p r s place a (Ok v) → value_of (text_of p) x ≡ single (value_of (text_of p) v) → AreElements p x → Reads p r s place (Single a) (Ok x)
+  pub single_goes : {S : Type 0} {r s : State S} {a : Expression} {v x : CodedValue} → Reads p r s place a (Ok v) → value_of (text_of p) x ≡ single (value_of (text_of p) v) → AreElements p x → Reads p r s place (Single a) (Ok x)
   single_goes {a = a} {v = v} {x = x} y e good = ends (Single a) a v x _ refl y _ refl e good
 
   -- whether a set has an element
-  pub contains_stops : {S : Type 0} {r s : Told S} {a b : Expression} {h : Halt} → Reads p r s place a (Err h) → Reads p r s place (Contains a b) (Err h)
+  pub contains_stops : {S : Type 0} {r s : State S} {a b : Expression} {h : Halt} → Reads p r s place a (Err h) → Reads p r s place (Contains a b) (Err h)
   contains_stops {a = a} {b = b} {h = h} x = stops (Contains a b) a h _ refl x
 
-  pub contains_stops_right : {S : Type 0} {r m s : Told S} {a b : Expression} {v : CodedValue} {h : Halt} → Reads p r m place a (Ok v) → Reads p m s place b (Err h) → Reads p r s place (Contains a b) (Err h)
+  pub contains_stops_right : {S : Type 0} {r m s : State S} {a b : Expression} {v : CodedValue} {h : Halt} → Reads p r m place a (Ok v) → Reads p m s place b (Err h) → Reads p r s place (Contains a b) (Err h)
   contains_stops_right {a = a} {b = b} {v = v} {h = h} x y = goes (Contains a b) a v (Err h) _ refl x y.kept (second_stops b h _ y)
 
-  pub contains_goes : {S : Type 0} {r m s : Told S} {a b : Expression} {v w : CodedValue} {d : Bool} → Reads p r m place a (Ok v) → Reads p m s place b (Ok w) → d ≡ contains (value_of (text_of p) v) (value_of (text_of p) w) → Reads p r s place (Contains a b) (Ok (coded.Truth d))
+  pub contains_goes : {S : Type 0} {r m s : State S} {a b : Expression} {v w : CodedValue} {d : Bool} → Reads p r m place a (Ok v) → Reads p m s place b (Ok w) → d ≡ contains (value_of (text_of p) v) (value_of (text_of p) w) → Reads p r s place (Contains a b) (Ok (coded.Truth d))
   contains_goes {a = a} {b = b} {v = v} {w = w} {d = d} y z e = goes (Contains a b) a v (Ok (coded.Truth d)) _ refl y z.kept (second_goes b w (coded.Truth d) _ z _ refl (ap Truth e) tt)
 
   -- how many elements a set has
-  pub size_stops : {S : Type 0} {r s : Told S} {a : Expression} {h : Halt} → Reads p r s place a (Err h) → Reads p r s place (Size a) (Err h)
+  pub size_stops : {S : Type 0} {r s : State S} {a : Expression} {h : Halt} → Reads p r s place a (Err h) → Reads p r s place (Size a) (Err h)
   size_stops {a = a} {h = h} x = stops (Size a) a h _ refl x
 
-  pub size_goes : {S : Type 0} {r s : Told S} {a : Expression} {v x : CodedValue} {z : ℤ} → Reads p r s place a (Ok v) → z ≡ int_wrap w32 (pos (size_of (value_of (text_of p) v))) → value_of (text_of p) x ≡ Int z → Reads p r s place (Size a) (Ok x)
+  pub size_goes : {S : Type 0} {r s : State S} {a : Expression} {v x : CodedValue} {z : ℤ} → Reads p r s place a (Ok v) → z ≡ int_wrap w32 (pos (size_of (value_of (text_of p) v))) → value_of (text_of p) x ≡ Int z → Reads p r s place (Size a) (Ok x)
   size_goes {a = a} {v = v} {x = x} y e is = ends (Size a) a v x _ refl y _ refl (is ∙ ap Int e) (plain_coded p x _ (is ∙ ap Int e) refl)
 
   -- where two ways come together
-  pub rejoined : {S : Type 0} {r : Told S} {e : Expression} {x y : S} {b d : Bool} (tells : S → Told S) → y ≡ x → d ≡ b → Reads p r (tells x) place e (Ok (coded.Truth b)) → Reads p r (tells y) place e (Ok (coded.Truth d))
-  rejoined {S = S} {r = r} {e = e} {x = x} {d = d} tells same is a = subst (λ (z : S). Reads p r (tells z) place e (Ok (coded.Truth d))) (sym same) (subst (λ (t : Bool). Reads p r (tells x) place e (Ok (coded.Truth t))) (sym is) a)
-
-  -- a form with a condition over the elements of a set
-  pub over_set_stops : {S : Type 0} {r s : Told S} {a b : Expression} {h : Halt} {q : Quantifier} → Reads p r s place a (Err h) → Reads p r s place (QuantifiedSet q a b) (Err h)
-  over_set_stops {a = a} {b = b} {h = h} {q = q} x = stops (QuantifiedSet q a b) a h _ refl x
-
-  pub over_set_goes : {S : Type 0} {r m s : Told S} {a b : Expression} {v : CodedValue} {q : Quantifier} {xs : List Value} {res : Result CodedValue Halt} → Reads p r m place a (Ok v) → xs ≡ elements_of (value_of (text_of p) v)
-      → OverReads p m s place (over_elements q xs) b res → Reads p r s place (QuantifiedSet q a b) res
-  over_set_goes {s = s} {a = a} {b = b} {v = v} {q = q} {res = res} x e c =
-      goes (QuantifiedSet q a b) a v res _ refl x c.kept (subst (λ (ys : List Value). Answers p s (over_elements q ys (read_with p place b)) res) e c.is)
-
-  -- what is said at the elements of a list or of a set, joined
-  pub each_stops : {S : Type 0} {r s : Told S} {a b : Expression} {h : Halt} {t : Kind} {k : ℕ} → Reads p r s place a (Err h) → Reads p r s place (Each t k a b) (Err h)
-  each_stops {a = a} {b = b} {h = h} {t = t} {k = k} x = stops (Each t k a b) a h _ refl x
-
-  pub each_goes : {S : Type 0} {r m s : Told S} {a b : Expression} {v : CodedValue} {t : Kind} {k : ℕ} {xs : List Value} {res : Result CodedValue Halt} → Reads p r m place a (Ok v) → xs ≡ elements_at (world_of p) k (node (value_of (text_of p) v))
-      → OverReads p m s place (λ f. united t (default_of t) xs f) b res → Reads p r s place (Each t k a b) res
-  each_goes {s = s} {a = a} {b = b} {v = v} {t = t} {k = k} {res = res} x e c =
-      goes (Each t k a b) a v res _ refl x c.kept (subst (λ (ys : List Value). Answers p s (united t (default_of t) ys (read_with p place b)) res) e c.is)
-
-  pub each_of_set_stops : {S : Type 0} {r s : Told S} {a b : Expression} {h : Halt} {t : Kind} → Reads p r s place a (Err h) → Reads p r s place (EachOfSet t a b) (Err h)
-  each_of_set_stops {a = a} {b = b} {h = h} {t = t} x = stops (EachOfSet t a b) a h _ refl x
-
-  pub each_of_set_goes : {S : Type 0} {r m s : Told S} {a b : Expression} {v : CodedValue} {t : Kind} {xs : List Value} {res : Result CodedValue Halt} → Reads p r m place a (Ok v) → xs ≡ elements_of (value_of (text_of p) v)
-      → OverReads p m s place (λ f. united t (default_of t) xs f) b res → Reads p r s place (EachOfSet t a b) res
-  each_of_set_goes {s = s} {a = a} {b = b} {v = v} {t = t} {res = res} x e c =
-      goes (EachOfSet t a b) a v res _ refl x c.kept (subst (λ (ys : List Value). Answers p s (united t (default_of t) ys (read_with p place b)) res) e c.is)
+  pub rejoined : {S : Type 0} {r : State S} {system : System} {e : Expression} {x y : S} {m n : Saved} {b d : Bool} (tells : S → Told S) → y ≡ x → n ≡ m → d ≡ b → Reads p r (state system (tells x) m) place e (Ok (coded.Truth b)) → Reads p r (state system (tells y) n) place e (Ok (coded.Truth d))
+  rejoined {S = S} {r = r} {system = system} {e = e} {x = x} {y = y} {m = m} {d = d} tells same kept is a =
+      let by_value = subst (λ (t : Bool). Reads p r (state system (tells x) m) place e (Ok (coded.Truth t))) (sym is) a in
+      let by_reader = subst (λ (z : S). Reads p r (state system (tells z) m) place e (Ok (coded.Truth d))) (sym same) by_value in
+      subst (λ (z : Saved). Reads p r (state system (tells y) z) place e (Ok (coded.Truth d))) (sym kept) by_reader
 
   -- the set without elements
-  pub empty_goes : {S : Type 0} {r : Told S} {cs : List ℕ} → IsSound p r → cs ≡ [] → Reads p r r place Empty (Ok (coded.Nodes cs))
+  pub empty_goes : {S : Type 0} {r : State S} {cs : List ℕ} → IsReady p r → cs ≡ [] → Reads p r r place Empty (Ok (coded.Nodes cs))
   empty_goes {r = r} sound none = subst (λ ds. Reads p r r place Empty (Ok (coded.Nodes ds))) (sym none) (leaf (Nodes no_elements) sound refl refl (λ k d h. absurd (omega (arith, h))))

@@ -16,12 +16,12 @@ use Rattle.equation_law.specs.Codes.{AreCodes, IsCode, IsRow, IsSmall, arguments
 use Rattle.equation_law.specs.Equations.{world_of}
 use Rattle.equation_law.specs.Meaning.{Place, with_arguments}
 use Rattle.equation_law.specs.Program.{Program, text_of}
-use Rattle.equation_law.specs.Reading.{IsSound, Told}
 use Rattle.equation_law.specs.Values.{Value, as_argument, as_arguments, as_kind}
 use Rattle.expr_eval.specs.declared.evaluation.Halt.{Halt}
 use Rattle.expr_eval.specs.declared.evaluation.Halt.TheVariants.{Need, Memory}
-use Rattle.expr_eval.specs.Evaluating.{ArgumentsRead, Reads, end, more}
-use Rattle.expr_eval.proofs.Forms.{grows_self, grows_then, halts_first, halts_next}
+use Rattle.expr_eval.specs.Evaluating.{end, more}
+use Rattle.expr_eval.specs.Reads.{ArgumentsRead, IsReady, Reads, State}
+use Rattle.expr_eval.proofs.Forms.{advances_self, advances_then, halts_first, halts_next}
 
 -- a code of another type than that of texts
 pub small_code : (p : Program) (k : Kind) (c : ℕ) → text_kind k ≡ false → IsSmall k c → c < 2 ^ 32 → IsCode p k c
@@ -100,23 +100,23 @@ room_behind p ps xs {k} {ks} first rest row codes =
 
 module _ {S : Type 0} {p : Program} {place : Place} where
   -- arguments that are kept in this form
-  pub said_arguments : {r s : Told S} {ks : List Kind} {a b : TArgs} {res : Result Args Halt} → a ≡ b → ArgumentsRead p r s place ks (arguments_of b) res → ArgumentsRead p r s place ks (arguments_of a) res
+  pub said_arguments : {r s : State S} {ks : List Kind} {a b : TArgs} {res : Result Args Halt} → a ≡ b → ArgumentsRead p r s place ks (arguments_of b) res → ArgumentsRead p r s place ks (arguments_of a) res
   said_arguments {r = r} {s = s} {ks = ks} {res = res} h x = subst (λ y. ArgumentsRead p r s place ks (arguments_of y) res) (sym h) x
 
-  pub boxed_arguments : {r s : Told S} {ks : List Kind} {a b : TArgs} {res : Result Args Halt} → a ≡ b → ArgumentsRead p r s place ks (arguments_of a) res → ArgumentsRead p r s place ks (arguments_of b) res
+  pub boxed_arguments : {r s : State S} {ks : List Kind} {a b : TArgs} {res : Result Args Halt} → a ≡ b → ArgumentsRead p r s place ks (arguments_of a) res → ArgumentsRead p r s place ks (arguments_of b) res
   boxed_arguments {r = r} {s = s} {ks = ks} {res = res} h x = subst (λ y. ArgumentsRead p r s place ks (arguments_of y) res) h x
 
-  pub thrown_arguments : {r s : Told S} {ks : List Kind} {es : Arguments} {h : Halt} {res : Result Args Halt} → IsErr res × IsErrAnd res (λ m. m ≡ h) → ArgumentsRead p r s place ks es (Err h) → ArgumentsRead p r s place ks es res
+  pub thrown_arguments : {r s : State S} {ks : List Kind} {es : Arguments} {h : Halt} {res : Result Args Halt} → IsErr res × IsErrAnd res (λ m. m ≡ h) → ArgumentsRead p r s place ks es (Err h) → ArgumentsRead p r s place ks es res
   thrown_arguments {r = r} {s = s} {ks = ks} {es = es} {res = res} f a = let g = err_from_is_err_and res f.1 in subst (ArgumentsRead p r s place ks es) (sym (g.1 ∙ ap Err g.2)) a
 
   -- for the parameters of an attribute
-  pub for_parameters : {r s : Told S} {ks ls : List Kind} {es : Arguments} {res : Result Args Halt} → ks ≡ ls → ArgumentsRead p r s place ks es res → ArgumentsRead p r s place ls es res
+  pub for_parameters : {r s : State S} {ks ls : List Kind} {es : Arguments} {res : Result Args Halt} → ks ≡ ls → ArgumentsRead p r s place ks es res → ArgumentsRead p r s place ls es res
   for_parameters {r = r} {s = s} {es = es} {res = res} same a = subst (λ zs. ArgumentsRead p r s place zs es res) same a
 
   -- there are none
-  pub none_given : {r : Told S} {ks : List Kind} (xs : Args) → IsSound p r → IsRow xs → codes_in xs ≡ [] → ArgumentsRead p r r place ks no_more (Ok xs)
+  pub none_given : {r : State S} {ks : List Kind} (xs : Args) → IsReady p r → IsRow xs → codes_in xs ≡ [] → ArgumentsRead p r r place ks no_more (Ok xs)
   none_given {ks = ks} xs sound row none = record {
-    kept = grows_self sound;
+    kept = advances_self sound;
     is = record {
       values = [];
       collects = end;
@@ -127,13 +127,13 @@ module _ {S : Type 0} {p : Program} {place : Place} where
   }
 
   -- the first has no value, or one behind it
-  pub first_halts : {r s : Told S} {ks : List Kind} {e : Expression} {es : Arguments} {h : Halt} → Reads p r s place e (Err h) → ArgumentsRead p r s place ks (argument e es) (Err h)
+  pub first_halts : {r s : State S} {ks : List Kind} {e : Expression} {es : Arguments} {h : Halt} → Reads p r s place e (Err h) → ArgumentsRead p r s place ks (argument e es) (Err h)
   first_halts {es = es} {h = Need i} a = record { kept = a.kept; is = record { stopped = λ f. (a.is.demands, halts_first (λ v. with_arguments (world_of p) es place (λ vs. f (v ∷ vs))) a.is.halts); coded = a.is.coded } }
   first_halts {h = Memory} a = record { kept = a.kept; is = tt }
 
-  pub rest_halts : {r m s : Told S} {ks ls : List Kind} {e : Expression} {es : Arguments} {v : CodedValue} {h : Halt} → Reads p r m place e (Ok v) → ArgumentsRead p m s place ls es (Err h) → ArgumentsRead p r s place ks (argument e es) (Err h)
+  pub rest_halts : {r m s : State S} {ks ls : List Kind} {e : Expression} {es : Arguments} {v : CodedValue} {h : Halt} → Reads p r m place e (Ok v) → ArgumentsRead p m s place ls es (Err h) → ArgumentsRead p r s place ks (argument e es) (Err h)
   rest_halts {es = es} {v = v} {h = Need i} a b = record {
-    kept = grows_then a.kept b.kept;
+    kept = advances_then a.kept b.kept;
     is = record {
       stopped = λ f.
           let stopped = b.is.stopped (λ vs. f (value_of (text_of p) v ∷ vs)) in
@@ -141,15 +141,15 @@ module _ {S : Type 0} {p : Program} {place : Place} where
       coded = b.is.coded;
     };
   }
-  rest_halts {h = Memory} a b = record { kept = grows_then a.kept b.kept; is = tt }
+  rest_halts {h = Memory} a b = record { kept = advances_then a.kept b.kept; is = tt }
 
   -- all have values, and there is a parameter for the first
-  pub one_given : {r m s : Told S} {ls : List Kind} {e : Expression} {es : Arguments} {v : CodedValue} {k : Kind} {c : ℕ} {xs : Args} (ks : List Kind) (ys : Args) → Some k ≡ slice_get ks 0 → ls ≡ drop 1 ks → Reads p r m place e (Ok v) → ArgumentsRead p m s place ls es (Ok xs)
+  pub one_given : {r m s : State S} {ls : List Kind} {e : Expression} {es : Arguments} {v : CodedValue} {k : Kind} {c : ℕ} {xs : Args} (ks : List Kind) (ys : Args) → Some k ≡ slice_get ks 0 → ls ≡ drop 1 ks → Reads p r m place e (Ok v) → ArgumentsRead p m s place ls es (Ok xs)
       → IsCode p k c → as_argument k (value_at (text_of p) k c) ≡ as_argument k (value_of (text_of p) v) → IsRow ys → codes_in ys ≡ c ∷ codes_in xs → ArgumentsRead p r s place ks (argument e es) (Ok ys)
   one_given {r = r} {s = s} {ls = ls} {e = e} {es = es} {v = v} {k = k} {c = c} {xs = xs} ks ys first rest a b code value row codes =
       let whole : k ∷ ls ≡ ks = ap (λ zs. k ∷ zs) rest ∙ sym (first_and_rest ks k first) in
       subst (λ zs. ArgumentsRead p r s place zs (argument e es) (Ok ys)) whole (record {
-        kept = grows_then a.kept b.kept;
+        kept = advances_then a.kept b.kept;
         is = record {
           values = value_of (text_of p) v ∷ b.is.values;
           collects = more (ends_more b.kept.values a.is.ends) b.is.collects;
@@ -160,11 +160,11 @@ module _ {S : Type 0} {p : Program} {place : Place} where
       })
 
   -- and where there is none
-  pub one_more : {r m s : Told S} {ls : List Kind} {e : Expression} {es : Arguments} {v : CodedValue} {xs : Args} (ks : List Kind) (ys : Args) → None ≡ slice_get ks 0 → Reads p r m place e (Ok v) → ArgumentsRead p m s place ls es (Ok xs)
+  pub one_more : {r m s : State S} {ls : List Kind} {e : Expression} {es : Arguments} {v : CodedValue} {xs : Args} (ks : List Kind) (ys : Args) → None ≡ slice_get ks 0 → Reads p r m place e (Ok v) → ArgumentsRead p m s place ls es (Ok xs)
       → IsRow ys → codes_in ys ≡ [] → ArgumentsRead p r s place ks (argument e es) (Ok ys)
   one_more {r = r} {s = s} {e = e} {es = es} {v = v} ks ys none a b row codes =
       subst (λ zs. ArgumentsRead p r s place zs (argument e es) (Ok ys)) (sym (nothing_first ks none)) (record {
-        kept = grows_then a.kept b.kept;
+        kept = advances_then a.kept b.kept;
         is = record {
           values = value_of (text_of p) v ∷ b.is.values;
           collects = more (ends_more b.kept.values a.is.ends) b.is.collects;

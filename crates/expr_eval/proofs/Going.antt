@@ -2,7 +2,6 @@
 use Rattle.std.proofs.Common.{◌≡◌, ℕ, suc, ◌+◌, Bool, false, cond, List, map, sym, ap, subst, arith}
 use Rattle.std.specs.List.{range_with_len}
 use Rattle.solutions.specs.Asking.{Demands, Gives, Ends, Halts}
-use Rattle.solutions.proofs.Runs.{ends_more}
 use Rattle.attr_rules.specs.declared.kinds.Kind.{Kind}
 use Rattle.attr_rules.specs.declared.expression.SetOperator.TheVariants.{Union}
 use Rattle.equation_law.specs.Meaning.{at_each, first_with, united}
@@ -10,19 +9,6 @@ use Rattle.equation_law.specs.Names.{Instance}
 use Rattle.equation_law.specs.Values.{Value, default_of, set_operate, truth}
 use Rattle.expr_eval.specs.Going.{Joined, Passed, Went, further, joined, more, none, nothing, nowhere}
 use Rattle.expr_eval.proofs.Forms.{ends_next, halts_next}
-
--- it has gone as far where more has values
-pub went_more : {A B : Instance → Value → Type 0} → ((i : Instance) (v : Value) → A i v → B i v) → {element : ℕ → Value} {f : Value → Demands Instance Value} {put : Bool → Bool → Bool} {start : Bool} {n : ℕ} {b : Bool} → Went A element f put start n b → Went B element f put start n b
-went_more g nowhere = nowhere
-went_more g (further w e) = further (went_more g w) (ends_more g e)
-
-pub passed_more : {A B : Instance → Value → Type 0} → ((i : Instance) (v : Value) → A i v → B i v) → {element : ℕ → Value} {f : Value → Demands Instance Value} {n : ℕ} → Passed A element f n → Passed B element f n
-passed_more g none = none
-passed_more g (more w e denied) = more (passed_more g w) (ends_more g e) denied
-
-pub joined_more : {A B : Instance → Value → Type 0} → ((i : Instance) (v : Value) → A i v → B i v) → {element : ℕ → Value} {f : Value → Demands Instance Value} {t : Kind} {n : ℕ} {w : Value} → Joined A element f t n w → Joined B element f t n w
-joined_more g nothing = nothing
-joined_more g (joined j e) = joined (joined_more g j) (ends_more g e)
 
 -- so many elements from a place on
 abbrev from_on : (ℕ → Value) → ℕ → ℕ → List Value

@@ -4,7 +4,10 @@ pub mod Forms
 pub mod Found
 pub mod Given
 pub mod Going
+pub mod Growing
+pub mod Kept
 pub mod Names
 pub mod Over
 pub mod Plain
+pub mod Resuming
 pub mod Trees

@@ -45,17 +45,3 @@ put false = λ a b. a || b
 -- what a condition demands at an element
 abbrev pub read_with : Program → Place → Expression → Value → Demands Instance Value
 read_with p place e x = read_at p (with_name place x) e
-
-abbrev pub AnswersTruth : {S : Type 0} → Program → Told S → Demands Instance Value → Result Bool Halt → Type 0
-AnswersTruth p s c (Ok b) = (v : CodedValue) × Given p s c v × (b ≡ truth (value_of (text_of p) v))
-AnswersTruth p s c (Err h) = Answers p s c (Err h)
-
--- the answer to a condition at an element
-pub record ReadsAt {S : Type 0} (p : Program) (r s : Told S) (place : Place) (element : Value) (e : Expression) (result : Result Bool Halt) : Type 0 where
-  pub kept : Grows p r s
-  pub is : AnswersTruth p s (read_with p place e element) result
-
--- the answer to what is said at the elements of a list or a set, by what is demanded of them
-pub record OverReads {S : Type 0} (p : Program) (r s : Told S) (place : Place) (over : (Value → Demands Instance Value) → Demands Instance Value) (e : Expression) (result : Result CodedValue Halt) : Type 0 where
-  pub kept : Grows p r s
-  pub is : Answers p s (over (read_with p place e)) result

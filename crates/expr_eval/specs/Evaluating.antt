@@ -2,7 +2,7 @@
 use Rattle.std.specs.Prelude.{◌≡◌, ℕ, Bool, true, false, List, [], ◌∷◌, Result, Ok, Err, map}
 use Rattle.rag_io.specs.declared.Memory.{Memory as NoMemory}
 use Rattle.attr_rules.specs.declared.kinds.Kind.{Kind}
-use Rattle.attr_rules.specs.Expression.{Arguments, Expression, argument, no_more, Empty, QuantifiedSet, Each, EachOfSet, Sets, Single, Contains, Size, Not, Negate, Binary, And, Or, OrBoth, If}
+use Rattle.attr_rules.specs.Expression.{Arguments, Expression, argument, no_more, Empty, Quantified, QuantifiedSet, Each, EachOfSet, Sets, Single, Contains, Size, Not, Negate, Binary, And, Or, OrBoth, If}
 use Rattle.solutions.specs.Asking.{Demands, Ends, Halts}
 use Rattle.equation_law.specs.declared.coding.Args.{Args}
 use Rattle.equation_law.specs.declared.coding.Instance.{Instance as CodedInstance}
@@ -58,11 +58,6 @@ place_kept texts this names = record { this = reference_of this; names = map (si
 abbrev pub place_in : Context → Place
 place_in c = place_kept (texts_in c.system.now) c.this.0 c.names.now
 
--- the answer to an expression, by what the reader has at the end
-pub record Reads {S : Type 0} (p : Program) (r s : Told S) (place : Place) (e : Expression) (result : Result CodedValue Halt) : Type 0 where
-  pub kept : Grows p r s
-  pub is : Answers p s (read_at p place e) result
-
 -- the answer to the demand of an instance
 pub record DemandReads {S : Type 0} (p : Program) (r s : Told S) (i : Instance) (result : Result CodedValue Halt) : Type 0 where
   pub kept : Grows p r s
@@ -96,11 +91,6 @@ AnswersArguments p s place ks es (Ok xs) = ArgumentsGiven p s place ks es xs
 AnswersArguments p s place ks es (Err (Need i)) = ArgumentsStopped p s place es i
 AnswersArguments p s place ks es (Err Memory) = Unit {0}
 
--- the answer to the arguments of a call
-pub record ArgumentsRead {S : Type 0} (p : Program) (r s : Told S) (place : Place) (ks : List Kind) (es : Arguments) (result : Result Args Halt) : Type 0 where
-  pub kept : Grows p r s
-  pub is : AnswersArguments p s place ks es result
-
 -- What a turn says of some demands: `Done` is the value that they come to under what the reader has at the end, and `Need` the first of
 -- them that it has no value for. For want of memory nothing is said.
 abbrev pub AnswersTurn : {S : Type 0} → Program → Told S → Demands Instance Value → Result Turn NoMemory → Type 0
@@ -112,8 +102,9 @@ pub record Evaluates {S : Type 0} (p : Program) (r s : Told S) (c : Demands Inst
   pub kept : Grows p r s
   pub answer : AnswersTurn p s c result
 
--- a form over the elements of a set, or one that joins what is said at elements
+-- a form over elements
 abbrev pub is_over_form : Expression → Bool
+is_over_form (Quantified q k e b) = true
 is_over_form (QuantifiedSet q e b) = true
 is_over_form (Each t k e b) = true
 is_over_form (EachOfSet t e b) = true

@@ -1,10 +1,10 @@
 -- How far a form over a list or a set has gone.
-use Rattle.std.specs.Prelude.{◌≡◌, ℕ, ◌+◌, Bool, false, List}
+use Rattle.std.specs.Prelude.{◌≡◌, ◌<◌, ℕ, ◌+◌, Bool, false, true, List}
 use Rattle.solutions.specs.Asking.{Demands, Ends}
-use Rattle.equation_law.specs.Names.{Instance}
+use Rattle.equation_law.specs.Names.{Instance, Null}
 use Rattle.attr_rules.specs.declared.kinds.Kind.{Kind}
 use Rattle.attr_rules.specs.declared.expression.SetOperator.TheVariants.{Union}
-use Rattle.equation_law.specs.Values.{Value, default_of, set_operate, truth}
+use Rattle.equation_law.specs.Values.{Node, Value, default_of, set_operate, truth}
 
 module _ (A : Instance → Value → Type 0) (element : ℕ → Value) (condition : Value → Demands Instance Value) where
   -- the condition was evaluated at so many elements, and what it said put together
@@ -21,3 +21,8 @@ module _ (A : Instance → Value → Type 0) (element : ℕ → Value) (conditio
   pub data Joined (t : Kind) : ℕ → Value → Type 0 where
     nothing : Joined t 0 (default_of t)
     joined : {n : ℕ} {w v : Value} {ds : List Instance} → Joined t n w → Ends A (condition (element n)) v ds → Joined t (n + 1) (set_operate Union t w v)
+
+  -- of so many elements none was gone over at which it is true, and the value is null; or one was found, which is the value then, and all are gone over
+  pub data Sought (count : ℕ) : ℕ → Value → Type 0 where
+    seeks : {n : ℕ} → Passed n → Sought count n (Node Null)
+    found : {n : ℕ} {v : Value} {ds : List Instance} → n < count → Passed n → Ends A (condition (element n)) v ds → truth v ≡ true → Sought count count (element n)

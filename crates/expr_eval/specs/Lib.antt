@@ -1,4 +1,6 @@
 pub mod Elements
 pub mod Evaluating
 pub mod Going
+pub mod Reads
+pub mod Saved
 pub mod Sites

@@ -1,25 +1,29 @@
 // The meaning of an expression under what a reader has.
-ghost use Rattle.std.specs.Prelude.{◌≡◌, ◌<◌, IfOk, length, true};
+ghost use Rattle.std.specs.Prelude.{◌≡◌, ◌<◌, ℕ, List, [], IfOk, OnOk, cond, length, true};
 ghost use Rattle.attr_rules.specs.Expression.{arguments_of, expression_of};
 ghost use Rattle.attr_rules.specs.Types.{parameter_kinds, text_kind};
 ghost use Rattle.equation_law.specs.Codes.{AreCodes, AreElements, IsCode, IsCoded, IsRow, codes_in, instance_of, single_of, value_at, value_of};
 ghost use Rattle.equation_law.specs.Equations.{attribute_kind as kind_of};
-ghost use Rattle.equation_law.specs.Meaning.{at_each, first_with, named, over_elements, united, with_name};
-ghost use Rattle.equation_law.specs.Program.{attribute_parameters};
+ghost use Rattle.equation_law.specs.Meaning.{named, with_name};
+ghost use Rattle.equation_law.specs.Program.{Program, attribute_parameters};
 ghost use Rattle.equation_law.specs.Reading.{IsSound};
-ghost use Rattle.equation_law.specs.Values.{as_argument, default_of as default_value, set_operate as set_operated};
+ghost use Rattle.equation_law.specs.Values.{as_argument, set_operate as set_operated, truth};
 ghost use Rattle.equation_law.specs.Systems.{program_of};
-ghost use Rattle.expr_eval.specs.Elements.{OverReads, ReadsAt, Rooms, elements_in, put};
-ghost use Rattle.expr_eval.specs.Evaluating.{ArgumentsRead, CallReads, DemandReads, Reads, is_operation, is_over_form, is_set_form, place_in, texts_in};
+ghost use Rattle.expr_eval.specs.Elements.{Rooms};
+ghost use Rattle.expr_eval.specs.Evaluating.{CallReads, DemandReads, is_operation, is_over_form, is_set_form, place_in, texts_in};
+ghost use Rattle.expr_eval.specs.Reads.{ArgumentsRead, GoesOver, IsReady, Reads, ReadsRange, ReadsStand, state};
+ghost use Rattle.expr_eval.specs.Saved.{Stands, begun as begun_with, body_of, done as done_with, made as made_of, making_of as makes};
 
 use crate::accessors::{Elements, cast, child, count, element, has, is_instance, source, token};
-use crate::operators::{deny, either, negate, operate};
+use crate::operators::{deny, either, is_true, negate, operate};
+use crate::saved::{Making, Saved, Stand, making_of};
 use attr_rules::{AttrId, Kind, Params, Quantifier, SetOperator, TArgs, TExpr};
 use code_sets::Codes;
 use equation_law::{Args, Code, Instance, NodeRef, Reader, Single, System, Value};
 use rag_io::Memory;
 use set_values::{contains, set_operate, single_set, size};
 use std::alloc::Global;
+use std::mem;
 
 /// What an expression is evaluated in: the program, the node at which the equation is read, and the values of the names, the innermost
 /// first.
@@ -132,20 +136,21 @@ fn argument_code(system: &System, kind: Kind, value: Value) -> Code
 
 /// The codes of the arguments of a call, for these parameters, evaluated from the left. One without a parameter counts for nothing.
 #[cycle(meaning)]
-fn given<R: Reader>(
+fn given<'a, R: Reader>(
     context: &Context<'_>,
     parameters: Params,
-    arguments: &TArgs,
+    arguments: &'a TArgs,
     reader: &mut R,
+    saved: &mut Saved<'a>,
 ) -> Result<Args, Halt>
-    requires { IsSound (program_of context.now.system.now) (R.tells reader.old) }
-    ensures { ArgumentsRead (program_of context.now.system.now) (R.tells reader.old) (R.tells reader.new) (place_in context.now) (parameter_kinds parameters) (arguments_of arguments.now) result }
+    requires { IsReady (program_of context.now.system.now) (state context.now.system.now (R.tells reader.old) saved.old) }
+    ensures { ArgumentsRead (program_of context.now.system.now) (state context.now.system.now (R.tells reader.old) saved.old) (state context.now.system.now (R.tells reader.new) saved.new) (place_in context.now) (parameter_kinds parameters) (arguments_of arguments.now) result }
 {
     match arguments {
         TArgs::End => Ok(Args::none()),
         TArgs::More(first, rest) => {
-            let value = meaning(context, first, reader)?;
-            let behind = given(context, parameters.rest(), rest, reader)?;
+            let value = meaning(context, first, reader, saved)?;
+            let behind = given(context, parameters.rest(), rest, reader, saved)?;
             Ok(match parameters.first_kind() {
                 Some(kind) => behind.behind(argument_code(context.system, kind, value)),
                 None => Args::none(),
@@ -195,45 +200,17 @@ fn with_room(context: &Context<'_>) -> Result<Vec<Single>, Memory>
     Ok(names)
 }
 
-/// What an expression says at an element, which stands in front of the names.
-#[cycle(meaning)]
-fn with_element<R: Reader>(
-    context: &Context<'_>,
-    names: &mut Vec<Single>,
-    element: Single,
-    body: &TExpr,
-    reader: &mut R,
-) -> Result<Value, Halt>
-    requires sound { IsSound (program_of context.now.system.now) (R.tells reader.old) }
-    requires room { Rooms context.now.names.now names.old.items }
-    ensures room { Rooms context.now.names.now names.new.items }
-    ensures reads { Reads (program_of context.now.system.now) (R.tells reader.old) (R.tells reader.new) (with_name (place_in context.now) (single_of (texts_in context.now.system.now) element)) (expression_of body.now) result }
+/// The value where there are no elements.
+fn begun(alloc: Global, making: Making) -> Value
+    ensures value { (texts : ℕ → List ℕ) → texts 0 ≡ [] → value_of texts result ≡ begun_with making }
+    ensures coded { (p : Program) → AreElements p result }
 {
-    names[0] = element;
-    let inner = Context {
-        alloc: context.alloc,
-        system: context.system,
-        this: context.this,
-        names,
-    };
-    meaning(&inner, body, reader)
-}
-
-/// What a condition says at an element, which stands in front of the names.
-#[cycle(meaning)]
-fn at_element<R: Reader>(
-    context: &Context<'_>,
-    names: &mut Vec<Single>,
-    element: Single,
-    condition: &TExpr,
-    reader: &mut R,
-) -> Result<bool, Halt>
-    requires sound { IsSound (program_of context.now.system.now) (R.tells reader.old) }
-    requires room { Rooms context.now.names.now names.old.items }
-    ensures room { Rooms context.now.names.now names.new.items }
-    ensures reads { ReadsAt (program_of context.now.system.now) (R.tells reader.old) (R.tells reader.new) (place_in context.now) (single_of (texts_in context.now.system.now) element) (expression_of condition.now) result }
-{
-    Ok(with_element(context, names, element, condition, reader)?.truth())
+    match making {
+        Making::Tests(Quantifier::Any) => Value::Truth(false),
+        Making::Tests(Quantifier::All) => Value::Truth(true),
+        Making::Tests(Quantifier::First) => Value::Node(NodeRef(0)),
+        Making::Joins(kind) => Value::default_of(alloc, kind),
+    }
 }
 
 /// What is made of two sets.
@@ -252,217 +229,341 @@ fn combined(
     set_operate(context.alloc, operator, kind, left, right)
 }
 
-/// Whether both hold, or one of them.
-fn put_together(all: bool, so_far: bool, holds: bool) -> bool
-    ensures { result ≡ put all so_far holds }
+/// The element where the condition is true, or the value before it.
+fn chosen(element: Single, so_far: Value, said: &Value) -> Value
+    ensures value { (texts : ℕ → List ℕ) → value_of texts result ≡ cond (truth (value_of texts said.now)) (single_of texts element) (value_of texts so_far) }
+    ensures coded { (p : Program) → AreElements p so_far → AreElements p result }
 {
-    if all {
-        so_far && holds
+    if said.truth() {
+        Value::from(element)
     } else {
-        so_far || holds
+        so_far
     }
 }
 
-/// What a condition says at all elements of a receiver's list, put together: whether it holds at all of them, or at any.
-#[cycle(meaning)]
-fn at_all_elements<R: Reader>(
+/// The value behind an element, from the one before it and what is said there.
+fn made(
     context: &Context<'_>,
-    all: bool,
-    list: Elements,
-    condition: &TExpr,
-    reader: &mut R,
-) -> Result<Value, Halt>
-    requires { IsSound (program_of context.now.system.now) (R.tells reader.old) }
-    ensures { OverReads (program_of context.now.system.now) (R.tells reader.old) (R.tells reader.new) (place_in context.now) (λ f. at_each (put all) all (elements_in context.now.system.now list) f) (expression_of condition.now) result }
+    making: Making,
+    element: Single,
+    so_far: Value,
+    said: Value,
+) -> Result<Value, Memory>
+    requires so_far { AreElements (program_of context.now.system.now) so_far }
+    requires said { AreElements (program_of context.now.system.now) said }
+    ensures value { IfOk result (λ value. value_of (texts_in context.now.system.now) value ≡ made_of making (single_of (texts_in context.now.system.now) element) (value_of (texts_in context.now.system.now) so_far) (value_of (texts_in context.now.system.now) said)) }
+    ensures coded { IfOk result (AreElements (program_of context.now.system.now)) }
 {
-    let mut names = with_room(context)?;
-    let mut so_far = all;
-    'elements: for i in 0..list.count {
-        let element = list.get(context.system, i);
-        let holds = at_element(context, &mut names, element, condition, reader)?;
-        so_far = put_together(all, so_far, holds);
+    match making {
+        Making::Tests(Quantifier::Any) => Ok(Value::Truth(so_far.truth() || said.truth())),
+        Making::Tests(Quantifier::All) => Ok(Value::Truth(so_far.truth() && said.truth())),
+        Making::Tests(Quantifier::First) => Ok(chosen(element, so_far, &said)),
+        Making::Joins(kind) => combined(context, SetOperator::Union, kind, so_far, said),
     }
-    Ok(Value::Truth(so_far))
 }
 
-/// The first element of a receiver's list at which a condition holds, or null.
-#[cycle(meaning)]
-fn first_element<R: Reader>(
-    context: &Context<'_>,
-    list: Elements,
-    condition: &TExpr,
-    reader: &mut R,
-) -> Result<Value, Halt>
-    requires { IsSound (program_of context.now.system.now) (R.tells reader.old) }
-    ensures { OverReads (program_of context.now.system.now) (R.tells reader.old) (R.tells reader.new) (place_in context.now) (λ f. first_with (elements_in context.now.system.now list) f) (expression_of condition.now) result }
+/// How many of so many elements are done with behind the n-th: `first` needs none behind one at which the condition is true.
+fn done(making: Making, count: usize, n: usize, said: &Value) -> usize
+    requires { n < count }
+    ensures { (texts : ℕ → List ℕ) → result ≡ done_with making count n (value_of texts said.now) }
 {
-    let mut names = with_room(context)?;
-    'elements: for i in 0..list.count {
-        let element = list.get(context.system, i);
-        if at_element(context, &mut names, element, condition, reader)? {
-            return Ok(Value::from(element));
+    match making {
+        Making::Tests(Quantifier::First) if said.truth() => count,
+        _ => n + 1,
+    }
+}
+
+/// Takes in what is said at an element.
+fn take_in(
+    context: &Context<'_>,
+    making: Making,
+    list: &Elements,
+    element: Single,
+    said: Value,
+    stand: &mut Stand,
+) -> Result<(), Memory>
+    requires next { stand.old.next < list.now.count }
+    requires so_far { AreElements (program_of context.now.system.now) stand.old.so_far }
+    requires said { AreElements (program_of context.now.system.now) said }
+    ensures names { stand.new.names ≡ stand.old.names }
+    ensures next { stand.new.next ≡ done_with making list.now.count stand.old.next (value_of (texts_in context.now.system.now) said) }
+    ensures so_far { OnOk result (value_of (texts_in context.now.system.now) stand.new.so_far ≡ made_of making (single_of (texts_in context.now.system.now) element) (value_of (texts_in context.now.system.now) stand.old.so_far) (value_of (texts_in context.now.system.now) said)) }
+    ensures coded { OnOk result (AreElements (program_of context.now.system.now) stand.new.so_far) }
+{
+    stand.next = done(making, list.count, stand.next, &said);
+    let so_far = mem::replace(&mut stand.so_far, Value::Truth(false));
+    stand.so_far = made(context, making, element, so_far, said)?;
+    Ok(())
+}
+
+/// What an expression says at an element, which stands in front of the names.
+#[cycle(meaning)]
+fn with_element<'a, R: Reader>(
+    context: &Context<'_>,
+    names: &mut Vec<Single>,
+    element: Single,
+    body: &'a TExpr,
+    reader: &mut R,
+    saved: &mut Saved<'a>,
+) -> Result<Value, Halt>
+    requires ready { IsReady (program_of context.now.system.now) (state context.now.system.now (R.tells reader.old) saved.old) }
+    requires room { Rooms context.now.names.now names.old.items }
+    ensures room { Rooms context.now.names.now names.new.items }
+    ensures reads { Reads (program_of context.now.system.now) (state context.now.system.now (R.tells reader.old) saved.old) (state context.now.system.now (R.tells reader.new) saved.new) (with_name (place_in context.now) (single_of (texts_in context.now.system.now) element)) (expression_of body.now) result }
+{
+    names[0] = element;
+    let inner = Context {
+        alloc: context.alloc,
+        system: context.system,
+        this: context.this,
+        names,
+    };
+    meaning(&inner, body, reader, saved)
+}
+
+/// Goes over the elements that are left. What is saved of forms in the body is let go of behind each of them.
+#[cycle(meaning)]
+fn at_elements<'a, R: Reader>(
+    context: &Context<'_>,
+    making: Making,
+    list: &Elements,
+    stand: &mut Stand,
+    body: &'a TExpr,
+    reader: &mut R,
+    saved: &mut Saved<'a>,
+) -> Result<(), Halt>
+    requires ready { IsReady (program_of context.now.system.now) (state context.now.system.now (R.tells reader.old) saved.old) }
+    requires room { Rooms context.now.names.now stand.old.names.items }
+    requires stands { Stands context.now.system.now (R.tells reader.old).has (place_in context.now) making (expression_of body.now) list.now stand.old }
+    ensures room { Rooms context.now.names.now stand.new.names.items }
+    ensures over { GoesOver context.now.system.now (state context.now.system.now (R.tells reader.old) saved.old) (state context.now.system.now (R.tells reader.new) saved.new) (place_in context.now) making (expression_of body.now) list.now stand.new result }
+{
+    'elements: while stand.next < list.count {
+        let element = list.get(context.system, stand.next);
+        let said = with_element(context, &mut stand.names, element, body, reader, saved)?;
+        take_in(context, making, list, element, said, stand)?;
+        saved.leave(context.names.len());
+    }
+    Ok(())
+}
+
+/// Goes over the elements of a form that are left.
+#[cycle(meaning)]
+fn go_over<'a, R: Reader>(
+    context: &Context<'_>,
+    form: &'a TExpr,
+    list: &Elements,
+    stand: &mut Stand,
+    reader: &mut R,
+    saved: &mut Saved<'a>,
+) -> Result<(), Halt>
+    requires ready { IsReady (program_of context.now.system.now) (state context.now.system.now (R.tells reader.old) saved.old) }
+    requires form { is_over_form (expression_of form.now) ≡ true }
+    requires room { Rooms context.now.names.now stand.old.names.items }
+    requires stands { Stands context.now.system.now (R.tells reader.old).has (place_in context.now) (makes (expression_of form.now)) (body_of (expression_of form.now)) list.now stand.old }
+    ensures room { Rooms context.now.names.now stand.new.names.items }
+    ensures over { GoesOver context.now.system.now (state context.now.system.now (R.tells reader.old) saved.old) (state context.now.system.now (R.tells reader.new) saved.new) (place_in context.now) (makes (expression_of form.now)) (body_of (expression_of form.now)) list.now stand.new result }
+{
+    let making = making_of(form);
+    match form {
+        TExpr::Quantified(_, _, _, body) => {
+            at_elements(context, making, list, stand, body, reader, saved)
         }
+        TExpr::QuantifiedSet(_, _, body) => {
+            at_elements(context, making, list, stand, body, reader, saved)
+        }
+        TExpr::Each(_, _, _, body) => {
+            at_elements(context, making, list, stand, body, reader, saved)
+        }
+        TExpr::EachOfSet(_, _, body) => {
+            at_elements(context, making, list, stand, body, reader, saved)
+        }
+        _ => unreachable!(),
     }
-    Ok(Value::Node(NodeRef(0)))
 }
 
-/// The union, of this type, of what a body says at all elements of a list or a set.
+/// The elements that a form goes over.
 #[cycle(meaning)]
-fn each<R: Reader>(
+fn ranged<'a, R: Reader>(
     context: &Context<'_>,
-    kind: Kind,
-    list: Elements,
-    body: &TExpr,
+    form: &'a TExpr,
     reader: &mut R,
-) -> Result<Value, Halt>
-    requires { IsSound (program_of context.now.system.now) (R.tells reader.old) }
-    ensures { OverReads (program_of context.now.system.now) (R.tells reader.old) (R.tells reader.new) (place_in context.now) (λ f. united kind (default_value kind) (elements_in context.now.system.now list) f) (expression_of body.now) result }
+    saved: &mut Saved<'a>,
+) -> Result<Elements, Halt>
+    requires ready { IsReady (program_of context.now.system.now) (state context.now.system.now (R.tells reader.old) saved.old) }
+    requires form { is_over_form (expression_of form.now) ≡ true }
+    ensures { ReadsRange context.now.system.now (state context.now.system.now (R.tells reader.old) saved.old) (state context.now.system.now (R.tells reader.new) saved.new) (place_in context.now) (expression_of form.now) result }
 {
-    let mut names = with_room(context)?;
-    let mut so_far = Value::default_of(context.alloc, kind);
-    'elements: for i in 0..list.count {
-        let element = list.get(context.system, i);
-        let more = with_element(context, &mut names, element, body, reader)?;
-        so_far = combined(context, SetOperator::Union, kind, so_far, more)?;
+    let system = context.system;
+    match form {
+        TExpr::Quantified(_, k, receiver, _) => {
+            let receiver = meaning(context, receiver, reader, saved)?;
+            Ok(Elements::of(system, *k, receiver))
+        }
+        TExpr::Each(_, k, receiver, _) => {
+            let receiver = meaning(context, receiver, reader, saved)?;
+            Ok(Elements::of(system, *k, receiver))
+        }
+        TExpr::QuantifiedSet(_, set, _) => {
+            let set = meaning(context, set, reader, saved)?;
+            let list = Elements::of_set(context.alloc, system, set)?;
+            Ok(list)
+        }
+        TExpr::EachOfSet(_, set, _) => {
+            let set = meaning(context, set, reader, saved)?;
+            let list = Elements::of_set(context.alloc, system, set)?;
+            Ok(list)
+        }
+        _ => unreachable!(),
     }
-    Ok(so_far)
 }
 
-/// A form with a condition over a list or a set.
+/// The elements of a form, and where it stands: where that is saved, or before the first.
 #[cycle(meaning)]
-fn over_elements<R: Reader>(
+fn standing<'a, R: Reader>(
     context: &Context<'_>,
-    quantifier: Quantifier,
-    list: Elements,
-    condition: &TExpr,
+    form: &'a TExpr,
     reader: &mut R,
-) -> Result<Value, Halt>
-    requires { IsSound (program_of context.now.system.now) (R.tells reader.old) }
-    ensures { OverReads (program_of context.now.system.now) (R.tells reader.old) (R.tells reader.new) (place_in context.now) (over_elements quantifier (elements_in context.now.system.now list)) (expression_of condition.now) result }
+    saved: &mut Saved<'a>,
+) -> Result<(Elements, Stand), Halt>
+    requires ready { IsReady (program_of context.now.system.now) (state context.now.system.now (R.tells reader.old) saved.old) }
+    requires form { is_over_form (expression_of form.now) ≡ true }
+    ensures { ReadsStand context.now.system.now (state context.now.system.now (R.tells reader.old) saved.old) (state context.now.system.now (R.tells reader.new) saved.new) (place_in context.now) context.now.names.now (makes (expression_of form.now)) (expression_of form.now) (body_of (expression_of form.now)) result }
 {
-    match quantifier {
-        Quantifier::Any => at_all_elements(context, false, list, condition, reader),
-        Quantifier::All => at_all_elements(context, true, list, condition, reader),
-        Quantifier::First => first_element(context, list, condition, reader),
+    if let Some(found) = saved.take(context, form) {
+        return Ok(found);
+    }
+    let list = ranged(context, form, reader, saved)?;
+    let stand = Stand {
+        names: with_room(context)?,
+        next: 0,
+        so_far: begun(context.alloc, making_of(form)),
+    };
+    Ok((list, stand))
+}
+
+/// The value of a form over elements, which goes on where it stood. Where it stands then is saved.
+#[cycle(meaning)]
+fn over_form<'a, R: Reader>(
+    context: &Context<'_>,
+    form: &'a TExpr,
+    reader: &mut R,
+    saved: &mut Saved<'a>,
+) -> Result<Value, Halt>
+    requires ready { IsReady (program_of context.now.system.now) (state context.now.system.now (R.tells reader.old) saved.old) }
+    requires form { is_over_form (expression_of form.now) ≡ true }
+    ensures { Reads (program_of context.now.system.now) (state context.now.system.now (R.tells reader.old) saved.old) (state context.now.system.now (R.tells reader.new) saved.new) (place_in context.now) (expression_of form.now) result }
+{
+    let (list, mut stand) = standing(context, form, reader, saved)?;
+    match go_over(context, form, &list, &mut stand, reader, saved) {
+        Ok(()) => {
+            let value = stand.so_far.copy()?;
+            saved.put(form, context.this, list, stand)?;
+            Ok(value)
+        }
+        Err(Halt::Need(instance)) => {
+            saved.put(form, context.this, list, stand)?;
+            Err(Halt::Need(instance))
+        }
+        Err(Halt::Memory) => Err(Halt::Memory),
     }
 }
 
 /// The value of an operator's form.
 #[cycle(meaning)]
-fn operation<R: Reader>(
+fn operation<'a, R: Reader>(
     context: &Context<'_>,
-    expression: &TExpr,
+    expression: &'a TExpr,
     reader: &mut R,
+    saved: &mut Saved<'a>,
 ) -> Result<Value, Halt>
-    requires sound { IsSound (program_of context.now.system.now) (R.tells reader.old) }
+    requires ready { IsReady (program_of context.now.system.now) (state context.now.system.now (R.tells reader.old) saved.old) }
     requires operation { is_operation (expression_of expression.now) ≡ true }
-    ensures { Reads (program_of context.now.system.now) (R.tells reader.old) (R.tells reader.new) (place_in context.now) (expression_of expression.now) result }
+    ensures { Reads (program_of context.now.system.now) (state context.now.system.now (R.tells reader.old) saved.old) (state context.now.system.now (R.tells reader.new) saved.new) (place_in context.now) (expression_of expression.now) result }
 {
     let system = context.system;
     match expression {
-        TExpr::Not(operand) => Ok(deny(meaning(context, operand, reader)?)),
-        TExpr::Negate(operand) => Ok(negate(meaning(context, operand, reader)?)),
+        TExpr::Not(operand) => Ok(deny(meaning(context, operand, reader, saved)?)),
+        TExpr::Negate(operand) => Ok(negate(meaning(context, operand, reader, saved)?)),
         TExpr::Binary(operator, left, right) => {
-            let left = meaning(context, left, reader)?;
-            Ok(operate(system, *operator, left, meaning(context, right, reader)?))
+            let left = meaning(context, left, reader, saved)?;
+            Ok(operate(
+                system,
+                *operator,
+                left,
+                meaning(context, right, reader, saved)?,
+            ))
         }
         TExpr::And(left, right) => Ok(Value::Truth(
-            meaning(context, left, reader)?.truth() && meaning(context, right, reader)?.truth(),
+            is_true(meaning(context, left, reader, saved)?)
+                && is_true(meaning(context, right, reader, saved)?),
         )),
         TExpr::Or(left, right) => Ok(Value::Truth(
-            meaning(context, left, reader)?.truth() || meaning(context, right, reader)?.truth(),
+            is_true(meaning(context, left, reader, saved)?)
+                || is_true(meaning(context, right, reader, saved)?),
         )),
         TExpr::OrBoth(left, right) => {
-            let left = meaning(context, left, reader)?;
-            Ok(either(&left, &meaning(context, right, reader)?))
+            let left = meaning(context, left, reader, saved)?;
+            Ok(either(&left, &meaning(context, right, reader, saved)?))
         }
         TExpr::If(condition, then, _, otherwise) => {
-            let holds = meaning(context, condition, reader)?.truth();
-            meaning(context, if holds { then } else { otherwise }, reader)
+            let holds = is_true(meaning(context, condition, reader, saved)?);
+            meaning(context, if holds { then } else { otherwise }, reader, saved)
         }
-        _ => set_form(context, expression, reader),
+        _ => set_form(context, expression, reader, saved),
     }
 }
 
 /// The value of a form that makes a set, or asks one.
 #[cycle(meaning)]
-fn set_form<R: Reader>(
+fn set_form<'a, R: Reader>(
     context: &Context<'_>,
-    expression: &TExpr,
+    expression: &'a TExpr,
     reader: &mut R,
+    saved: &mut Saved<'a>,
 ) -> Result<Value, Halt>
-    requires sound { IsSound (program_of context.now.system.now) (R.tells reader.old) }
+    requires ready { IsReady (program_of context.now.system.now) (state context.now.system.now (R.tells reader.old) saved.old) }
     requires form { is_set_form (expression_of expression.now) ≡ true }
-    ensures { Reads (program_of context.now.system.now) (R.tells reader.old) (R.tells reader.new) (place_in context.now) (expression_of expression.now) result }
+    ensures { Reads (program_of context.now.system.now) (state context.now.system.now (R.tells reader.old) saved.old) (state context.now.system.now (R.tells reader.new) saved.new) (place_in context.now) (expression_of expression.now) result }
 {
     let system = context.system;
     match expression {
         TExpr::Empty => Ok(Value::Nodes(Codes::none(context.alloc))),
         TExpr::Sets(operator, kind, left, right) => {
-            let left = meaning(context, left, reader)?;
-            let right = meaning(context, right, reader)?;
+            let left = meaning(context, left, reader, saved)?;
+            let right = meaning(context, right, reader, saved)?;
             let made = combined(context, *operator, *kind, left, right)?;
             Ok(made)
         }
         TExpr::Single(element) => {
-            let element = meaning(context, element, reader)?;
+            let element = meaning(context, element, reader, saved)?;
             let made = single_set(context.alloc, system, &element)?;
             Ok(made)
         }
         TExpr::Contains(set, element) => {
-            let set = meaning(context, set, reader)?;
-            let element = meaning(context, element, reader)?;
+            let set = meaning(context, set, reader, saved)?;
+            let element = meaning(context, element, reader, saved)?;
             Ok(Value::Truth(contains(system, &set, &element)))
         }
         TExpr::Size(set) => {
-            let set = meaning(context, set, reader)?;
+            let set = meaning(context, set, reader, saved)?;
             Ok(Value::Int(size(&set)))
         }
-        _ => over_form(context, expression, reader),
-    }
-}
-
-/// The value of a form that goes over a set, or joins what is said at the elements of a list.
-#[cycle(meaning)]
-fn over_form<R: Reader>(
-    context: &Context<'_>,
-    expression: &TExpr,
-    reader: &mut R,
-) -> Result<Value, Halt>
-    requires sound { IsSound (program_of context.now.system.now) (R.tells reader.old) }
-    requires form { is_over_form (expression_of expression.now) ≡ true }
-    ensures { Reads (program_of context.now.system.now) (R.tells reader.old) (R.tells reader.new) (place_in context.now) (expression_of expression.now) result }
-{
-    let system = context.system;
-    match expression {
-        TExpr::QuantifiedSet(quantifier, set, condition) => {
-            let set = meaning(context, set, reader)?;
-            let list = Elements::of_set(context.alloc, system, set)?;
-            over_elements(context, *quantifier, list, condition, reader)
-        }
-        TExpr::Each(kind, k, receiver, body) => {
-            let list = Elements::of(system, *k, meaning(context, receiver, reader)?);
-            each(context, *kind, list, body, reader)
-        }
-        TExpr::EachOfSet(kind, set, body) => {
-            let set = meaning(context, set, reader)?;
-            let list = Elements::of_set(context.alloc, system, set)?;
-            each(context, *kind, list, body, reader)
-        }
-        _ => unreachable!(),
+        _ => over_form(context, expression, reader, saved),
     }
 }
 
 /// The value of an expression, or the first demand for which the reader has none. It walks down the expression, which has at most 400
 /// tokens.
 #[cycle(meaning)]
-pub(crate) fn meaning<R: Reader>(
+pub(crate) fn meaning<'a, R: Reader>(
     context: &Context<'_>,
-    expression: &TExpr,
+    expression: &'a TExpr,
     reader: &mut R,
+    saved: &mut Saved<'a>,
 ) -> Result<Value, Halt>
-    requires { IsSound (program_of context.now.system.now) (R.tells reader.old) }
-    ensures { Reads (program_of context.now.system.now) (R.tells reader.old) (R.tells reader.new) (place_in context.now) (expression_of expression.now) result }
+    requires { IsReady (program_of context.now.system.now) (state context.now.system.now (R.tells reader.old) saved.old) }
+    ensures { Reads (program_of context.now.system.now) (state context.now.system.now (R.tells reader.old) saved.old) (state context.now.system.now (R.tells reader.new) saved.new) (place_in context.now) (expression_of expression.now) result }
 {
     let system = context.system;
     match expression {
@@ -473,31 +574,51 @@ pub(crate) fn meaning<R: Reader>(
         TExpr::This => Ok(Value::Node(context.this)),
         TExpr::Variable(number) => Ok(variable(context, *number)),
         TExpr::Source(number) => Ok(source(system, *number)),
-        TExpr::Child(k, receiver) => Ok(child(system, *k, meaning(context, receiver, reader)?)),
+        TExpr::Child(k, receiver) => Ok(child(
+            system,
+            *k,
+            meaning(context, receiver, reader, saved)?,
+        )),
         TExpr::Element(k, receiver, place) => {
-            let receiver = meaning(context, receiver, reader)?;
-            Ok(element(system, *k, receiver, meaning(context, place, reader)?))
+            let receiver = meaning(context, receiver, reader, saved)?;
+            Ok(element(
+                system,
+                *k,
+                receiver,
+                meaning(context, place, reader, saved)?,
+            ))
         }
-        TExpr::Count(k, receiver) => Ok(count(system, *k, meaning(context, receiver, reader)?)),
-        TExpr::Has(k, receiver) => Ok(has(system, *k, meaning(context, receiver, reader)?)),
+        TExpr::Count(k, receiver) => Ok(count(
+            system,
+            *k,
+            meaning(context, receiver, reader, saved)?,
+        )),
+        TExpr::Has(k, receiver) => Ok(has(system, *k, meaning(context, receiver, reader, saved)?)),
         TExpr::Token(of, k, node) => Ok(token(
             context.alloc,
             system,
             *of,
             *k,
-            meaning(context, node, reader)?,
+            meaning(context, node, reader, saved)?,
         )),
         TExpr::Call(called, _, receiver, arguments) => {
-            let receiver = meaning(context, receiver, reader)?;
-            let args = given(context, parameters(system, *called), arguments, reader)?;
+            let receiver = meaning(context, receiver, reader, saved)?;
+            let args = given(
+                context,
+                parameters(system, *called),
+                arguments,
+                reader,
+                saved,
+            )?;
             call(context, *called, receiver, args, reader)
         }
-        TExpr::Cast(class, operand) => Ok(cast(system, *class, meaning(context, operand, reader)?)),
-        TExpr::InstanceOf(c, e) => Ok(is_instance(system, *c, meaning(context, e, reader)?)),
-        TExpr::Quantified(quantifier, k, receiver, condition) => {
-            let list = Elements::of(system, *k, meaning(context, receiver, reader)?);
-            over_elements(context, *quantifier, list, condition, reader)
-        }
-        _ => operation(context, expression, reader),
+        TExpr::Cast(class, operand) => Ok(cast(
+            system,
+            *class,
+            meaning(context, operand, reader, saved)?,
+        )),
+        TExpr::InstanceOf(c, e) => Ok(is_instance(system, *c, meaning(context, e, reader, saved)?)),
+        TExpr::Quantified(_, _, _, _) => over_form(context, expression, reader, saved),
+        _ => operation(context, expression, reader, saved),
     }
 }

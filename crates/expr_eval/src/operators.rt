@@ -50,11 +50,18 @@ fn equal(system: &System, left: Value, right: Value) -> bool
     }
 }
 
+/// Whether a value is true.
+pub(crate) fn is_true(value: Value) -> bool
+    ensures { (texts : ℕ → List ℕ) → result ≡ truth (value_of texts value) }
+{
+    value.truth()
+}
+
 /// The other truth value.
 pub(crate) fn deny(operand: Value) -> Value
     ensures { (texts : ℕ → List ℕ) → value_of texts result ≡ Truth (not (truth (value_of texts operand))) }
 {
-    Value::Truth(!operand.truth())
+    Value::Truth(!is_true(operand))
 }
 
 /// Whether one of two truth values is true.

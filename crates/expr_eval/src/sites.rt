@@ -9,10 +9,13 @@ ghost use Rattle.equation_law.specs.Names.{Query};
 ghost use Rattle.equation_law.specs.Reading.{IsSound};
 ghost use Rattle.equation_law.specs.Systems.{program_of};
 ghost use Rattle.expr_eval.specs.Evaluating.{Evaluates};
+ghost use Rattle.expr_eval.specs.Reads.{IsReady, Resumes, state};
+ghost use Rattle.expr_eval.specs.Saved.{AreSaved};
 ghost use Rattle.expr_eval.specs.Sites.{IsTurned, TurnAs, query_reads, site_reads};
 
 use crate::binding::names_of;
 use crate::evaluation::{Context, Halt, attribute_kind, meaning};
+use crate::saved::Saved;
 use attr_rules::{AttrId, Kind};
 use equation_law::{Args, EqSite, Instance, NodeRef, Reader, System, Value};
 use inherited_walk::find_equation;
@@ -84,18 +87,19 @@ fn turned(came: Result<Value, Halt>) -> Result<Turn, Memory>
 
 /// The meaning of the equation of a site, read for an attribute of these parameters, under what a reader has at the end of the call, or the
 /// first demand that it has no value for.
-fn evaluate_for<R: Reader>(
+fn evaluate_for<'a, R: Reader>(
     alloc: Global,
-    system: &System,
+    system: &'a System,
     attr: AttrId,
     site: &EqSite,
     reader: &mut R,
+    saved: &mut Saved<'a>,
 ) -> Result<Turn, Memory>
     requires equation { site.now.equation.0 < length (program_of system.now).rules.equations }
     requires inner { IsRow site.now.inner }
     requires outer { IsRow site.now.outer }
-    requires sound { IsSound (program_of system.now) (R.tells reader.old) }
-    ensures { Evaluates (program_of system.now) (R.tells reader.old) (R.tells reader.new) (site_reads (program_of system.now) attr.0 site.now) result }
+    requires ready { IsReady (program_of system.now) (state system.now (R.tells reader.old) saved.old) }
+    ensures { Resumes (program_of system.now) (state system.now (R.tells reader.old) saved.old) (state system.now (R.tells reader.new) saved.new) (site_reads (program_of system.now) attr.0 site.now) result }
 {
     let Ok(names) = names_of(alloc, system, attr, site) else {
         return Err(Memory);
@@ -106,7 +110,7 @@ fn evaluate_for<R: Reader>(
         this: site.node,
         names: &names,
     };
-    turned(meaning(&context, system.rules().body(site.equation), reader))
+    turned(meaning(&context, system.rules().body(site.equation), reader, saved))
 }
 
 /// The meaning of the equation of a site under what a reader has at the end of the call, or the first demand that it has no value for.
@@ -123,10 +127,33 @@ pub fn evaluate<R: Reader>(
     ensures { (q : Equation) → slice_get (program_of system.now).rules.equations site.now.equation.0 ≡ Some q → Evaluates (program_of system.now) (R.tells reader.old) (R.tells reader.new) (site_reads (program_of system.now) q.target.attribute.0 site.now) result }
 {
     let attr = system.rules().target(site.equation).attribute;
-    evaluate_for(alloc, system, attr, site, reader)
+    let mut saved = Saved::new(alloc);
+    evaluate_for(alloc, system, attr, site, reader, &mut saved)
 }
 
 /// The meaning of a query's expression, which is read at the root, in the same way.
+fn asked<'a, R: Reader>(
+    alloc: Global,
+    system: &'a System,
+    query: u32,
+    reader: &mut R,
+    saved: &mut Saved<'a>,
+) -> Result<Turn, Memory>
+    requires query { query < length (program_of system.now).queries }
+    requires ready { IsReady (program_of system.now) (state system.now (R.tells reader.old) saved.old) }
+    ensures { (q : Asked) → slice_get (program_of system.now).queries query ≡ Some q → Resumes (program_of system.now) (state system.now (R.tells reader.old) saved.old) (state system.now (R.tells reader.new) saved.new) (query_reads (program_of system.now) q) result }
+{
+    let context = Context {
+        alloc,
+        system,
+        this: NodeRef(1),
+        names: &[],
+    };
+    turned(meaning(&context, system.query(query).expression(), reader, saved))
+}
+
+/// The meaning of a query's expression, which is read at the root, under what a reader has at the end of the call, or the first demand that it
+/// has no value for.
 pub fn evaluate_query<R: Reader>(
     alloc: Global,
     system: &System,
@@ -137,52 +164,73 @@ pub fn evaluate_query<R: Reader>(
     requires sound { IsSound (program_of system.now) (R.tells reader.old) }
     ensures { (q : Asked) → slice_get (program_of system.now).queries query ≡ Some q → Evaluates (program_of system.now) (R.tells reader.old) (R.tells reader.new) (query_reads (program_of system.now) q) result }
 {
-    let context = Context {
-        alloc,
-        system,
-        this: NodeRef(1),
-        names: &[],
-    };
-    turned(meaning(&context, system.query(query).expression(), reader))
+    let mut saved = Saved::new(alloc);
+    asked(alloc, system, query, reader, &mut saved)
 }
 
 /// What the equation of an attribute at a node comes to.
-fn evaluate_attribute<R: Reader>(
+fn evaluate_attribute<'a, R: Reader>(
     alloc: Global,
-    system: &System,
+    system: &'a System,
     attr: AttrId,
     node: NodeRef,
     args: Args,
     reader: &mut R,
+    saved: &mut Saved<'a>,
 ) -> Result<Turn, Memory>
-    requires sound { IsSound (program_of system.now) (R.tells reader.old) }
+    requires ready { IsReady (program_of system.now) (state system.now (R.tells reader.old) saved.old) }
     requires row { IsRow args }
-    ensures { Evaluates (program_of system.now) (R.tells reader.old) (R.tells reader.new) ((equations_of (program_of system.now)).equation (instance_of (program_of system.now) (attribute_at attr node args))) result }
+    ensures { Resumes (program_of system.now) (state system.now (R.tells reader.old) saved.old) (state system.now (R.tells reader.new) saved.new) ((equations_of (program_of system.now)).equation (instance_of (program_of system.now) (attribute_at attr node args))) result }
 {
     match find_equation(system, attr, node, args) {
         None => Ok(Turn::Done(Value::Node(NodeRef(0)))),
         Some(site) => {
-            let turn = evaluate_for(alloc, system, attr, &site, reader)?;
+            let turn = evaluate_for(alloc, system, attr, &site, reader, saved)?;
             Ok(turn.read_as(alloc, attribute_kind(system, attr)))
         }
     }
 }
 
 /// What a query comes to.
-fn evaluate_asked<R: Reader>(
+fn evaluate_asked<'a, R: Reader>(
     alloc: Global,
-    system: &System,
+    system: &'a System,
     query: u32,
     reader: &mut R,
+    saved: &mut Saved<'a>,
 ) -> Result<Turn, Memory>
-    requires { IsSound (program_of system.now) (R.tells reader.old) }
-    ensures { Evaluates (program_of system.now) (R.tells reader.old) (R.tells reader.new) ((equations_of (program_of system.now)).equation (Query query)) result }
+    requires { IsReady (program_of system.now) (state system.now (R.tells reader.old) saved.old) }
+    ensures { Resumes (program_of system.now) (state system.now (R.tells reader.old) saved.old) (state system.now (R.tells reader.new) saved.new) ((equations_of (program_of system.now)).equation (Query query)) result }
 {
     if query >= system.replies() {
         return Ok(Turn::Done(Value::Node(NodeRef(0))));
     }
-    let turn = evaluate_query(alloc, system, query, reader)?;
+    let turn = asked(alloc, system, query, reader, saved)?;
     Ok(turn.read_as(alloc, system.query(query).kind()))
+}
+
+/// Goes on with the evaluation of what the equation of an instance comes to: the value is that of its expression, read at the instance's type,
+/// under what the reader has at the end of the call. What an earlier evaluation left behind is taken up, and what this one leaves behind is
+/// saved: no form over elements goes over one of them again that it has done with. What is no instance of the system counts as null.
+pub fn resume_instance<'a, R: Reader>(
+    alloc: Global,
+    system: &'a System,
+    i: &Instance,
+    reader: &mut R,
+    saved: &mut Saved<'a>,
+) -> Result<Turn, Memory>
+    requires sound { IsSound (program_of system.now) (R.tells reader.old) }
+    requires saved { AreSaved system.now (R.tells reader.old).has saved.old }
+    requires coded { IsCoded (program_of system.now) i.now }
+    ensures evaluates { Evaluates (program_of system.now) (R.tells reader.old) (R.tells reader.new) ((equations_of (program_of system.now)).equation (instance_of (program_of system.now) i.now)) result }
+    ensures saved { AreSaved system.now (R.tells reader.new).has saved.new }
+{
+    match i {
+        Instance::Attr { attr, node, args } => {
+            evaluate_attribute(alloc, system, *attr, *node, *args, reader, saved)
+        }
+        Instance::Query(query) => evaluate_asked(alloc, system, *query, reader, saved),
+    }
 }
 
 /// What the equation of an instance comes to: the value is that of its expression, read at the instance's type. What is no instance of the
@@ -197,10 +245,6 @@ pub fn evaluate_instance<R: Reader>(
     requires coded { IsCoded (program_of system.now) i.now }
     ensures { Evaluates (program_of system.now) (R.tells reader.old) (R.tells reader.new) ((equations_of (program_of system.now)).equation (instance_of (program_of system.now) i.now)) result }
 {
-    match i {
-        Instance::Attr { attr, node, args } => {
-            evaluate_attribute(alloc, system, *attr, *node, *args, reader)
-        }
-        Instance::Query(query) => evaluate_asked(alloc, system, *query, reader),
-    }
+    let mut saved = Saved::new(alloc);
+    resume_instance(alloc, system, i, reader, &mut saved)
 }

@@ -6,16 +6,21 @@ use Rattle.equation_law.specs.Systems.{program_of}
 use Rattle.equation_law.specs.Codes.{value_of}
 use Rattle.equation_law.specs.Values.{Int, Value}
 use Rattle.equation_law.proofs.Pooled.{first_text}
-use Rattle.expr_eval.proofs.Forms.{said, boxed, thrown, leaf, cast_stops, cast_goes, instance_stops, instance_goes, over_stops, over_goes, grows_self, grows_then, child_stops, child_goes, element_stops, element_stops_at, element_goes, count_stops, count_goes, has_stops, has_goes, token_stops, token_goes, call_stops, call_stops_at, call_goes, not_stops, not_goes, negate_stops, negate_goes, binary_stops, binary_stops_right, binary_goes, and_stops, and_ends, and_stops_right, and_goes, or_stops, or_ends, or_stops_right, or_goes, or_both_stops, or_both_stops_right, or_both_goes, if_stops, if_then, if_otherwise, empty_goes, sets_stops, sets_stops_right, sets_goes, single_stops, single_goes, contains_stops, contains_stops_right, contains_goes, size_stops, size_goes, over_set_stops, over_set_goes, each_stops, each_goes, each_of_set_stops, each_of_set_goes, out_of_memory, rejoined}
-use Rattle.expr_eval.specs.Elements.{ReadsAt, element_in, put, read_with}
+use Rattle.expr_eval.proofs.Forms.{said, boxed, thrown, leaf, cast_stops, cast_goes, instance_stops, instance_goes, advances_self, advances_then, child_stops, child_goes, element_stops, element_stops_at, element_goes, count_stops, count_goes, has_stops, has_goes, token_stops, token_goes, call_stops, call_stops_at, call_goes, not_stops, not_goes, negate_stops, negate_goes, binary_stops, binary_stops_right, binary_goes, and_stops, and_ends, and_stops_right, and_goes, or_stops, or_ends, or_stops_right, or_goes, or_both_stops, or_both_stops_right, or_both_goes, if_stops, if_then, if_otherwise, empty_goes, sets_stops, sets_stops_right, sets_goes, single_stops, single_goes, contains_stops, contains_stops_right, contains_goes, size_stops, size_goes, out_of_memory, rejoined}
+use Rattle.std.specs.Prelude.{Vec}
+use Rattle.std.specs.declared.alloc.Global.{Global}
+use Rattle.equation_law.specs.declared.coding.Single.{Single}
+use Rattle.expr_eval.specs.Elements.{Rooms}
 use Rattle.expr_eval.specs.Evaluating.{place_in, texts_in}
-use Rattle.expr_eval.specs.Going.{Joined, Went, none, nothing, nowhere}
+use Rattle.expr_eval.specs.Reads.{GoesOver, ReadsRange}
+use Rattle.expr_eval.specs.Saved.{begun}
 use Rattle.attr_rules.specs.Types.{parameter_kinds}
 use Rattle.expr_eval.proofs.Given.{boxed_arguments, first_halts, for_parameters, none_given, one_given, one_more, rest_halts, room_behind, said_arguments, thrown_arguments}
-use Rattle.expr_eval.proofs.Over.{at_value, boxed_over, each_ended, each_further, each_stopped, first_ended, first_found, first_further, first_stopped, join_ended, join_further, join_short, join_stopped, thrown_over, truth_of, with_value}
-use Rattle.expr_eval.proofs.Plain.{element_plain, named_plain, plain_coded}
+use Rattle.expr_eval.proofs.Growing.{ranged_more, stands_more}
+use Rattle.expr_eval.proofs.Plain.{named_plain, plain_coded}
+use Rattle.expr_eval.proofs.Resuming.{going_is, halted, handed, loses, over_ends, over_halts, puts, range_goes, range_stops, said_range, stands_begun, stops_at, taken, taken_in}
 use Rattle.expr_eval.proofs.evaluation.+meaning.Goals as goal
-use Rattle.expr_eval.proofs.evaluation.+meaning.Goals.{operation-else-holds, operation-then-holds, operation-then-truth+in_ok-meaning-in-And-2+in-Texts-1, operation-then-truth+in_ok-meaning-in-And-2+in-Nodes-1, operation-then-truth+in_ok-meaning-in-And-2+in-Truth-1, operation-else-truth, operation-then-truth-2, operation-else-truth-2+in_ok-meaning-in-Or-2+in-Texts-1, operation-else-truth-2+in_ok-meaning-in-Or-2+in-Nodes-1, operation-else-truth-2+in_ok-meaning-in-Or-2+in-Truth-1}
+use Rattle.expr_eval.proofs.evaluation.+meaning.Goals.{operation-else-holds, operation-then-holds, operation-then-is_true+in_ok-meaning-in-And-2, operation-else-is_true, operation-then-is_true-2, operation-else-is_true-2+in_ok-meaning-in-Or-2}
 
 pub meaning-returns-in-Truth : goal.meaning-returns-in-Truth
 meaning-returns-in-Truth g t c =
@@ -157,18 +162,14 @@ operation-returns-in_err-meaning-in-And g t c =
 
 pub operation-returns-in_err-meaning-in-And-2 : goal.operation-returns-in_err-meaning-in-And-2
 operation-returns-in_err-meaning-in-And-2 g t c =
-    thrown c.from_residual-in_err-meaning-in-And-2.ensures (said c.in-And.is (and_stops_right (boxed c.deref-in-And.ensures c.in_ok-meaning-in-And.ensures) c.truth.ensures c.if-truth.true (boxed c.deref-then-truth.ensures c.in_err-meaning-in-And-2.ensures)))
+    thrown c.from_residual-in_err-meaning-in-And-2.ensures (said c.in-And.is (and_stops_right (boxed c.deref-in-And.ensures c.in_ok-meaning-in-And.ensures) c.is_true.ensures c.if-is_true.true (boxed c.deref-then-is_true.ensures c.in_err-meaning-in-And-2.ensures)))
 
-pub operation-returns-after-truth : goal.operation-returns-after-truth
-operation-returns-after-truth g t c = elim c.if-truth.branch [
-  | operation-then-truth+in_ok-meaning-in-And-2+in-Texts-1 w ↦ rejoined g.R.Reader.tells w.reader-is w.result-is
-      (said c.in-And.is (and_goes (boxed c.deref-in-And.ensures c.in_ok-meaning-in-And.ensures) c.truth.ensures w.if-truth.true (boxed w.deref-then-truth.ensures w.in_ok-meaning-in-And-2.ensures) w.truth-then-truth.ensures))
-  | operation-then-truth+in_ok-meaning-in-And-2+in-Nodes-1 w ↦ rejoined g.R.Reader.tells w.reader-is w.result-is
-      (said c.in-And.is (and_goes (boxed c.deref-in-And.ensures c.in_ok-meaning-in-And.ensures) c.truth.ensures w.if-truth.true (boxed w.deref-then-truth.ensures w.in_ok-meaning-in-And-2.ensures) w.truth-then-truth.ensures))
-  | operation-then-truth+in_ok-meaning-in-And-2+in-Truth-1 w ↦ rejoined g.R.Reader.tells w.reader-is w.result-is
-      (said c.in-And.is (and_goes (boxed c.deref-in-And.ensures c.in_ok-meaning-in-And.ensures) c.truth.ensures w.if-truth.true (boxed w.deref-then-truth.ensures w.in_ok-meaning-in-And-2.ensures) w.truth-then-truth.ensures))
-  | operation-else-truth w ↦ rejoined g.R.Reader.tells w.reader-is w.result-is
-      (said c.in-And.is (and_ends (boxed c.deref-in-And.ensures c.in_ok-meaning-in-And.ensures) c.truth.ensures w.if-truth.false))
+pub operation-returns-after-is_true : goal.operation-returns-after-is_true
+operation-returns-after-is_true g t c = elim c.if-is_true.branch [
+  | operation-then-is_true+in_ok-meaning-in-And-2 w ↦ rejoined g.R.Reader.tells w.reader-is w.saved-is w.result-is
+      (said c.in-And.is (and_goes (boxed c.deref-in-And.ensures c.in_ok-meaning-in-And.ensures) c.is_true.ensures w.if-is_true.true (boxed w.deref-then-is_true.ensures w.in_ok-meaning-in-And-2.ensures) w.is_true-then-is_true.ensures))
+  | operation-else-is_true w ↦ rejoined g.R.Reader.tells w.reader-is w.saved-is w.result-is
+      (said c.in-And.is (and_ends (boxed c.deref-in-And.ensures c.in_ok-meaning-in-And.ensures) c.is_true.ensures w.if-is_true.false))
 ]
 
 pub operation-returns-in_err-meaning-in-Or : goal.operation-returns-in_err-meaning-in-Or
@@ -177,18 +178,14 @@ operation-returns-in_err-meaning-in-Or g t c =
 
 pub operation-returns-in_err-meaning-in-Or-2 : goal.operation-returns-in_err-meaning-in-Or-2
 operation-returns-in_err-meaning-in-Or-2 g t c =
-    thrown c.from_residual-in_err-meaning-in-Or-2.ensures (said c.in-Or.is (or_stops_right (boxed c.deref-in-Or.ensures c.in_ok-meaning-in-Or.ensures) c.truth-in-Or.ensures c.if-truth-2.false (boxed c.deref-else-truth-2.ensures c.in_err-meaning-in-Or-2.ensures)))
+    thrown c.from_residual-in_err-meaning-in-Or-2.ensures (said c.in-Or.is (or_stops_right (boxed c.deref-in-Or.ensures c.in_ok-meaning-in-Or.ensures) c.is_true-in-Or.ensures c.if-is_true-2.false (boxed c.deref-else-is_true-2.ensures c.in_err-meaning-in-Or-2.ensures)))
 
-pub operation-returns-after-truth-2 : goal.operation-returns-after-truth-2
-operation-returns-after-truth-2 g t c = elim c.if-truth-2.branch [
-  | operation-then-truth-2 w ↦ rejoined g.R.Reader.tells w.reader-is w.result-is
-      (said c.in-Or.is (or_ends (boxed c.deref-in-Or.ensures c.in_ok-meaning-in-Or.ensures) c.truth-in-Or.ensures w.if-truth-2.true))
-  | operation-else-truth-2+in_ok-meaning-in-Or-2+in-Texts-1 w ↦ rejoined g.R.Reader.tells w.reader-is w.result-is
-      (said c.in-Or.is (or_goes (boxed c.deref-in-Or.ensures c.in_ok-meaning-in-Or.ensures) c.truth-in-Or.ensures w.if-truth-2.false (boxed w.deref-else-truth-2.ensures w.in_ok-meaning-in-Or-2.ensures) w.truth-else-truth-2.ensures))
-  | operation-else-truth-2+in_ok-meaning-in-Or-2+in-Nodes-1 w ↦ rejoined g.R.Reader.tells w.reader-is w.result-is
-      (said c.in-Or.is (or_goes (boxed c.deref-in-Or.ensures c.in_ok-meaning-in-Or.ensures) c.truth-in-Or.ensures w.if-truth-2.false (boxed w.deref-else-truth-2.ensures w.in_ok-meaning-in-Or-2.ensures) w.truth-else-truth-2.ensures))
-  | operation-else-truth-2+in_ok-meaning-in-Or-2+in-Truth-1 w ↦ rejoined g.R.Reader.tells w.reader-is w.result-is
-      (said c.in-Or.is (or_goes (boxed c.deref-in-Or.ensures c.in_ok-meaning-in-Or.ensures) c.truth-in-Or.ensures w.if-truth-2.false (boxed w.deref-else-truth-2.ensures w.in_ok-meaning-in-Or-2.ensures) w.truth-else-truth-2.ensures))
+pub operation-returns-after-is_true-2 : goal.operation-returns-after-is_true-2
+operation-returns-after-is_true-2 g t c = elim c.if-is_true-2.branch [
+  | operation-then-is_true-2 w ↦ rejoined g.R.Reader.tells w.reader-is w.saved-is w.result-is
+      (said c.in-Or.is (or_ends (boxed c.deref-in-Or.ensures c.in_ok-meaning-in-Or.ensures) c.is_true-in-Or.ensures w.if-is_true-2.true))
+  | operation-else-is_true-2+in_ok-meaning-in-Or-2 w ↦ rejoined g.R.Reader.tells w.reader-is w.saved-is w.result-is
+      (said c.in-Or.is (or_goes (boxed c.deref-in-Or.ensures c.in_ok-meaning-in-Or.ensures) c.is_true-in-Or.ensures w.if-is_true-2.false (boxed w.deref-else-is_true-2.ensures w.in_ok-meaning-in-Or-2.ensures) w.is_true-else-is_true-2.ensures))
 ]
 
 pub operation-returns-in_err-left-in-OrBoth : goal.operation-returns-in_err-left-in-OrBoth
@@ -210,9 +207,9 @@ operation-returns-in_err-meaning-in-If g t c =
 pub operation-returns-after-holds : goal.operation-returns-after-holds
 operation-returns-after-holds g t c = elim c.if-holds.branch [
   | operation-then-holds w ↦
-      said c.in-If.is (if_then (boxed c.deref-in-If.ensures c.in_ok-meaning-in-If.ensures) c.truth-holds.ensures w.if-holds.true (boxed (ap (λ (b : Bor TExpr). b.now) w.meaning-is ∙ w.deref-then-holds.ensures) c.meaning-in-If-2.ensures))
+      said c.in-If.is (if_then (boxed c.deref-in-If.ensures c.in_ok-meaning-in-If.ensures) c.is_true-holds.ensures w.if-holds.true (boxed (ap (λ (b : Bor TExpr). b.now) w.meaning-is ∙ w.deref-then-holds.ensures) c.meaning-in-If-2.ensures))
   | operation-else-holds w ↦
-      said c.in-If.is (if_otherwise (boxed c.deref-in-If.ensures c.in_ok-meaning-in-If.ensures) c.truth-holds.ensures w.if-holds.false (boxed (ap (λ (b : Bor TExpr). b.now) w.meaning-is ∙ w.deref-else-holds.ensures) c.meaning-in-If-2.ensures))
+      said c.in-If.is (if_otherwise (boxed c.deref-in-If.ensures c.in_ok-meaning-in-If.ensures) c.is_true-holds.ensures w.if-holds.false (boxed (ap (λ (b : Bor TExpr). b.now) w.meaning-is ∙ w.deref-else-holds.ensures) c.meaning-in-If-2.ensures))
 ]
 
 pub meaning-returns-in-Variable : goal.meaning-returns-in-Variable
@@ -235,115 +232,9 @@ pub meaning-returns-in_ok-meaning-in-InstanceOf : goal.meaning-returns-in_ok-mea
 meaning-returns-in_ok-meaning-in-InstanceOf g t c =
     said c.in-InstanceOf.is (instance_goes (boxed c.deref-in-InstanceOf.ensures c.in_ok-meaning-in-InstanceOf.ensures) c.is_instance.ensures)
 
-pub meaning-returns-in_err-meaning-in-Quantified : goal.meaning-returns-in_err-meaning-in-Quantified
-meaning-returns-in_err-meaning-in-Quantified g t c =
-    thrown c.from_residual-in_err-meaning-in-Quantified.ensures (said c.in-Quantified.is (over_stops (boxed c.deref-in-Quantified.ensures c.in_err-meaning-in-Quantified.ensures)))
-
-pub at_all_elements-returns-in_err-holds : goal.at_all_elements-returns-in_err-holds
-at_all_elements-returns-in_err-holds g t c =
-    let p = program_of c.args.context.now.system.now in
-    let tells = g.R.Reader.tells in
-    let element = element_in c.args.context.now.system.now c.args.list in
-    let place = place_in c.args.context.now in
-    let e = expression_of c.args.condition.now in
-    let so_far = c.elements.invariant in
-    let within : c.elements.i < c.args.list.count = omega (arith, c.elements-test.true) in
-    thrown_over c.from_residual-in_err-holds.ensures
-    (each_stopped p (tells c.args.reader.now) (tells c.elements.reader) (tells c.at_element.new.reader) place e element (put c.args.all) c.args.all c.args.list.count c.elements.i c.elements.so_far c.in_err-holds.field-0.0 within so_far.1 so_far.2 (at_value c.get-element.ensures c.in_err-holds.ensures.reads))
-
-pub at_all_elements-elements-preserved : goal.at_all_elements-elements-preserved
-at_all_elements-elements-preserved g t c =
-    let p = program_of c.args.context.now.system.now in
-    let tells = g.R.Reader.tells in
-    let element = element_in c.args.context.now.system.now c.args.list in
-    let place = place_in c.args.context.now in
-    let e = expression_of c.args.condition.now in
-    let so_far = c.elements.invariant in
-    let within : c.elements.i < c.args.list.count = omega (arith, c.elements-test.true) in (
-      c.in_ok-holds.ensures.room,
-      grows_then so_far.1 c.in_ok-holds.ensures.reads.kept,
-      subst (λ b. Went (tells c.at_element.new.reader).has element (read_with p place e) (put c.args.all) c.args.all (c.elements.i + 1) b) (sym c.put_together-so_far.ensures)
-          (each_further p (tells c.args.reader.now) (tells c.elements.reader) (tells c.at_element.new.reader) place e element (put c.args.all) c.args.all c.args.list.count c.elements.i c.elements.so_far c.in_ok-holds.holds so_far.2 (at_value c.get-element.ensures c.in_ok-holds.ensures.reads)),
-      omega (arith, within),
-    )
-
-pub at_all_elements-returns : goal.at_all_elements-returns
-at_all_elements-returns g t c =
-    let p = program_of c.args.context.now.system.now in
-    let tells = g.R.Reader.tells in
-    let element = element_in c.args.context.now.system.now c.args.list in
-    let place = place_in c.args.context.now in
-    let e = expression_of c.args.condition.now in
-    let so_far = c.elements.invariant in
-    let all : c.elements.i ≡ c.args.list.count = omega (arith, c.elements-test.false, so_far.3) in
-    each_ended p (tells c.args.reader.now) (tells c.elements.reader) (tells c.elements.reader) place e element (put c.args.all) c.args.all c.args.list.count c.elements.i c.elements.so_far _ all so_far.1 so_far.2 refl
-
-pub first_element-returns-in_err-at_element : goal.first_element-returns-in_err-at_element
-first_element-returns-in_err-at_element g t c =
-    let p = program_of c.args.context.now.system.now in
-    let tells = g.R.Reader.tells in
-    let element = element_in c.args.context.now.system.now c.args.list in
-    let place = place_in c.args.context.now in
-    let e = expression_of c.args.condition.now in
-    let so_far = c.elements.invariant in
-    let within : c.elements.i < c.args.list.count = omega (arith, c.elements-test.true) in
-    thrown_over c.from_residual-in_err-at_element.ensures
-    (first_stopped p (tells c.args.reader.now) (tells c.elements.reader) (tells c.at_element.new.reader) place e element c.args.list.count c.elements.i c.in_err-at_element.field-0.0 within so_far.1 so_far.2 (at_value c.get-element.ensures c.in_err-at_element.ensures.reads))
-
-pub first_element-returns-then-branch : goal.first_element-returns-then-branch
-first_element-returns-then-branch g t c =
-    let p = program_of c.args.context.now.system.now in
-    let tells = g.R.Reader.tells in
-    let element = element_in c.args.context.now.system.now c.args.list in
-    let place = place_in c.args.context.now in
-    let e = expression_of c.args.condition.now in
-    let so_far = c.elements.invariant in
-    let within : c.elements.i < c.args.list.count = omega (arith, c.elements-test.true) in
-    let reads = subst (λ b. ReadsAt p (tells c.elements.reader) (tells c.at_element.new.reader) place (element c.elements.i) e (Ok b)) c.if-branch.true (at_value c.get-element.ensures c.in_ok-at_element.ensures.reads) in
-    first_found p (tells c.args.reader.now) (tells c.elements.reader) (tells c.at_element.new.reader) place e element c.args.list.count c.elements.i c.from.result within so_far.1 so_far.2 reads (c.from.ensures (texts_in c.args.context.now.system.now) ∙ c.get-element.ensures) (element_plain c.args.context.now.system.now c.args.list.origin c.elements.i)
-
-pub first_element-elements-preserved : goal.first_element-elements-preserved
-first_element-elements-preserved g t c =
-    let p = program_of c.args.context.now.system.now in
-    let tells = g.R.Reader.tells in
-    let element = element_in c.args.context.now.system.now c.args.list in
-    let place = place_in c.args.context.now in
-    let e = expression_of c.args.condition.now in
-    let so_far = c.elements.invariant in
-    let within : c.elements.i < c.args.list.count = omega (arith, c.elements-test.true) in
-    let reads = subst (λ b. ReadsAt p (tells c.elements.reader) (tells c.at_element.new.reader) place (element c.elements.i) e (Ok b)) c.if-branch.false (at_value c.get-element.ensures c.in_ok-at_element.ensures.reads) in (
-      c.in_ok-at_element.ensures.room,
-      grows_then so_far.1 c.in_ok-at_element.ensures.reads.kept,
-      first_further p (tells c.args.reader.now) (tells c.elements.reader) (tells c.at_element.new.reader) place e element c.args.list.count c.elements.i so_far.2 reads,
-      omega (arith, within),
-    )
-
-pub first_element-returns : goal.first_element-returns
-first_element-returns g t c =
-    let p = program_of c.args.context.now.system.now in
-    let tells = g.R.Reader.tells in
-    let element = element_in c.args.context.now.system.now c.args.list in
-    let place = place_in c.args.context.now in
-    let e = expression_of c.args.condition.now in
-    let so_far = c.elements.invariant in
-    let all : c.elements.i ≡ c.args.list.count = omega (arith, c.elements-test.false, so_far.3) in
-    first_ended p (tells c.args.reader.now) (tells c.elements.reader) (tells c.elements.reader) place e element c.args.list.count c.elements.i _ all so_far.1 so_far.2 refl
-
-pub meaning-returns-in_ok-meaning-in-Quantified : goal.meaning-returns-in_ok-meaning-in-Quantified
-meaning-returns-in_ok-meaning-in-Quantified g t c =
-    said c.in-Quantified.is (over_goes (boxed c.deref-in-Quantified.ensures c.in_ok-meaning-in-Quantified.ensures) c.of-list.ensures (boxed_over c.deref-in-Quantified-2.ensures c.over_elements.ensures))
-
-pub at_all_elements-elements-init : goal.at_all_elements-elements-init
-at_all_elements-elements-init g t c =
-    (c.in_ok-names.ensures, grows_self c.requires, nowhere, omega arith)
-
-pub first_element-elements-init : goal.first_element-elements-init
-first_element-elements-init g t c =
-    (c.in_ok-names.ensures, grows_self c.requires, none, omega arith)
-
 pub set_form-returns-in-Empty : goal.set_form-returns-in-Empty
 set_form-returns-in-Empty g t c =
-    said c.in-Empty.is (empty_goes c.requires.sound c.none.ensures)
+    said c.in-Empty.is (empty_goes c.requires.ready c.none.ensures)
 
 pub set_form-returns-in_err-left-in-Sets : goal.set_form-returns-in_err-left-in-Sets
 set_form-returns-in_err-left-in-Sets g t c =
@@ -355,7 +246,7 @@ set_form-returns-in_err-right-in-Sets g t c =
 
 pub set_form-returns-in_err-made-in-Sets : goal.set_form-returns-in_err-made-in-Sets
 set_form-returns-in_err-made-in-Sets g t c =
-    out_of_memory (grows_then c.in_ok-left-in-Sets.ensures.kept c.in_ok-right-in-Sets.ensures.kept) c.from_residual-in_err-made-in-Sets.ensures
+    out_of_memory (advances_then c.in_ok-left-in-Sets.ensures.kept c.in_ok-right-in-Sets.ensures.kept) c.from_residual-in_err-made-in-Sets.ensures
 
 pub set_form-returns-in_ok-made-in-Sets : goal.set_form-returns-in_ok-made-in-Sets
 set_form-returns-in_ok-made-in-Sets g t c =
@@ -393,107 +284,110 @@ pub set_form-returns-in_ok-set-in-Size : goal.set_form-returns-in_ok-set-in-Size
 set_form-returns-in_ok-set-in-Size g t c =
     said c.in-Size.is (size_goes (boxed c.deref-in-Size.ensures c.in_ok-set-in-Size.ensures) (c.size.ensures c.args.context.now.system.now c.in_ok-set-in-Size.ensures.is.coded) (search rules))
 
-pub over_form-returns-in_err-set-in-QuantifiedSet : goal.over_form-returns-in_err-set-in-QuantifiedSet
-over_form-returns-in_err-set-in-QuantifiedSet g t c =
-    thrown c.from_residual.ensures (said c.in-QuantifiedSet.is (over_set_stops (boxed c.deref.ensures c.in_err-set-in-QuantifiedSet.ensures)))
-
-pub over_form-returns-in_err-list-in-QuantifiedSet : goal.over_form-returns-in_err-list-in-QuantifiedSet
-over_form-returns-in_err-list-in-QuantifiedSet g t c =
-    out_of_memory c.in_ok-set-in-QuantifiedSet.ensures.kept c.from_residual-in_err-list-in-QuantifiedSet.ensures
-
-pub over_form-returns-in_ok-list-in-QuantifiedSet : goal.over_form-returns-in_ok-list-in-QuantifiedSet
-over_form-returns-in_ok-list-in-QuantifiedSet g t c =
-    said c.in-QuantifiedSet.is (over_set_goes (boxed c.deref.ensures c.in_ok-set-in-QuantifiedSet.ensures) c.in_ok-list-in-QuantifiedSet.ensures (boxed_over c.deref-in-QuantifiedSet.ensures c.over_elements.ensures))
-
-pub over_form-returns-in_err-meaning-in-Each : goal.over_form-returns-in_err-meaning-in-Each
-over_form-returns-in_err-meaning-in-Each g t c =
-    thrown c.from_residual-in_err-meaning-in-Each.ensures (said c.in-Each.is (each_stops (boxed c.deref-in-Each.ensures c.in_err-meaning-in-Each.ensures)))
-
-pub over_form-returns-in_ok-meaning-in-Each : goal.over_form-returns-in_ok-meaning-in-Each
-over_form-returns-in_ok-meaning-in-Each g t c =
-    said c.in-Each.is (each_goes (boxed c.deref-in-Each.ensures c.in_ok-meaning-in-Each.ensures) c.of-list.ensures (boxed_over c.deref-in-Each-2.ensures c.each.ensures))
-
-pub over_form-returns-in_err-set-in-EachOfSet : goal.over_form-returns-in_err-set-in-EachOfSet
-over_form-returns-in_err-set-in-EachOfSet g t c =
-    thrown c.from_residual-in_err-set-in-EachOfSet.ensures (said c.in-EachOfSet.is (each_of_set_stops (boxed c.deref-in-EachOfSet.ensures c.in_err-set-in-EachOfSet.ensures)))
-
-pub over_form-returns-in_err-list-in-EachOfSet : goal.over_form-returns-in_err-list-in-EachOfSet
-over_form-returns-in_err-list-in-EachOfSet g t c =
-    out_of_memory c.in_ok-set-in-EachOfSet.ensures.kept c.from_residual-in_err-list-in-EachOfSet.ensures
-
-pub over_form-returns-in_ok-list-in-EachOfSet : goal.over_form-returns-in_ok-list-in-EachOfSet
-over_form-returns-in_ok-list-in-EachOfSet g t c =
-    said c.in-EachOfSet.is (each_of_set_goes (boxed c.deref-in-EachOfSet.ensures c.in_ok-set-in-EachOfSet.ensures) c.in_ok-list-in-EachOfSet.ensures (boxed_over c.deref-in-EachOfSet-2.ensures c.each-in-EachOfSet.ensures))
-
-pub each-elements-init : goal.each-elements-init
-each-elements-init g t c =
+pub at_elements-returns-in_err-said-clause-over : goal.at_elements-returns-in_err-said-clause-over
+at_elements-returns-in_err-said-clause-over g t c =
     let system = c.args.context.now.system.now in
-    let p = program_of system in
-    let tells = g.R.Reader.tells in
-    let element = element_in system c.args.list in
-    let place = place_in c.args.context.now in
-    let e = expression_of c.args.body.now in
-    let empty = c.default_of-so_far.ensures.value (texts_in system) (first_text system) in (
-      c.in_ok-names.ensures,
-      grows_self c.requires,
-      subst (λ (v : Value). Joined (tells c.args.reader.now).has element (read_with p place e) c.args.kind 0 v) (sym empty) nothing,
-      c.default_of-so_far.ensures.elements p,
-      omega arith,
+    let now = c.elements.invariant in
+    let within : c.elements.stand.next < c.args.list.now.count = omega (arith, c.elements-test.true) in
+    handed (GoesOver system _ _ (place_in c.args.context.now) c.args.making (expression_of c.args.body.now) c.args.list.now _) c.from_residual.ensures
+    (stops_at c.in_err-said.field-0.0 _ c.elements.stand _ now.1 now.2 within refl refl c.get-element.ensures c.in_err-said.ensures.reads)
+
+pub at_elements-elements-preserved : goal.at_elements-elements-preserved
+at_elements-elements-preserved g t c =
+    let system = c.args.context.now.system.now in
+    let now = c.elements.invariant in
+    let within : c.elements.stand.next < c.args.list.now.count = omega (arith, c.elements-test.true) in
+    let said = c.in_ok-said.ensures.reads in
+    let taken = c.in_ok-take_in.ensures in (
+      subst (λ (v : Vec Single Global). Rooms c.args.context.now.names.now v.items) (sym taken.names) c.in_ok-said.ensures.room,
+      loses c.leave.new.self (advances_then now.1 said.kept) c.leave.ensures,
+      taken_in c.take_in.new.stand _ c.in_ok-said.said c.get-element.ensures (stands_more said.kept.values now.2) within said.is taken.next taken.so_far taken.coded,
     )
 
-pub each-returns-in_err-more : goal.each-returns-in_err-more
-each-returns-in_err-more g t c =
-    let system = c.args.context.now.system.now in
-    let p = program_of system in
-    let tells = g.R.Reader.tells in
-    let element = element_in system c.args.list in
-    let place = place_in c.args.context.now in
-    let e = expression_of c.args.body.now in
-    let so_far = c.elements.invariant in
-    let within : c.elements.i < c.args.list.count = omega (arith, c.elements-test.true) in
-    thrown_over c.from_residual-in_err-more.ensures
-    (join_stopped p (tells c.args.reader.now) (tells c.elements.reader) (tells c.with_element.new.reader) place e element c.args.kind c.args.list.count c.elements.i (value_of (texts_in system) c.elements.so_far) c.in_err-more.field-0.0 within so_far.1 so_far.2 (with_value c.get-element.ensures c.in_err-more.ensures.reads))
+pub over_form-returns-in_err-put-in-Ok : goal.over_form-returns-in_err-put-in-Ok
+over_form-returns-in_err-put-in-Ok g t c =
+    let stood = c.in_ok-list.ensures in
+    let over = c.in-Ok.ensures in
+    let ranged = ranged_more over.over.kept.values stood.is.ranged in
+    out_of_memory (puts c.put.new.self _ (advances_then stood.kept over.over.kept) c.put.ensures (going_is c.args.context.now c.args.form c.in_ok-list.list c.go_over.new.stand over.room ranged over.over.is.0)) c.from_residual-in_err-put-in-Ok.ensures
 
-pub each-returns-in_err-so_far : goal.each-returns-in_err-so_far
-each-returns-in_err-so_far g t c =
-    let system = c.args.context.now.system.now in
-    let p = program_of system in
-    let tells = g.R.Reader.tells in
-    let element = element_in system c.args.list in
-    let place = place_in c.args.context.now in
-    let e = expression_of c.args.body.now in
-    join_short p (tells c.args.reader.now) (tells c.elements.reader) (tells c.with_element.new.reader) place e element c.args.kind c.args.list.count c.from_residual-in_err-so_far.result (grows_then c.elements.invariant.1 c.in_ok-more.ensures.reads.kept) c.from_residual-in_err-so_far.ensures
+pub over_form-returns-in_err-put-in-Err-Need : goal.over_form-returns-in_err-put-in-Err-Need
+over_form-returns-in_err-put-in-Err-Need g t c =
+    let stood = c.in_ok-list.ensures in
+    let over = halted c.in-Err-Need.field-0-is c.in-Err-Need.ensures.over in
+    let ranged = ranged_more over.kept.values stood.is.ranged in
+    out_of_memory (puts c.put-in-Err-Need.new.self _ (advances_then stood.kept over.kept) c.put-in-Err-Need.ensures (going_is c.args.context.now c.args.form c.in_ok-list.list c.go_over.new.stand c.in-Err-Need.ensures.room ranged over.is.0)) c.from_residual-in_err-put-in-Err-Need.ensures
 
-pub each-elements-preserved : goal.each-elements-preserved
-each-elements-preserved g t c =
+pub over_form-returns-in_ok-put-in-Ok : goal.over_form-returns-in_ok-put-in-Ok
+over_form-returns-in_ok-put-in-Ok g t c =
     let system = c.args.context.now.system.now in
-    let p = program_of system in
-    let tells = g.R.Reader.tells in
-    let element = element_in system c.args.list in
-    let place = place_in c.args.context.now in
-    let e = expression_of c.args.body.now in
-    let so_far = c.elements.invariant in
-    let within : c.elements.i < c.args.list.count = omega (arith, c.elements-test.true) in
-    let here = join_further p (tells c.args.reader.now) (tells c.elements.reader) (tells c.with_element.new.reader) place e element c.args.kind c.args.list.count c.elements.i (value_of (texts_in system) c.elements.so_far) c.in_ok-more.more so_far.2 (with_value c.get-element.ensures c.in_ok-more.ensures.reads) in (
-      c.in_ok-more.ensures.room,
-      grows_then so_far.1 c.in_ok-more.ensures.reads.kept,
-      subst (λ (v : Value). Joined (tells c.with_element.new.reader).has element (read_with p place e) c.args.kind (c.elements.i + 1) v) (sym c.in_ok-so_far.ensures.value) here,
-      c.in_ok-so_far.ensures.coded,
-      omega (arith, within),
-    )
+    let stood = c.in_ok-list.ensures in
+    let over = c.in-Ok.ensures in
+    let ranged = ranged_more over.over.kept.values stood.is.ranged in
+    let kept = puts c.put.new.self _ (advances_then stood.kept over.over.kept) c.put.ensures (going_is c.args.context.now c.args.form c.in_ok-list.list c.go_over.new.stand over.room ranged over.over.is.0) in
+    over_ends system (place_in c.args.context.now) (expression_of c.args.form.now) c.requires.form c.in_ok-value-in-Ok.value kept ranged over.over.is.0 over.over.is.1 (c.in_ok-value-in-Ok.ensures.same (texts_in system)) (c.in_ok-value-in-Ok.ensures.elements (program_of system) over.over.is.0.coded)
 
-pub each-returns : goal.each-returns
-each-returns g t c =
+pub over_form-returns-in_ok-put-in-Err-Need : goal.over_form-returns-in_ok-put-in-Err-Need
+over_form-returns-in_ok-put-in-Err-Need g t c =
     let system = c.args.context.now.system.now in
-    let p = program_of system in
-    let tells = g.R.Reader.tells in
-    let element = element_in system c.args.list in
-    let place = place_in c.args.context.now in
-    let e = expression_of c.args.body.now in
-    let so_far = c.elements.invariant in
-    let all : c.elements.i ≡ c.args.list.count = omega (arith, c.elements-test.false, so_far.4) in
-    join_ended p (tells c.args.reader.now) (tells c.elements.reader) (tells c.elements.reader) place e element c.args.kind c.args.list.count c.elements.i c.elements.so_far all so_far.1 so_far.2 so_far.3
+    let stood = c.in_ok-list.ensures in
+    let over = halted c.in-Err-Need.field-0-is c.in-Err-Need.ensures.over in
+    let ranged = ranged_more over.kept.values stood.is.ranged in
+    let kept = puts c.put-in-Err-Need.new.self _ (advances_then stood.kept over.kept) c.put-in-Err-Need.ensures (going_is c.args.context.now c.args.form c.in_ok-list.list c.go_over.new.stand c.in-Err-Need.ensures.room ranged over.is.0) in
+    over_halts system (place_in c.args.context.now) (expression_of c.args.form.now) c.requires.form c.in-Err-Need.instance kept ranged over.is.0 over.is.1 over.is.2
 
-pub at_element-returns-clause-reads : goal.at_element-returns-clause-reads
-at_element-returns-clause-reads g t c =
-    truth_of c.in_ok-with_element.ensures.reads (c.truth.ensures (texts_in c.args.context.now.system.now))
+pub ranged-returns-in_err-receiver-in-Quantified : goal.ranged-returns-in_err-receiver-in-Quantified
+ranged-returns-in_err-receiver-in-Quantified g t c =
+    let f = expression_of c.args.form.now in
+    handed (ReadsRange c.args.context.now.system.now _ _ (place_in c.args.context.now) f) c.from_residual.ensures (said_range c.in-Quantified.is (range_stops c.args.context.now.system.now (place_in c.args.context.now) _ refl (boxed c.deref.ensures c.in_err-receiver-in-Quantified.ensures)))
+
+pub ranged-returns-in_err-receiver-in-Each : goal.ranged-returns-in_err-receiver-in-Each
+ranged-returns-in_err-receiver-in-Each g t c =
+    let f = expression_of c.args.form.now in
+    handed (ReadsRange c.args.context.now.system.now _ _ (place_in c.args.context.now) f) c.from_residual-in_err-receiver-in-Each.ensures (said_range c.in-Each.is (range_stops c.args.context.now.system.now (place_in c.args.context.now) _ refl (boxed c.deref-in-Each.ensures c.in_err-receiver-in-Each.ensures)))
+
+pub ranged-returns-in_err-set-in-QuantifiedSet : goal.ranged-returns-in_err-set-in-QuantifiedSet
+ranged-returns-in_err-set-in-QuantifiedSet g t c =
+    let f = expression_of c.args.form.now in
+    handed (ReadsRange c.args.context.now.system.now _ _ (place_in c.args.context.now) f) c.from_residual-in_err-set-in-QuantifiedSet.ensures (said_range c.in-QuantifiedSet.is (range_stops c.args.context.now.system.now (place_in c.args.context.now) _ refl (boxed c.deref-in-QuantifiedSet.ensures c.in_err-set-in-QuantifiedSet.ensures)))
+
+pub ranged-returns-in_err-set-in-EachOfSet : goal.ranged-returns-in_err-set-in-EachOfSet
+ranged-returns-in_err-set-in-EachOfSet g t c =
+    let f = expression_of c.args.form.now in
+    handed (ReadsRange c.args.context.now.system.now _ _ (place_in c.args.context.now) f) c.from_residual-in_err-set-in-EachOfSet.ensures (said_range c.in-EachOfSet.is (range_stops c.args.context.now.system.now (place_in c.args.context.now) _ refl (boxed c.deref-in-EachOfSet.ensures c.in_err-set-in-EachOfSet.ensures)))
+
+pub ranged-returns-in_ok-receiver-in-Quantified : goal.ranged-returns-in_ok-receiver-in-Quantified
+ranged-returns-in_ok-receiver-in-Quantified g t c =
+    said_range c.in-Quantified.is (range_goes c.args.context.now.system.now (place_in c.args.context.now) _ refl (boxed c.deref.ensures c.in_ok-receiver-in-Quantified.ensures) c.of.ensures)
+
+pub ranged-returns-in_ok-receiver-in-Each : goal.ranged-returns-in_ok-receiver-in-Each
+ranged-returns-in_ok-receiver-in-Each g t c =
+    said_range c.in-Each.is (range_goes c.args.context.now.system.now (place_in c.args.context.now) _ refl (boxed c.deref-in-Each.ensures c.in_ok-receiver-in-Each.ensures) c.of-in-Each.ensures)
+
+pub ranged-returns-in_ok-list-in-QuantifiedSet : goal.ranged-returns-in_ok-list-in-QuantifiedSet
+ranged-returns-in_ok-list-in-QuantifiedSet g t c =
+    said_range c.in-QuantifiedSet.is (range_goes c.args.context.now.system.now (place_in c.args.context.now) _ refl (boxed c.deref-in-QuantifiedSet.ensures c.in_ok-set-in-QuantifiedSet.ensures) c.in_ok-list-in-QuantifiedSet.ensures)
+
+pub ranged-returns-in_ok-list-in-EachOfSet : goal.ranged-returns-in_ok-list-in-EachOfSet
+ranged-returns-in_ok-list-in-EachOfSet g t c =
+    said_range c.in-EachOfSet.is (range_goes c.args.context.now.system.now (place_in c.args.context.now) _ refl (boxed c.deref-in-EachOfSet.ensures c.in_ok-set-in-EachOfSet.ensures) c.in_ok-list-in-EachOfSet.ensures)
+
+pub standing-returns-in-Some : goal.standing-returns-in-Some
+standing-returns-in-Some g t c =
+    record {
+      kept = loses c.take.new.self (advances_self c.requires.ready) c.in-Some.ensures.loses;
+      is = taken c.args.context.now (expression_of c.args.form.now) c.args.saved.now c.requires.ready.saved c.in-Some.ensures.taken;
+    }
+
+pub standing-returns : goal.standing-returns
+standing-returns g t c =
+    let system = c.args.context.now.system.now in
+    let range = c.in_ok-list.ensures in
+    record {
+      kept = advances_then (loses c.take.new.self (advances_self c.requires.ready) c.in_default.ensures.loses) range.kept;
+      is = record {
+        room = c.in_ok-with_room.ensures;
+        ranged = range.is;
+        stands = stands_begun _ refl (c.begun.ensures.value (texts_in system) (first_text system) ∙ ap begun c.making_of.ensures) (c.begun.ensures.coded (program_of system));
+      };
+    }

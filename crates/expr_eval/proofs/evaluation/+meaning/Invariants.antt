@@ -1,70 +1,51 @@
--- The calls go down the expression; how far a form over a list or a set has gone.
-use Rattle.std.proofs.Common.{◌+◌, ◌*◌, ◌≤◌}
+-- The calls go down the expression; how far a form over elements has gone.
+use Rattle.std.proofs.Common.{◌+◌, ◌-◌, ◌*◌}
 use Rattle.attr_rules.proofs.expression.TArgs.TheLaws.{the_size as arguments_size}
 use Rattle.attr_rules.proofs.expression.TExpr.TheLaws.{the_size}
 use Rattle.attr_rules.specs.Expression.{expression_of}
-use Rattle.equation_law.specs.Reading.{Grows}
 use Rattle.equation_law.specs.Systems.{program_of}
-use Rattle.expr_eval.specs.Elements.{Rooms, element_in, put, read_with}
-use Rattle.equation_law.specs.Codes.{AreElements, value_of}
-use Rattle.expr_eval.specs.Evaluating.{place_in, texts_in}
-use Rattle.expr_eval.specs.Going.{Joined, Passed, Went}
+use Rattle.expr_eval.specs.Elements.{Rooms}
+use Rattle.expr_eval.specs.Evaluating.{place_in}
+use Rattle.expr_eval.specs.Reads.{Advances, state}
+use Rattle.expr_eval.specs.Saved.{Stands}
 use Rattle.expr_eval.proofs.evaluation.+meaning.Given as goal
 
 abbrev pub decreases-meaning : goal.decreases-meaning
-decreases-meaning g a = 8 * the_size a.expression.now + 3
+decreases-meaning g a = 8 * the_size a.expression.now + 5
 
 abbrev pub decreases-given : goal.decreases-given
-decreases-given g a = 8 * arguments_size a.arguments.now + 3
+decreases-given g a = 8 * arguments_size a.arguments.now + 5
 
 abbrev pub decreases-operation : goal.decreases-operation
-decreases-operation g a = 8 * the_size a.expression.now + 2
+decreases-operation g a = 8 * the_size a.expression.now + 4
 
 abbrev pub decreases-set_form : goal.decreases-set_form
-decreases-set_form g a = 8 * the_size a.expression.now + 1
+decreases-set_form g a = 8 * the_size a.expression.now + 3
 
 abbrev pub decreases-over_form : goal.decreases-over_form
-decreases-over_form g a = 8 * the_size a.expression.now
+decreases-over_form g a = 8 * the_size a.form.now + 2
 
-abbrev pub decreases-over_elements : goal.decreases-over_elements
-decreases-over_elements g a = 8 * the_size a.condition.now + 7
+abbrev pub decreases-standing : goal.decreases-standing
+decreases-standing g a = 8 * the_size a.form.now + 1
 
-abbrev pub decreases-at_all_elements : goal.decreases-at_all_elements
-decreases-at_all_elements g a = 8 * the_size a.condition.now + 6
+abbrev pub decreases-go_over : goal.decreases-go_over
+decreases-go_over g a = 8 * the_size a.form.now + 1
 
-abbrev pub decreases-first_element : goal.decreases-first_element
-decreases-first_element g a = 8 * the_size a.condition.now + 6
+abbrev pub decreases-ranged : goal.decreases-ranged
+decreases-ranged g a = 8 * the_size a.form.now
 
-abbrev pub decreases-each : goal.decreases-each
-decreases-each g a = 8 * the_size a.body.now + 6
-
-abbrev pub decreases-at_element : goal.decreases-at_element
-decreases-at_element g a = 8 * the_size a.condition.now + 5
+abbrev pub decreases-at_elements : goal.decreases-at_elements
+decreases-at_elements g a = 8 * the_size a.body.now + 7
 
 abbrev pub decreases-with_element : goal.decreases-with_element
-decreases-with_element g a = 8 * the_size a.body.now + 4
+decreases-with_element g a = 8 * the_size a.body.now + 6
 
-abbrev pub invariant-at_all_elements-elements : goal.invariant-at_all_elements-elements
-invariant-at_all_elements-elements g l =
+abbrev pub invariant-at_elements-elements : goal.invariant-at_elements-elements
+invariant-at_elements-elements g l =
     let system = l.context.system.now in
-    Rooms l.context.names.now l.names.items
-    × Grows (program_of system) (g.R.Reader.tells l.initial.reader) (g.R.Reader.tells l.reader)
-    × Went (g.R.Reader.tells l.reader).has (element_in system l.list) (read_with (program_of system) (place_in l.context) (expression_of l.condition)) (put l.all) l.all l.i l.so_far
-    × (l.i ≤ l.list.count)
+    Rooms l.context.names.now l.stand.names.items
+    × Advances (program_of system) (state system (g.R.Reader.tells l.initial.reader) l.initial.saved) (state system (g.R.Reader.tells l.reader) l.saved)
+    × Stands system (g.R.Reader.tells l.reader).has (place_in l.context) l.making (expression_of l.body) l.list l.stand
 
-abbrev pub invariant-first_element-elements : goal.invariant-first_element-elements
-invariant-first_element-elements g l =
-    let system = l.context.system.now in
-    Rooms l.context.names.now l.names.items
-    × Grows (program_of system) (g.R.Reader.tells l.initial.reader) (g.R.Reader.tells l.reader)
-    × Passed (g.R.Reader.tells l.reader).has (element_in system l.list) (read_with (program_of system) (place_in l.context) (expression_of l.condition)) l.i
-    × (l.i ≤ l.list.count)
-
-abbrev pub invariant-each-elements : goal.invariant-each-elements
-invariant-each-elements g l =
-    let system = l.context.system.now in
-    Rooms l.context.names.now l.names.items
-    × Grows (program_of system) (g.R.Reader.tells l.initial.reader) (g.R.Reader.tells l.reader)
-    × Joined (g.R.Reader.tells l.reader).has (element_in system l.list) (read_with (program_of system) (place_in l.context) (expression_of l.body)) l.kind l.i (value_of (texts_in system) l.so_far)
-    × AreElements (program_of system) l.so_far
-    × (l.i ≤ l.list.count)
+abbrev pub decreases-at_elements-elements : goal.decreases-at_elements-elements
+decreases-at_elements-elements g l = l.list.count - l.stand.next

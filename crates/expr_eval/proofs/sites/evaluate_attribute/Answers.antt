@@ -7,7 +7,7 @@ use Rattle.expr_eval.proofs.Found.{attribute_evaluated, none_evaluated}
 use Rattle.expr_eval.proofs.sites.evaluate_attribute.Goals as goal
 
 pub returns-in-None : goal.returns-in-None
-returns-in-None g c = none_evaluated (program_of c.args.system.now) _ (instance_of (program_of c.args.system.now) (attribute_at c.args.attr c.args.node c.args.args)) _ c.requires.sound c.in-None.ensures.found refl
+returns-in-None g c = none_evaluated (program_of c.args.system.now) _ (instance_of (program_of c.args.system.now) (attribute_at c.args.attr c.args.node c.args.args)) _ c.requires.ready c.in-None.ensures.found refl
 
 pub returns-in_ok-turn-in-Some : goal.returns-in_ok-turn-in-Some
 returns-in_ok-turn-in-Some g c =

@@ -1,0 +1,95 @@
+-- What evaluations say that go on with what is saved.
+use Rattle.std.specs.Prelude.{◌≡◌, ◌<◌, ℕ, List, Result, Ok, Err}
+use Rattle.attr_rules.specs.declared.kinds.Kind.{Kind}
+use Rattle.attr_rules.specs.Expression.{Arguments, Expression}
+use Rattle.rag_io.specs.declared.Memory.{Memory as NoMemory}
+use Rattle.solutions.specs.Asking.{Demands}
+use Rattle.equation_law.specs.declared.coding.Args.{Args}
+use Rattle.equation_law.specs.declared.coding.Single.{Single as CodedSingle}
+use Rattle.equation_law.specs.declared.coding.Value.{Value as CodedValue}
+use Rattle.equation_law.specs.declared.system.System.{System}
+use Rattle.equation_law.specs.Meaning.{Place}
+use Rattle.equation_law.specs.Names.{Instance}
+use Rattle.equation_law.specs.Program.{Program}
+use Rattle.equation_law.specs.Reading.{IsSound, Told}
+use Rattle.equation_law.specs.Systems.{program_of}
+use Rattle.equation_law.specs.Values.{Value}
+use Rattle.expr_eval.specs.declared.accessors.Elements.{Elements}
+use Rattle.expr_eval.specs.declared.evaluation.Halt.{Halt}
+use Rattle.expr_eval.specs.declared.evaluation.Halt.TheVariants.{Need, Memory}
+use Rattle.expr_eval.specs.declared.saved.Making.{Making}
+use Rattle.expr_eval.specs.declared.saved.Saved.{Saved}
+use Rattle.expr_eval.specs.declared.saved.Stand.{Stand}
+use Rattle.expr_eval.specs.declared.sites.Turn.{Turn}
+use Rattle.expr_eval.specs.Elements.{Rooms, element_in, read_with}
+use Rattle.expr_eval.specs.Evaluating.{Answers, AnswersArguments, AnswersTurn, Stopped, read_at}
+use Rattle.expr_eval.specs.Saved.{AreSaved, IsRanged, IsTaken, Stands}
+
+-- what an evaluation goes by: what its reader tells, and what is saved
+pub record State (S : Type 0) : Type 1 where
+  pub system : System
+  pub told : Told S
+  pub saved : Saved
+
+abbrev pub state : {S : Type 0} → System → Told S → Saved → State S
+state s r x = record { system = s; told = r; saved = x }
+
+-- the reader is for the program and never has two values, and all that is saved is so by the values that it has
+pub record IsReady {S : Type 0} (p : Program) (r : State S) : Type 0 where
+  pub sound : IsSound p r.told
+  pub saved : AreSaved r.system r.told.has r.saved
+
+-- the reader keeps what it has and comes to have no other values than it might; all that is saved is so
+pub record Advances {S : Type 0} (p : Program) (r s : State S) : Type 0 where
+  pub sound : IsReady p s
+  pub values : (i : Instance) (v : Value) → r.told.has i v → s.told.has i v
+  pub bound : (i : Instance) (v : Value) → s.told.can i v → r.told.can i v
+  pub kept : (x : S) → r.told.keeps x → s.told.keeps x
+
+-- the answer to an expression, by what the reader has at the end
+pub record Reads {S : Type 0} (p : Program) (r s : State S) (place : Place) (e : Expression) (result : Result CodedValue Halt) : Type 0 where
+  pub kept : Advances p r s
+  pub is : Answers p s.told (read_at p place e) result
+
+-- the answer to the arguments of a call
+pub record ArgumentsRead {S : Type 0} (p : Program) (r s : State S) (place : Place) (ks : List Kind) (es : Arguments) (result : Result Args Halt) : Type 0 where
+  pub kept : Advances p r s
+  pub is : AnswersArguments p s.told place ks es result
+
+-- the elements of a form: where what they come from has a value, it has no other
+abbrev pub AnswersRange : {S : Type 0} → System → Told S → Place → Expression → Result Elements Halt → Type 0
+AnswersRange s t place e (Ok list) = IsRanged s t.has place e list
+AnswersRange s t place e (Err h) = Answers (program_of s) t (read_at (program_of s) place e) (Err h)
+
+pub record ReadsRange {S : Type 0} (s : System) (r t : State S) (place : Place) (e : Expression) (result : Result Elements Halt) : Type 0 where
+  pub kept : Advances (program_of s) r t
+  pub is : AnswersRange s t.told place e result
+
+-- the elements of a form, and where it stands; there is room for one name more
+pub record IsStood (s : System) (A : Instance → Value → Type 0) (place : Place) (names : List CodedSingle) (m : Making) (e b : Expression) (list : Elements) (stand : Stand) : Type 0 where
+  pub room : Rooms names stand.names.items
+  pub ranged : IsRanged s A place e list
+  pub stands : Stands s A place m b list stand
+
+abbrev pub AnswersStand : {S : Type 0} → System → Told S → Place → List CodedSingle → Making → Expression → Expression → Result (Elements × Stand) Halt → Type 0
+AnswersStand s t place names m e b (Ok (list, stand)) = IsStood s t.has place names m e b list stand
+AnswersStand s t place names m e b (Err h) = Answers (program_of s) t (read_at (program_of s) place e) (Err h)
+
+pub record ReadsStand {S : Type 0} (s : System) (r t : State S) (place : Place) (names : List CodedSingle) (m : Making) (e b : Expression) (result : Result (Elements × Stand) Halt) : Type 0 where
+  pub kept : Advances (program_of s) r t
+  pub is : AnswersStand s t.told place names m e b result
+
+-- a form went over the elements that were left: it stands behind all of them, or before one at which a demand has no value
+abbrev pub AnswersOver : {S : Type 0} → System → Told S → Place → Making → Expression → Elements → Stand → Result Unit Halt → Type 0
+AnswersOver s t place m b list stand (Ok u) = Stands s t.has place m b list stand × (stand.next ≡ list.count)
+AnswersOver s t place m b list stand (Err (Need i)) = Stands s t.has place m b list stand × (stand.next < list.count) × Stopped (program_of s) t (read_with (program_of s) place b (element_in s list stand.next)) i
+AnswersOver s t place m b list stand (Err Memory) = Unit {0}
+
+pub record GoesOver {S : Type 0} (s : System) (r t : State S) (place : Place) (m : Making) (b : Expression) (list : Elements) (stand : Stand) (result : Result Unit Halt) : Type 0 where
+  pub kept : Advances (program_of s) r t
+  pub is : AnswersOver s t.told place m b list stand result
+
+-- what a turn says of some demands that goes on with what is saved
+pub record Resumes {S : Type 0} (p : Program) (r s : State S) (c : Demands Instance Value) (result : Result Turn NoMemory) : Type 0 where
+  pub kept : Advances p r s
+  pub answer : AnswersTurn p s.told c result

@@ -1,0 +1,131 @@
+-- How far forms over elements have gone, which an evaluation that stops leaves behind.
+use Rattle.std.specs.Prelude.{◌≡◌, ◌≤◌, ◌+◌, ℕ, Bool, true, false, cond, List, []}
+use Rattle.std.specs.List.{Contains}
+use Rattle.attr_rules.specs.declared.kinds.Kind.{Kind}
+use Rattle.attr_rules.specs.declared.expression.Quantifier.TheVariants.{Any, All, First}
+use Rattle.attr_rules.specs.declared.expression.SetOperator.TheVariants.{Union}
+use Rattle.attr_rules.specs.Expression.{Expression, Quantified, QuantifiedSet, Each, EachOfSet, expression_of}
+use Rattle.solutions.specs.Asking.{Demands, Ends}
+use Rattle.equation_law.specs.declared.coding.Single.{Single as CodedSingle}
+use Rattle.equation_law.specs.declared.system.System.{System}
+use Rattle.equation_law.specs.Codes.{AreElements, value_of}
+use Rattle.equation_law.specs.Meaning.{Place, World, elements_at, over_elements, united}
+use Rattle.equation_law.specs.Names.{Instance, Null}
+use Rattle.equation_law.specs.Program.{Program}
+use Rattle.equation_law.specs.Reading.{IsSound, Told}
+use Rattle.equation_law.specs.Systems.{program_of}
+use Rattle.equation_law.specs.Values.{Node, Truth, Value, default_of, elements_of, node, set_operate, truth}
+use Rattle.expr_eval.specs.declared.accessors.Elements.{Elements}
+use Rattle.expr_eval.specs.declared.evaluation.Context.{Context}
+use Rattle.expr_eval.specs.declared.saved.Going.{Going}
+use Rattle.expr_eval.specs.declared.saved.Making.{Making}
+use Rattle.expr_eval.specs.declared.saved.Making.TheVariants.{Joins, Tests}
+use Rattle.expr_eval.specs.declared.saved.Saved.{Saved}
+use Rattle.expr_eval.specs.declared.saved.Stand.{Stand}
+use Rattle.expr_eval.specs.Elements.{Rooms, element_in, elements_in, put, read_with}
+use Rattle.expr_eval.specs.Evaluating.{place_kept, read_at, texts_in, world_in}
+use Rattle.expr_eval.specs.Going.{Joined, Sought, Went}
+
+-- what a form over elements makes of what is said at them
+abbrev pub making_of : Expression → Making
+making_of (Quantified q k e b) = Tests q
+making_of (QuantifiedSet q e b) = Tests q
+making_of (Each t k e b) = Joins t
+making_of (EachOfSet t e b) = Joins t
+making_of _ = Tests Any
+
+-- what is said at them
+abbrev pub body_of : Expression → Expression
+body_of (Quantified q k e b) = b
+body_of (QuantifiedSet q e b) = b
+body_of (Each t k e b) = b
+body_of (EachOfSet t e b) = b
+body_of e = e
+
+-- what its elements come from
+abbrev pub range_of : Expression → Expression
+range_of (Quantified q k e b) = e
+range_of (QuantifiedSet q e b) = e
+range_of (Each t k e b) = e
+range_of (EachOfSet t e b) = e
+range_of e = e
+
+-- its elements, by the value of that
+abbrev pub ranged : World → Expression → Value → List Value
+ranged W (Quantified q k e b) v = elements_at W k (node v)
+ranged W (QuantifiedSet q e b) v = elements_of v
+ranged W (Each t k e b) v = elements_at W k (node v)
+ranged W (EachOfSet t e b) v = elements_of v
+ranged W _ v = []
+
+-- what is demanded at the elements
+abbrev pub over : Making → List Value → (Value → Demands Instance Value) → Demands Instance Value
+over (Tests q) xs f = over_elements q xs f
+over (Joins t) xs f = united t (default_of t) xs f
+
+-- the value where there are no elements
+abbrev pub begun : Making → Value
+begun (Tests Any) = Truth false
+begun (Tests All) = Truth true
+begun (Tests First) = Node Null
+begun (Joins t) = default_of t
+
+-- the value behind an element, from the one before it and what is said there
+abbrev pub made : Making → Value → Value → Value → Value
+made (Tests Any) x v w = Truth (put false (truth v) (truth w))
+made (Tests All) x v w = Truth (put true (truth v) (truth w))
+made (Tests First) x v w = cond (truth w) x v
+made (Joins t) x v w = set_operate Union t v w
+
+-- how many of so many elements are done with behind the n-th: `first` has no need of those behind one at which the condition is true
+abbrev pub done : Making → ℕ → ℕ → Value → ℕ
+done (Tests First) count n w = cond (truth w) count (n + 1)
+done _ count n w = n + 1
+
+-- this is the value when so many of them were gone over
+abbrev pub HasGone : (Instance → Value → Type 0) → (ℕ → Value) → (Value → Demands Instance Value) → ℕ → Making → ℕ → Value → Type 0
+HasGone A element f count (Tests Any) n v = (b : Bool) × (v ≡ Truth b) × Went A element f (put false) false n b
+HasGone A element f count (Tests All) n v = (b : Bool) × (v ≡ Truth b) × Went A element f (put true) true n b
+HasGone A element f count (Tests First) n v = Sought A element f count n v
+HasGone A element f count (Joins t) n v = Joined A element f t n v
+
+-- a form that says b at these elements stands so
+pub record Stands (s : System) (A : Instance → Value → Type 0) (place : Place) (m : Making) (b : Expression) (list : Elements) (stand : Stand) : Type 0 where
+  pub gone : HasGone A (element_in s list) (read_with (program_of s) place b) list.count m stand.next (value_of (texts_in s) stand.so_far)
+  pub within : stand.next ≤ list.count
+  pub coded : AreElements (program_of s) stand.so_far
+
+-- these are the elements that a form goes over
+pub record IsRanged (s : System) (A : Instance → Value → Type 0) (place : Place) (e : Expression) (list : Elements) : Type 0 where
+  pub value : Value
+  pub demands : List Instance
+  pub ends : Ends A (read_at (program_of s) place (range_of e)) value demands
+  pub are : elements_in s list ≡ ranged (world_in s) e value
+
+-- a form has gone so far at a place; the first of the names that are kept stands in front of those of the place
+pub record IsGoing (s : System) (A : Instance → Value → Type 0) (g : Going) : Type 0 where
+  pub names : List CodedSingle
+  pub room : Rooms names g.stand.names.items
+  pub ranged : IsRanged s A (place_kept (texts_in s) g.this.0 names) (expression_of g.form.now) g.list
+  pub stands : Stands s A (place_kept (texts_in s) g.this.0 names) (making_of (expression_of g.form.now)) (body_of (expression_of g.form.now)) g.list g.stand
+
+-- all that is saved is so, by the values of an assignment
+abbrev pub AreSaved : System → (Instance → Value → Type 0) → Saved → Type 0
+AreSaved s A saved = (g : Going) → Contains saved.goings.items g → IsGoing s A g
+
+abbrev pub SavesNothing : Saved → Type 0
+SavesNothing saved = saved.goings.items ≡ []
+
+-- the form has gone so far at this node with these names
+pub record IsAt (c : Context) (e : Expression) (g : Going) : Type 0 where
+  pub this : g.this ≡ c.this
+  pub names : Rooms c.names.now g.stand.names.items
+  pub form : expression_of g.form.now ≡ e
+
+-- what was saved of a form in this context
+abbrev pub IsTaken : Context → Expression → Saved → Elements × Stand → Type 0
+IsTaken c e saved (list, stand) = (g : Going) × Contains saved.goings.items g × IsAt c e g × (g.list ≡ list) × (g.stand ≡ stand)
+
+-- all that is saved was saved before
+abbrev pub Loses : Saved → Saved → Type 0
+Loses old new = (g : Going) → Contains new.goings.items g → Contains old.goings.items g
