@@ -1,5 +1,6 @@
 -- What asking for an instance says, at each way out.
-use Rattle.std.proofs.Common.{◌≡◌, ℕ, inl, inr, false, List, Result, Ok, Err, refl, sym, subst, ◌∙◌, arith}
+use Rattle.std.proofs.Common.{◌≡◌, ℕ, inl, inr, true, false, ◌||◌, List, [], ◌∷◌, ◌++◌, map, Result, Ok, Err, refl, ap, sym, subst, ◌∙◌, arith}
+use Rattle.std.specs.List.{list_any}
 use Rattle.std.specs.Result.{IsErr, IsErrAnd}
 use Rattle.attr_rules.specs.declared.kinds.Kind.{Kind}
 use Rattle.attr_rules.specs.Rules.{is_single}
@@ -13,21 +14,25 @@ use Rattle.equation_law.specs.Loops.{HasLoop}
 use Rattle.equation_law.specs.Names.{Instance}
 use Rattle.equation_law.specs.Program.{Program}
 use Rattle.equation_law.specs.Values.{Value, as_kind}
+use Rattle.equation_law.specs.contracts.coding.InstancePartialEq.TheImpl as equality
+use Rattle.equation_law.proofs.Keys.{key_is}
 use Rattle.equation_law.proofs.QueryValues.{value_typed}
 use Rattle.memo_cells.specs.declared.view.Frame.{Frame}
 use Rattle.memo_cells.specs.declared.view.View.{View}
 use Rattle.memo_cells.specs.Naming.{LacksCell}
 use Rattle.memo_cells.specs.Standing.{Knows}
-use Rattle.memo_cells.specs.Views.{IsAtLeast}
+use Rattle.memo_cells.specs.Views.{Has, IsAtLeast}
 use Rattle.caller_pass.specs.declared.faults.AskFault.{AskFault}
 use Rattle.caller_pass.specs.declared.faults.AskFault.TheVariants.{CellsFull, Circular, Memory}
 use Rattle.caller_pass.specs.declared.waiting.Waiter.{Waiter}
-use Rattle.caller_pass.specs.Answering.{AnswersAsk, AnswersFault, AnswersSolve, Asks, ClaimsKeys, IsCircular, Solves}
+use Rattle.caller_pass.specs.Answering.{AnswersFault, AnswersNoted, AnswersSolve, Asks, AsksNoted, ClaimsKeys, EndsAtLoop, IsCircular, IsLoop, Solves, StopsAt}
 use Rattle.caller_pass.specs.Knowing.{IsKnownValue}
+use Rattle.caller_pass.specs.Noting.{MayNote}
 use Rattle.caller_pass.specs.Waiting.{AnswersWait}
 use Rattle.caller_pass.proofs.Claiming.{claims_same, claims_then}
 use Rattle.caller_pass.proofs.Closing.{unsettled_less}
-use Rattle.caller_pass.proofs.Lines.{loop_has}
+use Rattle.caller_pass.proofs.Listing.{map_both}
+use Rattle.caller_pass.proofs.Lines.{each_has, ends_has, ends_twice, has_map, same_last}
 
 -- full cells, handed on
 pub full_waits : (p : Program) (f : Frame) (v : View) (es : List (CodedInstance × Waiter)) (next : CodedInstance) (new : List (CodedInstance × Waiter)) (r : Result Waiter AskFault) → IsErr r × IsErrAnd r (λ e. e ≡ CellsFull) → LacksCell p f v (instance_of p next) → AnswersWait p f v es next new r
@@ -35,13 +40,13 @@ full_waits p f v es next new (Ok s) h full = let missing = h.0 in cc
 full_waits p f v es next new (Err e) h full = subst (λ x. AnswersWait p f v es next new (Err x)) (sym h.1) full
 
 -- a loop is answered only where there is one
-pub circular_loop : (X : Type 0) (p : Program) (f : Frame) (v : View) (i : Instance) (e : AskFault) → AnswersFault p f v i e → IsCircular {X = X} (Err e) → HasLoop p i
-circular_loop X p f v i (Circular on chain) a h = loop_has p i _ _ a
+pub circular_loop : (X : Type 0) (p : Program) (f : Frame) (v : View) (i : Instance) (e : AskFault) → StopsAt p f v i e → IsCircular {X = X} (Err e) → HasLoop p i
+circular_loop X p f v i (Circular on chain) a h = ends_has p i _ _ a
 circular_loop X p f v i CellsFull a h = absurd h
 circular_loop X p f v i Memory a h = absurd h
 
 -- a value of a type is read at it as it is
-typed_as : (p : Program) (k : Kind) (v : Value) → IsValue p k v → as_kind k v ≡ v
+pub typed_as : (p : Program) (k : Kind) (v : Value) → IsValue p k v → as_kind k v ≡ v
 typed_as p _ _ (truth b) = refl
 typed_as p _ _ (int z h) = refl
 typed_as p _ _ (text t h) = refl
@@ -49,11 +54,11 @@ typed_as p _ _ (node c r h) = refl
 typed_as p _ _ (texts s h) = refl
 typed_as p _ _ (nodes c s h) = refl
 
-known_has : (p : Program) (f : Frame) (v : View) (i : Instance) (x : CodedValue) → IsProgram p → IsInstance p i → IsKnownValue p v i x → AnswersAsk p f v i (Ok x)
+known_has : (p : Program) (f : Frame) (v : View) (i : Instance) (x : CodedValue) → IsProgram p → IsInstance p i → IsKnownValue p v i x → AnswersNoted p f v i (Ok x)
 known_has p f v i x good instance k = (subst (HasValue p i) (sym (k.coded ∙ typed_as p (kind_in p i) k.value (value_typed p good i instance k.value k.known.1))) k.known.1, k.known.0, k.elements)
 
 -- the answer that stood there
-pub asked_known : (p : Program) (f : Frame) (v w : View) (i : Instance) (x : CodedValue) (n : ℕ) → IsProgram p → IsInstance p i → IsKnownValue p w i x → w.claims ≡ v.claims → Asks p f v w i n n (Ok x)
+pub asked_known : (p : Program) (f : Frame) (v w : View) (i : Instance) (x : CodedValue) (n : ℕ) → IsProgram p → IsInstance p i → IsKnownValue p w i x → w.claims ≡ v.claims → AsksNoted p f v w i n n (Ok x)
 asked_known p f v w i x n good instance k claims = record {
   answer = known_has p f w i x good instance k;
   circular = λ h. absurd h;
@@ -63,9 +68,9 @@ asked_known p f v w i x n good instance k claims = record {
 }
 
 -- a set that couldn't be read
-pub asked_unread : (p : Program) (f : Frame) (v w : View) (i : Instance) (n : ℕ) (r : Result CodedValue AskFault) → IsErr r × IsErrAnd r (λ e. e ≡ Memory) → is_single (kind_in p i) ≡ false → w.claims ≡ v.claims → Asks p f v w i n n r
+pub asked_unread : (p : Program) (f : Frame) (v w : View) (i : Instance) (n : ℕ) (r : Result CodedValue AskFault) → IsErr r × IsErrAnd r (λ e. e ≡ Memory) → is_single (kind_in p i) ≡ false → w.claims ≡ v.claims → AsksNoted p f v w i n n r
 asked_unread p f v w i n (Ok x) h set claims = let missing = h.0 in cc
-asked_unread p f v w i n (Err e) h set claims = subst (λ (d : AskFault). Asks p f v w i n n (Err d)) (sym h.1)
+asked_unread p f v w i n (Err e) h set claims = subst (λ (d : AskFault). AsksNoted p f v w i n n (Err d)) (sym h.1)
     (record { answer = tt; circular = λ no. absurd no; claims = claims_same p i v w claims; known = λ _. (set, refl); cost = λ ok. cc })
 
 -- what was read before counts too
@@ -78,10 +83,10 @@ solves_before p f v u w i m n r kept quiet later h = record {
 
 module _ (p : Program) (f : Frame) (v u w : View) (i : Instance) (m n : ℕ) (unknown : ¬ Knows p v i) where
   -- a fault of settling it
-  pub asked_fault : (e : AskFault) (s : Result Unit AskFault) → s ≡ Err e → (r : Result CodedValue AskFault) → IsErr r × IsErrAnd r (λ x. x ≡ e) → Solves p f v w i m n s → Asks p f v w i m n r
+  pub asked_fault : (e : AskFault) (s : Result Unit AskFault) → s ≡ Err e → (r : Result CodedValue AskFault) → IsErr r × IsErrAnd r (λ x. x ≡ e) → Solves p f v w i m n s → AsksNoted p f v w i m n r
   asked_fault e s is (Ok x) h solved = let missing = h.0 in cc
   asked_fault e s is (Err d) h solved =
-      let answer = subst (λ (x : AskFault). AnswersFault p f w i x) (sym h.1) (subst (λ (y : Result Unit AskFault). AnswersSolve p f w i y) is solved.answer) in
+      let answer = subst (λ (x : AskFault). StopsAt p f w i x) (sym h.1) (subst (λ (y : Result Unit AskFault). AnswersSolve p f w i y) is solved.answer) in
       record { answer = answer; circular = circular_loop CodedValue p f w i d answer; claims = solved.claims; known = λ k. absurd (unknown k); cost = λ ok. cc }
 
   -- it is settled, and its value is read
@@ -89,7 +94,7 @@ module _ (p : Program) (f : Frame) (v u w : View) (i : Instance) (m n : ℕ) (un
     claims_all : ClaimsKeys p i v w
     claims_all = claims_then p i i v u w none solved.claims kept (claims_same p i u w quiet)
 
-    pub asked_value : (x : CodedValue) → IsProgram p → IsInstance p i → IsKnownValue p w i x → Asks p f v w i m n (Ok x)
+    pub asked_value : (x : CodedValue) → IsProgram p → IsInstance p i → IsKnownValue p w i x → AsksNoted p f v w i m n (Ok x)
     asked_value x good instance k = record {
       answer = known_has p f w i x good instance k;
       circular = λ h. absurd h;
@@ -98,7 +103,46 @@ module _ (p : Program) (f : Frame) (v u w : View) (i : Instance) (m n : ℕ) (un
       cost = λ ok. inr (let cost = solved.cost ok in let less = unsettled_less u w f.cells kept in omega (arith, cost, less));
     }
 
-    pub asked_memory : (r : Result CodedValue AskFault) → IsErr r × IsErrAnd r (λ e. e ≡ Memory) → Asks p f v w i m n r
+    pub asked_memory : (r : Result CodedValue AskFault) → IsErr r × IsErrAnd r (λ e. e ≡ Memory) → AsksNoted p f v w i m n r
     asked_memory (Ok x) h = let missing = h.0 in cc
-    asked_memory (Err e) h = subst (λ (d : AskFault). Asks p f v w i m n (Err d)) (sym h.1)
+    asked_memory (Err e) h = subst (λ (d : AskFault). AsksNoted p f v w i m n (Err d)) (sym h.1)
         (record { answer = tt; circular = λ no. absurd no; claims = claims_all; known = λ k. absurd (unknown k); cost = λ ok. cc })
+
+-- ---- what is asked without notes
+
+-- a chain that is whole, or a fault in its place
+module _ (p : Program) (f : Frame) (v w : View) (i : Instance) (m n : ℕ) where
+  pub asks_whole : (on : CodedInstance) (chain : List CodedInstance) (e : AskFault) → AsksNoted p f v w i m n (Err (Circular on chain)) → AnswersFault p f w i e → Asks p f v w i m n (Err e)
+  asks_whole on chain e h a = record { answer = a; circular = λ _. h.circular tt; claims = h.claims; known = λ k. absurd (h.known k).0; cost = λ ok. cc }
+
+  pub asks_value : (x : CodedValue) → AsksNoted p f v w i m n (Ok x) → Asks p f v w i m n (Ok x)
+  asks_value x h = record { answer = h.answer; circular = h.circular; claims = h.claims; known = h.known; cost = h.cost }
+
+  pub asks_full : AsksNoted p f v w i m n (Err CellsFull) → Asks p f v w i m n (Err CellsFull)
+  asks_full h = record { answer = h.answer; circular = h.circular; claims = h.claims; known = h.known; cost = h.cost }
+
+  pub asks_memory : AsksNoted p f v w i m n (Err Memory) → Asks p f v w i m n (Err Memory)
+  asks_memory h = record { answer = h.answer; circular = h.circular; claims = h.claims; known = h.known; cost = h.cost }
+
+  -- what the loop of an answer says of the instances in its chain
+  pub may_note : (r : Result CodedValue AskFault) → AsksNoted p f v w i m n r → MayNote p r
+  may_note (Ok x) h = tt
+  may_note (Err (Circular on chain)) h = λ j there. each_has p i (instance_of p on) (map (instance_of p) chain) h.answer (instance_of p j) (has_map (instance_of p) chain j there)
+  may_note (Err CellsFull) h = tt
+  may_note (Err Memory) h = tt
+
+-- a chain whose end stands in it before is a loop
+pub round_loop : (p : Program) (i : Instance) (on : CodedInstance) (chain : List CodedInstance) → EndsAtLoop p i (instance_of p on) (map (instance_of p) chain) → (front : List CodedInstance) × Has front on × ((last : CodedInstance) × (chain ≡ front ++ last ∷ [])) → IsLoop p i (instance_of p on) (map (instance_of p) chain)
+round_loop p i on chain l (front, there, (last, is)) =
+    let parts = ap (map (instance_of p)) is ∙ map_both (instance_of p) front (last ∷ []) in
+    let same : instance_of p last ≡ instance_of p on = same_last (map (instance_of p) front) l.front (instance_of p last) (instance_of p on) (sym parts ∙ l.ends) in
+    ends_twice p i (instance_of p on) (map (instance_of p) chain) (map (instance_of p) front) l (parts ∙ ap (λ (j : Instance). map (instance_of p) front ++ j ∷ []) same) (has_map (instance_of p) front on there)
+
+-- what is found among the instances of a list stands in it
+pub any_has : (xs : List CodedInstance) (x : CodedInstance) → list_any (λ y. equality.ghosts.eq y x) xs ≡ true → Has xs x
+any_has [] x e = cc
+any_has (y ∷ xs) x e =
+    elim (equality.ghosts.eq y x) as (λ b. equality.ghosts.eq y x ≡ b → (b || list_any (λ z. equality.ghosts.eq z x) xs) ≡ true → Has (y ∷ xs) x) [
+      | true ↦ λ same _. inl (sym (key_is y x same))
+      | false ↦ λ _ later. inr (any_has xs x later)
+    ] refl e

@@ -18,7 +18,7 @@ use Rattle.circular_eval.specs.declared.advancing.CircFault.TheVariants as set_f
 use Rattle.circular_eval.specs.declared.local.Local.{Local}
 use Rattle.circular_eval.specs.Advancing.{AnswersFault as AnswersCircular, IsMissing}
 use Rattle.caller_pass.specs.declared.faults.AskFault.{AskFault}
-use Rattle.caller_pass.specs.Answering.{AnswersFault, ClaimsKeys, ClosesMore, IsSameFault, Solves, SolvesFor, unsettled}
+use Rattle.caller_pass.specs.Answering.{StopsAt, ClaimsKeys, ClosesMore, IsSameFault, Solves, SolvesFor, unsettled}
 use Rattle.caller_pass.proofs.Claiming.{claims_same, claims_then, fills_from}
 use Rattle.caller_pass.proofs.Falling.{by_value, left_falls, left_less, left_unsettled, not_taken, taken, taken_by}
 use Rattle.caller_pass.proofs.Knowing.{known_cell, settled_known}
@@ -47,9 +47,9 @@ unsettled_falls p f same v w own then kept i unknown k =
     omega (arith, falls, before, now)
 
 -- the fault of a local set
-pub same_fault : (p : Program) (f : Frame) (v : View) (i : Instance) (from : CircFault) (e : AskFault) → IsSameFault from e → AnswersCircular p i f v from → AnswersFault p f v i e
-same_fault p f v i set_fault.CellsFull e is a = subst (λ (x : AskFault). AnswersFault p f v i x) (sym is) (fills_from p i f v a)
-same_fault p f v i set_fault.Memory e is a = subst (λ (x : AskFault). AnswersFault p f v i x) (sym is) tt
+pub same_fault : (p : Program) (f : Frame) (v : View) (i : Instance) (from : CircFault) (e : AskFault) → IsSameFault from e → AnswersCircular p i f v from → StopsAt p f v i e
+same_fault p f v i set_fault.CellsFull e is a = subst (λ (x : AskFault). StopsAt p f v i x) (sym is) (fills_from p i f v a)
+same_fault p f v i set_fault.Memory e is a = subst (λ (x : AskFault). StopsAt p f v i x) (sym is) tt
 
 module _ (p : Program) (f : Frame) (same : p ≡ program_of f.system.value) (v w : View) (own : IsPassOf f v) (then : IsPassOf f w) (kept : IsAtLeast v w) (i : Instance) (unknown : ¬ Knows p v i) (claims : ClaimsKeys p i v w) (before after : ℕ) (evals : after ≡ before + 1) where
   -- it is sealed
@@ -62,7 +62,7 @@ module _ (p : Program) (f : Frame) (same : p ≡ program_of f.system.value) (v w
   pub closes_fault : (e : CircFault) (r : Result Unit AskFault) → IsErr r × IsErrAnd r (λ x. IsSameFault e x) → AnswersCircular p i f w e → ClosesMore p f v w i before after r
   closes_fault e (Ok x) h a = let none = h.0 in cc
   closes_fault e (Err d) h a = record {
-    fault = λ x is. let same_one : d ≡ x = cc in subst (λ (y : AskFault). AnswersFault p f w i y) same_one (same_fault p f w i e d h.1 a);
+    fault = λ x is. let same_one : d ≡ x = cc in subst (λ (y : AskFault). StopsAt p f w i y) same_one (same_fault p f w i e d h.1 a);
     claims = claims;
     cost = λ ok. cc;
     known = λ ok k. cc;
@@ -72,7 +72,7 @@ module _ (p : Program) (f : Frame) (same : p ≡ program_of f.system.value) (v w
   -- what was needed is settled, or wasn't
   pub closes_for : (u : View) → IsPassOf f u → IsAtLeast w u → (l : Local) → instance_of p l.start ≡ i → (n : CodedInstance) → IsMissing p w l n → (now : ℕ) (r : Result Unit AskFault) → SolvesFor p f w u l (instance_of p n) after now r → ClosesMore p f v u i before now r
   closes_for u own_u later l start n missing now r h = record {
-    fault = λ e is. subst (λ (j : Instance). AnswersFault p f u j e) start (h.fault e is);
+    fault = λ e is. subst (λ (j : Instance). StopsAt p f u j e) start (h.fault e is);
     claims = claims_then p i (instance_of p n) v w u (subst (λ (j : Instance). Chain p j (instance_of p n)) start missing.reached) claims later h.claims;
     cost = λ ok.
         let cost = h.cost ok in

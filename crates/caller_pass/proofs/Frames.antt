@@ -10,7 +10,12 @@ use Rattle.memo_cells.specs.declared.view.View.{View}
 use Rattle.memo_cells.specs.Naming.{IsCellOf}
 use Rattle.memo_cells.specs.Standing.{Knows}
 use Rattle.memo_cells.specs.Views.{Has, IsAtLeast}
-use Rattle.memo_cells.proofs.Naming.{cell_later}
+use Rattle.expr_eval.specs.declared.saved.Saved.{Saved}
+use Rattle.expr_eval.specs.Saved.{AreSaved}
+use Rattle.expr_eval.proofs.Growing.{saved_more}
+use Rattle.memo_cells.specs.Working.{IsKnown}
+use Rattle.equation_law.specs.declared.system.System.{System}
+use Rattle.memo_cells.proofs.Naming.{cell_later, knows_later}
 use Rattle.circular_eval.specs.declared.local.Local.{Local}
 use Rattle.circular_eval.proofs.Later.{local_later}
 use Rattle.caller_pass.specs.declared.waiting.Waiter.{Waiter}
@@ -20,9 +25,13 @@ use Rattle.caller_pass.proofs.Knowing.{found_knows}
 use Rattle.memo_cells.proofs.Bits.{has_left}
 use Rattle.caller_pass.proofs.Lines.{has_last, has_snoc}
 
+-- what is saved stays so where more is known
+pub saved_known : (p : Program) (v w : View) → IsAtLeast v w → (s : System) (x : Saved) → AreSaved s (IsKnown p v) x → AreSaved s (IsKnown p w) x
+saved_known p v w kept s x h = saved_more (λ i c k. (knows_later v w kept p i k.0, k.1)) x h
+
 module _ (p : Program) (f : Frame) (v w : View) (kept : IsAtLeast v w) where
   pub placed_later : (e : CodedInstance × Waiter) → IsPlaced p f v e → IsPlaced p f w e
-  placed_later e h = record { instance = h.instance; coded = h.coded; undeclared = h.undeclared; slot = cell_later v w kept p f (instance_of p e.0) e.1.slot.0 h.slot }
+  placed_later e h = record { instance = h.instance; coded = h.coded; undeclared = h.undeclared; slot = cell_later v w kept p f (instance_of p e.0) e.1.slot.0 h.slot; saved = saved_known p v w kept f.system.value e.1.saved h.saved }
 
   pub waits_later : (i : Instance) (way : Option Local) (n : Instance) → WaitsBy p f v i way n → WaitsBy p f w i way n
   waits_later i None n h = h
@@ -59,14 +68,14 @@ last_starts [] t x y first rest e = let same : (t, x) ≡ first = cc in ((t, y),
 last_starts (z ∷ es) t x y first rest e = let same : z ≡ first = cc in (z, es ++ (t, y) ∷ [], refl, ap (λ z. z.0) same)
 
 module _ (p : Program) (f : Frame) (v w : View) (kept : IsAtLeast v w) (i : Instance) (es : List (CodedInstance × Waiter)) (t : CodedInstance) (x : Waiter) (stack : IsStack p f v i es (t, x)) where
-  placed_now : (y : Waiter) → y.slot ≡ x.slot → IsPlaced p f w (t, y)
-  placed_now y same =
+  placed_now : (y : Waiter) → y.slot ≡ x.slot → AreSaved f.system.value (IsKnown p w) y.saved → IsPlaced p f w (t, y)
+  placed_now y same saved =
       let h = placed_later p f v w kept (t, x) stack.frame.placed in
-      record { instance = h.instance; coded = h.coded; undeclared = h.undeclared; slot = subst (λ (s : Slot). IsCellOf p f w (instance_of p t) s.0) (sym same) h.slot }
+      record { instance = h.instance; coded = h.coded; undeclared = h.undeclared; slot = subst (λ (s : Slot). IsCellOf p f w (instance_of p t) s.0) (sym same) h.slot; saved = saved }
 
   -- it goes on in another state
-  pub stack_on : (y : Waiter) → y.slot ≡ x.slot → IsWayOf p f w (instance_of p t) y.way → IsStack p f w i es (t, y)
-  stack_on y same way =
+  pub stack_on : (y : Waiter) → y.slot ≡ x.slot → AreSaved f.system.value (IsKnown p w) y.saved → IsWayOf p f w (instance_of p t) y.way → IsStack p f w i es (t, y)
+  stack_on y same saved way =
       let begun = last_starts es t x y stack.first stack.rest stack.starts in
       record {
         first = begun.0;
@@ -75,13 +84,13 @@ module _ (p : Program) (f : Frame) (v w : View) (kept : IsAtLeast v w) (i : Inst
         is = ap (instance_of p) begun.3 ∙ stack.is;
         placed = λ e h. placed_later p f v w kept e (stack.placed e h);
         waiting = waiting_later p f v w kept es (instance_of p t) stack.waiting;
-        frame = record { placed = placed_now y same; way = way };
+        frame = record { placed = placed_now y same saved; way = way };
         other = stack.other;
       }
 
   -- it waits, and another one is on top
-  pub stack_more : (u : View) → IsAtLeast w u → (y : Waiter) → y.slot ≡ x.slot → (next : CodedInstance) (z : Waiter) → WaitsBy p f w (instance_of p t) y.way (instance_of p next) → IsFrame p f u (next, z) → waits (es ++ (t, y) ∷ []) next ≡ false → IsStack p f u i (es ++ (t, y) ∷ []) (next, z)
-  stack_more u later y same next z w' frame other =
+  pub stack_more : (u : View) → IsAtLeast w u → (y : Waiter) → y.slot ≡ x.slot → AreSaved f.system.value (IsKnown p w) y.saved → (next : CodedInstance) (z : Waiter) → WaitsBy p f w (instance_of p t) y.way (instance_of p next) → IsFrame p f u (next, z) → waits (es ++ (t, y) ∷ []) next ≡ false → IsStack p f u i (es ++ (t, y) ∷ []) (next, z)
+  stack_more u later y same saved next z w' frame other =
       let begun = last_starts es t x y stack.first stack.rest stack.starts in
       let more = snoc_starts es (t, y) begun.0 begun.1 (next, z) begun.2 in
       record {
@@ -89,7 +98,7 @@ module _ (p : Program) (f : Frame) (v w : View) (kept : IsAtLeast v w) (i : Inst
         rest = more.0;
         starts = more.1;
         is = ap (instance_of p) begun.3 ∙ stack.is;
-        placed = λ e h. placed_later p f w u later e (⊎_elim (λ before. placed_later p f v w kept e (stack.placed e before)) (λ now. subst (λ (d : CodedInstance × Waiter). IsPlaced p f w d) (sym now) (placed_now y same)) (has_snoc es (t, y) e h));
+        placed = λ e h. placed_later p f w u later e (⊎_elim (λ before. placed_later p f v w kept e (stack.placed e before)) (λ now. subst (λ (d : CodedInstance × Waiter). IsPlaced p f w d) (sym now) (placed_now y same saved)) (has_snoc es (t, y) e h));
         waiting = waiting_later p f w u later (es ++ (t, y) ∷ []) (instance_of p next) (waiting_more p f w es (t, y) (instance_of p next) (waiting_later p f v w kept es (instance_of p t) stack.waiting) w');
         frame = frame;
         other = other;
@@ -111,7 +120,7 @@ module _ (p : Program) (f : Frame) (v w : View) (kept : IsAtLeast v w) (i : Inst
         placed = λ e h. placed_later p f v w kept e (stack.placed e (subst (λ l. Has l e) (sym is) (has_left ds (last ∷ []) e h)));
         waiting = front.0;
         frame = record {
-          placed = record { instance = its.instance; coded = its.coded; undeclared = its.undeclared; slot = subst (λ (s : Slot). IsCellOf p f w (instance_of p last.0) s.0) (sym looks.slot) its.slot };
+          placed = record { instance = its.instance; coded = its.coded; undeclared = its.undeclared; slot = subst (λ (s : Slot). IsCellOf p f w (instance_of p last.0) s.0) (sym looks.slot) its.slot; saved = subst (λ (o : Saved). AreSaved f.system.value (IsKnown p w) o) (sym looks.saved) its.saved };
           way = way_on last.1.way y.way looks.way front.1;
         };
         other = other;
@@ -136,9 +145,10 @@ stack_one p f v i x placed none = record {
 }
 
 -- a local set whose start is seen sealed isn't waited for any more
-pub looked_known : (p : Program) (f : Frame) (w u : View) → u ≡ w → (x : Waiter) (l : Local) → x.way ≡ Some l → (i : CodedInstance) → i ≡ l.start → (r : Option (Slot × ℕ)) → is_some r ≡ true → (IsCoded p i → FindsCode p f w (instance_of p i) r) → LooksAgain p u x (record { slot = x.slot; way = None })
+pub looked_known : (p : Program) (f : Frame) (w u : View) → u ≡ w → (x : Waiter) (l : Local) → x.way ≡ Some l → (i : CodedInstance) → i ≡ l.start → (r : Option (Slot × ℕ)) → is_some r ≡ true → (IsCoded p i → FindsCode p f w (instance_of p i) r) → LooksAgain p u x (record { slot = x.slot; way = None; saved = x.saved })
 looked_known p f w u is x l way i start r there finds = record {
   slot = refl;
+  saved = refl;
   way = subst (λ (o : Option Local). WayStays p u o None) (sym way) (λ coded. subst (λ (v : View). Knows p v (instance_of p l.start)) (sym is) (subst (λ (j : CodedInstance). IsCoded p j → Knows p w (instance_of p j)) start (λ good. known r there (finds good)) coded));
 }
   where

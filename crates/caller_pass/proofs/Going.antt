@@ -17,7 +17,9 @@ use Rattle.memo_cells.specs.declared.view.View.{View}
 use Rattle.memo_cells.specs.Naming.{ClaimsKeysTo, IsCellOf}
 use Rattle.memo_cells.specs.Standing.{IsPassOf, Knows}
 use Rattle.memo_cells.specs.Views.{Has, IsAtLeast}
-use Rattle.memo_cells.specs.Working.{Held, program_at}
+use Rattle.expr_eval.specs.Saved.{AreSaved, SavesNothing}
+use Rattle.expr_eval.proofs.Found.{none_saved}
+use Rattle.memo_cells.specs.Working.{Held, IsKnown, program_at}
 use Rattle.memo_cells.proofs.More.{at_least_then}
 use Rattle.memo_cells.proofs.Naming.{knows_later}
 use Rattle.circular_eval.specs.declared.local.Local.{Local}
@@ -25,13 +27,13 @@ use Rattle.caller_pass.specs.declared.faults.AskFault.{AskFault}
 use Rattle.caller_pass.specs.declared.faults.AskFault.TheVariants.{CellsFull, Circular, Memory}
 use Rattle.caller_pass.specs.declared.solving.Went.{Went}
 use Rattle.caller_pass.specs.declared.waiting.Waiter.{Waiter}
-use Rattle.caller_pass.specs.Answering.{AnswersFault, AnswersStep, ClaimsKeys, GoesThrough, IsLoop, IsNext, LeavesOne, SameWay, Solves, WayChanges, unsettled}
+use Rattle.caller_pass.specs.Answering.{AnswersStep, ClaimsKeys, EndsAtLoop, GoesThrough, IsNext, LeavesOne, SameWay, Solves, StopsAt, WayChanges, unsettled}
 use Rattle.caller_pass.specs.Waiting.{AnswersWait, AreWaiting, IsLineTo, IsPlaced, IsStack, IsWayOf, LooksAgain, waits}
 use Rattle.caller_pass.proofs.Claiming.{claims_same, claims_then, claims_to, fills_more, fills_to}
 use Rattle.caller_pass.proofs.Falling.{measure}
 use Rattle.caller_pass.proofs.Frames.{stack_fewer, stack_more, stack_on, stack_one, waiting_later, waiting_more}
 use Rattle.caller_pass.proofs.Knowing.{has_value}
-use Rattle.caller_pass.proofs.Lines.{chain_then, loop_of, waits_chain}
+use Rattle.caller_pass.proofs.Lines.{chain_then, met_loop, waits_chain}
 use Rattle.caller_pass.proofs.Paid.{pays_all, pays_back, pays_first, pays_further, pays_more, top_reached}
 use Rattle.caller_pass.proofs.Paying.{AreApart, Pays}
 use Rattle.caller_pass.proofs.Turning.{falls_back, falls_further, falls_more}
@@ -58,6 +60,7 @@ pub record WentThrough (p : Program) (f : Frame) (w u : View) (t : CodedInstance
   pub kept : IsAtLeast w u
   pub claims : ClaimsKeys p (instance_of p t) w u
   pub slot : y.slot ≡ x.slot
+  pub saved : AreSaved f.system.value (IsKnown p u) y.saved
   pub answer : AnswersStep p f u (instance_of p t) x.way y.way r
   pub evals : after ≡ before + 1
 
@@ -69,28 +72,29 @@ through d e f t x y before after r is h =
       kept = g.on.kept;
       claims = g.claims;
       slot = g.slot;
+      saved = g.saved;
       answer = g.answer;
       evals = g.evals;
     }
 
 -- a fault that is handed on
-pub solve_fault : (p : Program) (f : Frame) (v w : View) (i : Instance) (before after : ℕ) (e : AskFault) (r : Result Unit AskFault) → IsErr r × IsErrAnd r (λ x. x ≡ e) → ClaimsKeys p i v w → AnswersFault p f w i e → Solves p f v w i before after r
+pub solve_fault : (p : Program) (f : Frame) (v w : View) (i : Instance) (before after : ℕ) (e : AskFault) (r : Result Unit AskFault) → IsErr r × IsErrAnd r (λ x. x ≡ e) → ClaimsKeys p i v w → StopsAt p f w i e → Solves p f v w i before after r
 solve_fault p f v w i before after e (Ok x) h claims a = let none = h.0 in cc
-solve_fault p f v w i before after e (Err d) h claims a = record { answer = subst (λ (y : AskFault). AnswersFault p f w i y) (sym h.1) a; claims = claims; cost = λ ok. cc }
+solve_fault p f v w i before after e (Err d) h claims a = record { answer = subst (λ (y : AskFault). StopsAt p f w i y) (sym h.1) a; claims = claims; cost = λ ok. cc }
 
--- a loop by the line to what stands in it already
-waited_loop : (p : Program) (f g : Frame) (v u : View) (i : Instance) (es : List (CodedInstance × Waiter)) (t : CodedInstance) (x y : Waiter) (on : CodedInstance) (line : List Instance) → IsStack p f v i es (t, x) → AreWaiting p g u (es ++ (t, y) ∷ []) (instance_of p on) → ((g : Frame) (u : View) → AreWaiting p g u (es ++ (t, y) ∷ []) (instance_of p on) → IsLineTo p (es ++ (t, y) ∷ []) (instance_of p on) line) → waits (es ++ (t, y) ∷ []) on ≡ true → (equations_of p).circular (instance_of p on) ≡ false → IsLoop p i (instance_of p on) line
-waited_loop p f g v u i [] t x y on line stack waiting lines there plain =
+-- the line to what stands in it already, or is known to have a loop
+waited_loop : (p : Program) (f g : Frame) (v u : View) (i : Instance) (es : List (CodedInstance × Waiter)) (t : CodedInstance) (x y : Waiter) (on : CodedInstance) (line : List Instance) → IsStack p f v i es (t, x) → AreWaiting p g u (es ++ (t, y) ∷ []) (instance_of p on) → ((g : Frame) (u : View) → AreWaiting p g u (es ++ (t, y) ∷ []) (instance_of p on) → IsLineTo p (es ++ (t, y) ∷ []) (instance_of p on) line) → (waits (es ++ (t, y) ∷ []) on ≡ true) ⊎ HasLoop p (instance_of p on) → (equations_of p).circular (instance_of p on) ≡ false → EndsAtLoop p i (instance_of p on) line
+waited_loop p f g v u i [] t x y on line stack waiting lines why plain =
     let first : (t, x) ≡ stack.first = cc in
-    subst (λ (j : Instance). IsLoop p j (instance_of p on) line) (ap (λ (e : CodedInstance × Waiter). instance_of p e.0) first ∙ stack.is) (loop_of p (t, y) [] on line (lines g u waiting) there plain)
-waited_loop p f g v u i (e ∷ es) t x y on line stack waiting lines there plain =
+    subst (λ (j : Instance). EndsAtLoop p j (instance_of p on) line) (ap (λ (e : CodedInstance × Waiter). instance_of p e.0) first ∙ stack.is) (met_loop p (t, y) [] on line (lines g u waiting) why plain)
+waited_loop p f g v u i (e ∷ es) t x y on line stack waiting lines why plain =
     let first : e ≡ stack.first = cc in
-    subst (λ (j : Instance). IsLoop p j (instance_of p on) line) (ap (λ (d : CodedInstance × Waiter). instance_of p d.0) first ∙ stack.is) (loop_of p e (es ++ (t, y) ∷ []) on line (lines g u waiting) there plain)
+    subst (λ (j : Instance). EndsAtLoop p j (instance_of p on) line) (ap (λ (d : CodedInstance × Waiter). instance_of p d.0) first ∙ stack.is) (met_loop p e (es ++ (t, y) ∷ []) on line (lines g u waiting) why plain)
 
 -- before the first turn
-pub begun : (p : Program) (f : Frame) (v w : View) → p ≡ program_of f.system.value → IsPassOf f v → IsPassOf f w → IsAtLeast v w → (i : CodedInstance) (x : Waiter) → IsInstance p (instance_of p i) → IsCoded p i → (equations_of p).circular (instance_of p i) ≡ false → ¬ Knows p v (instance_of p i) → IsCellOf p f w (instance_of p i) x.slot.0 → x.way ≡ None → ClaimsKeysTo p v w (instance_of p i) → (evals : ℕ) → IsSolving p f v w (instance_of p i) [] (i, x) evals evals
-begun p f v w same own then kept i x instance coded plain unknown cell way claims evals =
-    let placed : IsPlaced p f w (i, x) = record { instance = instance; coded = coded; undeclared = plain; slot = cell } in
+pub begun : (p : Program) (f : Frame) (v w : View) → p ≡ program_of f.system.value → IsPassOf f v → IsPassOf f w → IsAtLeast v w → (i : CodedInstance) (x : Waiter) → IsInstance p (instance_of p i) → IsCoded p i → (equations_of p).circular (instance_of p i) ≡ false → ¬ Knows p v (instance_of p i) → IsCellOf p f w (instance_of p i) x.slot.0 → x.way ≡ None → SavesNothing x.saved → ClaimsKeysTo p v w (instance_of p i) → (evals : ℕ) → IsSolving p f v w (instance_of p i) [] (i, x) evals evals
+begun p f v w same own then kept i x instance coded plain unknown cell way fresh claims evals =
+    let placed : IsPlaced p f w (i, x) = record { instance = instance; coded = coded; undeclared = plain; slot = cell; saved = none_saved x.saved fresh } in
     record {
       own = then;
       kept = kept;
@@ -110,7 +114,7 @@ module _ {p : Program} {f : Frame} {v w u : View} {i : Instance} {es : List (Cod
   kept_now = at_least_then s.kept g.kept
 
   -- a fault
-  pub step_fault : (e : AskFault) → AnswersStep p f u (instance_of p t) x.way y.way (Err e) → AnswersFault p f u i e
+  pub step_fault : (e : AskFault) → AnswersStep p f u (instance_of p t) x.way y.way (Err e) → StopsAt p f u i e
   step_fault (Circular on chain) a = absurd a
   step_fault CellsFull a = fills_more p i (instance_of p t) f u reached a
   step_fault Memory a = tt
@@ -124,7 +128,7 @@ module _ {p : Program} {f : Frame} {v w u : View} {i : Instance} {es : List (Cod
     way_of (Some l) (Some m) h = absurd h
 
     stack_further : IsStack p f u i es (t, y)
-    stack_further = stack_on p f w u g.kept i es t x s.stack y g.slot (way_of x.way y.way changes)
+    stack_further = stack_on p f w u g.kept i es t x s.stack y g.slot g.saved (way_of x.way y.way changes)
 
     pub went_further : IsSolving p f v u i es (t, y) before after
     went_further = record {
@@ -151,23 +155,23 @@ module _ {p : Program} {f : Frame} {v w u : View} {i : Instance} {es : List (Cod
       claims_more = claims_then p i (instance_of p n) v u o next_reached claims_now later (claims_to p (instance_of p n) u o claims)
 
       -- a fault
-      pub wait_fault : (new : List (CodedInstance × Waiter)) (e : AskFault) → AnswersWait p f o (es ++ (t, y) ∷ []) n new (Err e) → AnswersFault p f o i e
+      pub wait_fault : (new : List (CodedInstance × Waiter)) (e : AskFault) → AnswersWait p f o (es ++ (t, y) ∷ []) n new (Err e) → StopsAt p f o i e
       wait_fault new (Circular on chain) a =
           let loop = waited_loop p f f w u i es t x y n (map (instance_of p) chain) s.stack waiting_now a.2 a.1 next.undeclared in
-          subst (λ (c : CodedInstance). IsLoop p i (instance_of p c) (map (instance_of p) chain)) (sym a.0) loop
+          subst (λ (c : CodedInstance). EndsAtLoop p i (instance_of p c) (map (instance_of p) chain)) (sym a.0) loop
       wait_fault new CellsFull a = fills_more p i (instance_of p n) f o next_reached (fills_to p (instance_of p n) f o a)
       wait_fault new Memory a = tt
 
       -- the next one is on top
-      module _ (z : Waiter) (cell : IsCellOf p f o (instance_of p n) z.slot.0) (way : z.way ≡ None) (free : waits (es ++ (t, y) ∷ []) n ≡ false) where
+      module _ (z : Waiter) (cell : IsCellOf p f o (instance_of p n) z.slot.0) (way : z.way ≡ None) (free : waits (es ++ (t, y) ∷ []) n ≡ false) (fresh : SavesNothing z.saved) where
         placed : IsPlaced p f o (n, z)
-        placed = record { instance = next.instance; coded = next.coded; undeclared = next.undeclared; slot = cell }
+        placed = record { instance = next.instance; coded = next.coded; undeclared = next.undeclared; slot = cell; saved = none_saved z.saved fresh }
 
         unknown : ¬ Knows p w (instance_of p n)
         unknown k = next.unknown (knows_later w u g.kept p (instance_of p n) k)
 
         stack_next : IsStack p f o i (es ++ (t, y) ∷ []) (n, z)
-        stack_next = stack_more p f w u g.kept i es t x s.stack o later y g.slot n z next.waits (record { placed = placed; way = subst (λ (q : Option Local). IsWayOf p f o (instance_of p n) q) (sym way) tt }) free
+        stack_next = stack_more p f w u g.kept i es t x s.stack o later y g.slot g.saved n z next.waits (record { placed = placed; way = subst (λ (q : Option Local). IsWayOf p f o (instance_of p n) q) (sym way) tt }) free
 
         went_next : IsSolving p f v o i (es ++ (t, y) ∷ []) (n, z) before after
         went_next = record {

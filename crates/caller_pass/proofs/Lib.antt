@@ -11,6 +11,7 @@ pub mod Knowing
 pub mod Lines
 pub mod Listing
 pub mod Needing
+pub mod Noted
 pub mod Overfull
 pub mod Paid
 pub mod Paying

@@ -1,5 +1,5 @@
 -- Instances in a line, each of which leads to the next, and the loop that the last one closes.
-use Rattle.std.proofs.Common.{◌≡◌, ◌⊎◌, inl, inr, ⊎_elim, true, false, ◌||◌, List, [], ◌∷◌, ◌++◌, Option, Some, None, refl, sym, ap, subst, ◌∙◌}
+use Rattle.std.proofs.Common.{◌≡◌, ◌⊎◌, inl, inr, ⊎_elim, true, false, ◌||◌, List, [], ◌∷◌, ◌++◌, map, Option, Some, None, refl, sym, ap, subst, ◌∙◌}
 use Rattle.solutions.specs.Leading.{more, none}
 use Rattle.equation_law.specs.contracts.coding.InstancePartialEq.TheImpl as equality
 use Rattle.equation_law.specs.declared.coding.Instance.{Instance as CodedInstance}
@@ -15,7 +15,7 @@ use Rattle.memo_cells.specs.Views.{Has}
 use Rattle.circular_eval.specs.declared.local.Local.{Local}
 use Rattle.circular_eval.specs.Advancing.{AreLed, IsPath}
 use Rattle.caller_pass.specs.declared.waiting.Waiter.{Waiter}
-use Rattle.caller_pass.specs.Answering.{IsLoop}
+use Rattle.caller_pass.specs.Answering.{EndsAtLoop, IsLoop}
 use Rattle.caller_pass.specs.Waiting.{AreWaiting, IsLineTo, WaitsBy, waits}
 
 pub assoc : {A : Type 0} (xs ys zs : List A) → (xs ++ ys) ++ zs ≡ xs ++ (ys ++ zs)
@@ -29,6 +29,22 @@ has_last (y ∷ xs) x = inr (has_last xs x)
 pub has_snoc : {A : Type 0} (xs : List A) (y x : A) → Has (xs ++ y ∷ []) x → Has xs x ⊎ (x ≡ y)
 has_snoc [] y x h = ⊎_elim inr absurd h
 has_snoc (z ∷ xs) y x h = ⊎_elim (λ e. inl (inl e)) (λ later. ⊎_elim (λ l. inl (inr l)) inr (has_snoc xs y x later)) h
+
+-- what stands last
+abbrev last_or : {A : Type 0} → A → List A → A
+last_or d [] = d
+last_or d (x ∷ xs) = last_or x xs
+
+last_is : {A : Type 0} (d : A) (xs : List A) (x : A) → last_or d (xs ++ x ∷ []) ≡ x
+last_is d [] x = refl
+last_is d (y ∷ xs) x = last_is y xs x
+
+pub same_last : {A : Type 0} (xs ys : List A) (x y : A) → xs ++ x ∷ [] ≡ ys ++ y ∷ [] → x ≡ y
+same_last xs ys x y e = sym (last_is x xs x) ∙ ap (last_or x) e ∙ last_is x ys y
+
+pub has_map : {A B : Type 0} (f : A → B) (xs : List A) (x : A) → Has xs x → Has (map f xs) (f x)
+has_map f [] x h = absurd h
+has_map f (y ∷ xs) x h = ⊎_elim (λ same. inl (ap f same)) (λ later. inr (has_map f xs x later)) h
 
 module _ (p : Program) where
   led_more : (xs : List Instance) (j k : Instance) → AreLed p (xs ++ j ∷ []) → Leads p j k → AreLed p ((xs ++ j ∷ []) ++ k ∷ [])
@@ -126,9 +142,40 @@ pub begins : (xs : List Instance) (n i : Instance) (rest ys : List Instance) →
 begins [] n i rest ys e = let same : n ≡ i = cc in (ys, ap (λ x. x ∷ ys) same)
 begins (x ∷ xs) n i rest ys e = let same : x ≡ i = cc in (xs ++ n ∷ ys, ap (λ y. y ∷ xs ++ n ∷ ys) same)
 
--- a loop behind a path
-pub loop_behind : (p : Program) (i n on : Instance) (part chain : List Instance) → IsPath p i n (part ++ n ∷ []) → IsLoop p n on chain → IsLoop p i on (part ++ chain)
-loop_behind p i n on part chain path l =
+-- what leads to a loop has one
+pub loop_before : (p : Program) (i j : Instance) → Chain p i j → HasLoop p j → HasLoop p i
+loop_before p i j c h = record { on = h.on; to = chain_then p c h.to; undeclared_on = h.undeclared_on; then = h.then; out = h.out; back = h.back }
+
+-- a loop ends at an instance that has one
+pub loop_ends : (p : Program) (i on : Instance) (chain : List Instance) → IsLoop p i on chain → EndsAtLoop p i on chain
+loop_ends p i on chain l =
+    let round = returns_to p on l.back (led_behind p l.front (on ∷ l.back ++ on ∷ []) (subst (AreLed p) l.twice l.led)) in
+    record {
+      rest = l.rest;
+      starts = l.starts;
+      led = l.led;
+      front = l.front ++ on ∷ l.back;
+      ends = l.twice ∙ sym (assoc l.front (on ∷ l.back) (on ∷ []));
+      undeclared = l.undeclared;
+      loop = record { on = on; to = none; undeclared_on = l.undeclared; then = round.0; out = round.1; back = round.2 };
+    }
+
+-- so does the line to an instance that has one
+pub line_ends : (p : Program) (e : CodedInstance × Waiter) (es : List (CodedInstance × Waiter)) (on : Instance) (line : List Instance) → IsLineTo p (e ∷ es) on line → HasLoop p on → (equations_of p).circular on ≡ false → EndsAtLoop p (instance_of p e.0) on line
+line_ends p e es on line l has plain =
+    let first = l.starts e es refl in
+    record { rest = first.0; starts = first.1; led = l.led; front = l.front; ends = l.ends; undeclared = plain; loop = has }
+
+-- the line to one that waits already, or is known to have a loop
+pub met_loop : (p : Program) (e : CodedInstance × Waiter) (es : List (CodedInstance × Waiter)) (on : CodedInstance) (line : List Instance) → IsLineTo p (e ∷ es) (instance_of p on) line → (waits (e ∷ es) on ≡ true) ⊎ HasLoop p (instance_of p on) → (equations_of p).circular (instance_of p on) ≡ false → EndsAtLoop p (instance_of p e.0) (instance_of p on) line
+met_loop p e es on line l why plain = ⊎_elim
+    (λ there. loop_ends p (instance_of p e.0) (instance_of p on) line (loop_of p e es on line l there plain))
+    (λ has. line_ends p e es (instance_of p on) line l has plain)
+    why
+
+-- such a chain behind a path
+pub ends_behind : (p : Program) (i n on : Instance) (part chain : List Instance) → IsPath p i n (part ++ n ∷ []) → EndsAtLoop p n on chain → EndsAtLoop p i on (part ++ chain)
+ends_behind p i n on part chain path l =
     let whole : part ++ chain ≡ part ++ n ∷ l.rest = ap (λ ns. part ++ ns) l.starts in
     let first = begins part n i path.rest l.rest path.starts in
     record {
@@ -136,10 +183,39 @@ loop_behind p i n on part chain path l =
       starts = whole ∙ first.1;
       led = subst (AreLed p) (sym whole) (led_both p part n l.rest path.led (subst (AreLed p) l.starts l.led));
       front = part ++ l.front;
-      back = l.back;
-      twice = ap (λ ns. part ++ ns) l.twice ∙ sym (assoc part l.front (on ∷ l.back ++ on ∷ []));
+      ends = ap (λ ns. part ++ ns) l.ends ∙ sym (assoc part l.front (on ∷ []));
+      undeclared = l.undeclared;
+      loop = l.loop;
+    }
+
+-- each of such a chain has a loop
+pub each_has : (p : Program) (i on : Instance) (chain : List Instance) → EndsAtLoop p i on chain → (j : Instance) → Has chain j → HasLoop p j
+each_has p i on chain l j there = among l.front (subst (AreLed p) l.ends l.led) (subst (λ (c : List Instance). Has c j) l.ends there)
+  where
+    among : (front : List Instance) → AreLed p (front ++ on ∷ []) → Has (front ++ on ∷ []) j → HasLoop p j
+    among [] led h = ⊎_elim (λ same. subst (HasLoop p) (sym same) l.loop) absurd h
+    among (x ∷ xs) led h = ⊎_elim
+        (λ same. subst (HasLoop p) (sym same) (loop_before p x on (chain_to p xs x on [] led) l.loop))
+        (λ later. among xs (led_tail p x (xs ++ on ∷ []) led) later)
+        h
+
+-- where it ends stands twice in it, if it stands in the front
+pub ends_twice : (p : Program) (i on : Instance) (chain front : List Instance) → EndsAtLoop p i on chain → chain ≡ front ++ on ∷ [] → Has front on → IsLoop p i on chain
+ends_twice p i on chain front l is there =
+    let parts = split front on there in
+    record {
+      rest = l.rest;
+      starts = l.starts;
+      led = l.led;
+      front = parts.0;
+      back = parts.1;
+      twice = is ∙ ap (λ ns. ns ++ on ∷ []) parts.2 ∙ assoc parts.0 (on ∷ parts.1) (on ∷ []);
       undeclared = l.undeclared;
     }
+
+-- the first of such a chain has a loop
+pub ends_has : (p : Program) (i on : Instance) (chain : List Instance) → EndsAtLoop p i on chain → HasLoop p i
+ends_has p i on chain l = each_has p i on chain l i (subst (λ (c : List Instance). Has c i) (sym l.starts) (inl refl))
 
 -- so does the start of a local set what its instance waits for
 way_chain : (p : Program) (f : Frame) (v : View) (i : Instance) (way : Option Local) (n : Instance) → WaitsBy p f v i way n → (l : Local) → way ≡ Some l → Chain p (instance_of p l.start) n

@@ -12,10 +12,10 @@ use Rattle.circular_eval.specs.Advancing.{IsMissing}
 use Rattle.circular_eval.specs.Local.{IsLocal}
 use Rattle.caller_pass.specs.declared.faults.AskFault.{AskFault}
 use Rattle.caller_pass.specs.declared.faults.AskFault.TheVariants.{CellsFull, Circular, Memory}
-use Rattle.caller_pass.specs.Answering.{AnswersFault, ClaimsKeys, IsLoop, LeavesOne, Solves, SolvesFor}
+use Rattle.caller_pass.specs.Answering.{StopsAt, ClaimsKeys, EndsAtLoop, LeavesOne, Solves, SolvesFor}
 use Rattle.caller_pass.specs.Waiting.{IsBehind, Needed}
 use Rattle.caller_pass.proofs.Claiming.{fills_more}
-use Rattle.caller_pass.proofs.Lines.{loop_behind}
+use Rattle.caller_pass.proofs.Lines.{ends_behind}
 use Rattle.caller_pass.proofs.Listing.{map_both}
 
 module _ (p : Program) (f : Frame) (v w : View) (l : Local) (n : CodedInstance) (local : IsLocal p f v l) (missing : IsMissing p v l n) (before after : ℕ) where
@@ -29,17 +29,17 @@ module _ (p : Program) (f : Frame) (v w : View) (l : Local) (n : CodedInstance) 
     start = λ ok unknown known. leaves (instance_of p l.start) missing.reached local.is_circular unknown known;
   }
 
-  for_fault : (d : AskFault) → ClaimsKeys p (instance_of p n) v w → AnswersFault p f w (instance_of p l.start) d → SolvesFor p f v w l (instance_of p n) before after (Err d)
-  for_fault d claims a = record { settled = λ ok. cc; fault = λ e is. let same : d ≡ e = cc in subst (λ (x : AskFault). AnswersFault p f w (instance_of p l.start) x) same a; claims = claims; cost = λ ok. cc; start = λ ok. cc }
+  for_fault : (d : AskFault) → ClaimsKeys p (instance_of p n) v w → StopsAt p f w (instance_of p l.start) d → SolvesFor p f v w l (instance_of p n) before after (Err d)
+  for_fault d claims a = record { settled = λ ok. cc; fault = λ e is. let same : d ≡ e = cc in subst (λ (x : AskFault). StopsAt p f w (instance_of p l.start) x) same a; claims = claims; cost = λ ok. cc; start = λ ok. cc }
 
   -- a loop, behind the path to it
   pub loop_for : (on : CodedInstance) (chain whole : List CodedInstance) → Solves p f v w (instance_of p n) before after (Err (Circular on chain)) → IsBehind l chain whole → SolvesFor p f v w l (instance_of p n) before after (Err (Circular on whole))
   loop_for on chain whole h behind =
       let needed : Needed p l (instance_of p n) = record { number = missing.number; coded = n; noted = missing.noted; is = refl } in
       let path = behind.path p f v (instance_of p n) local needed in
-      let loop = loop_behind p (instance_of p l.start) (instance_of p n) (instance_of p on) (map (instance_of p) behind.part) (map (instance_of p) chain) path h.answer in
+      let loop = ends_behind p (instance_of p l.start) (instance_of p n) (instance_of p on) (map (instance_of p) behind.part) (map (instance_of p) chain) path h.answer in
       let joined = ap (map (instance_of p)) behind.joined ∙ map_both (instance_of p) behind.part chain in
-      for_fault (Circular on whole) h.claims (subst (λ (c : List Instance). IsLoop p (instance_of p l.start) (instance_of p on) c) (sym joined) loop)
+      for_fault (Circular on whole) h.claims (subst (λ (c : List Instance). EndsAtLoop p (instance_of p l.start) (instance_of p on) c) (sym joined) loop)
 
   -- another fault
   pub full_for : Solves p f v w (instance_of p n) before after (Err CellsFull) → SolvesFor p f v w l (instance_of p n) before after (Err CellsFull)
@@ -47,4 +47,4 @@ module _ (p : Program) (f : Frame) (v w : View) (l : Local) (n : CodedInstance) 
 
   pub memory_for : (r : Result Unit AskFault) → ClaimsKeys p (instance_of p n) v w → IsErr r × IsErrAnd r (λ e. e ≡ Memory) → SolvesFor p f v w l (instance_of p n) before after r
   memory_for (Ok x) claims h = let some = h.0 in cc
-  memory_for (Err d) claims h = for_fault d claims (subst (λ (x : AskFault). AnswersFault p f w (instance_of p l.start) x) (sym h.1) tt)
+  memory_for (Err d) claims h = for_fault d claims (subst (λ (x : AskFault). StopsAt p f w (instance_of p l.start) x) (sym h.1) tt)

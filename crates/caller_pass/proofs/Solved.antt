@@ -6,6 +6,8 @@ use Rattle.equation_law.specs.Checked.{IsInstance, IsProgram}
 use Rattle.equation_law.specs.Codes.{IsCoded, instance_of}
 use Rattle.equation_law.specs.Equations.{equations_of}
 use Rattle.equation_law.specs.Systems.{program_of}
+use Rattle.expr_eval.specs.declared.saved.Saved.{Saved}
+use Rattle.expr_eval.specs.Saved.{SavesNothing}
 use Rattle.memo_cells.specs.declared.keys.Slot.{Slot}
 use Rattle.memo_cells.specs.declared.view.Frame.{Frame}
 use Rattle.memo_cells.specs.Naming.{ClaimsKeysTo, IsCellOf, LacksCell}
@@ -37,14 +39,14 @@ no_cell {o} {d} i {before} {r} on lacks claims h =
     solve_fault p o.0 o.1 d.1 (instance_of p i) before before CellsFull r h (claims_to p (instance_of p i) o.1 d.1 claims) (fills_to p (instance_of p i) o.0 d.1 (subst (λ (f : Frame). LacksCell p f d.1 (instance_of p i)) on.cells lacks))
 
 -- the first turn
-pub first_turn : {o d : Held} {i : CodedInstance} {s : Slot} (before : ℕ) → IsOwn o → GoesOn o d → IsInstance (program_at o) (instance_of (program_at o) i) → IsCoded (program_at o) i → (equations_of (program_at o)).circular (instance_of (program_at o) i) ≡ false → ¬ Knows (program_at o) o.1 (instance_of (program_at o) i) → IsCellOf (program_at o) d.0 d.1 (instance_of (program_at o) i) s.0 → ClaimsKeysTo (program_at o) o.1 d.1 (instance_of (program_at o) i) → (es : List (CodedInstance × Waiter)) → es ≡ [] → IsTurn o d i es i (record { slot = s; way = None }) before before
-first_turn {o} {d} {i} {s} before own on instance coded plain unknown cell claims es empty =
+pub first_turn : {o d : Held} {i : CodedInstance} {s : Slot} (before : ℕ) → IsOwn o → GoesOn o d → IsInstance (program_at o) (instance_of (program_at o) i) → IsCoded (program_at o) i → (equations_of (program_at o)).circular (instance_of (program_at o) i) ≡ false → ¬ Knows (program_at o) o.1 (instance_of (program_at o) i) → IsCellOf (program_at o) d.0 d.1 (instance_of (program_at o) i) s.0 → ClaimsKeysTo (program_at o) o.1 d.1 (instance_of (program_at o) i) → (es : List (CodedInstance × Waiter)) → es ≡ [] → (m : Saved) → SavesNothing m → IsTurn o d i es i (record { slot = s; way = None; saved = m }) before before
+first_turn {o} {d} {i} {s} before own on instance coded plain unknown cell claims es empty m fresh =
     let p = program_at o in
     record {
       cells = on.cells;
       lender = on.lender;
-      solving = subst (λ (l : List (CodedInstance × Waiter)). IsSolving p o.0 o.1 d.1 (instance_of p i) l (i, record { slot = s; way = None }) before before) (sym empty)
-          (begun p o.0 o.1 d.1 refl own (own_then o d on) on.kept i (record { slot = s; way = None }) instance coded plain unknown (subst (λ (f : Frame). IsCellOf p f d.1 (instance_of p i) s.0) on.cells cell) refl claims before);
+      solving = subst (λ (l : List (CodedInstance × Waiter)). IsSolving p o.0 o.1 d.1 (instance_of p i) l (i, record { slot = s; way = None; saved = m }) before before) (sym empty)
+          (begun p o.0 o.1 d.1 refl own (own_then o d on) on.kept i (record { slot = s; way = None; saved = m }) instance coded plain unknown (subst (λ (f : Frame). IsCellOf p f d.1 (instance_of p i) s.0) on.cells cell) refl fresh claims before);
     }
 
 module _ {o d : Held} {i : CodedInstance} {es : List (CodedInstance × Waiter)} {top : CodedInstance} {x : Waiter} {before now : ℕ} (t : IsTurn o d i es top x before now) where
@@ -118,10 +120,10 @@ module _ {o d : Held} {i : CodedInstance} {es : List (CodedInstance × Waiter)} 
           cell = subst (λ (k : Frame). IsCellOf (program_of k.system.value) k g.1 (instance_of (program_of k.system.value) n) z.slot.0) cells_then answer.1
 
           pub turn_next : IsTurn o g i new n z before after
-          turn_next = record { cells = then_on.cells ∙ cells_then; lender = then_on.lender ∙ st.on.lender ∙ t.lender; solving = went_more refl good.texts t.solving went n next.0 next.1 own_now then_on.kept claims_next z cell answer.2 answer.3 new answer.0 }
+          turn_next = record { cells = then_on.cells ∙ cells_then; lender = then_on.lender ∙ st.on.lender ∙ t.lender; solving = went_more refl good.texts t.solving went n next.0 next.1 own_now then_on.kept claims_next z cell answer.2 answer.3 answer.4 new answer.0 }
 
           pub turn_next_falls : measure g.1 new (n, z) o.0.cells < measure d.1 es (top, x) o.0.cells
-          turn_next_falls = fell_more refl good.texts t.solving went n next.0 next.1 own_now then_on.kept claims_next z cell answer.2 answer.3 new answer.0
+          turn_next_falls = fell_more refl good.texts t.solving went n next.0 next.1 own_now then_on.kept claims_next z cell answer.2 answer.3 answer.4 new answer.0
 
     -- it is settled
     module _ (is : r ≡ Ok Settled) where

@@ -16,7 +16,9 @@ use Rattle.memo_cells.specs.declared.view.Frame.{Frame}
 use Rattle.memo_cells.specs.declared.view.View.{View}
 use Rattle.memo_cells.specs.Naming.{IsCellOf}
 use Rattle.memo_cells.specs.Standing.{Knows}
-use Rattle.memo_cells.specs.Working.{GoesOn, Held, ReadsOn, program_at}
+use Rattle.expr_eval.specs.declared.saved.Saved.{Saved}
+use Rattle.expr_eval.specs.Saved.{AreSaved}
+use Rattle.memo_cells.specs.Working.{GoesOn, Held, IsKnown, ReadsOn, program_at}
 use Rattle.memo_cells.proofs.Naming.{cell_later}
 use Rattle.circular_eval.specs.declared.advancing.CircFault.{CircFault}
 use Rattle.circular_eval.specs.declared.local.Local.{Local}
@@ -31,6 +33,7 @@ use Rattle.caller_pass.specs.Answering.{AnswersFinish, AnswersStep, ClaimsKeys, 
 use Rattle.caller_pass.specs.Knowing.{HasEnded, TurnsTo}
 use Rattle.caller_pass.specs.Waiting.{IsFrame, IsWay, IsWayOf}
 use Rattle.caller_pass.proofs.Claiming.{claims_same, claims_then}
+use Rattle.caller_pass.proofs.Frames.{saved_known}
 use Rattle.memo_cells.proofs.Holding.{goes_then, own_then}
 use Rattle.caller_pass.proofs.Stepping.{err_is, finish_step, local_claims, local_fault, memory_step, next_local, next_need, way_need}
 
@@ -49,21 +52,23 @@ module _ (d e : Held) (i : CodedInstance) (x : Waiter) (l m : Local) (way : x.wa
   all_claims : ClaimsKeys (program_at d) (instance_of (program_at d) i) d.1 e.1
   all_claims = local_claims (program_at d) (instance_of (program_at d) i) (instance_of (program_at d) l.start) d.1 e.1 its.led on.kept claims
 
-  pub local_err : (from : CircFault) (r : Result Went AskFault) → IsErr r × IsErrAnd r (λ e. IsSameFault from e) → AnswersCircular (program_at d) (instance_of (program_at d) m.start) d.0 e.1 from → GoesThrough (program_at d) d e i x (record { slot = x.slot; way = Some m }) before after r
+  pub local_err : (from : CircFault) (r : Result Went AskFault) → IsErr r × IsErrAnd r (λ e. IsSameFault from e) → AnswersCircular (program_at d) (instance_of (program_at d) m.start) d.0 e.1 from → GoesThrough (program_at d) d e i x (record { slot = x.slot; way = Some m; saved = x.saved }) before after r
   local_err from r h a = record {
     on = on;
     claims = all_claims;
     slot = refl;
+    saved = saved_known (program_at d) d.1 e.1 on.kept d.0.system.value x.saved frame.placed.saved;
     answer = err_is (AnswersStep (program_at d) d.0 e.1 (instance_of (program_at d) i) x.way (Some m)) (λ (y : AskFault). IsSameFault from y) r h
         (λ y is. local_fault (program_at d) d.0 e.1 (instance_of (program_at d) i) (instance_of (program_at d) l.start) x.way (Some m) from y its.led (subst (λ (j : Instance). AnswersCircular (program_at d) j d.0 e.1 from) start_is a) is);
     evals = evals;
   }
 
-  pub local_need : (n : CodedInstance) → IsMissing (program_at d) e.1 m n → GoesThrough (program_at d) d e i x (record { slot = x.slot; way = Some m }) before after (Ok (Need n))
+  pub local_need : (n : CodedInstance) → IsMissing (program_at d) e.1 m n → GoesThrough (program_at d) d e i x (record { slot = x.slot; way = Some m; saved = x.saved }) before after (Ok (Need n))
   local_need n missing = record {
     on = on;
     claims = all_claims;
     slot = refl;
+    saved = saved_known (program_at d) d.1 e.1 on.kept d.0.system.value x.saved frame.placed.saved;
     answer = (
       next_local (program_at d) d.0 e.1 (instance_of (program_at d) i) m n (subst (λ (j : Instance). Leads (program_at d) (instance_of (program_at d) i) j) (sym start_is) its.led) local.0 missing,
       subst (λ (o : Option Local). SameWay o (Some m)) (sym way) local.1,
@@ -71,36 +76,39 @@ module _ (d e : Held) (i : CodedInstance) (x : Waiter) (l m : Local) (way : x.wa
     evals = evals;
   }
 
-  pub local_closed : Knows (program_at d) e.1 (instance_of (program_at d) m.start) → GoesThrough (program_at d) d e i x (record { slot = x.slot; way = None }) before after (Ok Further)
+  pub local_closed : Knows (program_at d) e.1 (instance_of (program_at d) m.start) → GoesThrough (program_at d) d e i x (record { slot = x.slot; way = None; saved = x.saved }) before after (Ok Further)
   local_closed known = record {
     on = on;
     claims = all_claims;
     slot = refl;
+    saved = saved_known (program_at d) d.1 e.1 on.kept d.0.system.value x.saved frame.placed.saved;
     answer = subst (λ (o : Option Local). WayChanges (program_at d) d.0 e.1 (instance_of (program_at d) i) o None) (sym way) (subst (λ (j : Instance). Knows (program_at d) e.1 j) start_is known);
     evals = evals;
   }
 
 -- its equation was evaluated
-module _ (d e : Held) (i : CodedInstance) (x : Waiter) (way : x.way ≡ None) (good : IsProgram (program_at d)) (frame : IsFrame (program_at d) d.0 d.1 (i, x)) (on : ReadsOn d e) (before after : ℕ) (evals : after ≡ before + 1) where
+module _ (d e : Held) (i : CodedInstance) (x : Waiter) (way : x.way ≡ None) (good : IsProgram (program_at d)) (frame : IsFrame (program_at d) d.0 d.1 (i, x)) (on : ReadsOn d e) (before after : ℕ) (evals : after ≡ before + 1) (m : Saved) (told : AreSaved d.0.system.value (IsKnown (program_at d) e.1) m) where
   turn_claims : ClaimsKeys (program_at d) (instance_of (program_at d) i) d.1 e.1
   turn_claims = claims_same (program_at d) (instance_of (program_at d) i) d.1 e.1 on.claims
 
-  pub turn_err : (y : Waiter) → y.slot ≡ x.slot → (r : Result Went AskFault) → IsErr r × IsErrAnd r (λ f. f ≡ Memory) → GoesThrough (program_at d) d e i x y before after r
-  turn_err y slot r h = record {
+  pub turn_err : (r : Result Went AskFault) → IsErr r × IsErrAnd r (λ f. f ≡ Memory) → GoesThrough (program_at d) d e i x (record { slot = x.slot; way = x.way; saved = m }) before after r
+  turn_err r h = record {
     on = on.on;
     claims = turn_claims;
-    slot = slot;
-    answer = err_is (AnswersStep (program_at d) d.0 e.1 (instance_of (program_at d) i) x.way y.way) (λ (y : AskFault). y ≡ Memory) r h (λ f is. memory_step (program_at d) d.0 e.1 (instance_of (program_at d) i) x.way y.way f is);
+    slot = refl;
+    saved = told;
+    answer = err_is (AnswersStep (program_at d) d.0 e.1 (instance_of (program_at d) i) x.way x.way) (λ (y : AskFault). y ≡ Memory) r h (λ f is. memory_step (program_at d) d.0 e.1 (instance_of (program_at d) i) x.way x.way f is);
     evals = evals;
   }
 
   -- it demands another one
   module _ (n : CodedInstance) (need : TurnsTo (program_at d) e.1 (instance_of (program_at d) i) (Ok (turns.Need n))) where
-    pub turn_need : is_declared (program_at d) (instance_of (program_at d) n) ≡ false → GoesThrough (program_at d) d e i x x before after (Ok (Need n))
+    pub turn_need : is_declared (program_at d) (instance_of (program_at d) n) ≡ false → GoesThrough (program_at d) d e i x (record { slot = x.slot; way = x.way; saved = m }) before after (Ok (Need n))
     turn_need plain = record {
       on = on.on;
       claims = turn_claims;
       slot = refl;
+      saved = told;
       answer = (
         subst (λ (o : Option Local). IsNext (program_at d) d.0 e.1 (instance_of (program_at d) i) o n) (sym way) (next_need (program_at d) good d.0 refl e.1 (own_then d e on.on) (instance_of (program_at d) i) frame.placed.instance n need plain),
         subst (λ (o : Option Local). SameWay o o) (sym way) tt,
@@ -108,11 +116,12 @@ module _ (d e : Held) (i : CodedInstance) (x : Waiter) (way : x.way ≡ None) (g
       evals = evals;
     }
 
-    pub turn_start : is_declared (program_at d) (instance_of (program_at d) n) ≡ true → (l : Local) → l.start ≡ n → ((q : Program) (g : Frame) (u : View) → IsInstance q (instance_of q n) → IsCoded q n → (equations_of q).circular (instance_of q n) ≡ true → IsLocal q g u l) → GoesThrough (program_at d) d e i x (record { slot = x.slot; way = Some l }) before after (Ok Further)
+    pub turn_start : is_declared (program_at d) (instance_of (program_at d) n) ≡ true → (l : Local) → l.start ≡ n → ((q : Program) (g : Frame) (u : View) → IsInstance q (instance_of q n) → IsCoded q n → (equations_of q).circular (instance_of q n) ≡ true → IsLocal q g u l) → GoesThrough (program_at d) d e i x (record { slot = x.slot; way = Some l; saved = m }) before after (Ok Further)
     turn_start declared l start local = record {
       on = on.on;
       claims = turn_claims;
       slot = refl;
+      saved = told;
       answer = subst (λ (o : Option Local). WayChanges (program_at d) d.0 e.1 (instance_of (program_at d) i) o (Some l)) (sym way) (way_need (program_at d) good d.0 refl e.1 (own_then d e on.on) (instance_of (program_at d) i) frame.placed.instance n need declared l start local);
       evals = evals;
     }
@@ -122,22 +131,24 @@ module _ (d e : Held) (i : CodedInstance) (x : Waiter) (way : x.way ≡ None) (g
     ended_claims : ClaimsKeys (program_at d) (instance_of (program_at d) i) d.1 g.1
     ended_claims = claims_then (program_at d) (instance_of (program_at d) i) (instance_of (program_at d) i) d.1 e.1 g.1 none turn_claims then_on.kept (subst (λ (f : Frame). ClaimsKeys (program_of f.system.value) (instance_of (program_of f.system.value) i) e.1 g.1) on.on.cells more)
 
-    pub ended_err : (f : AskFault) (r : Result Went AskFault) → IsErr r × IsErrAnd r (λ y. y ≡ f) → AnswersFinish (program_at e) e.0 g.1 (instance_of (program_at e) i) (Err f) → GoesThrough (program_at d) d g i x x before after r
+    pub ended_err : (f : AskFault) (r : Result Went AskFault) → IsErr r × IsErrAnd r (λ y. y ≡ f) → AnswersFinish (program_at e) e.0 g.1 (instance_of (program_at e) i) (Err f) → GoesThrough (program_at d) d g i x (record { slot = x.slot; way = x.way; saved = m }) before after r
     ended_err f r h a = record {
       on = goes_then d e g on.on then_on;
       claims = ended_claims;
       slot = refl;
+      saved = saved_known (program_at d) e.1 g.1 then_on.kept d.0.system.value m told;
       answer = err_is (AnswersStep (program_at d) d.0 g.1 (instance_of (program_at d) i) x.way x.way) (λ (y : AskFault). y ≡ f) r h
           (λ y is. subst (λ (z : AskFault). AnswersStep (program_at d) d.0 g.1 (instance_of (program_at d) i) x.way x.way (Err z)) (sym is)
           (finish_step (program_at d) d.0 g.1 (instance_of (program_at d) i) x.way x.way f (subst (λ (k : Frame). AnswersFinish (program_of k.system.value) k g.1 (instance_of (program_of k.system.value) i) (Err f)) on.on.cells a)));
       evals = evals;
     }
 
-    pub ended_ok : Knows (program_at e) g.1 (instance_of (program_at e) i) → GoesThrough (program_at d) d g i x x before after (Ok Settled)
+    pub ended_ok : Knows (program_at e) g.1 (instance_of (program_at e) i) → GoesThrough (program_at d) d g i x (record { slot = x.slot; way = x.way; saved = m }) before after (Ok Settled)
     ended_ok known = record {
       on = goes_then d e g on.on then_on;
       claims = ended_claims;
       slot = refl;
+      saved = saved_known (program_at d) e.1 g.1 then_on.kept d.0.system.value m told;
       answer = (subst (λ (k : Frame). Knows (program_of k.system.value) g.1 (instance_of (program_of k.system.value) i)) on.on.cells known, way);
       evals = evals;
     }

@@ -12,13 +12,14 @@ use Rattle.equation_law.specs.Lower.{IsLower}
 use Rattle.equation_law.specs.Names.{Instance}
 use Rattle.equation_law.specs.Program.{Program, text_of}
 use Rattle.equation_law.specs.Values.{Value}
+use Rattle.expr_eval.specs.Saved.{AreSaved}
 use Rattle.memo_cells.specs.declared.view.Frame.{Frame}
 use Rattle.memo_cells.specs.declared.view.View.{View}
 use Rattle.memo_cells.specs.Naming.{IsElementCode, IsKeyTo, IsWordOf}
 use Rattle.memo_cells.specs.Showing.{ShowsAtLeast, has_code}
 use Rattle.memo_cells.specs.Standing.{Knows}
 use Rattle.memo_cells.specs.Views.{Has, IsFull, times}
-use Rattle.memo_cells.specs.Working.{GoesOn, Held}
+use Rattle.memo_cells.specs.Working.{GoesOn, Held, IsKnown, program_at}
 use Rattle.circular_eval.specs.declared.advancing.CircFault.{CircFault}
 use Rattle.circular_eval.specs.declared.advancing.CircFault.TheVariants as set_fault
 use Rattle.circular_eval.specs.declared.local.Local.{Local}
@@ -39,6 +40,16 @@ pub record IsLoop (p : Program) (i on : Instance) (chain : List Instance) : Type
   pub back : List Instance
   pub twice : chain ≡ front ++ on ∷ (back ++ on ∷ [])
   pub undeclared : (equations_of p).circular on ≡ false
+
+-- the chain begins with i, each later member is led to by the one before, and it ends with `on`, which isn't circular and has a loop
+pub record EndsAtLoop (p : Program) (i on : Instance) (chain : List Instance) : Type 0 where
+  pub rest : List Instance
+  pub starts : chain ≡ i ∷ rest
+  pub led : AreLed p chain
+  pub front : List Instance
+  pub ends : chain ≡ front ++ on ∷ []
+  pub undeclared : (equations_of p).circular on ≡ false
+  pub loop : HasLoop p on
 
 -- a set in which the element of code c lies counts for i: its value in the solution, or one that it has under a lower assignment
 abbrev pub HasElement : Program → Instance → ℕ → Type 0
@@ -73,15 +84,26 @@ AnswersFault p f v i (Circular on chain) = IsLoop p i (instance_of p on) (map (i
 AnswersFault p f v i CellsFull = FillsCells p i f v
 AnswersFault p f v i Memory = Unit {0}
 
+-- The same where the chain of `Circular` may end at an instance that is known to have a loop
+abbrev pub StopsAt : Program → Frame → View → Instance → AskFault → Type 0
+StopsAt p f v i (Circular on chain) = EndsAtLoop p i (instance_of p on) (map (instance_of p) chain)
+StopsAt p f v i CellsFull = FillsCells p i f v
+StopsAt p f v i Memory = Unit {0}
+
 -- Ok is the value in the solution, whose elements are coded well if it is a set, and the cell is then seen settled
 abbrev pub AnswersAsk : Program → Frame → View → Instance → Result CodedValue AskFault → Type 0
 AnswersAsk p f v i (Ok x) = HasValue p i (value_of (text_of p) x) × Knows p v i × AreElements p x
 AnswersAsk p f v i (Err fault) = AnswersFault p f v i fault
 
+-- the same with such a fault
+abbrev pub AnswersNoted : Program → Frame → View → Instance → Result CodedValue AskFault → Type 0
+AnswersNoted p f v i (Ok x) = HasValue p i (value_of (text_of p) x) × Knows p v i × AreElements p x
+AnswersNoted p f v i (Err fault) = StopsAt p f v i fault
+
 -- the cell is then seen settled
 abbrev pub AnswersSolve : Program → Frame → View → Instance → Result Unit AskFault → Type 0
 AnswersSolve p f v i (Ok done) = Knows p v i
-AnswersSolve p f v i (Err fault) = AnswersFault p f v i fault
+AnswersSolve p f v i (Err fault) = StopsAt p f v i fault
 
 -- the same without a loop
 abbrev pub AnswersFinish : Program → Frame → View → Instance → Result Unit AskFault → Type 0
@@ -130,6 +152,7 @@ pub record GoesThrough (p : Program) (d e : Held) (i : CodedInstance) (old new :
   pub on : GoesOn d e
   pub claims : ClaimsKeys p (instance_of p i) d.1 e.1
   pub slot : new.slot ≡ old.slot
+  pub saved : AreSaved d.0.system.value (IsKnown (program_at d) e.1) new.saved
   pub answer : AnswersStep p d.0 e.1 (instance_of p i) old.way new.way result
   pub evals : after ≡ before + 1
 
@@ -161,7 +184,7 @@ LeavesOne p f v w i before after = (h : Instance) → Chain p h i → (equations
 -- What settling n says, which a local set needs: a loop begins with the start of that.
 pub record SolvesFor (p : Program) (f : Frame) (v w : View) (l : Local) (n : Instance) (before after : ℕ) (result : Result Unit AskFault) : Type 0 where
   pub settled : IsOk result → Knows p w n
-  pub fault : (fault : AskFault) → result ≡ Err fault → AnswersFault p f w (instance_of p l.start) fault
+  pub fault : (fault : AskFault) → result ≡ Err fault → StopsAt p f w (instance_of p l.start) fault
   pub claims : ClaimsKeys p n v w
   pub cost : IsOk result → after + 2 * unsettled w f.cells < before + 2 * unsettled v f.cells
   pub start : IsOk result → ¬ Knows p v (instance_of p l.start) → Knows p w (instance_of p l.start) → after + 1 + 2 * unsettled w f.cells < before + 2 * unsettled v f.cells
@@ -169,7 +192,7 @@ pub record SolvesFor (p : Program) (f : Frame) (v w : View) (l : Local) (n : Ins
 -- What going on with the local set of i says, with the counts of evaluations before and after: more cells are seen settled then, and where the
 -- cell of i is one of them, it is left to pay.
 pub record ClosesMore (p : Program) (f : Frame) (v w : View) (i : Instance) (before after : ℕ) (result : Result Unit AskFault) : Type 0 where
-  pub fault : (fault : AskFault) → result ≡ Err fault → AnswersFault p f w i fault
+  pub fault : (fault : AskFault) → result ≡ Err fault → StopsAt p f w i fault
   pub claims : ClaimsKeys p i v w
   pub cost : IsOk result → after + 2 * unsettled w f.cells ≤ before + 2 * unsettled v f.cells
   pub known : IsOk result → Knows p w i → after + 2 * unsettled w f.cells < before + 2 * unsettled v f.cells
@@ -186,6 +209,14 @@ AnswersKnown p i (Err Memory) = is_single (kind_in p i) ≡ false
 -- to be seen settled.
 pub record Asks (p : Program) (f : Frame) (v w : View) (i : Instance) (before after : ℕ) (result : Result CodedValue AskFault) : Type 0 where
   pub answer : AnswersAsk p f w i result
+  pub circular : IsCircular result → HasLoop p i
+  pub claims : ClaimsKeys p i v w
+  pub known : Knows p v i → AnswersKnown p i result × (after ≡ before)
+  pub cost : IsOk result → (after ≡ before) ⊎ (after + 2 * unsettled w f.cells < before + 2 * unsettled v f.cells)
+
+-- What asking for i says where the caller may have noted that instances have loops: the same, but for the chain of `Circular`.
+pub record AsksNoted (p : Program) (f : Frame) (v w : View) (i : Instance) (before after : ℕ) (result : Result CodedValue AskFault) : Type 0 where
+  pub answer : AnswersNoted p f w i result
   pub circular : IsCircular result → HasLoop p i
   pub claims : ClaimsKeys p i v w
   pub known : Knows p v i → AnswersKnown p i result × (after ≡ before)

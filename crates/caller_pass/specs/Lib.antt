@@ -1,4 +1,5 @@
 pub mod Answering
 pub mod Knowing
+pub mod Noting
 pub mod Overfull
 pub mod Waiting

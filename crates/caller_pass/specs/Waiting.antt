@@ -1,5 +1,5 @@
 -- The instances that wait, with their slots and the local sets through which they wait.
-use Rattle.std.specs.Prelude.{◌≡◌, Bool, true, false, ℕ, List, [], ◌∷◌, ◌++◌, Option, Some, None, Result, Ok, Err, map}
+use Rattle.std.specs.Prelude.{◌≡◌, ◌⊎◌, Bool, true, false, ℕ, List, [], ◌∷◌, ◌++◌, Option, Some, None, Result, Ok, Err, map}
 use Rattle.std.specs.List.{list_any}
 use Rattle.std.specs.Map.{keys_of}
 use Rattle.equation_law.specs.contracts.coding.InstancePartialEq.TheImpl as equality
@@ -7,14 +7,16 @@ use Rattle.equation_law.specs.declared.coding.Instance.{Instance as CodedInstanc
 use Rattle.equation_law.specs.Checked.{IsInstance}
 use Rattle.equation_law.specs.Codes.{IsCoded, instance_of}
 use Rattle.equation_law.specs.Equations.{equations_of}
-use Rattle.equation_law.specs.Loops.{Chain, Leads}
+use Rattle.equation_law.specs.Loops.{Chain, HasLoop, Leads}
 use Rattle.equation_law.specs.Names.{Instance}
 use Rattle.equation_law.specs.Program.{Program}
+use Rattle.expr_eval.specs.Saved.{AreSaved, SavesNothing}
 use Rattle.memo_cells.specs.declared.view.Frame.{Frame}
 use Rattle.memo_cells.specs.declared.view.View.{View}
 use Rattle.memo_cells.specs.Naming.{IsCellOf, LacksCell}
 use Rattle.memo_cells.specs.Standing.{Knows}
 use Rattle.memo_cells.specs.Views.{Has}
+use Rattle.memo_cells.specs.Working.{IsKnown}
 use Rattle.circular_eval.specs.declared.local.Local.{Local}
 use Rattle.circular_eval.specs.Advancing.{AreLed, IsPath}
 use Rattle.circular_eval.specs.Local.{IsLocal}
@@ -36,12 +38,13 @@ abbrev pub IsWayOf : Program → Frame → View → Instance → Option Local �
 IsWayOf p f v i None = Unit {0}
 IsWayOf p f v i (Some l) = IsWay p f v i l
 
--- an instance of the program that isn't circular, well coded, whose cell is seen claimed at its slot
+-- an instance of the program that isn't circular, well coded, whose cell is seen claimed at its slot; what is saved of its evaluation is so
 pub record IsPlaced (p : Program) (f : Frame) (v : View) (e : CodedInstance × Waiter) : Type 0 where
   pub instance : IsInstance p (instance_of p e.0)
   pub coded : IsCoded p e.0
   pub undeclared : (equations_of p).circular (instance_of p e.0) ≡ false
   pub slot : IsCellOf p f v (instance_of p e.0) e.1.slot.0
+  pub saved : AreSaved f.system.value (IsKnown p v) e.1.saved
 
 -- it is to be evaluated next, or the local set that it waits for is to go on
 pub record IsFrame (p : Program) (f : Frame) (v : View) (e : CodedInstance × Waiter) : Type 0 where
@@ -98,9 +101,10 @@ pub record IsBehind (l : Local) (chain whole : List CodedInstance) : Type 0 wher
   pub path : (p : Program) (f : Frame) (v : View) (n : Instance) → IsLocal p f v l → Needed p l n → IsPath p (instance_of p l.start) n (map (instance_of p) part ++ n ∷ [])
 
 -- the answer where the last of `es` is to wait for `next`: how that one stands, which is new among them, or the line to it, which holds it already
+-- where it isn't known to have a loop
 abbrev pub AnswersWait : Program → Frame → View → List (CodedInstance × Waiter) → CodedInstance → List (CodedInstance × Waiter) → Result Waiter AskFault → Type 0
-AnswersWait p f v es next new (Ok x) = (new ≡ es) × IsCellOf p f v (instance_of p next) x.slot.0 × (x.way ≡ None) × (waits es next ≡ false)
-AnswersWait p f v es next new (Err (Circular on chain)) = (on ≡ next) × (waits es next ≡ true) × ((g : Frame) (u : View) → AreWaiting p g u es (instance_of p next) → IsLineTo p es (instance_of p next) (map (instance_of p) chain))
+AnswersWait p f v es next new (Ok x) = (new ≡ es) × IsCellOf p f v (instance_of p next) x.slot.0 × (x.way ≡ None) × (waits es next ≡ false) × SavesNothing x.saved
+AnswersWait p f v es next new (Err (Circular on chain)) = (on ≡ next) × ((waits es next ≡ true) ⊎ HasLoop p (instance_of p next)) × ((g : Frame) (u : View) → AreWaiting p g u es (instance_of p next) → IsLineTo p es (instance_of p next) (map (instance_of p) chain))
 AnswersWait p f v es next new (Err CellsFull) = LacksCell p f v (instance_of p next)
 AnswersWait p f v es next new (Err Memory) = Unit {0}
 
@@ -112,4 +116,5 @@ WayStays p v (Some l) (Some m) = (m ≡ l) × (IsCoded p l.start → ¬ Knows p 
 
 pub record LooksAgain (p : Program) (v : View) (old new : Waiter) : Type 0 where
   pub slot : new.slot ≡ old.slot
+  pub saved : new.saved ≡ old.saved
   pub way : WayStays p v old.way new.way

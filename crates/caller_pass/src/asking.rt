@@ -1,21 +1,29 @@
 // Asking for the value of an instance.
-ghost use Rattle.std.specs.Prelude.{◌≡◌};
+ghost use Rattle.std.specs.Prelude.{◌≡◌, ◌++◌, ◌∷◌, [], List, map, true};
+ghost use Rattle.equation_law.specs.declared.coding.Instance.{Instance as CodedInstance};
 ghost use Rattle.equation_law.specs.Checked.{IsInstance, IsProgram};
 ghost use Rattle.equation_law.specs.Codes.{IsCoded, instance_of};
+ghost use Rattle.equation_law.specs.Names.{Instance as StandingInstance};
+ghost use Rattle.equation_law.specs.Program.{Program};
 ghost use Rattle.equation_law.specs.Systems.{program_of};
+ghost use Rattle.memo_cells.specs.declared.view.Frame.{Frame};
+ghost use Rattle.memo_cells.specs.declared.view.View.{View};
 ghost use Rattle.memo_cells.specs.Standing.{IsPassOf, Knows};
-ghost use Rattle.memo_cells.specs.Views.{IsAtLeast};
+ghost use Rattle.memo_cells.specs.Views.{Has, IsAtLeast};
 ghost use Rattle.memo_cells.specs.Working.{GoesOn, IsOwn, program_at};
-ghost use Rattle.caller_pass.specs.Answering.{Asks, Solves};
+ghost use Rattle.caller_pass.specs.Answering.{AnswersFault, Asks, AsksNoted, EndsAtLoop, Solves};
+ghost use Rattle.caller_pass.specs.Noting.{MayNote};
 
 use crate::desk::Desk;
 use crate::evals::Steps;
 use crate::faults::AskFault;
-use crate::solving::{close, solve};
-use equation_law::{Instance, System, Value};
+use crate::notebook::Notebook;
+use crate::solving::{close, solve_unless_noted};
+use equation_law::{Chain, Instance, System, Value};
 use expr_eval::is_declared;
 use memo_cells::{Cells, Pass};
 use std::alloc::Global;
+use std::mem::replace;
 use std::sync::ledger::Ledger;
 
 /// Settles an instance, or seals it with its set if it is circular.
@@ -36,7 +44,7 @@ fn settle<L: Ledger>(
     if is_declared(desk.system, &i) {
         return close(alloc, desk, i, evals);
     }
-    solve(alloc, desk, i, evals)
+    solve_unless_noted(alloc, desk, i, evals)
 }
 
 /// The value of an instance, which is settled or sealed where it isn't yet.
@@ -50,7 +58,7 @@ fn answer<L: Ledger>(
     requires instance { IsInstance (program_at desk.old) (instance_of (program_at desk.old) i) }
     requires coded { IsCoded (program_at desk.old) i }
     ensures on { GoesOn desk.old desk.new }
-    ensures asked { Asks (program_at desk.old) desk.old.0 desk.old.1 desk.new.1 (instance_of (program_at desk.old) i) evals.old evals.new result }
+    ensures asked { AsksNoted (program_at desk.old) desk.old.0 desk.old.1 desk.new.1 (instance_of (program_at desk.old) i) evals.old evals.new result }
 {
     if let Some(value) = desk.known_value(alloc, i)? {
         return Ok(value);
@@ -59,6 +67,96 @@ fn answer<L: Ledger>(
     match desk.known_value(alloc, i)? {
         Some(value) => Ok(value),
         None => Err(AskFault::Memory),
+    }
+}
+
+/// Asks at a desk that has these notes, and gives them back.
+fn ask_at<L: Ledger>(
+    alloc: Global,
+    system: &System,
+    cells: &Cells,
+    pass: &mut Pass,
+    notes: Notebook,
+    i: &Instance,
+    evals: &mut Steps<L>,
+) -> (Result<Value, AskFault>, Notebook)
+    requires program { IsProgram (program_of system.now) }
+    requires same { cells.now.system.value ≡ system.now }
+    requires own { IsPassOf cells.now pass.old }
+    requires notes { notes ≡ system.now }
+    requires instance { IsInstance (program_of system.now) (instance_of (program_of system.now) i.now) }
+    requires coded { IsCoded (program_of system.now) i.now }
+    ensures own { IsPassOf cells.now pass.new }
+    ensures kept { IsAtLeast pass.old pass.new }
+    ensures notes { result.1 ≡ system.now }
+    ensures asked { AsksNoted (program_of system.now) cells.now pass.old pass.new (instance_of (program_of system.now) i.now) evals.old evals.new result.0 }
+{
+    let mut desk = Desk {
+        system,
+        cells,
+        notes,
+        pass,
+    };
+    let came = answer(alloc, &mut desk, *i, evals);
+    // What was lent goes back last.
+    let Desk {
+        notes: more,
+        pass: _pass,
+        ..
+    } = desk;
+    (came, more)
+}
+
+/// Asks where nothing is noted.
+fn ask_alone<L: Ledger>(
+    alloc: Global,
+    system: &System,
+    cells: &Cells,
+    pass: &mut Pass,
+    i: &Instance,
+    evals: &mut Steps<L>,
+) -> Result<Value, AskFault>
+    requires program { IsProgram (program_of system.now) }
+    requires same { cells.now.system.value ≡ system.now }
+    requires own { IsPassOf cells.now pass.old }
+    requires instance { IsInstance (program_of system.now) (instance_of (program_of system.now) i.now) }
+    requires coded { IsCoded (program_of system.now) i.now }
+    ensures own { IsPassOf cells.now pass.new }
+    ensures kept { IsAtLeast pass.old pass.new }
+    ensures asked { AsksNoted (program_of system.now) cells.now pass.old pass.new (instance_of (program_of system.now) i.now) evals.old evals.new result }
+{
+    let mut notes = Notebook::new(alloc, system);
+    ask_noted(alloc, system, cells, pass, &mut notes, i, evals)
+}
+
+/// Whether an instance stands in a chain before its end.
+fn stands_before(on: &Instance, chain: &Chain) -> bool
+    ensures { result ≡ true → (front : List CodedInstance) × Has front on.now × ((last : CodedInstance) × (chain.now ≡ front ++ last ∷ [])) }
+{
+    match chain.list().split_last() {
+        Some((_, front)) => front.contains(on),
+        None => false,
+    }
+}
+
+/// The fault of a chain that ends at an instance which stands in it before.
+fn round(on: Instance, chain: Chain) -> AskFault
+    ensures { (p : Program) (f : Frame) (v : View) (i : StandingInstance) → EndsAtLoop p i (instance_of p on) (map (instance_of p) chain) → AnswersFault p f v i result }
+{
+    if stands_before(&on, &chain) {
+        AskFault::Circular { on, chain }
+    } else {
+        AskFault::Memory
+    }
+}
+
+/// Notes the loops that an answer tells of.
+fn note_loops(notes: &mut Notebook, came: &Result<Value, AskFault>)
+    requires { MayNote (program_of notes.old) came.now }
+    ensures { notes.new ≡ notes.old }
+{
+    if let Err(AskFault::Circular { chain, .. }) = came {
+        notes.note_loops(chain.list());
     }
 }
 
@@ -85,12 +183,39 @@ pub fn ask<L: Ledger>(
     ensures kept { IsAtLeast pass.old pass.new }
     ensures asked { Asks (program_of system.now) cells.now pass.old pass.new (instance_of (program_of system.now) i.now) evals.old evals.new result }
 {
-    let mut desk = Desk {
-        system,
-        cells,
-        pass,
-    };
-    let came = answer(alloc, &mut desk, *i, evals);
-    let Desk { pass: _pass, .. } = desk;
+    match ask_alone(alloc, system, cells, pass, i, evals) {
+        Ok(value) => Ok(value),
+        Err(AskFault::Circular { on, chain }) => Err(round(on, chain)),
+        Err(AskFault::CellsFull) => Err(AskFault::CellsFull),
+        Err(AskFault::Memory) => Err(AskFault::Memory),
+    }
+}
+
+/// Asks for the value of an instance like `ask`, with what the caller has noted of the program, and notes more. Where the demand comes to an
+/// instance that is noted to have a loop, the chain ends there.
+pub fn ask_noted<L: Ledger>(
+    alloc: Global,
+    system: &System,
+    cells: &Cells,
+    pass: &mut Pass,
+    notes: &mut Notebook,
+    i: &Instance,
+    evals: &mut Steps<L>,
+) -> Result<Value, AskFault>
+    requires program { IsProgram (program_of system.now) }
+    requires same { cells.now.system.value ≡ system.now }
+    requires own { IsPassOf cells.now pass.old }
+    requires notes { notes.old ≡ system.now }
+    requires instance { IsInstance (program_of system.now) (instance_of (program_of system.now) i.now) }
+    requires coded { IsCoded (program_of system.now) i.now }
+    ensures own { IsPassOf cells.now pass.new }
+    ensures kept { IsAtLeast pass.old pass.new }
+    ensures notes { notes.new ≡ system.now }
+    ensures asked { AsksNoted (program_of system.now) cells.now pass.old pass.new (instance_of (program_of system.now) i.now) evals.old evals.new result }
+{
+    let kept = replace(notes, Notebook::new(alloc, system));
+    let (came, more) = ask_at(alloc, system, cells, pass, kept, i, evals);
+    *notes = more;
+    note_loops(notes, &came);
     came
 }

@@ -1,7 +1,9 @@
 // A pass at its cells.
 ghost use Rattle.std.specs.Prelude.{◌≡◌};
 
+use crate::notebook::Notebook;
 use crate::turns::is_set;
+use attr_rules::Kind;
 use equation_law::{Code, Instance, Reader, System, Value};
 use expr_eval::kind_of;
 use memo_cells::{Cells, CellsFull, Key, Pass, Slot, Words, Work, value_shown};
@@ -14,6 +16,7 @@ use std::marker::Model;
 pub(crate) struct Desk<'a> {
     pub system: &'a System,
     pub cells: &'a Cells,
+    pub notes: Notebook,
     pub pass: &'a mut Pass,
 }
 
@@ -31,7 +34,7 @@ impl<'a> Model for Desk<'a> {
 
     ghost view = { λ d. (d.cells.now, d.pass.now, d.pass.ghost_name) };
 
-    ghost invariant = { λ d. IsPassOf d.cells.now d.pass.now × (d.cells.now.system.value ≡ d.system.now) };
+    ghost invariant = { λ d. (IsPassOf d.cells.now d.pass.now × (d.notes ≡ d.system.now)) × (d.cells.now.system.value ≡ d.system.now) };
 }
 
 impl Reader for Desk<'_> {
@@ -75,14 +78,18 @@ impl Work for Desk<'_> {
 }
 
 impl Desk<'_> {
-    ghost use Rattle.std.specs.Prelude.{◌<◌, IfOk, IfSome, OnErr};
+    ghost use Rattle.std.specs.Prelude.{◌<◌, IfOk, IfSome, OnErr, false, true};
+    ghost use Rattle.attr_rules.specs.Rules.{is_single};
+    ghost use Rattle.equation_law.specs.Equations.{kind_in};
     ghost use Rattle.equation_law.specs.Checked.{IsInstance};
     ghost use Rattle.equation_law.specs.Codes.{IsCoded, instance_of};
+    ghost use Rattle.equation_law.specs.Loops.{HasLoop};
     ghost use Rattle.equation_law.specs.Names.{Instance as StandingInstance};
     ghost use Rattle.memo_cells.specs.Naming.{ClaimsKeysTo, IsCellOf, LacksCell};
     ghost use Rattle.memo_cells.specs.Standing.{Knows, MaySettle};
     ghost use Rattle.memo_cells.specs.Working.{GoesOn, IsOwn, ReadsOn, program_at};
-    ghost use Rattle.caller_pass.specs.Knowing.{FindsCode, FindsValue};
+    ghost use Rattle.caller_pass.specs.Knowing.{FindsCode, FindsValue, IsKnownValue};
+    ghost use Rattle.caller_pass.specs.Noting.{IsNoted};
 
     /// The one slot of an instance of the system, claimed where it wasn't.
     pub(crate) fn claim_cell(&mut self, i: Instance) -> Result<Slot, CellsFull>
@@ -132,10 +139,54 @@ impl Desk<'_> {
         };
         let kind = kind_of(self.system, &i);
         if is_set(kind) {
-            let system = self.system;
-            let value = value_shown(alloc, system, self, slot, kind)?;
+            let value = self.set_value(alloc, i, slot, kind)?;
             return Ok(Some(value));
         }
         Ok(Some(Value::of_code(alloc, kind, code)))
+    }
+
+    /// Notes the value of an instance, if it is of a set type.
+    pub(crate) fn note_set(&mut self, i: Instance, kind: Kind, value: &Value)
+        requires { IsNoted (program_at self.old) i value.now }
+        ensures { self.new ≡ self.old }
+    {
+        if !is_set(kind) {
+            return;
+        }
+        if let Ok(copy) = value.copy() {
+            self.notes.note_set(i, copy);
+        }
+    }
+
+    /// Whether it is noted that an instance has a loop.
+    pub(crate) fn has_loop(&self, i: &Instance) -> bool
+        ensures { result ≡ true → HasLoop (program_at self.now) (instance_of (program_at self.now) i.now) }
+    {
+        self.notes.has_loop(i)
+    }
+
+    // The value of an instance of a set type whose cell is settled. It is read once, and noted.
+    fn set_value(
+        &mut self,
+        alloc: Global,
+        i: Instance,
+        slot: Slot,
+        kind: Kind,
+    ) -> Result<Value, Memory>
+        requires own { IsOwn self.old }
+        requires cell { (j : StandingInstance) × IsCellOf (program_at self.old) self.old.0 self.old.1 j slot.0 }
+        requires known { IsCoded (program_at self.old) i → IsCellOf (program_at self.old) self.old.0 self.old.1 (instance_of (program_at self.old) i) slot.0 × Knows (program_at self.old) self.old.1 (instance_of (program_at self.old) i) }
+        requires kind { kind ≡ kind_in (program_at self.old) (instance_of (program_at self.old) i) }
+        requires set { is_single kind ≡ false }
+        ensures on { ReadsOn self.old self.new }
+        ensures value { IfOk result (λ x. IsCoded (program_at self.old) i → IsKnownValue (program_at self.old) self.new.1 (instance_of (program_at self.old) i) x) }
+    {
+        if let Some(value) = self.notes.set(&i) {
+            return Ok(value);
+        }
+        let system = self.system;
+        let value = value_shown(alloc, system, self, slot, kind)?;
+        self.note_set(i, kind, &value);
+        Ok(value)
     }
 }

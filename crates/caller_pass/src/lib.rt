@@ -5,11 +5,13 @@ mod asking;
 mod desk;
 mod evals;
 mod faults;
+mod notebook;
 mod solving;
 mod turns;
 mod waiting;
 
-pub use asking::ask;
+pub use asking::{ask, ask_noted};
 pub use equation_law::Chain;
 pub use evals::Steps;
 pub use faults::AskFault;
+pub use notebook::Notebook;

@@ -1,10 +1,11 @@
 // Settling an instance on demand, with an explicit stack of what waits.
-ghost use Rattle.std.specs.Prelude.{◌≡◌, ◌++◌, ◌∷◌, [], false, true, IfOk, IsOk};
+ghost use Rattle.std.specs.Prelude.{◌≡◌, ◌⊎◌, ◌++◌, ◌∷◌, [], false, true, IfOk, IsOk};
 ghost use Rattle.circular_eval.specs.Advancing.{IsMissing};
 ghost use Rattle.circular_eval.specs.Local.{IsLocal};
 ghost use Rattle.equation_law.specs.Checked.{IsInstance, IsProgram};
 ghost use Rattle.equation_law.specs.Codes.{IsCoded, instance_of};
 ghost use Rattle.equation_law.specs.Equations.{equations_of};
+ghost use Rattle.equation_law.specs.Loops.{HasLoop};
 ghost use Rattle.memo_cells.specs.Naming.{ClaimsKeysTo};
 ghost use Rattle.memo_cells.specs.Standing.{Knows};
 ghost use Rattle.memo_cells.specs.Working.{GoesOn, IsOwn, ReadsOn, program_at};
@@ -15,10 +16,10 @@ use crate::desk::Desk;
 use crate::evals::Steps;
 use crate::faults::AskFault;
 use crate::turns::{finish, go_on, turn};
-use crate::waiting::{Waiter, Waiting, push_all, push_path};
+use crate::waiting::{Waiter, Waiting, alone, push_all, push_path};
 use circular_eval::{CircTurn, Local};
 use equation_law::{Chain, Instance};
-use expr_eval::{Turn, is_declared};
+use expr_eval::{Saved, Turn, is_declared};
 use rag_io::Memory;
 use std::alloc::Global;
 use std::sync::ledger::Ledger;
@@ -35,11 +36,11 @@ pub(crate) enum Went {
 }
 
 /// One turn of an instance that isn't circular: its local set goes on, if it waits for one, or else its equation is evaluated.
-fn step<L: Ledger>(
+fn step<'a, L: Ledger>(
     alloc: Global,
-    desk: &mut Desk<'_>,
+    desk: &mut Desk<'a>,
     i: Instance,
-    waiter: &mut Waiter,
+    waiter: &mut Waiter<'a>,
     evals: &mut Steps<L>,
 ) -> Result<Went, AskFault>
     requires program { IsProgram (program_at desk.old) }
@@ -55,7 +56,7 @@ fn step<L: Ledger>(
             }
         };
     }
-    match turn(alloc, desk, i, evals)? {
+    match turn(alloc, desk, i, &mut waiter.saved, evals)? {
         Turn::Done(value) => {
             finish(alloc, desk, i, waiter.slot, &value)?;
             Ok(Went::Settled)
@@ -70,34 +71,47 @@ fn step<L: Ledger>(
     }
 }
 
-/// Lets an instance wait for the value of another one, to which it leads, and answers how that one stands.
-fn wait_for(
+/// Whether an instance waits already, or is noted to have a loop.
+fn closes_loop(desk: &Desk<'_>, waiting: &Waiting<'_>, next: Instance) -> bool
+    ensures closes { result ≡ true → (waits waiting.now next ≡ true) ⊎ HasLoop (program_at desk.now) (instance_of (program_at desk.now) next) }
+    ensures other { result ≡ false → waits waiting.now next ≡ false }
+{
+    waiting.contains(next) || desk.has_loop(&next)
+}
+
+/// Lets an instance wait for the value of another one, to which it leads, and answers how that one stands. It doesn't wait where the other one
+/// waits already, or is noted to have a loop.
+fn wait_for<'a>(
     alloc: Global,
     desk: &mut Desk<'_>,
-    waiting: &mut Waiting,
-    last: (Instance, Waiter),
+    waiting: &mut Waiting<'a>,
+    last: (Instance, Waiter<'a>),
     next: Instance,
-) -> Result<Waiter, AskFault>
+) -> Result<Waiter<'a>, AskFault>
     requires next { IsInstance (program_at desk.old) (instance_of (program_at desk.old) next) }
     requires coded { IsCoded (program_at desk.old) next }
     requires own { IsOwn desk.old }
     requires other { waits waiting.old last.0 ≡ false }
     ensures on { GoesOn desk.old desk.new }
     ensures claims { ClaimsKeysTo (program_at desk.old) desk.old.1 desk.new.1 (instance_of (program_at desk.old) next) }
-    ensures answer { AnswersWait (program_at desk.old) desk.old.0 desk.new.1 (waiting.old ++ last ∷ []) next waiting.new result }
+    ensures answer { AnswersWait (program_at desk.old) desk.old.0 desk.new.1 (waiting.old ++ last.entry ∷ []) next waiting.new result }
 {
     let (top, waiter) = last;
     waiting.push(top, waiter)?;
-    if waiting.contains(next) {
+    if closes_loop(desk, waiting, next) {
         let chain = waiting.chain(alloc, next)?;
         return Err(AskFault::Circular { on: next, chain });
     }
     let slot = desk.claim_cell(next)?;
-    Ok(Waiter { slot, way: None })
+    Ok(Waiter {
+        slot,
+        way: None,
+        saved: Saved::new(alloc),
+    })
 }
 
 /// Where the local set through which an instance waits begins with one that was sealed meanwhile, it doesn't wait for that any more.
-fn look_again(desk: &mut Desk<'_>, waiter: &mut Waiter)
+fn look_again(desk: &mut Desk<'_>, waiter: &mut Waiter<'_>)
     requires own { IsOwn desk.old }
     ensures on { ReadsOn desk.old desk.new }
     ensures looked { LooksAgain (program_at desk.old) desk.new.1 waiter.old waiter.new }
@@ -113,7 +127,7 @@ fn look_again(desk: &mut Desk<'_>, waiter: &mut Waiter)
 
 /// Settles the cell of an instance that isn't circular. What is demanded for it waits in an explicit stack, each instance with its slot, and
 /// with the local set through which it waits where it demands a circular one.
-pub(crate) fn solve<L: Ledger>(
+fn solve<L: Ledger>(
     alloc: Global,
     desk: &mut Desk<'_>,
     i: Instance,
@@ -134,6 +148,7 @@ pub(crate) fn solve<L: Ledger>(
     let mut waiter = Waiter {
         slot: desk.claim_cell(i)?,
         way: None,
+        saved: Saved::new(alloc),
     };
     'turns: loop {
         match step(alloc, desk, top, &mut waiter, evals)? {
@@ -151,6 +166,30 @@ pub(crate) fn solve<L: Ledger>(
             },
         }
     }
+}
+
+/// Settles the cell of an instance that isn't circular, unless it is noted that it has a loop.
+pub(crate) fn solve_unless_noted<L: Ledger>(
+    alloc: Global,
+    desk: &mut Desk<'_>,
+    i: Instance,
+    evals: &mut Steps<L>,
+) -> Result<(), AskFault>
+    requires program { IsProgram (program_at desk.old) }
+    requires own { IsOwn desk.old }
+    requires instance { IsInstance (program_at desk.old) (instance_of (program_at desk.old) i) }
+    requires coded { IsCoded (program_at desk.old) i }
+    requires undeclared { (equations_of (program_at desk.old)).circular (instance_of (program_at desk.old) i) ≡ false }
+    requires unknown { ¬ Knows (program_at desk.old) desk.old.1 (instance_of (program_at desk.old) i) }
+    ensures on { GoesOn desk.old desk.new }
+    ensures solved { Solves (program_at desk.old) desk.old.0 desk.old.1 desk.new.1 (instance_of (program_at desk.old) i) evals.old evals.new result }
+    ensures outer { IsOk result → LeavesOne (program_at desk.old) desk.old.0 desk.old.1 desk.new.1 (instance_of (program_at desk.old) i) evals.old evals.new }
+{
+    if desk.has_loop(&i) {
+        let chain = alone(alloc, i)?;
+        return Err(AskFault::Circular { on: i, chain });
+    }
+    solve(alloc, desk, i, evals)
 }
 
 /// The chain of a fault, led to by what a local set leads to the first of it by.
@@ -178,7 +217,7 @@ fn solve_for<L: Ledger>(
     ensures on { GoesOn desk.old desk.new }
     ensures solved { SolvesFor (program_at desk.old) desk.old.0 desk.old.1 desk.new.1 local.now (instance_of (program_at desk.old) next) evals.old evals.new result }
 {
-    match solve(alloc, desk, next, evals) {
+    match solve_unless_noted(alloc, desk, next, evals) {
         Ok(()) => Ok(()),
         Err(AskFault::Circular { on, chain }) => {
             let chain = behind(alloc, local, &chain)?;

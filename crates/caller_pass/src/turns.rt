@@ -7,7 +7,8 @@ ghost use Rattle.equation_law.specs.Codes.{IsCoded, instance_of};
 ghost use Rattle.equation_law.specs.Equations.{equations_of};
 ghost use Rattle.equation_law.specs.Checked.{IsInstance, IsProgram};
 ghost use Rattle.memo_cells.specs.Naming.{IsCellOf};
-ghost use Rattle.memo_cells.specs.Working.{GoesOn, IsOwn, ReadsOn, program_at};
+ghost use Rattle.expr_eval.specs.Saved.{AreSaved};
+ghost use Rattle.memo_cells.specs.Working.{GoesOn, IsKnown, IsOwn, ReadsOn, program_at};
 ghost use Rattle.caller_pass.specs.Answering.{AnswersFinish, AnswersShow, ClaimsKeys};
 ghost use Rattle.caller_pass.specs.Knowing.{HasEnded, TurnsTo};
 
@@ -17,7 +18,7 @@ use crate::faults::AskFault;
 use attr_rules::Kind;
 use circular_eval::{CircFault, CircTurn, Local, advance};
 use equation_law::{Instance, Value};
-use expr_eval::{Turn, evaluate_instance, kind_of};
+use expr_eval::{Saved, Turn, kind_of, resume_instance};
 use memo_cells::{Slot, codes_of, raise_codes};
 use rag_io::Memory;
 use std::alloc::Global;
@@ -30,21 +31,24 @@ pub(crate) fn is_set(kind: Kind) -> bool
     matches!(kind, Kind::Texts | Kind::Nodes(_))
 }
 
-/// One evaluation of the equation of an instance under what the pass knows.
-pub(crate) fn turn<L: Ledger>(
+/// Goes on with the evaluation of the equation of an instance under what the pass knows, where it stopped.
+pub(crate) fn turn<'a, L: Ledger>(
     alloc: Global,
-    desk: &mut Desk<'_>,
+    desk: &mut Desk<'a>,
     i: Instance,
+    saved: &mut Saved<'a>,
     evals: &mut Steps<L>,
 ) -> Result<Turn, Memory>
     requires coded { IsCoded (program_at desk.old) i }
+    requires saved { AreSaved desk.old.0.system.value (IsKnown (program_at desk.old) desk.old.1) saved.old }
     ensures on { ReadsOn desk.old desk.new }
     ensures turned { TurnsTo (program_at desk.old) desk.new.1 (instance_of (program_at desk.old) i) result }
+    ensures saved { AreSaved desk.old.0.system.value (IsKnown (program_at desk.old) desk.new.1) saved.new }
     ensures evals { evals.new ≡ evals.old + 1 }
 {
     evals.tick();
     let system = desk.system;
-    evaluate_instance(alloc, system, &i, desk)
+    resume_instance(alloc, system, &i, desk, saved)
 }
 
 /// Goes on with a local set under what the pass knows.
@@ -93,7 +97,7 @@ fn show(
     Ok(())
 }
 
-/// Settles the cell of an instance whose equation ended. That of a set has its words raised first.
+/// Settles the cell of an instance whose equation ended. That of a set has its words raised first, and the set is noted.
 pub(crate) fn finish(
     alloc: Global,
     desk: &mut Desk<'_>,
@@ -114,5 +118,6 @@ pub(crate) fn finish(
     show(alloc, desk, i, slot, value)?;
     let kind = kind_of(desk.system, &i);
     desk.settle(slot, value.code(kind));
+    desk.note_set(i, kind, value);
     Ok(())
 }

@@ -8,37 +8,40 @@ ghost use Rattle.caller_pass.specs.Waiting.{AreWaiting, HasPart, IsLineTo, waits
 
 use circular_eval::Local;
 use equation_law::{Chain, Instance};
+use expr_eval::Saved;
 use indexmap::IndexMap;
 use memo_cells::Slot;
 use rag_io::Memory;
 use std::alloc::Global;
 use std::marker::Model;
 
-/// An instance that isn't circular and waits for another one: the slot of its cell, and the local set through which it waits, where it demands
-/// a circular instance.
+/// An instance that isn't circular and waits for another one: the slot of its cell, the local set through which it waits, where it demands a
+/// circular instance, and what its evaluation left behind.
 #[derive(Drop)]
-pub(crate) struct Waiter {
+pub(crate) struct Waiter<'a> {
     pub slot: Slot,
     pub way: Option<Local>,
+    pub saved: Saved<'a>,
 }
 
 /// The instances that wait, each for the value of the next one. No instance stands there twice, and whether one stands there takes constant
 /// time.
 #[derive(Drop)]
-pub(crate) struct Waiting {
-    waiters: IndexMap<Instance, Waiter>,
+pub(crate) struct Waiting<'a> {
+    waiters: IndexMap<Instance, Waiter<'a>>,
 }
 
-impl Model for Waiting {
+impl<'a> Model for Waiting<'a> {
     ghost use Rattle.std.specs.Prelude.{List};
     ghost use Rattle.std.specs.Coded.{codes};
+    ghost use Rattle.attr_rules.specs.contracts.expression.TExpr as expressions;
     ghost use Rattle.circular_eval.specs.contracts.local.Local as locals;
     ghost use Rattle.equation_law.specs.declared.coding.Instance.{Instance as CodedInstance};
     ghost use Rattle.caller_pass.specs.declared.waiting.Waiter.{Waiter as Waits};
 
     ghost Value = { List (CodedInstance × Waits) };
 
-    ghost coded = { Prim.hlevel (codes, locals.the_row.coded) };
+    ghost coded = { Prim.hlevel (codes, expressions.the_row.coded, locals.the_row.coded) };
 
     ghost view = { λ waiting. waiting.waiters.entries };
 }
@@ -57,6 +60,15 @@ pub(crate) fn push_all(list: &mut Vec<Instance>, more: &[Instance]) -> Result<()
     list.extend_from_slice(more).map_err(|_| Memory)
 }
 
+/// A chain of one instance.
+pub(crate) fn alone(alloc: Global, i: Instance) -> Result<Chain, Memory>
+    ensures { IfOk result (λ chain. chain ≡ i ∷ []) }
+{
+    let mut list = Vec::new(alloc);
+    push(&mut list, i)?;
+    Ok(Chain::new(list))
+}
+
 /// Adds the instances by which a local set leads to what it needed last, without that.
 pub(crate) fn push_path(
     alloc: Global,
@@ -72,9 +84,9 @@ pub(crate) fn push_path(
     push_all(list, front)
 }
 
-impl Waiting {
+impl<'a> Waiting<'a> {
     /// None waits.
-    pub(crate) fn new(alloc: Global) -> Waiting
+    pub(crate) fn new(alloc: Global) -> Waiting<'a>
         ensures { result ≡ [] }
     {
         Waiting {
@@ -90,9 +102,9 @@ impl Waiting {
     }
 
     /// Lets one more wait, which doesn't wait yet.
-    pub(crate) fn push(&mut self, i: Instance, waiter: Waiter) -> Result<(), Memory>
+    pub(crate) fn push(&mut self, i: Instance, waiter: Waiter<'a>) -> Result<(), Memory>
         requires { waits self.old i ≡ false }
-        ensures { OnOk result (self.new ≡ self.old ++ (i, waiter) ∷ []) }
+        ensures { OnOk result (self.new ≡ self.old ++ (i, waiter.entry) ∷ []) }
     {
         let Ok(_) = self.waiters.insert(i, waiter) else {
             return Err(Memory);
@@ -101,7 +113,7 @@ impl Waiting {
     }
 
     /// Takes the last one away, if one waits.
-    pub(crate) fn pop(&mut self) -> Option<(Instance, Waiter)>
+    pub(crate) fn pop(&mut self) -> Option<(Instance, Waiter<'a>)>
         ensures last { self.old ≡ self.new ++ option_to_list result }
         ensures none { IfNone result (self.new ≡ []) }
         ensures other { IfSome result (λ e. waits self.new e.0 ≡ false) }

@@ -10,7 +10,7 @@ ghost use Rattle.caller_pass.specs.Overfull.{IsOverfull};
 ghost use Rattle.query_replies.specs.Replies.{AreReplies};
 ghost use Rattle.query_replies.specs.Replies.{AddsAnswer};
 
-use caller_pass::{AskFault, Steps, ask};
+use caller_pass::{AskFault, Notebook, Steps, ask_noted};
 use equation_law::{Instance, System};
 use memo_cells::{Cells, Pass};
 use query_lang::add_reply;
@@ -53,6 +53,7 @@ fn add_answer<L: Ledger>(
     system: &System,
     cells: &Cells,
     pass: &mut Pass,
+    notes: &mut Notebook,
     query: u32,
     text: &mut Vec<u8>,
     evals: &mut Steps<L>,
@@ -60,14 +61,17 @@ fn add_answer<L: Ledger>(
     requires program { IsProgram (program_of system.now) }
     requires same { cells.now.system.value ≡ system.now }
     requires own { IsPassOf cells.now pass.old }
+    requires notes { notes.old ≡ system.now }
     requires query { query < length (program_of system.now).queries }
     ensures own { IsPassOf cells.now pass.new }
     ensures kept { IsAtLeast pass.old pass.new }
+    ensures notes { notes.new ≡ system.now }
     ensures claims { ClaimsKeys (program_of system.now) (Query query) pass.old pass.new }
     ensures line { OnOk result (AddsAnswer (program_of system.now) query text.old.items text.new.items) }
     ensures full { result ≡ Err ReplyFault.Cells → FillsCells (program_of system.now) (Query query) cells.now pass.new }
 {
-    match ask(alloc, system, cells, pass, &Instance::Query(query), evals) {
+    let asked = Instance::Query(query);
+    match ask_noted(alloc, system, cells, pass, notes, &asked, evals) {
         Ok(value) => Ok(add_reply(alloc, system, text, &value)?),
         Err(AskFault::Circular { .. }) => Ok(add_line(text, b"circular".as_slice())?),
         Err(AskFault::CellsFull) => Err(ReplyFault::Cells),
@@ -93,9 +97,12 @@ fn add_answers<L: Ledger, G: Gate>(
     ensures full { result ≡ Err ReplyFault.Cells → IsOverfull (program_of system.now) cells.now.cells }
 {
     let mut evals = Steps::<L>::new(blank);
+    let mut notes = Notebook::new(alloc, system);
     let mut text = Vec::new(alloc);
     'replies: for query in 0..system.replies() {
-        add_answer(alloc, system, cells, pass, query, &mut text, &mut evals)?;
+        add_answer(
+            alloc, system, cells, pass, &mut notes, query, &mut text, &mut evals,
+        )?;
         gate.reached(0, query);
     }
     Ok(text)

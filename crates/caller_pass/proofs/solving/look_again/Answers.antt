@@ -23,5 +23,5 @@ returns-then-known-clause-looked c = elim c.match-waiter.branch [
       let d = c.args.desk.now in
       let p = program_at d in
       let there = sym w.is_some-known.ensures ∙ sym w.known-is ∙ c.if-known.true in
-      subst (λ (x : Waiter). LooksAgain p c.match-waiter.desk.1 c.args.waiter.now (record { slot = x.slot; way = None })) (sym w.waiter-is) (looked_known p w.settled_code.new.self.0 w.settled_code.new.self.1 c.match-waiter.desk.1 (ap (λ (e : Held). e.1) w.desk-is) c.args.waiter.now w.in-Some.local w.in-Some.is w.first.result w.first.ensures w.settled_code.result there w.settled_code.ensures.known)
+      looked_known p w.settled_code.new.self.0 w.settled_code.new.self.1 c.match-waiter.desk.1 (ap (λ (e : Held). e.1) w.desk-is) c.args.waiter.now w.in-Some.local w.in-Some.is w.first.result w.first.ensures w.settled_code.result there w.settled_code.ensures.known
 ]

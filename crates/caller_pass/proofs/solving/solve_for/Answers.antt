@@ -7,50 +7,50 @@ use Rattle.memo_cells.specs.Working.{program_at}
 use Rattle.caller_pass.proofs.Needing.{full_for, loop_for, memory_for, settled_for}
 use Rattle.caller_pass.proofs.solving.solve_for.Goals as goal
 
-pub solve-requires-clause-program : goal.solve-requires-clause-program
-solve-requires-clause-program g c = c.requires.program
+pub solve_unless_noted-requires-clause-program : goal.solve_unless_noted-requires-clause-program
+solve_unless_noted-requires-clause-program g c = c.requires.program
 
-pub solve-requires-clause-own : goal.solve-requires-clause-own
-solve-requires-clause-own g c = c.requires.own
+pub solve_unless_noted-requires-clause-own : goal.solve_unless_noted-requires-clause-own
+solve_unless_noted-requires-clause-own g c = c.requires.own
 
-pub solve-requires-clause-instance : goal.solve-requires-clause-instance
-solve-requires-clause-instance g c = c.requires.missing.instance
+pub solve_unless_noted-requires-clause-instance : goal.solve_unless_noted-requires-clause-instance
+solve_unless_noted-requires-clause-instance g c = c.requires.missing.instance
 
-pub solve-requires-clause-coded : goal.solve-requires-clause-coded
-solve-requires-clause-coded g c = c.requires.missing.coded
+pub solve_unless_noted-requires-clause-coded : goal.solve_unless_noted-requires-clause-coded
+solve_unless_noted-requires-clause-coded g c = c.requires.missing.coded
 
-pub solve-requires-clause-undeclared : goal.solve-requires-clause-undeclared
-solve-requires-clause-undeclared g c = c.requires.missing.undeclared
+pub solve_unless_noted-requires-clause-undeclared : goal.solve_unless_noted-requires-clause-undeclared
+solve_unless_noted-requires-clause-undeclared g c = c.requires.missing.undeclared
 
-pub solve-requires-clause-unknown : goal.solve-requires-clause-unknown
-solve-requires-clause-unknown g c = c.requires.missing.unknown
+pub solve_unless_noted-requires-clause-unknown : goal.solve_unless_noted-requires-clause-unknown
+solve_unless_noted-requires-clause-unknown g c = c.requires.missing.unknown
 
 pub returns-in_err-chain-in-Err-Circular-clause-on : goal.returns-in_err-chain-in-Err-Circular-clause-on
 returns-in_err-chain-in-Err-Circular-clause-on g c = c.in-Err-Circular.ensures.on
 
 pub returns-in_err-chain-in-Err-Circular-clause-solved : goal.returns-in_err-chain-in-Err-Circular-clause-solved
-returns-in_err-chain-in-Err-Circular-clause-solved g c = memory_for (program_at c.args.desk.now) c.args.desk.now.0 c.args.desk.now.1 c.solve.new.desk.1 c.args.local.now c.args.next c.requires.local c.requires.missing c.args.evals.now c.solve.new.evals c.from_residual.result c.in-Err-Circular.ensures.solved.claims c.from_residual.ensures
+returns-in_err-chain-in-Err-Circular-clause-solved g c = memory_for (program_at c.args.desk.now) c.args.desk.now.0 c.args.desk.now.1 c.solve_unless_noted.new.desk.1 c.args.local.now c.args.next c.requires.local c.requires.missing c.args.evals.now c.solve_unless_noted.new.evals c.from_residual.result c.in-Err-Circular.ensures.solved.claims c.from_residual.ensures
 
 pub returns-in_ok-chain-in-Err-Circular-clause-on : goal.returns-in_ok-chain-in-Err-Circular-clause-on
 returns-in_ok-chain-in-Err-Circular-clause-on g c = c.in-Err-Circular.ensures.on
 
 pub returns-in_ok-chain-in-Err-Circular-clause-solved : goal.returns-in_ok-chain-in-Err-Circular-clause-solved
-returns-in_ok-chain-in-Err-Circular-clause-solved g c = loop_for (program_at c.args.desk.now) c.args.desk.now.0 c.args.desk.now.1 c.solve.new.desk.1 c.args.local.now c.args.next c.requires.local c.requires.missing c.args.evals.now c.solve.new.evals c.in-Err-Circular.on c.in-Err-Circular.chain c.in_ok-chain-in-Err-Circular.chain (subst (λ (e : AskFault). Solves (program_at c.args.desk.now) c.args.desk.now.0 c.args.desk.now.1 c.solve.new.desk.1 (instance_of (program_at c.args.desk.now) c.args.next) c.args.evals.now c.solve.new.evals (Err e)) c.in-Err-Circular.field-0-is c.in-Err-Circular.ensures.solved) c.in_ok-chain-in-Err-Circular.ensures
+returns-in_ok-chain-in-Err-Circular-clause-solved g c = loop_for (program_at c.args.desk.now) c.args.desk.now.0 c.args.desk.now.1 c.solve_unless_noted.new.desk.1 c.args.local.now c.args.next c.requires.local c.requires.missing c.args.evals.now c.solve_unless_noted.new.evals c.in-Err-Circular.on c.in-Err-Circular.chain c.in_ok-chain-in-Err-Circular.chain (subst (λ (e : AskFault). Solves (program_at c.args.desk.now) c.args.desk.now.0 c.args.desk.now.1 c.solve_unless_noted.new.desk.1 (instance_of (program_at c.args.desk.now) c.args.next) c.args.evals.now c.solve_unless_noted.new.evals (Err e)) c.in-Err-Circular.field-0-is c.in-Err-Circular.ensures.solved) c.in_ok-chain-in-Err-Circular.ensures
 
 pub returns-in-Ok-clause-on : goal.returns-in-Ok-clause-on
 returns-in-Ok-clause-on g c = c.in-Ok.ensures.on
 
 pub returns-in-Ok-clause-solved : goal.returns-in-Ok-clause-solved
-returns-in-Ok-clause-solved g c = settled_for (program_at c.args.desk.now) c.args.desk.now.0 c.args.desk.now.1 c.solve.new.desk.1 c.args.local.now c.args.next c.requires.local c.requires.missing c.args.evals.now c.solve.new.evals tt c.in-Ok.ensures.solved (c.in-Ok.ensures.outer refl)
+returns-in-Ok-clause-solved g c = settled_for (program_at c.args.desk.now) c.args.desk.now.0 c.args.desk.now.1 c.solve_unless_noted.new.desk.1 c.args.local.now c.args.next c.requires.local c.requires.missing c.args.evals.now c.solve_unless_noted.new.evals tt c.in-Ok.ensures.solved (c.in-Ok.ensures.outer refl)
 
 pub returns-in-Err-CellsFull-clause-on : goal.returns-in-Err-CellsFull-clause-on
 returns-in-Err-CellsFull-clause-on g c = c.in-Err-CellsFull.ensures.on
 
 pub returns-in-Err-CellsFull-clause-solved : goal.returns-in-Err-CellsFull-clause-solved
-returns-in-Err-CellsFull-clause-solved g c = full_for (program_at c.args.desk.now) c.args.desk.now.0 c.args.desk.now.1 c.solve.new.desk.1 c.args.local.now c.args.next c.requires.local c.requires.missing c.args.evals.now c.solve.new.evals (subst (λ (e : AskFault). Solves (program_at c.args.desk.now) c.args.desk.now.0 c.args.desk.now.1 c.solve.new.desk.1 (instance_of (program_at c.args.desk.now) c.args.next) c.args.evals.now c.solve.new.evals (Err e)) c.in-Err-CellsFull.field-0-is c.in-Err-CellsFull.ensures.solved)
+returns-in-Err-CellsFull-clause-solved g c = full_for (program_at c.args.desk.now) c.args.desk.now.0 c.args.desk.now.1 c.solve_unless_noted.new.desk.1 c.args.local.now c.args.next c.requires.local c.requires.missing c.args.evals.now c.solve_unless_noted.new.evals (subst (λ (e : AskFault). Solves (program_at c.args.desk.now) c.args.desk.now.0 c.args.desk.now.1 c.solve_unless_noted.new.desk.1 (instance_of (program_at c.args.desk.now) c.args.next) c.args.evals.now c.solve_unless_noted.new.evals (Err e)) c.in-Err-CellsFull.field-0-is c.in-Err-CellsFull.ensures.solved)
 
 pub returns-in-Err-Memory-clause-on : goal.returns-in-Err-Memory-clause-on
 returns-in-Err-Memory-clause-on g c = c.in-Err-Memory.ensures.on
 
 pub returns-in-Err-Memory-clause-solved : goal.returns-in-Err-Memory-clause-solved
-returns-in-Err-Memory-clause-solved g c = memory_for (program_at c.args.desk.now) c.args.desk.now.0 c.args.desk.now.1 c.solve.new.desk.1 c.args.local.now c.args.next c.requires.local c.requires.missing c.args.evals.now c.solve.new.evals (Err Memory) c.in-Err-Memory.ensures.solved.claims (refl, refl)
+returns-in-Err-Memory-clause-solved g c = memory_for (program_at c.args.desk.now) c.args.desk.now.0 c.args.desk.now.1 c.solve_unless_noted.new.desk.1 c.args.local.now c.args.next c.requires.local c.requires.missing c.args.evals.now c.solve_unless_noted.new.evals (Err Memory) c.in-Err-Memory.ensures.solved.claims (refl, refl)

@@ -1,6 +1,7 @@
-use Rattle.std.proofs.Common.{List, map, refl, sym, ap, subst, ◌∙◌}
+use Rattle.std.proofs.Common.{◌≡◌, ◌⊎◌, true, List, map, refl, sym, ap, subst, ◌∙◌}
 use Rattle.equation_law.specs.declared.coding.Instance.{Instance as CodedInstance}
 use Rattle.equation_law.specs.Codes.{instance_of}
+use Rattle.equation_law.specs.Loops.{HasLoop}
 use Rattle.memo_cells.specs.declared.view.Frame.{Frame}
 use Rattle.memo_cells.specs.Naming.{IsCellOf}
 use Rattle.memo_cells.specs.Working.{program_at}
@@ -8,12 +9,12 @@ use Rattle.caller_pass.specs.declared.waiting.Waiter.{Waiter}
 use Rattle.caller_pass.specs.Waiting.{AreWaiting, IsLineTo, waits}
 use Rattle.caller_pass.proofs.solving.wait_for.Goals as goal
 
-pub returns-then-contains-clause-answer : goal.returns-then-contains-clause-answer
-returns-then-contains-clause-answer c =
+pub returns-then-closes_loop-clause-answer : goal.returns-then-closes_loop-clause-answer
+returns-then-closes_loop-clause-answer c =
     let p = program_at c.args.desk.now in
     let pushed = c.in_ok-push.ensures in (
       refl,
-      ap (λ es. waits es c.args.next) (sym pushed) ∙ sym c.contains.ensures ∙ c.if-contains.true,
+      subst (λ es. (waits es c.args.next ≡ true) ⊎ HasLoop p (instance_of p c.args.next)) pushed (c.closes_loop.ensures.closes c.if-closes_loop.true),
       λ g u w. subst (λ (es : List (CodedInstance × Waiter)). IsLineTo p es (instance_of p c.args.next) (map (instance_of p) c.in_ok-chain.chain)) pushed
           (c.in_ok-chain.ensures p g u (subst (λ (es : List (CodedInstance × Waiter)). AreWaiting p g u es (instance_of p c.args.next)) (sym pushed) w)),
     )
@@ -25,5 +26,6 @@ returns-clause-answer c =
       pushed,
       subst (λ (f : Frame). IsCellOf p f c.claim_cell.new.self.1 (instance_of p c.args.next) c.in_ok-slot.slot.0) c.claim_cell.ensures.on.cells c.in_ok-slot.ensures.slot,
       refl,
-      ap (λ es. waits es c.args.next) (sym pushed) ∙ sym c.contains.ensures ∙ c.if-contains.false,
+      ap (λ es. waits es c.args.next) (sym pushed) ∙ c.closes_loop.ensures.other c.if-closes_loop.false,
+      c.new.ensures,
     )

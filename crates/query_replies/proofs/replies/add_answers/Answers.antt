@@ -30,6 +30,7 @@ replies-preserved g c =
       at_least_then so_far.1 kept,
       claims,
       next_reply p c.replies.query c.replies.text.items c.add_answer.new.text.items within so_far.3 c.in_ok-add_answer.ensures.line,
+      c.in_ok-add_answer.ensures.notes,
     )
 
 pub returns-clause-replies : goal.returns-clause-replies

@@ -1,0 +1,33 @@
+use Rattle.std.proofs.Common.{sym, ap, subst, ◌∙◌}
+use Rattle.equation_law.specs.declared.system.System.{System}
+use Rattle.equation_law.specs.Checked.{IsInstance, IsProgram}
+use Rattle.equation_law.specs.Codes.{IsCoded, instance_of}
+use Rattle.equation_law.specs.Systems.{program_of}
+use Rattle.memo_cells.specs.declared.view.View.{View}
+use Rattle.memo_cells.specs.Standing.{IsPassOf}
+use Rattle.memo_cells.specs.Views.{IsAtLeast}
+use Rattle.memo_cells.specs.Working.{Held}
+use Rattle.caller_pass.specs.Answering.{AsksNoted}
+use Rattle.memo_cells.proofs.Holding.{own_then}
+use Rattle.caller_pass.proofs.asking.ask_at.Goals as goal
+
+pub invariant_of-desk : goal.invariant_of-desk
+invariant_of-desk g c = ((c.requires.own, c.requires.notes), c.requires.same)
+
+pub answer-came-requires-clause-program : goal.answer-came-requires-clause-program
+answer-came-requires-clause-program g c = subst (λ (s : System). IsProgram (program_of s)) (sym c.requires.same) c.requires.program
+
+pub answer-came-requires-clause-instance : goal.answer-came-requires-clause-instance
+answer-came-requires-clause-instance g c = subst (λ (s : System). IsInstance (program_of s) (instance_of (program_of s) c.args.i.now)) (sym c.requires.same) c.requires.instance
+
+pub answer-came-requires-clause-coded : goal.answer-came-requires-clause-coded
+answer-came-requires-clause-coded g c = subst (λ (s : System). IsCoded (program_of s) c.args.i.now) (sym c.requires.same) c.requires.coded
+
+pub returns-clause-own : goal.returns-clause-own
+returns-clause-own g c = subst (λ (v : View). IsPassOf c.args.cells.now v) (sym ((c.pass-1.given.1 (sym (ap (λ (h : Held). h.2) c.desk.view_is ∙ c.answer-came.ensures.on.lender))) ∙ ap (λ (h : Held). h.1) c.desk.view_is)) (own_then _ c.answer-came.new.desk c.answer-came.ensures.on)
+
+pub returns-clause-kept : goal.returns-clause-kept
+returns-clause-kept g c = subst (λ (v : View). IsAtLeast c.args.pass.now v) (sym ((c.pass-1.given.1 (sym (ap (λ (h : Held). h.2) c.desk.view_is ∙ c.answer-came.ensures.on.lender))) ∙ ap (λ (h : Held). h.1) c.desk.view_is)) c.answer-came.ensures.on.kept
+
+pub returns-clause-asked : goal.returns-clause-asked
+returns-clause-asked g c = subst (λ (s : System). AsksNoted (program_of s) c.args.cells.now c.args.pass.now c.pass-1.given.0 (instance_of (program_of s) c.args.i.now) c.args.evals.now c.answer-came.new.evals c.answer-came.result) c.requires.same (subst (λ (v : View). AsksNoted (program_of c.args.cells.now.system.value) c.args.cells.now c.args.pass.now v (instance_of (program_of c.args.cells.now.system.value) c.args.i.now) c.args.evals.now c.answer-came.new.evals c.answer-came.result) (sym ((c.pass-1.given.1 (sym (ap (λ (h : Held). h.2) c.desk.view_is ∙ c.answer-came.ensures.on.lender))) ∙ ap (λ (h : Held). h.1) c.desk.view_is)) c.answer-came.ensures.asked)

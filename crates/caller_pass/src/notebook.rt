@@ -1,0 +1,111 @@
+// What a caller notes of a program.
+ghost use Rattle.std.specs.Prelude.{◌≡◌, ◌⊎◌, IfSome, Some, true};
+ghost use Rattle.std.specs.HashMap.{get};
+ghost use Rattle.std.specs.HashSet.{contains};
+ghost use Rattle.equation_law.specs.contracts.coding.InstancePartialEq.TheImpl as equality;
+ghost use Rattle.equation_law.specs.declared.coding.Instance.{Instance as CodedInstance};
+ghost use Rattle.equation_law.specs.declared.coding.Value.{Value as CodedValue};
+ghost use Rattle.equation_law.specs.Codes.{instance_of};
+ghost use Rattle.equation_law.specs.Loops.{HasLoop};
+ghost use Rattle.equation_law.specs.Systems.{program_of};
+ghost use Rattle.memo_cells.specs.Views.{Has};
+ghost use Rattle.caller_pass.specs.Noting.{IsNoted};
+
+use equation_law::{Instance, System, Value};
+use std::alloc::Global;
+use std::collections::{HashMap, HashSet};
+use std::marker::Model;
+use std::snapshot::Snapshot;
+
+/// What one caller has found out of a system's program. A note is a fact of the program alone, so it holds whatever the caller does later.
+#[derive(Drop)]
+pub struct Notebook {
+    system: Snapshot<System>,
+    // Values of instances of set types, which share the elements with those that were handed out.
+    sets: HashMap<Instance, Value>,
+    // Instances that have a loop.
+    loops: HashSet<Instance>,
+}
+
+// Keeps the value of an instance, if there is memory for that.
+fn keep(sets: &mut HashMap<Instance, Value>, i: Instance, value: Value)
+    ensures { (j : CodedInstance) (x : CodedValue) → get equality.ghosts.eq sets.new j ≡ Some x → (get equality.ghosts.eq sets.old j ≡ Some x) ⊎ ((j ≡ i) × (x ≡ value)) }
+{
+    let _noted = sets.insert(i, value);
+}
+
+// Puts an instance among others, if there is memory for that.
+fn put(among: &mut HashSet<Instance>, one: Instance)
+    ensures { (i : CodedInstance) → contains equality.ghosts.eq among.new i ≡ true → (contains equality.ghosts.eq among.old i ≡ true) ⊎ (i ≡ one) }
+{
+    let _put = among.insert(one);
+}
+
+// Puts instances among others, as far as there is memory for that.
+fn put_all(among: &mut HashSet<Instance>, more: &[Instance])
+    ensures { (i : CodedInstance) → contains equality.ghosts.eq among.new i ≡ true → (contains equality.ghosts.eq among.old i ≡ true) ⊎ Has more.now i }
+{
+    for one in more {
+        put(among, *one);
+    }
+}
+
+impl Model for Notebook {
+    ghost use Rattle.std.specs.Coded.{codes};
+    ghost use Rattle.attr_rules.specs.contracts.expression.TExpr as expressions;
+    ghost use Rattle.equation_law.specs.declared.system.System.{System as StandingSystem};
+    ghost use Rattle.equation_law.specs.Systems.{program_of};
+    ghost use Rattle.caller_pass.specs.Noting.{AreLooping, AreNoted};
+
+    ghost Value = { StandingSystem };
+
+    ghost coded = { Prim.hlevel (codes, expressions.the_row.coded) };
+
+    ghost view = { λ n. n.system.value };
+
+    ghost invariant = { λ n. AreNoted (program_of n.system.value) n.sets × AreLooping (program_of n.system.value) n.loops };
+}
+
+impl Notebook {
+    /// Nothing is noted yet of the program of a system. It takes no memory.
+    pub fn new(alloc: Global, system: &System) -> Notebook
+        ensures { result ≡ system.now }
+    {
+        Notebook {
+            system: Snapshot::of(system),
+            sets: HashMap::new(alloc),
+            loops: HashSet::new(alloc),
+        }
+    }
+
+    /// The value that is noted of an instance.
+    pub(crate) fn set(&self, i: &Instance) -> Option<Value>
+        ensures { IfSome result (λ x. IsNoted (program_of self.now) i.now x) }
+    {
+        let value = self.sets.get(i)?;
+        value.copy().ok()
+    }
+
+    /// Notes the value of an instance, if there is memory for that.
+    pub(crate) fn note_set(&mut self, i: Instance, value: Value)
+        requires { IsNoted (program_of self.old) i value }
+        ensures { self.new ≡ self.old }
+    {
+        keep(&mut self.sets, i, value);
+    }
+
+    /// Whether it is noted that an instance has a loop.
+    pub(crate) fn has_loop(&self, i: &Instance) -> bool
+        ensures { result ≡ true → HasLoop (program_of self.now) (instance_of (program_of self.now) i.now) }
+    {
+        self.loops.contains(i)
+    }
+
+    /// Notes that each of these instances has a loop, if there is memory for that.
+    pub(crate) fn note_loops(&mut self, chain: &[Instance])
+        requires { (i : CodedInstance) → Has chain.now i → HasLoop (program_of self.old) (instance_of (program_of self.old) i) }
+        ensures { self.new ≡ self.old }
+    {
+        put_all(&mut self.loops, chain);
+    }
+}
