@@ -213,6 +213,21 @@ def texts(count):
     yield b"])\n"
 
 
+# Forms over a list of nodes, each of which demands what isn't there yet; the number is that of the last node.
+OVER_LISTS = [
+    ("all", b"syn boolean N.p() = true; syn boolean R.v() = all(x : getNList() | x.p());"),
+    ("first finds the last", b"syn boolean N.is(int n) = getV() == n; syn N R.v() = first(x : getNList() | x.is(%(last)d));"),
+    ("a set at each", b"syn Set<N> N.s() = single(this); syn boolean R.v() = all(x : getNList() | size(x.s()) == 1);"),
+    ("each joins a set at each", b"syn Set<N> N.s() = single(this); syn int R.v() = size(each(x : getNList() | x.s()));"),
+]
+
+
+def over_list(count, items):
+    """A form over a list of so many nodes."""
+    aspects = [b"aspect A { ", items.replace(b"%(last)d", b"%d" % (count - 1)), b" }"]
+    return {"g.ast": [b"R ::= N*; N ::= <V:int>;"], "a.jrag": aspects, "t.tree": flat(count + 1)}
+
+
 def enclosed(front, part, end):
     """A file of 16 MiB, or a little less: the part over and over between the front and the end."""
     yield from repeated(part, (LONGEST - len(front) - len(end)) // len(part), front)
@@ -265,6 +280,7 @@ CASES = [
     *[(f"demand: {count:,} nodes, each asked for", asked(count)) for count in [1000, 4000, 16000, 32000, 65536]],
     *[(f"inherited: {count - 1:,} ancestors", inherited(count)) for count in [1000, 8000, 65536]],
     *[(f"parameters: d({count:,})", counting(count)) for count in [25000, 50000, 100000, 200000]],
+    *[(f"over a list of {count:,}: {name}", over_list(count, items)) for name, items in OVER_LISTS for count in [4000, 16000, 60000]],
     ("demand: more instances than cells", full()),
     *[(f"circular: reachability over a ring of {count:,}", reached(count, count)) for count in [250, 500, 1000]],
     *[(f"circular: reachability over {count:,} rings of 16", reached(16 * count, 16)) for count in [62, 125, 250, 1000]],
