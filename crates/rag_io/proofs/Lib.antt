@@ -1,6 +1,7 @@
 pub mod Comments
 pub mod EndOfFile
 pub mod Ends
+pub mod InLine
 pub mod Lexing
 pub mod Meant
 pub mod Numbers

@@ -1,6 +1,8 @@
--- Steps of the loop that takes the quotes and the escapes out of a text.
-use Rattle.std.proofs.Common.{◌≡◌, ◌≢◌, ℕ, ◌-◌, ◌≤◌, List, [], ◌∷◌, ◌++◌, length, get_or, take, drop, refl, sym, ap, subst, ◌∙◌, append_assoc, append-nil, arith}
+-- Steps of the loop that takes the quotes and the escapes out of a text, and texts that have none.
+use Rattle.std.proofs.Common.{◌≡◌, ◌≢◌, ◌==◌, ℕ, suc, ◌-◌, ◌≤◌, List, [], ◌∷◌, ◌++◌, length, get_or, take, drop, false, refl, sym, ap, subst, ◌∙◌, append_assoc, append-nil, arith}
+use Rattle.std.specs.List.{list_any}
 use Rattle.std.proofs.Math.Seq.{take-length}
+use Rattle.std.proofs.lemmas.Bool.{false≢true, or_parts}
 use Rattle.std.proofs.lemmas.Bool.Decides.{nat_tests}
 use Rattle.rag_io.specs.Lexemes.{quote, backslash, TextBody, closed, plain, escape}
 use Rattle.rag_io.specs.Unquoted as unquotes
@@ -74,3 +76,19 @@ pub at_quote : {body : List ℕ} → TextBody body → get_or body 0 0 ≡ quote
 at_quote closed first = unquotes.closed
 at_quote (plain b is more) first = let never : ⊥ = grind (arith, nat_tests) in absurd never
 at_quote (escape b is more) first = absurd (omega (arith, first))
+
+-- a body that has no backslash stands for its bytes in front of the closing quote
+plain_body : {body : List ℕ} → TextBody body → list_any (λ b. b == backslash) body ≡ false → BodyStandsFor body (take (length body - 1) body)
+plain_body closed none = unquotes.closed
+plain_body (plain {body} b is more) none =
+    let some : 1 ≤ length body = some_body more in
+    let count : length (b ∷ body) - 1 ≡ suc (length body - 1) = omega (arith, some) in
+    let rest = plain_body more (or_parts (b == backslash) (list_any (λ x. x == backslash) body) none).1 in
+    rw count (unquotes.plain b is rest)
+plain_body (escape {body} b is more) none = absurd (false≢true (sym none))
+
+-- and so does a text in front of it
+pub plain_text : {text : List ℕ} → IsQuoted text → list_any (λ b. b == backslash) text ≡ false → StandsFor text (take (length text - 1 - 1) (drop 1 text))
+plain_text (quoted {body} left) none =
+    let count : length (quote ∷ body) - 1 - 1 ≡ length body - 1 = omega arith in
+    rw count (unquoted (plain_body left none))

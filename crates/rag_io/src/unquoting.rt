@@ -47,3 +47,15 @@ pub fn unquote(alloc: Global, text: &[u8]) -> Result<Vec<u8>, Memory>
     }
     Ok(bytes)
 }
+
+/// The bytes that the text of a [`TokenKind::Text`](crate::TokenKind::Text) stands for, where no backslash stands in it: then they are the very
+/// bytes between its quotes, and nothing is copied.
+pub fn unescaped_text(text: &[u8]) -> Option<&[u8]>
+    requires { IsQuoted text.now }
+    ensures { IfSome result (λ bytes. StandsFor text.now bytes.now) }
+{
+    if text.contains(&b'\\') {
+        return None;
+    }
+    Some(&text[1..text.len() - 1])
+}

@@ -17,7 +17,7 @@ pub fn classes_of<L: Language>(
 ) -> Result<Vec<u8>, Memory>
     ensures { IfOk result (λ v. v.items ≡ map (L.class language.now) (seen_tokens tokens.now)) }
 {
-    let mut classes = Vec::new(alloc);
+    let mut classes = Vec::with_capacity(alloc, tokens.len()).map_err(|_| Memory)?;
     for token in tokens {
         classes.push(language.class_of(token)).map_err(|_| Memory)?;
     }

@@ -4,11 +4,11 @@ ghost use Rattle.broken_rules.specs.Notes.{Notes, at, broken_if};
 ghost use Rattle.rag_io.specs.declared.token.TokenKind.TheVariants.{Text as WrittenText};
 ghost use Rattle.rag_io.specs.Pool.{number_of};
 ghost use Rattle.rag_io.specs.Tokens.{seen_token, seen_tokens};
-ghost use Rattle.rag_io.specs.Unquoted.{IsQuoted, meant};
+ghost use Rattle.rag_io.specs.Unquoted.{IsQuoted, StandsFor, meant};
 ghost use Rattle.token_texts.specs.Texts.{AllQuoted, Extends, is_past, or_zero, pooled, pooled_by_kind, pooled_texts, text_broken, text_code, texts_broken};
 
 use broken_rules::{Earliest, Rule};
-use rag_io::{Memory, Place, Pool, PoolFault, Token, TokenKind, unquote};
+use rag_io::{Memory, Place, Pool, PoolFault, Token, TokenKind, unescaped_text, unquote};
 use std::alloc::Global;
 
 /// Where a token begins.
@@ -23,6 +23,30 @@ pub fn place_of(token: &Token<'_>) -> Place
 
 // Adds the text that a text token writes, and answers its number; where the pool is full and has no such text, it is 0, and the rule is
 // noted.
+fn pool_meant(
+    token: &Token<'_>,
+    text: &[u8],
+    pool: &mut Pool,
+    rule: Rule,
+    broken: &mut Earliest,
+) -> Result<u32, Memory>
+    requires { StandsFor token.now.text.now text.now }
+    ensures code { IfOk result (λ code. code ≡ or_zero (number_of pool.new (meant token.now.text.now))) }
+    ensures pooled { IfOk result (λ _. pool.new ≡ pooled pool.old (meant token.now.text.now)) }
+    ensures noted { IfOk result (λ _. Notes (broken_if (is_past pool.old (meant token.now.text.now)) (at (seen_token token.now).place rule)) broken.old broken.new) }
+    ensures extends { Extends pool.old pool.new }
+{
+    match pool.add(text) {
+        Ok(number) => Ok(number),
+        Err(PoolFault::Full) => {
+            broken.note(rule, place_of(token));
+            Ok(0)
+        }
+        Err(PoolFault::Memory) => Err(Memory),
+    }
+}
+
+// The same, told the token alone. A text without escapes is taken as it stands in the file.
 fn pool_text(
     alloc: Global,
     token: &Token<'_>,
@@ -36,15 +60,11 @@ fn pool_text(
     ensures noted { IfOk result (λ _. Notes (broken_if (is_past pool.old (meant token.now.text.now)) (at (seen_token token.now).place rule)) broken.old broken.new) }
     ensures extends { Extends pool.old pool.new }
 {
-    let text = unquote(alloc, token.text)?;
-    match pool.add(&text) {
-        Ok(number) => Ok(number),
-        Err(PoolFault::Full) => {
-            broken.note(rule, place_of(token));
-            Ok(0)
-        }
-        Err(PoolFault::Memory) => Err(Memory),
+    if let Some(text) = unescaped_text(token.text) {
+        return pool_meant(token, text, pool, rule, broken);
     }
+    let text = unquote(alloc, token.text)?;
+    pool_meant(token, &text, pool, rule, broken)
 }
 
 // Adds the text of a token, if it is one, and answers its number, and 0 for another token.
@@ -84,7 +104,7 @@ pub fn pool_texts(
     ensures noted { IfOk result (λ _. Notes (texts_broken rule pool.old (seen_tokens tokens.now)) broken.old broken.new) }
     ensures extends { Extends pool.old pool.new }
 {
-    let mut codes = Vec::new(alloc);
+    let mut codes = Vec::with_capacity(alloc, tokens.len()).map_err(|_| Memory)?;
     for token in tokens {
         let code = pool_token(alloc, token, pool, rule, broken)?;
         codes.push(code).map_err(|_| Memory)?;

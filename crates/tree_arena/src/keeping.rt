@@ -25,7 +25,7 @@ pub(crate) fn kept_nodes(
     requires ends { ends.now ≡ ends_of (map node_of nodes.now) }
     ensures { IfOk result (λ v. v.items ≡ kept_of (map node_of nodes.now)) }
 {
-    let mut kept = Vec::new(alloc);
+    let mut kept = Vec::with_capacity(alloc, nodes.len()).map_err(|_| Memory)?;
     for (n, node) in nodes.iter().enumerate() {
         let one = KeptNode {
             class: node.class,

@@ -12,7 +12,7 @@ use std::alloc::Global;
 pub(crate) fn codes_of(alloc: Global, nodes: &[FirstNode]) -> Result<Vec<u32>, Memory>
     ensures { IfOk result (λ v. v.items ≡ codes_of (map node_of nodes.now)) }
 {
-    let mut codes = Vec::new(alloc);
+    let mut codes = Vec::with_capacity(alloc, nodes.len()).map_err(|_| Memory)?;
     for node in nodes {
         codes
             .extend_from_slice(node.tokens.list())
@@ -26,7 +26,7 @@ pub(crate) fn firsts_of(alloc: Global, nodes: &[FirstNode]) -> Result<Vec<u32>, 
     requires { length (codes_of (map node_of nodes.now)) < 2 ^ 32 }
     ensures { IfOk result (λ v. v.items ≡ firsts_of (map node_of nodes.now)) }
 {
-    let mut firsts = Vec::new(alloc);
+    let mut firsts = Vec::with_capacity(alloc, nodes.len()).map_err(|_| Memory)?;
     let mut first = 0;
     for node in nodes {
         firsts.push(first).map_err(|_| Memory)?;
@@ -47,6 +47,7 @@ pub(crate) fn keys_of(
     ensures { IfOk result (λ v. v.items ≡ keys_of (map node_of nodes.now)) }
 {
     let mut keys = vec![in alloc; None].map_err(|_| Memory)?;
+    keys.reserve(nodes.len()).map_err(|_| Memory)?;
     for n in 1..nodes.len() {
         let node = &nodes[n];
         let part = firsts[node.parent as usize] + node.component;

@@ -61,7 +61,7 @@ fn first_nodes(alloc: Global, laid: Vec<Laid>) -> Result<Vec<FirstNode>, Memory>
     requires components { All (λ (x : Node). x.component < 2 ^ 32) (map seen_laid laid.items) }
     ensures { IfOk result (λ nodes. map node_of nodes.items ≡ map seen_laid laid.items) }
 {
-    let mut nodes = Vec::new(alloc);
+    let mut nodes = Vec::with_capacity(alloc, laid.len()).map_err(|_| Memory)?;
     for node in laid {
         nodes.push(first_node(node)).map_err(|_| Memory)?;
     }

@@ -12,6 +12,9 @@ use rag_io::{Memory, Pool, push_quoted};
 use std::alloc::Global;
 use tree_arena::Tree;
 
+// How many bytes are set aside for the text of a node. Longer texts take more as they go.
+const USUAL_LENGTH: usize = 16;
+
 // What is written: a tree, its grammar, and the texts of its tokens.
 #[derive(Clone, Copy)]
 struct Source<'a> {
@@ -157,7 +160,8 @@ pub fn write_tree(
         tree,
         pool,
     };
-    let mut text = Vec::new(alloc);
+    let room = tree.len() as usize * USUAL_LENGTH;
+    let mut text = Vec::with_capacity(alloc, room).map_err(|_| Memory)?;
     let mut stack = Vec::new(alloc);
     push(&mut stack, Part::Node(0))?;
     'parts: while let Some(part) = stack.pop() {

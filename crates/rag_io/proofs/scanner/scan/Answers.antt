@@ -1,4 +1,5 @@
-use Rattle.std.proofs.Common.{arith, sym}
+use Rattle.std.proofs.Common.{arith, rules, sym, ◌∙◌}
+use Rattle.rag_io.proofs.InLine.{moved_token}
 use Rattle.rag_io.proofs.Scanning.{seen_last, seen_more, all_read, bad_here, over_blank, over_token, bad_over_blank, bad_over_token}
 use Rattle.rag_io.proofs.scanner.scan.Goals as goal
 
@@ -15,14 +16,17 @@ next-preserved-in-Blank c = record {
 }
 
 pub next-preserved : goal.next-preserved
-next-preserved c = record {
-  tokens = λ ts more. rw (seen_more _ _ _ ts c.in_ok-push-in-Token.ensures.items)
-      (c.next.invariant.tokens _ (over_token _ _ _ _ _ _ c.moved-place-in-Token.ensures.value c.split_at-in-Token.ensures.front c.split_at-in-Token.ensures.back c.in-Token.kind ts (sym c.in-Token.ensures.value) more));
-  bad = λ q more. c.next.invariant.bad q (bad_over_token _ _ _ _ _ _ c.moved-place-in-Token.ensures.value c.split_at-in-Token.ensures.front c.split_at-in-Token.ensures.back c.in-Token.kind q (sym c.in-Token.ensures.value) more);
-  line = omega arith;
-  column = omega arith;
-  from_one = omega arith;
-}
+next-preserved c =
+    let behind = moved_token c.next.place _ _ _ c.in-Token.kind c.split_at-in-Token.ensures.front (search rules) (sym c.in-Token.ensures.value) in
+    let moves = (λ i. record { line = c.further-place.ensures.line i; column = c.further-place.ensures.column i }) ∙ behind in
+    record {
+      tokens = λ ts more. rw (seen_more _ _ _ ts c.in_ok-push-in-Token.ensures.items)
+          (c.next.invariant.tokens _ (over_token _ _ _ _ _ _ moves c.split_at-in-Token.ensures.front c.split_at-in-Token.ensures.back c.in-Token.kind ts (sym c.in-Token.ensures.value) more));
+      bad = λ q more. c.next.invariant.bad q (bad_over_token _ _ _ _ _ _ moves c.split_at-in-Token.ensures.front c.split_at-in-Token.ensures.back c.in-Token.kind q (sym c.in-Token.ensures.value) more);
+      line = omega arith;
+      column = omega arith;
+      from_one = omega arith;
+    }
 
 pub returns-in-Bad : goal.returns-in-Bad
 returns-in-Bad c = c.next.invariant.bad c.next.place (bad_here _ _ (sym c.in-Bad.ensures.value))

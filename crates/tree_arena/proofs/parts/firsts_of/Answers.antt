@@ -7,7 +7,7 @@ use Rattle.tree_arena.proofs.Seen.{codes_within, seen_at}
 use Rattle.tree_arena.proofs.parts.firsts_of.Goals as goal
 
 pub loop-node-init : goal.loop-node-init
-loop-node-init c = record { firsts = c.new-firsts.ensures.items; first = sym (first_none (map node_of c.args.nodes.now)) }
+loop-node-init c = record { firsts = search rules; first = sym (first_none (map node_of c.args.nodes.now)) }
 
 pub overflow_cast-first : goal.overflow_cast-first
 overflow_cast-first c =

@@ -1,4 +1,4 @@
-use Rattle.std.proofs.Common.{◌≡◌, ◌∷◌, ◌++◌, [], ℕ, List, reverse, subst, sym, ap, ◌∙◌, arith}
+use Rattle.std.proofs.Common.{◌≡◌, ◌∷◌, ◌++◌, [], ℕ, List, reverse, rules, subst, sym, ap, ◌∙◌, arith}
 use Rattle.std.proofs.lemmas.List.{reverse-append}
 use Rattle.tree_writer.specs.declared.parts.Part.{Part}
 use Rattle.tree_writer.specs.declared.parts.Part.TheVariants.{Node}
@@ -8,7 +8,8 @@ use Rattle.tree_writer.proofs.writing.write_tree.Goals as goal
 pub parts-init : goal.parts-init
 parts-init c =
     let root : reverse c.push.new.stack.items ≡ Node 0 ∷ [] = c.in_ok-push.ensures ∙ ap (λ (ps : List Part). Node 0 ∷ reverse ps) c.new-stack.ensures.items in
-    subst (λ (text : List ℕ). IsHalfway c.args.grammar.now c.args.pool.now c.args.tree.now text (reverse c.push.new.stack.items)) (sym c.new-text.ensures.items)
+    let none : c.in_ok-text.text.items ≡ [] = search rules in
+    subst (λ (text : List ℕ). IsHalfway c.args.grammar.now c.args.pool.now c.args.tree.now text (reverse c.push.new.stack.items)) (sym none)
     (begins c.requires (reverse c.push.new.stack.items) root)
 
 pub parts-smaller : goal.parts-smaller
