@@ -40,7 +40,7 @@ pub enum SetOperator {
 /// `a != b` is the denial of `a == b`. The forms and their meaning are this project's own, after Java's
 /// expressions on `boolean` and `int`. It keeps the places that the rules on rising equations name.
 #[cycle(expressions)]
-#[derive(Debug, Drop)]
+#[derive(Drop)]
 pub enum TExpr {
     /// `true` or `false`.
     Truth(bool),
@@ -112,7 +112,7 @@ pub enum TExpr {
 
 /// The arguments of a call, from the left.
 #[cycle(expressions)]
-#[derive(Debug, Drop)]
+#[derive(Drop)]
 pub enum TArgs {
     End,
     More(Box<TExpr>, Box<TArgs>),

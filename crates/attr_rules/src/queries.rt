@@ -7,7 +7,7 @@ use crate::expression::TExpr;
 use crate::kinds::Kind;
 
 /// The equation of a query: one typed expression, which is read at the root of the tree, and the type of its values.
-#[derive(Debug, Drop)]
+#[derive(Drop)]
 pub struct QueryEq {
     expression: TExpr,
     kind: Kind,

@@ -13,7 +13,7 @@ use crate::kinds::{Attr, AttrId, EqId};
 use ast_grammar::{ClassId, Grammar};
 
 /// An equation: what it is for, and its right side.
-#[derive(Debug, Drop)]
+#[derive(Drop)]
 pub struct KeptEquation {
     pub target: Target,
     pub body: TExpr,

@@ -9,7 +9,7 @@ ghost use Rattle.aspect_items.specs.Expressions.{seen_expr};
 
 use crate::set_forms::{check_set, set_known};
 use crate::sides::{Part, check_fit, place_of};
-use crate::typed::boxed;
+use crate::typed::both_boxed;
 use aspect_items::{Expr, Quantifier as Form};
 use ast_grammar::Grammar;
 use attr_rules::{Accessor, Kind, Quantifier, TExpr, ValueType};
@@ -114,8 +114,7 @@ fn condition_over(
 ) -> Result<TExpr, Memory>
     ensures { IfOk result (λ e. expression_of e ≡ condition_over quantifier elements (expression_of range) (expression_of condition)) }
 {
-    let range = boxed(alloc, range)?;
-    let condition = boxed(alloc, condition)?;
+    let (range, condition) = both_boxed(alloc, range, condition)?;
     Ok(match elements {
         Elements::OfList(list) => {
             TExpr::Quantified(quantifier, list.component, range, condition)
@@ -135,8 +134,7 @@ fn union_over(
     ensures { IfOk result (λ e. expression_of e ≡ union_over of elements (expression_of range) (expression_of set)) }
 {
     let Some(of) = of else { return Ok(TExpr::Null) };
-    let range = boxed(alloc, range)?;
-    let set = boxed(alloc, set)?;
+    let (range, set) = both_boxed(alloc, range, set)?;
     Ok(match elements {
         Elements::OfList(list) => TExpr::Each(of.kept_kind(), list.component, range, set),
         Elements::OfSet(_) => TExpr::EachOfSet(of.kept_kind(), range, set),

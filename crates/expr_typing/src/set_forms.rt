@@ -9,7 +9,7 @@ ghost use Rattle.expr_typing.specs.SetForms.{common_of, contains_broken, count_b
 ghost use Rattle.aspect_items.specs.Expressions.{seen_expr, seen_name};
 
 use crate::sides::{Part, have_no_common, place_of};
-use crate::typed::{boxed, common_of};
+use crate::typed::{both_boxed, boxed, common_of};
 use aspect_items::Name;
 use ast_grammar::Grammar;
 use attr_rules::{Kind, SetOperator, TExpr, ValueType, may_be_element};
@@ -139,15 +139,15 @@ fn made_said(
     ensures { IfOk result (λ e. expression_of e ≡ made_said operator of (expression_of first) (expression_of second)) }
 {
     let Some(of) = of else { return Ok(TExpr::Null) };
-    let first = boxed(alloc, first)?;
-    Ok(TExpr::Sets(operator, of.kept_kind(), first, boxed(alloc, second)?))
+    let (first, second) = both_boxed(alloc, first, second)?;
+    Ok(TExpr::Sets(operator, of.kept_kind(), first, second))
 }
 
 fn contains_said(alloc: Global, set: TExpr, element: TExpr) -> Result<TExpr, Memory>
     ensures { IfOk result (λ e. expression_of e ≡ said.Contains (expression_of set) (expression_of element)) }
 {
-    let set = boxed(alloc, set)?;
-    Ok(TExpr::Contains(set, boxed(alloc, element)?))
+    let (set, element) = both_boxed(alloc, set, element)?;
+    Ok(TExpr::Contains(set, element))
 }
 
 /// What a form with two arguments says, which is of a type, where that is known.

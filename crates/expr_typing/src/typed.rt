@@ -1,5 +1,5 @@
 // What written expressions say, made of what their parts say.
-ghost use Rattle.std.specs.Prelude.{◌≡◌, IfOk, map};
+ghost use Rattle.std.specs.Prelude.{◌≡◌, ◌≢◌, IfOk, map};
 ghost use Rattle.attr_rules.specs.Expression as said;
 ghost use Rattle.attr_rules.specs.Expression.{arguments_of, expression_of};
 ghost use Rattle.std.specs.Option.{option_map};
@@ -17,7 +17,7 @@ use std::alloc::Global;
 
 /// What a written expression says: its type, where that is known, the list that it gives, if it gives one, and its typed form. That of a list
 /// is what has it, and what breaks a rule may say `null`.
-#[derive(Debug, Drop)]
+#[derive(Drop)]
 pub struct Typed {
     pub value_type: Option<ValueType>,
     pub list: Option<Accessor>,
@@ -59,6 +59,20 @@ pub(crate) fn boxed(alloc: Global, expression: TExpr) -> Result<Box<TExpr>, Memo
     Box::new(alloc, expression).map_err(|_| Memory)
 }
 
+/// Two expressions on the heap.
+pub(crate) fn both_boxed(
+    alloc: Global,
+    left: TExpr,
+    right: TExpr,
+) -> Result<(Box<TExpr>, Box<TExpr>), Memory>
+    ensures left { IfOk result (λ both. expression_of both.0.value ≡ expression_of left) }
+    ensures right { IfOk result (λ both. expression_of both.1.value ≡ expression_of right) }
+{
+    let left = boxed(alloc, left)?;
+    let right = boxed(alloc, right)?;
+    Ok((left, right))
+}
+
 // `!`
 fn denied(alloc: Global, part: TExpr) -> Result<TExpr, Memory>
     ensures { IfOk result (λ e. expression_of e ≡ said.Not (expression_of part)) }
@@ -79,22 +93,22 @@ pub fn prefixed(alloc: Global, prefix: Prefix, part: TExpr) -> Result<TExpr, Mem
 fn operated(alloc: Global, operator: Operator, left: TExpr, right: TExpr) -> Result<TExpr, Memory>
     ensures { IfOk result (λ e. expression_of e ≡ said.Binary operator (expression_of left) (expression_of right)) }
 {
-    let left = boxed(alloc, left)?;
-    Ok(TExpr::Binary(operator, left, boxed(alloc, right)?))
+    let (left, right) = both_boxed(alloc, left, right)?;
+    Ok(TExpr::Binary(operator, left, right))
 }
 
 fn both(alloc: Global, left: TExpr, right: TExpr) -> Result<TExpr, Memory>
     ensures { IfOk result (λ e. expression_of e ≡ said.And (expression_of left) (expression_of right)) }
 {
-    let left = boxed(alloc, left)?;
-    Ok(TExpr::And(left, boxed(alloc, right)?))
+    let (left, right) = both_boxed(alloc, left, right)?;
+    Ok(TExpr::And(left, right))
 }
 
 fn either(alloc: Global, left: TExpr, right: TExpr) -> Result<TExpr, Memory>
     ensures { IfOk result (λ e. expression_of e ≡ said.Or (expression_of left) (expression_of right)) }
 {
-    let left = boxed(alloc, left)?;
-    Ok(TExpr::Or(left, boxed(alloc, right)?))
+    let (left, right) = both_boxed(alloc, left, right)?;
+    Ok(TExpr::Or(left, right))
 }
 
 /// Two parts and what stands between them.
@@ -126,9 +140,10 @@ pub fn chosen(
 ) -> Result<TExpr, Memory>
     ensures { IfOk result (λ e. expression_of e ≡ said.If (expression_of condition) (expression_of then) place (expression_of otherwise)) }
 {
+    let parts = both_boxed(alloc, then, otherwise)?;
     let condition = boxed(alloc, condition)?;
-    let then = boxed(alloc, then)?;
-    Ok(TExpr::If(condition, then, place, boxed(alloc, otherwise)?))
+    let (then, otherwise) = parts;
+    Ok(TExpr::If(condition, then, place, otherwise))
 }
 
 /// A cast of a part.
@@ -152,14 +167,17 @@ pub fn type_of_class(class: Option<ClassId>) -> Option<ValueType>
     Some(ValueType::of_class(class?))
 }
 
-// What an accessor says behind a receiver, with the argument that it may have. A whole list says what has it.
-fn read(
-    alloc: Global,
-    accessor: Accessor,
-    receiver: TExpr,
-    argument: TExpr,
-) -> Result<TExpr, Memory>
-    ensures { IfOk result (λ e. expression_of e ≡ read accessor.access accessor.component (expression_of receiver) (expression_of argument)) }
+// The element of a receiver's list at a place.
+fn element(alloc: Global, k: u32, receiver: TExpr, place: TExpr) -> Result<TExpr, Memory>
+    ensures { IfOk result (λ e. expression_of e ≡ said.Element k (expression_of receiver) (expression_of place)) }
+{
+    let (receiver, place) = both_boxed(alloc, receiver, place)?;
+    Ok(TExpr::Element(k, receiver, place))
+}
+
+// What an accessor without an argument says behind a receiver. A whole list says what has it.
+fn read_alone(alloc: Global, accessor: Accessor, receiver: TExpr) -> Result<TExpr, Memory>
+    ensures { IfOk result (λ e. (argument : said.Expression) → accessor.access ≢ Access.Element → expression_of e ≡ read accessor.access accessor.component (expression_of receiver) argument) }
 {
     let k = accessor.component;
     let receiver = boxed(alloc, receiver)?;
@@ -168,9 +186,23 @@ fn read(
         Access::Token(kind) => TExpr::Token(kind, k, receiver),
         Access::Has => TExpr::Has(k, receiver),
         Access::Count => TExpr::Count(k, receiver),
-        Access::Elements => Box::into_inner(receiver),
-        Access::Element => TExpr::Element(k, receiver, boxed(alloc, argument)?),
+        Access::Elements | Access::Element => Box::into_inner(receiver),
     })
+}
+
+// What an accessor says behind a receiver, with the argument that it may have.
+fn read(
+    alloc: Global,
+    accessor: Accessor,
+    receiver: TExpr,
+    argument: TExpr,
+) -> Result<TExpr, Memory>
+    ensures { IfOk result (λ e. expression_of e ≡ read accessor.access accessor.component (expression_of receiver) (expression_of argument)) }
+{
+    if accessor.access == Access::Element {
+        return element(alloc, accessor.component, receiver, argument);
+    }
+    read_alone(alloc, accessor, receiver)
 }
 
 // The first of some arguments, and `null` where there is none.
