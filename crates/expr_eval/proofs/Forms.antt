@@ -7,11 +7,10 @@ use mir.Syntax.{w32}
 use Rattle.rag_io.specs.declared.Place.{Place as TextPlace}
 use Rattle.ast_grammar.specs.declared.grammar.ClassId.{ClassId}
 use Rattle.attr_rules.specs.declared.expression.Operator.{Operator}
-use Rattle.attr_rules.specs.declared.expression.Quantifier.{Quantifier}
 use Rattle.attr_rules.specs.declared.expression.SetOperator.{SetOperator}
 use Rattle.attr_rules.specs.declared.expression.TExpr.{TExpr}
 use Rattle.attr_rules.specs.declared.kinds.Kind.{Kind}
-use Rattle.attr_rules.specs.Expression.{Arguments, Expression, Child, Element, Count, Has, Token, Call, Cast, InstanceOf, Quantified, Empty, QuantifiedSet, Each, EachOfSet, Sets, Single, Contains, Size, Not, Negate, Binary, And, Or, OrBoth, If, expression_of}
+use Rattle.attr_rules.specs.Expression.{Arguments, Expression, Child, Element, Count, Has, Token, Call, Cast, InstanceOf, Empty, Sets, Single, Contains, Size, Not, Negate, Binary, And, Or, OrBoth, If, expression_of}
 use Rattle.solutions.specs.Asking.{Demands, Gives, Ends, Halts, after, asks, at, gives, next}
 use Rattle.solutions.proofs.Runs.{ends_more}
 use Rattle.equation_law.specs.declared.coding.Args.{Args}
@@ -20,12 +19,12 @@ use Rattle.equation_law.specs.declared.coding.Value.TheVariants as coded
 use Rattle.equation_law.specs.declared.system.System.{System}
 use Rattle.equation_law.specs.Codes.{AreElements, value_of}
 use Rattle.equation_law.specs.Equations.{world_of}
-use Rattle.equation_law.specs.Meaning.{Place, World, call_at, meaning_of, with_arguments, cast_to, child_at, count_at, element_at, elements_at, is_instance, is_there, operate, over_elements, token_at, united}
+use Rattle.equation_law.specs.Meaning.{Place, World, call_at, meaning_of, with_arguments, cast_to, child_at, count_at, element_at, is_instance, is_there, operate, token_at}
 use Rattle.equation_law.specs.Names.{Instance}
 use Rattle.equation_law.specs.Program.{Program, attribute_parameters, text_of}
 use Rattle.equation_law.specs.Sets.{no_elements}
 use Rattle.equation_law.specs.Reading.{Grows, IsSound, Told}
-use Rattle.equation_law.specs.Values.{Value, Int, Node, Nodes, Truth, contains, default_of, elements_of, int, node, set_operate, single, size_of, truth}
+use Rattle.equation_law.specs.Values.{Value, Int, Node, Nodes, Truth, contains, int, node, set_operate, single, size_of, truth}
 use Rattle.expr_eval.specs.declared.evaluation.Halt.{Halt}
 use Rattle.expr_eval.specs.declared.saved.Saved.{Saved}
 use Rattle.expr_eval.specs.declared.evaluation.Halt.TheVariants.{Need, Memory}

@@ -1,5 +1,5 @@
 -- How far forms over elements have gone, where more has values.
-use Rattle.std.proofs.Common.{◌≡◌, ℕ, Bool}
+use Rattle.std.proofs.Common.{ℕ, Bool}
 use Rattle.solutions.specs.Asking.{Demands}
 use Rattle.solutions.proofs.Runs.{ends_more}
 use Rattle.attr_rules.specs.declared.expression.Quantifier.TheVariants.{Any, All, First}

@@ -1,9 +1,8 @@
 -- What a form over elements says, from how far it has gone.
-use Rattle.std.proofs.Common.{◌≡◌, ℕ, suc, ◌+◌, ◌-◌, ◌<◌, ◌≤◌, Bool, true, false, cond, List, [], map, refl, sym, ap, subst, ◌∙◌, arith}
+use Rattle.std.proofs.Common.{◌≡◌, ℕ, suc, ◌+◌, ◌-◌, ◌<◌, ◌≤◌, Bool, true, false, cond, List, [], map, refl, sym, ap, subst, arith}
 use Rattle.std.specs.List.{range_with_len}
 use Rattle.attr_rules.specs.declared.expression.Quantifier.TheVariants.{Any, All, First}
 use Rattle.attr_rules.specs.declared.expression.SetOperator.TheVariants.{Union}
-use Rattle.attr_rules.specs.declared.kinds.Kind.{Kind}
 use Rattle.solutions.specs.Asking.{Demands, Ends, Gives, Halts, gives}
 use Rattle.equation_law.specs.Meaning.{at_each, first_with, united}
 use Rattle.equation_law.specs.Names.{Instance, Null}
@@ -11,7 +10,7 @@ use Rattle.equation_law.specs.Values.{Value, Node, Truth, default_of, set_operat
 use Rattle.expr_eval.specs.declared.saved.Making.{Making}
 use Rattle.expr_eval.specs.declared.saved.Making.TheVariants.{Joins, Tests}
 use Rattle.expr_eval.specs.Elements.{put}
-use Rattle.expr_eval.specs.Going.{Joined, Passed, Sought, Went, found, further, joined, more, none, nothing, nowhere, seeks}
+use Rattle.expr_eval.specs.Going.{Passed, Sought, Went, found, further, joined, more, none, nothing, nowhere, seeks}
 use Rattle.expr_eval.specs.Saved.{HasGone, begun, done, made, over}
 use Rattle.expr_eval.proofs.Forms.{ends_next, halts_first}
 use Rattle.expr_eval.proofs.Going.{joined_ends, joined_halts, passed_ends, passed_halts, went_ends, went_halts}

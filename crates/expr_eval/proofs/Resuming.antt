@@ -1,5 +1,5 @@
 -- Forms over elements that go on where they stood.
-use Rattle.std.proofs.Common.{◌≡◌, ◌<◌, ◌≤◌, ◌⊎◌, ℕ, Bor, Result, Ok, Err, List, [], ◌∷◌, map, refl, sym, ap, subst, ◌∙◌, inl, inr, true, arith}
+use Rattle.std.proofs.Common.{◌≡◌, ◌<◌, ◌≤◌, ◌⊎◌, Bor, Result, Ok, Err, List, [], ◌∷◌, refl, sym, ap, subst, ◌∙◌, inl, inr, true, arith}
 use Rattle.std.specs.List.{Contains}
 use Rattle.std.specs.Result.{IsErr, IsErrAnd}
 use Rattle.std.proofs.lemmas.Result.{err_from_is_err_and}
@@ -29,10 +29,10 @@ use Rattle.expr_eval.specs.declared.saved.Saved.{Saved}
 use Rattle.expr_eval.specs.declared.saved.Stand.{Stand}
 use Rattle.expr_eval.specs.Elements.{Rooms, element_in, elements_in, read_with}
 use Rattle.expr_eval.specs.Evaluating.{Answers, Given, Stopped, is_over_form, place_in, place_kept, read_at, texts_in}
-use Rattle.expr_eval.specs.Reads.{Advances, GoesOver, IsReady, IsStood, Reads, ReadsRange, ReadsStand, State, state}
-use Rattle.expr_eval.specs.Saved.{AreSaved, HasGone, IsAt, IsGoing, IsRanged, IsTaken, Loses, Stands, begun, body_of, done, made, making_of, over, range_of, ranged}
+use Rattle.expr_eval.specs.Reads.{Advances, GoesOver, IsStood, Reads, ReadsRange, State, state}
+use Rattle.expr_eval.specs.Saved.{AreSaved, HasGone, IsGoing, IsRanged, IsTaken, Loses, Stands, begun, body_of, done, made, making_of, over, range_of, ranged}
 use Rattle.expr_eval.proofs.Forms.{advances_then, behind_value, part_err}
-use Rattle.expr_eval.proofs.Growing.{ranged_more, stands_more}
+use Rattle.expr_eval.proofs.Growing.{stands_more}
 use Rattle.expr_eval.proofs.Over.{done_within, gone_begun, gone_ends, gone_further, gone_halts}
 
 -- the fault that is handed on

@@ -1,22 +1,19 @@
 -- The elements of a list or a set that is gone over.
-use Rattle.std.specs.Prelude.{◌≡◌, ℕ, pos, Bool, true, false, ◌&&◌, ◌||◌, List, ◌∷◌, Result, Ok, Err, map}
+use Rattle.std.specs.Prelude.{◌≡◌, ℕ, pos, Bool, true, false, ◌&&◌, ◌||◌, List, ◌∷◌, map}
 use Rattle.std.specs.List.{range_with_len}
 use Rattle.attr_rules.specs.Expression.{Expression}
 use Rattle.solutions.specs.Asking.{Demands}
 use Rattle.equation_law.specs.declared.coding.Single.{Single as CodedSingle}
-use Rattle.equation_law.specs.declared.coding.Value.{Value as CodedValue}
 use Rattle.equation_law.specs.declared.system.System.{System}
-use Rattle.equation_law.specs.Codes.{reference_of, single_of, value_of}
+use Rattle.equation_law.specs.Codes.{reference_of, single_of}
 use Rattle.equation_law.specs.Meaning.{Place, element_at, named, with_name}
 use Rattle.equation_law.specs.Names.{Instance}
-use Rattle.equation_law.specs.Program.{Program, text_of}
-use Rattle.equation_law.specs.Reading.{Grows, Told}
-use Rattle.equation_law.specs.Values.{Value, Node, truth}
+use Rattle.equation_law.specs.Program.{Program}
+use Rattle.equation_law.specs.Values.{Value, Node}
 use Rattle.expr_eval.specs.declared.accessors.Elements.{Elements}
 use Rattle.expr_eval.specs.declared.accessors.Origin.{Origin}
 use Rattle.expr_eval.specs.declared.accessors.Origin.TheVariants as origins
-use Rattle.expr_eval.specs.declared.evaluation.Halt.{Halt}
-use Rattle.expr_eval.specs.Evaluating.{Answers, Given, read_at, texts_in, world_in}
+use Rattle.expr_eval.specs.Evaluating.{read_at, texts_in, world_in}
 
 -- the element at a place, by where elements come from
 abbrev pub element_from : System → Origin → ℕ → Value

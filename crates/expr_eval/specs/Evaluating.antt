@@ -2,7 +2,7 @@
 use Rattle.std.specs.Prelude.{◌≡◌, ℕ, Bool, true, false, List, [], ◌∷◌, Result, Ok, Err, map}
 use Rattle.rag_io.specs.declared.Memory.{Memory as NoMemory}
 use Rattle.attr_rules.specs.declared.kinds.Kind.{Kind}
-use Rattle.attr_rules.specs.Expression.{Arguments, Expression, argument, no_more, Empty, Quantified, QuantifiedSet, Each, EachOfSet, Sets, Single, Contains, Size, Not, Negate, Binary, And, Or, OrBoth, If}
+use Rattle.attr_rules.specs.Expression.{Arguments, Expression, argument, no_more, Empty, Quantified, QuantifiedSet, Each, EachOfSet, Sets, Single, Contains, Size, Not, Negate, Binary, And, Or, OrBoth, If, Child, Element, Count, Has, Token, Cast, InstanceOf}
 use Rattle.solutions.specs.Asking.{Demands, Ends, Halts}
 use Rattle.equation_law.specs.declared.coding.Args.{Args}
 use Rattle.equation_law.specs.declared.coding.Instance.{Instance as CodedInstance}
@@ -140,3 +140,29 @@ is_operation (QuantifiedSet q e b) = true
 is_operation (Each t k e b) = true
 is_operation (EachOfSet t e b) = true
 is_operation _ = false
+
+-- an accessor, a test of a class, an operator with its operands, or a form of sets
+abbrev pub is_accessor : Expression → Bool
+is_accessor (Child k e) = true
+is_accessor (Element k e place) = true
+is_accessor (Count k e) = true
+is_accessor (Has k e) = true
+is_accessor (Token t k e) = true
+is_accessor (Cast c e) = true
+is_accessor (InstanceOf c e) = true
+is_accessor (Not e) = true
+is_accessor (Negate e) = true
+is_accessor (Binary o a b) = true
+is_accessor (And a b) = true
+is_accessor (Or a b) = true
+is_accessor (OrBoth a b) = true
+is_accessor (If c a at b) = true
+is_accessor Empty = true
+is_accessor (Sets o t a b) = true
+is_accessor (Single e) = true
+is_accessor (Contains a b) = true
+is_accessor (Size e) = true
+is_accessor (QuantifiedSet q e b) = true
+is_accessor (Each t k e b) = true
+is_accessor (EachOfSet t e b) = true
+is_accessor _ = false

@@ -1,5 +1,5 @@
 -- What evaluations say that go on with what is saved.
-use Rattle.std.specs.Prelude.{◌≡◌, ◌<◌, ℕ, List, Result, Ok, Err}
+use Rattle.std.specs.Prelude.{◌≡◌, ◌<◌, List, Result, Ok, Err}
 use Rattle.attr_rules.specs.declared.kinds.Kind.{Kind}
 use Rattle.attr_rules.specs.Expression.{Arguments, Expression}
 use Rattle.rag_io.specs.declared.Memory.{Memory as NoMemory}
@@ -23,7 +23,7 @@ use Rattle.expr_eval.specs.declared.saved.Stand.{Stand}
 use Rattle.expr_eval.specs.declared.sites.Turn.{Turn}
 use Rattle.expr_eval.specs.Elements.{Rooms, element_in, read_with}
 use Rattle.expr_eval.specs.Evaluating.{Answers, AnswersArguments, AnswersTurn, Stopped, read_at}
-use Rattle.expr_eval.specs.Saved.{AreSaved, IsRanged, IsTaken, Stands}
+use Rattle.expr_eval.specs.Saved.{AreSaved, IsRanged, Stands}
 
 -- what an evaluation goes by: what its reader tells, and what is saved
 pub record State (S : Type 0) : Type 1 where
@@ -56,7 +56,7 @@ pub record ArgumentsRead {S : Type 0} (p : Program) (r s : State S) (place : Pla
   pub kept : Advances p r s
   pub is : AnswersArguments p s.told place ks es result
 
--- the elements of a form: where what they come from has a value, it has no other
+-- the elements of a form, or the first demand of what they come from that has no value
 abbrev pub AnswersRange : {S : Type 0} → System → Told S → Place → Expression → Result Elements Halt → Type 0
 AnswersRange s t place e (Ok list) = IsRanged s t.has place e list
 AnswersRange s t place e (Err h) = Answers (program_of s) t (read_at (program_of s) place e) (Err h)

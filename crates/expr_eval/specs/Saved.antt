@@ -1,7 +1,6 @@
 -- How far forms over elements have gone, which an evaluation that stops leaves behind.
 use Rattle.std.specs.Prelude.{◌≡◌, ◌≤◌, ◌+◌, ℕ, Bool, true, false, cond, List, []}
 use Rattle.std.specs.List.{Contains}
-use Rattle.attr_rules.specs.declared.kinds.Kind.{Kind}
 use Rattle.attr_rules.specs.declared.expression.Quantifier.TheVariants.{Any, All, First}
 use Rattle.attr_rules.specs.declared.expression.SetOperator.TheVariants.{Union}
 use Rattle.attr_rules.specs.Expression.{Expression, Quantified, QuantifiedSet, Each, EachOfSet, expression_of}
@@ -11,8 +10,6 @@ use Rattle.equation_law.specs.declared.system.System.{System}
 use Rattle.equation_law.specs.Codes.{AreElements, value_of}
 use Rattle.equation_law.specs.Meaning.{Place, World, elements_at, over_elements, united}
 use Rattle.equation_law.specs.Names.{Instance, Null}
-use Rattle.equation_law.specs.Program.{Program}
-use Rattle.equation_law.specs.Reading.{IsSound, Told}
 use Rattle.equation_law.specs.Systems.{program_of}
 use Rattle.equation_law.specs.Values.{Node, Truth, Value, default_of, elements_of, node, set_operate, truth}
 use Rattle.expr_eval.specs.declared.accessors.Elements.{Elements}

@@ -10,7 +10,7 @@ ghost use Rattle.equation_law.specs.Reading.{IsSound};
 ghost use Rattle.equation_law.specs.Values.{as_argument, set_operate as set_operated, truth};
 ghost use Rattle.equation_law.specs.Systems.{program_of};
 ghost use Rattle.expr_eval.specs.Elements.{Rooms};
-ghost use Rattle.expr_eval.specs.Evaluating.{CallReads, DemandReads, is_operation, is_over_form, is_set_form, place_in, texts_in};
+ghost use Rattle.expr_eval.specs.Evaluating.{CallReads, DemandReads, is_accessor, is_operation, is_over_form, is_set_form, place_in, texts_in};
 ghost use Rattle.expr_eval.specs.Reads.{ArgumentsRead, GoesOver, IsReady, Reads, ReadsRange, ReadsStand, state};
 ghost use Rattle.expr_eval.specs.Saved.{Stands, begun as begun_with, body_of, done as done_with, made as made_of, making_of as makes};
 
@@ -553,27 +553,20 @@ fn set_form<'a, R: Reader>(
     }
 }
 
-/// The value of an expression, or the first demand for which the reader has none. It walks down the expression, which has at most 400
-/// tokens.
+/// The value of an accessor or of a test of a class.
 #[cycle(meaning)]
-pub(crate) fn meaning<'a, R: Reader>(
+fn accessor<'a, R: Reader>(
     context: &Context<'_>,
     expression: &'a TExpr,
     reader: &mut R,
     saved: &mut Saved<'a>,
 ) -> Result<Value, Halt>
-    requires { IsReady (program_of context.now.system.now) (state context.now.system.now (R.tells reader.old) saved.old) }
+    requires ready { IsReady (program_of context.now.system.now) (state context.now.system.now (R.tells reader.old) saved.old) }
+    requires accessor { is_accessor (expression_of expression.now) ≡ true }
     ensures { Reads (program_of context.now.system.now) (state context.now.system.now (R.tells reader.old) saved.old) (state context.now.system.now (R.tells reader.new) saved.new) (place_in context.now) (expression_of expression.now) result }
 {
     let system = context.system;
     match expression {
-        TExpr::Truth(b) => Ok(Value::Truth(*b)),
-        TExpr::Int(z) => Ok(Value::Int(*z)),
-        TExpr::Text(number) => Ok(Value::Text(*number)),
-        TExpr::Null => Ok(Value::Node(NodeRef(0))),
-        TExpr::This => Ok(Value::Node(context.this)),
-        TExpr::Variable(number) => Ok(variable(context, *number)),
-        TExpr::Source(number) => Ok(source(system, *number)),
         TExpr::Child(k, receiver) => Ok(child(
             system,
             *k,
@@ -601,6 +594,37 @@ pub(crate) fn meaning<'a, R: Reader>(
             *k,
             meaning(context, node, reader, saved)?,
         )),
+        TExpr::Cast(class, operand) => Ok(cast(
+            system,
+            *class,
+            meaning(context, operand, reader, saved)?,
+        )),
+        TExpr::InstanceOf(c, e) => Ok(is_instance(system, *c, meaning(context, e, reader, saved)?)),
+        _ => operation(context, expression, reader, saved),
+    }
+}
+
+/// The value of an expression, or the first demand for which the reader has none. It walks down the expression, which has at most 400
+/// tokens.
+#[cycle(meaning)]
+pub(crate) fn meaning<'a, R: Reader>(
+    context: &Context<'_>,
+    expression: &'a TExpr,
+    reader: &mut R,
+    saved: &mut Saved<'a>,
+) -> Result<Value, Halt>
+    requires { IsReady (program_of context.now.system.now) (state context.now.system.now (R.tells reader.old) saved.old) }
+    ensures { Reads (program_of context.now.system.now) (state context.now.system.now (R.tells reader.old) saved.old) (state context.now.system.now (R.tells reader.new) saved.new) (place_in context.now) (expression_of expression.now) result }
+{
+    let system = context.system;
+    match expression {
+        TExpr::Truth(b) => Ok(Value::Truth(*b)),
+        TExpr::Int(z) => Ok(Value::Int(*z)),
+        TExpr::Text(number) => Ok(Value::Text(*number)),
+        TExpr::Null => Ok(Value::Node(NodeRef(0))),
+        TExpr::This => Ok(Value::Node(context.this)),
+        TExpr::Variable(number) => Ok(variable(context, *number)),
+        TExpr::Source(number) => Ok(source(system, *number)),
         TExpr::Call(called, _, receiver, arguments) => {
             let receiver = meaning(context, receiver, reader, saved)?;
             let args = given(
@@ -612,13 +636,7 @@ pub(crate) fn meaning<'a, R: Reader>(
             )?;
             call(context, *called, receiver, args, reader)
         }
-        TExpr::Cast(class, operand) => Ok(cast(
-            system,
-            *class,
-            meaning(context, operand, reader, saved)?,
-        )),
-        TExpr::InstanceOf(c, e) => Ok(is_instance(system, *c, meaning(context, e, reader, saved)?)),
         TExpr::Quantified(_, _, _, _) => over_form(context, expression, reader, saved),
-        _ => operation(context, expression, reader, saved),
+        _ => accessor(context, expression, reader, saved),
     }
 }

@@ -6,11 +6,11 @@ mod accessors;
 mod binding;
 mod evaluation;
 mod operators;
-mod same;
 mod saved;
 mod sites;
 
 pub use saved::Saved;
 pub use sites::{
-    Turn, evaluate, evaluate_instance, evaluate_query, is_declared, kind_of, resume_instance,
+    Turn, evaluate, evaluate_instance, evaluate_query, is_declared, kind_of, resume_at,
+    resume_instance,
 };

@@ -8,9 +8,9 @@ ghost use Rattle.expr_eval.specs.Saved.{IsAt, IsTaken, Loses, SavesNothing, maki
 
 use crate::accessors::Elements;
 use crate::evaluation::Context;
-use crate::same::same;
 use attr_rules::{Kind, Quantifier, TExpr};
 use equation_law::{NodeRef, Single, Value};
+use expr_equality::same;
 use rag_io::Memory;
 use std::alloc::Global;
 

@@ -1,13 +1,14 @@
 // Equations that are evaluated: where they are found, and what they come to.
-ghost use Rattle.std.specs.Prelude.{◌≡◌, ◌<◌, Some, length, slice_get};
+ghost use Rattle.std.specs.Prelude.{◌≡◌, ◌<◌, Some, length, slice_get, IfSome};
 ghost use Rattle.attr_rules.specs.Queries.{Query as Asked};
 ghost use Rattle.attr_rules.specs.Rules.{Equation};
 ghost use Rattle.equation_law.specs.declared.coding.Instance.TheVariants.{Attr as attribute_at};
 ghost use Rattle.equation_law.specs.Codes.{IsCoded, IsRow, instance_of};
-ghost use Rattle.equation_law.specs.Equations.{equations_of, is_declared, kind_in};
+ghost use Rattle.equation_law.specs.Equations.{equation_of, equations_of, is_declared, kind_in};
 ghost use Rattle.equation_law.specs.Names.{Query};
 ghost use Rattle.equation_law.specs.Reading.{IsSound};
 ghost use Rattle.equation_law.specs.Systems.{program_of};
+ghost use Rattle.inherited_walk.specs.Sites.{IsFound};
 ghost use Rattle.expr_eval.specs.Evaluating.{Evaluates};
 ghost use Rattle.expr_eval.specs.Reads.{IsReady, Resumes, state};
 ghost use Rattle.expr_eval.specs.Saved.{AreSaved};
@@ -168,6 +169,31 @@ pub fn evaluate_query<R: Reader>(
     asked(alloc, system, query, reader, &mut saved)
 }
 
+/// What the equation of an attribute at a node comes to, where it is found.
+fn at_site<'a, R: Reader>(
+    alloc: Global,
+    system: &'a System,
+    attr: AttrId,
+    node: NodeRef,
+    args: Args,
+    site: Option<EqSite>,
+    reader: &mut R,
+    saved: &mut Saved<'a>,
+) -> Result<Turn, Memory>
+    requires ready { IsReady (program_of system.now) (state system.now (R.tells reader.old) saved.old) }
+    requires found { IsFound (program_of system.now) attr.0 (equation_of (program_of system.now) (instance_of (program_of system.now) (attribute_at attr node args))) site }
+    requires rows { IfSome site (λ s. IsRow s.outer × IsRow s.inner) }
+    ensures { Resumes (program_of system.now) (state system.now (R.tells reader.old) saved.old) (state system.now (R.tells reader.new) saved.new) ((equations_of (program_of system.now)).equation (instance_of (program_of system.now) (attribute_at attr node args))) result }
+{
+    match site {
+        None => Ok(Turn::Done(Value::Node(NodeRef(0)))),
+        Some(site) => {
+            let turn = evaluate_for(alloc, system, attr, &site, reader, saved)?;
+            Ok(turn.read_as(alloc, attribute_kind(system, attr)))
+        }
+    }
+}
+
 /// What the equation of an attribute at a node comes to.
 fn evaluate_attribute<'a, R: Reader>(
     alloc: Global,
@@ -182,13 +208,8 @@ fn evaluate_attribute<'a, R: Reader>(
     requires row { IsRow args }
     ensures { Resumes (program_of system.now) (state system.now (R.tells reader.old) saved.old) (state system.now (R.tells reader.new) saved.new) ((equations_of (program_of system.now)).equation (instance_of (program_of system.now) (attribute_at attr node args))) result }
 {
-    match find_equation(system, attr, node, args) {
-        None => Ok(Turn::Done(Value::Node(NodeRef(0)))),
-        Some(site) => {
-            let turn = evaluate_for(alloc, system, attr, &site, reader, saved)?;
-            Ok(turn.read_as(alloc, attribute_kind(system, attr)))
-        }
-    }
+    let site = find_equation(system, attr, node, args);
+    at_site(alloc, system, attr, node, args, site, reader, saved)
 }
 
 /// What a query comes to.
@@ -231,6 +252,27 @@ pub fn resume_instance<'a, R: Reader>(
         }
         Instance::Query(query) => evaluate_asked(alloc, system, *query, reader, saved),
     }
+}
+
+/// The same as `resume_instance` of an attribute at a node, whose equation was found already.
+pub fn resume_at<'a, R: Reader>(
+    alloc: Global,
+    system: &'a System,
+    attr: AttrId,
+    node: NodeRef,
+    args: Args,
+    site: Option<EqSite>,
+    reader: &mut R,
+    saved: &mut Saved<'a>,
+) -> Result<Turn, Memory>
+    requires sound { IsSound (program_of system.now) (R.tells reader.old) }
+    requires saved { AreSaved system.now (R.tells reader.old).has saved.old }
+    requires found { IsFound (program_of system.now) attr.0 (equation_of (program_of system.now) (instance_of (program_of system.now) (attribute_at attr node args))) site }
+    requires rows { IfSome site (λ s. IsRow s.outer × IsRow s.inner) }
+    ensures evaluates { Evaluates (program_of system.now) (R.tells reader.old) (R.tells reader.new) ((equations_of (program_of system.now)).equation (instance_of (program_of system.now) (attribute_at attr node args))) result }
+    ensures saved { AreSaved system.now (R.tells reader.new).has saved.new }
+{
+    at_site(alloc, system, attr, node, args, site, reader, saved)
 }
 
 /// What the equation of an instance comes to: the value is that of its expression, read at the instance's type. What is no instance of the

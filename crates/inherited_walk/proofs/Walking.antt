@@ -1,5 +1,5 @@
 -- The equation of an attribute at a node, from where it is found.
-use Rattle.std.proofs.Common.{◌≡◌, ℕ, ◌<◌, [], length, Option, Some, None, refl, sym, ap, subst, ◌∙◌, slice_get, pos, List, ◌++◌, map, append-nil}
+use Rattle.std.proofs.Common.{◌≡◌, ℕ, ◌<◌, ◌≤◌, false, is_some, arith, [], length, Option, Some, None, refl, sym, ap, subst, ◌∙◌, slice_get, pos, List, ◌++◌, map, append-nil}
 use Rattle.std.specs.Int.{int_wrap}
 use mir.Syntax.{w32}
 use Rattle.std.specs.Option.{option_and_then, option_map, option_or}
@@ -17,6 +17,7 @@ use Rattle.equation_law.specs.Program.{Program, class_of}
 use Rattle.equation_law.specs.Values.{Int, argument_value}
 use Rattle.equation_law.proofs.Above.{Falls, inherited_step}
 use Rattle.inherited_walk.specs.Sites.{IsFound, IsSite, index_values}
+use Rattle.inherited_walk.specs.Ways.{IsWay}
 
 module _ (p : Program) (a : ℕ) (xs : Args) (n : ℕ) where
   -- the arguments
@@ -65,3 +66,38 @@ module _ (p : Program) (a : ℕ) (zs : List Argument) (n u : ℕ) where
   pub found_above : {o : Option EqSite} → Falls p.tree → parent_in p.tree n ≡ Some u → IsFound p a (covering_site p a zs n) o → o ≡ None → inherited_site p a zs n ≡ inherited_site p a zs u
   found_above {o = None} falls up found none = inherited_step p a zs falls n u up ∙ ap (λ (x : Option Site). option_or x (inherited_site p a zs u)) found
   found_above {o = Some s} falls up found none = cc
+
+-- ---- ways upwards
+
+none_mapped : {A B C : Type 0} (f : A → B) (g : A → C) (o : Option A) → option_map f o ≡ None → option_map g o ≡ None
+none_mapped f g None e = refl
+none_mapped f g (Some x) e = cc
+
+-- what covers the way to a node doesn't depend on the arguments
+uncovered : (p : Program) (a n : ℕ) (zs ys : List Argument) (o : Option ℕ) → option_and_then (λ u. option_map (site_above p a zs n u) (covering_for p a n u)) o ≡ None → option_and_then (λ u. option_map (site_above p a ys n u) (covering_for p a n u)) o ≡ None
+uncovered p a n zs ys None e = refl
+uncovered p a n zs ys (Some u) e = none_mapped (site_above p a zs n u) (site_above p a ys n u) (covering_for p a n u) e
+
+pub uncovered_any : (p : Program) (a n : ℕ) (zs : List Argument) (o : Option EqSite) → IsFound p a (covering_site p a zs n) o → is_some o ≡ false → (ys : List Argument) → covering_site p a ys n ≡ None
+uncovered_any p a n zs None found e ys = uncovered p a n zs ys (parent_in p.tree n) found
+uncovered_any p a n zs (Some s) found e ys = cc
+
+-- a way goes on where nothing covers it
+pub way_itself : (p : Program) (a n : ℕ) → IsWay p a n n
+way_itself p a n = record { above = omega arith; same = λ zs. refl }
+
+pub way_further : (p : Program) (a n m u t : ℕ) → Falls p.tree → IsWay p a n m → parent_in p.tree m ≡ Some u → ((zs : List Argument) → covering_site p a zs m ≡ None) → IsWay p a u t → IsWay p a n t
+way_further p a n m u t falls way up bare more =
+    let less = falls m u up in
+    record {
+      above = omega (arith, way.above, less, more.above);
+      same = λ zs. way.same zs ∙ (inherited_step p a zs falls m u up ∙ ap (λ (x : Option Site). option_or x (inherited_site p a zs u)) (bare zs)) ∙ more.same zs;
+    }
+
+-- the rest of a way
+pub way_rest : (p : Program) (a n m t : ℕ) → IsWay p a n t → IsWay p a n m → t ≤ m → IsWay p a m t
+way_rest p a n m t whole front le = record { above = le; same = λ zs. sym (front.same zs) ∙ whole.same zs }
+
+-- where a way leads the equation is found
+pub way_found : (p : Program) (a n t : ℕ) (zs : List Argument) (o : Option EqSite) → IsWay p a n t → IsFound p a (inherited_site p a zs t) o → IsFound p a (inherited_site p a zs n) o
+way_found p a n t zs o way found = subst (λ (x : Option Site). IsFound p a x o) (sym (way.same zs)) found

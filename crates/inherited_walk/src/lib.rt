@@ -3,5 +3,7 @@
 #![tactic(auto)]
 
 mod walk;
+mod ways;
 
 pub use walk::{equation_of, find_equation};
+pub use ways::{Start, Ways, find_noted};

@@ -13,7 +13,7 @@ use attr_rules::{AttrId, Reach};
 use equation_law::{Args, EqSite, NodeRef, System};
 
 /// Whether an attribute is inherited; one that isn't declared is not.
-fn is_inherited(system: &System, attr: AttrId) -> bool
+pub(crate) fn is_inherited(system: &System, attr: AttrId) -> bool
     ensures { result ≡ inherits (declared_of (program_of system.now) attr.0) }
 {
     let rules = system.rules();
@@ -21,7 +21,7 @@ fn is_inherited(system: &System, attr: AttrId) -> bool
 }
 
 /// The equation of a synthesized attribute: that of the nearest class, from the node's class upwards, read at the node.
-fn synthesized(system: &System, attr: AttrId, node: u32, args: Args) -> Option<EqSite>
+pub(crate) fn synthesized(system: &System, attr: AttrId, node: u32, args: Args) -> Option<EqSite>
     ensures found { IsFound (program_of system.now) attr.0 (synthesized_site (program_of system.now) attr.0 node (arguments_of (program_of system.now) attr.0 args)) result }
     ensures rows { IsRow args → IfSome result (λ s. IsRow s.outer × IsRow s.inner) }
 {
@@ -51,7 +51,13 @@ fn bound_index(reach: Reach, place: u32) -> Args
 }
 
 /// The equation that covers a node at its parent: that of the nearest class, from the parent's class upwards, read at the parent.
-fn covering(system: &System, attr: AttrId, args: Args, node: u32, parent: u32) -> Option<EqSite>
+pub(crate) fn covering(
+    system: &System,
+    attr: AttrId,
+    args: Args,
+    node: u32,
+    parent: u32,
+) -> Option<EqSite>
     requires node { node < length (program_of system.now).tree }
     requires few { node < most_nodes }
     requires parent { parent_in (program_of system.now).tree node ≡ Some parent }
@@ -72,7 +78,7 @@ fn covering(system: &System, attr: AttrId, args: Args, node: u32, parent: u32) -
 }
 
 /// The equation of an inherited attribute: from the node upwards, that of the closest ancestor which has one that covers the way to it.
-fn inherited(system: &System, attr: AttrId, args: Args, node: u32) -> Option<EqSite>
+pub(crate) fn inherited(system: &System, attr: AttrId, args: Args, node: u32) -> Option<EqSite>
     ensures found { IsFound (program_of system.now) attr.0 (inherited_site (program_of system.now) attr.0 (arguments_of (program_of system.now) attr.0 args) node) result }
     ensures rows { IsRow args → IfSome result (λ s. IsRow s.outer × IsRow s.inner) }
 {

@@ -1,10 +1,9 @@
 -- What the forms' parts that were evaluated give.
-use Rattle.std.proofs.Common.{◌≡◌, ◌<◌, ◌+◌, Bor, Ok, refl, rules, ap, arith, subst, sym, ◌∙◌}
+use Rattle.std.proofs.Common.{◌<◌, Bor, refl, rules, ap, arith, subst, sym, ◌∙◌}
 use Rattle.attr_rules.specs.declared.expression.TExpr.{TExpr}
 use Rattle.attr_rules.specs.Expression.{expression_of}
 use Rattle.equation_law.specs.Systems.{program_of}
-use Rattle.equation_law.specs.Codes.{value_of}
-use Rattle.equation_law.specs.Values.{Int, Value}
+use Rattle.equation_law.specs.Values.{Int}
 use Rattle.equation_law.proofs.Pooled.{first_text}
 use Rattle.expr_eval.proofs.Forms.{said, boxed, thrown, leaf, cast_stops, cast_goes, instance_stops, instance_goes, advances_self, advances_then, child_stops, child_goes, element_stops, element_stops_at, element_goes, count_stops, count_goes, has_stops, has_goes, token_stops, token_goes, call_stops, call_stops_at, call_goes, not_stops, not_goes, negate_stops, negate_goes, binary_stops, binary_stops_right, binary_goes, and_stops, and_ends, and_stops_right, and_goes, or_stops, or_ends, or_stops_right, or_goes, or_both_stops, or_both_stops_right, or_both_goes, if_stops, if_then, if_otherwise, empty_goes, sets_stops, sets_stops_right, sets_goes, single_stops, single_goes, contains_stops, contains_stops_right, contains_goes, size_stops, size_goes, out_of_memory, rejoined}
 use Rattle.std.specs.Prelude.{Vec}
@@ -46,61 +45,61 @@ pub meaning-returns-in-Source : goal.meaning-returns-in-Source
 meaning-returns-in-Source g t c =
     said c.in-Source.is (leaf _ c.requires refl c.source.ensures (plain_coded (program_of c.args.context.now.system.now) _ _ c.source.ensures refl))
 
-pub meaning-returns-in_err-meaning-in-Child : goal.meaning-returns-in_err-meaning-in-Child
-meaning-returns-in_err-meaning-in-Child g t c =
+pub accessor-returns-in_err-meaning-in-Child : goal.accessor-returns-in_err-meaning-in-Child
+accessor-returns-in_err-meaning-in-Child g t c =
     thrown c.from_residual.ensures (said c.in-Child.is (child_stops (boxed c.deref.ensures c.in_err-meaning-in-Child.ensures)))
 
-pub meaning-returns-in_ok-meaning-in-Child : goal.meaning-returns-in_ok-meaning-in-Child
-meaning-returns-in_ok-meaning-in-Child g t c =
+pub accessor-returns-in_ok-meaning-in-Child : goal.accessor-returns-in_ok-meaning-in-Child
+accessor-returns-in_ok-meaning-in-Child g t c =
     said c.in-Child.is (child_goes (boxed c.deref.ensures c.in_ok-meaning-in-Child.ensures) c.child.ensures)
 
-pub meaning-returns-in_err-receiver-in-Element : goal.meaning-returns-in_err-receiver-in-Element
-meaning-returns-in_err-receiver-in-Element g t c =
+pub accessor-returns-in_err-receiver-in-Element : goal.accessor-returns-in_err-receiver-in-Element
+accessor-returns-in_err-receiver-in-Element g t c =
     thrown c.from_residual-in_err-receiver-in-Element.ensures (said c.in-Element.is (element_stops (boxed c.deref-in-Element.ensures c.in_err-receiver-in-Element.ensures)))
 
-pub meaning-returns-in_err-meaning-in-Element : goal.meaning-returns-in_err-meaning-in-Element
-meaning-returns-in_err-meaning-in-Element g t c =
+pub accessor-returns-in_err-meaning-in-Element : goal.accessor-returns-in_err-meaning-in-Element
+accessor-returns-in_err-meaning-in-Element g t c =
     thrown c.from_residual-in_err-meaning-in-Element.ensures (said c.in-Element.is (element_stops_at (boxed c.deref-in-Element.ensures c.in_ok-receiver-in-Element.ensures) (boxed c.deref-in-Element-2.ensures c.in_err-meaning-in-Element.ensures)))
 
-pub meaning-returns-in_ok-meaning-in-Element : goal.meaning-returns-in_ok-meaning-in-Element
-meaning-returns-in_ok-meaning-in-Element g t c =
+pub accessor-returns-in_ok-meaning-in-Element : goal.accessor-returns-in_ok-meaning-in-Element
+accessor-returns-in_ok-meaning-in-Element g t c =
     said c.in-Element.is (element_goes (boxed c.deref-in-Element.ensures c.in_ok-receiver-in-Element.ensures) (boxed c.deref-in-Element-2.ensures c.in_ok-meaning-in-Element.ensures) c.element.ensures)
 
-pub meaning-returns-in_err-meaning-in-Count : goal.meaning-returns-in_err-meaning-in-Count
-meaning-returns-in_err-meaning-in-Count g t c =
+pub accessor-returns-in_err-meaning-in-Count : goal.accessor-returns-in_err-meaning-in-Count
+accessor-returns-in_err-meaning-in-Count g t c =
     thrown c.from_residual-in_err-meaning-in-Count.ensures (said c.in-Count.is (count_stops (boxed c.deref-in-Count.ensures c.in_err-meaning-in-Count.ensures)))
 
-pub meaning-returns-in_ok-meaning-in-Count : goal.meaning-returns-in_ok-meaning-in-Count
-meaning-returns-in_ok-meaning-in-Count g t c =
+pub accessor-returns-in_ok-meaning-in-Count : goal.accessor-returns-in_ok-meaning-in-Count
+accessor-returns-in_ok-meaning-in-Count g t c =
     said c.in-Count.is (count_goes (boxed c.deref-in-Count.ensures c.in_ok-meaning-in-Count.ensures) c.count.ensures)
 
-pub meaning-returns-in_err-meaning-in-Has : goal.meaning-returns-in_err-meaning-in-Has
-meaning-returns-in_err-meaning-in-Has g t c =
+pub accessor-returns-in_err-meaning-in-Has : goal.accessor-returns-in_err-meaning-in-Has
+accessor-returns-in_err-meaning-in-Has g t c =
     thrown c.from_residual-in_err-meaning-in-Has.ensures (said c.in-Has.is (has_stops (boxed c.deref-in-Has.ensures c.in_err-meaning-in-Has.ensures)))
 
-pub meaning-returns-in_ok-meaning-in-Has : goal.meaning-returns-in_ok-meaning-in-Has
-meaning-returns-in_ok-meaning-in-Has g t c =
+pub accessor-returns-in_ok-meaning-in-Has : goal.accessor-returns-in_ok-meaning-in-Has
+accessor-returns-in_ok-meaning-in-Has g t c =
     said c.in-Has.is (has_goes (boxed c.deref-in-Has.ensures c.in_ok-meaning-in-Has.ensures) c.has.ensures)
 
-pub meaning-returns-in_err-meaning-in-Token : goal.meaning-returns-in_err-meaning-in-Token
-meaning-returns-in_err-meaning-in-Token g t c =
+pub accessor-returns-in_err-meaning-in-Token : goal.accessor-returns-in_err-meaning-in-Token
+accessor-returns-in_err-meaning-in-Token g t c =
     thrown c.from_residual-in_err-meaning-in-Token.ensures (said c.in-Token.is (token_stops (boxed c.deref-in-Token.ensures c.in_err-meaning-in-Token.ensures)))
 
-pub meaning-returns-in_ok-meaning-in-Token : goal.meaning-returns-in_ok-meaning-in-Token
-meaning-returns-in_ok-meaning-in-Token g t c =
+pub accessor-returns-in_ok-meaning-in-Token : goal.accessor-returns-in_ok-meaning-in-Token
+accessor-returns-in_ok-meaning-in-Token g t c =
     said c.in-Token.is (token_goes (boxed c.deref-in-Token.ensures c.in_ok-meaning-in-Token.ensures) c.token.ensures.value (c.token.ensures.coded (program_of c.args.context.now.system.now)))
 
 pub meaning-returns-in_err-receiver-in-Call : goal.meaning-returns-in_err-receiver-in-Call
 meaning-returns-in_err-receiver-in-Call g t c =
-    thrown c.from_residual-in_err-receiver-in-Call.ensures (said c.in-Call.is (call_stops (boxed c.deref-in-Call.ensures c.in_err-receiver-in-Call.ensures)))
+    thrown c.from_residual.ensures (said c.in-Call.is (call_stops (boxed c.deref.ensures c.in_err-receiver-in-Call.ensures)))
 
 pub meaning-returns-in_err-args-in-Call : goal.meaning-returns-in_err-args-in-Call
 meaning-returns-in_err-args-in-Call g t c =
-    thrown c.from_residual-in_err-args-in-Call.ensures (said c.in-Call.is (call_stops_at (boxed c.deref-in-Call.ensures c.in_ok-receiver-in-Call.ensures) c.in_err-args-in-Call.ensures))
+    thrown c.from_residual-in_err-args-in-Call.ensures (said c.in-Call.is (call_stops_at (boxed c.deref.ensures c.in_ok-receiver-in-Call.ensures) c.in_err-args-in-Call.ensures))
 
 pub meaning-returns-in_ok-args-in-Call : goal.meaning-returns-in_ok-args-in-Call
 meaning-returns-in_ok-args-in-Call g t c =
-    said c.in-Call.is (call_goes (boxed c.deref-in-Call.ensures c.in_ok-receiver-in-Call.ensures) (for_parameters c.parameters.ensures c.in_ok-args-in-Call.ensures) c.call.ensures)
+    said c.in-Call.is (call_goes (boxed c.deref.ensures c.in_ok-receiver-in-Call.ensures) (for_parameters c.parameters.ensures c.in_ok-args-in-Call.ensures) c.call.ensures)
 
 pub given-returns-in_err-value-in-More : goal.given-returns-in_err-value-in-More
 given-returns-in_err-value-in-More g t c = thrown_arguments c.from_residual.ensures (said_arguments c.in-More.is (first_halts (boxed c.deref.ensures c.in_err-value-in-More.ensures)))
@@ -216,20 +215,20 @@ pub meaning-returns-in-Variable : goal.meaning-returns-in-Variable
 meaning-returns-in-Variable g t c =
     said c.in-Variable.is (leaf _ c.requires refl c.variable.ensures (plain_coded (program_of c.args.context.now.system.now) _ _ c.variable.ensures (named_plain (texts_in c.args.context.now.system.now) c.args.context.now.names.now c.in-Variable.number)))
 
-pub meaning-returns-in_err-meaning-in-Cast : goal.meaning-returns-in_err-meaning-in-Cast
-meaning-returns-in_err-meaning-in-Cast g t c =
+pub accessor-returns-in_err-meaning-in-Cast : goal.accessor-returns-in_err-meaning-in-Cast
+accessor-returns-in_err-meaning-in-Cast g t c =
     thrown c.from_residual-in_err-meaning-in-Cast.ensures (said c.in-Cast.is (cast_stops (boxed c.deref-in-Cast.ensures c.in_err-meaning-in-Cast.ensures)))
 
-pub meaning-returns-in_ok-meaning-in-Cast : goal.meaning-returns-in_ok-meaning-in-Cast
-meaning-returns-in_ok-meaning-in-Cast g t c =
+pub accessor-returns-in_ok-meaning-in-Cast : goal.accessor-returns-in_ok-meaning-in-Cast
+accessor-returns-in_ok-meaning-in-Cast g t c =
     said c.in-Cast.is (cast_goes (boxed c.deref-in-Cast.ensures c.in_ok-meaning-in-Cast.ensures) c.cast.ensures)
 
-pub meaning-returns-in_err-meaning-in-InstanceOf : goal.meaning-returns-in_err-meaning-in-InstanceOf
-meaning-returns-in_err-meaning-in-InstanceOf g t c =
+pub accessor-returns-in_err-meaning-in-InstanceOf : goal.accessor-returns-in_err-meaning-in-InstanceOf
+accessor-returns-in_err-meaning-in-InstanceOf g t c =
     thrown c.from_residual-in_err-meaning-in-InstanceOf.ensures (said c.in-InstanceOf.is (instance_stops (boxed c.deref-in-InstanceOf.ensures c.in_err-meaning-in-InstanceOf.ensures)))
 
-pub meaning-returns-in_ok-meaning-in-InstanceOf : goal.meaning-returns-in_ok-meaning-in-InstanceOf
-meaning-returns-in_ok-meaning-in-InstanceOf g t c =
+pub accessor-returns-in_ok-meaning-in-InstanceOf : goal.accessor-returns-in_ok-meaning-in-InstanceOf
+accessor-returns-in_ok-meaning-in-InstanceOf g t c =
     said c.in-InstanceOf.is (instance_goes (boxed c.deref-in-InstanceOf.ensures c.in_ok-meaning-in-InstanceOf.ensures) c.is_instance.ensures)
 
 pub set_form-returns-in-Empty : goal.set_form-returns-in-Empty

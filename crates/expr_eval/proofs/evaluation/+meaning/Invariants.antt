@@ -11,34 +11,37 @@ use Rattle.expr_eval.specs.Saved.{Stands}
 use Rattle.expr_eval.proofs.evaluation.+meaning.Given as goal
 
 abbrev pub decreases-meaning : goal.decreases-meaning
-decreases-meaning g a = 8 * the_size a.expression.now + 5
+decreases-meaning g a = 9 * the_size a.expression.now + 6
+
+abbrev pub decreases-accessor : goal.decreases-accessor
+decreases-accessor g a = 9 * the_size a.expression.now + 5
 
 abbrev pub decreases-given : goal.decreases-given
-decreases-given g a = 8 * arguments_size a.arguments.now + 5
+decreases-given g a = 9 * arguments_size a.arguments.now + 6
 
 abbrev pub decreases-operation : goal.decreases-operation
-decreases-operation g a = 8 * the_size a.expression.now + 4
+decreases-operation g a = 9 * the_size a.expression.now + 4
 
 abbrev pub decreases-set_form : goal.decreases-set_form
-decreases-set_form g a = 8 * the_size a.expression.now + 3
+decreases-set_form g a = 9 * the_size a.expression.now + 3
 
 abbrev pub decreases-over_form : goal.decreases-over_form
-decreases-over_form g a = 8 * the_size a.form.now + 2
+decreases-over_form g a = 9 * the_size a.form.now + 2
 
 abbrev pub decreases-standing : goal.decreases-standing
-decreases-standing g a = 8 * the_size a.form.now + 1
+decreases-standing g a = 9 * the_size a.form.now + 1
 
 abbrev pub decreases-go_over : goal.decreases-go_over
-decreases-go_over g a = 8 * the_size a.form.now + 1
+decreases-go_over g a = 9 * the_size a.form.now + 1
 
 abbrev pub decreases-ranged : goal.decreases-ranged
-decreases-ranged g a = 8 * the_size a.form.now
+decreases-ranged g a = 9 * the_size a.form.now
 
 abbrev pub decreases-at_elements : goal.decreases-at_elements
-decreases-at_elements g a = 8 * the_size a.body.now + 7
+decreases-at_elements g a = 9 * the_size a.body.now + 8
 
 abbrev pub decreases-with_element : goal.decreases-with_element
-decreases-with_element g a = 8 * the_size a.body.now + 6
+decreases-with_element g a = 9 * the_size a.body.now + 7
 
 abbrev pub invariant-at_elements-elements : goal.invariant-at_elements-elements
 invariant-at_elements-elements g l =

@@ -1,6 +1,5 @@
 use Rattle.std.proofs.Common.{refl, subst, sym}
 use Rattle.attr_rules.specs.Expression.{expression_of}
-use Rattle.expr_eval.specs.declared.saved.Going.{Going}
 use Rattle.expr_eval.specs.Saved.{IsAt}
 use Rattle.expr_eval.proofs.saved.Saved.take.Goals as goal
 

@@ -6,7 +6,7 @@ use attr_rules::{TArgs, TExpr};
 
 /// Whether two expressions are equal, with the places that they keep.
 #[cycle(same)]
-pub(crate) fn same(left: &TExpr, right: &TExpr) -> bool
+pub fn same(left: &TExpr, right: &TExpr) -> bool
     ensures { result ≡ true → expression_of left.now ≡ expression_of right.now }
 {
     match (left, right) {
