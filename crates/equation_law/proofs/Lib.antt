@@ -22,6 +22,7 @@ pub mod Quiet
 pub mod Sets
 pub mod SetsOrder
 pub mod Solution
+mod Spanned
 pub mod Typed
 pub mod TypedValues
 mod Worked

@@ -9,5 +9,6 @@ pub mod Orders
 pub mod Program
 pub mod Reading
 pub mod Sets
+pub mod Spans
 pub mod Systems
 pub mod Values

@@ -7,6 +7,7 @@ mod chain;
 mod coding;
 mod laws;
 mod reader;
+mod spans;
 mod system;
 
 pub use chain::Chain;
@@ -19,4 +20,5 @@ pub use laws::{
     rounds_end, stuck_has_none, value_or_loop, well_typed_values,
 };
 pub use reader::Reader;
+pub use spans::Span;
 pub use system::{Queries, System};

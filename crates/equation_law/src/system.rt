@@ -1,13 +1,16 @@
 // A program as the code keeps it.
-ghost use Rattle.std.specs.Prelude.{◌≡◌, ◌<◌, ◌≤◌, Some, length, map, slice_get};
+ghost use Rattle.std.specs.Prelude.{◌≡◌, ◌<◌, ◌≤◌, ℕ, IfOk, Some, length, map, slice_get};
 ghost use Rattle.attr_rules.specs.Kept.{rules_in};
 ghost use Rattle.attr_rules.specs.Queries.{query_of};
 ghost use Rattle.rag_io.specs.Pool.{ArePooled};
 ghost use Rattle.equation_law.specs.Program.{most_replies};
+ghost use Rattle.equation_law.specs.Spans.{AreFrom, AreSpans, IsBelow};
 
-use ast_grammar::Grammar;
+use crate::spans::{Span, Spans, spans_of};
+use ast_grammar::{ClassId, Grammar};
 use attr_rules::{QueryEq, Rules};
-use rag_io::Pool;
+use rag_io::{Memory, Pool};
+use std::alloc::Global;
 use tree_arena::Tree;
 
 /// Queries in order.
@@ -35,8 +38,10 @@ pub struct System {
     tree: Tree,
     pool: Pool,
     queries: Queries,
+    spans: Spans,
     ghost few: { length queries.list.items ≤ most_replies },
     ghost pooled: { ArePooled pool },
+    ghost spanned: { AreSpans grammar tree spans.firsts.items spans.ends.items },
 }
 
 #[tactic(auto, unfolding(crate::specs::Systems::program_of))]
@@ -44,20 +49,29 @@ impl System {
     ghost use Rattle.equation_law.specs.Systems.{program_of, queries_in};
 
     /// The system of these parts, which were read and checked against each other. There are at most 262,144
-    /// queries.
-    pub fn new(grammar: Grammar, rules: Rules, tree: Tree, pool: Pool, queries: Queries) -> System
+    /// queries. It finds the nodes of each class, which takes linear time.
+    pub fn new(
+        alloc: Global,
+        grammar: Grammar,
+        rules: Rules,
+        tree: Tree,
+        pool: Pool,
+        queries: Queries,
+    ) -> Result<System, Memory>
         requires { length (queries_in queries) ≤ most_replies }
-        ensures { program_of result ≡ record { grammar = grammar; rules = rules_in rules; tree = tree; texts = pool; queries = queries_in queries } }
+        ensures { IfOk result (λ system. program_of system ≡ record { grammar = grammar; rules = rules_in rules; tree = tree; texts = pool; queries = queries_in queries }) }
     {
         // Each pool has the empty text, as its first.
         prove!(pool.len() > 0);
-        System {
+        let spans = spans_of(alloc, &grammar, &tree)?;
+        Ok(System {
             grammar,
             rules,
             tree,
             pool,
             queries,
-        }
+            spans,
+        })
     }
 
     /// The grammar.
@@ -79,6 +93,24 @@ impl System {
         ensures { result.now ≡ (program_of self.now).tree }
     {
         &self.tree
+    }
+
+    /// The nodes of a class and of its subclasses lie in this span: it begins with the first of them, and ends behind the last. Of a class
+    /// that the grammar hasn't, it has all nodes. This takes constant time.
+    pub fn span(&self, class: ClassId) -> Span
+        ensures all { (n : ℕ) → IsBelow (program_of self.now).grammar (program_of self.now).tree class.0 n → (result.first ≤ n) × (n < result.end) }
+        ensures exact { class.0 < length (program_of self.now).grammar → AreFrom (IsBelow (program_of self.now).grammar (program_of self.now).tree class.0) result.first result.end }
+        ensures ordered { result.first ≤ result.end }
+        ensures within { result.end ≤ length (program_of self.now).tree }
+    {
+        let number = class.0 as usize;
+        if number < self.spans.ends.len() {
+            let first = self.spans.firsts[number];
+            let end = self.spans.ends[number];
+            return Span { first, end };
+        }
+        let end = self.tree.len();
+        Span { first: 0, end }
     }
 
     /// The texts of literals and tokens.

@@ -1,6 +1,7 @@
 -- The value that is shown of what a reader holds: d is what it held first, and g what it holds then.
-use Rattle.std.proofs.Common.{◌≡◌, ◌↔◌, ℕ, true, false, ◌+◌, List, length, eqb, refl, subst, sym}
+use Rattle.std.proofs.Common.{◌≡◌, ◌↔◌, ℕ, true, false, ◌+◌, ◌<◌, ◌≤◌, List, length, eqb, refl, subst, sym}
 use Rattle.std.proofs.lemmas.Bool.{eq-eqb, eqb-true}
+use Rattle.ast_grammar.specs.declared.grammar.ClassId.{ClassId}
 use Rattle.attr_rules.specs.declared.kinds.Kind.{Kind}
 use Rattle.attr_rules.specs.declared.kinds.Kind.TheVariants as kinds
 use Rattle.attr_rules.specs.Rules.{is_single}
@@ -8,6 +9,7 @@ use Rattle.equation_law.specs.declared.coding.Value.TheVariants as coded
 use Rattle.equation_law.specs.declared.system.System.{System}
 use Rattle.equation_law.specs.Equations.{kind_in}
 use Rattle.equation_law.specs.Names.{Instance}
+use Rattle.equation_law.specs.Spans.{IsBelow}
 use Rattle.equation_law.specs.Systems.{program_of}
 use Rattle.equation_law.proofs.Pooled.{texts_pooled}
 use Rattle.memo_cells.specs.Naming.{IsCellOf}
@@ -47,7 +49,7 @@ module _ (s : System) (d g : Held) (is : d.0.system.value ≡ s) (own : IsOwn d)
         let shown = subst (λ (y : ℕ × ℕ). AreCodesShown (program_of s) d.1 g.1 i y.0 y.1 cs) (λ j. (first j, end j)) (codes_here kinds.Texts kind refl) in
         texts_shown (program_of s) d.1 g.1 on.on.kept before now d.0 (texts_pooled s) i cs kind shown
 
-    pub nodes_value : (c : _) → from ≡ 1 → to ≡ length (program_of s).tree + 1 → kind_in (program_of s) i ≡ kinds.Nodes c → IsShownValue (program_of s) d.1 g.1 i (coded.Nodes cs)
-    nodes_value c first end kind =
-        let shown = subst (λ (y : ℕ × ℕ). AreCodesShown (program_of s) d.1 g.1 i y.0 y.1 cs) (λ j. (first j, end j)) (codes_here (kinds.Nodes c) kind refl) in
-        nodes_shown (program_of s) d.1 g.1 on.on.kept before now d.0 (texts_pooled s) i c cs kind shown
+    pub nodes_value : (c : ClassId) (first end : ℕ) → from ≡ first + 1 → to ≡ end + 1 → ((n : ℕ) → IsBelow (program_of s).grammar (program_of s).tree c.0 n → (first ≤ n) × (n < end)) → kind_in (program_of s) i ≡ kinds.Nodes c → IsShownValue (program_of s) d.1 g.1 i (coded.Nodes cs)
+    nodes_value c first end is_first is_end span kind =
+        let shown = subst (λ (y : ℕ × ℕ). AreCodesShown (program_of s) d.1 g.1 i y.0 y.1 cs) (λ j. (is_first j, is_end j)) (codes_here (kinds.Nodes c) kind refl) in
+        nodes_shown (program_of s) d.1 g.1 on.on.kept before now d.0 (texts_pooled s) i c first end span cs kind shown

@@ -29,8 +29,12 @@ pub record AreShownBelow (p : Program) (before now : View) (i : Instance) (from 
   pub shown : (c : ℕ) → has_code cs c ≡ true → ShowsCode p now i c
   pub all : (c : ℕ) → from ≤ c → c < to → c / 64 < n → ShowsCode p before i c → has_code cs c ≡ true
 
-shown_none : (p : Program) (v : View) (i : Instance) (from to : ℕ) → AreShownBelow p v v i from to 0 []
-shown_none p v i from to = record { least = λ c h. cc; below = λ c h. cc; shown = λ c h. cc; all = λ c l b lt h. absurd (omega (arith, lt)) }
+-- a code lies in no word before that of a smaller one
+before_first : (from c : ℕ) → from ≤ c → c / 64 < from / 64 → ⊥
+before_first from c l lt = omega (arith, l, lt)
+
+shown_none : (p : Program) (v : View) (i : Instance) (from to : ℕ) → AreShownBelow p v v i from to (from / 64) []
+shown_none p v i from to = record { least = λ c h. cc; below = λ c h. cc; shown = λ c h. cc; all = λ c l b lt h. absurd (before_first from c l lt) }
 
 -- a word without bits adds no code
 pub adds_none : (word from to : ℕ) (cs : List ℕ) → AddsWord word 0 from to cs cs
@@ -59,7 +63,7 @@ pub record ReadsBelow (d e : Held) (place from to n : ℕ) (cs : List ℕ) : Typ
   pub on : ReadsOn d e
   pub shown : (i : Instance) → IsCellOf (program_at d) d.0 d.1 i place → is_single (kind_in (program_at d) i) ≡ false → AreShownBelow (program_at d) d.1 e.1 i from to n cs
 
-pub reads_none : (d : Held) (place from to : ℕ) → IsOwn d → ReadsBelow d d place from to 0 []
+pub reads_none : (d : Held) (place from to : ℕ) → IsOwn d → ReadsBelow d d place from to (from / 64) []
 reads_none d place from to own = record { on = reads_itself d own; shown = λ i cell set. shown_none (program_at d) d.1 i from to }
 
 -- a word that was read at e, and held as g then
@@ -82,3 +86,7 @@ module _ (d e g : Held) (place from to n bits : ℕ) (cs next : List ℕ) (so_fa
 -- all words that codes below the end lie in
 pub shown_all : (p : Program) (before now : View) (i : Instance) (from to n : ℕ) (cs : List ℕ) → (to ≤ 64 * n) → AreShownBelow p before now i from to n cs → AreCodesShown p before now i from to cs
 shown_all p before now i from to n cs end h = record { least = h.least; below = h.below; shown = h.shown; all = λ c l b s. h.all c l b (omega (arith, b, end)) s }
+
+-- there is no code from one on, below one that isn't greater
+pub shown_nowhere : (p : Program) (v : View) (i : Instance) (from to : ℕ) → to ≤ from → AreCodesShown p v v i from to []
+shown_nowhere p v i from to end = record { least = λ c h. cc; below = λ c h. cc; shown = λ c h. cc; all = λ c l b h. absurd (omega (arith, end, l, b)) }

@@ -1,5 +1,5 @@
 -- What the words show, as a value.
-use Rattle.std.proofs.Common.{◌≡◌, ◌↔◌, ℕ, zero, suc, true, false, Bool, ◌+◌, ◌<◌, List, Some, length, map, refl, sym, ap, ◌∙◌, subst, arith}
+use Rattle.std.proofs.Common.{◌≡◌, ◌↔◌, ℕ, zero, suc, true, false, Bool, ◌+◌, ◌<◌, ◌≤◌, List, Some, length, map, refl, sym, ap, ◌∙◌, subst, arith}
 use Rattle.std.specs.Cmp.Lexicographic.{nat_list_cmp_total}
 use Rattle.std.specs.List.{slice_get}
 use Rattle.std.proofs.lemmas.Cmp.{eq_by_cmp_equiv, nat_cmp_total}
@@ -21,6 +21,7 @@ use Rattle.equation_law.specs.Names.{Instance, Null, Reference, Source, node_cmp
 use Rattle.equation_law.specs.Orders.{FitsKind}
 use Rattle.equation_law.specs.Program.{Program, text_of}
 use Rattle.equation_law.specs.Sets.{has, set_of}
+use Rattle.equation_law.specs.Spans.{IsBelow, class_below}
 use Rattle.equation_law.specs.Values.{Nodes, Texts, Truth, Value, as_kind, has_node, nodes, texts, truth}
 use Rattle.equation_law.proofs.Keys.{both_ways}
 use Rattle.equation_law.proofs.Lists.{some_of}
@@ -39,19 +40,20 @@ use Rattle.memo_cells.proofs.Telling.{shown_in}
 use Rattle.memo_cells.specs.SetShown.{AreCodesShown, IsShownValue}
 use Rattle.memo_cells.proofs.SetMembers.{node_code, node_in, text_code, text_in}
 
--- the code of a node of the program is at most the number of nodes
-node_low : (p : Program) (d : ClassId) (c : ℕ) (r : Reference) → reference_of c ≡ r → 0 < c → IsNodeOf p d r → c < length p.tree + 1
-node_low p d c _ e some null = absurd (positive c e some)
+-- the code of a node of a class or of a subclass is one more than a number that lies where these do
+node_between : (p : Program) (d : ClassId) (first end c : ℕ) (r : Reference) → ((n : ℕ) → IsBelow p.grammar p.tree d.0 n → (first ≤ n) × (n < end)) → reference_of c ≡ r → 0 < c → IsNodeOf p d r → (first + 1 ≤ c) × (c < end + 1)
+node_between p d first end c _ span e some null = absurd (positive c e some)
   where
     positive : (c : ℕ) → reference_of c ≡ Null → 0 < c → ⊥
     positive zero e some = omega (arith, some)
     positive (suc k) e some = cc
-node_low p d zero _ e some (at {k = k} h) = absurd (omega (arith, some))
-node_low p d (suc n) _ e some (at {k = k} h) =
+node_between p d first end zero _ span e some (at {k = k} h) = absurd (omega (arith, some))
+node_between p d first end (suc n) _ span e some (at {k = k} h) =
     let same : n ≡ k = cc in
-    let there : (x : Node) × (slice_get p.tree k ≡ Some x) × (x.class ≡ h.class) = some_of (λ (x : Node). x.class) (slice_get p.tree k) h.class h.of in
-    let low : k < length p.tree = slice_get_within p.tree k there.0 there.1 in
-    omega (arith, same, low)
+    let lies = span k (ap (class_below p.grammar d.0) h.of ∙ h.below) in
+    let low : first ≤ k = lies.0 in
+    let high : k < end = lies.1 in
+    (omega (arith, same, low), omega (arith, same, high))
 
 -- a code that isn't null's is of an element of the set
 reference_in : (cs : List ℕ) (c : ℕ) → 0 < c → has_code cs c ≡ true → has_node (set_of {R = node_cmp} (nodes_of cs)) (reference_of c) ≡ true
@@ -122,10 +124,17 @@ module _ (p : Program) (before now : View) (kept : IsAtLeast before now) (a : Ar
       settled = texts_settled;
     }
 
-  module _ (d : ClassId) (cs : List ℕ) (kind : kind_in p i ≡ kinds.Nodes d) (codes : AreCodesShown p before now i 1 (length p.tree + 1) cs) where
+  module _ (d : ClassId) (first end : ℕ) (span : (n : ℕ) → IsBelow p.grammar p.tree d.0 n → (first ≤ n) × (n < end)) (cs : List ℕ) (kind : kind_in p i ≡ kinds.Nodes d) (codes : AreCodesShown p before now i (first + 1) (end + 1) cs) where
+    -- a code that was shown is among them
+    code_there : (c : ℕ) → ShowsCode p before i c → has_code cs c ≡ true
+    code_there c h =
+        let code = element_code (kinds.Nodes d) kind c h in
+        let lies = node_between p d first end c (reference_of c) span refl code.0 code.1 in
+        codes.all c lies.0 lies.1 h
+
     -- the node of a code that was shown is in the set
     node_there : (c : ℕ) → ShowsCode p before i c → has_node (set_of {R = node_cmp} (nodes_of cs)) (reference_of c) ≡ true
-    node_there c h = let code = element_code (kinds.Nodes d) kind c h in reference_in cs c code.0 (codes.all c code.0 (node_low p d c (reference_of c) refl code.0 code.1) h)
+    node_there c h = let code = element_code (kinds.Nodes d) kind c h in reference_in cs c code.0 (code_there c h)
 
     nodes_settled : Knows p before i → (w : Value) × HasValue p i w × (Nodes (set_of {R = node_cmp} (nodes_of cs)) ≡ as_kind (kind_in p i) w)
     nodes_settled known =
@@ -137,13 +146,12 @@ module _ (p : Program) (before now : View) (kept : IsAtLeast before now) (a : Ar
         subst (λ (r : Reference). has_node (nodes s.0) r ≡ true) c.2 (element_in (kinds.Nodes d) kind s.0 s.1 c.0 (codes.shown c.0 c.1)))
         (λ n e.
         let c = least n e in
-        let code = element_code (kinds.Nodes d) kind c.0 c.2 in
-        node_in cs c.0 n c.1 (codes.all c.0 code.0 (node_low p d c.0 (reference_of c.0) refl code.0 code.1) c.2)) in
+        node_in cs c.0 n c.1 (code_there c.0 c.2)) in
         (s.0, s.1, subst (λ (k : Kind). Nodes (set_of {R = node_cmp} (nodes_of cs)) ≡ as_kind k s.0) (sym kind) (ap Nodes same))
 
     pub nodes_shown : IsShownValue p before now i (coded.Nodes cs)
     nodes_shown = record {
-      elements = All-from_any (eq_by_cmp_equiv nat_cmp_total) (λ c. 0 < c) cs codes.least;
+      elements = All-from_any (eq_by_cmp_equiv nat_cmp_total) (λ c. 0 < c) cs (λ c e. let low : first + 1 ≤ c = codes.least c e in omega (arith, low));
       fits = subst (λ (k : Kind). FitsKind k (Nodes (set_of {R = node_cmp} (nodes_of cs)))) (sym kind) (set_of {R = node_cmp} (nodes_of cs), refl);
       shown = subst (λ (k : Kind). ShowsAtLeast p now i k (Nodes (set_of {R = node_cmp} (nodes_of cs)))) (sym kind) (λ n e. let c = node_code cs n e in (c.0, c.2, codes.shown c.0 c.1));
       all = subst (λ (k : Kind). ShowsAtMost p before i k (Nodes (set_of {R = node_cmp} (nodes_of cs)))) (sym kind) node_there;

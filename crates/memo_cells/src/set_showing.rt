@@ -45,7 +45,7 @@ fn bits_below(word: u32, code: Code) -> u64
     }
 }
 
-/// The codes that the words of a cell show, from one code on, below another.
+/// The codes that the words of a cell show, from one code on, below another. No word is read in which none of these lies.
 fn codes_shown<W: Words>(
     alloc: Global,
     work: &mut W,
@@ -59,7 +59,10 @@ fn codes_shown<W: Words>(
     ensures shown { IfOk result (λ codes. (i : StandingInstance) → IsCellOf (program_at (W.held work.old)) (W.held work.old).0 (W.held work.old).1 i slot.0 → is_single (kind_in (program_at (W.held work.old)) i) ≡ false → AreCodesShown (program_at (W.held work.old)) (W.held work.old).1 (W.held work.new).1 i from to codes) }
 {
     let mut codes = Codes::none(alloc);
-    for word in 0..to.div_ceil(64) {
+    if to <= from {
+        return Ok(codes);
+    }
+    for word in from / 64..to.div_ceil(64) {
         let bits = work.word(slot, word);
         if bits != 0 {
             add_word(&mut codes, word, bits, from, to)?;
@@ -68,7 +71,8 @@ fn codes_shown<W: Words>(
     Ok(codes)
 }
 
-/// The value of a set or a truth value that the words of a cell show; of another type, its default.
+/// The value of a set or a truth value that the words of a cell show; of another type, its default. Of a set of nodes it reads the words
+/// between the first and the last node of the class of the elements and of its subclasses.
 pub fn value_shown<W: Words>(
     alloc: Global,
     system: &System,
@@ -88,9 +92,12 @@ pub fn value_shown<W: Words>(
             let texts = system.pool().len();
             Ok(Value::Texts(codes_shown(alloc, work, slot, 0, texts)?))
         }
-        Kind::Nodes(_) => {
-            let nodes = system.tree().len() + 1;
-            Ok(Value::Nodes(codes_shown(alloc, work, slot, 1, nodes)?))
+        Kind::Nodes(class) => {
+            let span = system.span(class);
+            // A tree has few nodes.
+            prove!(system.tree().len() > 0);
+            let (from, to) = (span.first + 1, span.end + 1);
+            Ok(Value::Nodes(codes_shown(alloc, work, slot, from, to)?))
         }
         Kind::Int | Kind::Text | Kind::Node(_) => Ok(Value::default_of(alloc, kind)),
     }

@@ -1,4 +1,5 @@
 pub mod Adding
+pub mod Bare
 pub mod Circles
 pub mod Coded
 pub mod Firsts

@@ -182,7 +182,7 @@ pub fn read_system(alloc: Global, contents: &Contents) -> Result<System, Refusal
         Err(unread) => return Err(refusal_of(FileKind::Jrag, unread)),
     };
     let (tree, queries) = read_tree_and_queries(alloc, &grammar, &rules, contents, &mut pool)?;
-    Ok(System::new(grammar, rules, tree, pool, queries))
+    Ok(System::new(alloc, grammar, rules, tree, pool, queries)?)
 }
 
 // A text that is said, or want of memory for it.

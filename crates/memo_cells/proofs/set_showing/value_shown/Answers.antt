@@ -12,4 +12,4 @@ returns-in_ok-codes_shown-in-Texts-clause-shown g c = λ i cell kind ordered.
 
 pub returns-in_ok-codes_shown-in-Nodes-clause-shown : goal.returns-in_ok-codes_shown-in-Nodes-clause-shown
 returns-in_ok-codes_shown-in-Nodes-clause-shown g c = λ i cell kind ordered.
-    nodes_value c.args.system.now (g.W.Words.held c.args.work.now) (g.W.Words.held c.codes_shown-in-Nodes.new.work) c.requires.same c.requires.own c.codes_shown-in-Nodes.ensures.on i c.args.slot.0 1 (c.len-nodes.result + 1) c.in_ok-codes_shown-in-Nodes.field-0 c.in_ok-codes_shown-in-Nodes.ensures.shown cell c.in-Nodes.field-0 refl (search rules) (kind ∙ c.in-Nodes.is)
+    nodes_value c.args.system.now (g.W.Words.held c.args.work.now) (g.W.Words.held c.codes_shown-in-Nodes.new.work) c.requires.same c.requires.own c.codes_shown-in-Nodes.ensures.on i c.args.slot.0 (c.span-span.result.first + 1) (c.span-span.result.end + 1) c.in_ok-codes_shown-in-Nodes.field-0 c.in_ok-codes_shown-in-Nodes.ensures.shown cell c.in-Nodes.class c.span-span.result.first c.span-span.result.end refl refl c.span-span.ensures.all (kind ∙ c.in-Nodes.is)

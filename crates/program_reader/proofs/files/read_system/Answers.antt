@@ -39,7 +39,7 @@ new-requires c = few_queries c.in_ok-tree.ensures.said.queries
 pub returns-clause-said : goal.returns-clause-said
 returns-clause-said c =
     let said = aspects_there c.in-Ok.grammar c.read_aspects.new.pool c.in_ok-pool.ensures.said c.deref-2.ensures.value (Ok c.in-Ok-read_aspects.rules) c.in-Ok-read_aspects.ensures in
-    subst (SaysProgram (seen_contents c.args.contents.now)) (sym c.new.ensures) (record {
+    subst (SaysProgram (seen_contents c.args.contents.now)) (sym c.in_ok-new.ensures) (record {
       written = said.written;
       between = c.read_aspects.new.pool;
       grammar = subst (λ (b : List ℕ). ReadsGrammar b c.in-Ok.grammar) c.deref.ensures.value c.in-Ok.ensures;
