@@ -24,7 +24,7 @@ use Rattle.circular_eval.specs.Advancing.{AnswersFault, ClaimsFrom}
 use Rattle.circular_eval.specs.Left.{left}
 use Rattle.circular_eval.specs.Local.{IsCurrent, IsMember, Members, local_value, with_value}
 use Rattle.circular_eval.specs.Rising.{AnswersRaise, IsRisen, LacksSome, MayRise, RaisesValue}
-use Rattle.circular_eval.specs.Visiting.{ComesAt, GoesOnWith, IsReady, Visits}
+use Rattle.circular_eval.specs.Visiting.{ComesAt, GoesOnWith, IsReady, Steps}
 use Rattle.circular_eval.proofs.Admitting.{IsSame, goes_same, local_is_here, near_is, program_is}
 use Rattle.circular_eval.proofs.Closing.{placed_at, value_there}
 use Rattle.circular_eval.proofs.Entries.{length_changed}
@@ -97,10 +97,10 @@ module _ (s : System) (d : Held) (l : Local) (r : IsReady s d l) (number : ℕ) 
       fault_answer Memory lacks = tt
 
       -- a fault
-      pub absorb_refused : (fault : CircFault) → q ≡ Err fault → (y : Result Visited CircFault) → y ≡ Err fault → Visits d f l l number y
+      pub absorb_refused : (fault : CircFault) → q ≡ Err fault → (y : Result (Option Visited) CircFault) → y ≡ Err fault → Steps d f l l number y
       absorb_refused fault is_fault y h =
-          subst (λ (z : Result Visited CircFault). Visits d f l l number z) (sym h)
-          (record { goes = goes l (record { start = refl; entries = refl; need = refl }); answer = fault_answer fault (subst (λ (z : Result (Option CodedValue) CircFault). AnswersRaise p d.0 f.1 i x e.1.value z) is_fault (raises.answer i may_rise)) })
+          subst (λ (z : Result (Option Visited) CircFault). Steps d f l l number z) (sym h)
+          (record { goes = goes l (record { start = refl; entries = refl; need = refl; saved = refl }); answer = fault_answer fault (subst (λ (z : Result (Option CodedValue) CircFault). AnswersRaise p d.0 f.1 i x e.1.value z) is_fault (raises.answer i may_rise)) })
 
       -- the value isn't more
       current : AtMost (value_of (text_of p) x) (value_of (text_of p) e.1.value) → (c : CodedInstance × Member) → slice_get es number ≡ Some c → IsCurrent p f.1 es (instance_of p c.0)
@@ -110,21 +110,21 @@ module _ (s : System) (d : Held) (l : Local) (r : IsReady s d l) (number : ℕ) 
           subst (λ (u : CodedInstance × Member). IsCurrent p f.1 es (instance_of p u.0)) (one_entry c there)
           (record { value = value_of (text_of p) x; demands = came.comes.0.0; ends = ends_more (read_later p d.1 f.1 raises.on.kept es) came.comes.0.1; below = subst (λ (v : Value). AtMost (value_of (text_of p) x) v) (sym same) most })
 
-      pub absorb_same : q ≡ Ok None → Visits d f l l number (Ok Same)
+      pub absorb_same : q ≡ Ok None → Steps d f l l number (Ok (Some Same))
       absorb_same none = record {
-        goes = goes l (record { start = refl; entries = refl; need = refl });
+        goes = goes l (record { start = refl; entries = refl; need = refl; saved = refl });
         answer = record { members = refl; due = refl; confirmed = λ c there some. current (subst (λ (z : Result (Option CodedValue) CircFault). AnswersRaise p d.0 f.1 i x e.1.value z) none (raises.answer i may_rise)) c there };
       }
 
       -- it rose
-      module _ (both : CodedValue) (some : q ≡ Ok (Some both)) (m : Local) (start : m.start ≡ l.start) (need : m.need ≡ l.need) (entries : m.members.entries ≡ with_value es number both) where
+      module _ (both : CodedValue) (some : q ≡ Ok (Some both)) (m : Local) (start : m.start ≡ l.start) (need : m.need ≡ l.need) (saved : m.saved ≡ None) (entries : m.members.entries ≡ with_value es number both) where
         risen : IsRisen p f.1 i x e.1.value both
         risen = subst (λ (z : Result (Option CodedValue) CircFault). AnswersRaise p d.0 f.1 i x e.1.value z) some (raises.answer i may_rise)
 
         risen_goes : GoesOnWith p d f l m
         risen_goes = record {
           on = raises.on;
-          local = local_risen p d.0 f.1 l (local_later p d.1 f.1 raises.on.kept d.0 l (local_is_here s d l r)) number both came.entry came.at came.placed risen.elements risen.fits risen.shown m start need entries;
+          local = local_risen p d.0 f.1 l (local_later p d.1 f.1 raises.on.kept d.0 l (local_is_here s d l r)) number both came.entry came.at came.placed risen.elements risen.fits risen.shown m start need saved entries;
           start = start;
           claims = claims;
           some = λ h. subst (λ (k : ℕ). 0 < k) (sym (ap length entries ∙ length_changed es number both)) h;
@@ -133,8 +133,8 @@ module _ (s : System) (d : Held) (l : Local) (r : IsReady s d l) (number : ℕ) 
         risen_left : left m.members.entries < left es
         risen_left = subst (λ (u : Members). left u < left es) (sym entries) (left_risen es number both e at risen.more)
 
-        pub absorb_changed : Visits d f l m number (Ok Changed)
+        pub absorb_changed : Steps d f l m number (Ok (Some Changed))
         absorb_changed = record { goes = risen_goes; answer = risen_left }
 
-        pub absorb_late : (y : Result Visited CircFault) → y ≡ Err Memory → Visits d f l m number y
-        absorb_late y h = subst (λ (z : Result Visited CircFault). Visits d f l m number z) (sym h) (record { goes = risen_goes; answer = tt })
+        pub absorb_late : (y : Result (Option Visited) CircFault) → y ≡ Err Memory → Steps d f l m number y
+        absorb_late y h = subst (λ (z : Result (Option Visited) CircFault). Steps d f l m number z) (sym h) (record { goes = risen_goes; answer = tt })

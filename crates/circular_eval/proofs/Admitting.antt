@@ -1,5 +1,5 @@
 -- Making a circular instance a member.
-use Rattle.std.proofs.Common.{◌≡◌, ℕ, suc, ◌<◌, true, List, [], ◌∷◌, ◌++◌, Option, Some, None, Result, Ok, Err, length, inl, inr, ⊎_elim, refl, sym, ap, subst, ◌∙◌, arith}
+use Rattle.std.proofs.Common.{◌≡◌, ℕ, suc, ◌<◌, true, List, [], ◌∷◌, ◌++◌, Option, Some, None, Result, Ok, Err, length, inl, inr, ⊎_elim, refl, sym, ap, subst, subst₂, ◌∙◌, arith}
 use Rattle.solutions.specs.Leading.{none}
 use Rattle.attr_rules.specs.declared.kinds.Kind.{Kind}
 use Rattle.attr_rules.specs.declared.kinds.Kind.TheVariants as kinds
@@ -15,7 +15,7 @@ use Rattle.equation_law.specs.Orders.{FitsKind}
 use Rattle.equation_law.specs.Program.{Program, text_of}
 use Rattle.equation_law.specs.Reading.{Settles, Told}
 use Rattle.equation_law.specs.Systems.{program_of}
-use Rattle.equation_law.specs.Values.{Value, as_kind}
+use Rattle.equation_law.specs.Values.{Value, as_kind, default_of}
 use Rattle.equation_law.proofs.QueryValues.{value_typed}
 use Rattle.equation_law.proofs.Solution.{circular_site, one}
 use Rattle.memo_cells.specs.declared.keys.Slot.{Slot}
@@ -32,13 +32,15 @@ use Rattle.circular_eval.specs.declared.local.Local.{Local}
 use Rattle.circular_eval.specs.declared.members.Member.{Member}
 use Rattle.circular_eval.specs.Advancing.{AnswersFault, ClaimsFrom, FillsFrom}
 use Rattle.circular_eval.specs.Left.{left, member_bound}
-use Rattle.circular_eval.specs.Local.{IsAbsent, IsLedBy, IsLocal}
-use Rattle.circular_eval.specs.Visiting.{Admits, GoesOnWith, IsNew, IsReady}
+use Rattle.circular_eval.specs.Local.{IsAbsent, IsLedBy, IsLocal, StillMembers}
+use Rattle.circular_eval.specs.Visiting.{Admits, BeginsWith, GoesOnWith, IsNew, IsReady}
 use Rattle.circular_eval.proofs.Entries.{length_more}
 use Rattle.circular_eval.proofs.Going.{chain_more, claims_from_keys, fills_from_keys, member_chain, program_on}
 use Rattle.circular_eval.proofs.Growing.{IsFit, left_more, local_more, local_same}
 use Rattle.circular_eval.proofs.Later.{local_later}
+use Rattle.circular_eval.proofs.Lowering.{bottom_fits, bottom_shown}
 use Rattle.circular_eval.proofs.Looking.{fits_read}
+use Rattle.circular_eval.proofs.Resuming.{still_more}
 
 -- a value of a circular type may be that of a circular instance
 typed_fits : (p : Program) (k : Kind) (x : Value) → is_ordered k ≡ true → IsValue p k x → FitsKind k x
@@ -58,6 +60,7 @@ pub record IsSame (l m : Local) : Type 0 where
   pub start : m.start ≡ l.start
   pub entries : m.members.entries ≡ l.members.entries
   pub need : m.need ≡ l.need
+  pub saved : m.saved ≡ l.saved
 
 module _ (s : System) (d : Held) (l : Local) (r : IsReady s d l) where
   abbrev p : Program
@@ -76,7 +79,7 @@ module _ (s : System) (d : Held) (l : Local) (r : IsReady s d l) where
   pub goes_same : (e : Held) → GoesOn d e → ClaimsFrom p (instance_of p l.start) d.1 e.1 → (m : Local) → IsSame l m → GoesOnWith p d e l m
   goes_same e on claims m same = record {
     on = on;
-    local = local_same p d.0 e.1 l m same.start same.entries same.need (local_later p d.1 e.1 on.kept d.0 l local_is_here);
+    local = local_same p d.0 e.1 l m same.start same.entries same.need same.saved (local_later p d.1 e.1 on.kept d.0 l local_is_here);
     start = same.start;
     claims = claims;
     some = λ h. subst (λ (es : List (CodedInstance × Member)). 0 < length es) (sym same.entries) h;
@@ -105,23 +108,24 @@ module _ (s : System) (d : Held) (l : Local) (r : IsReady s d l) where
 
     -- nothing was added
     pub refused : (e : Held) → GoesOn d e → ClaimsFrom p (instance_of p l.start) d.1 e.1 → (m : Local) → IsSame l m → (fault : CircFault) → AnswersFault p (instance_of p l.start) d.0 e.1 fault → (x : Result Unit CircFault) → x ≡ Err fault → Admits d e l m x
-    refused e on claims m same fault answer x is = subst (λ (y : Result Unit CircFault). Admits d e l m y) (sym is) (record { goes = goes_same e on claims m same; grown = tt; some = tt; fault = answer })
+    refused e on claims m same fault answer x is = subst (λ (y : Result Unit CircFault). Admits d e l m y) (sym is) (record { goes = goes_same e on claims m same; grown = tt; still = tt; some = tt; fault = answer })
 
     -- it was added
-    pub admitted : (e : Held) → GoesOn d e → ClaimsFrom p (instance_of p l.start) d.1 e.1 → (m : Local) (n : Member) → n.by ≡ by → IsFit p d.0 e.1 (instance_of p i) n → length l.members.entries < member_bound → m.start ≡ l.start → m.need ≡ l.need → m.members.entries ≡ l.members.entries ++ (i, n) ∷ [] → (u : Unit) → Admits d e l m (Ok u)
-    admitted e on claims m n of fit few start need entries u =
+    pub admitted : (e : Held) → GoesOn d e → ClaimsFrom p (instance_of p l.start) d.1 e.1 → (m : Local) (n : Member) → n.by ≡ by → IsFit p d.0 e.1 (instance_of p i) n → length l.members.entries < member_bound → m.start ≡ l.start → m.need ≡ l.need → m.saved ≡ l.saved → m.members.entries ≡ l.members.entries ++ (i, n) ∷ [] → (u : Unit) → Admits d e l m (Ok u)
+    admitted e on claims m n of fit few start need saved entries u =
         let later = local_later p d.1 e.1 on.kept d.0 l local_is_here in
         let longer : length (l.members.entries ++ (i, n) ∷ []) ≡ suc (length l.members.entries) = length_more l.members.entries (i, n) in
         let some : 0 < length m.members.entries = subst (λ (es : List (CodedInstance × Member)). 0 < length es) (sym entries) (omega (arith, longer)) in
         record {
           goes = record {
             on = on;
-            local = local_more p d.0 e.1 l later i n (subst (λ (b : Option ℕ). IsNew p l i b) (sym of) new) fit m start need entries;
+            local = local_more p d.0 e.1 l later i n (subst (λ (b : Option ℕ). IsNew p l i b) (sym of) new) fit m start need saved entries;
             start = start;
             claims = claims;
             some = λ h. some;
           };
           grown = subst (λ (es : List (CodedInstance × Member)). left es < left l.members.entries) (sym entries) (left_more l.members.entries (i, n) few);
+          still = subst (λ (es : List (CodedInstance × Member)). StillMembers p l.members.entries es) (sym entries) (still_more p l.members.entries (i, n));
           some = some;
           fault = tt;
         }
@@ -159,14 +163,34 @@ module _ (s : System) (d : Held) (l : Local) (r : IsReady s d l) where
     pub cell_out : (f : Held) → GoesOn d f → (k : ℕ) → IsCellOf p d.0 f.1 (instance_of p i) k → IsCellOf (program_of s) f.0 f.1 (instance_of (program_of s) i) k
     cell_out f on k cell = subst (λ (u : Program × Frame). IsCellOf u.0 u.1 f.1 (instance_of u.0 i) k) (λ j. (ap program_of r.same j, sym on.cells j)) cell
 
-    pub shown_here : (e f : Held) → GoesOn d e → (slot : Slot) (kind : Kind) (x : CodedValue) → ((j : Instance) → IsCellOf (program_of s) e.0 e.1 j slot.0 → kind_in (program_of s) j ≡ kind → is_ordered kind ≡ true → IsShownValue (program_of s) e.1 f.1 j x) → kind ≡ kind_in (program_of s) (instance_of (program_of s) i) → IsCellOf p d.0 e.1 (instance_of p i) slot.0 → IsShownValue p e.1 f.1 (instance_of p i) x
-    shown_here e f on slot kind x shown is cell =
+    pub begins_here : (e f : Held) → GoesOn d e → (slot : Slot) (kind : Kind) (x : CodedValue) → ((j : Instance) → IsCellOf (program_of s) e.0 e.1 j slot.0 → kind_in (program_of s) j ≡ kind → is_ordered kind ≡ true → BeginsWith (program_of s) f.1 j x) → kind ≡ kind_in (program_of s) (instance_of (program_of s) i) → IsCellOf p d.0 e.1 (instance_of p i) slot.0 → BeginsWith p f.1 (instance_of p i) x
+    begins_here e f on slot kind x shown is cell =
         let ordered : is_ordered (kind_in (program_of s) (instance_of (program_of s) i)) ≡ true = subst (λ (u : System). is_ordered (kind_in (program_of u) (instance_of (program_of u) i)) ≡ true) r.same (ordered_kind p (instance_of p i) new.is_circular) in
-        subst (λ (u : System). IsShownValue (program_of u) e.1 f.1 (instance_of (program_of u) i) x) (sym r.same)
+        subst (λ (u : System). BeginsWith (program_of u) f.1 (instance_of (program_of u) i) x) (sym r.same)
         (shown (instance_of (program_of s) i) (cell_out e on slot.0 cell) (sym is) (ap is_ordered is ∙ ordered))
 
-    -- the value that its words show
-    pub shown_fit : (e : Held) (v : View) (slot : Slot) → IsCellOf p d.0 e.1 (instance_of p i) slot.0 → (x : CodedValue) → IsShownValue p v e.1 (instance_of p i) x → (n : Member) → n.slot ≡ Some slot → n.value ≡ x → IsFit p d.0 e.1 (instance_of p i) n
-    shown_fit e v slot cell x shown n at is =
+    -- a value that it may begin with
+    pub begins_fit : (e : Held) (slot : Slot) → IsCellOf p d.0 e.1 (instance_of p i) slot.0 → (x : CodedValue) → BeginsWith p e.1 (instance_of p i) x → (n : Member) → n.slot ≡ Some slot → n.value ≡ x → IsFit p d.0 e.1 (instance_of p i) n
+    begins_fit e slot cell x shown n at is =
         subst (λ (y : Member). IsFit p d.0 e.1 (instance_of p i) y) (λ q. record { slot = sym at q; value = sym is q; by = n.by })
         (record { elements = shown.elements; fits = shown.fits; shown = shown.shown; placed = cell })
+
+-- ---- the value that a member begins with
+
+-- what the words show
+pub shown_begins : (p : Program) (v w : View) (i : Instance) (x : CodedValue) → IsShownValue p v w i x → BeginsWith p w i x
+shown_begins p v w i x h = record { elements = h.elements; fits = h.fits; shown = h.shown }
+
+-- bottom
+pub bottom_begins : (p : Program) (v : View) (i : Instance) (k : Kind) (x : CodedValue) → kind_in p i ≡ k → is_ordered k ≡ true → value_of (text_of p) x ≡ default_of k → AreElements p x → BeginsWith p v i x
+bottom_begins p v i k x kind ordered is elements = record {
+  elements = elements;
+  fits = subst₂ (λ (l : Kind) (y : Value). FitsKind l y) (sym kind) (sym is) (bottom_fits k ordered);
+  shown = subst₂ (λ (l : Kind) (y : Value). ShowsAtLeast p v i l y) (sym kind) (sym is) (bottom_shown p v i k);
+}
+
+-- ---- a cell that is opened after a reading
+
+-- what was claimed after a reading
+pub claims_read : (p : Program) (u v w : View) (i : Instance) → v.claims ≡ u.claims → ClaimsKeysTo p v w i → ClaimsKeysTo p u w i
+claims_read p u v w i quiet claims s = ⊎_elim (λ same. inl (same ∙ ap (λ (cs : List ℕ). times s cs) quiet)) inr (claims s)

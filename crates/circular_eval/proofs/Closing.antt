@@ -121,11 +121,11 @@ module _ (p : Program) (good : IsProgram p) (v : View) (near : AreApproximations
   is_member : (e : CodedInstance × Member) → Has es e → (n : ℕ) × (slice_get es n ≡ Some e) × IsMember p f v es start n e
   is_member e h = let at = has_at es e h in (at.0, at.1, set.members at.0 e at.1)
 
-  value_is : (e : CodedInstance × Member) → Has es e → T (instance_of p e.0) ≡ value_of (text_of p) e.1.value
+  pub value_is : (e : CodedInstance × Member) → Has es e → T (instance_of p e.0) ≡ value_of (text_of p) e.1.value
   value_is e h = let m = is_member e h in value_there p es set.different m.0 e m.1
 
   -- a member is known, with its value in the solution, or among those that are sealed
-  known_or : (j : Instance) → IsMemberOf p es j → (Knows p v j × HasValue p j (T j)) ⊎ (is_in same_instance (opened p es) j ≡ true)
+  pub known_or : (j : Instance) → IsMemberOf p es j → (Knows p v j × HasValue p j (T j)) ⊎ (is_in same_instance (opened p es) j ≡ true)
   known_or j (e, h, is) =
       let m = is_member e h in
       subst (λ (i : Instance). (Knows p v i × HasValue p i (T i)) ⊎ (is_in same_instance (opened p es) i ≡ true)) is
@@ -169,7 +169,7 @@ module _ (p : Program) (good : IsProgram p) (v : View) (near : AreApproximations
         let m = is_member w.0 w.1 in
         (instance_of p w.0.0, opened_there p es m.0 w.0 m.1 (subst (λ (o : Option Slot). IsSome o) (sym w.2) refl), subst (λ (k : ℕ). IsCellOf p f v (instance_of p w.0.0) k) (sym a.2) (placed_at p f v (instance_of p w.0.0) (value_of (text_of p) w.0.1.value) w.0.1.slot a.0 w.2 m.2.placed))
 
-    holds : (i : Instance) → is_in same_instance (opened p es) i ≡ true → Holds (equations_of p) (order_in p) (opened p es) T i
+    pub holds : (i : Instance) → is_in same_instance (opened p es) i ≡ true → Holds (equations_of p) (order_in p) (opened p es) T i
     holds i h =
         let c = current i h in
         record { is_circular = c.1; value = c.2.value; demands = c.2.demands; ends = ends_more reads_closed (ends_of p good v near f start es set i c.0 c.2.value c.2.demands c.2.ends); below = c.2.below }

@@ -1,9 +1,10 @@
 -- Passes over a local set until it is closed.
-use Rattle.std.proofs.Common.{◌≡◌, ◌<◌, List, [], ◌∷◌, Option, Some, None, Result, Ok, Err, length, map, slice_get, refl, sym, subst, arith}
+use Rattle.std.proofs.Common.{◌≡◌, ◌<◌, ℕ, List, [], ◌∷◌, Option, Some, None, Result, Ok, Err, length, map, slice_get, refl, sym, subst, arith}
 use Rattle.equation_law.specs.declared.coding.Instance.{Instance as CodedInstance}
 use Rattle.equation_law.specs.declared.system.System.{System}
-use Rattle.equation_law.specs.Codes.{instance_of}
-use Rattle.equation_law.specs.Program.{Program}
+use Rattle.equation_law.specs.Codes.{instance_of, value_of}
+use Rattle.equation_law.specs.Equations.{HasValue}
+use Rattle.equation_law.specs.Program.{Program, text_of}
 use Rattle.memo_cells.specs.declared.keys.Slot.{Slot}
 use Rattle.memo_cells.specs.declared.view.Frame.{Frame}
 use Rattle.memo_cells.specs.Standing.{Knows, MaySeal}
@@ -21,12 +22,17 @@ use Rattle.circular_eval.specs.declared.visiting.Visited.TheVariants.{Changed, N
 use Rattle.circular_eval.specs.Advancing.{AnswersFault}
 use Rattle.circular_eval.specs.Left.{left}
 use Rattle.circular_eval.specs.Local.{AreSlots, Members}
-use Rattle.circular_eval.specs.Visiting.{Admits, Advances, AnswersClose, AnswersPass, AreConfirmed, Begins, Closes, GoesOnWith, IsNew, IsReady, Passes}
+use Rattle.circular_eval.specs.Visiting.{Admits, Advances, AnswersClose, AnswersPass, AreConfirmed, Begins, Closes, GoesAgain, GoesOnWith, IsNew, IsReady, Passes, Visits}
 use Rattle.circular_eval.proofs.Admitting.{local_is_here, near_is, program_is}
 use Rattle.circular_eval.proofs.Closing.{may_seal, member_sealed}
 use Rattle.circular_eval.proofs.Entries.{at_has}
 use Rattle.circular_eval.proofs.Going.{program_on, ready_then, with_itself, with_then}
-use Rattle.circular_eval.proofs.Passing.{goes_read}
+use Rattle.circular_eval.proofs.Valued.{member_has}
+use Rattle.circular_eval.proofs.Passing.{goes_looked, goes_read}
+
+-- what is said of what is held in between
+close_back : (d e f : Held) (l m n : Local) → GoesOnWith (program_at d) d e l m → (y : Result (Option CodedInstance) CircFault) → Closes e f m n y → AnswersClose (program_at d) d.0 f.1 m n y
+close_back d e f l m n h y v = subst (λ (u : Program × Frame). AnswersClose u.0 u.1 f.1 m n y) (λ j. (program_on d e h.on j, h.on.cells j)) v.answer
 
 -- passes, one after the other
 module _ (d e f : Held) (l m n : Local) (h : GoesOnWith (program_at d) d e l m) where
@@ -44,8 +50,39 @@ module _ (d e f : Held) (l m n : Local) (h : GoesOnWith (program_at d) d e l m) 
       subst (λ (z : Result (Option CodedInstance) CircFault). Closes d f l n z) (sym is)
       (record { goes = with_then d e f l m n h v.goes; answer = subst (λ (u : CodedInstance). AnswersFault (program_at d) (instance_of (program_at d) u) d.0 f.1 fault) h.start (pass_back (Err fault) v) })
 
+  -- and behind going on with the member that stopped last
+  close_from : (y : Result (Option CodedInstance) CircFault) → AnswersClose (program_at d) d.0 f.1 m n y → AnswersClose (program_at d) d.0 f.1 l n y
+  close_from (Ok (Some x)) a = a
+  close_from (Ok None) a = a
+  close_from (Err fault) a = subst (λ (u : CodedInstance). AnswersFault (program_at d) (instance_of (program_at d) u) d.0 f.1 fault) h.start a
+
+  pub close_then : (y : Result (Option CodedInstance) CircFault) → Closes e f m n y → Closes d f l n y
+  close_then y v = record { goes = with_then d e f l m n h v.goes; answer = close_from y (close_back d e f l m n h y v) }
+
   pub close_less : Passes e f m n (Ok Changed) → left n.members.entries < left m.members.entries
   close_less v = pass_back (Ok Changed) v
+
+-- going on with the member that stopped last
+pub again_none : (s : System) (d : Held) (l : Local) → IsReady s d l → GoesAgain d d l l (Ok None)
+again_none s d l r = record { goes = with_itself s d l r; answer = tt }
+
+pub again_needs : (d e : Held) (l m : Local) (number : ℕ) (x : CodedInstance) → Visits d e l m number (Ok (Need x)) → GoesAgain d e l m (Ok (Some x))
+again_needs d e l m number x h = record { goes = h.goes; answer = h.answer }
+
+pub again_changed : (d e : Held) (l m : Local) (number : ℕ) (x : Visited) → Visits d e l m number (Ok x) → GoesAgain d e l m (Ok None)
+again_changed d e l m number x h = record { goes = h.goes; answer = tt }
+
+pub again_rests : (d e : Held) (l m o : Local) (number : ℕ) → Visits d e l m number (Ok Same) → o.start ≡ m.start → o.members ≡ m.members → o.need ≡ m.need → o.saved ≡ m.saved → GoesAgain d e l o (Ok None)
+again_rests d e l m o number h start members need saved = record { goes = goes_looked d e l m o start members need saved h.goes; answer = tt }
+
+pub again_fault : (d e : Held) (l m : Local) (number : ℕ) (fault : CircFault) → Visits d e l m number (Err fault) → (y : Result (Option CodedInstance) CircFault) → y ≡ Err fault → GoesAgain d e l m y
+again_fault d e l m number fault h y is = subst (λ (z : Result (Option CodedInstance) CircFault). GoesAgain d e l m z) (sym is) (record { goes = h.goes; answer = h.answer })
+
+pub close_again : (d e : Held) (l m : Local) (x : CodedInstance) → GoesAgain d e l m (Ok (Some x)) → Closes d e l m (Ok (Some x))
+close_again d e l m x h = record { goes = h.goes; answer = h.answer }
+
+pub close_early : (d e : Held) (l m : Local) (fault : CircFault) → GoesAgain d e l m (Err fault) → (y : Result (Option CodedInstance) CircFault) → y ≡ Err fault → Closes d e l m y
+close_early d e l m fault h y is = subst (λ (z : Result (Option CodedInstance) CircFault). Closes d e l m z) (sym is) (record { goes = h.goes; answer = h.answer })
 
 nothing : (es : Members) → length es ≡ 0 → (e : CodedInstance × Member) → Has es e → ⊥
 nothing [] h e there = there
@@ -75,16 +112,13 @@ on_refused d e l m fault h y is =
     (record { goes = h.goes; answer = subst (λ (u : CodedInstance). AnswersFault (program_at d) (instance_of (program_at d) u) d.0 e.1 fault) (sym h.goes.start) h.fault })
 
 module _ (d e f : Held) (l m n : Local) (h : GoesOnWith (program_at d) d e l m) where
-  close_back : (y : Result (Option CodedInstance) CircFault) → Closes e f m n y → AnswersClose (program_at d) d.0 f.1 m n y
-  close_back y v = subst (λ (u : Program × Frame). AnswersClose u.0 u.1 f.1 m n y) (λ j. (program_on d e h.on j, h.on.cells j)) v.answer
-
   pub on_fault : (fault : CircFault) → Closes e f m n (Err fault) → (y : Result CircTurn CircFault) → y ≡ Err fault → Advances d f l n y
   on_fault fault v y is =
       subst (λ (z : Result CircTurn CircFault). Advances d f l n z) (sym is)
-      (record { goes = with_then d e f l m n h v.goes; answer = subst (λ (u : CodedInstance). AnswersFault (program_at d) (instance_of (program_at d) u) d.0 f.1 fault) (sym v.goes.start) (close_back (Err fault) v) })
+      (record { goes = with_then d e f l m n h v.goes; answer = subst (λ (u : CodedInstance). AnswersFault (program_at d) (instance_of (program_at d) u) d.0 f.1 fault) (sym v.goes.start) (close_back d e f l m n h (Err fault) v) })
 
   pub on_need : (x : CodedInstance) → Closes e f m n (Ok (Some x)) → Advances d f l n (Ok (turn.Need x))
-  on_need x v = record { goes = with_then d e f l m n h v.goes; answer = close_back (Ok (Some x)) v }
+  on_need x v = record { goes = with_then d e f l m n h v.goes; answer = close_back d e f l m n h (Ok (Some x)) v }
 
   pub on_late : Closes e f m n (Ok None) → (y : Result CircTurn CircFault) → y ≡ Err Memory → Advances d f l n y
   on_late v y is = subst (λ (z : Result CircTurn CircFault). Advances d f l n z) (sym is) (record { goes = with_then d e f l m n h v.goes; answer = tt })
@@ -97,7 +131,7 @@ module _ (d e f : Held) (l m n : Local) (h : GoesOnWith (program_at d) d e l m) 
     ready = ready_then s d f l n r on_goes
 
     confirmed : AreConfirmed (program_at f) f.1 n.members.entries
-    confirmed = subst (λ (u : Program). AreConfirmed u f.1 n.members.entries) (sym (program_on d f on_goes.on)) (close_back (Ok None) closed)
+    confirmed = subst (λ (u : Program). AreConfirmed u f.1 n.members.entries) (sym (program_on d f on_goes.on)) (close_back d e f l m n h (Ok None) closed)
 
     module _ (slots : List Slot) (are : AreSlots n.members.entries slots) where
       pub on_may : MaySeal (program_at f) f.0 f.1 (map (λ x. x.0) slots)
@@ -110,6 +144,11 @@ module _ (d e f : Held) (l m n : Local) (h : GoesOnWith (program_at d) d e l m) 
         each_here : (x : CodedInstance × Member) → Has n.members.entries x → Knows (program_at d) g.1 (instance_of (program_at d) x.0)
         each_here x there = subst (λ (u : Program). Knows u g.1 (instance_of u x.0)) (program_on d f on_goes.on) (each x there)
 
+        each_value : (x : CodedInstance × Member) → Has n.members.entries x → HasValue (program_at d) (instance_of (program_at d) x.0) (value_of (text_of (program_at d)) x.1.value)
+        each_value x there =
+            subst (λ (u : Program). HasValue u (instance_of u x.0) (value_of (text_of u) x.1.value)) (program_on d f on_goes.on)
+            (member_has (program_at f) (program_is s f n ready) f.1 (near_is s f n ready) f.0 n.start n.members.entries (local_is_here s f n ready).set confirmed slots are x there)
+
         start_sealed : Knows (program_at d) g.1 (instance_of (program_at d) n.start)
         start_sealed =
             let x = head_of n.members.entries (closed.goes.some some) in
@@ -117,6 +156,6 @@ module _ (d e f : Held) (l m n : Local) (h : GoesOnWith (program_at d) d e l m) 
 
         pub on_closed : Advances d g l n (Ok turn.Closed)
         on_closed = record {
-          goes = with_then d f g l n n on_goes (goes_read s f g n n ready on (record { start = refl; entries = refl; need = refl }));
-          answer = record { start = start_sealed; members = each_here };
+          goes = with_then d f g l n n on_goes (goes_read s f g n n ready on (record { start = refl; entries = refl; need = refl; saved = refl }));
+          answer = record { start = start_sealed; members = each_here; values = each_value };
         }

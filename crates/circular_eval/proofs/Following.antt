@@ -1,5 +1,5 @@
 -- Going on by what the equation of a member is stuck at.
-use Rattle.std.proofs.Common.{◌≡◌, ℕ, ◌<◌, Bool, true, false, Some, Result, Ok, Err, length, refl, sym, ap, subst, ◌∙◌}
+use Rattle.std.proofs.Common.{◌≡◌, ℕ, ◌<◌, Bool, true, false, Option, Some, None, Result, Ok, Err, length, refl, sym, ap, subst, ◌∙◌}
 use Rattle.solutions.specs.Asking.{Halts}
 use Rattle.solutions.proofs.Looping.{halts_meets}
 use Rattle.equation_law.specs.declared.coding.Instance.{Instance as CodedInstance}
@@ -20,9 +20,9 @@ use Rattle.memo_cells.specs.Working.{Held, program_at}
 use Rattle.circular_eval.specs.declared.advancing.CircFault.{CircFault}
 use Rattle.circular_eval.specs.declared.local.Local.{Local}
 use Rattle.circular_eval.specs.declared.visiting.Visited.{Visited}
-use Rattle.circular_eval.specs.declared.visiting.Visited.TheVariants.{Changed, Need}
+use Rattle.circular_eval.specs.declared.visiting.Visited.TheVariants.{Need}
 use Rattle.circular_eval.specs.Local.{IsMember, Members, ReadsHere, here, local_value, settled}
-use Rattle.circular_eval.specs.Visiting.{Admits, ComesAt, IsNew, IsReady, Visits}
+use Rattle.circular_eval.specs.Visiting.{Admits, ComesAt, IsNew, IsReady, Steps}
 use Rattle.circular_eval.proofs.Admitting.{local_is_here, near_is, program_is}
 use Rattle.circular_eval.proofs.Entries.{at_low}
 use Rattle.circular_eval.proofs.Going.{chain_more, claims_from_none, member_chain}
@@ -30,12 +30,12 @@ use Rattle.circular_eval.proofs.Growing.{local_needs}
 use Rattle.memo_cells.proofs.Holding.{goes_itself}
 use Rattle.circular_eval.proofs.Lowering.{met_is, stuck_leads}
 
--- a visit that admitted a member
-pub admit_changed : (d e : Held) (l m : Local) (number : ℕ) (u : Unit) → Admits d e l m (Ok u) → Visits d e l m number (Ok Changed)
-admit_changed d e l m number u h = record { goes = h.goes; answer = h.grown }
+-- a step that admitted a member
+pub admit_step : (d e : Held) (l m : Local) (number : ℕ) (u : Unit) → Admits d e l m (Ok u) → Steps d e l m number (Ok None)
+admit_step d e l m number u h = record { goes = h.goes; answer = (h.grown, h.still) }
 
-pub admit_refused : (d e : Held) (l m : Local) (number : ℕ) (fault : CircFault) → Admits d e l m (Err fault) → (y : Result Visited CircFault) → y ≡ Err fault → Visits d e l m number y
-admit_refused d e l m number fault h y is = subst (λ (z : Result Visited CircFault). Visits d e l m number z) (sym is) (record { goes = h.goes; answer = h.fault })
+pub admit_refused : (d e : Held) (l m : Local) (number : ℕ) (fault : CircFault) → Admits d e l m (Err fault) → (y : Result (Option Visited) CircFault) → y ≡ Err fault → Steps d e l m number y
+admit_refused d e l m number fault h y is = subst (λ (z : Result (Option Visited) CircFault). Steps d e l m number z) (sym is) (record { goes = h.goes; answer = h.fault })
 
 -- what came, by its turn
 pub turn_is : (d : Held) (l : Local) (number : ℕ) (t u : Turn) → t ≡ u → ComesAt (program_at d) d.1 l.members.entries number t → ComesAt (program_at d) d.1 l.members.entries number u
@@ -92,22 +92,25 @@ module _ (s : System) (d : Held) (l : Local) (r : IsReady s d l) (number : ℕ) 
     not_known : ¬ Knows p d.1 j
     not_known k = let v = (near_is s d l r).settled j k in not_read v.0 (settled (sym (as_declared p (program_is s d l r) j needed) ∙ undeclared) (k, v.1))
 
-    pub need_missing : (m : Local) → m.start ≡ l.start → m.members ≡ l.members → m.need ≡ Some (number, n) → Visits d d l m number (Ok (Need n))
-    need_missing m start members need = record {
+    pub need_missing : (m : Local) → m.start ≡ l.start → m.members ≡ l.members → m.need ≡ Some (number, n) → m.saved ≡ l.saved → Steps d d l m number (Ok (Some (Need n)))
+    need_missing m start members need saved = record {
       goes = record {
         on = goes_itself d r.own;
-        local = local_needs p d.0 d.1 l m number n came.entry came.at leads start members need (local_is_here s d l r);
+        local = local_needs p d.0 d.1 l m number n came.entry came.at leads start members need saved (local_is_here s d l r);
         start = start;
         claims = claims_from_none p (instance_of p l.start) d.1 d.1 refl;
         some = λ h. subst (λ (k : ℕ). 0 < k) (sym (ap (λ x. length x.entries) members)) h;
       };
-      answer = record {
-        instance = needed;
-        coded = came.comes.1;
-        undeclared = undeclared;
-        unknown = not_known;
-        reached = subst (λ (x : CodedInstance). Chain p (instance_of p x) j) (sym start) (chain_more p (instance_of p l.start) i j (member_chain p d.0 d.1 l (local_is_here s d l r) number came.entry came.at) leads);
-        number = number;
-        noted = need;
-      };
+      answer = (
+        record {
+          instance = needed;
+          coded = came.comes.1;
+          undeclared = undeclared;
+          unknown = not_known;
+          reached = subst (λ (x : CodedInstance). Chain p (instance_of p x) j) (sym start) (chain_more p (instance_of p l.start) i j (member_chain p d.0 d.1 l (local_is_here s d l r) number came.entry came.at) leads);
+          number = number;
+          noted = need;
+        },
+        ap (λ x. x.entries) members,
+      );
     }

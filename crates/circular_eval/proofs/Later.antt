@@ -17,6 +17,7 @@ use Rattle.circular_eval.specs.declared.local.Local.{Local}
 use Rattle.circular_eval.specs.declared.members.Member.{Member}
 use Rattle.circular_eval.specs.Local.{AreMembers, IsCurrent, IsLocal, IsMember, IsPlaced, Members, ReadsHere, here, settled}
 use Rattle.circular_eval.specs.Visiting.{AreConfirmed, IsConfirmed}
+use Rattle.circular_eval.proofs.Resuming.{kept_on, still_itself}
 
 module _ (p : Program) (v w : View) (more : IsAtLeast v w) where
   placed_later : (f : Frame) (i : Instance) (x : Value) (o : Option Slot) → IsPlaced p f v i x o → IsPlaced p f w i x o
@@ -40,7 +41,7 @@ module _ (p : Program) (v w : View) (more : IsAtLeast v w) where
 
   -- a local set stays one
   pub local_later : (f : Frame) (l : Local) → IsLocal p f v l → IsLocal p f w l
-  local_later f l h = record { instance = h.instance; coded = h.coded; is_circular = h.is_circular; set = members_later f l.start l.members.entries h.set; need = h.need }
+  local_later f l h = record { instance = h.instance; coded = h.coded; is_circular = h.is_circular; set = members_later f l.start l.members.entries h.set; need = h.need; saved = kept_on p v w more l.members.entries l.members.entries (still_itself p l.members.entries) f.system.value l.saved h.saved }
 
   pub read_later : (es : Members) (j : Instance) (x : Value) → ReadsHere p v es j x → ReadsHere p w es j x
   read_later es j x (settled d k) = settled d (knows_later v w more p j k.0, k.1)

@@ -16,7 +16,9 @@ pub mod Numbers
 pub mod Passing
 pub mod Paths
 pub mod Raised
+pub mod Resuming
 pub mod Settling
 pub mod Rising
 pub mod Slots
 pub mod ValueRaised
+pub mod Valued

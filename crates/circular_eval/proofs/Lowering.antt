@@ -47,7 +47,7 @@ local_is p (e ∷ es) P d m j =
     ] refl
 
 -- the bottom of a circular type is shown by no words
-bottom_fits : (k : Kind) → is_ordered k ≡ true → FitsKind k (default_of k)
+pub bottom_fits : (k : Kind) → is_ordered k ≡ true → FitsKind k (default_of k)
 bottom_fits kinds.Truth e = (false, refl)
 bottom_fits kinds.Int e = cc
 bottom_fits kinds.Text e = cc
@@ -55,7 +55,7 @@ bottom_fits (kinds.Node c) e = cc
 bottom_fits kinds.Texts e = (no_elements, refl)
 bottom_fits (kinds.Nodes c) e = (no_elements, refl)
 
-bottom_shown : (p : Program) (v : View) (i : Instance) (k : Kind) → ShowsAtLeast p v i k (default_of k)
+pub bottom_shown : (p : Program) (v : View) (i : Instance) (k : Kind) → ShowsAtLeast p v i k (default_of k)
 bottom_shown p v i kinds.Truth = λ e. absurd (not_both refl e)
 bottom_shown p v i kinds.Int = tt
 bottom_shown p v i kinds.Text = tt

@@ -1,12 +1,16 @@
 -- Visits of members, one after the other.
-use Rattle.std.proofs.Common.{◌≡◌, ℕ, ◌<◌, ◌+◌, ◌-◌, ◌≤◌, true, false, Option, Some, None, IsSome, IfSome, is_some, Result, Ok, Err, length, slice_get, inl, inr, ⊎_elim, refl, sym, ap, subst, ◌∙◌, arith}
+use Rattle.std.proofs.Common.{◌≡◌, ◌⊎◌, ℕ, ◌<◌, ◌+◌, ◌-◌, ◌≤◌, Bool, true, false, Option, Some, None, IsSome, IfSome, is_some, Result, Ok, Err, length, slice_get, inl, inr, ⊎_elim, refl, sym, ap, subst, ◌∙◌, arith}
 use Rattle.std.proofs.lemmas.Bool.{cases_order}
 use Rattle.equation_law.specs.declared.coding.Instance.{Instance as CodedInstance}
 use Rattle.equation_law.specs.declared.system.System.{System}
 use Rattle.equation_law.specs.Codes.{instance_of}
+use Rattle.equation_law.specs.Loops.{Chain}
 use Rattle.equation_law.specs.Program.{Program}
 use Rattle.equation_law.specs.Systems.{program_of}
+use Rattle.expr_eval.specs.declared.saved.Saved.{Saved}
 use Rattle.expr_eval.specs.declared.sites.Turn.{Turn}
+use Rattle.expr_eval.specs.Saved.{AreSaved, SavesNothing}
+use Rattle.expr_eval.proofs.Found.{none_saved}
 use Rattle.memo_cells.specs.declared.view.Frame.{Frame}
 use Rattle.memo_cells.specs.declared.view.View.{View}
 use Rattle.memo_cells.specs.Working.{Held, ReadsOn, program_at}
@@ -18,21 +22,22 @@ use Rattle.circular_eval.specs.declared.local.Local.{Local}
 use Rattle.circular_eval.specs.declared.members.Member.{Member}
 use Rattle.circular_eval.specs.declared.visiting.Visited.{Visited}
 use Rattle.circular_eval.specs.declared.visiting.Visited.TheVariants.{Changed, Need, Same}
-use Rattle.circular_eval.specs.Advancing.{AnswersFault}
+use Rattle.circular_eval.specs.Advancing.{AnswersFault, ClaimsFrom, IsMissing}
 use Rattle.circular_eval.specs.Left.{left}
-use Rattle.circular_eval.specs.Local.{AreKept, Members}
+use Rattle.circular_eval.specs.Local.{AreKept, IsKept, Members, ReadsHere, StillMembers}
 use Rattle.circular_eval.specs.Looking.{ComesTo}
 use Rattle.circular_eval.specs.Waiting.{due_count}
-use Rattle.circular_eval.specs.Visiting.{AnswersVisit, ComesAt, GoesOnWith, IsConfirmed, IsReady, Passes, Stays, Visits}
+use Rattle.circular_eval.specs.Visiting.{AnswersStep, AnswersVisit, ComesAt, GoesOnWith, IsConfirmed, IsReady, KeepsSaved, Passes, Stays, Steps, Visits}
 use Rattle.circular_eval.proofs.Admitting.{IsSame, goes_same}
 use Rattle.circular_eval.proofs.Entries.{at_low, has_at}
 use Rattle.circular_eval.proofs.Going.{claims_from_none, program_on, ready_then, with_itself, with_then}
-use Rattle.circular_eval.proofs.Growing.{local_same}
+use Rattle.circular_eval.proofs.Growing.{local_free, local_kept}
 use Rattle.circular_eval.proofs.Later.{confirmed_later}
+use Rattle.circular_eval.proofs.Resuming.{saved_on, still_itself}
 
 -- one that was sealed when it was met is visited in vain
-pub same_visit : (s : System) (d : Held) (l : Local) (number : ℕ) → IsReady s d l → ((e : CodedInstance × Member) → slice_get l.members.entries number ≡ Some e → IsSome e.1.slot → ⊥) → Visits d d l l number (Ok Same)
-same_visit s d l number r final = record { goes = with_itself s d l r; answer = record { members = refl; due = refl; confirmed = λ e at some. absurd (final e at some) } }
+pub same_step : (s : System) (d : Held) (l : Local) (number : ℕ) → IsReady s d l → ((e : CodedInstance × Member) → slice_get l.members.entries number ≡ Some e → IsSome e.1.slot → ⊥) → Steps d d l l number (Ok (Some Same))
+same_step s d l number r final = record { goes = with_itself s d l r; answer = record { members = refl; due = refl; confirmed = λ e at some. absurd (final e at some) } }
 
 pub kept_members : (s : System) (d : Held) (l : Local) → IsReady s d l → AreKept (program_of s) l.members.entries
 kept_members s d l r e there = let at = has_at l.members.entries e there in let m = r.local.set.members at.0 e at.1 in (m.coded, m.elements, m.fits)
@@ -41,26 +46,161 @@ kept_members s d l r e there = let at = has_at l.members.entries e there in let 
 pub goes_read : (s : System) (d e : Held) (l m : Local) → IsReady s d l → ReadsOn d e → IsSame l m → GoesOnWith (program_at d) d e l m
 goes_read s d e l m r on same = goes_same s d l r e on.on (claims_from_none (program_at d) (instance_of (program_at d) l.start) d.1 e.1 on.claims) m same
 
-pub read_refused : (s : System) (d e : Held) (l m : Local) (number : ℕ) → IsReady s d l → ReadsOn d e → IsSame l m → (y : Result Visited CircFault) → y ≡ Err Memory → Visits d e l m number y
-read_refused s d e l m number r on same y is = subst (λ (z : Result Visited CircFault). Visits d e l m number z) (sym is) (record { goes = goes_read s d e l m r on same; answer = tt })
+pub read_refused : (s : System) (d e : Held) (l m : Local) (number : ℕ) → IsReady s d l → ReadsOn d e → IsSame l m → (y : Result (Option Visited) CircFault) → y ≡ Err Memory → Steps d e l m number y
+read_refused s d e l m number r on same y is = subst (λ (z : Result (Option Visited) CircFault). Steps d e l m number z) (sym is) (record { goes = goes_read s d e l m r on same; answer = tt })
 
 pub came_read : (s : System) (d e : Held) (l m : Local) (number : ℕ) (x : CodedInstance × Member) (turn : Turn) → IsReady s d l → ReadsOn d e → m.members.entries ≡ l.members.entries → slice_get l.members.entries number ≡ Some x → IsSome x.1.slot → ComesTo (program_of s) e.1 l.members.entries (instance_of (program_of s) x.0) turn → ComesAt (program_at e) e.1 m.members.entries number turn
 came_read s d e l m number x turn r on same at some came =
     let here : program_of s ≡ program_at e = sym (ap program_of r.same) ∙ sym (program_on d e on.on) in
     subst (λ (u : Program × Members). ComesAt u.0 e.1 u.1 number turn) (λ j. (here j, sym same j)) (record { entry = x; at = at; placed = some; comes = came })
 
--- a visit after what only read
+-- a step after what only read
+step_answer : (p : Program) (f : Frame) (v : View) (l m n : Local) (number : ℕ) (y : Result (Option Visited) CircFault) → m.start ≡ l.start → m.members.entries ≡ l.members.entries → m.worklist.due ≡ l.worklist.due → AnswersStep p f v m n number y → AnswersStep p f v l n number y
+step_answer p f v l m n number (Ok None) start same due h = subst (λ (u : Members). (left n.members.entries < left u) × StillMembers p u n.members.entries) same h
+step_answer p f v l m n number (Ok (Some (Need x))) start same due h = (h.0, h.1 ∙ same)
+step_answer p f v l m n number (Ok (Some Changed)) start same due h = subst (λ (u : Members). left n.members.entries < left u) same h
+step_answer p f v l m n number (Ok (Some Same)) start same due h = record { members = h.members ∙ same; due = h.due ∙ due; confirmed = h.confirmed }
+step_answer p f v l m n number (Err fault) start same due h = subst (λ (u : CodedInstance). AnswersFault p (instance_of p u) f v fault) start h
+
+pub step_then : (s : System) (d e f : Held) (l m n : Local) (number : ℕ) (y : Result (Option Visited) CircFault) → IsReady s d l → ReadsOn d e → IsSame l m → m.worklist.due ≡ l.worklist.due → Steps e f m n number y → Steps d f l n number y
+step_then s d e f l m n number y r on same due h = record {
+  goes = with_then d e f l m n (goes_read s d e l m r on same) h.goes;
+  answer = step_answer (program_at d) d.0 f.1 l m n number y same.start same.entries due (subst (λ (u : Program × Frame). AnswersStep u.0 u.1 f.1 m n number y) (λ j. (program_on d e on.on j, on.on.cells j)) h.answer);
+}
+
+-- what is saved, where the evaluation may go on
+pub step_saved : (s : System) (e f : Held) (m n : Local) (number : ℕ) (x : Saved) → IsReady s e m → (y : Result (Option Visited) CircFault) → Steps e f m n number y → AreSaved s (ReadsHere (program_of s) e.1 m.members.entries) x → KeepsSaved s f.1 n.members.entries x y
+step_saved s e f m n number x r (Err fault) h saved = tt
+step_saved s e f m n number x r (Ok (Some Changed)) h saved = tt
+step_saved s e f m n number x r (Ok (Some Same)) h saved = tt
+step_saved s e f m n number x r (Ok (Some (Need q))) h saved =
+    let es = m.members.entries in
+    subst (λ (u : Members). AreSaved s (ReadsHere (program_of s) f.1 u) x) (sym h.answer.1) (saved_on (program_of s) e.1 f.1 h.goes.on.kept es es (still_itself (program_of s) es) s x saved)
+step_saved s e f m n number x r (Ok None) h saved =
+    saved_on (program_of s) e.1 f.1 h.goes.on.kept m.members.entries n.members.entries (subst (λ (q : Program). StillMembers q m.members.entries n.members.entries) (ap program_of r.same) h.answer.1) s x saved
+
+-- which member is next, and what is kept, changes nothing of the members
+goes_kept : (d e : Held) (l m o : Local) → o.start ≡ m.start → o.members ≡ m.members → o.need ≡ m.need → IsKept d.0.system.value (ReadsHere (program_at d) e.1 o.members.entries) o.saved → GoesOnWith (program_at d) d e l m → GoesOnWith (program_at d) d e l o
+goes_kept d e l m o start members need saved h =
+    let entries : o.members.entries ≡ m.members.entries = ap (λ x. x.entries) members in
+    record {
+      on = h.on;
+      local = local_kept (program_at d) d.0 e.1 m o start entries need saved h.local;
+      start = start ∙ h.start;
+      claims = h.claims;
+      some = λ some. subst (λ (u : Members). 0 < length u) (sym entries) (h.some some);
+    }
+
+pub goes_looked : (d e : Held) (l m o : Local) → o.start ≡ m.start → o.members ≡ m.members → o.need ≡ m.need → o.saved ≡ m.saved → GoesOnWith (program_at d) d e l m → GoesOnWith (program_at d) d e l o
+goes_looked d e l m o start members need saved h =
+    goes_kept d e l m o start members need
+    (subst (λ (x : Members × Option Saved). IsKept d.0.system.value (ReadsHere (program_at d) e.1 x.0) x.1) (λ i. (ap (λ x. x.entries) (sym members) i, sym saved i)) h.local.saved)
+    h
+
+-- a visit, so far: nothing changed in the set, or members were added
+abbrev pub HasGrown : Bool → Local → Local → Type 0
+HasGrown false l m = (m.members.entries ≡ l.members.entries) × (m.worklist.due ≡ l.worklist.due)
+HasGrown true l m = left m.members.entries < left l.members.entries
+
+pub record IsVisited (d e : Held) (l m : Local) (grown : Bool) : Type 0 where
+  pub goes : GoesOnWith (program_at d) d e l m
+  pub change : HasGrown grown l m
+
+grown_less : (b : Bool) (l m : Local) → HasGrown b l m → (k : ℕ) → k < left m.members.entries → k < left l.members.entries
+grown_less false l m h k less = subst (λ (u : Members). k < left u) h.0 less
+grown_less true l m h k less = omega (arith, h, less)
+
+pub visit_begins : (s : System) (d : Held) (l : Local) → IsReady s d l → IsVisited d d l l false
+visit_begins s d l r = record { goes = with_itself s d l r; change = (refl, refl) }
+
+-- the set from which what was kept is taken
+pub ready_taken : (s : System) (d : Held) (l m : Local) → IsReady s d l → m.start ≡ l.start → m.members ≡ l.members → m.need ≡ l.need → m.saved ≡ None → IsReady s d m
+ready_taken s d l m r start members need none = record { program = r.program; same = r.same; own = r.own; local = local_free (program_of s) d.0 d.1 l m start (ap (λ x. x.entries) members) need none r.local }
+
 visit_answer : (p : Program) (f : Frame) (v : View) (l m n : Local) (number : ℕ) (y : Result Visited CircFault) → m.start ≡ l.start → m.members.entries ≡ l.members.entries → m.worklist.due ≡ l.worklist.due → AnswersVisit p f v m n number y → AnswersVisit p f v l n number y
 visit_answer p f v l m n number (Ok (Need x)) start same due h = h
 visit_answer p f v l m n number (Ok Changed) start same due h = subst (λ (u : Members). left n.members.entries < left u) same h
 visit_answer p f v l m n number (Ok Same) start same due h = record { members = h.members ∙ same; due = h.due ∙ due; confirmed = h.confirmed }
 visit_answer p f v l m n number (Err fault) start same due h = subst (λ (u : CodedInstance). AnswersFault p (instance_of p u) f v fault) start h
 
-pub visit_then : (s : System) (d e f : Held) (l m n : Local) (number : ℕ) (y : Result Visited CircFault) → IsReady s d l → ReadsOn d e → IsSame l m → m.worklist.due ≡ l.worklist.due → Visits e f m n number y → Visits d f l n number y
-visit_then s d e f l m n number y r on same due h = record {
-  goes = with_then d e f l m n (goes_read s d e l m r on same) h.goes;
-  answer = visit_answer (program_at d) d.0 f.1 l m n number y same.start same.entries due (subst (λ (u : Program × Frame). AnswersVisit u.0 u.1 f.1 m n number y) (λ j. (program_on d e on.on j, on.on.cells j)) h.answer);
-}
+pub visit_from : (d f : Held) (l m n : Local) (number : ℕ) (y : Result Visited CircFault) → m.start ≡ l.start → m.members ≡ l.members → m.worklist.due ≡ l.worklist.due → Visits d f m n number y → Visits d f l n number y
+visit_from d f l m n number y start members due h =
+    let entries : m.members.entries ≡ l.members.entries = ap (λ x. x.entries) members in
+    record {
+      goes = record {
+        on = h.goes.on;
+        local = h.goes.local;
+        start = h.goes.start ∙ start;
+        claims = subst (λ (u : CodedInstance). ClaimsFrom (program_at d) (instance_of (program_at d) u) d.1 f.1) start h.goes.claims;
+        some = λ some. h.goes.some (subst (λ (u : Members). 0 < length u) (sym entries) some);
+      };
+      answer = visit_answer (program_at d) d.0 f.1 l m n number y start entries due h.answer;
+    }
+
+-- what it goes on with
+pub taken_saved : (s : System) (d : Held) (l m : Local) → IsReady s d l → m.members ≡ l.members → (x : Saved) → SavesNothing x ⊎ (l.saved ≡ Some x) → AreSaved s (ReadsHere (program_of s) d.1 m.members.entries) x
+taken_saved s d l m r members x (inl none) = none_saved x none
+taken_saved s d l m r members x (inr is) =
+    let here : IsKept s (ReadsHere (program_of s) d.1 l.members.entries) l.saved = subst (λ (q : System). IsKept q (ReadsHere (program_of s) d.1 l.members.entries) l.saved) r.same r.local.saved in
+    subst (λ (u : Members × Option Saved). IsKept s (ReadsHere (program_of s) d.1 u.0) u.1) (λ i. (ap (λ x. x.entries) (sym members) i, is i)) here
+
+pub visit_ready : (s : System) (d e : Held) (l m : Local) (b : Bool) → IsReady s d l → IsVisited d e l m b → IsReady s e m
+visit_ready s d e l m b r h = ready_then s d e l m r h.goes
+
+module _ (d e f : Held) (l m n : Local) (number : ℕ) (b : Bool) (h : IsVisited d e l m b) where
+  step_back : (y : Result (Option Visited) CircFault) → Steps e f m n number y → AnswersStep (program_at d) d.0 f.1 m n number y
+  step_back y v = subst (λ (u : Program × Frame). AnswersStep u.0 u.1 f.1 m n number y) (λ j. (program_on d e h.goes.on j, h.goes.on.cells j)) v.answer
+
+  -- a member was added
+  pub visit_less : Steps e f m n number (Ok None) → left n.members.entries < left m.members.entries
+  visit_less v = (step_back (Ok None) v).0
+
+  pub visit_grows : Steps e f m n number (Ok None) → IsVisited d f l n true
+  visit_grows v = record { goes = with_then d e f l m n h.goes v.goes; change = grown_less b l m h.change (left n.members.entries) (visit_less v) }
+
+  -- it ends
+  pub visit_fault : (fault : CircFault) → Steps e f m n number (Err fault) → (y : Result Visited CircFault) → y ≡ Err fault → Visits d f l n number y
+  visit_fault fault v y is = subst (λ (z : Result Visited CircFault). Visits d f l n number z) (sym is) (record { goes = with_then d e f l m n h.goes v.goes; answer = subst (λ (u : CodedInstance). AnswersFault (program_at d) (instance_of (program_at d) u) d.0 f.1 fault) h.goes.start (step_back (Err fault) v) })
+
+  pub visit_need : (s : System) → IsReady s d l → (q : CodedInstance) → Steps e f m n number (Ok (Some (Need q))) → (o : Local) (x : Saved) → o.start ≡ n.start → o.members ≡ n.members → o.need ≡ n.need → o.saved ≡ Some x → AreSaved s (ReadsHere (program_of s) f.1 n.members.entries) x → Visits d f l o number (Ok (Need q))
+  visit_need s r q v o x start members need kept saved =
+      let missing : IsMissing (program_at d) f.1 n q = (step_back (Ok (Some (Need q))) v).0 in
+      let here : AreSaved d.0.system.value (ReadsHere (program_at d) f.1 n.members.entries) x = subst (λ (z : System). AreSaved z (ReadsHere (program_of z) f.1 n.members.entries) x) (sym r.same) saved in
+      record {
+        goes = goes_kept d f l n o start members need
+            (subst (λ (u : Members × Option Saved). IsKept d.0.system.value (ReadsHere (program_at d) f.1 u.0) u.1) (λ i. (ap (λ x. x.entries) (sym members) i, sym kept i)) here)
+            (with_then d e f l m n h.goes v.goes);
+        answer = record {
+          instance = missing.instance;
+          coded = missing.coded;
+          undeclared = missing.undeclared;
+          unknown = missing.unknown;
+          reached = subst (λ (i : CodedInstance). Chain (program_at d) (instance_of (program_at d) i) (instance_of (program_at d) q)) (sym start) missing.reached;
+          number = missing.number;
+          noted = need ∙ missing.noted;
+        };
+      }
+
+  pub visit_changed : Steps e f m n number (Ok (Some Changed)) → Visits d f l n number (Ok Changed)
+  visit_changed v = record { goes = with_then d e f l m n h.goes v.goes; answer = grown_less b l m h.change (left n.members.entries) (step_back (Ok (Some Changed)) v) }
+
+  same_members : Steps e f m n number (Ok (Some Same)) → n.members.entries ≡ m.members.entries
+  same_members v = let st : Stays (program_at d) f.1 m n number = step_back (Ok (Some Same)) v in st.members
+
+  pub visit_same : b ≡ false → Steps e f m n number (Ok (Some Same)) → Visits d f l n number (Ok Same)
+  visit_same none v =
+      let change : HasGrown false l m = subst (λ (x : Bool). HasGrown x l m) none h.change in
+      record { goes = with_then d e f l m n h.goes v.goes; answer = visit_answer (program_at d) d.0 f.1 l m n number (Ok Same) h.goes.start change.0 change.1 (step_back (Ok (Some Same)) v) }
+
+  -- it ends with members that were added, and rests
+  pub visit_rests : b ≡ true → Steps e f m n number (Ok (Some Same)) → (o : Local) → o.start ≡ n.start → o.members ≡ n.members → o.need ≡ n.need → o.saved ≡ n.saved → Visits d f l o number (Ok Changed)
+  visit_rests grown v o start members need saved =
+      let change : HasGrown true l m = subst (λ (x : Bool). HasGrown x l m) grown h.change in
+      let entries : o.members.entries ≡ n.members.entries = ap (λ x. x.entries) members in
+      record {
+        goes = goes_looked d f l n o start members need saved (with_then d e f l m n h.goes v.goes);
+        answer = subst (λ (u : Members). left u < left l.members.entries) (sym (entries ∙ same_members v)) change;
+      }
 
 -- a pass, so far: the members up to this one are confirmed
 pub record IsPassed (d e : Held) (l m : Local) (upto : ℕ) : Type 0 where
@@ -71,18 +211,11 @@ pub record IsPassed (d e : Held) (l m : Local) (upto : ℕ) : Type 0 where
 pub pass_begins : (s : System) (d : Held) (l : Local) → IsReady s d l → IsPassed d d l l 0
 pass_begins s d l r = record { goes = with_itself s d l r; same = refl; confirmed = λ k x low at. absurd (omega (arith, low)) }
 
--- which member is next changes nothing
-pub pass_looked : (d e : Held) (l m o : Local) (upto : ℕ) → o.start ≡ m.start → o.members ≡ m.members → o.need ≡ m.need → IsPassed d e l m upto → IsPassed d e l o upto
-pass_looked d e l m o upto start members need h =
+pub pass_looked : (d e : Held) (l m o : Local) (upto : ℕ) → o.start ≡ m.start → o.members ≡ m.members → o.need ≡ m.need → o.saved ≡ m.saved → IsPassed d e l m upto → IsPassed d e l o upto
+pass_looked d e l m o upto start members need saved h =
     let entries : o.members.entries ≡ m.members.entries = ap (λ x. x.entries) members in
     record {
-      goes = record {
-        on = h.goes.on;
-        local = local_same (program_at d) d.0 e.1 m o start entries need h.goes.local;
-        start = start ∙ h.goes.start;
-        claims = h.goes.claims;
-        some = λ some. subst (λ (u : Members). 0 < length u) (sym entries) (h.goes.some some);
-      };
+      goes = goes_looked d e l m o start members need saved h.goes;
       same = entries ∙ h.same;
       confirmed = λ k x low at. subst (λ (u : Members). IsConfirmed (program_at d) e.1 u x) (sym entries) (h.confirmed k x low (ap (λ (u : Members). slice_get u k) (sym entries) ∙ at));
     }

@@ -15,28 +15,21 @@ use Rattle.equation_law.specs.Program.{Program, text_of}
 use Rattle.equation_law.specs.Reading.{IsSound, SettledBy, Settles, Told}
 use Rattle.equation_law.specs.Systems.{program_of}
 use Rattle.equation_law.specs.Values.{Value}
-use Rattle.equation_law.proofs.Names.{same_instance_is, same_instance_self}
+use Rattle.equation_law.proofs.Names.{same_instance_is}
 use Rattle.equation_law.proofs.Pooled.{texts_pooled}
-use Rattle.memo_cells.specs.Views.{Has}
-use Rattle.memo_cells.proofs.Showing.{not_both}
 use Rattle.expr_eval.specs.declared.sites.Turn.{Turn}
 use Rattle.expr_eval.specs.declared.sites.Turn.TheVariants as turns
 use Rattle.expr_eval.specs.Evaluating.{AnswersTurn}
 use Rattle.memo_cells.specs.Working.{Held, IsOwn, ReadsOn, TellsPass, program_at}
-use Rattle.circular_eval.specs.declared.members.Member.{Member}
 use Rattle.circular_eval.specs.Local.{AreKept, IsMemberOf, Members, ReadsHere, local_value}
 use Rattle.circular_eval.specs.Looking.{ComesTo, told_here}
 use Rattle.circular_eval.proofs.Going.{program_on}
+use Rattle.circular_eval.proofs.Resuming.{other_entry}
 use Rattle.circular_eval.proofs.Looking.{here_grows, here_same, read_absent, read_member, read_settled, work_reads, work_sound}
 
 settles_err : {S : Type 0} (p : Program) (s : Told S) (i : Instance) (r : Result (Option CodedValue) Memory) → IsErr r → Settles p s i r
 settles_err p s i (Ok x) e = cc
 settles_err p s i (Err m) e = tt
-
--- an entry that isn't the first one is behind it
-other_entry : (p : Program) (d e : CodedInstance × Member) (es : Members) (j : Instance) → Has (d ∷ es) e → instance_of p e.0 ≡ j → same_instance j (instance_of p d.0) ≡ false → Has es e
-other_entry p d e es j (inl q) is h = absurd (not_both h (ap (λ (x : CodedInstance × Member). same_instance j (instance_of p x.0)) (sym q) ∙ ap (λ (i : Instance). same_instance j i) is ∙ same_instance_self j))
-other_entry p d e es j (inr q) is h = q
 
 -- the value of a member is of its type
 local_fits : (p : Program) (es : Members) (j : Instance) → AreKept p es → IsMemberOf p es j → FitsKind (kind_in p j) (local_value p es j)

@@ -2,8 +2,8 @@
 use Rattle.std.specs.Prelude.{◌≡◌, ℕ, true, false, ◌/◌, ◌⊎◌, List, [], ◌∷◌, ◌++◌, Some, Result, Ok, Err}
 use Rattle.equation_law.specs.declared.coding.Instance.{Instance as CodedInstance}
 use Rattle.equation_law.specs.Checked.{IsInstance}
-use Rattle.equation_law.specs.Codes.{IsCoded, instance_of}
-use Rattle.equation_law.specs.Equations.{equations_of, kind_in}
+use Rattle.equation_law.specs.Codes.{IsCoded, instance_of, value_of}
+use Rattle.equation_law.specs.Equations.{HasValue, equations_of, kind_in}
 use Rattle.equation_law.specs.Loops.{Chain, Leads}
 use Rattle.equation_law.specs.Lower.{IsLower}
 use Rattle.equation_law.specs.Names.{Instance}
@@ -72,10 +72,11 @@ pub record IsMissing (p : Program) (v : View) (l : Local) (n : CodedInstance) : 
   pub number : ℕ
   pub noted : l.need ≡ Some (number, n)
 
--- the members of the set are seen sealed, the start among them, and each has a value in the solution
+-- the members of the set are seen sealed, the start among them, and the value of each is the one that it has in the solution
 pub record IsSealed (p : Program) (v : View) (l : Local) : Type 0 where
   pub start : Knows p v (instance_of p l.start)
   pub members : (e : CodedInstance × Member) → Has l.members.entries e → Knows p v (instance_of p e.0)
+  pub values : (e : CodedInstance × Member) → Has l.members.entries e → HasValue p (instance_of p e.0) (value_of (text_of p) e.1.value)
 
 -- where cells are wanting, other keys have all of them than some key of i
 abbrev pub AnswersFault : Program → Instance → Frame → View → CircFault → Type 0

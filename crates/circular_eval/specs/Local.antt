@@ -3,6 +3,7 @@ use Rattle.std.specs.Prelude.{◌≡◌, ℕ, zero, suc, ◌<◌, true, false, c
 use Rattle.solutions.specs.Asking.{Ends}
 use Rattle.equation_law.specs.declared.coding.Instance.{Instance as CodedInstance}
 use Rattle.equation_law.specs.declared.coding.Value.{Value as CodedValue}
+use Rattle.equation_law.specs.declared.system.System.{System}
 use Rattle.equation_law.specs.Checked.{IsInstance}
 use Rattle.equation_law.specs.Codes.{AreElements, IsCoded, instance_of, value_of}
 use Rattle.equation_law.specs.Equations.{HasValue, equations_of, is_declared, kind_in}
@@ -11,6 +12,8 @@ use Rattle.equation_law.specs.Names.{Instance, same_instance}
 use Rattle.equation_law.specs.Orders.{AtMost, FitsKind}
 use Rattle.equation_law.specs.Program.{Program, text_of}
 use Rattle.equation_law.specs.Values.{Value, default_of}
+use Rattle.expr_eval.specs.declared.saved.Saved.{Saved}
+use Rattle.expr_eval.specs.Saved.{AreSaved}
 use Rattle.memo_cells.specs.declared.keys.Slot.{Slot}
 use Rattle.memo_cells.specs.declared.view.Frame.{Frame}
 use Rattle.memo_cells.specs.declared.view.View.{View}
@@ -43,6 +46,11 @@ AreKept p es = (e : CodedInstance × Member) → Has es e → IsCoded p e.0 × A
 -- j is a member
 abbrev pub IsMemberOf : Program → Members → Instance → Type 0
 IsMemberOf p es j = (e : CodedInstance × Member) × Has es e × (instance_of p e.0 ≡ j)
+
+-- the members are members still, with their values
+pub record StillMembers (p : Program) (es fs : Members) : Type 0 where
+  pub members : (j : Instance) → IsMemberOf p es j → IsMemberOf p fs j
+  pub values : (j : Instance) → IsMemberOf p es j → local_value p fs j ≡ local_value p es j
 
 -- an instance that is no member
 abbrev pub IsAbsent : Members → CodedInstance → Type 0
@@ -108,6 +116,11 @@ abbrev pub IsNeedOf : Program → Members → Option (ℕ × CodedInstance) → 
 IsNeedOf p es None = Unit {0}
 IsNeedOf p es (Some (number, n)) = (e : CodedInstance × Member) × (slice_get es number ≡ Some e) × Leads p (instance_of p e.0) (instance_of p n)
 
+-- what an evaluation left behind is so, by the values of an assignment
+abbrev pub IsKept : System → (Instance → Value → Type 0) → Option Saved → Type 0
+IsKept s A None = Unit {0}
+IsKept s A (Some x) = AreSaved s A x
+
 -- a local set of a circular instance of the program, under what a pass of the cells knows
 pub record IsLocal (p : Program) (f : Frame) (v : View) (l : Local) : Type 0 where
   pub instance : IsInstance p (instance_of p l.start)
@@ -115,3 +128,4 @@ pub record IsLocal (p : Program) (f : Frame) (v : View) (l : Local) : Type 0 whe
   pub is_circular : (equations_of p).circular (instance_of p l.start) ≡ true
   pub set : AreMembers p f v l.start l.members.entries
   pub need : IsNeedOf p l.members.entries l.need
+  pub saved : IsKept f.system.value (ReadsHere p v l.members.entries) l.saved

@@ -3,13 +3,19 @@ use Rattle.std.specs.Prelude.{◌≡◌, ℕ, ◌<◌, true, Option, Some, None,
 use Rattle.equation_law.specs.declared.coding.Instance.{Instance as CodedInstance}
 use Rattle.equation_law.specs.declared.system.System.{System}
 use Rattle.equation_law.specs.Checked.{IsInstance, IsProgram}
-use Rattle.equation_law.specs.Codes.{IsCoded, instance_of}
-use Rattle.equation_law.specs.Equations.{equations_of}
-use Rattle.equation_law.specs.Program.{Program}
+use Rattle.equation_law.specs.declared.coding.Value.{Value as CodedValue}
+use Rattle.equation_law.specs.Codes.{AreElements, IsCoded, instance_of, value_of}
+use Rattle.equation_law.specs.Equations.{equations_of, kind_in}
+use Rattle.equation_law.specs.Names.{Instance}
+use Rattle.equation_law.specs.Orders.{FitsKind}
+use Rattle.equation_law.specs.Program.{Program, text_of}
 use Rattle.equation_law.specs.Systems.{program_of}
+use Rattle.expr_eval.specs.declared.saved.Saved.{Saved}
 use Rattle.expr_eval.specs.declared.sites.Turn.{Turn}
+use Rattle.expr_eval.specs.Saved.{AreSaved}
 use Rattle.memo_cells.specs.declared.view.Frame.{Frame}
 use Rattle.memo_cells.specs.declared.view.View.{View}
+use Rattle.memo_cells.specs.Showing.{ShowsAtLeast}
 use Rattle.memo_cells.specs.Views.{Has}
 use Rattle.memo_cells.specs.Working.{GoesOn, Held, IsOwn, program_at}
 use Rattle.circular_eval.specs.declared.advancing.CircFault.{CircFault}
@@ -20,7 +26,7 @@ use Rattle.circular_eval.specs.declared.visiting.Visited.{Visited}
 use Rattle.circular_eval.specs.declared.visiting.Visited.TheVariants.{Changed, Need, Same}
 use Rattle.circular_eval.specs.Advancing.{AnswersFault, AnswersTurn, ClaimsFrom, IsMissing}
 use Rattle.circular_eval.specs.Left.{left}
-use Rattle.circular_eval.specs.Local.{IsCurrent, IsLedBy, IsLocal, IsMemberOf, Members}
+use Rattle.circular_eval.specs.Local.{IsCurrent, IsLedBy, IsLocal, IsMemberOf, Members, ReadsHere, StillMembers}
 use Rattle.circular_eval.specs.Looking.{ComesTo}
 
 -- a local set of the system, under what is held
@@ -46,6 +52,12 @@ pub record IsNew (p : Program) (l : Local) (i : CodedInstance) (by : Option ℕ)
   pub absent : ¬ IsMemberOf p l.members.entries (instance_of p i)
   pub led : IsLedBy p l.members.entries l.start (length l.members.entries) i by
 
+-- a value that a member may begin with: it is of its type, and at most what its words show
+pub record BeginsWith (p : Program) (v : View) (i : Instance) (x : CodedValue) : Type 0 where
+  pub elements : AreElements p x
+  pub fits : FitsKind (kind_in p i) (value_of (text_of p) x)
+  pub shown : ShowsAtLeast p v i (kind_in p i) (value_of (text_of p) x)
+
 -- what the equation of the member of this number comes to, which wasn't sealed when it was met
 pub record ComesAt (p : Program) (v : View) (es : Members) (number : ℕ) (turn : Turn) : Type 0 where
   pub entry : CodedInstance × Member
@@ -70,6 +82,7 @@ pub record Stays (p : Program) (v : View) (old new : Local) (number : ℕ) : Typ
 pub record Admits (d e : Held) (old new : Local) (result : Result Unit CircFault) : Type 0 where
   pub goes : GoesOnWith (program_at d) d e old new
   pub grown : OnOk result (left new.members.entries < left old.members.entries)
+  pub still : OnOk result (StillMembers (program_at d) old.members.entries new.members.entries)
   pub some : OnOk result (0 < length new.members.entries)
   pub fault : IfErr result (AnswersFault (program_at d) (instance_of (program_at d) old.start) d.0 e.1)
 
@@ -84,6 +97,27 @@ pub record Visits (d e : Held) (old new : Local) (number : ℕ) (result : Result
   pub goes : GoesOnWith (program_at d) d e old new
   pub answer : AnswersVisit (program_at d) d.0 e.1 old new number result
 
+-- None where a member was added, under whose value the evaluation may go on
+abbrev pub AnswersStep : Program → Frame → View → Local → Local → ℕ → Result (Option Visited) CircFault → Type 0
+AnswersStep p f v old new number (Ok None) = (left new.members.entries < left old.members.entries) × StillMembers p old.members.entries new.members.entries
+AnswersStep p f v old new number (Ok (Some (Need n))) = IsMissing p v new n × (new.members.entries ≡ old.members.entries)
+AnswersStep p f v old new number (Ok (Some Changed)) = left new.members.entries < left old.members.entries
+AnswersStep p f v old new number (Ok (Some Same)) = Stays p v old new number
+AnswersStep p f v old new number (Err fault) = AnswersFault p (instance_of p old.start) f v fault
+
+-- what going on with the evaluation of the member of this number says
+pub record Steps (d e : Held) (old new : Local) (number : ℕ) (result : Result (Option Visited) CircFault) : Type 0 where
+  pub goes : GoesOnWith (program_at d) d e old new
+  pub answer : AnswersStep (program_at d) d.0 e.1 old new number result
+
+-- what is saved stays so, unless the evaluation has ended
+abbrev pub KeepsSaved : System → View → Members → Saved → Result (Option Visited) CircFault → Type 0
+KeepsSaved s v es x (Ok None) = AreSaved s (ReadsHere (program_of s) v es) x
+KeepsSaved s v es x (Ok (Some (Need n))) = AreSaved s (ReadsHere (program_of s) v es) x
+KeepsSaved s v es x (Ok (Some Changed)) = Unit {0}
+KeepsSaved s v es x (Ok (Some Same)) = Unit {0}
+KeepsSaved s v es x (Err fault) = Unit {0}
+
 abbrev pub AnswersPass : Program → Frame → View → Local → Local → Result Visited CircFault → Type 0
 AnswersPass p f v old new (Ok (Need n)) = IsMissing p v new n
 AnswersPass p f v old new (Ok Changed) = left new.members.entries < left old.members.entries
@@ -94,6 +128,16 @@ AnswersPass p f v old new (Err fault) = AnswersFault p (instance_of p old.start)
 pub record Passes (d e : Held) (old new : Local) (result : Result Visited CircFault) : Type 0 where
   pub goes : GoesOnWith (program_at d) d e old new
   pub answer : AnswersPass (program_at d) d.0 e.1 old new result
+
+abbrev pub AnswersAgain : Program → Frame → View → Local → Local → Result (Option CodedInstance) CircFault → Type 0
+AnswersAgain p f v old new (Ok (Some n)) = IsMissing p v new n
+AnswersAgain p f v old new (Ok None) = Unit {0}
+AnswersAgain p f v old new (Err fault) = AnswersFault p (instance_of p old.start) f v fault
+
+-- what going on says with the member whose equation stopped last
+pub record GoesAgain (d e : Held) (old new : Local) (result : Result (Option CodedInstance) CircFault) : Type 0 where
+  pub goes : GoesOnWith (program_at d) d e old new
+  pub answer : AnswersAgain (program_at d) d.0 e.1 old new result
 
 abbrev pub AnswersClose : Program → Frame → View → Local → Local → Result (Option CodedInstance) CircFault → Type 0
 AnswersClose p f v old new (Ok (Some n)) = IsMissing p v new n

@@ -6,7 +6,7 @@ ghost use Rattle.equation_law.specs.Systems.{program_of};
 ghost use Rattle.memo_cells.specs.Working.{GoesOn, IsOwn};
 ghost use Rattle.circular_eval.specs.Advancing.{AnswersTurn, ClaimsFrom};
 ghost use Rattle.circular_eval.specs.Local.{IsLocal};
-ghost use Rattle.circular_eval.specs.Visiting.{Advances, Begins, Closes, IsReady, Passes};
+ghost use Rattle.circular_eval.specs.Visiting.{Advances, Begins, Closes, GoesAgain, IsReady, Passes};
 
 use crate::local::Local;
 use crate::visiting::{Visited, admit, visit};
@@ -57,11 +57,11 @@ impl From<CellsFull> for CircFault {
 
 /// Visits those members that are due, and then each member in turn, until one changes or needs an undeclared instance. It answers
 /// `Same` where the equations of all members hold under the values that are there.
-fn confirm<W: Work>(
+fn confirm<'a, W: Work>(
     alloc: Global,
-    system: &System,
+    system: &'a System,
     work: &mut W,
-    local: &mut Local,
+    local: &mut Local<'a>,
 ) -> Result<Visited, CircFault>
     requires ready { IsReady system.now (W.held work.old) local.old }
     ensures { Passes (W.held work.old) (W.held work.new) local.old local.new result }
@@ -84,12 +84,35 @@ fn confirm<W: Work>(
     Ok(Visited::Same)
 }
 
-/// Closes a local set: it goes on until no value rises any more, and answers the undeclared instance that is missing, if one is.
-fn close<W: Work>(
+/// Goes on with the member whose equation stopped last, if that may go on. It answers the undeclared instance that is missing, if one is.
+fn again<'a, W: Work>(
     alloc: Global,
-    system: &System,
+    system: &'a System,
     work: &mut W,
-    local: &mut Local,
+    local: &mut Local<'a>,
+) -> Result<Option<Instance>, CircFault>
+    requires ready { IsReady system.now (W.held work.old) local.old }
+    ensures { GoesAgain (W.held work.old) (W.held work.new) local.old local.new result }
+{
+    let Some(number) = local.stopped() else {
+        return Ok(None);
+    };
+    match visit(alloc, system, work, local, number)? {
+        Visited::Need(need) => Ok(Some(need)),
+        Visited::Changed => Ok(None),
+        Visited::Same => {
+            local.rest(number);
+            Ok(None)
+        }
+    }
+}
+
+/// Makes passes until no value rises any more. It answers the undeclared instance that is missing, if one is.
+fn repeat<'a, W: Work>(
+    alloc: Global,
+    system: &'a System,
+    work: &mut W,
+    local: &mut Local<'a>,
 ) -> Result<Option<Instance>, CircFault>
     requires ready { IsReady system.now (W.held work.old) local.old }
     ensures { Closes (W.held work.old) (W.held work.new) local.old local.new result }
@@ -103,12 +126,28 @@ fn close<W: Work>(
     }
 }
 
+/// Closes a local set: it goes on until no value rises any more, and answers the undeclared instance that is missing, if one is.
+fn close<'a, W: Work>(
+    alloc: Global,
+    system: &'a System,
+    work: &mut W,
+    local: &mut Local<'a>,
+) -> Result<Option<Instance>, CircFault>
+    requires ready { IsReady system.now (W.held work.old) local.old }
+    ensures { Closes (W.held work.old) (W.held work.new) local.old local.new result }
+{
+    if let Some(need) = again(alloc, system, work, local)? {
+        return Ok(Some(need));
+    }
+    repeat(alloc, system, work, local)
+}
+
 /// Makes the start a member, unless it is one already.
 fn begin<W: Work>(
     alloc: Global,
     system: &System,
     work: &mut W,
-    local: &mut Local,
+    local: &mut Local<'_>,
 ) -> Result<(), CircFault>
     requires ready { IsReady system.now (W.held work.old) local.old }
     ensures { Begins (W.held work.old) (W.held work.new) local.old local.new result }
@@ -121,11 +160,11 @@ fn begin<W: Work>(
 }
 
 /// Closes a local set and seals its members, unless an undeclared instance is missing.
-fn go_on<W: Work>(
+fn go_on<'a, W: Work>(
     alloc: Global,
-    system: &System,
+    system: &'a System,
     work: &mut W,
-    local: &mut Local,
+    local: &mut Local<'a>,
 ) -> Result<CircTurn, CircFault>
     requires ready { IsReady system.now (W.held work.old) local.old }
     ensures { Advances (W.held work.old) (W.held work.new) local.old local.new result }
@@ -143,11 +182,11 @@ fn go_on<W: Work>(
 /// closed, and its members are sealed.
 ///
 /// After a fault the local set stays, and may be gone on with.
-pub fn advance<W: Work>(
+pub fn advance<'a, W: Work>(
     alloc: Global,
-    system: &System,
+    system: &'a System,
     work: &mut W,
-    local: &mut Local,
+    local: &mut Local<'a>,
 ) -> Result<CircTurn, CircFault>
     requires program { IsProgram (program_of system.now) }
     requires same { (W.held work.old).0.system.value ≡ system.now }

@@ -9,6 +9,7 @@ mod local;
 mod members;
 mod raising;
 mod reading;
+mod sealed;
 mod visiting;
 mod worklist;
 

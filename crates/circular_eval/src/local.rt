@@ -1,5 +1,5 @@
 // Local sets.
-ghost use Rattle.std.specs.Prelude.{◌≡◌, ◌++◌, ◌∷◌, [], ℕ, true, ◌<◌, IfNone, IfOk, IfSome, None, OnErr, OnOk, Some, length, map, option_to_list, slice_get};
+ghost use Rattle.std.specs.Prelude.{◌≡◌, ◌⊎◌, ◌++◌, ◌∷◌, [], ℕ, true, ◌<◌, IfNone, IfOk, IfSome, None, OnErr, OnOk, Some, length, map, option_to_list, slice_get};
 ghost use Rattle.std.specs.Option.{option_and_then, option_map};
 ghost use Rattle.rag_io.specs.Pool.{ArePooled};
 ghost use Rattle.equation_law.specs.declared.coding.Instance.{Instance as CodedInstance};
@@ -9,6 +9,7 @@ ghost use Rattle.equation_law.specs.Equations.{equations_of};
 ghost use Rattle.equation_law.specs.Program.{Program, text_of};
 ghost use Rattle.memo_cells.specs.declared.view.Frame.{Frame};
 ghost use Rattle.memo_cells.specs.declared.view.View.{View};
+ghost use Rattle.expr_eval.specs.Saved.{SavesNothing};
 ghost use Rattle.circular_eval.specs.Advancing.{IsPath};
 ghost use Rattle.circular_eval.specs.Local.{AreKept, AreSlots, IsAbsent, IsLocal, IsMemberOf, local_value, with_value};
 ghost use Rattle.circular_eval.specs.Left.{member_bound};
@@ -17,6 +18,7 @@ ghost use Rattle.circular_eval.specs.Waiting.{due_count};
 use crate::members::Member;
 use crate::worklist::Worklist;
 use equation_law::{Chain, Instance, Value};
+use expr_eval::Saved;
 use indexmap::IndexMap;
 use memo_cells::Slot;
 use rag_io::Memory;
@@ -25,12 +27,14 @@ use std::alloc::Global;
 /// Circular instances that are solved together: a start, and what its equations lead to. They are numbered in the order in which they were
 /// met.
 #[derive(Drop)]
-pub struct Local {
+pub struct Local<'a> {
     start: Instance,
     members: IndexMap<Instance, Member>,
     worklist: Worklist,
     // The undeclared instance that was missing last, and the member whose equation demands it.
     need: Option<(usize, Instance)>,
+    // What the evaluation of that equation left behind, as long as it may go on.
+    saved: Option<Saved<'a>>,
 }
 
 /// Adds an instance last.
@@ -50,9 +54,9 @@ fn push_slot(slots: &mut Vec<Slot>, slot: Option<Slot>) -> Result<(), Memory>
     Ok(())
 }
 
-impl Local {
+impl<'a> Local<'a> {
     /// The local set of a circular instance, which nobody looked at yet.
-    pub fn start(alloc: Global, i: Instance) -> Result<Local, Memory>
+    pub fn start(alloc: Global, i: Instance) -> Result<Local<'a>, Memory>
         ensures start { IfOk result (λ l. l.start ≡ i) }
         ensures local { IfOk result (λ l. (p : Program) (f : Frame) (v : View) → IsInstance p (instance_of p i) → IsCoded p i → (equations_of p).circular (instance_of p i) ≡ true → IsLocal p f v l) }
     {
@@ -61,6 +65,7 @@ impl Local {
             members: IndexMap::new(alloc),
             worklist: Worklist::new(alloc),
             need: None,
+            saved: None,
         })
     }
 
@@ -93,7 +98,7 @@ impl Local {
     }
 
     /// How many members there are.
-    pub(crate) fn len(&self) -> usize
+    pub fn len(&self) -> usize
         ensures len { result ≡ length self.now.members.entries }
         ensures few { result < member_bound }
     {
@@ -123,6 +128,7 @@ impl Local {
         ensures start { self.new.start ≡ self.old.start }
         ensures members { self.new.members ≡ self.old.members }
         ensures need { self.new.need ≡ self.old.need }
+        ensures saved { self.new.saved ≡ self.old.saved }
         ensures some { IfSome result (λ number. 0 < length self.new.worklist.due.sweep.keys) }
         ensures count { due_count self.new.worklist.due ≡ due_count self.old.worklist.due }
     {
@@ -134,9 +140,53 @@ impl Local {
         ensures start { self.new.start ≡ self.old.start }
         ensures members { self.new.members ≡ self.old.members }
         ensures need { self.new.need ≡ self.old.need }
+        ensures saved { self.new.saved ≡ self.old.saved }
         ensures fewer { 0 < length self.old.worklist.due.sweep.keys → due_count self.new.worklist.due < due_count self.old.worklist.due }
     {
         self.worklist.pop();
+    }
+
+    /// Lets a member rest until a value rises that it read.
+    pub(crate) fn rest(&mut self, number: usize)
+        ensures start { self.new.start ≡ self.old.start }
+        ensures members { self.new.members ≡ self.old.members }
+        ensures need { self.new.need ≡ self.old.need }
+        ensures saved { self.new.saved ≡ self.old.saved }
+    {
+        self.worklist.rest(number);
+    }
+
+    /// The member whose evaluation stopped last, if that may go on.
+    pub(crate) fn stopped(&self) -> Option<usize> {
+        self.saved.as_ref()?;
+        let (number, _) = self.need?;
+        Some(number)
+    }
+
+    /// Takes away what the evaluation left behind that stopped last. It is answered where it is that of this member.
+    pub(crate) fn take_saved(&mut self, alloc: Global, number: usize) -> Saved<'a>
+        ensures start { self.new.start ≡ self.old.start }
+        ensures members { self.new.members ≡ self.old.members }
+        ensures need { self.new.need ≡ self.old.need }
+        ensures due { self.new.worklist.due ≡ self.old.worklist.due }
+        ensures none { self.new.saved ≡ None }
+        ensures saved { SavesNothing result ⊎ (self.old.saved ≡ Some result) }
+    {
+        let last = self.stopped();
+        match self.saved.take() {
+            Some(saved) if last == Some(number) => saved,
+            _ => Saved::new(alloc),
+        }
+    }
+
+    /// Keeps what the evaluation left behind that stopped last.
+    pub(crate) fn keep(&mut self, saved: Saved<'a>)
+        ensures start { self.new.start ≡ self.old.start }
+        ensures members { self.new.members ≡ self.old.members }
+        ensures need { self.new.need ≡ self.old.need }
+        ensures saved { self.new.saved ≡ Some saved.entry }
+    {
+        self.saved = Some(saved);
     }
 
     /// Notes what is missing, and the member that demands it.
@@ -144,6 +194,7 @@ impl Local {
         ensures start { self.new.start ≡ self.old.start }
         ensures members { self.new.members ≡ self.old.members }
         ensures need { self.new.need ≡ Some (number, need) }
+        ensures saved { self.new.saved ≡ self.old.saved }
     {
         self.need = Some((number, need));
     }
@@ -153,6 +204,7 @@ impl Local {
         ensures start { self.new.start ≡ self.old.start }
         ensures members { self.new.members ≡ self.old.members }
         ensures need { self.new.need ≡ self.old.need }
+        ensures saved { self.new.saved ≡ self.old.saved }
         ensures due { self.new.worklist.due ≡ self.old.worklist.due }
     {
         self.worklist.note_reads(number, read)
@@ -163,6 +215,7 @@ impl Local {
         requires { IsAbsent self.old.members.entries i }
         ensures start { self.new.start ≡ self.old.start }
         ensures need { self.new.need ≡ self.old.need }
+        ensures saved { self.new.saved ≡ self.old.saved }
         ensures added { OnOk result (self.new.members.entries ≡ self.old.members.entries ++ (i, member) ∷ []) }
         ensures refused { OnErr result (self.new.members.entries ≡ self.old.members.entries) }
         ensures few { length self.old.members.entries < member_bound }
@@ -179,6 +232,7 @@ impl Local {
     fn set_value(&mut self, number: usize, value: Value)
         ensures start { self.new.start ≡ self.old.start }
         ensures need { self.new.need ≡ self.old.need }
+        ensures saved { self.new.saved ≡ self.old.saved }
         ensures members { self.new.members.entries ≡ with_value self.old.members.entries number value }
     {
         if let Some(member) = self.members.get_index_mut(number) {
@@ -186,12 +240,14 @@ impl Local {
         }
     }
 
-    /// Gives a member a value to which it rose.
+    /// Gives a member a value to which it rose. An evaluation that stopped may have read the value that was there: it doesn't go on.
     pub(crate) fn rise(&mut self, number: usize, value: Value) -> Result<(), Memory>
         ensures start { self.new.start ≡ self.old.start }
         ensures need { self.new.need ≡ self.old.need }
+        ensures saved { self.new.saved ≡ None }
         ensures members { self.new.members.entries ≡ with_value self.old.members.entries number value }
     {
+        self.saved = None;
         self.set_value(number, value);
         self.worklist.wake_readers(number)
     }

@@ -3,12 +3,13 @@ ghost use Rattle.std.specs.Prelude.{◌≡◌, IfOk};
 ghost use Rattle.equation_law.specs.Codes.{IsCoded, instance_of};
 ghost use Rattle.equation_law.specs.Systems.{program_of};
 ghost use Rattle.memo_cells.specs.Working.{IsOwn, ReadsOn};
-ghost use Rattle.circular_eval.specs.Local.{AreKept};
+ghost use Rattle.expr_eval.specs.Saved.{AreSaved};
+ghost use Rattle.circular_eval.specs.Local.{AreKept, ReadsHere};
 ghost use Rattle.circular_eval.specs.Looking.{ComesTo};
 
 use crate::local::Local;
 use equation_law::{Instance, Reader, System, Value};
-use expr_eval::{Turn, evaluate_instance, is_declared};
+use expr_eval::{Saved, Turn, is_declared, resume_instance};
 use memo_cells::Work;
 use rag_io::Memory;
 use std::alloc::Global;
@@ -19,7 +20,7 @@ use std::alloc::Global;
 pub(crate) struct LocalReader<'a, W: Work> {
     pub system: &'a System,
     pub work: &'a mut W,
-    pub local: &'a Local,
+    pub local: &'a Local<'a>,
     pub read: &'a mut Vec<usize>,
 }
 
@@ -49,20 +50,23 @@ pub(crate) struct Came {
     pub read: Vec<usize>,
 }
 
-/// Evaluates the equation of an instance under the values of a local set.
-pub(crate) fn evaluate<W: Work>(
+/// Goes on with the evaluation of the equation of an instance, under the values of a local set.
+pub(crate) fn evaluate<'a, W: Work>(
     alloc: Global,
-    system: &System,
+    system: &'a System,
     work: &mut W,
-    local: &Local,
+    local: &Local<'_>,
     i: &Instance,
+    saved: &mut Saved<'a>,
 ) -> Result<Came, Memory>
     requires own { IsOwn (W.held work.old) }
     requires same { (W.held work.old).0.system.value ≡ system.now }
     requires coded { IsCoded (program_of system.now) i.now }
     requires kept { AreKept (program_of system.now) local.now.members.entries }
+    requires saved { AreSaved system.now (ReadsHere (program_of system.now) (W.held work.old).1 local.now.members.entries) saved.old }
     ensures on { ReadsOn (W.held work.old) (W.held work.new) }
     ensures came { IfOk result (λ came. ComesTo (program_of system.now) (W.held work.new).1 local.now.members.entries (instance_of (program_of system.now) i.now) came.turn) }
+    ensures saved { AreSaved system.now (ReadsHere (program_of system.now) (W.held work.new).1 local.now.members.entries) saved.new }
 {
     let mut read = Vec::new(alloc);
     let mut reader = LocalReader {
@@ -71,7 +75,7 @@ pub(crate) fn evaluate<W: Work>(
         local,
         read: &mut read,
     };
-    let turn = evaluate_instance(alloc, system, i, &mut reader);
+    let turn = resume_instance(alloc, system, i, &mut reader, saved);
     let LocalReader { work: _work, .. } = reader;
     Ok(Came { turn: turn?, read })
 }

@@ -1,18 +1,27 @@
 // Visiting one member of a local set.
-ghost use Rattle.memo_cells.specs.Working.{program_at};
+ghost use Rattle.std.specs.Prelude.{◌≡◌, IfOk, true};
+ghost use Rattle.equation_law.specs.Equations.{is_ordered, kind_in};
+ghost use Rattle.equation_law.specs.Names.{Instance as StandingInstance};
+ghost use Rattle.equation_law.specs.Systems.{program_of};
+ghost use Rattle.memo_cells.specs.Naming.{IsCellOf};
+ghost use Rattle.memo_cells.specs.Working.{IsOwn, ReadsOn, program_at};
 ghost use Rattle.expr_eval.specs.declared.sites.Turn.TheVariants as turns;
+ghost use Rattle.expr_eval.specs.Saved.{AreSaved};
 ghost use Rattle.equation_law.specs.declared.system.System.{System as KeptSystem};
-ghost use Rattle.circular_eval.specs.Visiting.{Admits, ComesAt, IsNew, IsReady, Visits};
+ghost use Rattle.circular_eval.specs.Local.{ReadsHere};
+ghost use Rattle.circular_eval.specs.Visiting.{Admits, BeginsWith, ComesAt, IsNew, IsReady, KeepsSaved, Steps, Visits};
 
 use crate::advancing::CircFault;
-use crate::claiming::claim_at;
+use crate::claiming::{Opened, open_cell};
 use crate::local::Local;
 use crate::members::Member;
 use crate::raising::raise_value;
 use crate::reading::evaluate;
+use attr_rules::Kind;
 use equation_law::{Instance, System, Value};
-use expr_eval::{Turn, is_declared, kind_of};
+use expr_eval::{Saved, Turn, is_declared, kind_of};
 use memo_cells::{Work, value_shown};
+use rag_io::Memory;
 use std::alloc::Global;
 
 /// What a visit came to.
@@ -26,12 +35,32 @@ pub enum Visited {
     Same,
 }
 
-/// Makes a circular instance a member, with the value that its words show. One that is sealed already keeps its value.
+/// The value that a member begins with: bottom where its cell is new, and else what its words show.
+fn first_value<W: Work>(
+    alloc: Global,
+    system: &System,
+    work: &mut W,
+    opened: Opened,
+    kind: Kind,
+) -> Result<Value, Memory>
+    requires own { IsOwn (W.held work.old) }
+    requires same { (W.held work.old).0.system.value ≡ system.now }
+    requires cell { (i : StandingInstance) × IsCellOf (program_of system.now) (W.held work.old).0 (W.held work.old).1 i opened.slot.0 }
+    ensures on { ReadsOn (W.held work.old) (W.held work.new) }
+    ensures begins { IfOk result (λ x. (i : StandingInstance) → IsCellOf (program_of system.now) (W.held work.old).0 (W.held work.old).1 i opened.slot.0 → kind_in (program_of system.now) i ≡ kind → is_ordered kind ≡ true → BeginsWith (program_of system.now) (W.held work.new).1 i x) }
+{
+    if opened.is_new {
+        return Ok(Value::default_of(alloc, kind));
+    }
+    value_shown(alloc, system, work, opened.slot, kind)
+}
+
+/// Makes a circular instance a member, which begins with what its words show. One that is sealed already keeps its value.
 pub(crate) fn admit<W: Work>(
     alloc: Global,
     system: &System,
     work: &mut W,
-    local: &mut Local,
+    local: &mut Local<'_>,
     i: Instance,
     by: Option<usize>,
 ) -> Result<(), CircFault>
@@ -47,10 +76,10 @@ pub(crate) fn admit<W: Work>(
         };
         return Ok(local.add(alloc, i, member)?);
     }
-    let slot = claim_at(work, i)?;
-    let value = value_shown(alloc, system, work, slot, kind_of(system, &i))?;
+    let opened = open_cell(work, i)?;
+    let value = first_value(alloc, system, work, opened, kind_of(system, &i))?;
     let member = Member {
-        slot: Some(slot),
+        slot: Some(opened.slot),
         value,
         by,
     };
@@ -61,71 +90,110 @@ pub(crate) fn admit<W: Work>(
 fn absorb<W: Work>(
     alloc: Global,
     work: &mut W,
-    local: &mut Local,
+    local: &mut Local<'_>,
     number: usize,
     value: &Value,
-) -> Result<Visited, CircFault>
+) -> Result<Option<Visited>, CircFault>
     requires ready { (s : KeptSystem) × IsReady s (W.held work.old) local.old }
     requires came { ComesAt (program_at (W.held work.old)) (W.held work.old).1 local.old.members.entries number (turns.Done value.now) }
-    ensures { Visits (W.held work.old) (W.held work.new) local.old local.new number result }
+    ensures { Steps (W.held work.old) (W.held work.new) local.old local.new number result }
 {
     let Some((_, member)) = local.member(number) else {
-        return Ok(Visited::Same);
+        return Ok(Some(Visited::Same));
     };
     let Some(slot) = member.slot else {
-        return Ok(Visited::Same);
+        return Ok(Some(Visited::Same));
     };
     let Some(value) = raise_value(alloc, work, slot, value, &member.value)? else {
-        return Ok(Visited::Same);
+        return Ok(Some(Visited::Same));
     };
     local.rise(number, value)?;
-    Ok(Visited::Changed)
+    Ok(Some(Visited::Changed))
 }
 
-/// Goes on by what the equation of a member came to.
+/// Goes on by what the equation of a member came to. It answers None where a circular instance was missing, which is a member now.
 fn follow<W: Work>(
     alloc: Global,
     system: &System,
     work: &mut W,
-    local: &mut Local,
+    local: &mut Local<'_>,
     number: usize,
     turn: Turn,
-) -> Result<Visited, CircFault>
+) -> Result<Option<Visited>, CircFault>
     requires ready { IsReady system.now (W.held work.old) local.old }
     requires came { ComesAt (program_at (W.held work.old)) (W.held work.old).1 local.old.members.entries number turn }
-    ensures { Visits (W.held work.old) (W.held work.new) local.old local.new number result }
+    ensures { Steps (W.held work.old) (W.held work.new) local.old local.new number result }
 {
     match turn {
         Turn::Done(value) => absorb(alloc, work, local, number, &value),
         Turn::Need(need) => {
             if is_declared(system, &need) {
                 admit(alloc, system, work, local, need, Some(number))?;
-                return Ok(Visited::Changed);
+                return Ok(None);
             }
             local.note_need(number, need);
-            Ok(Visited::Need(need))
+            Ok(Some(Visited::Need(need)))
         }
     }
 }
 
-/// Evaluates the equation of a member, unless it was sealed when it was met.
-pub(crate) fn visit<W: Work>(
+/// Goes on with the evaluation of the equation of a member, unless it was sealed when it was met. It answers None where a circular instance was
+/// missing, which is a member now: the evaluation may go on.
+fn step<'a, W: Work>(
     alloc: Global,
-    system: &System,
+    system: &'a System,
     work: &mut W,
-    local: &mut Local,
+    local: &mut Local<'_>,
+    number: usize,
+    saved: &mut Saved<'a>,
+) -> Result<Option<Visited>, CircFault>
+    requires ready { IsReady system.now (W.held work.old) local.old }
+    requires saved { AreSaved system.now (ReadsHere (program_of system.now) (W.held work.old).1 local.old.members.entries) saved.old }
+    ensures steps { Steps (W.held work.old) (W.held work.new) local.old local.new number result }
+    ensures saved { KeepsSaved system.now (W.held work.new).1 local.new.members.entries saved.new result }
+{
+    let Some((instance, member)) = local.member(number) else {
+        return Ok(Some(Visited::Same));
+    };
+    if member.slot.is_none() {
+        return Ok(Some(Visited::Same));
+    }
+    let came = evaluate(alloc, system, work, local, instance, saved)?;
+    local.note_reads(number, &came.read)?;
+    follow(alloc, system, work, local, number, came.turn)
+}
+
+/// Evaluates the equation of a member, unless it was sealed when it was met. What it demands and is circular becomes a member at once, and the
+/// evaluation goes on. Where an undeclared instance is missing, what it leaves behind is kept: the next visit goes on there.
+pub(crate) fn visit<'a, W: Work>(
+    alloc: Global,
+    system: &'a System,
+    work: &mut W,
+    local: &mut Local<'a>,
     number: usize,
 ) -> Result<Visited, CircFault>
     requires ready { IsReady system.now (W.held work.old) local.old }
     ensures { Visits (W.held work.old) (W.held work.new) local.old local.new number result }
 {
-    let Some((instance, member)) = local.member(number) else {
-        return Ok(Visited::Same);
-    };
-    if member.slot.is_none() {
-        return Ok(Visited::Same);
+    let mut saved = local.take_saved(alloc, number);
+    let mut grown = false;
+    'steps: loop {
+        match step(alloc, system, work, local, number, &mut saved)? {
+            None => grown = true,
+            Some(visited) => match visited {
+                Visited::Need(need) => {
+                    local.keep(saved);
+                    return Ok(Visited::Need(need));
+                }
+                Visited::Changed => return Ok(Visited::Changed),
+                Visited::Same => {
+                    if !grown {
+                        return Ok(Visited::Same);
+                    }
+                    local.rest(number);
+                    return Ok(Visited::Changed);
+                }
+            },
+        }
     }
-    let came = evaluate(alloc, system, work, local, instance)?;
-    local.note_reads(number, &came.read)?;
-    follow(alloc, system, work, local, number, came.turn)
 }

@@ -65,6 +65,13 @@ impl Worklist {
         self.due.pop();
     }
 
+    /// A member isn't due until a value rises that it read.
+    pub(crate) fn rest(&mut self, number: usize)
+        ensures { (k : ℕ) → k ≢ number → IsDue self.old.due k → IsDue self.new.due k }
+    {
+        self.due.remove(number);
+    }
+
     /// A new member, which is due where it is unsettled.
     pub(crate) fn add(
         &mut self,

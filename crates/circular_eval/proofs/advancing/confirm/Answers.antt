@@ -12,19 +12,19 @@ pass-init g c =
 
 pub visit-requires : goal.visit-requires
 visit-requires g c =
-    record { ready = pass_ready c.args.system.now (g.W.Words.held c.args.work.now) (g.W.Words.held c.pass.work) c.args.local.now c.next-due.new.self c.pass.confirmed c.requires.ready (pass_looked (g.W.Words.held c.args.work.now) (g.W.Words.held c.pass.work) c.args.local.now c.pass.local c.next-due.new.self c.pass.confirmed c.next-due.ensures.start c.next-due.ensures.members c.next-due.ensures.need c.pass.invariant) }
+    record { ready = pass_ready c.args.system.now (g.W.Words.held c.args.work.now) (g.W.Words.held c.pass.work) c.args.local.now c.next-due.new.self c.pass.confirmed c.requires.ready (pass_looked (g.W.Words.held c.args.work.now) (g.W.Words.held c.pass.work) c.args.local.now c.pass.local c.next-due.new.self c.pass.confirmed c.next-due.ensures.start c.next-due.ensures.members c.next-due.ensures.need c.next-due.ensures.saved c.pass.invariant) }
 
 pub returns-in_err-need : goal.returns-in_err-need
 returns-in_err-need g c =
-    pass_fault (g.W.Words.held c.args.work.now) (g.W.Words.held c.pass.work) (g.W.Words.held c.visit.new.work) c.args.local.now c.next-due.new.self c.visit.new.local c.pass.confirmed c.unwrap_or-number.result (pass_looked (g.W.Words.held c.args.work.now) (g.W.Words.held c.pass.work) c.args.local.now c.pass.local c.next-due.new.self c.pass.confirmed c.next-due.ensures.start c.next-due.ensures.members c.next-due.ensures.need c.pass.invariant) c.in_err-need.field-0.0 c.in_err-need.ensures c.from_residual.result (err_is c.from_residual.result c.in_err-need.field-0.0 c.from_residual.ensures)
+    pass_fault (g.W.Words.held c.args.work.now) (g.W.Words.held c.pass.work) (g.W.Words.held c.visit.new.work) c.args.local.now c.next-due.new.self c.visit.new.local c.pass.confirmed c.unwrap_or-number.result (pass_looked (g.W.Words.held c.args.work.now) (g.W.Words.held c.pass.work) c.args.local.now c.pass.local c.next-due.new.self c.pass.confirmed c.next-due.ensures.start c.next-due.ensures.members c.next-due.ensures.need c.next-due.ensures.saved c.pass.invariant) c.in_err-need.field-0.0 c.in_err-need.ensures c.from_residual.result (err_is c.from_residual.result c.in_err-need.field-0.0 c.from_residual.ensures)
 
 pub returns-in-Need : goal.returns-in-Need
 returns-in-Need g c =
-    pass_need (g.W.Words.held c.args.work.now) (g.W.Words.held c.pass.work) (g.W.Words.held c.visit.new.work) c.args.local.now c.next-due.new.self c.visit.new.local c.pass.confirmed c.unwrap_or-number.result (pass_looked (g.W.Words.held c.args.work.now) (g.W.Words.held c.pass.work) c.args.local.now c.pass.local c.next-due.new.self c.pass.confirmed c.next-due.ensures.start c.next-due.ensures.members c.next-due.ensures.need c.pass.invariant) c.in-Need.need (subst (λ (v : Visited). Visits (g.W.Words.held c.pass.work) (g.W.Words.held c.visit.new.work) c.next-due.new.self c.visit.new.local c.unwrap_or-number.result (Ok v)) c.in-Need.is c.in_ok-need.ensures)
+    pass_need (g.W.Words.held c.args.work.now) (g.W.Words.held c.pass.work) (g.W.Words.held c.visit.new.work) c.args.local.now c.next-due.new.self c.visit.new.local c.pass.confirmed c.unwrap_or-number.result (pass_looked (g.W.Words.held c.args.work.now) (g.W.Words.held c.pass.work) c.args.local.now c.pass.local c.next-due.new.self c.pass.confirmed c.next-due.ensures.start c.next-due.ensures.members c.next-due.ensures.need c.next-due.ensures.saved c.pass.invariant) c.in-Need.need (subst (λ (v : Visited). Visits (g.W.Words.held c.pass.work) (g.W.Words.held c.visit.new.work) c.next-due.new.self c.visit.new.local c.unwrap_or-number.result (Ok v)) c.in-Need.is c.in_ok-need.ensures)
 
 pub returns-in-Changed : goal.returns-in-Changed
 returns-in-Changed g c =
-    pass_changed (g.W.Words.held c.args.work.now) (g.W.Words.held c.pass.work) (g.W.Words.held c.visit.new.work) c.args.local.now c.next-due.new.self c.visit.new.local c.pass.confirmed c.unwrap_or-number.result (pass_looked (g.W.Words.held c.args.work.now) (g.W.Words.held c.pass.work) c.args.local.now c.pass.local c.next-due.new.self c.pass.confirmed c.next-due.ensures.start c.next-due.ensures.members c.next-due.ensures.need c.pass.invariant) (subst (λ (v : Visited). Visits (g.W.Words.held c.pass.work) (g.W.Words.held c.visit.new.work) c.next-due.new.self c.visit.new.local c.unwrap_or-number.result (Ok v)) c.in-Changed.is c.in_ok-need.ensures)
+    pass_changed (g.W.Words.held c.args.work.now) (g.W.Words.held c.pass.work) (g.W.Words.held c.visit.new.work) c.args.local.now c.next-due.new.self c.visit.new.local c.pass.confirmed c.unwrap_or-number.result (pass_looked (g.W.Words.held c.args.work.now) (g.W.Words.held c.pass.work) c.args.local.now c.pass.local c.next-due.new.self c.pass.confirmed c.next-due.ensures.start c.next-due.ensures.members c.next-due.ensures.need c.next-due.ensures.saved c.pass.invariant) (subst (λ (v : Visited). Visits (g.W.Words.held c.pass.work) (g.W.Words.held c.visit.new.work) c.next-due.new.self c.visit.new.local c.unwrap_or-number.result (Ok v)) c.in-Changed.is c.in_ok-need.ensures)
 
 pub pass-smaller-then-is_some : goal.pass-smaller-then-is_some
 pass-smaller-then-is_some g c =
@@ -35,8 +35,8 @@ pass-smaller-then-is_some g c =
 pub pass-preserved-then-is_some : goal.pass-preserved-then-is_some
 pass-preserved-then-is_some g c =
     let st = (subst (λ (v : Visited). Visits (g.W.Words.held c.pass.work) (g.W.Words.held c.visit.new.work) c.next-due.new.self c.visit.new.local c.unwrap_or-number.result (Ok v)) c.in-Same.is c.in_ok-need.ensures) in
-    pass_looked (g.W.Words.held c.args.work.now) (g.W.Words.held c.visit.new.work) c.args.local.now c.visit.new.local c.pop.new.self c.pass.confirmed c.pop.ensures.start c.pop.ensures.members c.pop.ensures.need
-    (pass_stays (g.W.Words.held c.args.work.now) (g.W.Words.held c.pass.work) (g.W.Words.held c.visit.new.work) c.args.local.now c.next-due.new.self c.visit.new.local c.pass.confirmed c.unwrap_or-number.result (pass_looked (g.W.Words.held c.args.work.now) (g.W.Words.held c.pass.work) c.args.local.now c.pass.local c.next-due.new.self c.pass.confirmed c.next-due.ensures.start c.next-due.ensures.members c.next-due.ensures.need c.pass.invariant) st)
+    pass_looked (g.W.Words.held c.args.work.now) (g.W.Words.held c.visit.new.work) c.args.local.now c.visit.new.local c.pop.new.self c.pass.confirmed c.pop.ensures.start c.pop.ensures.members c.pop.ensures.need c.pop.ensures.saved
+    (pass_stays (g.W.Words.held c.args.work.now) (g.W.Words.held c.pass.work) (g.W.Words.held c.visit.new.work) c.args.local.now c.next-due.new.self c.visit.new.local c.pass.confirmed c.unwrap_or-number.result (pass_looked (g.W.Words.held c.args.work.now) (g.W.Words.held c.pass.work) c.args.local.now c.pass.local c.next-due.new.self c.pass.confirmed c.next-due.ensures.start c.next-due.ensures.members c.next-due.ensures.need c.next-due.ensures.saved c.pass.invariant) st)
 
 pub overflow_add-confirmed : goal.overflow_add-confirmed
 overflow_add-confirmed g c =
@@ -51,7 +51,7 @@ pass-smaller g c =
 pub pass-preserved : goal.pass-preserved
 pass-preserved g c =
     let st = (subst (λ (v : Visited). Visits (g.W.Words.held c.pass.work) (g.W.Words.held c.visit.new.work) c.next-due.new.self c.visit.new.local c.unwrap_or-number.result (Ok v)) c.in-Same.is c.in_ok-need.ensures) in
-    pass_next (g.W.Words.held c.args.work.now) (g.W.Words.held c.pass.work) (g.W.Words.held c.visit.new.work) c.args.local.now c.next-due.new.self c.visit.new.local c.pass.confirmed c.unwrap_or-number.result (pass_looked (g.W.Words.held c.args.work.now) (g.W.Words.held c.pass.work) c.args.local.now c.pass.local c.next-due.new.self c.pass.confirmed c.next-due.ensures.start c.next-due.ensures.members c.next-due.ensures.need c.pass.invariant) (c.unwrap_or-number.ensures ∙ ap (λ (o : Option ℕ). unwrap_or o c.pass.confirmed) (none_due c.next-due.result (sym c.is_some.ensures ∙ c.if-is_some.false))) st
+    pass_next (g.W.Words.held c.args.work.now) (g.W.Words.held c.pass.work) (g.W.Words.held c.visit.new.work) c.args.local.now c.next-due.new.self c.visit.new.local c.pass.confirmed c.unwrap_or-number.result (pass_looked (g.W.Words.held c.args.work.now) (g.W.Words.held c.pass.work) c.args.local.now c.pass.local c.next-due.new.self c.pass.confirmed c.next-due.ensures.start c.next-due.ensures.members c.next-due.ensures.need c.next-due.ensures.saved c.pass.invariant) (c.unwrap_or-number.ensures ∙ ap (λ (o : Option ℕ). unwrap_or o c.pass.confirmed) (none_due c.next-due.result (sym c.is_some.ensures ∙ c.if-is_some.false))) st
 
 pub returns : goal.returns
 returns g c =

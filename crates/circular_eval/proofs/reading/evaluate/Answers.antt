@@ -1,7 +1,10 @@
 use Rattle.std.proofs.Common.{refl, ap, sym, subst}
 use Rattle.equation_law.specs.Codes.{instance_of}
+use Rattle.equation_law.specs.Program.{Program}
+use Rattle.expr_eval.specs.Saved.{AreSaved}
 use Rattle.memo_cells.specs.Working.{ReadsOn}
 use Rattle.circular_eval.specs.declared.local.Local.{Local}
+use Rattle.circular_eval.specs.Local.{ReadsHere}
 use Rattle.circular_eval.specs.Looking.{ComesTo}
 use Rattle.circular_eval.proofs.Raised.{err_ok}
 use Rattle.circular_eval.proofs.Settling.{came_to}
@@ -10,15 +13,20 @@ use Rattle.memo_cells.proofs.Holding.{reads_itself}
 use Rattle.circular_eval.proofs.Looking.{here_sound}
 use Rattle.circular_eval.proofs.reading.evaluate.Goals as goal
 
-pub evaluate_instance-turn-requires-clause-sound : goal.evaluate_instance-turn-requires-clause-sound
-evaluate_instance-turn-requires-clause-sound g c = here_sound (g.W.Words.held c.args.work.now) c.args.system.now c.args.local.now.members.entries _ (program_of c.args.system.now) (ap program_of (sym c.requires.same)) c.requires.same c.requires.own c.requires.kept
+pub resume_instance-turn-requires-clause-sound : goal.resume_instance-turn-requires-clause-sound
+resume_instance-turn-requires-clause-sound g c = here_sound (g.W.Words.held c.args.work.now) c.args.system.now c.args.local.now.members.entries _ (program_of c.args.system.now) (ap program_of (sym c.requires.same)) c.requires.same c.requires.own c.requires.kept
 
-pub evaluate_instance-turn-requires-clause-coded : goal.evaluate_instance-turn-requires-clause-coded
-evaluate_instance-turn-requires-clause-coded g c = c.requires.coded
+pub resume_instance-turn-requires-clause-coded : goal.resume_instance-turn-requires-clause-coded
+resume_instance-turn-requires-clause-coded g c = c.requires.coded
+
+pub resume_instance-turn-requires-clause-saved : goal.resume_instance-turn-requires-clause-saved
+resume_instance-turn-requires-clause-saved g c =
+    let d = g.W.Words.held c.args.work.now in
+    subst (λ (q : Program). AreSaved c.args.system.now (ReadsHere q d.1 c.args.local.now.members.entries) c.args.saved.now) (ap program_of (sym c.requires.same)) c.requires.saved
 
 pub returns-in_err-turn-clause-on : goal.returns-in_err-turn-clause-on
 returns-in_err-turn-clause-on g c =
-    let l = c.evaluate_instance-turn.ensures.kept.kept (record { system = c.args.system; work = record { ref_ptr = c.evaluate_instance-turn.new.reader.work.ref_ptr; ghost_name = c.reader-1.given; now = c.args.work.now }; local = c.args.local; read = c.evaluate_instance-turn.new.reader.read }) (reads_itself (g.W.Words.held c.args.work.now) c.requires.own, refl, refl, refl) in
+    let l = c.resume_instance-turn.ensures.evaluates.kept.kept (record { system = c.args.system; work = record { ref_ptr = c.resume_instance-turn.new.reader.work.ref_ptr; ghost_name = c.reader-1.given; now = c.args.work.now }; local = c.args.local; read = c.resume_instance-turn.new.reader.read }) (reads_itself (g.W.Words.held c.args.work.now) c.requires.own, refl, refl, refl) in
     let back = c.work-1.given.1 (sym l.1) in
     subst (λ (x : g.row.W.Denot). ReadsOn (g.W.Words.held c.args.work.now) (g.W.Words.held x)) (sym back) l.0
 
@@ -27,16 +35,36 @@ returns-in_err-turn-clause-came g c = err_ok _ c.from_residual.result c.from_res
 
 pub returns-clause-on : goal.returns-clause-on
 returns-clause-on g c =
-    let l = c.evaluate_instance-turn.ensures.kept.kept (record { system = c.args.system; work = record { ref_ptr = c.evaluate_instance-turn.new.reader.work.ref_ptr; ghost_name = c.reader-1.given; now = c.args.work.now }; local = c.args.local; read = c.evaluate_instance-turn.new.reader.read }) (reads_itself (g.W.Words.held c.args.work.now) c.requires.own, refl, refl, refl) in
+    let l = c.resume_instance-turn.ensures.evaluates.kept.kept (record { system = c.args.system; work = record { ref_ptr = c.resume_instance-turn.new.reader.work.ref_ptr; ghost_name = c.reader-1.given; now = c.args.work.now }; local = c.args.local; read = c.resume_instance-turn.new.reader.read }) (reads_itself (g.W.Words.held c.args.work.now) c.requires.own, refl, refl, refl) in
     let back = c.work-1.given.1 (sym l.1) in
     subst (λ (x : g.row.W.Denot). ReadsOn (g.W.Words.held c.args.work.now) (g.W.Words.held x)) (sym back) l.0
 
 pub returns-clause-came : goal.returns-clause-came
 returns-clause-came g c =
-    let l = c.evaluate_instance-turn.ensures.kept.kept (record { system = c.args.system; work = record { ref_ptr = c.evaluate_instance-turn.new.reader.work.ref_ptr; ghost_name = c.reader-1.given; now = c.args.work.now }; local = c.args.local; read = c.evaluate_instance-turn.new.reader.read }) (reads_itself (g.W.Words.held c.args.work.now) c.requires.own, refl, refl, refl) in
+    let l = c.resume_instance-turn.ensures.evaluates.kept.kept (record { system = c.args.system; work = record { ref_ptr = c.resume_instance-turn.new.reader.work.ref_ptr; ghost_name = c.reader-1.given; now = c.args.work.now }; local = c.args.local; read = c.resume_instance-turn.new.reader.read }) (reads_itself (g.W.Words.held c.args.work.now) c.requires.own, refl, refl, refl) in
     let back = c.work-1.given.1 (sym l.1) in
     let p = program_of c.args.system.now in
     let i = instance_of p c.args.i.now in
     subst (λ (x : g.row.W.Denot). ComesTo p (g.W.Words.held x).1 c.args.local.now.members.entries i c.in_ok-turn.field-0) (sym back)
-    (subst (λ (m : Local). ComesTo p (g.W.Words.held c.evaluate_instance-turn.new.reader.work.now).1 m.members.entries i c.in_ok-turn.field-0) l.2
-    (came_to p (g.W.Words.held c.evaluate_instance-turn.new.reader.work.now) c.evaluate_instance-turn.new.reader.system.now c.evaluate_instance-turn.new.reader.local.now.members.entries _ i c.in_ok-turn.field-0 c.evaluate_instance-turn.ensures.kept.sound.for.0 c.in_ok-turn.ensures.answer))
+    (subst (λ (m : Local). ComesTo p (g.W.Words.held c.resume_instance-turn.new.reader.work.now).1 m.members.entries i c.in_ok-turn.field-0) l.2
+    (came_to p (g.W.Words.held c.resume_instance-turn.new.reader.work.now) c.resume_instance-turn.new.reader.system.now c.resume_instance-turn.new.reader.local.now.members.entries _ i c.in_ok-turn.field-0 c.resume_instance-turn.ensures.evaluates.kept.sound.for.0 c.in_ok-turn.ensures.evaluates.answer))
+
+pub returns-in_err-turn-clause-saved : goal.returns-in_err-turn-clause-saved
+returns-in_err-turn-clause-saved g c =
+    let l = c.resume_instance-turn.ensures.evaluates.kept.kept (record { system = c.args.system; work = record { ref_ptr = c.resume_instance-turn.new.reader.work.ref_ptr; ghost_name = c.reader-1.given; now = c.args.work.now }; local = c.args.local; read = c.resume_instance-turn.new.reader.read }) (reads_itself (g.W.Words.held c.args.work.now) c.requires.own, refl, refl, refl) in
+    let back = c.work-1.given.1 (sym l.1) in
+    let e = g.W.Words.held c.resume_instance-turn.new.reader.work.now in
+    let p = program_of c.args.system.now in
+    subst (λ (x : g.row.W.Denot). AreSaved c.args.system.now (ReadsHere p (g.W.Words.held x).1 c.args.local.now.members.entries) c.resume_instance-turn.new.saved) (sym back)
+    (subst (λ (m : Local). AreSaved c.args.system.now (ReadsHere p e.1 m.members.entries) c.resume_instance-turn.new.saved) l.2
+    (subst (λ (q : Program). AreSaved c.args.system.now (ReadsHere q e.1 c.resume_instance-turn.new.reader.local.now.members.entries) c.resume_instance-turn.new.saved) (sym c.resume_instance-turn.ensures.evaluates.kept.sound.for.0) c.resume_instance-turn.ensures.saved))
+
+pub returns-clause-saved : goal.returns-clause-saved
+returns-clause-saved g c =
+    let l = c.resume_instance-turn.ensures.evaluates.kept.kept (record { system = c.args.system; work = record { ref_ptr = c.resume_instance-turn.new.reader.work.ref_ptr; ghost_name = c.reader-1.given; now = c.args.work.now }; local = c.args.local; read = c.resume_instance-turn.new.reader.read }) (reads_itself (g.W.Words.held c.args.work.now) c.requires.own, refl, refl, refl) in
+    let back = c.work-1.given.1 (sym l.1) in
+    let e = g.W.Words.held c.resume_instance-turn.new.reader.work.now in
+    let p = program_of c.args.system.now in
+    subst (λ (x : g.row.W.Denot). AreSaved c.args.system.now (ReadsHere p (g.W.Words.held x).1 c.args.local.now.members.entries) c.resume_instance-turn.new.saved) (sym back)
+    (subst (λ (m : Local). AreSaved c.args.system.now (ReadsHere p e.1 m.members.entries) c.resume_instance-turn.new.saved) l.2
+    (subst (λ (q : Program). AreSaved c.args.system.now (ReadsHere q e.1 c.resume_instance-turn.new.reader.local.now.members.entries) c.resume_instance-turn.new.saved) (sym c.resume_instance-turn.ensures.evaluates.kept.sound.for.0) c.resume_instance-turn.ensures.saved))

@@ -33,8 +33,8 @@ returns-in_default-2 g c =
 
 pub returns-in_err-rise : goal.returns-in_err-rise
 returns-in_err-rise g c =
-    absorb_late c.requires.ready.0 (g.W.Words.held c.args.work.now) c.args.local.now c.requires.ready.1 c.args.number c.args.value.now c.requires.came (c.in-Some.field-0-0.now, c.in-Some.member.now) (sym c.in-Some.ensures) c.in-Some-slot.slot c.in-Some-slot.is (g.W.Words.held c.raise_value.new.work) c.raise_value.result c.raise_value.ensures c.in-Some-2.value (c.in_ok-value.was ∙ ap (λ (o : Option CodedValue). Ok o) c.in-Some-2.is) c.rise.new.self c.rise.ensures.start c.rise.ensures.need c.rise.ensures.members c.from_residual-in_err-rise.result (err_is c.from_residual-in_err-rise.result Memory c.from_residual-in_err-rise.ensures)
+    absorb_late c.requires.ready.0 (g.W.Words.held c.args.work.now) c.args.local.now c.requires.ready.1 c.args.number c.args.value.now c.requires.came (c.in-Some.field-0-0.now, c.in-Some.member.now) (sym c.in-Some.ensures) c.in-Some-slot.slot c.in-Some-slot.is (g.W.Words.held c.raise_value.new.work) c.raise_value.result c.raise_value.ensures c.in-Some-2.value (c.in_ok-value.was ∙ ap (λ (o : Option CodedValue). Ok o) c.in-Some-2.is) c.rise.new.self c.rise.ensures.start c.rise.ensures.need c.rise.ensures.saved c.rise.ensures.members c.from_residual-in_err-rise.result (err_is c.from_residual-in_err-rise.result Memory c.from_residual-in_err-rise.ensures)
 
 pub returns : goal.returns
 returns g c =
-    absorb_changed c.requires.ready.0 (g.W.Words.held c.args.work.now) c.args.local.now c.requires.ready.1 c.args.number c.args.value.now c.requires.came (c.in-Some.field-0-0.now, c.in-Some.member.now) (sym c.in-Some.ensures) c.in-Some-slot.slot c.in-Some-slot.is (g.W.Words.held c.raise_value.new.work) c.raise_value.result c.raise_value.ensures c.in-Some-2.value (c.in_ok-value.was ∙ ap (λ (o : Option CodedValue). Ok o) c.in-Some-2.is) c.rise.new.self c.rise.ensures.start c.rise.ensures.need c.rise.ensures.members
+    absorb_changed c.requires.ready.0 (g.W.Words.held c.args.work.now) c.args.local.now c.requires.ready.1 c.args.number c.args.value.now c.requires.came (c.in-Some.field-0-0.now, c.in-Some.member.now) (sym c.in-Some.ensures) c.in-Some-slot.slot c.in-Some-slot.is (g.W.Words.held c.raise_value.new.work) c.raise_value.result c.raise_value.ensures c.in-Some-2.value (c.in_ok-value.was ∙ ap (λ (o : Option CodedValue). Ok o) c.in-Some-2.is) c.rise.new.self c.rise.ensures.start c.rise.ensures.need c.rise.ensures.saved c.rise.ensures.members

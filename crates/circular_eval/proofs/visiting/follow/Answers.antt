@@ -1,6 +1,6 @@
 use Rattle.std.proofs.Common.{sym, ◌∙◌}
 use Rattle.expr_eval.specs.declared.sites.Turn.TheVariants as turns
-use Rattle.circular_eval.proofs.Following.{admit_changed, admit_refused, need_missing, need_new, turn_is}
+use Rattle.circular_eval.proofs.Following.{admit_refused, admit_step, need_missing, need_new, turn_is}
 use Rattle.circular_eval.proofs.Raised.{err_is}
 use Rattle.circular_eval.proofs.visiting.follow.Goals as goal
 
@@ -26,7 +26,7 @@ returns-in_err-admit-in-Need g c =
 
 pub returns-then-is_declared : goal.returns-then-is_declared
 returns-then-is_declared g c =
-    admit_changed (g.W.Words.held c.args.work.now) (g.W.Words.held c.admit.new.work) c.args.local.now c.admit.new.local c.args.number c.in_ok-admit-in-Need.field-0 c.in_ok-admit-in-Need.ensures
+    admit_step (g.W.Words.held c.args.work.now) (g.W.Words.held c.admit.new.work) c.args.local.now c.admit.new.local c.args.number c.in_ok-admit-in-Need.field-0 c.in_ok-admit-in-Need.ensures
 
 pub returns-in-Done : goal.returns-in-Done
 returns-in-Done g c =
@@ -34,4 +34,4 @@ returns-in-Done g c =
 
 pub returns-else-is_declared : goal.returns-else-is_declared
 returns-else-is_declared g c =
-    need_missing c.args.system.now (g.W.Words.held c.args.work.now) c.args.local.now c.requires.ready c.args.number c.in-Need.need (turn_is (g.W.Words.held c.args.work.now) c.args.local.now c.args.number c.args.turn (turns.Need c.in-Need.need) c.in-Need.is c.requires.came) (sym c.if-is_declared.false ∙ c.is_declared.ensures) c.note_need.new.self c.note_need.ensures.start c.note_need.ensures.members c.note_need.ensures.need
+    need_missing c.args.system.now (g.W.Words.held c.args.work.now) c.args.local.now c.requires.ready c.args.number c.in-Need.need (turn_is (g.W.Words.held c.args.work.now) c.args.local.now c.args.number c.args.turn (turns.Need c.in-Need.need) c.in-Need.is c.requires.came) (sym c.if-is_declared.false ∙ c.is_declared.ensures) c.note_need.new.self c.note_need.ensures.start c.note_need.ensures.members c.note_need.ensures.need c.note_need.ensures.saved

@@ -2,7 +2,7 @@
 use Rattle.memo_cells.specs.Working.{program_at}
 use Rattle.circular_eval.specs.Left.{left}
 use Rattle.circular_eval.specs.Visiting.{GoesOnWith}
-use Rattle.circular_eval.proofs.advancing.close.Given as goal
+use Rattle.circular_eval.proofs.advancing.repeat.Given as goal
 
 abbrev pub invariant-passes : goal.invariant-passes
 invariant-passes g l = GoesOnWith (program_at (g.W.Words.held l.initial.work)) (g.W.Words.held l.initial.work) (g.W.Words.held l.work) l.initial.local l.local
