@@ -11,6 +11,7 @@ use Rattle.memo_cells.specs.Views.{Has, IsAtLeast}
 use Rattle.memo_cells.proofs.Counting.{any_has, has_any}
 use Rattle.circular_eval.specs.declared.local.Local.{Local}
 use Rattle.caller_pass.specs.declared.waiting.Waiter.{Waiter}
+use Rattle.caller_pass.specs.Waiting.{way_of}
 use Rattle.caller_pass.specs.Answering.{unsettled}
 use Rattle.memo_cells.proofs.Bits.{has_left}
 use Rattle.caller_pass.proofs.Lines.{has_snoc}
@@ -94,7 +95,7 @@ turns_of (Some l) = 0
 
 -- the measure of a turn: each cell that is left pays three, and each that waits one
 abbrev pub measure : View → List (CodedInstance × Waiter) → CodedInstance × Waiter → ℕ → ℕ
-measure v es top n = 3 * left (taken v (es ++ top ∷ [])) n + length es + turns_of top.1.way
+measure v es top n = 3 * left (taken v (es ++ top ∷ [])) n + length es + turns_of (way_of top.1)
 
 -- where nobody waits, what isn't seen settled is left
 pub left_unsettled : (v : View) (n : ℕ) → left (taken v []) n ≡ unsettled v n

@@ -20,7 +20,7 @@ use Rattle.circular_eval.specs.declared.local.Local.{Local}
 use Rattle.circular_eval.proofs.Later.{local_later}
 use Rattle.caller_pass.specs.declared.waiting.Waiter.{Waiter}
 use Rattle.caller_pass.specs.Knowing.{FindsCode}
-use Rattle.caller_pass.specs.Waiting.{AreWaiting, IsFrame, IsPlaced, IsStack, IsWay, IsWayOf, LooksAgain, WaitsBy, WayStays, waits}
+use Rattle.caller_pass.specs.Waiting.{AreWaiting, IsFrame, IsPlaced, IsStack, IsWay, IsWayOf, LooksAgain, WaitsBy, WayStays, waits, way_of}
 use Rattle.caller_pass.proofs.Knowing.{found_knows}
 use Rattle.memo_cells.proofs.Bits.{has_left}
 use Rattle.caller_pass.proofs.Lines.{has_last, has_snoc}
@@ -39,17 +39,17 @@ module _ (p : Program) (f : Frame) (v w : View) (kept : IsAtLeast v w) where
 
   pub waiting_later : (es : List (CodedInstance × Waiter)) (n : Instance) → AreWaiting p f v es n → AreWaiting p f w es n
   waiting_later [] n h = tt
-  waiting_later (e ∷ []) n h = waits_later (instance_of p e.0) e.1.way n h
-  waiting_later (e ∷ d ∷ es) n h = (waits_later (instance_of p e.0) e.1.way (instance_of p d.0) h.0, waiting_later (d ∷ es) n h.1)
+  waiting_later (e ∷ []) n h = waits_later (instance_of p e.0) (way_of e.1) n h
+  waiting_later (e ∷ d ∷ es) n h = (waits_later (instance_of p e.0) (way_of e.1) (instance_of p d.0) h.0, waiting_later (d ∷ es) n h.1)
 
 -- one more waits
-pub waiting_more : (p : Program) (f : Frame) (v : View) (es : List (CodedInstance × Waiter)) (t : CodedInstance × Waiter) (n : Instance) → AreWaiting p f v es (instance_of p t.0) → WaitsBy p f v (instance_of p t.0) t.1.way n → AreWaiting p f v (es ++ t ∷ []) n
+pub waiting_more : (p : Program) (f : Frame) (v : View) (es : List (CodedInstance × Waiter)) (t : CodedInstance × Waiter) (n : Instance) → AreWaiting p f v es (instance_of p t.0) → WaitsBy p f v (instance_of p t.0) (way_of t.1) n → AreWaiting p f v (es ++ t ∷ []) n
 waiting_more p f v [] t n h w = w
 waiting_more p f v (e ∷ []) t n h w = (h, w)
 waiting_more p f v (e ∷ d ∷ es) t n h w = (h.0, waiting_more p f v (d ∷ es) t n h.1 w)
 
 -- without the last one, and how that one waits
-pub waiting_front : (p : Program) (f : Frame) (v : View) (es : List (CodedInstance × Waiter)) (t : CodedInstance × Waiter) (n : Instance) → AreWaiting p f v (es ++ t ∷ []) n → AreWaiting p f v es (instance_of p t.0) × WaitsBy p f v (instance_of p t.0) t.1.way n
+pub waiting_front : (p : Program) (f : Frame) (v : View) (es : List (CodedInstance × Waiter)) (t : CodedInstance × Waiter) (n : Instance) → AreWaiting p f v (es ++ t ∷ []) n → AreWaiting p f v es (instance_of p t.0) × WaitsBy p f v (instance_of p t.0) (way_of t.1) n
 waiting_front p f v [] t n h = (tt, h)
 waiting_front p f v (e ∷ []) t n h = (h.0, h.1)
 waiting_front p f v (e ∷ d ∷ es) t n h = let r = waiting_front p f v (d ∷ es) t n h.1 in ((h.0, r.0), r.1)
@@ -74,7 +74,7 @@ module _ (p : Program) (f : Frame) (v w : View) (kept : IsAtLeast v w) (i : Inst
       record { instance = h.instance; coded = h.coded; undeclared = h.undeclared; slot = subst (λ (s : Slot). IsCellOf p f w (instance_of p t) s.0) (sym same) h.slot; saved = saved }
 
   -- it goes on in another state
-  pub stack_on : (y : Waiter) → y.slot ≡ x.slot → AreSaved f.system.value (IsKnown p w) y.saved → IsWayOf p f w (instance_of p t) y.way → IsStack p f w i es (t, y)
+  pub stack_on : (y : Waiter) → y.slot ≡ x.slot → AreSaved f.system.value (IsKnown p w) y.saved → IsWayOf p f w (instance_of p t) (way_of y) → IsStack p f w i es (t, y)
   stack_on y same saved way =
       let begun = last_starts es t x y stack.first stack.rest stack.starts in
       record {
@@ -89,7 +89,7 @@ module _ (p : Program) (f : Frame) (v w : View) (kept : IsAtLeast v w) (i : Inst
       }
 
   -- it waits, and another one is on top
-  pub stack_more : (u : View) → IsAtLeast w u → (y : Waiter) → y.slot ≡ x.slot → AreSaved f.system.value (IsKnown p w) y.saved → (next : CodedInstance) (z : Waiter) → WaitsBy p f w (instance_of p t) y.way (instance_of p next) → IsFrame p f u (next, z) → waits (es ++ (t, y) ∷ []) next ≡ false → IsStack p f u i (es ++ (t, y) ∷ []) (next, z)
+  pub stack_more : (u : View) → IsAtLeast w u → (y : Waiter) → y.slot ≡ x.slot → AreSaved f.system.value (IsKnown p w) y.saved → (next : CodedInstance) (z : Waiter) → WaitsBy p f w (instance_of p t) (way_of y) (instance_of p next) → IsFrame p f u (next, z) → waits (es ++ (t, y) ∷ []) next ≡ false → IsStack p f u i (es ++ (t, y) ∷ []) (next, z)
   stack_more u later y same saved next z w' frame other =
       let begun = last_starts es t x y stack.first stack.rest stack.starts in
       let more = snoc_starts es (t, y) begun.0 begun.1 (next, z) begun.2 in
@@ -121,7 +121,7 @@ module _ (p : Program) (f : Frame) (v w : View) (kept : IsAtLeast v w) (i : Inst
         waiting = front.0;
         frame = record {
           placed = record { instance = its.instance; coded = its.coded; undeclared = its.undeclared; slot = subst (λ (s : Slot). IsCellOf p f w (instance_of p last.0) s.0) (sym looks.slot) its.slot; saved = subst (λ (o : Saved). AreSaved f.system.value (IsKnown p w) o) (sym looks.saved) its.saved };
-          way = way_on last.1.way y.way looks.way front.1;
+          way = way_on (way_of last.1) (way_of y) looks.way front.1;
         };
         other = other;
       }
@@ -132,7 +132,7 @@ module _ (p : Program) (f : Frame) (v w : View) (kept : IsAtLeast v w) (i : Inst
       way_on (Some l) (Some m) stays h = subst (λ (n : Local). IsWay p f w (instance_of p last.0) n) (sym stays.0) (record { local = h.1; led = h.0; unknown = stays.1 h.1.coded })
 
 -- the first stack
-pub stack_one : (p : Program) (f : Frame) (v : View) (i : CodedInstance) (x : Waiter) → IsPlaced p f v (i, x) → x.way ≡ None → IsStack p f v (instance_of p i) [] (i, x)
+pub stack_one : (p : Program) (f : Frame) (v : View) (i : CodedInstance) (x : Waiter) → IsPlaced p f v (i, x) → way_of x ≡ None → IsStack p f v (instance_of p i) [] (i, x)
 stack_one p f v i x placed none = record {
   first = (i, x);
   rest = [];
@@ -145,7 +145,7 @@ stack_one p f v i x placed none = record {
 }
 
 -- a local set whose start is seen sealed isn't waited for any more
-pub looked_known : (p : Program) (f : Frame) (w u : View) → u ≡ w → (x : Waiter) (l : Local) → x.way ≡ Some l → (i : CodedInstance) → i ≡ l.start → (r : Option (Slot × ℕ)) → is_some r ≡ true → (IsCoded p i → FindsCode p f w (instance_of p i) r) → LooksAgain p u x (record { slot = x.slot; way = None; saved = x.saved })
+pub looked_known : (p : Program) (f : Frame) (w u : View) → u ≡ w → (x : Waiter) (l : Local) → way_of x ≡ Some l → (i : CodedInstance) → i ≡ l.start → (r : Option (Slot × ℕ)) → is_some r ≡ true → (IsCoded p i → FindsCode p f w (instance_of p i) r) → LooksAgain p u x (record { slot = x.slot; way = None; saved = x.saved })
 looked_known p f w u is x l way i start r there finds = record {
   slot = refl;
   saved = refl;

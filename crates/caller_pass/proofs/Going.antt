@@ -28,7 +28,7 @@ use Rattle.caller_pass.specs.declared.faults.AskFault.TheVariants.{CellsFull, Ci
 use Rattle.caller_pass.specs.declared.solving.Went.{Went}
 use Rattle.caller_pass.specs.declared.waiting.Waiter.{Waiter}
 use Rattle.caller_pass.specs.Answering.{AnswersStep, ClaimsKeys, EndsAtLoop, GoesThrough, IsNext, LeavesOne, SameWay, Solves, StopsAt, WayChanges, unsettled}
-use Rattle.caller_pass.specs.Waiting.{AnswersWait, AreWaiting, IsLineTo, IsPlaced, IsStack, IsWayOf, LooksAgain, waits}
+use Rattle.caller_pass.specs.Waiting.{AnswersWait, AreWaiting, IsLineTo, IsPlaced, IsStack, IsWayOf, LooksAgain, waits, way_of}
 use Rattle.caller_pass.proofs.Claiming.{claims_same, claims_then, claims_to, fills_more, fills_to}
 use Rattle.caller_pass.proofs.Falling.{measure}
 use Rattle.caller_pass.proofs.Frames.{stack_fewer, stack_more, stack_on, stack_one, waiting_later, waiting_more}
@@ -61,7 +61,7 @@ pub record WentThrough (p : Program) (f : Frame) (w u : View) (t : CodedInstance
   pub claims : ClaimsKeys p (instance_of p t) w u
   pub slot : y.slot ≡ x.slot
   pub saved : AreSaved f.system.value (IsKnown p u) y.saved
-  pub answer : AnswersStep p f u (instance_of p t) x.way y.way r
+  pub answer : AnswersStep p f u (instance_of p t) (way_of x) (way_of y) r
   pub evals : after ≡ before + 1
 
 pub through : (d e : Held) (f : Frame) (t : CodedInstance) (x y : Waiter) (before after : ℕ) (r : Result Went AskFault) → d.0 ≡ f → GoesThrough (program_at d) d e t x y before after r → WentThrough (program_of f.system.value) f d.1 e.1 t x y before after r
@@ -92,7 +92,7 @@ waited_loop p f g v u i (e ∷ es) t x y on line stack waiting lines why plain =
     subst (λ (j : Instance). EndsAtLoop p j (instance_of p on) line) (ap (λ (d : CodedInstance × Waiter). instance_of p d.0) first ∙ stack.is) (met_loop p e (es ++ (t, y) ∷ []) on line (lines g u waiting) why plain)
 
 -- before the first turn
-pub begun : (p : Program) (f : Frame) (v w : View) → p ≡ program_of f.system.value → IsPassOf f v → IsPassOf f w → IsAtLeast v w → (i : CodedInstance) (x : Waiter) → IsInstance p (instance_of p i) → IsCoded p i → (equations_of p).circular (instance_of p i) ≡ false → ¬ Knows p v (instance_of p i) → IsCellOf p f w (instance_of p i) x.slot.0 → x.way ≡ None → SavesNothing x.saved → ClaimsKeysTo p v w (instance_of p i) → (evals : ℕ) → IsSolving p f v w (instance_of p i) [] (i, x) evals evals
+pub begun : (p : Program) (f : Frame) (v w : View) → p ≡ program_of f.system.value → IsPassOf f v → IsPassOf f w → IsAtLeast v w → (i : CodedInstance) (x : Waiter) → IsInstance p (instance_of p i) → IsCoded p i → (equations_of p).circular (instance_of p i) ≡ false → ¬ Knows p v (instance_of p i) → IsCellOf p f w (instance_of p i) x.slot.0 → way_of x ≡ None → SavesNothing x.saved → ClaimsKeysTo p v w (instance_of p i) → (evals : ℕ) → IsSolving p f v w (instance_of p i) [] (i, x) evals evals
 begun p f v w same own then kept i x instance coded plain unknown cell way fresh claims evals =
     let placed : IsPlaced p f w (i, x) = record { instance = instance; coded = coded; undeclared = plain; slot = cell; saved = none_saved x.saved fresh } in
     record {
@@ -114,21 +114,21 @@ module _ {p : Program} {f : Frame} {v w u : View} {i : Instance} {es : List (Cod
   kept_now = at_least_then s.kept g.kept
 
   -- a fault
-  pub step_fault : (e : AskFault) → AnswersStep p f u (instance_of p t) x.way y.way (Err e) → StopsAt p f u i e
+  pub step_fault : (e : AskFault) → AnswersStep p f u (instance_of p t) (way_of x) (way_of y) (Err e) → StopsAt p f u i e
   step_fault (Circular on chain) a = absurd a
   step_fault CellsFull a = fills_more p i (instance_of p t) f u reached a
   step_fault Memory a = tt
 
   -- it waits for a local set now, or doesn't any more
-  module _ (changes : WayChanges p f u (instance_of p t) x.way y.way) where
-    way_of : (old new : Option Local) → WayChanges p f u (instance_of p t) old new → IsWayOf p f u (instance_of p t) new
-    way_of None None h = absurd h
-    way_of None (Some l) h = h
-    way_of (Some l) None h = tt
-    way_of (Some l) (Some m) h = absurd h
+  module _ (changes : WayChanges p f u (instance_of p t) (way_of x) (way_of y)) where
+    way_then : (old new : Option Local) → WayChanges p f u (instance_of p t) old new → IsWayOf p f u (instance_of p t) new
+    way_then None None h = absurd h
+    way_then None (Some l) h = h
+    way_then (Some l) None h = tt
+    way_then (Some l) (Some m) h = absurd h
 
     stack_further : IsStack p f u i es (t, y)
-    stack_further = stack_on p f w u g.kept i es t x s.stack y g.slot g.saved (way_of x.way y.way changes)
+    stack_further = stack_on p f w u g.kept i es t x s.stack y g.slot g.saved (way_then (way_of x) (way_of y) changes)
 
     pub went_further : IsSolving p f v u i es (t, y) before after
     went_further = record {
@@ -143,12 +143,12 @@ module _ {p : Program} {f : Frame} {v w u : View} {i : Instance} {es : List (Cod
     fell_further = falls_further p f same pooled w u s.own g.own g.kept i es t x s.stack y g.slot changes
 
   -- it waits for another one
-  module _ (n : CodedInstance) (next : IsNext p f u (instance_of p t) y.way n) (ways : SameWay x.way y.way) where
+  module _ (n : CodedInstance) (next : IsNext p f u (instance_of p t) (way_of y) n) (ways : SameWay (way_of x) (way_of y)) where
     pub waiting_now : AreWaiting p f u (es ++ (t, y) ∷ []) (instance_of p n)
     waiting_now = waiting_more p f u es (t, y) (instance_of p n) (waiting_later p f w u g.kept es (instance_of p t) s.stack.waiting) next.waits
 
     next_reached : Chain p i (instance_of p n)
-    next_reached = chain_then p reached (waits_chain p f u (instance_of p t) y.way (instance_of p n) next.waits)
+    next_reached = chain_then p reached (waits_chain p f u (instance_of p t) (way_of y) (instance_of p n) next.waits)
 
     module _ {o : View} (own : IsPassOf f o) (later : IsAtLeast u o) (claims : ClaimsKeysTo p u o (instance_of p n)) where
       pub claims_more : ClaimsKeys p i v o
@@ -163,7 +163,7 @@ module _ {p : Program} {f : Frame} {v w u : View} {i : Instance} {es : List (Cod
       wait_fault new Memory a = tt
 
       -- the next one is on top
-      module _ (z : Waiter) (cell : IsCellOf p f o (instance_of p n) z.slot.0) (way : z.way ≡ None) (free : waits (es ++ (t, y) ∷ []) n ≡ false) (fresh : SavesNothing z.saved) where
+      module _ (z : Waiter) (cell : IsCellOf p f o (instance_of p n) z.slot.0) (way : way_of z ≡ None) (free : waits (es ++ (t, y) ∷ []) n ≡ false) (fresh : SavesNothing z.saved) where
         placed : IsPlaced p f o (n, z)
         placed = record { instance = next.instance; coded = next.coded; undeclared = next.undeclared; slot = cell; saved = none_saved z.saved fresh }
 
@@ -192,7 +192,7 @@ module _ {p : Program} {f : Frame} {v w u : View} {i : Instance} {es : List (Cod
         fell_more new is = subst (λ l. measure o l (n, z) f.cells < measure w es (t, x) f.cells) (sym is) fell_next
 
   -- it is settled
-  module _ (known : Knows p u (instance_of p t)) (way : x.way ≡ None) where
+  module _ (known : Knows p u (instance_of p t)) (way : way_of x ≡ None) where
     -- the one that waited for it is on top again
     module _ {o : View} (own : IsPassOf f o) (later : IsAtLeast u o) (quiet : o.claims ≡ u.claims) (ds : List (CodedInstance × Waiter)) (last : CodedInstance × Waiter) (is : es ≡ ds ++ last ∷ []) (free : waits ds last.0 ≡ false) (z : Waiter) (looks : LooksAgain p o last.1 z) where
       then_kept : IsAtLeast w o

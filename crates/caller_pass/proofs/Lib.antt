@@ -10,6 +10,7 @@ pub mod Going
 pub mod Knowing
 pub mod Lines
 pub mod Listing
+pub mod Members
 pub mod Needing
 pub mod Noted
 pub mod Overfull

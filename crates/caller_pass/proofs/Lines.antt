@@ -16,7 +16,7 @@ use Rattle.circular_eval.specs.declared.local.Local.{Local}
 use Rattle.circular_eval.specs.Advancing.{AreLed, IsPath}
 use Rattle.caller_pass.specs.declared.waiting.Waiter.{Waiter}
 use Rattle.caller_pass.specs.Answering.{EndsAtLoop, IsLoop}
-use Rattle.caller_pass.specs.Waiting.{AreWaiting, IsLineTo, WaitsBy, waits}
+use Rattle.caller_pass.specs.Waiting.{AreWaiting, IsLineTo, WaitsBy, waits, way_of}
 
 pub assoc : {A : Type 0} (xs ys zs : List A) → (xs ++ ys) ++ zs ≡ xs ++ (ys ++ zs)
 assoc [] ys zs = refl
@@ -103,8 +103,8 @@ module _ (p : Program) where
 
   -- the first that waits reaches what the last waits for
   pub waiting_chain : (f : Frame) (v : View) (e : CodedInstance × Waiter) (es : List (CodedInstance × Waiter)) (n : Instance) → AreWaiting p f v (e ∷ es) n → Chain p (instance_of p e.0) n
-  waiting_chain f v e [] n w = waits_chain f v (instance_of p e.0) e.1.way n w
-  waiting_chain f v e (d ∷ es) n w = chain_then (waits_chain f v (instance_of p e.0) e.1.way (instance_of p d.0) w.0) (waiting_chain f v d es n w.1)
+  waiting_chain f v e [] n w = waits_chain f v (instance_of p e.0) (way_of e.1) n w
+  waiting_chain f v e (d ∷ es) n w = chain_then (waits_chain f v (instance_of p e.0) (way_of e.1) (instance_of p d.0) w.0) (waiting_chain f v d es n w.1)
 
 -- one that waits stands among the entries
 found : (es : List (CodedInstance × Waiter)) (i : CodedInstance) → waits es i ≡ true → (e : CodedInstance × Waiter) × Has es e × (e.0 ≡ i)
@@ -222,10 +222,10 @@ way_chain : (p : Program) (f : Frame) (v : View) (i : Instance) (way : Option Lo
 way_chain p f v i way n w l is = (subst (λ (o : Option Local). WaitsBy p f v i o n) is w).3
 
 -- the start of a local set through which one waits reaches what the last waits for
-pub start_chain : (p : Program) (f : Frame) (v : View) (es : List (CodedInstance × Waiter)) (n : Instance) → AreWaiting p f v es n → (e : CodedInstance × Waiter) → Has es e → (l : Local) → e.1.way ≡ Some l → Chain p (instance_of p l.start) n
+pub start_chain : (p : Program) (f : Frame) (v : View) (es : List (CodedInstance × Waiter)) (n : Instance) → AreWaiting p f v es n → (e : CodedInstance × Waiter) → Has es e → (l : Local) → way_of e.1 ≡ Some l → Chain p (instance_of p l.start) n
 start_chain p f v [] n w e h l is = absurd h
-start_chain p f v (d ∷ []) n w e h l is = ⊎_elim (λ here. way_chain p f v (instance_of p d.0) d.1.way n w l (ap (λ (x : CodedInstance × Waiter). x.1.way) (sym here) ∙ is)) absurd h
+start_chain p f v (d ∷ []) n w e h l is = ⊎_elim (λ here. way_chain p f v (instance_of p d.0) (way_of d.1) n w l (ap (λ (x : CodedInstance × Waiter). (way_of x.1)) (sym here) ∙ is)) absurd h
 start_chain p f v (d ∷ c ∷ es) n w e h l is = ⊎_elim
-    (λ here. chain_then p (way_chain p f v (instance_of p d.0) d.1.way (instance_of p c.0) w.0 l (ap (λ (x : CodedInstance × Waiter). x.1.way) (sym here) ∙ is)) (waiting_chain p f v c es n w.1))
+    (λ here. chain_then p (way_chain p f v (instance_of p d.0) (way_of d.1) (instance_of p c.0) w.0 l (ap (λ (x : CodedInstance × Waiter). (way_of x.1)) (sym here) ∙ is)) (waiting_chain p f v c es n w.1))
     (λ later. start_chain p f v (c ∷ es) n w.1 e later l is)
     h

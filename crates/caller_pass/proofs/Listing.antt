@@ -12,7 +12,7 @@ use Rattle.circular_eval.specs.declared.local.Local.{Local}
 use Rattle.circular_eval.specs.Advancing.{AreLed, IsPath}
 use Rattle.circular_eval.specs.Local.{IsLocal}
 use Rattle.caller_pass.specs.declared.waiting.Waiter.{Waiter}
-use Rattle.caller_pass.specs.Waiting.{AreWaiting, HasPart, IsLineTo, Needed, WaitsBy}
+use Rattle.caller_pass.specs.Waiting.{AreWaiting, HasPart, IsLineTo, Needed, WaitsBy, way_of}
 use Rattle.caller_pass.proofs.Lines.{assoc, begins, led_both}
 
 -- a path of the local set to what it needed last, without that
@@ -23,10 +23,10 @@ IsPartOf (Some l) part = (p : Program) (f : Frame) (v : View) (n : Instance) →
 -- each instance that waits, with the path of its local set behind it
 abbrev pub AreListed : List (CodedInstance × Waiter) → List CodedInstance → Type 0
 AreListed [] xs = xs ≡ []
-AreListed (e ∷ es) xs = (part rest : List CodedInstance) × (xs ≡ e.0 ∷ (part ++ rest)) × IsPartOf e.1.way part × AreListed es rest
+AreListed (e ∷ es) xs = (part rest : List CodedInstance) × (xs ≡ e.0 ∷ (part ++ rest)) × IsPartOf (way_of e.1) part × AreListed es rest
 
 -- one more
-pub listed_more : (es : List (CodedInstance × Waiter)) (xs : List CodedInstance) (e : CodedInstance × Waiter) (part : List CodedInstance) → AreListed es xs → IsPartOf e.1.way part → AreListed (es ++ e ∷ []) (xs ++ e.0 ∷ part)
+pub listed_more : (es : List (CodedInstance × Waiter)) (xs : List CodedInstance) (e : CodedInstance × Waiter) (part : List CodedInstance) → AreListed es xs → IsPartOf (way_of e.1) part → AreListed (es ++ e ∷ []) (xs ++ e.0 ∷ part)
 listed_more [] xs e part h its = (part, [], ap (λ l. l ++ e.0 ∷ part) h ∙ ap (λ l. e.0 ∷ l) (sym (all part)), its, refl)
   where
     all : (xs : List CodedInstance) → xs ++ [] ≡ xs
@@ -41,12 +41,12 @@ map_both g [] ys = refl
 map_both g (x ∷ xs) ys = ap (λ l. g x ∷ l) (map_both g xs ys)
 
 -- one that waits for a local set, and one that doesn't
-pub listed_path : (es : List (CodedInstance × Waiter)) (xs : List CodedInstance) (e : CodedInstance × Waiter) (ys zs : List CodedInstance) (l : Local) → AreListed es xs → e.1.way ≡ Some l → ys ≡ xs ++ e.0 ∷ [] → HasPart ys zs l → AreListed (es ++ e ∷ []) zs
+pub listed_path : (es : List (CodedInstance × Waiter)) (xs : List CodedInstance) (e : CodedInstance × Waiter) (ys zs : List CodedInstance) (l : Local) → AreListed es xs → way_of e.1 ≡ Some l → ys ≡ xs ++ e.0 ∷ [] → HasPart ys zs l → AreListed (es ++ e ∷ []) zs
 listed_path es xs e ys zs l h way one part =
     let more = listed_more es xs e part.part h (subst (λ (o : Option Local). IsPartOf o part.part) (sym way) part.path) in
     subst (λ (l : List CodedInstance). AreListed (es ++ e ∷ []) l) (sym (part.added ∙ ap (λ (l : List CodedInstance). l ++ part.part) one ∙ assoc xs (e.0 ∷ []) part.part)) more
 
-pub listed_plain : (es : List (CodedInstance × Waiter)) (xs : List CodedInstance) (e : CodedInstance × Waiter) (ys : List CodedInstance) → AreListed es xs → e.1.way ≡ None → ys ≡ xs ++ e.0 ∷ [] → AreListed (es ++ e ∷ []) ys
+pub listed_plain : (es : List (CodedInstance × Waiter)) (xs : List CodedInstance) (e : CodedInstance × Waiter) (ys : List CodedInstance) → AreListed es xs → way_of e.1 ≡ None → ys ≡ xs ++ e.0 ∷ [] → AreListed (es ++ e ∷ []) ys
 listed_plain es xs e ys h way one =
     let more = listed_more es xs e [] h (subst (λ (o : Option Local). IsPartOf o []) (sym way) refl) in
     subst (λ (l : List CodedInstance). AreListed (es ++ e ∷ []) l) (sym one) more
@@ -62,7 +62,7 @@ next_of p (e ∷ es) n = instance_of p e.0
 
 module _ (p : Program) (f : Frame) (v : View) where
   -- the first waits for the next one
-  first_waits : (e : CodedInstance × Waiter) (es : List (CodedInstance × Waiter)) (n : Instance) → AreWaiting p f v (e ∷ es) n → WaitsBy p f v (instance_of p e.0) e.1.way (next_of p es n) × AreWaiting p f v es n
+  first_waits : (e : CodedInstance × Waiter) (es : List (CodedInstance × Waiter)) (n : Instance) → AreWaiting p f v (e ∷ es) n → WaitsBy p f v (instance_of p e.0) (way_of e.1) (next_of p es n) × AreWaiting p f v es n
   first_waits e [] n h = (h, tt)
   first_waits e (d ∷ es) n h = (h.0, h.1)
 
@@ -87,7 +87,7 @@ module _ (p : Program) (f : Frame) (v : View) where
       ∙ ap (λ (l : List Instance). instance_of p e.0 ∷ (l ++ n ∷ [])) (map_both (instance_of p) h.0 h.1)
       ∙ ap (λ (l : List Instance). instance_of p e.0 ∷ l) (assoc (map (instance_of p) h.0) (map (instance_of p) h.1) (n ∷ []))
       ∙ ap (λ (l : List Instance). instance_of p e.0 ∷ (map (instance_of p) h.0 ++ l)) rest.1 in
-      (map (instance_of p) h.0 ++ m ∷ rest.0, whole, led_by (instance_of p e.0) e.1.way h.0 m rest.0 h.3 parts.0 rest.2)
+      (map (instance_of p) h.0 ++ m ∷ rest.0, whole, led_by (instance_of p e.0) (way_of e.1) h.0 m rest.0 h.3 parts.0 rest.2)
 
 all_among : (p : Program) (es : List (CodedInstance × Waiter)) (xs : List CodedInstance) → AreListed es xs → (e : CodedInstance × Waiter) → Has es e → Has (map (instance_of p) xs) (instance_of p e.0)
 all_among p [] xs h e there = absurd there

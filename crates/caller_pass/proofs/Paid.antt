@@ -20,7 +20,7 @@ use Rattle.memo_cells.proofs.Naming.{cell_later}
 use Rattle.circular_eval.specs.declared.local.Local.{Local}
 use Rattle.caller_pass.specs.declared.waiting.Waiter.{Waiter}
 use Rattle.caller_pass.specs.Answering.{SameWay, WayChanges, unsettled}
-use Rattle.caller_pass.specs.Waiting.{AreWaiting, IsPlaced, IsStack, IsWayOf, LooksAgain, WaitsBy, WayStays, waits}
+use Rattle.caller_pass.specs.Waiting.{AreWaiting, IsPlaced, IsStack, IsWayOf, LooksAgain, WaitsBy, WayStays, waits, way_of}
 use Rattle.caller_pass.proofs.Falling.{left}
 use Rattle.caller_pass.proofs.Frames.{waiting_front}
 use Rattle.caller_pass.proofs.Knowing.{known_cell, one_cell, settled_known}
@@ -61,14 +61,14 @@ module _ (p : Program) (f : Frame) (same : p ≡ program_of f.system.value) (poo
     placed_on = on_stack p f w i es (t, y) next
 
     -- those that were waited for by others are so still
-    start_on : (s : Instance) → IsStart p (es ++ (t, x) ∷ []) s → ((l : Local) → x.way ≡ Some l → instance_of p l.start ≡ s → Has hs s ⊎ IsStart p (es ++ (t, y) ∷ []) s) → Has hs s ⊎ IsStart p (es ++ (t, y) ∷ []) s
+    start_on : (s : Instance) → IsStart p (es ++ (t, x) ∷ []) s → ((l : Local) → way_of x ≡ Some l → instance_of p l.start ≡ s → Has hs s ⊎ IsStart p (es ++ (t, y) ∷ []) s) → Has hs s ⊎ IsStart p (es ++ (t, y) ∷ []) s
     start_on s at top = ⊎_elim
         (λ before. inr (record { entry = at.entry; there = has_left es ((t, y) ∷ []) at.entry before; local = at.local; way = at.way; is = at.is }))
-        (λ now. top at.local (ap (λ (d : CodedInstance × Waiter). d.1.way) (sym now) ∙ at.way) at.is)
+        (λ now. top at.local (ap (λ (d : CodedInstance × Waiter). (way_of d.1)) (sym now) ∙ at.way) at.is)
         (has_snoc es (t, x) at.entry at.there)
 
     -- there is a local set now that is waited for
-    pub pays_start : x.way ≡ None → (l : Local) → y.way ≡ Some l → IsWayOf p f w (instance_of p t) (Some l) → HasLoop p i ⊎ Pays p w f.cells hs es (t, y) (evals + 1) budget
+    pub pays_start : way_of x ≡ None → (l : Local) → way_of y ≡ Some l → IsWayOf p f w (instance_of p t) (Some l) → HasLoop p i ⊎ Pays p w f.cells hs es (t, y) (evals + 1) budget
     pays_start way_none l some way =
         let c = instance_of p l.start in
         let r = sorted p f w pays.open_starts same then pays.apart in
@@ -81,7 +81,7 @@ module _ (p : Program) (f : Frame) (same : p ≡ program_of f.system.value) (poo
         (λ out. chain_then p (outer c out) (top_reached p f v i es (t, x) stack))
         (λ at. ⊎_elim
         (λ before. subst (λ (s : Instance). Chain p s (instance_of p t)) at.is (start_chain p f v es (instance_of p t) stack.waiting at.entry before at.local at.way))
-        (λ now. absurd (none_some way_none (ap (λ (d : CodedInstance × Waiter). d.1.way) (sym now) ∙ at.way)))
+        (λ now. absurd (none_some way_none (ap (λ (d : CodedInstance × Waiter). (way_of d.1)) (sym now) ∙ at.way)))
         (has_snoc es (t, x) at.entry at.there))
         (pays.starts c (r.unknown c again).1))))
         (λ new. inr (record {
@@ -98,7 +98,7 @@ module _ (p : Program) (f : Frame) (same : p ≡ program_of f.system.value) (poo
         (has_or_not r.others c)
 
     -- the start of the local set that was waited for is seen sealed
-    pub pays_closed : (l : Local) → x.way ≡ Some l → Knows p w (instance_of p l.start) → Pays p w f.cells hs es (t, y) (evals + 1) budget
+    pub pays_closed : (l : Local) → way_of x ≡ Some l → Knows p w (instance_of p l.start) → Pays p w f.cells hs es (t, y) (evals + 1) budget
     pays_closed l some known =
         let c = instance_of p l.start in
         let way = subst (λ o. IsWayOf p f v (instance_of p t) o) some stack.frame.way in
@@ -123,17 +123,17 @@ module _ (p : Program) (f : Frame) (same : p ≡ program_of f.system.value) (poo
           paid = omega (arith, fewer, many, most, paid);
         }
 
-    pub pays_further : WayChanges p f w (instance_of p t) x.way y.way → HasLoop p i ⊎ Pays p w f.cells hs es (t, y) (evals + 1) budget
-    pays_further changes = by_way x.way y.way refl refl changes
+    pub pays_further : WayChanges p f w (instance_of p t) (way_of x) (way_of y) → HasLoop p i ⊎ Pays p w f.cells hs es (t, y) (evals + 1) budget
+    pays_further changes = by_way (way_of x) (way_of y) refl refl changes
       where
-        by_way : (old new : Option Local) → x.way ≡ old → y.way ≡ new → WayChanges p f w (instance_of p t) old new → HasLoop p i ⊎ Pays p w f.cells hs es (t, y) (evals + 1) budget
+        by_way : (old new : Option Local) → way_of x ≡ old → way_of y ≡ new → WayChanges p f w (instance_of p t) old new → HasLoop p i ⊎ Pays p w f.cells hs es (t, y) (evals + 1) budget
         by_way None None a b h = absurd h
         by_way None (Some l) a b h = pays_start a l b h
         by_way (Some l) None a b h = inr (pays_closed l a h)
         by_way (Some l) (Some m) a b h = absurd h
 
   -- another one is on top
-  pub pays_more : (y : Waiter) → y.slot ≡ x.slot → SameWay x.way y.way → (n : CodedInstance) (z : Waiter) → ¬ Knows p v (instance_of p n) → IsStack p f w i (es ++ (t, y) ∷ []) (n, z) → Pays p w f.cells hs (es ++ (t, y) ∷ []) (n, z) (evals + 1) budget
+  pub pays_more : (y : Waiter) → y.slot ≡ x.slot → SameWay (way_of x) (way_of y) → (n : CodedInstance) (z : Waiter) → ¬ Knows p v (instance_of p n) → IsStack p f w i (es ++ (t, y) ∷ []) (n, z) → Pays p w f.cells hs (es ++ (t, y) ∷ []) (n, z) (evals + 1) budget
   pays_more y slot ways n z unknown next =
       let L = es ++ (t, y) ∷ [] in
       let placed = on_stack p f w i L (n, z) next in
@@ -161,7 +161,7 @@ module _ (p : Program) (f : Frame) (same : p ≡ program_of f.system.value) (poo
           (λ now. absurd (unknown (settled_known p f v same own w (instance_of p n) z.slot.0 k c then kept next.frame.placed.slot (subst (λ (a : ℕ). Has v.values (a, k, c)) (sym is ∙ ap (λ (d : CodedInstance × Waiter). d.1.slot.0) now) value))))
           (has_snoc (es ++ (t, y) ∷ []) (n, z) e h))
 
-      way_on : (s : Instance) (old new : Option Local) → y.way ≡ new → SameWay old new → (l : Local) → old ≡ Some l → instance_of p l.start ≡ s → IsStart p ((es ++ (t, y) ∷ []) ++ (n, z) ∷ []) s
+      way_on : (s : Instance) (old new : Option Local) → way_of y ≡ new → SameWay old new → (l : Local) → old ≡ Some l → instance_of p l.start ≡ s → IsStart p ((es ++ (t, y) ∷ []) ++ (n, z) ∷ []) s
       way_on s None new b h l some is = absurd (none_some refl some)
       way_on s (Some k) None b h l some is = absurd h
       way_on s (Some k) (Some m) b h l some is = record { entry = (t, y); there = has_left (es ++ (t, y) ∷ []) ((n, z) ∷ []) (t, y) (has_last es (t, y)); local = m; way = b; is = ap (instance_of p) h ∙ ap (λ (o : Local). instance_of p o.start) (some_once refl some) ∙ is }
@@ -169,11 +169,11 @@ module _ (p : Program) (f : Frame) (same : p ≡ program_of f.system.value) (poo
       start_more : (s : Instance) → IsStart p (es ++ (t, x) ∷ []) s → IsStart p ((es ++ (t, y) ∷ []) ++ (n, z) ∷ []) s
       start_more s at = ⊎_elim
           (λ before. record { entry = at.entry; there = has_left (es ++ (t, y) ∷ []) ((n, z) ∷ []) at.entry (has_left es ((t, y) ∷ []) at.entry before); local = at.local; way = at.way; is = at.is })
-          (λ now. way_on s x.way y.way refl ways at.local (ap (λ (d : CodedInstance × Waiter). d.1.way) (sym now) ∙ at.way) at.is)
+          (λ now. way_on s (way_of x) (way_of y) refl ways at.local (ap (λ (d : CodedInstance × Waiter). (way_of d.1)) (sym now) ∙ at.way) at.is)
           (has_snoc es (t, x) at.entry at.there)
 
   -- the last one is settled
-  module _ (known : Knows p w (instance_of p t)) (way_none : x.way ≡ None) where
+  module _ (known : Knows p w (instance_of p t)) (way_none : way_of x ≡ None) where
     its_cell : x.slot.0 ≡ known.slot
     its_cell = one_cell p f w (instance_of p t) x.slot.0 known.slot then pooled (cell_later v w kept p f (instance_of p t) x.slot.0 stack.frame.placed.slot) (known_cell p f w (instance_of p t) then known)
 
@@ -236,7 +236,7 @@ module _ (p : Program) (f : Frame) (same : p ≡ program_of f.system.value) (poo
         others_back : (d : CodedInstance × Waiter) → Has (ds ++ (last.0, y) ∷ []) d → instance_of p d.0 ≢ instance_of p t
         others_back d h at = let b = was d h in not_it b.0 b.1 (ap (instance_of p) b.3 ∙ at)
 
-        way_back : (s : Instance) (old new : Option Local) → last.1.way ≡ old → y.way ≡ new → WayStays p w old new → (l : Local) → old ≡ Some l → instance_of p l.start ≡ s → ¬ Knows p w s → IsStart p (ds ++ (last.0, y) ∷ []) s
+        way_back : (s : Instance) (old new : Option Local) → way_of last.1 ≡ old → way_of y ≡ new → WayStays p w old new → (l : Local) → old ≡ Some l → instance_of p l.start ≡ s → ¬ Knows p w s → IsStart p (ds ++ (last.0, y) ∷ []) s
         way_back s None new a b h l some at unknown = absurd (none_some refl some)
         way_back s (Some k) None a b h l some at unknown =
             let start : instance_of p k.start ≡ s = ap (λ (o : Local). instance_of p o.start) (some_once refl some) ∙ at in
@@ -249,9 +249,9 @@ module _ (p : Program) (f : Frame) (same : p ≡ program_of f.system.value) (poo
         start_back s at unknown = ⊎_elim
             (λ before. ⊎_elim
             (λ front. record { entry = at.entry; there = has_left ds ((last.0, y) ∷ []) at.entry front; local = at.local; way = at.way; is = at.is })
-            (λ it. way_back s last.1.way y.way refl refl looks.way at.local (ap (λ (d : CodedInstance × Waiter). d.1.way) (sym it) ∙ at.way) at.is unknown)
+            (λ it. way_back s (way_of last.1) (way_of y) refl refl looks.way at.local (ap (λ (d : CodedInstance × Waiter). (way_of d.1)) (sym it) ∙ at.way) at.is unknown)
             (has_snoc ds last at.entry (subst (λ l. Has l at.entry) is before)))
-            (λ now. absurd (none_some way_none (ap (λ (d : CodedInstance × Waiter). d.1.way) (sym now) ∙ at.way)))
+            (λ now. absurd (none_some way_none (ap (λ (d : CodedInstance × Waiter). (way_of d.1)) (sym now) ∙ at.way)))
             (has_snoc es (t, x) at.entry at.there)
 
     -- what the whole took
@@ -274,12 +274,12 @@ module _ (p : Program) (f : Frame) (same : p ≡ program_of f.system.value) (poo
             (λ out. unknown (all_known s out))
             (λ at. ⊎_elim
             (λ before. subst (λ l. Has l at.entry) empty before)
-            (λ now. none_some way_none (ap (λ (d : CodedInstance × Waiter). d.1.way) (sym now) ∙ at.way))
+            (λ now. none_some way_none (ap (λ (d : CodedInstance × Waiter). (way_of d.1)) (sym now) ∙ at.way))
             (has_snoc es (t, x) at.entry at.there))
             (pays.starts s h)
 
 -- before the first turn
-pub pays_first : (p : Program) (f : Frame) → p ≡ program_of f.system.value → (v w : View) → IsPassOf f v → IsPassOf f w → IsAtLeast v w → (i : CodedInstance) (x : Waiter) → ¬ Knows p v (instance_of p i) → IsCellOf p f w (instance_of p i) x.slot.0 → x.way ≡ None → IsPlaced p f w (i, x) → (hs : List Instance) → AreApart hs → ((h : Instance) → Has hs h → ¬ Knows p v h) → ((h : Instance) → Has hs h → (equations_of p).circular h ≡ true) → (evals : ℕ) → Pays p w f.cells hs [] (i, x) evals (evals + 2 * unsettled v f.cells)
+pub pays_first : (p : Program) (f : Frame) → p ≡ program_of f.system.value → (v w : View) → IsPassOf f v → IsPassOf f w → IsAtLeast v w → (i : CodedInstance) (x : Waiter) → ¬ Knows p v (instance_of p i) → IsCellOf p f w (instance_of p i) x.slot.0 → way_of x ≡ None → IsPlaced p f w (i, x) → (hs : List Instance) → AreApart hs → ((h : Instance) → Has hs h → ¬ Knows p v h) → ((h : Instance) → Has hs h → (equations_of p).circular h ≡ true) → (evals : ℕ) → Pays p w f.cells hs [] (i, x) evals (evals + 2 * unsettled v f.cells)
 pays_first p f same v w own then kept i x unknown cell way placed hs apart outside circular evals =
     let r = sorted p f w hs same then apart in
     let fewer = falls_so p f same v w own then kept [] ((i, x) ∷ []) its r.known (λ s h. (r.knows s h).0) r.known_apart still

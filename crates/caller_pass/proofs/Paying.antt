@@ -21,7 +21,7 @@ use Rattle.memo_cells.proofs.Naming.{stands_once}
 use Rattle.circular_eval.specs.declared.local.Local.{Local}
 use Rattle.caller_pass.specs.declared.waiting.Waiter.{Waiter}
 use Rattle.caller_pass.specs.Answering.{unsettled}
-use Rattle.caller_pass.specs.Waiting.{IsPlaced}
+use Rattle.caller_pass.specs.Waiting.{IsPlaced, way_of}
 use Rattle.caller_pass.proofs.Falling.{left, left_falls, left_less}
 use Rattle.caller_pass.proofs.Knowing.{known_cell, settled_known}
 
@@ -206,7 +206,7 @@ pub record IsStart (p : Program) (fs : List (CodedInstance × Waiter)) (s : Inst
   pub entry : CodedInstance × Waiter
   pub there : Has fs entry
   pub local : Local
-  pub way : entry.1.way ≡ Some local
+  pub way : way_of entry.1 ≡ Some local
   pub is : instance_of p local.start ≡ s
 
 -- So many evaluations are paid: by two for each cell that is done, one for each instance that waits, and one for each of some different starts of

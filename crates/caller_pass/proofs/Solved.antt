@@ -20,7 +20,7 @@ use Rattle.caller_pass.specs.declared.solving.Went.{Went}
 use Rattle.caller_pass.specs.declared.solving.Went.TheVariants.{Further, Need, Settled}
 use Rattle.caller_pass.specs.declared.waiting.Waiter.{Waiter}
 use Rattle.caller_pass.specs.Answering.{AnswersStep, GoesThrough, LeavesOne, Solves}
-use Rattle.caller_pass.specs.Waiting.{AnswersWait, IsFrame, LooksAgain, waits}
+use Rattle.caller_pass.specs.Waiting.{AnswersWait, IsFrame, LooksAgain, waits, way_of}
 use Rattle.caller_pass.proofs.Claiming.{claims_to, fills_to}
 use Rattle.memo_cells.proofs.Holding.{own_then}
 use Rattle.caller_pass.proofs.Falling.{measure}
@@ -74,12 +74,12 @@ module _ {o d : Held} {i : CodedInstance} {es : List (CodedInstance × Waiter)} 
     turn_failed {f} {s} is h =
         let p = program_at o in
         solve_fault p o.0 o.1 e.1 (instance_of p i) before after f s h (claims_now refl good.texts t.solving went)
-        (step_fault refl good.texts t.solving went f (subst (λ (z : Result Went AskFault). AnswersStep p o.0 e.1 (instance_of p top) x.way y.way z) is went.answer))
+        (step_fault refl good.texts t.solving went f (subst (λ (z : Result Went AskFault). AnswersStep p o.0 e.1 (instance_of p top) (way_of x) (way_of y) z) is went.answer))
 
     -- it waits for a local set now, or doesn't any more
     module _ (is : r ≡ Ok Further) where
-      further : AnswersStep (program_at o) o.0 e.1 (instance_of (program_at o) top) x.way y.way (Ok Further)
-      further = subst (λ (z : Result Went AskFault). AnswersStep (program_at o) o.0 e.1 (instance_of (program_at o) top) x.way y.way z) is went.answer
+      further : AnswersStep (program_at o) o.0 e.1 (instance_of (program_at o) top) (way_of x) (way_of y) (Ok Further)
+      further = subst (λ (z : Result Went AskFault). AnswersStep (program_at o) o.0 e.1 (instance_of (program_at o) top) (way_of x) (way_of y) z) is went.answer
 
       pub turn_further : IsTurn o e i es top y before after
       turn_further = record { cells = cells_then; lender = st.on.lender ∙ t.lender; solving = went_further refl good.texts t.solving went further }
@@ -89,8 +89,8 @@ module _ {o d : Held} {i : CodedInstance} {es : List (CodedInstance × Waiter)} 
 
     -- it waits for another one
     module _ {n : CodedInstance} (is : r ≡ Ok (Need n)) where
-      next : AnswersStep (program_at o) o.0 e.1 (instance_of (program_at o) top) x.way y.way (Ok (Need n))
-      next = subst (λ (z : Result Went AskFault). AnswersStep (program_at o) o.0 e.1 (instance_of (program_at o) top) x.way y.way z) is went.answer
+      next : AnswersStep (program_at o) o.0 e.1 (instance_of (program_at o) top) (way_of x) (way_of y) (Ok (Need n))
+      next = subst (λ (z : Result Went AskFault). AnswersStep (program_at o) o.0 e.1 (instance_of (program_at o) top) (way_of x) (way_of y) z) is went.answer
 
       pub next_instance : IsInstance (program_at e) (instance_of (program_at e) n)
       next_instance = subst (λ (f : Frame). IsInstance (program_of f.system.value) (instance_of (program_of f.system.value) n)) (sym cells_then) next.0.instance
@@ -127,8 +127,8 @@ module _ {o d : Held} {i : CodedInstance} {es : List (CodedInstance × Waiter)} 
 
     -- it is settled
     module _ (is : r ≡ Ok Settled) where
-      settled : AnswersStep (program_at o) o.0 e.1 (instance_of (program_at o) top) x.way y.way (Ok Settled)
-      settled = subst (λ (z : Result Went AskFault). AnswersStep (program_at o) o.0 e.1 (instance_of (program_at o) top) x.way y.way z) is went.answer
+      settled : AnswersStep (program_at o) o.0 e.1 (instance_of (program_at o) top) (way_of x) (way_of y) (Ok Settled)
+      settled = subst (λ (z : Result Went AskFault). AnswersStep (program_at o) o.0 e.1 (instance_of (program_at o) top) (way_of x) (way_of y) z) is went.answer
 
       pub turn_solved : es ≡ [] → (done : Unit {0}) → Solves (program_at o) o.0 o.1 e.1 (instance_of (program_at o) i) before after (Ok done)
       turn_solved empty done = solved_all refl good.texts t.solving went settled.0 settled.1 empty done

@@ -1,5 +1,6 @@
 -- What a turn comes to, at each way out of it.
 use Rattle.std.proofs.Common.{◌≡◌, ℕ, ◌+◌, false, true, Option, Some, None, Result, Ok, Err, refl, sym, ap, subst}
+use Rattle.std.specs.Global.{Box}
 use Rattle.std.specs.Result.{IsErr, IsErrAnd}
 use Rattle.solutions.specs.Leading.{none}
 use Rattle.equation_law.specs.declared.coding.Instance.{Instance as CodedInstance}
@@ -31,52 +32,52 @@ use Rattle.caller_pass.specs.declared.solving.Went.TheVariants.{Further, Need, S
 use Rattle.caller_pass.specs.declared.waiting.Waiter.{Waiter}
 use Rattle.caller_pass.specs.Answering.{AnswersFinish, AnswersStep, ClaimsKeys, GoesThrough, IsNext, IsSameFault, SameWay, WayChanges}
 use Rattle.caller_pass.specs.Knowing.{HasEnded, TurnsTo}
-use Rattle.caller_pass.specs.Waiting.{IsFrame, IsWay, IsWayOf}
+use Rattle.caller_pass.specs.Waiting.{IsFrame, IsWay, IsWayOf, way_of}
 use Rattle.caller_pass.proofs.Claiming.{claims_same, claims_then}
 use Rattle.caller_pass.proofs.Frames.{saved_known}
 use Rattle.memo_cells.proofs.Holding.{goes_then, own_then}
 use Rattle.caller_pass.proofs.Stepping.{err_is, finish_step, local_claims, local_fault, memory_step, next_local, next_need, way_need}
 
 -- the local set through which an instance waits
-pub frame_way : (p : Program) (f : Frame) (v : View) (i : CodedInstance) (x : Waiter) (l : Local) → IsFrame p f v (i, x) → x.way ≡ Some l → IsWay p f v (instance_of p i) l
+pub frame_way : (p : Program) (f : Frame) (v : View) (i : CodedInstance) (x : Waiter) (l : Local) → IsFrame p f v (i, x) → way_of x ≡ Some l → IsWay p f v (instance_of p i) l
 frame_way p f v i x l frame way = subst (λ (o : Option Local). IsWayOf p f v (instance_of p i) o) way frame.way
 
 -- the instance waits for a local set, which went on
-module _ (d e : Held) (i : CodedInstance) (x : Waiter) (l m : Local) (way : x.way ≡ Some l) (frame : IsFrame (program_at d) d.0 d.1 (i, x)) (on : GoesOn d e) (local : IsLocal (program_at d) d.0 e.1 m × (m.start ≡ l.start)) (claims : ClaimsFrom (program_at d) (instance_of (program_at d) l.start) d.1 e.1) (before after : ℕ) (evals : after ≡ before + 1) where
+module _ (d e : Held) (i : CodedInstance) (x : Waiter) (l : Local) (b : Box Local) (way : way_of x ≡ Some l) (frame : IsFrame (program_at d) d.0 d.1 (i, x)) (on : GoesOn d e) (local : IsLocal (program_at d) d.0 e.1 b.value × (b.value.start ≡ l.start)) (claims : ClaimsFrom (program_at d) (instance_of (program_at d) l.start) d.1 e.1) (before after : ℕ) (evals : after ≡ before + 1) where
   its : IsWay (program_at d) d.0 d.1 (instance_of (program_at d) i) l
   its = frame_way (program_at d) d.0 d.1 i x l frame way
 
-  start_is : instance_of (program_at d) m.start ≡ instance_of (program_at d) l.start
+  start_is : instance_of (program_at d) b.value.start ≡ instance_of (program_at d) l.start
   start_is = ap (instance_of (program_at d)) local.1
 
   all_claims : ClaimsKeys (program_at d) (instance_of (program_at d) i) d.1 e.1
   all_claims = local_claims (program_at d) (instance_of (program_at d) i) (instance_of (program_at d) l.start) d.1 e.1 its.led on.kept claims
 
-  pub local_err : (from : CircFault) (r : Result Went AskFault) → IsErr r × IsErrAnd r (λ e. IsSameFault from e) → AnswersCircular (program_at d) (instance_of (program_at d) m.start) d.0 e.1 from → GoesThrough (program_at d) d e i x (record { slot = x.slot; way = Some m; saved = x.saved }) before after r
+  pub local_err : (from : CircFault) (r : Result Went AskFault) → IsErr r × IsErrAnd r (λ e. IsSameFault from e) → AnswersCircular (program_at d) (instance_of (program_at d) b.value.start) d.0 e.1 from → GoesThrough (program_at d) d e i x (record { slot = x.slot; way = Some b; saved = x.saved }) before after r
   local_err from r h a = record {
     on = on;
     claims = all_claims;
     slot = refl;
     saved = saved_known (program_at d) d.1 e.1 on.kept d.0.system.value x.saved frame.placed.saved;
-    answer = err_is (AnswersStep (program_at d) d.0 e.1 (instance_of (program_at d) i) x.way (Some m)) (λ (y : AskFault). IsSameFault from y) r h
-        (λ y is. local_fault (program_at d) d.0 e.1 (instance_of (program_at d) i) (instance_of (program_at d) l.start) x.way (Some m) from y its.led (subst (λ (j : Instance). AnswersCircular (program_at d) j d.0 e.1 from) start_is a) is);
+    answer = err_is (AnswersStep (program_at d) d.0 e.1 (instance_of (program_at d) i) (way_of x) (Some b.value)) (λ (y : AskFault). IsSameFault from y) r h
+        (λ y is. local_fault (program_at d) d.0 e.1 (instance_of (program_at d) i) (instance_of (program_at d) l.start) (way_of x) (Some b.value) from y its.led (subst (λ (j : Instance). AnswersCircular (program_at d) j d.0 e.1 from) start_is a) is);
     evals = evals;
   }
 
-  pub local_need : (n : CodedInstance) → IsMissing (program_at d) e.1 m n → GoesThrough (program_at d) d e i x (record { slot = x.slot; way = Some m; saved = x.saved }) before after (Ok (Need n))
+  pub local_need : (n : CodedInstance) → IsMissing (program_at d) e.1 b.value n → GoesThrough (program_at d) d e i x (record { slot = x.slot; way = Some b; saved = x.saved }) before after (Ok (Need n))
   local_need n missing = record {
     on = on;
     claims = all_claims;
     slot = refl;
     saved = saved_known (program_at d) d.1 e.1 on.kept d.0.system.value x.saved frame.placed.saved;
     answer = (
-      next_local (program_at d) d.0 e.1 (instance_of (program_at d) i) m n (subst (λ (j : Instance). Leads (program_at d) (instance_of (program_at d) i) j) (sym start_is) its.led) local.0 missing,
-      subst (λ (o : Option Local). SameWay o (Some m)) (sym way) local.1,
+      next_local (program_at d) d.0 e.1 (instance_of (program_at d) i) b.value n (subst (λ (j : Instance). Leads (program_at d) (instance_of (program_at d) i) j) (sym start_is) its.led) local.0 missing,
+      subst (λ (o : Option Local). SameWay o (Some b.value)) (sym way) local.1,
     );
     evals = evals;
   }
 
-  pub local_closed : Knows (program_at d) e.1 (instance_of (program_at d) m.start) → GoesThrough (program_at d) d e i x (record { slot = x.slot; way = None; saved = x.saved }) before after (Ok Further)
+  pub local_closed : Knows (program_at d) e.1 (instance_of (program_at d) b.value.start) → GoesThrough (program_at d) d e i x (record { slot = x.slot; way = None; saved = x.saved }) before after (Ok Further)
   local_closed known = record {
     on = on;
     claims = all_claims;
@@ -87,7 +88,7 @@ module _ (d e : Held) (i : CodedInstance) (x : Waiter) (l m : Local) (way : x.wa
   }
 
 -- its equation was evaluated
-module _ (d e : Held) (i : CodedInstance) (x : Waiter) (way : x.way ≡ None) (good : IsProgram (program_at d)) (frame : IsFrame (program_at d) d.0 d.1 (i, x)) (on : ReadsOn d e) (before after : ℕ) (evals : after ≡ before + 1) (m : Saved) (told : AreSaved d.0.system.value (IsKnown (program_at d) e.1) m) where
+module _ (d e : Held) (i : CodedInstance) (x : Waiter) (way : way_of x ≡ None) (good : IsProgram (program_at d)) (frame : IsFrame (program_at d) d.0 d.1 (i, x)) (on : ReadsOn d e) (before after : ℕ) (evals : after ≡ before + 1) (m : Saved) (told : AreSaved d.0.system.value (IsKnown (program_at d) e.1) m) where
   turn_claims : ClaimsKeys (program_at d) (instance_of (program_at d) i) d.1 e.1
   turn_claims = claims_same (program_at d) (instance_of (program_at d) i) d.1 e.1 on.claims
 
@@ -97,7 +98,7 @@ module _ (d e : Held) (i : CodedInstance) (x : Waiter) (way : x.way ≡ None) (g
     claims = turn_claims;
     slot = refl;
     saved = told;
-    answer = err_is (AnswersStep (program_at d) d.0 e.1 (instance_of (program_at d) i) x.way x.way) (λ (y : AskFault). y ≡ Memory) r h (λ f is. memory_step (program_at d) d.0 e.1 (instance_of (program_at d) i) x.way x.way f is);
+    answer = err_is (AnswersStep (program_at d) d.0 e.1 (instance_of (program_at d) i) (way_of x) (way_of x)) (λ (y : AskFault). y ≡ Memory) r h (λ f is. memory_step (program_at d) d.0 e.1 (instance_of (program_at d) i) (way_of x) (way_of x) f is);
     evals = evals;
   }
 
@@ -116,13 +117,13 @@ module _ (d e : Held) (i : CodedInstance) (x : Waiter) (way : x.way ≡ None) (g
       evals = evals;
     }
 
-    pub turn_start : is_declared (program_at d) (instance_of (program_at d) n) ≡ true → (l : Local) → l.start ≡ n → ((q : Program) (g : Frame) (u : View) → IsInstance q (instance_of q n) → IsCoded q n → (equations_of q).circular (instance_of q n) ≡ true → IsLocal q g u l) → GoesThrough (program_at d) d e i x (record { slot = x.slot; way = Some l; saved = m }) before after (Ok Further)
+    pub turn_start : is_declared (program_at d) (instance_of (program_at d) n) ≡ true → (l : Box Local) → l.value.start ≡ n → ((q : Program) (g : Frame) (u : View) → IsInstance q (instance_of q n) → IsCoded q n → (equations_of q).circular (instance_of q n) ≡ true → IsLocal q g u l.value) → GoesThrough (program_at d) d e i x (record { slot = x.slot; way = Some l; saved = m }) before after (Ok Further)
     turn_start declared l start local = record {
       on = on.on;
       claims = turn_claims;
       slot = refl;
       saved = told;
-      answer = subst (λ (o : Option Local). WayChanges (program_at d) d.0 e.1 (instance_of (program_at d) i) o (Some l)) (sym way) (way_need (program_at d) good d.0 refl e.1 (own_then d e on.on) (instance_of (program_at d) i) frame.placed.instance n need declared l start local);
+      answer = subst (λ (o : Option Local). WayChanges (program_at d) d.0 e.1 (instance_of (program_at d) i) o (Some l.value)) (sym way) (way_need (program_at d) good d.0 refl e.1 (own_then d e on.on) (instance_of (program_at d) i) frame.placed.instance n need declared l.value start local);
       evals = evals;
     }
 
@@ -137,9 +138,9 @@ module _ (d e : Held) (i : CodedInstance) (x : Waiter) (way : x.way ≡ None) (g
       claims = ended_claims;
       slot = refl;
       saved = saved_known (program_at d) e.1 g.1 then_on.kept d.0.system.value m told;
-      answer = err_is (AnswersStep (program_at d) d.0 g.1 (instance_of (program_at d) i) x.way x.way) (λ (y : AskFault). y ≡ f) r h
-          (λ y is. subst (λ (z : AskFault). AnswersStep (program_at d) d.0 g.1 (instance_of (program_at d) i) x.way x.way (Err z)) (sym is)
-          (finish_step (program_at d) d.0 g.1 (instance_of (program_at d) i) x.way x.way f (subst (λ (k : Frame). AnswersFinish (program_of k.system.value) k g.1 (instance_of (program_of k.system.value) i) (Err f)) on.on.cells a)));
+      answer = err_is (AnswersStep (program_at d) d.0 g.1 (instance_of (program_at d) i) (way_of x) (way_of x)) (λ (y : AskFault). y ≡ f) r h
+          (λ y is. subst (λ (z : AskFault). AnswersStep (program_at d) d.0 g.1 (instance_of (program_at d) i) (way_of x) (way_of x) (Err z)) (sym is)
+          (finish_step (program_at d) d.0 g.1 (instance_of (program_at d) i) (way_of x) (way_of x) f (subst (λ (k : Frame). AnswersFinish (program_of k.system.value) k g.1 (instance_of (program_of k.system.value) i) (Err f)) on.on.cells a)));
       evals = evals;
     }
 

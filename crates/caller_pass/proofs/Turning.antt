@@ -21,7 +21,7 @@ use Rattle.memo_cells.proofs.Naming.{cell_later, stands_once}
 use Rattle.circular_eval.specs.declared.local.Local.{Local}
 use Rattle.caller_pass.specs.declared.waiting.Waiter.{Waiter}
 use Rattle.caller_pass.specs.Answering.{WayChanges}
-use Rattle.caller_pass.specs.Waiting.{IsPlaced, IsStack, IsWayOf, waits}
+use Rattle.caller_pass.specs.Waiting.{IsPlaced, IsStack, IsWayOf, waits, way_of}
 use Rattle.caller_pass.proofs.Falling.{by_one, by_value, left, left_falls, left_less, measure, not_taken, pop_keeps, taken, taken_by, turns_of}
 use Rattle.caller_pass.proofs.Knowing.{known_cell, one_cell, settled_known}
 use Rattle.memo_cells.proofs.Bits.{has_left}
@@ -71,37 +71,37 @@ module _ (p : Program) (f : Frame) (same : p ≡ program_in f) (pooled : ArePool
       left_falls (taken v (es ++ (t, x) ∷ [])) g f.cells s more cell.1.0 free there
 
   -- a local set is waited for, or its start is seen sealed
-  pub falls_further : (y : Waiter) → y.slot ≡ x.slot → WayChanges p f w (instance_of p t) x.way y.way → measure w es (t, y) f.cells < measure v es (t, x) f.cells
-  falls_further y slot changes = by_way x.way y.way refl refl changes
+  pub falls_further : (y : Waiter) → y.slot ≡ x.slot → WayChanges p f w (instance_of p t) (way_of x) (way_of y) → measure w es (t, y) f.cells < measure v es (t, x) f.cells
+  falls_further y slot changes = by_way (way_of x) (way_of y) refl refl changes
     where
       more : (q : ℕ) → taken v (es ++ (t, x) ∷ []) q ≡ true → taken w (es ++ (t, y) ∷ []) q ≡ true
       more = taken_on v w es t x y kept slot
 
-      by_way : (old new : Option Local) → x.way ≡ old → y.way ≡ new → WayChanges p f w (instance_of p t) old new → measure w es (t, y) f.cells < measure v es (t, x) f.cells
+      by_way : (old new : Option Local) → way_of x ≡ old → way_of y ≡ new → WayChanges p f w (instance_of p t) old new → measure w es (t, y) f.cells < measure v es (t, x) f.cells
       by_way None None a b h = absurd h
       by_way None (Some l) a b h =
           let less = left_less (taken v (es ++ (t, x) ∷ [])) (taken w (es ++ (t, y) ∷ [])) f.cells more in
-          let was : turns_of x.way ≡ 1 = ap turns_of a in
-          let now : turns_of y.way ≡ 0 = ap turns_of b in
+          let was : turns_of (way_of x) ≡ 1 = ap turns_of a in
+          let now : turns_of (way_of y) ≡ 0 = ap turns_of b in
           omega (arith, less, was, now)
       by_way (Some l) None a b h =
           let way = subst (λ o. IsWayOf p f v (instance_of p t) o) a stack.frame.way in
           let cell = known_cell p f w (instance_of p l.start) then h in
           let other : (e : CodedInstance × Waiter) → Has (es ++ (t, x) ∷ []) e → instance_of p e.0 ≢ instance_of p l.start = λ e there is. (let plain = (on_stack p f v i es (t, x) stack e there).undeclared in let not = ap (equations_of p).circular is in let yes = way.local.is_circular in cc) in
           let falls = falls_by (instance_of p l.start) way.unknown other h.slot cell (taken w (es ++ (t, y) ∷ [])) more (by_value w (es ++ (t, y) ∷ []) h.slot h.key h.code h.settled) in
-          let was : turns_of x.way ≡ 0 = ap turns_of a in
-          let now : turns_of y.way ≡ 1 = ap turns_of b in
+          let was : turns_of (way_of x) ≡ 0 = ap turns_of a in
+          let now : turns_of (way_of y) ≡ 1 = ap turns_of b in
           omega (arith, falls, was, now)
       by_way (Some l) (Some m) a b h = absurd h
 
   -- another one is on top
-  pub falls_more : (y : Waiter) → y.slot ≡ x.slot → (next : CodedInstance) (z : Waiter) → z.way ≡ None → ¬ Knows p v (instance_of p next) → IsPlaced p f w (next, z) → waits (es ++ (t, y) ∷ []) next ≡ false → measure w (es ++ (t, y) ∷ []) (next, z) f.cells < measure v es (t, x) f.cells
+  pub falls_more : (y : Waiter) → y.slot ≡ x.slot → (next : CodedInstance) (z : Waiter) → way_of z ≡ None → ¬ Knows p v (instance_of p next) → IsPlaced p f w (next, z) → waits (es ++ (t, y) ∷ []) next ≡ false → measure w (es ++ (t, y) ∷ []) (next, z) f.cells < measure v es (t, x) f.cells
   falls_more y slot next z none unknown placed free =
       let L = es ++ (t, y) ∷ [] in
       let other : (e : CodedInstance × Waiter) → Has (es ++ (t, x) ∷ []) e → instance_of p e.0 ≢ instance_of p next = λ e h is. (let one = one_key p pooled e.0 next (on_stack p f v i es (t, x) stack e h).coded placed.coded is in let yes = waiting_still e h in let no = subst (λ (c : CodedInstance). waits L c ≡ false) (sym one) free in cc) in
       let falls = falls_by (instance_of p next) unknown other z.slot.0 placed.slot (taken w (L ++ (next, z) ∷ [])) more (by_one w (L ++ (next, z) ∷ []) (next, z) (has_last L (next, z))) in
       let longer = length_snoc es (t, y) in
-      let now : turns_of z.way ≡ 1 = ap turns_of none in
+      let now : turns_of (way_of z) ≡ 1 = ap turns_of none in
       omega (arith, falls, longer, now)
     where
       more : (q : ℕ) → taken v (es ++ (t, x) ∷ []) q ≡ true → taken w ((es ++ (t, y) ∷ []) ++ (next, z) ∷ []) q ≡ true
@@ -128,14 +128,14 @@ module _ (p : Program) (f : Frame) (same : p ≡ program_in f) (pooled : ArePool
     less_back = left_less (taken v (es ++ (t, x) ∷ [])) (taken w es) f.cells (pop_keeps v w es (t, x) known.key known.code kept settled_there)
 
     -- the one that waited for it is on top again
-    pub falls_back : x.way ≡ None → (ds : List (CodedInstance × Waiter)) (last : CodedInstance × Waiter) → es ≡ ds ++ last ∷ [] → (y : Waiter) → y.slot ≡ last.1.slot → measure w ds (last.0, y) f.cells < measure v es (t, x) f.cells
+    pub falls_back : way_of x ≡ None → (ds : List (CodedInstance × Waiter)) (last : CodedInstance × Waiter) → es ≡ ds ++ last ∷ [] → (y : Waiter) → y.slot ≡ last.1.slot → measure w ds (last.0, y) f.cells < measure v es (t, x) f.cells
     falls_back none ds last is y slot =
         let less = less_back in
         let back = left_less (taken w (ds ++ last ∷ [])) (taken w (ds ++ (last.0, y) ∷ [])) f.cells (taken_on w w ds last.0 last.1 y (at_least_itself w) slot) in
         let same_left : left (taken w (ds ++ last ∷ [])) f.cells ≡ left (taken w es) f.cells = ap (λ l. left (taken w l) f.cells) (sym is) in
         let longer = ap length is ∙ length_snoc ds last in
-        let was : turns_of x.way ≡ 1 = ap turns_of none in
-        let now = few y.way in
+        let was : turns_of (way_of x) ≡ 1 = ap turns_of none in
+        let now = few (way_of y) in
         omega (arith, less, back, same_left, longer, was, now)
       where
         few : (o : Option Local) → turns_of o ≤ 1

@@ -29,7 +29,7 @@ use Rattle.caller_pass.specs.declared.faults.AskFault.TheVariants.{CellsFull, Ci
 use Rattle.caller_pass.specs.declared.solving.Went.{Went}
 use Rattle.caller_pass.specs.declared.solving.Went.TheVariants.{Further, Need, Settled}
 use Rattle.caller_pass.specs.declared.waiting.Waiter.{Waiter}
-use Rattle.caller_pass.specs.Waiting.{IsWay, WaitsBy}
+use Rattle.caller_pass.specs.Waiting.{IsWay, WaitsBy, way_of}
 
 -- the chain begins with i, each later member is led to by the one before, and `on`, which isn't circular, stands there twice
 pub record IsLoop (p : Program) (i on : Instance) (chain : List Instance) : Type 0 where
@@ -153,7 +153,7 @@ pub record GoesThrough (p : Program) (d e : Held) (i : CodedInstance) (old new :
   pub claims : ClaimsKeys p (instance_of p i) d.1 e.1
   pub slot : new.slot ≡ old.slot
   pub saved : AreSaved d.0.system.value (IsKnown (program_at d) e.1) new.saved
-  pub answer : AnswersStep p d.0 e.1 (instance_of p i) old.way new.way result
+  pub answer : AnswersStep p d.0 e.1 (instance_of p i) (way_of old) (way_of new) result
   pub evals : after ≡ before + 1
 
 abbrev pub IsCircular : {X : Type 0} → Result X AskFault → Type 0

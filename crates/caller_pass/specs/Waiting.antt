@@ -1,5 +1,6 @@
 -- The instances that wait, with their slots and the local sets through which they wait.
 use Rattle.std.specs.Prelude.{◌≡◌, ◌⊎◌, Bool, true, false, ℕ, List, [], ◌∷◌, ◌++◌, Option, Some, None, Result, Ok, Err, map}
+use Rattle.std.specs.Global.{Box}
 use Rattle.std.specs.List.{list_any}
 use Rattle.std.specs.Map.{keys_of}
 use Rattle.equation_law.specs.contracts.coding.InstancePartialEq.TheImpl as equality
@@ -23,6 +24,14 @@ use Rattle.circular_eval.specs.Local.{IsLocal}
 use Rattle.caller_pass.specs.declared.faults.AskFault.{AskFault}
 use Rattle.caller_pass.specs.declared.faults.AskFault.TheVariants.{CellsFull, Circular, Memory}
 use Rattle.caller_pass.specs.declared.waiting.Waiter.{Waiter}
+
+abbrev pub unboxed : Option (Box Local) → Option Local
+unboxed None = None
+unboxed (Some b) = Some b.value
+
+-- the local set through which it waits
+abbrev pub way_of : Waiter → Option Local
+way_of x = unboxed x.way
 
 -- i is one of those that wait
 abbrev pub waits : List (CodedInstance × Waiter) → CodedInstance → Bool
@@ -49,7 +58,7 @@ pub record IsPlaced (p : Program) (f : Frame) (v : View) (e : CodedInstance × W
 -- it is to be evaluated next, or the local set that it waits for is to go on
 pub record IsFrame (p : Program) (f : Frame) (v : View) (e : CodedInstance × Waiter) : Type 0 where
   pub placed : IsPlaced p f v e
-  pub way : IsWayOf p f v (instance_of p e.0) e.1.way
+  pub way : IsWayOf p f v (instance_of p e.0) (way_of e.1)
 
 -- the local set needed n last
 pub record Needed (p : Program) (l : Local) (n : Instance) : Type 0 where
@@ -66,8 +75,8 @@ WaitsBy p f v i (Some l) n = Leads p i (instance_of p l.start) × IsLocal p f v 
 -- each waits for the next one, and the last one for n
 abbrev pub AreWaiting : Program → Frame → View → List (CodedInstance × Waiter) → Instance → Type 0
 AreWaiting p f v [] n = Unit {0}
-AreWaiting p f v (e ∷ []) n = WaitsBy p f v (instance_of p e.0) e.1.way n
-AreWaiting p f v (e ∷ d ∷ es) n = WaitsBy p f v (instance_of p e.0) e.1.way (instance_of p d.0) × AreWaiting p f v (d ∷ es) n
+AreWaiting p f v (e ∷ []) n = WaitsBy p f v (instance_of p e.0) (way_of e.1) n
+AreWaiting p f v (e ∷ d ∷ es) n = WaitsBy p f v (instance_of p e.0) (way_of e.1) (instance_of p d.0) × AreWaiting p f v (d ∷ es) n
 
 -- those that wait, of which the first is i, and the one that they wait for
 pub record IsStack (p : Program) (f : Frame) (v : View) (i : Instance) (es : List (CodedInstance × Waiter)) (top : CodedInstance × Waiter) : Type 0 where
@@ -103,7 +112,7 @@ pub record IsBehind (l : Local) (chain whole : List CodedInstance) : Type 0 wher
 -- the answer where the last of `es` is to wait for `next`: how that one stands, which is new among them, or the line to it, which holds it already
 -- where it isn't known to have a loop
 abbrev pub AnswersWait : Program → Frame → View → List (CodedInstance × Waiter) → CodedInstance → List (CodedInstance × Waiter) → Result Waiter AskFault → Type 0
-AnswersWait p f v es next new (Ok x) = (new ≡ es) × IsCellOf p f v (instance_of p next) x.slot.0 × (x.way ≡ None) × (waits es next ≡ false) × SavesNothing x.saved
+AnswersWait p f v es next new (Ok x) = (new ≡ es) × IsCellOf p f v (instance_of p next) x.slot.0 × (way_of x ≡ None) × (waits es next ≡ false) × SavesNothing x.saved
 AnswersWait p f v es next new (Err (Circular on chain)) = (on ≡ next) × ((waits es next ≡ true) ⊎ HasLoop p (instance_of p next)) × ((g : Frame) (u : View) → AreWaiting p g u es (instance_of p next) → IsLineTo p es (instance_of p next) (map (instance_of p) chain))
 AnswersWait p f v es next new (Err CellsFull) = LacksCell p f v (instance_of p next)
 AnswersWait p f v es next new (Err Memory) = Unit {0}
@@ -117,4 +126,4 @@ WayStays p v (Some l) (Some m) = (m ≡ l) × (IsCoded p l.start → ¬ Knows p 
 pub record LooksAgain (p : Program) (v : View) (old new : Waiter) : Type 0 where
   pub slot : new.slot ≡ old.slot
   pub saved : new.saved ≡ old.saved
-  pub way : WayStays p v old.way new.way
+  pub way : WayStays p v (way_of old) (way_of new)

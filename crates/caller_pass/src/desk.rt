@@ -3,8 +3,8 @@ ghost use Rattle.std.specs.Prelude.{◌≡◌};
 
 use crate::notebook::Notebook;
 use crate::turns::is_set;
-use attr_rules::Kind;
-use equation_law::{Code, Instance, Reader, System, Value};
+use attr_rules::{AttrId, Kind};
+use equation_law::{Args, Code, EqSite, Instance, NodeRef, Reader, System, Value};
 use expr_eval::kind_of;
 use memo_cells::{Cells, CellsFull, Key, Pass, Slot, Words, Work, value_shown};
 use rag_io::Memory;
@@ -80,9 +80,11 @@ impl Work for Desk<'_> {
 impl Desk<'_> {
     ghost use Rattle.std.specs.Prelude.{◌<◌, IfOk, IfSome, OnErr, false, true};
     ghost use Rattle.attr_rules.specs.Rules.{is_single};
-    ghost use Rattle.equation_law.specs.Equations.{kind_in};
+    ghost use Rattle.equation_law.specs.declared.coding.Instance.TheVariants.{Attr as attribute_at};
+    ghost use Rattle.equation_law.specs.Equations.{equation_of, kind_in};
+    ghost use Rattle.inherited_walk.specs.Sites.{IsFound};
     ghost use Rattle.equation_law.specs.Checked.{IsInstance};
-    ghost use Rattle.equation_law.specs.Codes.{IsCoded, instance_of};
+    ghost use Rattle.equation_law.specs.Codes.{IsCoded, IsRow, instance_of};
     ghost use Rattle.equation_law.specs.Loops.{HasLoop};
     ghost use Rattle.equation_law.specs.Names.{Instance as StandingInstance};
     ghost use Rattle.memo_cells.specs.Naming.{ClaimsKeysTo, IsCellOf, LacksCell};
@@ -156,6 +158,16 @@ impl Desk<'_> {
         if let Ok(copy) = value.copy() {
             self.notes.note_set(i, copy);
         }
+    }
+
+    /// The equation of an attribute at a node with arguments. The way to it is noted.
+    pub(crate) fn site(&mut self, attr: AttrId, node: NodeRef, args: Args) -> Option<EqSite>
+        ensures same { self.new ≡ self.old }
+        ensures found { IsFound (program_at self.old) attr.0 (equation_of (program_at self.old) (instance_of (program_at self.old) (attribute_at attr node args))) result }
+        ensures rows { IsRow args → IfSome result (λ s. IsRow s.outer × IsRow s.inner) }
+    {
+        let system = self.system;
+        self.notes.site(system, attr, node, args)
     }
 
     /// Whether it is noted that an instance has a loop.

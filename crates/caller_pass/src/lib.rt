@@ -6,6 +6,7 @@ mod desk;
 mod evals;
 mod faults;
 mod notebook;
+mod sealed;
 mod solving;
 mod turns;
 mod waiting;

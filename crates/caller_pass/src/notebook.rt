@@ -5,13 +5,18 @@ ghost use Rattle.std.specs.HashSet.{contains};
 ghost use Rattle.equation_law.specs.contracts.coding.InstancePartialEq.TheImpl as equality;
 ghost use Rattle.equation_law.specs.declared.coding.Instance.{Instance as CodedInstance};
 ghost use Rattle.equation_law.specs.declared.coding.Value.{Value as CodedValue};
-ghost use Rattle.equation_law.specs.Codes.{instance_of};
+ghost use Rattle.equation_law.specs.declared.coding.Instance.TheVariants.{Attr as attribute_at};
+ghost use Rattle.equation_law.specs.Codes.{IsRow, instance_of};
+ghost use Rattle.equation_law.specs.Equations.{equation_of};
+ghost use Rattle.inherited_walk.specs.Sites.{IsFound};
 ghost use Rattle.equation_law.specs.Loops.{HasLoop};
 ghost use Rattle.equation_law.specs.Systems.{program_of};
 ghost use Rattle.memo_cells.specs.Views.{Has};
 ghost use Rattle.caller_pass.specs.Noting.{IsNoted};
 
-use equation_law::{Instance, System, Value};
+use attr_rules::AttrId;
+use equation_law::{Args, EqSite, Instance, NodeRef, System, Value};
+use inherited_walk::{Ways, find_noted};
 use std::alloc::Global;
 use std::collections::{HashMap, HashSet};
 use std::marker::Model;
@@ -25,6 +30,8 @@ pub struct Notebook {
     sets: HashMap<Instance, Value>,
     // Instances that have a loop.
     loops: HashSet<Instance>,
+    // Ways upwards, for inherited attributes.
+    ways: Ways,
 }
 
 // Keeps the value of an instance, if there is memory for that.
@@ -51,6 +58,7 @@ fn put_all(among: &mut HashSet<Instance>, more: &[Instance])
 }
 
 impl Model for Notebook {
+    ghost use Rattle.std.specs.Prelude.{◌≡◌};
     ghost use Rattle.std.specs.Coded.{codes};
     ghost use Rattle.attr_rules.specs.contracts.expression.TExpr as expressions;
     ghost use Rattle.equation_law.specs.declared.system.System.{System as StandingSystem};
@@ -63,7 +71,7 @@ impl Model for Notebook {
 
     ghost view = { λ n. n.system.value };
 
-    ghost invariant = { λ n. AreNoted (program_of n.system.value) n.sets × AreLooping (program_of n.system.value) n.loops };
+    ghost invariant = { λ n. AreNoted (program_of n.system.value) n.sets × AreLooping (program_of n.system.value) n.loops × (n.ways ≡ n.system.value) };
 }
 
 impl Notebook {
@@ -75,6 +83,7 @@ impl Notebook {
             system: Snapshot::of(system),
             sets: HashMap::new(alloc),
             loops: HashSet::new(alloc),
+            ways: Ways::new(alloc, system),
         }
     }
 
@@ -107,5 +116,21 @@ impl Notebook {
         ensures { self.new ≡ self.old }
     {
         put_all(&mut self.loops, chain);
+    }
+
+    /// The equation of an attribute at a node with arguments. The way to it is noted.
+    pub(crate) fn site(
+        &mut self,
+        system: &System,
+        attr: AttrId,
+        node: NodeRef,
+        args: Args,
+    ) -> Option<EqSite>
+        requires { self.old ≡ system.now }
+        ensures same { self.new ≡ self.old }
+        ensures found { IsFound (program_of system.now) attr.0 (equation_of (program_of system.now) (instance_of (program_of system.now) (attribute_at attr node args))) result }
+        ensures rows { IsRow args → IfSome result (λ s. IsRow s.outer × IsRow s.inner) }
+    {
+        find_noted(system, &mut self.ways, attr, node, args)
     }
 }

@@ -6,6 +6,9 @@ ghost use Rattle.equation_law.specs.Checked.{IsInstance, IsProgram};
 ghost use Rattle.equation_law.specs.Codes.{IsCoded, instance_of};
 ghost use Rattle.equation_law.specs.Equations.{equations_of};
 ghost use Rattle.equation_law.specs.Loops.{HasLoop};
+ghost use Rattle.equation_law.specs.Program.{Program};
+ghost use Rattle.memo_cells.specs.declared.view.Frame.{Frame as CellsFrame};
+ghost use Rattle.memo_cells.specs.declared.view.View.{View};
 ghost use Rattle.memo_cells.specs.Naming.{ClaimsKeysTo};
 ghost use Rattle.memo_cells.specs.Standing.{Knows};
 ghost use Rattle.memo_cells.specs.Working.{GoesOn, IsOwn, ReadsOn, program_at};
@@ -33,6 +36,18 @@ pub(crate) enum Went {
     Further,
     /// An instance that isn't circular has to be settled first.
     Need(Instance),
+}
+
+/// The local set that begins with a circular instance, in a box: few of those that wait have one.
+fn start<'a>(alloc: Global, i: Instance) -> Result<Box<Local<'a>>, Memory>
+    ensures start { IfOk result (λ local. local.value.start ≡ i) }
+    ensures local { IfOk result (λ local. (p : Program) (f : CellsFrame) (v : View) → IsInstance p (instance_of p i) → IsCoded p i → (equations_of p).circular (instance_of p i) ≡ true → IsLocal p f v local.value) }
+{
+    let local = Local::start(alloc, i)?;
+    match Box::new(alloc, local) {
+        Ok(local) => Ok(local),
+        Err(_) => Err(Memory),
+    }
 }
 
 /// One turn of an instance that isn't circular: its local set goes on, if it waits for one, or else its equation is evaluated.
@@ -65,7 +80,7 @@ fn step<'a, L: Ledger>(
             if !is_declared(desk.system, &next) {
                 return Ok(Went::Need(next));
             }
-            waiter.way = Some(Local::start(alloc, next)?);
+            waiter.way = Some(start(alloc, next)?);
             Ok(Went::Further)
         }
     }
@@ -193,7 +208,7 @@ pub(crate) fn solve_unless_noted<L: Ledger>(
 }
 
 /// The chain of a fault, led to by what a local set leads to the first of it by.
-fn behind(alloc: Global, local: &Local, chain: &Chain) -> Result<Chain, Memory>
+fn behind(alloc: Global, local: &Local<'_>, chain: &Chain) -> Result<Chain, Memory>
     ensures { IfOk result (λ whole. IsBehind local.now chain.now whole) }
 {
     let mut list = Vec::new(alloc);
@@ -206,7 +221,7 @@ fn behind(alloc: Global, local: &Local, chain: &Chain) -> Result<Chain, Memory>
 fn solve_for<L: Ledger>(
     alloc: Global,
     desk: &mut Desk<'_>,
-    local: &Local,
+    local: &Local<'_>,
     next: Instance,
     evals: &mut Steps<L>,
 ) -> Result<(), AskFault>
@@ -229,10 +244,10 @@ fn solve_for<L: Ledger>(
 }
 
 /// Goes on with a local set, and settles what it needs.
-fn close_more<L: Ledger>(
+fn close_more<'a, L: Ledger>(
     alloc: Global,
-    desk: &mut Desk<'_>,
-    local: &mut Local,
+    desk: &mut Desk<'a>,
+    local: &mut Local<'a>,
     evals: &mut Steps<L>,
 ) -> Result<(), AskFault>
     requires program { IsProgram (program_at desk.old) }

@@ -7,18 +7,22 @@ ghost use Rattle.equation_law.specs.Codes.{IsCoded, instance_of};
 ghost use Rattle.equation_law.specs.Equations.{equations_of};
 ghost use Rattle.equation_law.specs.Checked.{IsInstance, IsProgram};
 ghost use Rattle.memo_cells.specs.Naming.{IsCellOf};
+ghost use Rattle.equation_law.specs.Reading.{IsSound};
+ghost use Rattle.equation_law.specs.Systems.{program_of};
+ghost use Rattle.expr_eval.specs.Evaluating.{Evaluates};
 ghost use Rattle.expr_eval.specs.Saved.{AreSaved};
-ghost use Rattle.memo_cells.specs.Working.{GoesOn, IsKnown, IsOwn, ReadsOn, program_at};
+ghost use Rattle.memo_cells.specs.Working.{GoesOn, IsKnown, IsOwn, ReadsOn, program_at, told_by};
 ghost use Rattle.caller_pass.specs.Answering.{AnswersFinish, AnswersShow, ClaimsKeys};
 ghost use Rattle.caller_pass.specs.Knowing.{HasEnded, TurnsTo};
 
 use crate::desk::Desk;
 use crate::evals::Steps;
 use crate::faults::AskFault;
+use crate::sealed::note_sealed;
 use attr_rules::Kind;
 use circular_eval::{CircFault, CircTurn, Local, advance};
-use equation_law::{Instance, Value};
-use expr_eval::{Saved, Turn, kind_of, resume_instance};
+use equation_law::{Instance, System, Value};
+use expr_eval::{Saved, Turn, kind_of, resume_at, resume_instance};
 use memo_cells::{Slot, codes_of, raise_codes};
 use rag_io::Memory;
 use std::alloc::Global;
@@ -29,6 +33,30 @@ pub(crate) fn is_set(kind: Kind) -> bool
     ensures { result ≡ not (is_single kind) }
 {
     matches!(kind, Kind::Texts | Kind::Nodes(_))
+}
+
+/// Goes on with an evaluation. The way upwards to the equation is noted.
+fn resume<'a>(
+    alloc: Global,
+    system: &'a System,
+    i: Instance,
+    desk: &mut Desk<'a>,
+    saved: &mut Saved<'a>,
+) -> Result<Turn, Memory>
+    requires same { desk.old.0.system.value ≡ system.now }
+    requires sound { IsSound (program_of system.now) (told_by desk.old) }
+    requires saved { AreSaved system.now (told_by desk.old).has saved.old }
+    requires coded { IsCoded (program_of system.now) i }
+    ensures evaluates { Evaluates (program_of system.now) (told_by desk.old) (told_by desk.new) ((equations_of (program_of system.now)).equation (instance_of (program_of system.now) i)) result }
+    ensures saved { AreSaved system.now (told_by desk.new).has saved.new }
+{
+    match i {
+        Instance::Attr { attr, node, args } => {
+            let site = desk.site(attr, node, args);
+            resume_at(alloc, system, attr, node, args, site, desk, saved)
+        }
+        Instance::Query(_) => resume_instance(alloc, system, &i, desk, saved),
+    }
 }
 
 /// Goes on with the evaluation of the equation of an instance under what the pass knows, where it stopped.
@@ -48,14 +76,14 @@ pub(crate) fn turn<'a, L: Ledger>(
 {
     evals.tick();
     let system = desk.system;
-    resume_instance(alloc, system, &i, desk, saved)
+    resume(alloc, system, i, desk, saved)
 }
 
-/// Goes on with a local set under what the pass knows.
-pub(crate) fn go_on<L: Ledger>(
+/// Goes on with a local set under what the pass knows. Once it is sealed, the sets among its values are noted.
+pub(crate) fn go_on<'a, L: Ledger>(
     alloc: Global,
-    desk: &mut Desk<'_>,
-    local: &mut Local,
+    desk: &mut Desk<'a>,
+    local: &mut Local<'a>,
     evals: &mut Steps<L>,
 ) -> Result<CircTurn, CircFault>
     requires program { IsProgram (program_at desk.old) }
@@ -68,7 +96,9 @@ pub(crate) fn go_on<L: Ledger>(
 {
     evals.tick();
     let system = desk.system;
-    advance(alloc, system, desk, local)
+    let turn = advance(alloc, system, desk, local);
+    note_sealed(desk, local, &turn);
+    turn
 }
 
 /// Raises the words of an instance whose equation ended, if it is of a set.

@@ -20,7 +20,7 @@ use std::marker::Model;
 #[derive(Drop)]
 pub(crate) struct Waiter<'a> {
     pub slot: Slot,
-    pub way: Option<Local>,
+    pub way: Option<Box<Local<'a>>>,
     pub saved: Saved<'a>,
 }
 
@@ -36,12 +36,13 @@ impl<'a> Model for Waiting<'a> {
     ghost use Rattle.std.specs.Coded.{codes};
     ghost use Rattle.attr_rules.specs.contracts.expression.TExpr as expressions;
     ghost use Rattle.circular_eval.specs.contracts.local.Local as locals;
+    ghost use denote.Signature.{static_lft};
     ghost use Rattle.equation_law.specs.declared.coding.Instance.{Instance as CodedInstance};
     ghost use Rattle.caller_pass.specs.declared.waiting.Waiter.{Waiter as Waits};
 
     ghost Value = { List (CodedInstance × Waits) };
 
-    ghost coded = { Prim.hlevel (codes, expressions.the_row.coded, locals.the_row.coded) };
+    ghost coded = { Prim.hlevel (codes, expressions.the_row.coded, (locals.the_row static_lft).coded) };
 
     ghost view = { λ waiting. waiting.waiters.entries };
 }
@@ -73,7 +74,7 @@ pub(crate) fn alone(alloc: Global, i: Instance) -> Result<Chain, Memory>
 pub(crate) fn push_path(
     alloc: Global,
     list: &mut Vec<Instance>,
-    local: &Local,
+    local: &Local<'_>,
 ) -> Result<(), Memory>
     ensures { OnOk result (HasPart list.old.items list.new.items local.now) }
 {

@@ -1,8 +1,7 @@
-use Rattle.std.proofs.Common.{None, refl, sym, ap, subst, ◌∙◌}
+use Rattle.std.proofs.Common.{Some, refl, sym, ap, subst, ◌∙◌}
 use Rattle.memo_cells.specs.Working.{Held, IsOwn, ReadsOn, program_at}
 use Rattle.memo_cells.proofs.More.{at_least_itself}
-use Rattle.caller_pass.specs.declared.waiting.Waiter.{Waiter}
-use Rattle.caller_pass.specs.Waiting.{LooksAgain}
+use Rattle.caller_pass.specs.Waiting.{unboxed}
 use Rattle.caller_pass.proofs.Frames.{looked_known}
 use Rattle.caller_pass.proofs.solving.look_again.Goals.{in-None, in-Some}
 use Rattle.caller_pass.proofs.solving.look_again.Goals as goal
@@ -23,5 +22,5 @@ returns-then-known-clause-looked c = elim c.match-waiter.branch [
       let d = c.args.desk.now in
       let p = program_at d in
       let there = sym w.is_some-known.ensures ∙ sym w.known-is ∙ c.if-known.true in
-      looked_known p w.settled_code.new.self.0 w.settled_code.new.self.1 c.match-waiter.desk.1 (ap (λ (e : Held). e.1) w.desk-is) c.args.waiter.now w.in-Some.local w.in-Some.is w.first.result w.first.ensures w.settled_code.result there w.settled_code.ensures.known
+      looked_known p w.settled_code.new.self.0 w.settled_code.new.self.1 c.match-waiter.desk.1 (ap (λ (e : Held). e.1) w.desk-is) c.args.waiter.now w.deref.result.now (ap unboxed w.in-Some.is ∙ ap Some (sym w.deref.ensures)) w.first.result w.first.ensures w.settled_code.result there w.settled_code.ensures.known
 ]

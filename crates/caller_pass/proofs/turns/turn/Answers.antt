@@ -10,30 +10,30 @@ use Rattle.memo_cells.proofs.Holding.{reads_itself}
 use Rattle.caller_pass.proofs.Desks.{sound_for, turned}
 use Rattle.caller_pass.proofs.turns.turn.Goals as goal
 
-pub resume_instance-requires-clause-sound : goal.resume_instance-requires-clause-sound
-resume_instance-requires-clause-sound g c = sound_for (program_of c.desk.inside.system.now) c.args.desk.now (ap (λ (d : Held). program_of d.0.system.value) (sym c.desk.view_is) ∙ ap program_of c.desk.invariant.1)
+pub resume-requires-clause-sound : goal.resume-requires-clause-sound
+resume-requires-clause-sound g c = sound_for (program_of c.desk.inside.system.now) c.args.desk.now (ap (λ (d : Held). program_of d.0.system.value) (sym c.desk.view_is) ∙ ap program_of c.desk.invariant.1)
 
-pub resume_instance-requires-clause-saved : goal.resume_instance-requires-clause-saved
-resume_instance-requires-clause-saved g c =
+pub resume-requires-clause-saved : goal.resume-requires-clause-saved
+resume-requires-clause-saved g c =
     let d = c.args.desk.now in
     let same = ap (λ (x : Held). x.0.system.value) (sym c.desk.view_is) ∙ c.desk.invariant.1 in
     subst (λ (s : System). AreSaved s (IsKnown (program_at d) d.1) c.args.saved.now) same c.requires.saved
 
 pub returns-clause-on : goal.returns-clause-on
-returns-clause-on g c = c.resume_instance.ensures.evaluates.kept.kept c.args.desk.now (reads_itself c.args.desk.now (subst (λ (d : Held). IsOwn d) c.desk.view_is c.desk.invariant.0.0))
+returns-clause-on g c = c.resume.ensures.evaluates.kept.kept c.args.desk.now (reads_itself c.args.desk.now (subst (λ (d : Held). IsOwn d) c.desk.view_is c.desk.invariant.0.0))
 
 pub returns-clause-turned : goal.returns-clause-turned
 returns-clause-turned g c =
     let p = program_of c.desk.inside.system.now in
-    let d = c.resume_instance.new.reader in
+    let d = c.resume.new.desk in
     let same = ap (λ (x : Held). program_of x.0.system.value) (sym c.desk.view_is) ∙ ap program_of c.desk.invariant.1 in
-    subst (λ (q : Program). TurnsTo q d.1 (instance_of q c.args.i) c.resume_instance.result) (sym same)
-    (turned p d (instance_of p c.args.i) c.resume_instance.result c.resume_instance.ensures.evaluates.kept.sound.for c.resume_instance.ensures.evaluates.answer)
+    subst (λ (q : Program). TurnsTo q d.1 (instance_of q c.args.i) c.resume.result) (sym same)
+    (turned p d (instance_of p c.args.i) c.resume.result c.resume.ensures.evaluates.kept.sound.for c.resume.ensures.evaluates.answer)
 
 pub returns-clause-saved : goal.returns-clause-saved
 returns-clause-saved g c =
-    let e = c.resume_instance.new.reader in
+    let e = c.resume.new.desk in
     let same = ap (λ (x : Held). x.0.system.value) (sym c.desk.view_is) ∙ c.desk.invariant.1 in
-    let program : program_at e ≡ program_at c.args.desk.now = sym c.resume_instance.ensures.evaluates.kept.sound.for ∙ ap program_of (sym same) in
-    let here = subst (λ (s : System). AreSaved s (IsKnown (program_at e) e.1) c.resume_instance.new.saved) (sym same) c.resume_instance.ensures.saved in
-    subst (λ (q : Program). AreSaved c.args.desk.now.0.system.value (IsKnown q e.1) c.resume_instance.new.saved) program here
+    let program : program_at e ≡ program_at c.args.desk.now = sym c.resume.ensures.evaluates.kept.sound.for ∙ ap program_of (sym same) in
+    let here = subst (λ (s : System). AreSaved s (IsKnown (program_at e) e.1) c.resume.new.saved) (sym same) c.resume.ensures.saved in
+    subst (λ (q : Program). AreSaved c.args.desk.now.0.system.value (IsKnown q e.1) c.resume.new.saved) program here

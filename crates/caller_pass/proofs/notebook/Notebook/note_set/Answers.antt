@@ -15,4 +15,5 @@ invariant_of-self c =
           (λ (j_is, x_is). subst₂ (λ (k : CodedInstance) (y : CodedValue). IsNoted p k y) (sym j_is) (sym x_is) note)
           (c.keep.ensures j x there),
       c.self.invariant.1,
+      c.self.invariant.2,
     )

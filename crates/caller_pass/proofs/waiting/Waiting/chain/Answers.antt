@@ -1,20 +1,20 @@
-use Rattle.std.proofs.Common.{◌∷◌, [], List, map, refl, sym, subst, ◌∙◌}
+use Rattle.std.proofs.Common.{◌∷◌, [], List, Some, ap, map, refl, sym, subst, ◌∙◌}
 use Rattle.std.proofs.lemmas.Map.Iter.{iter_end}
 use Rattle.equation_law.specs.declared.coding.Instance.{Instance as CodedInstance}
 use Rattle.equation_law.specs.Codes.{instance_of}
-use Rattle.caller_pass.specs.Waiting.{IsLineTo}
+use Rattle.caller_pass.specs.Waiting.{IsLineTo, unboxed}
 use Rattle.caller_pass.proofs.Listing.{AreListed, listed_line, listed_path, listed_plain, map_both}
 use Rattle.caller_pass.proofs.waiting.Waiting.chain.Goals as goal
 
 pub loop-instance-preserved-in-Continue-branch-2 : goal.loop-instance-preserved-in-Continue-branch-2
 loop-instance-preserved-in-Continue-branch-2 c =
     subst (λ es. AreListed es c.push_path.new.list.items) (sym (map_both (λ x. (x.0.now, x.1.now)) c.loop-instance.yielded ((c.in-Some.instance, c.in-Some.waiter) ∷ [])))
-    (listed_path (map (λ x. (x.0.now, x.1.now)) c.loop-instance.yielded) c.loop-instance.list.items (c.in-Some.instance.now, c.in-Some.waiter.now) c.push.new.list.items c.push_path.new.list.items c.in-Some-way.local c.loop-instance.invariant c.in-Some-way.is c.in_ok-push.ensures c.in_ok-push_path.ensures)
+    (listed_path (map (λ x. (x.0.now, x.1.now)) c.loop-instance.yielded) c.loop-instance.list.items (c.in-Some.instance.now, c.in-Some.waiter.now) c.push.new.list.items c.push_path.new.list.items c.deref.result.now c.loop-instance.invariant (ap unboxed c.in-Some-way.is ∙ ap Some (sym c.deref.ensures)) c.in_ok-push.ensures c.in_ok-push_path.ensures)
 
 pub loop-instance-preserved : goal.loop-instance-preserved
 loop-instance-preserved c =
     subst (λ es. AreListed es c.push.new.list.items) (sym (map_both (λ x. (x.0.now, x.1.now)) c.loop-instance.yielded ((c.in-Some.instance, c.in-Some.waiter) ∷ [])))
-    (listed_plain (map (λ x. (x.0.now, x.1.now)) c.loop-instance.yielded) c.loop-instance.list.items (c.in-Some.instance.now, c.in-Some.waiter.now) c.push.new.list.items c.loop-instance.invariant c.in_default.is c.in_ok-push.ensures)
+    (listed_plain (map (λ x. (x.0.now, x.1.now)) c.loop-instance.yielded) c.loop-instance.list.items (c.in-Some.instance.now, c.in-Some.waiter.now) c.push.new.list.items c.loop-instance.invariant (ap unboxed c.in_default.is) c.in_ok-push.ensures)
 
 pub returns : goal.returns
 returns c = λ p f v waiting.
