@@ -1,4 +1,4 @@
-// Demand over the systems that texts say: full cells, what is known, and the rounds as the slow way to the same lines.
+// Demand over the systems that texts say: full cells, and what is known.
 ghost use Rattle.std.specs.Prelude.{◌≡◌, ◌<◌};
 ghost use Rattle.equation_law.specs.Checked.{IsInstance, IsProgram};
 ghost use Rattle.equation_law.specs.Codes.{IsCoded, instance_of};
@@ -9,21 +9,17 @@ use crate::programs::{COUNTED, Checks, Texts, chained_tree, check_said};
 use caller_pass::{AskFault, Steps, ask};
 use equation_law::{Instance, Single, System, Value};
 use memo_cells::{Cells, Pass};
-use plain_rounds::{NameList, NamedValue, plain_rounds};
 use query_replies::{ReplyFault, reply_lines};
 use rag_io::Gate;
-use rand_core::Rng;
-use rand_pcg::Pcg32;
 use std::alloc::Global;
-use std::fmt::Write;
 use std::marker::Brand;
 use std::process::Abort;
 use std::sync::ledger::{Blank, Ledger};
 use std::test::Fail;
 
-// Nobody is told of replies.
+/// Nobody is told of replies.
 #[derive(Drop)]
-struct Silent;
+pub(crate) struct Silent;
 
 impl Gate for Silent {
     fn reached(&self, _caller: u32, _reply: u32) {}
@@ -219,107 +215,4 @@ fn what_is_known_is_given_again(rt: HostRuntime) -> Result<(), Fail> {
         queries: "@0.z()",
     };
     check_said(&rt, rt.alloc(), texts, &Twice)
-}
-
-const ATTRIBUTES: u32 = 6;
-
-const NODES: u32 = 4;
-
-// An equation with one of six forms, over attributes of the node and of the node below it.
-fn write_equation(text: &mut String, number: u32, random: &mut Pcg32) -> Result<(), Fail> {
-    let form = random.next_u32() % 6;
-    let int = random.next_u32() % 3;
-    let a = random.next_u32() % ATTRIBUTES;
-    let b = random.next_u32() % ATTRIBUTES;
-    write!(text, "syn int L.a{number}() = ")?;
-    match form {
-        0 => write!(text, "{int}; ")?,
-        1 => write!(text, "a{a}() + {int}; ")?,
-        2 => write!(text, "a{a}() < {int} ? a{b}() : {int}; ")?,
-        3 => write!(text, "hasL() ? getL().a{a}() : {int}; ")?,
-        4 => write!(text, "(hasL() ? getL().a{a}() : a{b}()) * {int}; ")?,
-        _ => write!(text, "{int} == 0 ? getL().a{a}() : {int}; ")?,
-    }
-    Ok(())
-}
-
-fn random_aspects(alloc: Global, random: &mut Pcg32) -> Result<String, Fail> {
-    let mut text = String::from_str(alloc, "aspect A { ")?;
-    for number in 0..ATTRIBUTES {
-        write_equation(&mut text, number, random)?;
-    }
-    text.push('}')?;
-    Ok(text)
-}
-
-// Asks for each attribute at each node.
-fn all_queries(alloc: Global) -> Result<String, Fail> {
-    let mut text = String::new(alloc);
-    for place in 0..NODES * ATTRIBUTES {
-        let (node, number) = (place / ATTRIBUTES, place % ATTRIBUTES);
-        write!(text, "@{node}.a{number}()\n")?;
-    }
-    Ok(text)
-}
-
-// The line of an integer that the rounds give, or `circular` where they give none.
-fn write_rounds_line(text: &mut String, value: Option<&NamedValue>) -> Result<(), Fail> {
-    match value {
-        Some(value) => write!(text, "{}\n", value.int().unwrap_or(-1))?,
-        None => text.push_str("circular\n")?,
-    }
-    Ok(())
-}
-
-// The lines of all queries, by rounds.
-fn rounds_lines(alloc: Global, system: &System) -> Result<String, Fail> {
-    let names = NameList::of_source(alloc, system)?;
-    let table = plain_rounds(alloc, system, &names)?;
-    let mut text = String::new(alloc);
-    for place in names.len().saturating_sub(system.replies())..names.len() {
-        write_rounds_line(&mut text, table.value(place))?;
-    }
-    Ok(text)
-}
-
-// The lines of rounds and of demand, which are the same.
-struct BothWays;
-
-impl Checks for BothWays {
-    fn check(&self, rt: &impl Abort, alloc: Global, system: &System) -> Result<(), Fail> {
-        let slow = rounds_lines(alloc, system)?;
-        match reply_lines(alloc, &Silent, system, 1024) {
-            Ok(lines) => assert_eq!(rt; lines.as_slice(), slow.as_bytes()),
-            Err(_) => panic!(rt; "no lines"),
-        }
-        Ok(())
-    }
-}
-
-fn expect_same(
-    rt: &impl Abort,
-    alloc: Global,
-    random: &mut Pcg32,
-    tree: &str,
-    queries: &str,
-) -> Result<(), Fail> {
-    let aspects = random_aspects(alloc, random)?;
-    let texts = Texts {
-        ast: "L ::= [L];",
-        jrag: aspects.as_str(),
-        tree,
-        queries,
-    };
-    check_said(rt, alloc, texts, &BothWays)
-}
-
-#[test]
-fn rounds_and_demand_agree(rt: HostRuntime) -> Result<(), Fail> {
-    let mut random = Pcg32::new(8, 1);
-    let tree = chained_tree(rt.alloc(), NODES as usize)?;
-    let queries = all_queries(rt.alloc())?;
-    for _ in 0..40 {
-        expect_same(&rt, rt.alloc(), &mut random, &tree, &queries)?;
-    }
-    Ok(())
 }

@@ -175,7 +175,8 @@ fn system_of(rt: &impl Abort, alloc: Global, queries: Vec<QueryEq>) -> Result<Sy
     let grammar = grammar_of(rt, alloc, GRAMMAR)?;
     let rules = no_rules(alloc, &grammar)?;
     let (tree, pool) = source(rt, alloc, &grammar)?;
-    Ok(System::new(grammar, rules, tree, pool, Queries::new(queries)))
+    let queries = Queries::new(queries);
+    Ok(System::new(alloc, grammar, rules, tree, pool, queries)?)
 }
 
 fn is_value(turn: &Turn, query: u32) -> bool {

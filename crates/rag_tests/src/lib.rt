@@ -29,6 +29,10 @@ mod outside;
 #[cfg(test)]
 mod programs;
 #[cfg(test)]
+mod random;
+#[cfg(test)]
+mod resumed;
+#[cfg(test)]
 mod texts;
 #[cfg(test)]
 mod trees;

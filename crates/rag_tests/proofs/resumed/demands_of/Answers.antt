@@ -1,0 +1,25 @@
+use Rattle.std.proofs.Common.{refl, subst, sym}
+use Rattle.equation_law.specs.Codes.{AreCodes}
+use Rattle.equation_law.specs.Program.{attribute_parameters}
+use Rattle.equation_law.specs.Systems.{program_of}
+use Rattle.expr_eval.proofs.Found.{none_saved}
+use Rattle.rag_tests.proofs.Lately.{late_sound, no_codes}
+use Rattle.rag_tests.proofs.resumed.demands_of.Goals as goal
+
+pub loop-init : goal.loop-init
+loop-init c = (late_sound (program_of c.args.system.now) _ 0 refl, none_saved c.new-saved.result c.new-saved.ensures)
+
+pub resume_instance-requires-clause-sound : goal.resume_instance-requires-clause-sound
+resume_instance-requires-clause-sound c = c.loop.invariant.0
+
+pub resume_instance-requires-clause-saved : goal.resume_instance-requires-clause-saved
+resume_instance-requires-clause-saved c = c.loop.invariant.1
+
+pub resume_instance-requires-clause-coded : goal.resume_instance-requires-clause-coded
+resume_instance-requires-clause-coded c =
+    let p = program_of c.args.system.now in
+    let kinds = attribute_parameters p c.args.attr in
+    (c.none.ensures.row, subst (AreCodes p kinds) (sym c.none.ensures.codes) (no_codes p kinds))
+
+pub loop-preserved : goal.loop-preserved
+loop-preserved c = (c.in_ok-turn.ensures.evaluates.kept.sound, c.in_ok-turn.ensures.saved)
