@@ -219,6 +219,9 @@ OVER_LISTS = [
     ("first finds the last", b"syn boolean N.is(int n) = getV() == n; syn N R.v() = first(x : getNList() | x.is(%(last)d));"),
     ("a set at each", b"syn Set<N> N.s() = single(this); syn boolean R.v() = all(x : getNList() | size(x.s()) == 1);"),
     ("each joins a set at each", b"syn Set<N> N.s() = single(this); syn int R.v() = size(each(x : getNList() | x.s()));"),
+    ("all, circular", b"syn boolean N.p() circular [false] = getV() >= 0 || p(); syn boolean R.v() circular [false] = all(x : getNList() | x.p());"),
+    ("each, circular, with a target that isn't", b"syn N N.at() = this; syn Set<N> N.s() circular [empty] = union(single(this), s()); "
+     b"syn Set<N> R.t() circular [empty] = each(x : getNList() | x.at().s()); syn int R.v() = size(t());"),
 ]
 
 
@@ -226,6 +229,39 @@ def over_list(count, items):
     """A form over a list of so many nodes."""
     aspects = [b"aspect A { ", items.replace(b"%(last)d", b"%d" % (count - 1)), b" }"]
     return {"g.ast": [b"R ::= N*; N ::= <V:int>;"], "a.jrag": aspects, "t.tree": flat(count + 1)}
+
+
+def climbed(count):
+    """An inherited attribute at each of so many nested nodes."""
+    aspects = b"aspect A { inh int L.top(); eq R.getL().top() = 7; syn int R.v() = getL().sum(); syn int L.sum() = top() + (hasL() ? getL().sum() : 0); }"
+    yield "g.ast", [b"R ::= L; L ::= [L];"]
+    yield "a.jrag", [aspects]
+    yield "t.tree", enclosing(count)
+
+
+def enclosing(count):
+    yield b"R("
+    yield from deep(count)
+    yield b")"
+
+
+def looping(count):
+    """A loop at the end of a chain of so many nodes, at each of which it is asked for."""
+    yield "g.ast", [b"L ::= [L];"]
+    yield "a.jrag", [b"aspect A { syn int L.c() = hasL() ? getL().c() : c(); }"]
+    yield "t.tree", deep(count)
+    yield "q.txt", (b"@%d.c()\n" % number for number in range(count))
+
+
+def nested_components(count, ring_first):
+    """A ring of so many circular instances, on which each of as many others stands, one on the other with one between that isn't circular: that is met
+    before the ring is gone round, or behind it."""
+    items = b"x(0) || n(m)" if not ring_first else b"y(m) || x(0)"
+    aspects = (
+        b"aspect A { syn boolean N.x(int i) circular [false] = x(i == %d ? 0 : i + 1); syn boolean N.a(int m) circular [false] = %s; "
+        b"syn boolean N.y(int m) circular [false] = n(m); syn boolean N.n(int m) = m == 0 ? true : a(m - 1); syn boolean N.v() = a(%d); }"
+    )
+    yield "a.jrag", [aspects % (count - 1, items, count)]
 
 
 def enclosed(front, part, end):
@@ -281,6 +317,10 @@ CASES = [
     *[(f"inherited: {count - 1:,} ancestors", inherited(count)) for count in [1000, 8000, 65536]],
     *[(f"parameters: d({count:,})", counting(count)) for count in [25000, 50000, 100000, 200000]],
     *[(f"over a list of {count:,}: {name}", over_list(count, items)) for name, items in OVER_LISTS for count in [4000, 16000, 60000]],
+    *[(f"inherited at each of {count:,} nested nodes", dict(climbed(count))) for count in [4000, 16000, 60000]],
+    *[(f"a loop asked for at each of {count:,} nodes", dict(looping(count))) for count in [4000, 16000, 60000]],
+    *[(f"circular: {count:,} nested over a ring of as many", dict(nested_components(count, False))) for count in [1000, 4000, 16000]],
+    *[(f"circular: {count:,} nested, behind a ring of as many", dict(nested_components(count, True))) for count in [250, 500, 1000]],
     ("demand: more instances than cells", full()),
     *[(f"circular: reachability over a ring of {count:,}", reached(count, count)) for count in [250, 500, 1000]],
     *[(f"circular: reachability over {count:,} rings of 16", reached(16 * count, 16)) for count in [62, 125, 250, 1000]],
