@@ -1,5 +1,5 @@
 // Source trees.
-ghost use Rattle.std.specs.Prelude.{◌≡◌, ℕ, ◌<◌, ◌≤◌, Some, IfOk, length, map};
+ghost use Rattle.std.specs.Prelude.{◌≡◌, ℕ, ◌<◌, ◌≤◌, [], ◌∷◌, ◌++◌, Some, IfOk, OnOk, length, map};
 ghost use Rattle.tree_arena.specs.Kept.{node_of};
 ghost use Rattle.tree_arena.specs.Nodes.{most_nodes, class_in, parent_in, component_in, token_in, child_in, count_in, index_in, end_in, hanging, tokens_at};
 ghost use Rattle.tree_arena.specs.Terms.{IsTree};
@@ -10,6 +10,7 @@ use crate::parts::{codes_of, firsts_of, keys_of};
 use ast_grammar::ClassId;
 use groups::{Groups, places};
 use rag_io::Memory;
+use smallvec::SmallVec;
 use std::alloc::Global;
 use std::marker::Model;
 
@@ -17,7 +18,7 @@ use std::marker::Model;
 /// two's complement for an integer, the number in the pool for a text, and 0 where the component is no token.
 #[derive(Debug, Drop)]
 pub struct Tokens {
-    codes: Vec<u32>,
+    codes: SmallVec<u32, 2>,
 }
 
 impl Model for Tokens {
@@ -29,11 +30,29 @@ impl Model for Tokens {
 }
 
 impl Tokens {
+    /// No codes. Up to two take no memory of their own.
+    pub fn new(alloc: Global) -> Tokens
+        ensures { result ≡ [] }
+    {
+        Tokens {
+            codes: SmallVec::new(alloc),
+        }
+    }
+
     /// The tokens of these codes.
     pub fn of(list: Vec<u32>) -> Tokens
         ensures { result ≡ list.items }
     {
-        Tokens { codes: list }
+        Tokens {
+            codes: SmallVec::from_vec(list),
+        }
+    }
+
+    /// One more code, behind the others.
+    pub fn push(&mut self, code: u32) -> Result<(), Memory>
+        ensures { OnOk result (self.new ≡ self.old ++ code ∷ []) }
+    {
+        self.codes.push(code).map_err(|_| Memory)
     }
 
     /// The codes.

@@ -6,21 +6,21 @@ use Rattle.rag_io.specs.declared.token.Place.{Place}
 use Rattle.tree_arena.specs.Nodes.{Node, tokens_at}
 use Rattle.tree_reader.specs.Laying.{seen_laid}
 use Rattle.tree_reader.specs.Steps.{Opened, Arguments, Brackets, coded, coded_by, component_by}
-use Rattle.tree_reader.specs.declared.laying.Laid.{Laid}
+use Rattle.tree_arena.specs.declared.tree.FirstNode.{FirstNode}
 
 -- a node with further codes
 abbrev pub with_codes : Node → List ℕ → Node
 with_codes x codes = record { class = x.class; parent = x.parent; component = x.component; tokens = x.tokens ++ codes }
 
 -- A code of a node in memory is one of the node as it is seen.
-pub coded_set : (xs : List Laid) (n : ℕ) (x y : Laid) (code : ℕ) → n < length xs → x ≡ get_or xs n x
-    → y.class ≡ x.class → y.parent ≡ x.parent → y.component ≡ x.component → y.codes.items ≡ x.codes.items ++ code ∷ []
+pub coded_set : (xs : List FirstNode) (n : ℕ) (x y : FirstNode) (code : ℕ) → n < length xs → x ≡ get_or xs n x
+    → y.class ≡ x.class → y.parent ≡ x.parent → y.component ≡ x.component → y.tokens ≡ x.tokens ++ code ∷ []
     → map seen_laid (set xs n y) ≡ coded (map seen_laid xs) n code
 coded_set [] n x y code h e c p k t = absurd (omega arith)
 coded_set (z ∷ xs) zero x y code h e c p k t =
     let is : x ≡ z = e in
     let seen : seen_laid y ≡ with_codes (seen_laid x) (code ∷ []) = cc in
-    ap (λ (m : Node). m ∷ map seen_laid xs) seen ∙ ap (λ (m : Laid). with_codes (seen_laid m) (code ∷ []) ∷ map seen_laid xs) is
+    ap (λ (m : Node). m ∷ map seen_laid xs) seen ∙ ap (λ (m : FirstNode). with_codes (seen_laid m) (code ∷ []) ∷ map seen_laid xs) is
 coded_set (z ∷ xs) (suc n) x y code h e c p k t = ap (λ ys. seen_laid z ∷ ys) (coded_set xs n x y code (omega arith) e c p k t)
 
 -- a node that there isn't gets no code, and has none
@@ -30,9 +30,9 @@ coded_past (x ∷ nodes) zero code h = absurd (omega arith)
 coded_past (x ∷ nodes) (suc n) code h = ap (λ ys. x ∷ ys) (coded_past nodes n code (omega arith))
 
 -- the codes of a node in memory
-pub tokens_found : (xs : List Laid) (n : ℕ) (x : Laid) → n < length xs → x ≡ get_or xs n x → x.codes.items ≡ tokens_at (map seen_laid xs) n
+pub tokens_found : (xs : List FirstNode) (n : ℕ) (x : FirstNode) → n < length xs → x ≡ get_or xs n x → x.tokens ≡ tokens_at (map seen_laid xs) n
 tokens_found [] n x h e = absurd (omega arith)
-tokens_found (z ∷ xs) zero x h e = ap (λ (m : Laid). m.codes.items) e
+tokens_found (z ∷ xs) zero x h e = ap (λ (m : FirstNode). m.tokens) e
 tokens_found (z ∷ xs) (suc n) x h e = tokens_found xs n x (omega arith) e
 
 pub tokens_past : (nodes : List Node) (n : ℕ) → length nodes ≤ n → tokens_at nodes n ≡ []

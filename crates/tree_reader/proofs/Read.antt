@@ -1,5 +1,5 @@
 -- What the reader of a tree knows from its steps.
-use Rattle.std.proofs.Common.{◌≡◌, ℕ, ◌<◌, ◌^◌, List, [], ◌∷◌, All, length, map, Option, Some, None, refl, ap, sym, subst, ◌∙◌, arith}
+use Rattle.std.proofs.Common.{◌≡◌, ℕ, List, [], ◌∷◌, length, map, Option, Some, None, refl, ap, sym, subst, ◌∙◌}
 use Rattle.std.proofs.lemmas.List.Elements.{All-weaker}
 use Rattle.std.specs.Prelude.{Result, Ok, Err}
 use Rattle.std.specs.Result.{IsErrAnd}
@@ -13,7 +13,7 @@ use Rattle.broken_rules.specs.declared.broken.ReadFault.{ReadFault}
 use Rattle.broken_rules.specs.declared.broken.ReadFault.TheVariants as faults
 use Rattle.broken_rules.specs.declared.rule.Rule.TheVariants.{N7}
 use Rattle.rag_io.specs.Tokens.{Lexed}
-use Rattle.ast_grammar.specs.Grammar.{Class, IsClass, IsGrammar, most_components}
+use Rattle.ast_grammar.specs.Grammar.{Class, IsClass, IsGrammar}
 use Rattle.tree_arena.specs.Nodes as arena
 use Rattle.tree_arena.specs.Nodes.{most_nodes}
 use Rattle.tree_arena.specs.Terms.{HasFew, IsTree, IsTreeOf, nodes_of}
@@ -24,18 +24,17 @@ use Rattle.tree_reader.specs.Breaking.{root_broken, tree_broken}
 use Rattle.tree_reader.specs.Grown.{tree_written}
 use Rattle.tree_reader.specs.Laying.{IsLaid, seen_laid}
 use Rattle.tree_reader.specs.Reading.{ReadsTree, SaysTree, checked}
-use Rattle.tree_reader.specs.declared.laying.Laid.{Laid}
+use Rattle.tree_arena.specs.declared.tree.FirstNode.{FirstNode}
 use Rattle.tree_reader.proofs.Said.{clean_tree}
-use Rattle.tree_reader.proofs.Sizes.{IsBelow, small_tree}
 
 -- All was noted that the tokens break, which write this, and the nodes of its tree were laid.
-pub record IsRead (g : List Class) (pool : List (List ℕ)) (ts : List Lexed) (w : Written) (broken : Option Broken) (nodes : List Laid) : Type 0 where
+pub record IsRead (g : List Class) (pool : List (List ℕ)) (ts : List Lexed) (w : Written) (broken : Option Broken) (nodes : List FirstNode) : Type 0 where
   pub writes : Writes ts w
   pub noted : Notes (tree_broken g pool ts w) None broken
   pub nodes_are : map seen_laid nodes ≡ nodes_of (tree_written g (pooled_texts pool ts) w)
 
 -- it was, after the steps of the reader
-pub is_read : {g : List Class} {pool new : List (List ℕ)} {ts : List Lexed} {codes : List ℕ} {first texts root broken : Option Broken} {nodes : List Laid} (text : IsText ts) → first ≡ None
+pub is_read : {g : List Class} {pool new : List (List ℕ)} {ts : List Lexed} {codes : List ℕ} {first texts root broken : Option Broken} {nodes : List FirstNode} (text : IsText ts) → first ≡ None
     → codes ≡ map (text_code new) ts → new ≡ pooled_texts pool ts → Notes (texts_broken N7 pool ts) first texts → ((w : Written) → Writes ts w → Notes (root_broken g w) texts root)
     → ((p : List (List ℕ)) (w : Written) → codes ≡ map (text_code p) ts → Writes ts w → IsLaid g p w root broken nodes) → IsRead g pool ts text.written broken nodes
 is_read {g} {pool} {new} {ts} {codes} {first} {texts} {root} {broken} {nodes} text fresh coding pooling of_texts of_root laying =
@@ -47,7 +46,7 @@ is_read {g} {pool} {new} {ts} {codes} {first} {texts} {root} {broken} {nodes} te
       nodes_are = laid.nodes_are ∙ ap (λ p. nodes_of (tree_written g p text.written)) pooling;
     }
 
-module _ {g : List Class} {pool : List (List ℕ)} {ts : List Lexed} {w : Written} {broken : Option Broken} {nodes : List Laid} (read : IsRead g pool ts w broken nodes) where
+module _ {g : List Class} {pool : List (List ℕ)} {ts : List Lexed} {w : Written} {broken : Option Broken} {nodes : List FirstNode} (read : IsRead g pool ts w broken nodes) where
   -- what was noted is the answer
   answered : (o : Option Broken) → broken ≡ o → Answers (tree_broken g pool ts w ∷ []) o
   answered o is = one_phase (tree_broken g pool ts w) refl read.noted (sym is)
@@ -79,16 +78,6 @@ module _ {g : List Class} {pool : List (List ℕ)} {ts : List Lexed} {w : Writte
     -- the nodes are those of a tree
     pub read_tree_of : IsTreeOf g (length (pooled_texts pool ts)) (map seen_laid nodes)
     read_tree_of = subst (IsTreeOf g (length (pooled_texts pool ts))) (sym read.nodes_are) (clean_tree g pool ts w read.writes clean)
-
-    pub read_parents : IsGrammar g → All (λ (x : arena.Node). x.parent < 2 ^ 32) (map seen_laid nodes)
-    read_parents allowed =
-        All-weaker (IsBelow most_nodes most_components) (λ (x : arena.Node). x.parent < 2 ^ 32) (λ x small. omega (arith, small.parent)) (map seen_laid nodes)
-        (small_tree g (length (pooled_texts pool ts)) (map seen_laid nodes) allowed read_tree_of)
-
-    pub read_components : IsGrammar g → All (λ (x : arena.Node). x.component < 2 ^ 32) (map seen_laid nodes)
-    read_components allowed =
-        All-weaker (IsBelow most_nodes most_components) (λ (x : arena.Node). x.component < 2 ^ 32) (λ x small. omega (arith, small.component)) (map seen_laid nodes)
-        (small_tree g (length (pooled_texts pool ts)) (map seen_laid nodes) allowed read_tree_of)
 
     pub read_is_tree : IsGrammar g → (kept : List arena.Node) → kept ≡ map seen_laid nodes → IsTree kept
     read_is_tree allowed kept same = record {

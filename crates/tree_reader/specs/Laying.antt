@@ -9,13 +9,14 @@ use Rattle.tree_syntax.specs.Written.{Written}
 use Rattle.tree_reader.specs.Breaking.{arguments_broken}
 use Rattle.tree_reader.specs.Grown.{tree_written}
 use Rattle.tree_reader.specs.Wants.{Unknown}
-use Rattle.tree_reader.specs.declared.laying.Laid.{Laid}
+use Rattle.tree_arena.specs.Kept.{node_of}
+use Rattle.tree_arena.specs.declared.tree.FirstNode.{FirstNode}
 
 -- a node that was laid
-abbrev pub seen_laid : Laid → Node
-seen_laid x = record { class = x.class; parent = x.parent; component = x.component; tokens = x.codes.items }
+abbrev pub seen_laid : FirstNode → Node
+seen_laid x = node_of x
 
 -- The nodes of a written tree were laid, and what its nodes break was noted.
-pub record IsLaid (g : List Class) (pool : List (List ℕ)) (w : Written) (old new : Option Broken) (nodes : List Laid) : Type 0 where
+pub record IsLaid (g : List Class) (pool : List (List ℕ)) (w : Written) (old new : Option Broken) (nodes : List FirstNode) : Type 0 where
   pub nodes_are : map seen_laid nodes ≡ nodes_of (tree_written g pool w)
   pub noted : Notes (arguments_broken g Unknown 0 w) old new

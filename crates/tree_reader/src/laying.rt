@@ -1,5 +1,5 @@
 // The nodes that the tokens of a tree lay, and what they break.
-ghost use Rattle.std.specs.Prelude.{◌≡◌, ◌<◌, ℕ, List, IfOk, IfSome, None, Some, length, map};
+ghost use Rattle.std.specs.Prelude.{◌≡◌, ◌<◌, ℕ, List, [], IfOk, IfSome, None, Some, length, map};
 ghost use Rattle.std.specs.Option.{option_map};
 ghost use Rattle.ast_grammar.specs.Grammar.{Class, number_of};
 ghost use Rattle.broken_rules.specs.Notes.{Notes};
@@ -17,26 +17,18 @@ use broken_rules::{Earliest, Rule};
 use rag_io::{Memory, Place};
 use std::alloc::Global;
 use std::mem;
+use tree_arena::{FirstNode, Tokens};
 
 // A tree has at most so many nodes.
 const MOST_NODES: usize = 65_536;
 
-/// A node that was laid: where it hangs, and the codes of its arguments so far. A node of unknown class is laid as one of the first.
-#[derive(Drop)]
-pub(crate) struct Laid {
-    pub(crate) class: ClassId,
-    pub(crate) parent: usize,
-    pub(crate) component: usize,
-    pub(crate) codes: Vec<u32>,
-}
-
-/// What was read so far: the innermost that is open, what is open around it, the nodes in preorder, the broken rule that counts, and the
-/// place of a `-` whose digits follow.
+/// What was read so far: the innermost that is open, what is open around it, the nodes in preorder with the codes of their arguments so far,
+/// the broken rule that counts, and the place of a `-` whose digits follow. A node of unknown class is laid as one of the first.
 #[derive(Drop)]
 pub(crate) struct Laying {
     innermost: Frame,
     outer: Vec<Frame>,
-    pub(crate) nodes: Vec<Laid>,
+    pub(crate) nodes: Vec<FirstNode>,
     pub(crate) broken: Earliest,
     minus: Option<Place>,
 }
@@ -68,23 +60,43 @@ fn note_name(
 }
 
 // One more code of the node of this number, where there is one.
-fn add_code(nodes: &mut Vec<Laid>, number: usize, code: u32) -> Result<(), Memory>
+fn add_code(nodes: &mut Vec<FirstNode>, number: usize, code: u32) -> Result<(), Memory>
     ensures { IfOk result (λ _. map seen_laid nodes.new.items ≡ coded (map seen_laid nodes.old.items) number code) }
 {
     if number < nodes.len() {
-        nodes[number].codes.push(code).map_err(|_| Memory)?;
+        nodes[number].tokens.push(code)?;
     }
     Ok(())
 }
 
 // How many codes the node of this number has so far.
-fn codes_of(nodes: &[Laid], number: usize) -> usize
+fn codes_of(nodes: &[FirstNode], number: usize) -> usize
     ensures { result ≡ length (tokens_at (map seen_laid nodes.now) number) }
 {
     match nodes.get(number) {
-        Some(node) => node.codes.len(),
+        Some(node) => node.tokens.list().len(),
         None => 0,
     }
+}
+
+// A node that has no codes so far. There is no memory for nodes that 32 bits can't number.
+fn first_node(
+    alloc: Global,
+    class: ClassId,
+    parent: usize,
+    component: usize,
+) -> Result<FirstNode, Memory>
+    ensures { IfOk result (λ node. seen_laid node ≡ record { class = class; parent = parent; component = component; tokens = [] }) }
+{
+    let (Ok(parent), Ok(component)) = (u32::try_from(parent), u32::try_from(component)) else {
+        return Err(Memory);
+    };
+    Ok(FirstNode {
+        class,
+        parent,
+        component,
+        tokens: Tokens::new(alloc),
+    })
 }
 
 impl Laying {
@@ -131,7 +143,7 @@ impl Laying {
     }
 
     // Lays a node behind the others.
-    fn lay(&mut self, laid: Laid) -> Result<(), Memory>
+    fn lay(&mut self, laid: FirstNode) -> Result<(), Memory>
         ensures { IfOk result (λ _. (g : List Class) → seen_state g self.new ≡ laid_last (seen_laid laid) (seen_state g self.old)) }
     {
         self.nodes.push(laid).map_err(|_| Memory)
@@ -153,12 +165,12 @@ impl Laying {
         let wanted = self.innermost.wants.wanted(grammar);
         note_node(grammar, wanted, class, place, &mut self.broken);
 
-        let laid = Laid {
-            class: class.unwrap_or(ClassId(0)),
-            parent: self.innermost.node,
-            component: self.component(),
-            codes: Vec::new(alloc),
-        };
+        let laid = first_node(
+            alloc,
+            class.unwrap_or(ClassId(0)),
+            self.innermost.node,
+            self.component(),
+        )?;
         self.go_behind(grammar, 0)?;
         self.lay(laid)?;
         self.enter(Frame {

@@ -1,24 +1,20 @@
 // The reader of the text of a tree.
-ghost use Rattle.std.specs.Prelude.{◌≡◌, ◌<◌, ◌^◌, All, IfOk, map};
+ghost use Rattle.std.specs.Prelude.{◌≡◌, IfOk};
 ghost use Rattle.broken_rules.specs.Notes.{Notes};
 ghost use Rattle.rag_io.specs.Tokens.{AreTokens, seen_tokens};
 ghost use Rattle.token_texts.specs.Texts.{Extends, pooled_texts};
-ghost use Rattle.tree_arena.specs.Kept.{node_of};
-ghost use Rattle.tree_arena.specs.Nodes.{Node};
 ghost use Rattle.tree_syntax.specs.Written.{Written, Writes};
 ghost use Rattle.tree_reader.specs.Breaking.{root_broken};
-ghost use Rattle.tree_reader.specs.Laying.{seen_laid};
 ghost use Rattle.tree_reader.specs.Reading.{ReadsTree};
 
-use crate::laying::Laid;
 use crate::misplaced::is_apart;
 use crate::steps::lay_tree;
 use ast_grammar::Grammar;
 use broken_rules::{Earliest, ReadFault, Rule};
-use rag_io::{Memory, Pool, Token};
+use rag_io::{Pool, Token};
 use std::alloc::Global;
 use token_texts::{place_of, pool_texts};
-use tree_arena::{FirstNode, Tokens, Tree};
+use tree_arena::Tree;
 use tree_syntax::check_syntax;
 
 // Notes where the root is neither of the first class nor of a subclass. It begins with the first token.
@@ -33,39 +29,6 @@ fn note_root(grammar: &Grammar, tokens: &[Token<'_>], broken: &mut Earliest)
             place_of(name),
         );
     }
-}
-
-// The node as a tree keeps it.
-fn first_node(node: Laid) -> FirstNode
-    requires parent { node.parent < 2 ^ 32 }
-    requires component { node.component < 2 ^ 32 }
-    ensures { node_of result ≡ seen_laid node }
-{
-    let Laid {
-        class,
-        parent,
-        component,
-        codes,
-    } = node;
-    FirstNode {
-        class,
-        parent: parent as u32,
-        component: component as u32,
-        tokens: Tokens::of(codes),
-    }
-}
-
-// The nodes as a tree keeps them.
-fn first_nodes(alloc: Global, laid: Vec<Laid>) -> Result<Vec<FirstNode>, Memory>
-    requires parents { All (λ (x : Node). x.parent < 2 ^ 32) (map seen_laid laid.items) }
-    requires components { All (λ (x : Node). x.component < 2 ^ 32) (map seen_laid laid.items) }
-    ensures { IfOk result (λ nodes. map node_of nodes.items ≡ map seen_laid laid.items) }
-{
-    let mut nodes = Vec::with_capacity(alloc, laid.len()).map_err(|_| Memory)?;
-    for node in laid {
-        nodes.push(first_node(node)).map_err(|_| Memory)?;
-    }
-    Ok(nodes)
 }
 
 /// The tree that the tokens of a tree's text say over a grammar, or the first broken rule. Its texts go into the pool, which holds what it
@@ -98,8 +61,7 @@ pub fn read_tree(
     note_root(grammar, tokens, &mut broken);
     let laying = lay_tree(alloc, grammar, tokens, &texts, broken)?;
     laying.broken.answer()?;
-    // A grammar has few components, so that their numbers are small.
+    // A grammar has few components for a class.
     let _classes = grammar.classes();
-    let nodes = first_nodes(alloc, laying.nodes)?;
-    Ok(Tree::of_nodes(alloc, nodes)?)
+    Ok(Tree::of_nodes(alloc, laying.nodes)?)
 }
