@@ -1,8 +1,9 @@
 -- What each form makes of its parts, which lie on a stack, the last one on top. The forms have the numbers of the actions of the grammar.
-use Rattle.std.specs.Prelude.{ℕ, ◌==◌, min, true, false, List, [], ◌∷◌, ◌++◌, Option, Some, None, if◌then◌else◌}
+use Rattle.std.specs.Prelude.{ℕ, Bool, ◌==◌, min, true, false, List, [], ◌∷◌, ◌++◌, Option, Some, None, if◌then◌else◌}
 use Rattle.std.specs.Option.{option_map}
 use Rattle.rag_io.specs.Decimal.{decimal}
 use Rattle.rag_io.specs.Tokens.{Lexed}
+use Rattle.rag_io.specs.declared.token.Place.{Place}
 use Rattle.jrag_syntax.specs.Tokens.{token_class}
 use Rattle.jrag_syntax.specs.declared.classes.Start.{Start}
 use Rattle.aspect_items.specs.declared.expression.Operator.{Operator}
@@ -11,7 +12,7 @@ use Rattle.aspect_items.specs.declared.expression.Quantifier.{Quantifier}
 use Rattle.aspect_items.specs.declared.expression.Quantifier.TheVariants as quantifiers
 use Rattle.aspect_items.specs.Expressions as expressions
 use Rattle.aspect_items.specs.Expressions.{Expr, Name, arguments_of}
-use Rattle.aspect_items.specs.Items.{TypeName, Boolean, Integer, String, Class, Parameter, Signature, Declared, Inherits, Equates, Collects, Contributes}
+use Rattle.aspect_items.specs.Items.{TypeName, Boolean, Integer, String, Class, WrittenType, Parameter, Signature, Circular, Declared, Inherits, Equates, Collects, Contributes}
 use Rattle.jrag_reader.specs.Parts.{Part, Named, Quantifying, Formed, Arguments, Typed, Parameters, Flag, Modifiers, Circularity, Perhaps, Behind, PerhapsNamed, Made, Items, Opened}
 use Rattle.jrag_reader.specs.Parts.{take, top, token_in, name_in, quantifier_in, expr_in, arguments_in, type_in, parameters_in, flag_in, modifiers_in, circularity_in, perhaps_in, behind_in, perhaps_named_in, item_in, items_in, opened_in}
 
@@ -95,28 +96,49 @@ make_argument parts = take (top expr_in parts) (λ e parts. take (top token_in p
 abbrev pub arguments_on : List Part → Option (List Expr × List Part)
 arguments_on parts = take (top token_in parts) (λ close parts. take (top arguments_in parts) (λ es parts. take (top token_in parts) (λ opening parts. Some (es, parts))))
 
+-- a name before arguments in parentheses
+abbrev pub called_on : List Part → Option ((Name × List Expr) × List Part)
+called_on parts = take (arguments_on parts) (λ es parts. take (top name_in parts) (λ n parts. Some ((n, es), parts)))
+
 abbrev pub make_call : List Part → Option (List Part)
-make_call parts = take (arguments_on parts) (λ es parts. take (top name_in parts) (λ n parts. Some (Formed (expressions.Call n (arguments_of es)) ∷ parts)))
+make_call parts = take (called_on parts) (λ c parts. Some (Formed (expressions.Call c.0 (arguments_of c.1)) ∷ parts))
+
+-- a token, and the expression before it
+abbrev pub marked_on : List Part → Option ((Lexed × Expr) × List Part)
+marked_on parts = take (top token_in parts) (λ t parts. take (top expr_in parts) (λ e parts. Some ((t.0, e), parts)))
 
 abbrev pub make_member : List Part → Option (List Part)
-make_member parts = take (arguments_on parts) (λ es parts. take (top name_in parts) (λ n parts. take (top token_in parts) (λ dot parts. take (top expr_in parts) (λ e parts.
-    Some (Formed (expressions.Member e n (arguments_of es)) ∷ parts)))))
+make_member parts = take (called_on parts) (λ c parts. take (marked_on parts) (λ e parts. Some (Formed (expressions.Member e.1 c.0 (arguments_of c.1)) ∷ parts)))
 
 abbrev pub make_new : List Part → Option (List Part)
-make_new parts = take (arguments_on parts) (λ es parts. take (top name_in parts) (λ n parts. take (top token_in parts) (λ word parts. Some (Formed (expressions.New word.0.place n (arguments_of es)) ∷ parts))))
+make_new parts = take (called_on parts) (λ c parts. take (top token_in parts) (λ word parts. Some (Formed (expressions.New word.0.place c.0 (arguments_of c.1)) ∷ parts)))
+
+-- the word of a quantifier, with its place, before `(`
+abbrev pub quantifier_on : List Part → Option ((Quantifier × Place) × List Part)
+quantifier_on parts = take (top token_in parts) (λ opening parts. take (top quantifier_in parts) (λ q parts. Some ((q.0, q.1.place), parts)))
+
+-- a quantifier, with its place, and the name that it binds
+abbrev pub binder_on : List Part → Option (((Quantifier × Place) × Name) × List Part)
+binder_on parts = take (top token_in parts) (λ colon parts. take (top name_in parts) (λ bound parts. take (quantifier_on parts) (λ q parts. Some ((q, bound), parts))))
 
 -- a quantifier, a bound name and `:` in parentheses with the range, `|` and what is read
 abbrev pub make_quantified : List Part → Option (List Part)
-make_quantified parts = take (top token_in parts) (λ close parts. take (top expr_in parts) (λ read parts. take (top token_in parts) (λ bar parts. take (top expr_in parts) (λ range parts.
-    take (top token_in parts) (λ colon parts. take (top name_in parts) (λ bound parts. take (top token_in parts) (λ opening parts. take (top quantifier_in parts) (λ q parts.
-    Some (Formed (expressions.Quantified q.0 q.1.place bound range read) ∷ parts)))))))))
+make_quantified parts = take (top token_in parts) (λ close parts. take (top expr_in parts) (λ read parts. take (marked_on parts) (λ range parts. take (binder_on parts) (λ b parts.
+    Some (Formed (expressions.Quantified b.0.0 b.0.1 b.1 range.1 read) ∷ parts)))))
+
+-- an expression between two tokens, and the first of them
+abbrev pub enclosed_on : List Part → Option ((Lexed × Expr) × List Part)
+enclosed_on parts = take (top token_in parts) (λ close parts. take (top expr_in parts) (λ e parts. take (top token_in parts) (λ opening parts. Some ((opening.0, e), parts))))
 
 abbrev pub make_group : List Part → Option (List Part)
-make_group parts = take (top token_in parts) (λ close parts. take (top expr_in parts) (λ e parts. take (top token_in parts) (λ opening parts. Some (Formed (expressions.Group opening.0.place e) ∷ parts))))
+make_group parts = take (enclosed_on parts) (λ e parts. Some (Formed (expressions.Group e.0.place e.1) ∷ parts))
+
+-- a name between two tokens, and the first of them
+abbrev pub cast_on : List Part → Option ((Lexed × Name) × List Part)
+cast_on parts = take (top token_in parts) (λ close parts. take (top name_in parts) (λ n parts. take (top token_in parts) (λ opening parts. Some ((opening.0, n), parts))))
 
 abbrev pub make_cast : List Part → Option (List Part)
-make_cast parts = take (top expr_in parts) (λ e parts. take (top token_in parts) (λ close parts. take (top name_in parts) (λ n parts. take (top token_in parts) (λ opening parts.
-    Some (Formed (expressions.Cast opening.0.place n e) ∷ parts)))))
+make_cast parts = take (top expr_in parts) (λ e parts. take (cast_on parts) (λ c parts. Some (Formed (expressions.Cast c.0.place c.1 e) ∷ parts)))
 
 abbrev pub make_not : List Part → Option (List Part)
 make_not parts = take (top expr_in parts) (λ e parts. take (top token_in parts) (λ sign parts. Some (Formed (expressions.Not sign.0.place e) ∷ parts)))
@@ -125,11 +147,10 @@ abbrev pub make_negate : List Part → Option (List Part)
 make_negate parts = take (top expr_in parts) (λ e parts. take (top token_in parts) (λ sign parts. Some (Formed (expressions.Negate sign.0.place e) ∷ parts)))
 
 abbrev pub make_instance : List Part → Option (List Part)
-make_instance parts = take (top name_in parts) (λ n parts. take (top token_in parts) (λ word parts. take (top expr_in parts) (λ e parts. Some (Formed (expressions.InstanceOf e n) ∷ parts))))
+make_instance parts = take (top name_in parts) (λ n parts. take (marked_on parts) (λ e parts. Some (Formed (expressions.InstanceOf e.1 n) ∷ parts)))
 
 abbrev pub make_choice : List Part → Option (List Part)
-make_choice parts = take (top expr_in parts) (λ b parts. take (top token_in parts) (λ colon parts. take (top expr_in parts) (λ a parts. take (top token_in parts) (λ mark parts. take (top expr_in parts) (λ c parts.
-    Some (Formed (expressions.If c a b) ∷ parts))))))
+make_choice parts = take (top expr_in parts) (λ b parts. take (marked_on parts) (λ a parts. take (marked_on parts) (λ c parts. Some (Formed (expressions.If c.1 a.1 b) ∷ parts))))
 
 -- the items of no aspect
 abbrev pub make_no_items : List Part → Option (List Part)
@@ -159,30 +180,77 @@ class_on parts = take (top token_in parts) (λ dot parts. take (top name_in part
 abbrev pub target_on : List Part → Option ((Name × Name) × List Part)
 target_on parts = take (top token_in parts) (λ close parts. take (top token_in parts) (λ opening parts. take (top name_in parts) (λ n parts. take (class_on parts) (λ c parts. Some ((n, c), parts)))))
 
+-- what an attribute of a class is declared as: first its name and its parameters, then the class
+abbrev pub attribute_on : List Part → Option ((Signature × Name) × List Part)
+attribute_on parts = take (signature_on parts) (λ signature parts. take (class_on parts) (λ class parts. Some ((signature, class), parts)))
+
+-- the same, with the type before it
+abbrev pub typed_on : List Part → Option (((Signature × Name) × WrittenType) × List Part)
+typed_on parts = take (attribute_on parts) (λ a parts. take (top type_in parts) (λ of parts. Some ((a, of), parts)))
+
+-- perhaps a body before `;`, and before it whether the attribute is circular
+abbrev pub bodied_on : List Part → Option ((Option Expr × Option Circular) × List Part)
+bodied_on parts = take (top token_in parts) (λ semicolon parts. take (top perhaps_in parts) (λ body parts. take (top circularity_in parts) (λ circular parts. Some ((body, circular), parts))))
+
+-- `lazy` and `nta`, as far as they are there, behind a word
+abbrev pub modified_on : List Part → Option ((Bool × Bool) × List Part)
+modified_on parts = take (top modifiers_in parts) (λ modifiers parts. take (top token_in parts) (λ word parts. Some (modifiers, parts)))
+
 abbrev pub make_synthesized : List Part → Option (List Part)
-make_synthesized parts = take (top token_in parts) (λ semicolon parts. take (top perhaps_in parts) (λ body parts. take (top circularity_in parts) (λ circular parts. take (signature_on parts) (λ signature parts.
-    take (class_on parts) (λ class parts. take (top type_in parts) (λ of parts. take (top modifiers_in parts) (λ modifiers parts. take (top token_in parts) (λ word parts.
-    Some (Made (Declared (record { lazy = modifiers.0; higher_order = modifiers.1; of = of; class = class; signature = signature; circular = circular; body = body })) ∷ parts)))))))))
+make_synthesized parts = take (bodied_on parts) (λ b parts. take (typed_on parts) (λ t parts. take (modified_on parts) (λ modifiers parts.
+    Some (Made (Declared (record { lazy = modifiers.0; higher_order = modifiers.1; of = t.1; class = t.0.1; signature = t.0.0; circular = b.1; body = b.0 })) ∷ parts))))
+
+-- whether a word is there that may be left out, behind another one
+abbrev pub flagged_on : List Part → Option (Bool × List Part)
+flagged_on parts = take (top flag_in parts) (λ there parts. take (top token_in parts) (λ word parts. Some (there, parts)))
 
 abbrev pub make_inherited : List Part → Option (List Part)
-make_inherited parts = take (top token_in parts) (λ semicolon parts. take (top circularity_in parts) (λ circular parts. take (signature_on parts) (λ signature parts. take (class_on parts) (λ class parts.
-    take (top type_in parts) (λ of parts. take (top flag_in parts) (λ lazy parts. take (top token_in parts) (λ word parts.
-    Some (Made (Inherits (record { lazy = lazy; of = of; class = class; signature = signature; circular = circular })) ∷ parts))))))))
+make_inherited parts = take (top token_in parts) (λ semicolon parts. take (top circularity_in parts) (λ circular parts. take (typed_on parts) (λ t parts. take (flagged_on parts) (λ lazy parts.
+    Some (Made (Inherits (record { lazy = lazy; of = t.1; class = t.0.1; signature = t.0.0; circular = circular })) ∷ parts)))))
+
+-- `=`, and perhaps the attribute behind a path before it
+abbrev pub behind_on : List Part → Option (Option Signature × List Part)
+behind_on parts = take (top token_in parts) (λ equals parts. take (top behind_in parts) (λ inherited parts. Some (inherited, parts)))
+
+-- an expression between `=` and `;`, and perhaps the attribute behind a path before them
+abbrev pub equated_on : List Part → Option ((Expr × Option Signature) × List Part)
+equated_on parts = take (top token_in parts) (λ semicolon parts. take (top expr_in parts) (λ body parts. take (behind_on parts) (λ inherited parts. Some ((body, inherited), parts))))
 
 abbrev pub make_equation : List Part → Option (List Part)
-make_equation parts = take (top token_in parts) (λ semicolon parts. take (top expr_in parts) (λ body parts. take (top token_in parts) (λ equals parts. take (top behind_in parts) (λ inherited parts.
-    take (signature_on parts) (λ signature parts. take (class_on parts) (λ class parts. take (top token_in parts) (λ word parts.
-    Some (Made (Equates (record { class = class; signature = signature; inherited = inherited; body = body })) ∷ parts))))))))
+make_equation parts = take (equated_on parts) (λ e parts. take (attribute_on parts) (λ a parts. take (top token_in parts) (λ word parts.
+    Some (Made (Equates (record { class = a.1; signature = a.0; inherited = e.1; body = e.0 })) ∷ parts))))
+
+-- perhaps a root before `;`, and perhaps a method before it
+abbrev pub with_root_on : List Part → Option ((Option Name × Option Name) × List Part)
+with_root_on parts = take (top token_in parts) (λ semicolon parts. take (top perhaps_named_in parts) (λ root parts. take (top perhaps_named_in parts) (λ method parts. Some ((root, method), parts))))
+
+-- a target with a type behind a word
+abbrev pub collected_on : List Part → Option (((Name × Name) × WrittenType) × List Part)
+collected_on parts = take (target_on parts) (λ target parts. take (top type_in parts) (λ of parts. take (top token_in parts) (λ word parts. Some ((target, of), parts))))
 
 abbrev pub make_collection : List Part → Option (List Part)
-make_collection parts = take (top token_in parts) (λ semicolon parts. take (top perhaps_named_in parts) (λ root parts. take (top perhaps_named_in parts) (λ method parts. take (top token_in parts) (λ close parts.
-    take (top expr_in parts) (λ fresh parts. take (top token_in parts) (λ opening parts. take (target_on parts) (λ target parts. take (top type_in parts) (λ of parts. take (top token_in parts) (λ word parts.
-    Some (Made (Collects (record { of = of; class = target.1; name = target.0; fresh = fresh; method = method; root = root })) ∷ parts))))))))))
+make_collection parts = take (with_root_on parts) (λ w parts. take (enclosed_on parts) (λ fresh parts. take (collected_on parts) (λ c parts.
+    Some (Made (Collects (record { of = c.1; class = c.0.1; name = c.0.0; fresh = fresh.1; method = w.1; root = w.0 })) ∷ parts))))
+
+-- a target, and a token behind it
+abbrev pub target_before : List Part → Option ((Name × Name) × List Part)
+target_before parts = take (top token_in parts) (λ for parts. target_on parts)
+
+-- an expression before `;`, and the target before it
+abbrev pub received_on : List Part → Option ((Expr × (Name × Name)) × List Part)
+received_on parts = take (top token_in parts) (λ semicolon parts. take (top expr_in parts) (λ receiver parts. take (target_before parts) (λ target parts. Some ((receiver, target), parts))))
+
+-- what is contributed, perhaps with a condition, and a token behind both: first the condition
+abbrev pub value_on : List Part → Option ((Option Expr × Expr) × List Part)
+value_on parts = take (top token_in parts) (λ to parts. take (top perhaps_in parts) (λ condition parts. take (top expr_in parts) (λ value parts. Some ((condition, value), parts))))
+
+-- a name, and a word behind it
+abbrev pub contributor_on : List Part → Option (Name × List Part)
+contributor_on parts = take (top token_in parts) (λ word parts. take (top name_in parts) (λ n parts. Some (n, parts)))
 
 abbrev pub make_contribution : List Part → Option (List Part)
-make_contribution parts = take (top token_in parts) (λ semicolon parts. take (top expr_in parts) (λ receiver parts. take (top token_in parts) (λ for parts. take (target_on parts) (λ target parts.
-    take (top token_in parts) (λ to parts. take (top perhaps_in parts) (λ condition parts. take (top expr_in parts) (λ value parts. take (top token_in parts) (λ word parts. take (top name_in parts) (λ contributor parts.
-    Some (Made (Contributes (record { contributor = contributor; value = value; condition = condition; class = target.1; name = target.0; receiver = receiver })) ∷ parts))))))))))
+make_contribution parts = take (received_on parts) (λ r parts. take (value_on parts) (λ v parts. take (contributor_on parts) (λ contributor parts.
+    Some (Made (Contributes (record { contributor = contributor; value = v.1; condition = v.0; class = r.1.1; name = r.1.0; receiver = r.0 })) ∷ parts))))
 
 -- a word that may be left out: it is there, or not
 abbrev pub make_present : List Part → Option (List Part)
@@ -216,8 +284,7 @@ abbrev pub make_parameter : List Part → Option (List Part)
 make_parameter parts = take (parameter_on parts) (λ p parts. take (top token_in parts) (λ comma parts. take (top parameters_in parts) (λ ps parts. Some (Parameters (ps ++ p ∷ []) ∷ parts))))
 
 abbrev pub make_circular : List Part → Option (List Part)
-make_circular parts = take (top token_in parts) (λ close parts. take (top expr_in parts) (λ bottom parts. take (top token_in parts) (λ opening parts. take (top token_in parts) (λ word parts.
-    Some (Circularity (Some (record { place = word.0.place; bottom = bottom })) ∷ parts)))))
+make_circular parts = take (enclosed_on parts) (λ e parts. take (top token_in parts) (λ word parts. Some (Circularity (Some (record { place = word.0.place; bottom = e.1 })) ∷ parts)))
 
 abbrev pub make_not_circular : List Part → Option (List Part)
 make_not_circular parts = Some (Circularity None ∷ parts)
@@ -251,8 +318,8 @@ module _ (start : Start) where
 
   -- an operator between two operands
   abbrev pub make_binary : List Part → Option (List Part)
-  make_binary parts = take (top expr_in parts) (λ b parts. take (top token_in parts) (λ sign parts. take (top expr_in parts) (λ a parts.
-      option_map (λ o. Formed (expressions.Binary o a b) ∷ parts) (operator_by (token_class start sign.0)))))
+  make_binary parts = take (top expr_in parts) (λ b parts. take (marked_on parts) (λ a parts.
+      option_map (λ o. Formed (expressions.Binary o a.1 b) ∷ parts) (operator_by (token_class start a.0))))
 
   abbrev pub make_type : List Part → Option (List Part)
   make_type parts = take (top token_in parts) (λ t parts. Some (Typed (record { place = t.0.place; set = false; name = type_name_by (token_class start t.0) t.0.text }) ∷ parts))

@@ -64,3 +64,7 @@ seen_quantifier q = (q.0, seen_name q.1)
 
 abbrev pub seen_names : KeptName × KeptName → Name × Name
 seen_names n = (seen_name n.0, seen_name n.1)
+
+-- of two things that were taken together, what is seen of each
+abbrev pub seen_pair : {A B M N : Type 0} → (M → A) → (N → B) → M × N → A × B
+seen_pair seen_first seen_last both = (seen_first both.0, seen_last both.1)

@@ -3,19 +3,19 @@ ghost use Rattle.std.specs.Prelude.{◌≡◌, IfOk, ◌∷◌, ◌++◌, [], ma
 ghost use Rattle.std.specs.Option.{option_map};
 ghost use Rattle.rag_io.specs.Tokens.{seen_token};
 ghost use Rattle.jrag_syntax.specs.Tokens.{token_class};
-ghost use Rattle.aspect_items.specs.Expressions.{Binary, seen_expr, seen_name};
+ghost use Rattle.aspect_items.specs.Expressions.{Binary, If, seen_expr, seen_name};
 ghost use Rattle.jrag_reader.specs.Making as specs;
 ghost use Rattle.jrag_reader.specs.Parts.{Formed};
-ghost use Rattle.jrag_reader.specs.Stack.{Makes, Takes, seen_said, tops};
+ghost use Rattle.jrag_reader.specs.Stack.{Makes, Takes, seen_pair, seen_said, tops};
 
 use crate::parts::{
     Part, Said, Unbuilt, misfit, no_memory, pop_arguments, pop_expr, pop_name, pop_quantifier,
-    pop_token, say,
+    pop_token, say, unmade,
 };
 use crate::{classes, events};
 use aspect_items::{Expr, Name, Operator, Quantifier};
 use jrag_syntax::{Start, class_of};
-use rag_io::{Memory, Token, capped};
+use rag_io::{Memory, Place, Token, capped};
 use std::alloc::Global;
 use token_texts::place_of;
 
@@ -23,11 +23,13 @@ use token_texts::place_of;
 fn name_of(alloc: Global, token: &Token<'_>) -> Result<Name, Memory>
     ensures { IfOk result (λ n. seen_name n ≡ specs.name_of (seen_token token.now)) }
 {
-    let text = Vec::from_slice(alloc, token.text).map_err(|_| Memory)?;
-    Ok(Name {
-        text,
-        place: place_of(token),
-    })
+    match Vec::from_slice(alloc, token.text) {
+        Ok(text) => Ok(Name {
+            text,
+            place: place_of(token),
+        }),
+        Err(_) => Err(Memory),
+    }
 }
 
 // The value of an integer, or the largest one that is kept.
@@ -40,7 +42,33 @@ fn integer_of(token: &Token<'_>) -> u32
 fn boxed(alloc: Global, expr: Expr) -> Result<Box<Expr>, Memory>
     ensures { IfOk result (λ b. seen_expr b.value ≡ seen_expr expr) }
 {
-    Box::new(alloc, expr).map_err(|_| Memory)
+    match Box::new(alloc, expr) {
+        Ok(boxed) => Ok(boxed),
+        Err(unboxed) => Err(unmade(unboxed)),
+    }
+}
+
+// Two expressions on the heap.
+fn both_boxed(alloc: Global, first: Expr, last: Expr) -> Result<(Box<Expr>, Box<Expr>), Memory>
+    ensures first { IfOk result (λ both. seen_expr both.0.value ≡ seen_expr first) }
+    ensures last { IfOk result (λ both. seen_expr both.1.value ≡ seen_expr last) }
+{
+    let Ok(first) = boxed(alloc, first) else {
+        return Err(unmade(last));
+    };
+    let Ok(last) = boxed(alloc, last) else {
+        return Err(unmade(first));
+    };
+    Ok((first, last))
+}
+
+// A token, and the expression before it.
+fn take_marked<'a>(parts: &mut Vec<Part<'a>>) -> Result<(Token<'a>, Expr), Unbuilt>
+    ensures { Takes (seen_pair seen_token seen_expr) (specs.marked_on (tops parts.old.items)) result (tops parts.new.items) }
+{
+    let (token, _) = pop_token(parts)?;
+    let expr = pop_expr(parts)?;
+    Ok((token, expr))
 }
 
 fn literal_of(start: Start, token: &Token<'_>) -> Option<Expr>
@@ -153,7 +181,10 @@ pub(crate) fn make_first_argument(alloc: Global, parts: &mut Vec<Part<'_>>) -> R
 fn push_argument(arguments: &mut Vec<Expr>, argument: Expr) -> Result<(), Memory>
     ensures { IfOk result (λ _. map seen_expr arguments.new.items ≡ map seen_expr arguments.old.items ++ seen_expr argument ∷ []) }
 {
-    arguments.push(argument).map_err(|_| Memory)
+    match arguments.push(argument) {
+        Ok(()) => Ok(()),
+        Err(unpushed) => Err(unmade(unpushed)),
+    }
 }
 
 pub(crate) fn make_argument(parts: &mut Vec<Part<'_>>) -> Result<(), Unbuilt>
@@ -182,31 +213,33 @@ fn take_arguments(parts: &mut Vec<Part<'_>>) -> Result<Vec<Expr>, Unbuilt>
     Ok(arguments)
 }
 
-fn make_call(parts: &mut Vec<Part<'_>>) -> Result<(), Unbuilt>
-    ensures { Makes (specs.make_call (tops parts.old.items)) result (tops parts.new.items) }
+// A name before arguments in parentheses.
+fn take_called(parts: &mut Vec<Part<'_>>) -> Result<(Name, Vec<Expr>), Unbuilt>
+    ensures { Takes (seen_pair seen_name (λ v. map seen_expr v.items)) (specs.called_on (tops parts.old.items)) result (tops parts.new.items) }
 {
     let arguments = take_arguments(parts)?;
     let Ok(name) = pop_name(parts) else {
         return Err(misfit(arguments));
     };
+    Ok((name, arguments))
+}
+
+fn make_call(parts: &mut Vec<Part<'_>>) -> Result<(), Unbuilt>
+    ensures { Makes (specs.make_call (tops parts.old.items)) result (tops parts.new.items) }
+{
+    let (name, arguments) = take_called(parts)?;
     say(parts, Said::Expr(Expr::Call(name, arguments)))
 }
 
 fn make_member(alloc: Global, parts: &mut Vec<Part<'_>>) -> Result<(), Unbuilt>
     ensures { Makes (specs.make_member (tops parts.old.items)) result (tops parts.new.items) }
 {
-    let arguments = take_arguments(parts)?;
-    let Ok(name) = pop_name(parts) else {
-        return Err(misfit(arguments));
-    };
-    let Ok(_dot) = pop_token(parts) else {
-        return Err(misfit((arguments, name)));
-    };
-    let Ok(receiver) = pop_expr(parts) else {
-        return Err(misfit((arguments, name)));
+    let (name, arguments) = take_called(parts)?;
+    let Ok((_dot, receiver)) = take_marked(parts) else {
+        return Err(misfit((name, arguments)));
     };
     let Ok(receiver) = boxed(alloc, receiver) else {
-        return Err(no_memory((arguments, name)));
+        return Err(no_memory((name, arguments)));
     };
     let member = Expr::Member(receiver, name, arguments);
     say(parts, Said::Expr(member))
@@ -215,15 +248,33 @@ fn make_member(alloc: Global, parts: &mut Vec<Part<'_>>) -> Result<(), Unbuilt>
 fn make_new(parts: &mut Vec<Part<'_>>) -> Result<(), Unbuilt>
     ensures { Makes (specs.make_new (tops parts.old.items)) result (tops parts.new.items) }
 {
-    let arguments = take_arguments(parts)?;
-    let Ok(class) = pop_name(parts) else {
-        return Err(misfit(arguments));
-    };
+    let (class, arguments) = take_called(parts)?;
     let Ok((word, _)) = pop_token(parts) else {
-        return Err(misfit((arguments, class)));
+        return Err(misfit((class, arguments)));
     };
     let made = Expr::New(place_of(&word), class, arguments);
     say(parts, Said::Expr(made))
+}
+
+// The word of a quantifier, with its place, before `(`.
+fn take_quantifier(parts: &mut Vec<Part<'_>>) -> Result<(Quantifier, Place), Unbuilt>
+    ensures { Takes (λ q. q) (specs.quantifier_on (tops parts.old.items)) result (tops parts.new.items) }
+{
+    let _open = pop_token(parts)?;
+    let (quantifier, word) = pop_quantifier(parts)?;
+    Ok((quantifier, word.place))
+}
+
+// A quantifier, with its place, and the name that it binds.
+fn take_binder(parts: &mut Vec<Part<'_>>) -> Result<((Quantifier, Place), Name), Unbuilt>
+    ensures { Takes (seen_pair (λ q. q) seen_name) (specs.binder_on (tops parts.old.items)) result (tops parts.new.items) }
+{
+    let _colon = pop_token(parts)?;
+    let bound = pop_name(parts)?;
+    let Ok(quantifier) = take_quantifier(parts) else {
+        return Err(misfit(bound));
+    };
+    Ok((quantifier, bound))
 }
 
 fn make_quantified(alloc: Global, parts: &mut Vec<Part<'_>>) -> Result<(), Unbuilt>
@@ -231,59 +282,57 @@ fn make_quantified(alloc: Global, parts: &mut Vec<Part<'_>>) -> Result<(), Unbui
 {
     let _close = pop_token(parts)?;
     let read = pop_expr(parts)?;
-    let Ok(_bar) = pop_token(parts) else {
+    let Ok((_bar, range)) = take_marked(parts) else {
         return Err(misfit(read));
     };
-    let Ok(range) = pop_expr(parts) else {
-        return Err(misfit(read));
+    let Ok(((quantifier, place), bound)) = take_binder(parts) else {
+        return Err(misfit((range, read)));
     };
-    let Ok(_colon) = pop_token(parts) else {
-        return Err(misfit((read, range)));
+    let Ok((range, read)) = both_boxed(alloc, range, read) else {
+        return Err(no_memory(bound));
     };
-    let Ok(bound) = pop_name(parts) else {
-        return Err(misfit((read, range)));
-    };
-    let Ok(_open) = pop_token(parts) else {
-        return Err(misfit((read, range, bound)));
-    };
-    let Ok(word) = pop_quantifier(parts) else {
-        return Err(misfit((read, range, bound)));
-    };
-    let (quantifier, word) = word;
-    let Ok(read) = boxed(alloc, read) else {
-        return Err(no_memory((range, bound, word)));
-    };
-    let Ok(range) = boxed(alloc, range) else {
-        return Err(no_memory((read, bound, word)));
-    };
-    let quantified = Expr::Quantified(quantifier, word.place, bound, range, read);
+    let quantified = Expr::Quantified(quantifier, place, bound, range, read);
     say(parts, Said::Expr(quantified))
+}
+
+/// An expression between two tokens, and the first of them.
+pub(crate) fn take_enclosed<'a>(parts: &mut Vec<Part<'a>>) -> Result<(Token<'a>, Expr), Unbuilt>
+    ensures { Takes (seen_pair seen_token seen_expr) (specs.enclosed_on (tops parts.old.items)) result (tops parts.new.items) }
+{
+    let _close = pop_token(parts)?;
+    let expr = pop_expr(parts)?;
+    let Ok((open, _)) = pop_token(parts) else {
+        return Err(misfit(expr));
+    };
+    Ok((open, expr))
 }
 
 fn make_group(alloc: Global, parts: &mut Vec<Part<'_>>) -> Result<(), Unbuilt>
     ensures { Makes (specs.make_group (tops parts.old.items)) result (tops parts.new.items) }
 {
-    let _close = pop_token(parts)?;
-    let inner = pop_expr(parts)?;
-    let Ok((open, _)) = pop_token(parts) else {
-        return Err(misfit(inner));
-    };
+    let (open, inner) = take_enclosed(parts)?;
     let inner = boxed(alloc, inner)?;
     say(parts, Said::Expr(Expr::Group(place_of(&open), inner)))
+}
+
+// A name between two tokens, and the first of them.
+fn take_cast<'a>(parts: &mut Vec<Part<'a>>) -> Result<(Token<'a>, Name), Unbuilt>
+    ensures { Takes (seen_pair seen_token seen_name) (specs.cast_on (tops parts.old.items)) result (tops parts.new.items) }
+{
+    let _close = pop_token(parts)?;
+    let class = pop_name(parts)?;
+    let Ok((open, _)) = pop_token(parts) else {
+        return Err(misfit(class));
+    };
+    Ok((open, class))
 }
 
 fn make_cast(alloc: Global, parts: &mut Vec<Part<'_>>) -> Result<(), Unbuilt>
     ensures { Makes (specs.make_cast (tops parts.old.items)) result (tops parts.new.items) }
 {
     let operand = pop_expr(parts)?;
-    let Ok(_close) = pop_token(parts) else {
+    let Ok((open, class)) = take_cast(parts) else {
         return Err(misfit(operand));
-    };
-    let Ok(class) = pop_name(parts) else {
-        return Err(misfit(operand));
-    };
-    let Ok((open, _)) = pop_token(parts) else {
-        return Err(misfit((operand, class)));
     };
     let Ok(operand) = boxed(alloc, operand) else {
         return Err(no_memory(class));
@@ -335,18 +384,10 @@ fn make_binary(alloc: Global, start: Start, parts: &mut Vec<Part<'_>>) -> Result
     ensures { Makes (specs.make_binary start (tops parts.old.items)) result (tops parts.new.items) }
 {
     let right = pop_expr(parts)?;
-    let Ok((sign, _)) = pop_token(parts) else {
+    let Ok((sign, left)) = take_marked(parts) else {
         return Err(misfit(right));
     };
-    let Ok(left) = pop_expr(parts) else {
-        return Err(misfit(right));
-    };
-    let Ok(right) = boxed(alloc, right) else {
-        return Err(no_memory(left));
-    };
-    let Ok(left) = boxed(alloc, left) else {
-        return Err(no_memory(right));
-    };
+    let (left, right) = both_boxed(alloc, left, right)?;
     push_binary(operator_of(class_of(start, &sign)), left, right, parts)
 }
 
@@ -354,10 +395,7 @@ fn make_instance(alloc: Global, parts: &mut Vec<Part<'_>>) -> Result<(), Unbuilt
     ensures { Makes (specs.make_instance (tops parts.old.items)) result (tops parts.new.items) }
 {
     let class = pop_name(parts)?;
-    let Ok(_word) = pop_token(parts) else {
-        return Err(misfit(class));
-    };
-    let Ok(operand) = pop_expr(parts) else {
+    let Ok((_word, operand)) = take_marked(parts) else {
         return Err(misfit(class));
     };
     let Ok(operand) = boxed(alloc, operand) else {
@@ -366,32 +404,31 @@ fn make_instance(alloc: Global, parts: &mut Vec<Part<'_>>) -> Result<(), Unbuilt
     say(parts, Said::Expr(Expr::InstanceOf(operand, class)))
 }
 
+// A choice between two expressions.
+fn choice_of(alloc: Global, condition: Expr, then: Expr, otherwise: Expr) -> Result<Expr, Memory>
+    ensures { IfOk result (λ e. seen_expr e ≡ If (seen_expr condition) (seen_expr then) (seen_expr otherwise)) }
+{
+    let Ok(condition) = boxed(alloc, condition) else {
+        return Err(unmade((then, otherwise)));
+    };
+    let Ok((then, otherwise)) = both_boxed(alloc, then, otherwise) else {
+        return Err(unmade(condition));
+    };
+    let choice = Expr::If(condition, then, otherwise);
+    Ok(choice)
+}
+
 fn make_choice(alloc: Global, parts: &mut Vec<Part<'_>>) -> Result<(), Unbuilt>
     ensures { Makes (specs.make_choice (tops parts.old.items)) result (tops parts.new.items) }
 {
     let otherwise = pop_expr(parts)?;
-    let Ok(_colon) = pop_token(parts) else {
+    let Ok((_colon, then)) = take_marked(parts) else {
         return Err(misfit(otherwise));
     };
-    let Ok(then) = pop_expr(parts) else {
-        return Err(misfit(otherwise));
+    let Ok((_mark, condition)) = take_marked(parts) else {
+        return Err(misfit((then, otherwise)));
     };
-    let Ok(_mark) = pop_token(parts) else {
-        return Err(misfit((otherwise, then)));
-    };
-    let Ok(condition) = pop_expr(parts) else {
-        return Err(misfit((otherwise, then)));
-    };
-    let Ok(otherwise) = boxed(alloc, otherwise) else {
-        return Err(no_memory((then, condition)));
-    };
-    let Ok(then) = boxed(alloc, then) else {
-        return Err(no_memory((otherwise, condition)));
-    };
-    let Ok(condition) = boxed(alloc, condition) else {
-        return Err(no_memory((otherwise, then)));
-    };
-    let choice = Expr::If(condition, then, otherwise);
+    let choice = choice_of(alloc, condition, then, otherwise)?;
     say(parts, Said::Expr(choice))
 }
 

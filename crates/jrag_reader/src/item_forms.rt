@@ -1,22 +1,23 @@
 // Forms of items and of their parts: each takes its parts from the stack, the last one first, and puts what they make onto it.
 ghost use Rattle.std.specs.Prelude.{◌≡◌, ◌∷◌, ◌++◌, [], IfOk, map};
+ghost use Rattle.std.specs.Option.{option_map};
 ghost use Rattle.rag_io.specs.Tokens.{seen_token};
 ghost use Rattle.jrag_syntax.specs.Tokens.{token_class};
-ghost use Rattle.aspect_items.specs.Expressions.{seen_name};
-ghost use Rattle.aspect_items.specs.Items.{seen_item, seen_parameter, seen_signature, seen_type_name};
+ghost use Rattle.aspect_items.specs.Expressions.{seen_expr, seen_name};
+ghost use Rattle.aspect_items.specs.Items.{seen_circular, seen_item, seen_parameter, seen_signature, seen_type, seen_type_name};
 ghost use Rattle.jrag_reader.specs.Making as specs;
-ghost use Rattle.jrag_reader.specs.Stack.{Makes, Takes, seen_names, tops};
+ghost use Rattle.jrag_reader.specs.Stack.{Makes, Takes, seen_names, seen_pair, tops};
 
-use crate::expression_forms::{make_argument, make_expression, make_first_argument};
+use crate::expression_forms::{make_argument, make_expression, make_first_argument, take_enclosed};
 use crate::parts::{
     Part, Said, Unbuilt, misfit, pop_behind, pop_circularity, pop_expr, pop_flag, pop_item,
     pop_items, pop_modifiers, pop_name, pop_opened, pop_parameters, pop_perhaps, pop_perhaps_named,
-    pop_token, pop_type, say,
+    pop_token, pop_type, say, unmade,
 };
 use crate::{classes, events};
 use aspect_items::{
-    Circular, Collection, Contribution, Equation, Inherited, Item, Name, Parameter, Signature,
-    Synthesized, Type, TypeName,
+    Circular, Collection, Contribution, Equation, Expr, Inherited, Item, Name, Parameter,
+    Signature, Synthesized, Type, TypeName,
 };
 use jrag_syntax::{Start, class_of};
 use rag_io::{Memory, Token};
@@ -37,7 +38,10 @@ fn make_open(parts: &mut Vec<Part<'_>>) -> Result<(), Unbuilt>
 fn push_item(items: &mut Vec<Item>, item: Item) -> Result<(), Memory>
     ensures { IfOk result (λ _. map seen_item items.new.items ≡ map seen_item items.old.items ++ seen_item item ∷ []) }
 {
-    items.push(item).map_err(|_| Memory)
+    match items.push(item) {
+        Ok(()) => Ok(()),
+        Err(unpushed) => Err(unmade(unpushed)),
+    }
 }
 
 fn make_item(parts: &mut Vec<Part<'_>>) -> Result<(), Unbuilt>
@@ -95,29 +99,61 @@ fn take_target(parts: &mut Vec<Part<'_>>) -> Result<(Name, Name), Unbuilt>
     Ok((name, class))
 }
 
-fn make_synthesized(parts: &mut Vec<Part<'_>>) -> Result<(), Unbuilt>
-    ensures { Makes (specs.make_synthesized (tops parts.old.items)) result (tops parts.new.items) }
+// An attribute of a class: its name and its parameters, and the class.
+fn take_attribute(parts: &mut Vec<Part<'_>>) -> Result<(Signature, Name), Unbuilt>
+    ensures { Takes (seen_pair seen_signature seen_name) (specs.attribute_on (tops parts.old.items)) result (tops parts.new.items) }
+{
+    let signature = take_signature(parts)?;
+    let Ok(class) = take_class(parts) else {
+        return Err(misfit(signature));
+    };
+    Ok((signature, class))
+}
+
+// The same, and the type before it.
+fn take_typed(parts: &mut Vec<Part<'_>>) -> Result<((Signature, Name), Type), Unbuilt>
+    ensures { Takes (seen_pair (seen_pair seen_signature seen_name) seen_type) (specs.typed_on (tops parts.old.items)) result (tops parts.new.items) }
+{
+    let attribute = take_attribute(parts)?;
+    let Ok(of) = pop_type(parts) else {
+        return Err(misfit(attribute));
+    };
+    Ok((attribute, of))
+}
+
+// Perhaps a body before `;`, and before it whether the attribute is circular.
+fn take_bodied(parts: &mut Vec<Part<'_>>) -> Result<(Option<Expr>, Option<Circular>), Unbuilt>
+    ensures { Takes (seen_pair (option_map seen_expr) (option_map seen_circular)) (specs.bodied_on (tops parts.old.items)) result (tops parts.new.items) }
 {
     let _semicolon = pop_token(parts)?;
     let body = pop_perhaps(parts)?;
     let Ok(circular) = pop_circularity(parts) else {
         return Err(misfit(body));
     };
-    let Ok(signature) = take_signature(parts) else {
-        return Err(misfit((body, circular)));
+    Ok((body, circular))
+}
+
+// Whether `lazy` and `nta` are there, behind a word.
+fn take_modified(parts: &mut Vec<Part<'_>>) -> Result<(bool, bool), Unbuilt>
+    ensures { Takes (λ b. b) (specs.modified_on (tops parts.old.items)) result (tops parts.new.items) }
+{
+    let modifiers = pop_modifiers(parts)?;
+    let _word = pop_token(parts)?;
+    Ok(modifiers)
+}
+
+fn make_synthesized(parts: &mut Vec<Part<'_>>) -> Result<(), Unbuilt>
+    ensures { Makes (specs.make_synthesized (tops parts.old.items)) result (tops parts.new.items) }
+{
+    let bodied = take_bodied(parts)?;
+    let Ok(typed) = take_typed(parts) else {
+        return Err(misfit(bodied));
     };
-    let Ok(class) = take_class(parts) else {
-        return Err(misfit((body, circular, signature)));
+    let Ok((lazy, higher_order)) = take_modified(parts) else {
+        return Err(misfit((bodied, typed)));
     };
-    let Ok(of) = pop_type(parts) else {
-        return Err(misfit((body, circular, signature, class)));
-    };
-    let Ok((lazy, higher_order)) = pop_modifiers(parts) else {
-        return Err(misfit((body, circular, signature, class, of)));
-    };
-    let Ok(_word) = pop_token(parts) else {
-        return Err(misfit((body, circular, signature, class, of)));
-    };
+    let (body, circular) = bodied;
+    let ((signature, class), of) = typed;
     let item = Item::Synthesized(Synthesized {
         lazy,
         higher_order,
@@ -130,26 +166,27 @@ fn make_synthesized(parts: &mut Vec<Part<'_>>) -> Result<(), Unbuilt>
     say(parts, Said::Item(item))
 }
 
+// Whether a word is there that may be left out, behind another one.
+fn take_flagged(parts: &mut Vec<Part<'_>>) -> Result<bool, Unbuilt>
+    ensures { Takes (λ b. b) (specs.flagged_on (tops parts.old.items)) result (tops parts.new.items) }
+{
+    let there = pop_flag(parts)?;
+    let _word = pop_token(parts)?;
+    Ok(there)
+}
+
 fn make_inherited(parts: &mut Vec<Part<'_>>) -> Result<(), Unbuilt>
     ensures { Makes (specs.make_inherited (tops parts.old.items)) result (tops parts.new.items) }
 {
     let _semicolon = pop_token(parts)?;
     let circular = pop_circularity(parts)?;
-    let Ok(signature) = take_signature(parts) else {
+    let Ok(typed) = take_typed(parts) else {
         return Err(misfit(circular));
     };
-    let Ok(class) = take_class(parts) else {
-        return Err(misfit((circular, signature)));
+    let Ok(lazy) = take_flagged(parts) else {
+        return Err(misfit((circular, typed)));
     };
-    let Ok(of) = pop_type(parts) else {
-        return Err(misfit((circular, signature, class)));
-    };
-    let Ok(lazy) = pop_flag(parts) else {
-        return Err(misfit((circular, signature, class, of)));
-    };
-    let Ok(_word) = pop_token(parts) else {
-        return Err(misfit((circular, signature, class, of)));
-    };
+    let ((signature, class), of) = typed;
     let item = Item::Inherited(Inherited {
         lazy,
         of,
@@ -160,26 +197,38 @@ fn make_inherited(parts: &mut Vec<Part<'_>>) -> Result<(), Unbuilt>
     say(parts, Said::Item(item))
 }
 
-fn make_equation(parts: &mut Vec<Part<'_>>) -> Result<(), Unbuilt>
-    ensures { Makes (specs.make_equation (tops parts.old.items)) result (tops parts.new.items) }
+// `=`, and perhaps the attribute behind a path before it.
+fn take_behind(parts: &mut Vec<Part<'_>>) -> Result<Option<Signature>, Unbuilt>
+    ensures { Takes (option_map seen_signature) (specs.behind_on (tops parts.old.items)) result (tops parts.new.items) }
+{
+    let _equals = pop_token(parts)?;
+    pop_behind(parts)
+}
+
+// An expression between `=` and `;`, and perhaps the attribute behind a path before them.
+fn take_equated(parts: &mut Vec<Part<'_>>) -> Result<(Expr, Option<Signature>), Unbuilt>
+    ensures { Takes (seen_pair seen_expr (option_map seen_signature)) (specs.equated_on (tops parts.old.items)) result (tops parts.new.items) }
 {
     let _semicolon = pop_token(parts)?;
     let body = pop_expr(parts)?;
-    let Ok(_equals) = pop_token(parts) else {
+    let Ok(inherited) = take_behind(parts) else {
         return Err(misfit(body));
     };
-    let Ok(inherited) = pop_behind(parts) else {
-        return Err(misfit(body));
-    };
-    let Ok(signature) = take_signature(parts) else {
-        return Err(misfit((body, inherited)));
-    };
-    let Ok(class) = take_class(parts) else {
-        return Err(misfit((body, inherited, signature)));
+    Ok((body, inherited))
+}
+
+fn make_equation(parts: &mut Vec<Part<'_>>) -> Result<(), Unbuilt>
+    ensures { Makes (specs.make_equation (tops parts.old.items)) result (tops parts.new.items) }
+{
+    let equated = take_equated(parts)?;
+    let Ok(attribute) = take_attribute(parts) else {
+        return Err(misfit(equated));
     };
     let Ok(_word) = pop_token(parts) else {
-        return Err(misfit((body, inherited, signature, class)));
+        return Err(misfit((equated, attribute)));
     };
+    let (body, inherited) = equated;
+    let (signature, class) = attribute;
     let item = Item::Equation(Equation {
         class,
         signature,
@@ -189,33 +238,44 @@ fn make_equation(parts: &mut Vec<Part<'_>>) -> Result<(), Unbuilt>
     say(parts, Said::Item(item))
 }
 
-fn make_collection(parts: &mut Vec<Part<'_>>) -> Result<(), Unbuilt>
-    ensures { Makes (specs.make_collection (tops parts.old.items)) result (tops parts.new.items) }
+// Perhaps a root before `;`, and perhaps a method before it.
+fn take_with_root(parts: &mut Vec<Part<'_>>) -> Result<(Option<Name>, Option<Name>), Unbuilt>
+    ensures { Takes (seen_pair (option_map seen_name) (option_map seen_name)) (specs.with_root_on (tops parts.old.items)) result (tops parts.new.items) }
 {
     let _semicolon = pop_token(parts)?;
     let root = pop_perhaps_named(parts)?;
     let Ok(method) = pop_perhaps_named(parts) else {
         return Err(misfit(root));
     };
-    let Ok(_close) = pop_token(parts) else {
-        return Err(misfit((root, method)));
-    };
-    let Ok(fresh) = pop_expr(parts) else {
-        return Err(misfit((root, method)));
-    };
-    let Ok(_open) = pop_token(parts) else {
-        return Err(misfit((root, method, fresh)));
-    };
-    let Ok(target) = take_target(parts) else {
-        return Err(misfit((root, method, fresh)));
-    };
+    Ok((root, method))
+}
+
+// A target with a type behind a word.
+fn take_collected(parts: &mut Vec<Part<'_>>) -> Result<((Name, Name), Type), Unbuilt>
+    ensures { Takes (seen_pair seen_names seen_type) (specs.collected_on (tops parts.old.items)) result (tops parts.new.items) }
+{
+    let target = take_target(parts)?;
     let Ok(of) = pop_type(parts) else {
-        return Err(misfit((root, method, fresh, target)));
+        return Err(misfit(target));
     };
     let Ok(_word) = pop_token(parts) else {
-        return Err(misfit((root, method, fresh, target, of)));
+        return Err(misfit((target, of)));
     };
-    let (name, class) = target;
+    Ok((target, of))
+}
+
+fn make_collection(parts: &mut Vec<Part<'_>>) -> Result<(), Unbuilt>
+    ensures { Makes (specs.make_collection (tops parts.old.items)) result (tops parts.new.items) }
+{
+    let with_root = take_with_root(parts)?;
+    let Ok((_open, fresh)) = take_enclosed(parts) else {
+        return Err(misfit(with_root));
+    };
+    let Ok(collected) = take_collected(parts) else {
+        return Err(misfit((with_root, fresh)));
+    };
+    let (root, method) = with_root;
+    let ((name, class), of) = collected;
     let item = Item::Collection(Collection {
         of,
         class,
@@ -227,33 +287,58 @@ fn make_collection(parts: &mut Vec<Part<'_>>) -> Result<(), Unbuilt>
     say(parts, Said::Item(item))
 }
 
-fn make_contribution(parts: &mut Vec<Part<'_>>) -> Result<(), Unbuilt>
-    ensures { Makes (specs.make_contribution (tops parts.old.items)) result (tops parts.new.items) }
+// A target, and a token behind it.
+fn take_target_before(parts: &mut Vec<Part<'_>>) -> Result<(Name, Name), Unbuilt>
+    ensures { Takes seen_names (specs.target_before (tops parts.old.items)) result (tops parts.new.items) }
+{
+    let _for = pop_token(parts)?;
+    take_target(parts)
+}
+
+// An expression before `;`, and the target before it.
+fn take_received(parts: &mut Vec<Part<'_>>) -> Result<(Expr, (Name, Name)), Unbuilt>
+    ensures { Takes (seen_pair seen_expr seen_names) (specs.received_on (tops parts.old.items)) result (tops parts.new.items) }
 {
     let _semicolon = pop_token(parts)?;
     let receiver = pop_expr(parts)?;
-    let Ok(_for) = pop_token(parts) else {
+    let Ok(target) = take_target_before(parts) else {
         return Err(misfit(receiver));
     };
-    let Ok(target) = take_target(parts) else {
-        return Err(misfit(receiver));
-    };
-    let Ok(_to) = pop_token(parts) else {
-        return Err(misfit((receiver, target)));
-    };
-    let Ok(condition) = pop_perhaps(parts) else {
-        return Err(misfit((receiver, target)));
-    };
+    Ok((receiver, target))
+}
+
+// What is contributed, perhaps with a condition, and a token behind both: the condition, and the value.
+fn take_value(parts: &mut Vec<Part<'_>>) -> Result<(Option<Expr>, Expr), Unbuilt>
+    ensures { Takes (seen_pair (option_map seen_expr) seen_expr) (specs.value_on (tops parts.old.items)) result (tops parts.new.items) }
+{
+    let _to = pop_token(parts)?;
+    let condition = pop_perhaps(parts)?;
     let Ok(value) = pop_expr(parts) else {
-        return Err(misfit((receiver, target, condition)));
+        return Err(misfit(condition));
     };
-    let Ok(_word) = pop_token(parts) else {
-        return Err(misfit((receiver, target, condition, value)));
+    Ok((condition, value))
+}
+
+// A name, and a word behind it.
+fn take_contributor(parts: &mut Vec<Part<'_>>) -> Result<Name, Unbuilt>
+    ensures { Takes seen_name (specs.contributor_on (tops parts.old.items)) result (tops parts.new.items) }
+{
+    let _word = pop_token(parts)?;
+    pop_name(parts)
+}
+
+fn make_contribution(parts: &mut Vec<Part<'_>>) -> Result<(), Unbuilt>
+    ensures { Makes (specs.make_contribution (tops parts.old.items)) result (tops parts.new.items) }
+{
+    let received = take_received(parts)?;
+    let Ok(contributed) = take_value(parts) else {
+        return Err(misfit(received));
     };
-    let Ok(contributor) = pop_name(parts) else {
-        return Err(misfit((receiver, target, condition, value)));
+    let Ok(contributor) = take_contributor(parts) else {
+        return Err(misfit((received, contributed)));
     };
-    let (name, class) = target;
+    let (receiver, (name, class)) = received;
+    let (condition, value) = contributed;
     let item = Item::Contribution(Contribution {
         contributor,
         value,
@@ -343,7 +428,10 @@ fn take_parameter(parts: &mut Vec<Part<'_>>) -> Result<Parameter, Unbuilt>
 fn push_parameter(parameters: &mut Vec<Parameter>, parameter: Parameter) -> Result<(), Memory>
     ensures { IfOk result (λ _. map seen_parameter parameters.new.items ≡ map seen_parameter parameters.old.items ++ seen_parameter parameter ∷ []) }
 {
-    parameters.push(parameter).map_err(|_| Memory)
+    match parameters.push(parameter) {
+        Ok(()) => Ok(()),
+        Err(unpushed) => Err(unmade(unpushed)),
+    }
 }
 
 fn make_first_parameter(alloc: Global, parts: &mut Vec<Part<'_>>) -> Result<(), Unbuilt>
@@ -372,11 +460,7 @@ fn make_parameter(parts: &mut Vec<Part<'_>>) -> Result<(), Unbuilt>
 fn make_circular(parts: &mut Vec<Part<'_>>) -> Result<(), Unbuilt>
     ensures { Makes (specs.make_circular (tops parts.old.items)) result (tops parts.new.items) }
 {
-    let _close = pop_token(parts)?;
-    let bottom = pop_expr(parts)?;
-    let Ok(_open) = pop_token(parts) else {
-        return Err(misfit(bottom));
-    };
+    let (_open, bottom) = take_enclosed(parts)?;
     let Ok((word, _)) = pop_token(parts) else {
         return Err(misfit(bottom));
     };

@@ -78,8 +78,8 @@ pub(crate) fn no_memory<T: Drop>(_taken: T) -> Unbuilt
     Unbuilt::Memory
 }
 
-// There was no memory for a part.
-fn unpushed_memory<T: Drop>(_unpushed: T) -> Memory {
+/// There was no memory for what was to be made. It takes what is there so far.
+pub(crate) fn unmade<T: Drop>(_made: T) -> Memory {
     Memory
 }
 
@@ -88,7 +88,7 @@ pub(crate) fn push<'a>(parts: &mut Vec<Part<'a>>, part: Part<'a>) -> Result<(), 
 {
     match parts.push(part) {
         Ok(()) => Ok(()),
-        Err(unpushed) => Err(unpushed_memory(unpushed)),
+        Err(unpushed) => Err(unmade(unpushed)),
     }
 }
 

@@ -1,24 +1,29 @@
 use Rattle.std.specs.Option.{option_map}
 use Rattle.aspect_items.specs.Expressions.{seen_name}
 use Rattle.aspect_items.specs.Items.{seen_circular, seen_signature, seen_type}
-use Rattle.jrag_reader.specs.Making.{class_on, signature_on}
-use Rattle.jrag_reader.specs.Parts.{top, token_in, circularity_in, type_in, flag_in}
-use Rattle.jrag_reader.specs.Stack.{seen_token_and_code, tops}
+use Rattle.jrag_reader.specs.Making.{flagged_on, typed_on}
+use Rattle.jrag_reader.specs.Parts.{top, token_in, circularity_in}
+use Rattle.jrag_reader.specs.Stack.{seen_pair, seen_token_and_code, tops}
 use Rattle.jrag_reader.proofs.Taking.{making, missing}
 use Rattle.jrag_reader.proofs.item_forms.make_inherited.Goals as goal
 
-pub returns-in_default-take_class : goal.returns-in_default-take_class
-returns-in_default-take_class c =
+pub returns-in_default : goal.returns-in_default
+returns-in_default c =
     making seen_token_and_code (top token_in (tops c.args.parts.now.items)) _ c.in_ok-_semicolon._semicolon (tops c.pop_token.new.parts.items) _ _ c.in_ok-_semicolon.ensures
     (making (option_map seen_circular) (top circularity_in (tops c.pop_token.new.parts.items)) _ c.in_ok-circular.circular (tops c.pop_circularity.new.parts.items) _ _ c.in_ok-circular.ensures
-    (making seen_signature (signature_on (tops c.pop_circularity.new.parts.items)) _ c.in-Ok.signature (tops c.take_signature.new.parts.items) _ _ c.in-Ok.ensures
-    (missing seen_name (class_on (tops c.take_signature.new.parts.items)) _ _ _ (tops c.take_class.new.parts.items) _ c.in_default-take_class.ensures)))
+    (missing (seen_pair (seen_pair seen_signature seen_name) seen_type) (typed_on (tops c.pop_circularity.new.parts.items)) _ _ _ (tops c.take_typed.new.parts.items) _ c.in_default.ensures))
 
-pub returns-in_default-pop_flag : goal.returns-in_default-pop_flag
-returns-in_default-pop_flag c =
+pub returns-in_default-take_flagged : goal.returns-in_default-take_flagged
+returns-in_default-take_flagged c =
     making seen_token_and_code (top token_in (tops c.args.parts.now.items)) _ c.in_ok-_semicolon._semicolon (tops c.pop_token.new.parts.items) _ _ c.in_ok-_semicolon.ensures
     (making (option_map seen_circular) (top circularity_in (tops c.pop_token.new.parts.items)) _ c.in_ok-circular.circular (tops c.pop_circularity.new.parts.items) _ _ c.in_ok-circular.ensures
-    (making seen_signature (signature_on (tops c.pop_circularity.new.parts.items)) _ c.in-Ok.signature (tops c.take_signature.new.parts.items) _ _ c.in-Ok.ensures
-    (making seen_name (class_on (tops c.take_signature.new.parts.items)) _ c.in-Ok-take_class.class (tops c.take_class.new.parts.items) _ _ c.in-Ok-take_class.ensures
-    (making seen_type (top type_in (tops c.take_class.new.parts.items)) _ c.in-Ok-pop_type.of (tops c.pop_type.new.parts.items) _ _ c.in-Ok-pop_type.ensures
-    (missing (λ b. b) (top flag_in (tops c.pop_type.new.parts.items)) _ _ _ (tops c.pop_flag.new.parts.items) _ c.in_default-pop_flag.ensures)))))
+    (making (seen_pair (seen_pair seen_signature seen_name) seen_type) (typed_on (tops c.pop_circularity.new.parts.items)) _ c.in-Ok.typed (tops c.take_typed.new.parts.items) _ _ c.in-Ok.ensures
+    (missing (λ b. b) (flagged_on (tops c.take_typed.new.parts.items)) _ _ _ (tops c.take_flagged.new.parts.items) _ c.in_default-take_flagged.ensures)))
+
+pub returns : goal.returns
+returns c =
+    making seen_token_and_code (top token_in (tops c.args.parts.now.items)) _ c.in_ok-_semicolon._semicolon (tops c.pop_token.new.parts.items) _ _ c.in_ok-_semicolon.ensures
+    (making (option_map seen_circular) (top circularity_in (tops c.pop_token.new.parts.items)) _ c.in_ok-circular.circular (tops c.pop_circularity.new.parts.items) _ _ c.in_ok-circular.ensures
+    (making (seen_pair (seen_pair seen_signature seen_name) seen_type) (typed_on (tops c.pop_circularity.new.parts.items)) _ c.in-Ok.typed (tops c.take_typed.new.parts.items) _ _ c.in-Ok.ensures
+    (making (λ b. b) (flagged_on (tops c.take_typed.new.parts.items)) _ c.in-Ok-take_flagged.lazy (tops c.take_flagged.new.parts.items) _ _ c.in-Ok-take_flagged.ensures
+    (c.say.ensures))))
