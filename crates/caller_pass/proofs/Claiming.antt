@@ -15,7 +15,7 @@ use Rattle.memo_cells.proofs.Naming.{key_later, word_later}
 use Rattle.memo_cells.specs.SetRaising.{ClaimsWords, IsWordWith, LacksWord}
 use Rattle.circular_eval.specs.Advancing.{ClaimsFrom, FillsFrom, IsKeyFrom, IsLowerWord}
 use Rattle.caller_pass.specs.Answering.{ClaimsKeys, FillsCells, IsElementKey, IsKeyOf}
-use Rattle.caller_pass.proofs.Lines.{chain_then}
+use Rattle.circular_eval.proofs.Going.{chain_then}
 
 -- a key goes on to be one, and one of what leads to its instance
 key_of_later : (p : Program) (v w : View) (i : Instance) (k : ℕ) → IsAtLeast v w → IsKeyOf p v i k → IsKeyOf p w i k

@@ -33,7 +33,8 @@ use Rattle.caller_pass.proofs.Claiming.{claims_same, claims_then, claims_to, fil
 use Rattle.caller_pass.proofs.Falling.{measure}
 use Rattle.caller_pass.proofs.Frames.{stack_fewer, stack_more, stack_on, stack_one, waiting_later, waiting_more}
 use Rattle.caller_pass.proofs.Knowing.{has_value}
-use Rattle.caller_pass.proofs.Lines.{chain_then, met_loop, waits_chain}
+use Rattle.circular_eval.proofs.Going.{chain_then}
+use Rattle.caller_pass.proofs.Lines.{met_loop, waits_chain}
 use Rattle.caller_pass.proofs.Paid.{pays_all, pays_back, pays_first, pays_further, pays_more, top_reached}
 use Rattle.caller_pass.proofs.Paying.{AreApart, Pays}
 use Rattle.caller_pass.proofs.Turning.{falls_back, falls_further, falls_more}

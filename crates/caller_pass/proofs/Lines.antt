@@ -14,6 +14,7 @@ use Rattle.memo_cells.specs.declared.view.View.{View}
 use Rattle.memo_cells.specs.Views.{Has}
 use Rattle.circular_eval.specs.declared.local.Local.{Local}
 use Rattle.circular_eval.specs.Advancing.{AreLed, IsPath}
+use Rattle.circular_eval.proofs.Going.{chain_then}
 use Rattle.caller_pass.specs.declared.waiting.Waiter.{Waiter}
 use Rattle.caller_pass.specs.Answering.{EndsAtLoop, IsLoop}
 use Rattle.caller_pass.specs.Waiting.{AreWaiting, IsLineTo, WaitsBy, waits, way_of}
@@ -91,11 +92,6 @@ module _ (p : Program) where
   led_both (x ∷ []) j ys a b = (a.0, b)
   led_both (x ∷ y ∷ xs) j ys a b = (a.0, led_both (y ∷ xs) j ys a.1 b)
 
-  -- one chain behind another
-  pub chain_then : {i j k : Instance} → Chain p i j → Chain p j k → Chain p i k
-  chain_then none c = c
-  chain_then (more l d) c = more l (chain_then d c)
-
   -- what waits for something leads to it
   pub waits_chain : (f : Frame) (v : View) (i : Instance) (way : Option Local) (n : Instance) → WaitsBy p f v i way n → Chain p i n
   waits_chain f v i None n w = more w none
@@ -104,7 +100,7 @@ module _ (p : Program) where
   -- the first that waits reaches what the last waits for
   pub waiting_chain : (f : Frame) (v : View) (e : CodedInstance × Waiter) (es : List (CodedInstance × Waiter)) (n : Instance) → AreWaiting p f v (e ∷ es) n → Chain p (instance_of p e.0) n
   waiting_chain f v e [] n w = waits_chain f v (instance_of p e.0) (way_of e.1) n w
-  waiting_chain f v e (d ∷ es) n w = chain_then (waits_chain f v (instance_of p e.0) (way_of e.1) (instance_of p d.0) w.0) (waiting_chain f v d es n w.1)
+  waiting_chain f v e (d ∷ es) n w = chain_then p (waits_chain f v (instance_of p e.0) (way_of e.1) (instance_of p d.0) w.0) (waiting_chain f v d es n w.1)
 
 -- one that waits stands among the entries
 found : (es : List (CodedInstance × Waiter)) (i : CodedInstance) → waits es i ≡ true → (e : CodedInstance × Waiter) × Has es e × (e.0 ≡ i)

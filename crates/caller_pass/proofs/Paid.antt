@@ -25,7 +25,8 @@ use Rattle.caller_pass.proofs.Falling.{left}
 use Rattle.caller_pass.proofs.Frames.{waiting_front}
 use Rattle.caller_pass.proofs.Knowing.{known_cell, one_cell, settled_known}
 use Rattle.memo_cells.proofs.Bits.{has_left}
-use Rattle.caller_pass.proofs.Lines.{chain_then, has_last, has_snoc, start_chain, waiting_chain}
+use Rattle.circular_eval.proofs.Going.{chain_then}
+use Rattle.caller_pass.proofs.Lines.{has_last, has_snoc, start_chain, waiting_chain}
 use Rattle.caller_pass.proofs.Paying.{AreApart, IsFresh, IsStart, Pays, by_done, done, done_by, empty_of, falls_so, fresh_circular, fresh_frame, has_or_not, left_done, none_some, some_once, sorted, without}
 use Rattle.caller_pass.proofs.Turning.{length_snoc, on_stack, waits_each}
 

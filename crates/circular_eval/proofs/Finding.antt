@@ -1,6 +1,6 @@
 -- Members by their instances and by their numbers.
 use Rattle.std.proofs.Common.{◌≡◌, ℕ, zero, suc, Bool, true, false, cond, Option, Some, None, [], ◌∷◌, ◌++◌, slice_get, inl, inr, refl, sym, ap, ◌∙◌}
-use Rattle.std.specs.Map.{lookup, values_of}
+use Rattle.std.specs.Map.{lookup, lookup_key, values_of}
 use Rattle.rag_io.specs.Pool.{ArePooled}
 use Rattle.indexmap.specs.IndexMap.{insert_entry, set_value_at}
 use Rattle.equation_law.specs.contracts.coding.InstancePartialEq.TheImpl as equality
@@ -13,6 +13,8 @@ use Rattle.memo_cells.specs.Views.{Has}
 use Rattle.memo_cells.proofs.Showing.{not_both}
 use Rattle.circular_eval.specs.declared.members.Member.{Member}
 use Rattle.circular_eval.specs.Local.{AreKept, IsAbsent, IsMemberOf, Members, local_value, with_value}
+use Rattle.circular_eval.specs.Parts.{without_slot}
+use Rattle.circular_eval.specs.Sealed.{IsMemberAt}
 
 -- what is found is an entry
 pub found : (es : Members) (i : CodedInstance) (m : Member) → lookup (equality.ghosts.eq i) es ≡ Some m → (e : CodedInstance × Member) × Has es e × (e.0 ≡ i) × (e.1 ≡ m)
@@ -73,3 +75,26 @@ pub with_none : (es : Members) (n : ℕ) (x : CodedValue) → None ≡ slice_get
 with_none [] n x h = refl
 with_none (e ∷ es) zero x h = cc
 with_none (e ∷ es) (suc n) x h = ap (λ l. e ∷ l) (with_none es n x h)
+
+-- and no cell at a place
+pub shut_with : (es : Members) (n : ℕ) (m : Member) → slice_get (values_of es) n ≡ Some m → set_value_at es n (record { slot = None; value = m.value; by = m.by }) ≡ without_slot es n
+shut_with [] n m h = refl
+shut_with (e ∷ es) zero m h = let is : m ≡ e.1 = cc in ap (λ (y : Member). (e.0, record { slot = None; value = y.value; by = y.by }) ∷ es) is
+shut_with (e ∷ es) (suc n) m h = ap (λ l. e ∷ l) (shut_with es n m h)
+
+pub shut_none : (es : Members) (n : ℕ) → None ≡ slice_get (values_of es) n → es ≡ without_slot es n
+shut_none [] n h = refl
+shut_none (e ∷ es) zero h = cc
+shut_none (e ∷ es) (suc n) h = ap (λ l. e ∷ l) (shut_none es n h)
+
+-- the key that is found is the one that is looked for
+key_found : (es : Members) (i k : CodedInstance) → lookup_key (equality.ghosts.eq i) es ≡ Some k → k ≡ i
+key_found [] i k h = cc
+key_found (e ∷ es) i k h =
+    elim (equality.ghosts.eq i e.0) as (λ b. equality.ghosts.eq i e.0 ≡ b → cond b (Some e.0) (lookup_key (equality.ghosts.eq i) es) ≡ Some k → k ≡ i) [
+      | true ↦ λ q g. let is : e.0 ≡ k = cc in sym is ∙ sym (key_is i e.0 q)
+      | false ↦ λ q g. key_found es i k g
+    ] refl h
+
+pub found_at : (es : Members) (i : CodedInstance) (n : ℕ) {k : CodedInstance} (m : Member) → slice_get es n ≡ Some (k, m) → Some k ≡ lookup_key (equality.ghosts.eq i) es → IsMemberAt es n i m.value
+found_at es i n {k} m at key = record { entry = (k, m); at = at; is = key_found es i k (sym key); value = refl }

@@ -34,6 +34,11 @@ pub chain_more : (p : Program) (i j k : Instance) → Chain p i j → Leads p j 
 chain_more p i j k none l = more l none
 chain_more p i j k (more {j = h} m c) l = more m (chain_more p h j k c l)
 
+-- a chain, and another one
+pub chain_then : (p : Program) {i j k : Instance} → Chain p i j → Chain p j k → Chain p i k
+chain_then p none c = c
+chain_then p (more l d) c = more l (chain_then p d c)
+
 -- the start leads to each member
 led_by : (p : Program) (start : CodedInstance) (es : Members) (k : ℕ) (i : CodedInstance) (by : Option ℕ) → ((b : ℕ) (d : CodedInstance × Member) → b < k → slice_get es b ≡ Some d → Chain p (instance_of p start) (instance_of p d.0)) → IsLedBy p es start k i by → Chain p (instance_of p start) (instance_of p i)
 led_by p start es k i None before h = subst (λ (j : CodedInstance). Chain p (instance_of p start) (instance_of p j)) (sym h) none

@@ -13,6 +13,7 @@ pub mod Left
 pub mod Looking
 pub mod Lowering
 pub mod Numbers
+pub mod Parting
 pub mod Passing
 pub mod Paths
 pub mod Raised

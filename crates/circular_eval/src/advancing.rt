@@ -9,6 +9,7 @@ ghost use Rattle.circular_eval.specs.Local.{IsLocal};
 ghost use Rattle.circular_eval.specs.Visiting.{Advances, Begins, Closes, GoesAgain, IsReady, Passes};
 
 use crate::local::Local;
+use crate::parts::seal_closed;
 use crate::visiting::{Visited, admit, visit};
 use equation_law::{Instance, System};
 use memo_cells::{CellsFull, Work};
@@ -160,7 +161,7 @@ fn begin<W: Work>(
 }
 
 /// Closes a local set and seals its members, unless an undeclared instance is missing.
-fn go_on<'a, W: Work>(
+pub(crate) fn finish<'a, W: Work>(
     alloc: Global,
     system: &'a System,
     work: &mut W,
@@ -178,8 +179,31 @@ fn go_on<'a, W: Work>(
     Ok(CircTurn::Closed)
 }
 
+/// Closes a local set and seals its members. Where an undeclared instance is missing, it seals those members from which nothing that is missing is
+/// led to, and answers what is missing then.
+fn go_on<'a, W: Work>(
+    alloc: Global,
+    system: &'a System,
+    work: &mut W,
+    local: &mut Local<'a>,
+) -> Result<CircTurn, CircFault>
+    requires ready { IsReady system.now (W.held work.old) local.old }
+    ensures { Advances (W.held work.old) (W.held work.new) local.old local.new result }
+{
+    let turn = finish(alloc, system, work, local)?;
+    if turn == CircTurn::Closed {
+        return Ok(turn);
+    }
+    let closed = local.closed(alloc)?;
+    if closed.is_empty() {
+        return Ok(turn);
+    }
+    seal_closed(alloc, system, work, local, closed.as_slice())?;
+    finish(alloc, system, work, local)
+}
+
 /// Goes on with a local set: its members are evaluated until an undeclared instance is missing or no value rises any more. Then the set is
-/// closed, and its members are sealed.
+/// closed, and its members are sealed. Where an instance is missing, those members are sealed already from which nothing that is missing is led to.
 ///
 /// After a fault the local set stays, and may be gone on with.
 pub fn advance<'a, W: Work>(

@@ -7,6 +7,7 @@ mod claiming;
 mod due;
 mod local;
 mod members;
+mod parts;
 mod raising;
 mod reading;
 mod sealed;

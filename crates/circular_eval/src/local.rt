@@ -12,6 +12,8 @@ ghost use Rattle.memo_cells.specs.declared.view.View.{View};
 ghost use Rattle.expr_eval.specs.Saved.{SavesNothing};
 ghost use Rattle.circular_eval.specs.Advancing.{IsPath};
 ghost use Rattle.circular_eval.specs.Local.{AreKept, AreSlots, IsAbsent, IsLocal, IsMemberOf, local_value, with_value};
+ghost use Rattle.circular_eval.specs.Parts.{unsealed_at, without_slot};
+ghost use Rattle.circular_eval.specs.Sealed.{IsMemberAt};
 ghost use Rattle.circular_eval.specs.Left.{member_bound};
 ghost use Rattle.circular_eval.specs.Waiting.{due_count};
 
@@ -118,6 +120,7 @@ impl<'a> Local<'a> {
         ensures member { (p : Program) → IfSome result (λ x. IsMemberOf p self.now.members.entries (instance_of p i.now)) }
         ensures value { (p : Program) → ArePooled p.texts → IsCoded p i.now → AreKept p self.now.members.entries → IfSome result (λ x. local_value p self.now.members.entries (instance_of p i.now) ≡ value_of (text_of p) x.1.now) }
         ensures elements { (p : Program) → AreKept p self.now.members.entries → IfSome result (λ x. AreElements p x.1.now) }
+        ensures at { IfSome result (λ x. IsMemberAt self.now.members.entries x.0 i.now x.1.now) }
     {
         let (number, _, member) = self.members.get_full(i)?;
         Some((number, &member.value))
@@ -157,7 +160,9 @@ impl<'a> Local<'a> {
     }
 
     /// The member whose evaluation stopped last, if that may go on.
-    pub(crate) fn stopped(&self) -> Option<usize> {
+    pub(crate) fn stopped(&self) -> Option<usize>
+        ensures { result ≡ option_and_then (λ s. option_map (λ n. n.0) self.now.need) self.now.saved }
+    {
         self.saved.as_ref()?;
         let (number, _) = self.need?;
         Some(number)
@@ -250,6 +255,59 @@ impl<'a> Local<'a> {
         self.saved = None;
         self.set_value(number, value);
         self.worklist.wake_readers(number)
+    }
+
+    /// A member whose cell isn't sealed yet, by its number.
+    pub(crate) fn unsealed(&self, number: usize) -> Option<Instance>
+        ensures { result ≡ unsealed_at self.now.members.entries number }
+    {
+        let (instance, member) = self.members.get_index(number)?;
+        member.slot?;
+        Some(*instance)
+    }
+
+    // Takes away the cell of a member.
+    fn take_slot(&mut self, number: usize)
+        ensures start { self.new.start ≡ self.old.start }
+        ensures need { self.new.need ≡ self.old.need }
+        ensures saved { self.new.saved ≡ self.old.saved }
+        ensures members { self.new.members.entries ≡ without_slot self.old.members.entries number }
+    {
+        if let Some(member) = self.members.get_index_mut(number) {
+            member.slot = None;
+        }
+    }
+
+    /// The cell of a member is sealed, with the value that the member has.
+    pub(crate) fn seal(&mut self, number: usize)
+        ensures start { self.new.start ≡ self.old.start }
+        ensures need { self.new.need ≡ self.old.need }
+        ensures saved { self.new.saved ≡ self.old.saved }
+        ensures members { self.new.members.entries ≡ without_slot self.old.members.entries number }
+    {
+        self.take_slot(number);
+        self.worklist.rest(number);
+    }
+
+    /// The numbers of the members that aren't sealed and lead to nothing that is missing, as far as is known: neither to the member whose equation
+    /// stopped last nor to one that is due. None are answered where the search would take longer than what was read since the last one.
+    pub(crate) fn closed(&mut self, alloc: Global) -> Result<Vec<usize>, Memory>
+        ensures start { self.new.start ≡ self.old.start }
+        ensures members { self.new.members ≡ self.old.members }
+        ensures need { self.new.need ≡ self.old.need }
+        ensures saved { self.new.saved ≡ self.old.saved }
+    {
+        let mut closed = Vec::new(alloc);
+        let Some((stopped, _)) = self.need else {
+            return Ok(closed);
+        };
+        let found = self.worklist.closed(alloc, stopped)?;
+        for number in found.as_slice() {
+            if self.unsealed(*number).is_some() {
+                closed.push(*number).map_err(|_| Memory)?;
+            }
+        }
+        Ok(closed)
     }
 
     /// The cells of the members that weren't sealed when they were met.

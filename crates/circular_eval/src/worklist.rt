@@ -13,6 +13,16 @@ pub struct Worklist {
     due: Due,
     // The members that read the value of each.
     readers: Vec<IndexSet<usize>>,
+    // How much was read since closed members were looked for, and how much was looked at then.
+    effort: usize,
+    cost: usize,
+}
+
+/// The members from which a way of reads leads to one that is due or that stopped, and how many reads were looked at.
+#[derive(Drop)]
+struct Search {
+    open: IndexSet<usize>,
+    looked: usize,
 }
 
 /// Puts a number last, unless it is there.
@@ -37,6 +47,15 @@ fn wake_all(due: &mut Due, readers: &IndexSet<usize>, risen: usize) -> Result<()
     Ok(())
 }
 
+/// The members that read the value of one that is open are open.
+fn open_all(search: &mut Search, readers: &IndexSet<usize>) -> Result<(), Memory> {
+    search.looked = search.looked.saturating_add(readers.len());
+    for number in readers.as_slice() {
+        insert(&mut search.open, *number)?;
+    }
+    Ok(())
+}
+
 impl Worklist {
     /// No members.
     pub(crate) fn new(alloc: Global) -> Worklist
@@ -46,6 +65,8 @@ impl Worklist {
         Worklist {
             due: Due::new(alloc),
             readers: Vec::new(alloc),
+            effort: 0,
+            cost: 0,
         }
     }
 
@@ -97,6 +118,7 @@ impl Worklist {
     pub(crate) fn note_reads(&mut self, reader: usize, read: &[usize]) -> Result<(), Memory>
         ensures { self.new.due ≡ self.old.due }
     {
+        self.effort = self.effort.saturating_add(read.len()).saturating_add(1);
         for number in read {
             if let Some(readers) = self.readers.get_mut(*number) {
                 insert(readers, reader)?;
@@ -115,5 +137,51 @@ impl Worklist {
             wake_all(&mut self.due, readers, number)?;
         }
         Ok(())
+    }
+
+    // The member that stopped, and those that are due.
+    fn begun(&self, alloc: Global, stopped: usize) -> Result<Search, Memory> {
+        let mut open = IndexSet::new(alloc);
+        insert(&mut open, stopped)?;
+        for number in 0..self.readers.len() {
+            if self.due.has(number) {
+                insert(&mut open, number)?;
+            }
+        }
+        Ok(Search { open, looked: 0 })
+    }
+
+    // All members from which a way of reads leads to the one that stopped or to one that is due.
+    fn search(&self, alloc: Global, stopped: usize) -> Result<Search, Memory> {
+        let mut search = self.begun(alloc, stopped)?;
+        for at in 0..self.readers.len() {
+            let Some(number) = search.open.get_index(at).copied() else {
+                break;
+            };
+            if let Some(readers) = self.readers.get(number) {
+                open_all(&mut search, readers)?;
+            }
+        }
+        Ok(search)
+    }
+
+    /// The members from which no way of reads leads to the one that stopped or to one that is due. None are answered where the search would look at
+    /// more than was read since the last one: so all searches together take no longer than the evaluations.
+    pub(crate) fn closed(&mut self, alloc: Global, stopped: usize) -> Result<Vec<usize>, Memory>
+        ensures { self.new.due ≡ self.old.due }
+    {
+        let mut closed = Vec::new(alloc);
+        if self.effort < self.cost {
+            return Ok(closed);
+        }
+        let search = self.search(alloc, stopped)?;
+        self.effort = 0;
+        self.cost = search.looked.saturating_add(self.readers.len());
+        for number in 0..self.readers.len() {
+            if !search.open.contains(&number) {
+                closed.push(number).map_err(|_| Memory)?;
+            }
+        }
+        Ok(closed)
     }
 }

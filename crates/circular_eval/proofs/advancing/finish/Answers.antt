@@ -9,7 +9,7 @@ use Rattle.circular_eval.specs.Visiting.{Closes}
 use Rattle.circular_eval.proofs.Ending.{on_closed, on_fault, on_goes, on_late, on_may, on_need, on_refused}
 use Rattle.circular_eval.proofs.Going.{ready_then}
 use Rattle.circular_eval.proofs.Raised.{err_is}
-use Rattle.circular_eval.proofs.advancing.go_on.Goals as goal
+use Rattle.circular_eval.proofs.advancing.finish.Goals as goal
 
 pub begin-requires : goal.begin-requires
 begin-requires g c =

@@ -1,0 +1,397 @@
+-- Parts of a local set that are sealed: the set stays one.
+use Rattle.std.proofs.Common.{◌≡◌, ◌⊎◌, ℕ, zero, suc, ◌<◌, true, cond, List, [], ◌∷◌, Option, Some, None, IsSome, Result, Ok, Err, length, slice_get, inl, inr, ⊎_elim, refl, sym, ap, subst, ◌∙◌}
+use Rattle.std.specs.Option.{option_and_then, option_map}
+use Rattle.std.specs.Prelude.{IfErr}
+use Rattle.equation_law.specs.declared.coding.Instance.{Instance as CodedInstance}
+use Rattle.equation_law.specs.declared.coding.Value.{Value as CodedValue}
+use Rattle.equation_law.specs.declared.system.System.{System}
+use Rattle.equation_law.specs.Checked.{IsInstance}
+use Rattle.equation_law.specs.Codes.{AreElements, IsCoded, instance_of, value_of}
+use Rattle.equation_law.specs.Equations.{HasValue, equations_of, kind_in}
+use Rattle.equation_law.specs.Loops.{Chain, Leads}
+use Rattle.equation_law.specs.Names.{Instance, same_instance}
+use Rattle.equation_law.specs.Orders.{FitsKind}
+use Rattle.equation_law.specs.Program.{Program, text_of}
+use Rattle.equation_law.specs.Systems.{program_of}
+use Rattle.equation_law.specs.Values.{Value}
+use Rattle.expr_eval.specs.declared.saved.Saved.{Saved}
+use Rattle.memo_cells.specs.declared.keys.Slot.{Slot}
+use Rattle.memo_cells.specs.declared.view.Frame.{Frame}
+use Rattle.memo_cells.specs.declared.view.View.{View}
+use Rattle.memo_cells.specs.Showing.{ShowsAtLeast}
+use Rattle.memo_cells.specs.Standing.{Knows}
+use Rattle.memo_cells.specs.Views.{Has}
+use Rattle.memo_cells.specs.Working.{Held, program_at}
+use Rattle.memo_cells.proofs.More.{at_least_itself}
+use Rattle.circular_eval.specs.declared.advancing.CircFault.{CircFault}
+use Rattle.circular_eval.specs.declared.advancing.CircFault.TheVariants.{CellsFull, Memory}
+use Rattle.circular_eval.specs.declared.advancing.CircTurn.{CircTurn}
+use Rattle.circular_eval.specs.declared.advancing.CircTurn.TheVariants as turn
+use Rattle.circular_eval.specs.declared.local.Local.{Local}
+use Rattle.circular_eval.specs.declared.members.Member.{Member}
+use Rattle.circular_eval.specs.Advancing.{AnswersFault, AnswersTurn, ClaimsFrom, FillsFrom}
+use Rattle.circular_eval.specs.Local.{AreMembers, IsKept, IsLedBy, IsLocal, IsMember, IsMemberOf, IsNeedOf, IsNumberOf, IsPlaced, Members, ReadsHere, StillMembers, local_value, with_value}
+use Rattle.circular_eval.specs.Parts.{IsFinal, IsFinalAt, IsSealedSet, SealsPart, Settles, Takes, unsealed_at, without_slot}
+use Rattle.circular_eval.specs.Sealed.{IsMemberAt}
+use Rattle.circular_eval.specs.Visiting.{Advances, GoesOnWith, IsReady}
+use Rattle.circular_eval.proofs.Admitting.{local_is_here}
+use Rattle.circular_eval.proofs.Entries.{at_has, changed_at, length_changed}
+use Rattle.circular_eval.proofs.Going.{chain_then, member_chain, program_on, with_then}
+use Rattle.circular_eval.proofs.Growing.{local_risen}
+use Rattle.circular_eval.proofs.Later.{local_later}
+use Rattle.circular_eval.proofs.Passing.{goes_looked}
+use Rattle.circular_eval.proofs.Resuming.{kept_on}
+
+-- the member that is sealed: its entry, but for the cell
+pub record IsShut (n : ℕ) (k : ℕ) (d e : CodedInstance × Member) : Type 0 where
+  pub instance : e.0 ≡ d.0
+  pub value : e.1.value ≡ d.1.value
+  pub by : e.1.by ≡ d.1.by
+  pub slot : ((k ≡ n) × (e.1.slot ≡ None)) ⊎ (e.1.slot ≡ d.1.slot)
+
+pub shut_at : (es : Members) (n k : ℕ) (e : CodedInstance × Member) → slice_get (without_slot es n) k ≡ Some e → (d : CodedInstance × Member) × (slice_get es k ≡ Some d) × IsShut n k d e
+shut_at [] n k e at = cc
+shut_at (d ∷ es) zero zero e at =
+    let is : (d.0, record { slot = None; value = d.1.value; by = d.1.by }) ≡ e = cc in
+    (d, refl, record { instance = ap (λ (q : CodedInstance × Member). q.0) (sym is); value = ap (λ (q : CodedInstance × Member). q.1.value) (sym is); by = ap (λ (q : CodedInstance × Member). q.1.by) (sym is); slot = inl (refl, ap (λ (q : CodedInstance × Member). q.1.slot) (sym is)) })
+shut_at (d ∷ es) zero (suc k) e at = (e, at, record { instance = refl; value = refl; by = refl; slot = inr refl })
+shut_at (d ∷ es) (suc n) zero e at = (e, at, record { instance = refl; value = refl; by = refl; slot = inr refl })
+shut_at (d ∷ es) (suc n) (suc k) e at =
+    let r = shut_at es n k e at in
+    (r.0, r.1, record { instance = r.2.instance; value = r.2.value; by = r.2.by; slot = ⊎_elim (λ h. inl (ap suc h.0, h.1)) inr r.2.slot })
+
+length_shut : (es : Members) (n : ℕ) → length (without_slot es n) ≡ length es
+length_shut [] n = refl
+length_shut (e ∷ es) zero = refl
+length_shut (e ∷ es) (suc n) = ap suc (length_shut es n)
+
+stays_shut : (es : Members) (n k : ℕ) (d : CodedInstance × Member) → slice_get es k ≡ Some d → (e : CodedInstance × Member) × (slice_get (without_slot es n) k ≡ Some e) × (e.0 ≡ d.0)
+stays_shut [] n k d at = cc
+stays_shut (c ∷ es) zero zero d at = let is : c ≡ d = cc in ((c.0, record { slot = None; value = c.1.value; by = c.1.by }), refl, ap (λ (q : CodedInstance × Member). q.0) is)
+stays_shut (c ∷ es) zero (suc k) d at = (d, at, refl)
+stays_shut (c ∷ es) (suc n) zero d at = (d, at, refl)
+stays_shut (c ∷ es) (suc n) (suc k) d at = stays_shut es n k d at
+
+-- the values stay
+value_shut : (p : Program) (es : Members) (n : ℕ) (j : Instance) → local_value p (without_slot es n) j ≡ local_value p es j
+value_shut p [] n j = refl
+value_shut p (e ∷ es) zero j = refl
+value_shut p (e ∷ es) (suc n) j = ap (λ x. cond (same_instance j (instance_of p e.0)) (value_of (text_of p) e.1.value) x) (value_shut p es n j)
+
+member_shut : (p : Program) (es : Members) (n : ℕ) (j : Instance) → IsMemberOf p es j → IsMemberOf p (without_slot es n) j
+member_shut p [] n j (e, there, is) = absurd there
+member_shut p (d ∷ es) zero j (e, inl q, is) = ((d.0, record { slot = None; value = d.1.value; by = d.1.by }), inl refl, ap (λ (x : CodedInstance × Member). instance_of p x.0) (sym q) ∙ is)
+member_shut p (d ∷ es) zero j (e, inr q, is) = (e, inr q, is)
+member_shut p (d ∷ es) (suc n) j (e, inl q, is) = (e, inl q, is)
+member_shut p (d ∷ es) (suc n) j (e, inr q, is) = let r = member_shut p es n j (e, q, is) in (r.0, inr r.1, r.2)
+
+still_shut : (p : Program) (es : Members) (n : ℕ) → StillMembers p es (without_slot es n)
+still_shut p es n = record { members = λ j m. member_shut p es n j m; values = λ j m. value_shut p es n j }
+
+-- who leads to a member
+led_shut : (p : Program) (es : Members) (n : ℕ) (start : CodedInstance) (number : ℕ) (i : CodedInstance) (by : Option ℕ) → IsLedBy p es start number i by → IsLedBy p (without_slot es n) start number i by
+led_shut p es n start number i None h = h
+led_shut p es n start number i (Some b) h =
+    let s = stays_shut es n b h.1.0 h.1.1 in
+    (h.0, (s.0, s.1, subst (λ (j : CodedInstance). Leads p (instance_of p j) (instance_of p i)) (sym s.2) h.1.2))
+
+need_shut : (p : Program) (es : Members) (n : ℕ) (need : Option (ℕ × CodedInstance)) → IsNeedOf p es need → IsNeedOf p (without_slot es n) need
+need_shut p es n None h = tt
+need_shut p es n (Some (k, i)) h =
+    let s = stays_shut es n k h.0 h.1 in
+    (s.0, s.1, subst (λ (j : CodedInstance). Leads p (instance_of p j) (instance_of p i)) (sym s.2) h.2)
+
+-- a member that is sealed with its value
+module _ (p : Program) (f : Frame) (v : View) (l : Local) (h : IsLocal p f v l) (n : ℕ) (final : (d : CodedInstance × Member) → slice_get l.members.entries n ≡ Some d → Knows p v (instance_of p d.0) × HasValue p (instance_of p d.0) (value_of (text_of p) d.1.value)) where
+  abbrev es : Members
+  es = l.members.entries
+
+  abbrev shut : Members
+  shut = without_slot es n
+
+  placed_shut : (k : ℕ) (d e : CodedInstance × Member) → slice_get es k ≡ Some d → IsShut n k d e → IsPlaced p f v (instance_of p d.0) (value_of (text_of p) d.1.value) d.1.slot → IsPlaced p f v (instance_of p d.0) (value_of (text_of p) d.1.value) e.1.slot
+  placed_shut k d e at s placed =
+      ⊎_elim
+      (λ a. subst (λ (o : Option Slot). IsPlaced p f v (instance_of p d.0) (value_of (text_of p) d.1.value) o) (sym a.1) (final d (subst (λ (u : ℕ). slice_get es u ≡ Some d) a.0 at)))
+      (λ a. subst (λ (o : Option Slot). IsPlaced p f v (instance_of p d.0) (value_of (text_of p) d.1.value) o) (sym a) placed)
+      s.slot
+
+  members_shut : (k : ℕ) (e : CodedInstance × Member) → slice_get shut k ≡ Some e → IsMember p f v shut l.start k e
+  members_shut k e at =
+      let c = shut_at es n k e at in
+      let d = c.0 in
+      let m = h.set.members k d c.1 in
+      let made : IsMember p f v shut l.start k (d.0, record { slot = e.1.slot; value = d.1.value; by = d.1.by }) = record {
+        instance = m.instance;
+        coded = m.coded;
+        is_circular = m.is_circular;
+        elements = m.elements;
+        fits = m.fits;
+        shown = m.shown;
+        placed = placed_shut k d e c.1 c.2 m.placed;
+        led = led_shut p es n l.start k d.0 d.1.by m.led;
+      } in
+      subst (λ (u : CodedInstance × Member). IsMember p f v shut l.start k u) (λ j. (sym c.2.instance j, record { slot = e.1.slot; value = sym c.2.value j; by = sym c.2.by j })) made
+
+  first_shut : (e : CodedInstance × Member) → slice_get shut 0 ≡ Some e → e.0 ≡ l.start
+  first_shut e at = let c = shut_at es n 0 e at in c.2.instance ∙ h.set.first c.0 c.1
+
+  number_shut : (k : ℕ) (i : Instance) → IsNumberOf p shut i k → IsNumberOf p es i k
+  number_shut k i a = let c = shut_at es n k a.entry a.at in record { entry = c.0; at = c.1; is = ap (λ (u : CodedInstance). instance_of p u) (sym c.2.instance) ∙ a.is }
+
+  pub local_shut : (m : Local) → m.start ≡ l.start → m.need ≡ l.need → m.saved ≡ l.saved → m.members.entries ≡ shut → IsLocal p f v m
+  local_shut m s q k e = record {
+    instance = subst (λ (u : CodedInstance). IsInstance p (instance_of p u)) (sym s) h.instance;
+    coded = subst (λ (u : CodedInstance). IsCoded p u) (sym s) h.coded;
+    is_circular = subst (λ (u : CodedInstance). (equations_of p).circular (instance_of p u) ≡ true) (sym s) h.is_circular;
+    set = subst (λ (u : CodedInstance × Members). AreMembers p f v u.0 u.1) (λ j. (sym s j, sym e j)) (record { first = first_shut; members = members_shut; different = λ a b i y z. h.set.different a b i (number_shut a i y) (number_shut b i z) });
+    need = subst (λ (u : Members × Option (ℕ × CodedInstance)). IsNeedOf p u.0 u.1) (λ j. (sym e j, sym q j)) (need_shut p es n l.need h.need);
+    saved = subst (λ (u : Members × Option Saved). IsKept f.system.value (ReadsHere p v u.0) u.1) (λ j. (sym e j, sym k j)) (kept_on p v v (at_least_itself v) es shut (still_shut p es n) f.system.value l.saved h.saved);
+  }
+
+some_shut : (es fs : Members) (n : ℕ) → fs ≡ without_slot es n → 0 < length es → 0 < length fs
+some_shut es fs n is h = subst (λ (k : ℕ). 0 < k) (sym (ap length is ∙ length_shut es n)) h
+
+some_risen : (es fs : Members) (n : ℕ) (x : CodedValue) → fs ≡ with_value es n x → 0 < length es → 0 < length fs
+some_risen es fs n x is h = subst (λ (k : ℕ). 0 < k) (sym (ap length is ∙ length_changed es n x)) h
+
+-- the value with which it is sealed is its value already
+pub settled_none : (l : Local) (n : ℕ) (x : CodedValue) → Settles l l n x
+settled_none l n x = record { start = refl; some = λ h. h; kept = λ p f v h final. h }
+
+pub settled_same : (l m : Local) (n : ℕ) (d : CodedInstance × Member) (x : CodedValue) → slice_get l.members.entries n ≡ Some d → x ≡ d.1.value → m.start ≡ l.start → m.need ≡ l.need → m.saved ≡ l.saved → m.members.entries ≡ without_slot l.members.entries n → Settles l m n x
+settled_same l m n d x at same s q k e = record {
+  start = s;
+  some = some_shut l.members.entries m.members.entries n e;
+  kept = λ p f v h final.
+      local_shut p f v l h n
+      (λ c there.
+      let is : c ≡ d = (let both : Some c ≡ Some d = sym there ∙ at in cc) in
+      let a = final c there in
+      (a.known, subst (λ (y : CodedValue). HasValue p (instance_of p c.0) (value_of (text_of p) y)) (same ∙ ap (λ (u : CodedInstance × Member). u.1.value) (sym is)) a.has))
+      m s q k e;
+}
+
+-- or the member rose to it
+pub risen_final : (l m : Local) (n : ℕ) (d : CodedInstance × Member) (x : CodedValue) → slice_get l.members.entries n ≡ Some d → IsSome d.1.slot → m.start ≡ l.start → m.need ≡ l.need → m.saved ≡ None → m.members.entries ≡ with_value l.members.entries n x → Settles l m n x
+risen_final l m n d x at there s q k e = record {
+  start = s;
+  some = some_risen l.members.entries m.members.entries n x e;
+  kept = λ p f v h final. let a = final d at in local_risen p f v l h n x d at there a.elements a.fits a.shown m s q k e;
+}
+
+-- and has it then
+risen_has : (es : Members) (n : ℕ) (x : CodedValue) (p : Program) (v : View) → IsFinalAt p v es n x → (c : CodedInstance × Member) → slice_get (with_value es n x) n ≡ Some c → c.1.value ≡ x → Knows p v (instance_of p c.0) × HasValue p (instance_of p c.0) (value_of (text_of p) c.1.value)
+risen_has es n x p v final c there is =
+    let b = changed_at es n x n c there in
+    let a = final b.0 b.1 in
+    (subst (λ (u : CodedInstance). Knows p v (instance_of p u)) (sym b.2.instance) a.known, subst (λ (u : CodedInstance × CodedValue). HasValue p (instance_of p u.0) (value_of (text_of p) u.1)) (λ j. (sym b.2.instance j, sym is j)) a.has)
+
+value_there : (es : Members) (n : ℕ) (x : CodedValue) (c : CodedInstance × Member) → slice_get (with_value es n x) n ≡ Some c → c.1.value ≡ x
+value_there [] n x c at = cc
+value_there (e ∷ es) zero x c at = let is : (e.0, record { slot = e.1.slot; value = x; by = e.1.by }) ≡ c = cc in ap (λ (u : CodedInstance × Member). u.1.value) (sym is)
+value_there (e ∷ es) (suc n) x c at = value_there es n x c at
+
+pub settled_risen : (l r m : Local) (n : ℕ) (x : CodedValue) → Settles l r n x → r.members.entries ≡ with_value l.members.entries n x → m.start ≡ r.start → m.need ≡ r.need → m.saved ≡ r.saved → m.members.entries ≡ without_slot r.members.entries n → Settles l m n x
+settled_risen l r m n x risen e s2 q2 k2 e2 = record {
+  start = s2 ∙ risen.start;
+  some = λ h. some_shut r.members.entries m.members.entries n e2 (risen.some h);
+  kept = λ p f v h final.
+      local_shut p f v r (risen.kept p f v h final) n
+      (λ c in_r.
+      let here : slice_get (with_value l.members.entries n x) n ≡ Some c = subst (λ (u : Members). slice_get u n ≡ Some c) e in_r in
+      risen_has l.members.entries n x p v final c here (value_there l.members.entries n x c here))
+      m s2 q2 k2 e2;
+}
+
+-- and so it is for a copy of the value
+same_final : (p : Program) (v : View) (es : Members) (n : ℕ) (x y : CodedValue) → ((texts : ℕ → List ℕ) → value_of texts y ≡ value_of texts x) → ((q : Program) → AreElements q x → AreElements q y) → IsFinalAt p v es n x → IsFinalAt p v es n y
+same_final p v es n x y same elements final e at =
+    let a = final e at in
+    let q : value_of (text_of p) x ≡ value_of (text_of p) y = sym (same (text_of p)) in
+    record {
+      elements = elements p a.elements;
+      fits = subst (λ (u : Value). FitsKind (kind_in p (instance_of p e.0)) u) q a.fits;
+      shown = subst (λ (u : Value). ShowsAtLeast p v (instance_of p e.0) (kind_in p (instance_of p e.0)) u) q a.shown;
+      known = a.known;
+      has = subst (λ (u : Value). HasValue p (instance_of p e.0) u) q a.has;
+    }
+
+pub settled_copy : (l m : Local) (n : ℕ) (x y : CodedValue) → ((texts : ℕ → List ℕ) → value_of texts y ≡ value_of texts x) → ((q : Program) → AreElements q x → AreElements q y) → Settles l m n y → Settles l m n x
+settled_copy l m n x y same elements s = record {
+  start = s.start;
+  some = s.some;
+  kept = λ p f v h final. s.kept p f v h (same_final p v l.members.entries n x y same elements final);
+}
+
+-- the value of a member of a sealed set is final
+pub member_final : (p : Program) (f : Frame) (v : View) (l : Local) → IsSealedSet p f v l → (k : ℕ) (i : CodedInstance) (x : CodedValue) → IsMemberAt l.members.entries k i x → IsFinal p v (instance_of p i) x
+member_final p f v l h k i x at =
+    let there = at_has l.members.entries k at.entry at.at in
+    let m = h.local.set.members k at.entry at.at in
+    subst (λ (u : CodedInstance × CodedValue). IsFinal p v (instance_of p u.0) u.1) (λ j. (at.is j, at.value j))
+    (record { elements = m.elements; fits = m.fits; shown = m.shown; known = h.sealed.members at.entry there; has = h.sealed.values at.entry there })
+
+-- and so it is where the instance is a member of another set
+pub final_at : (p : Program) (f : Frame) (v : View) (part : Local) → IsSealedSet p f v part → (es : Members) (k number : ℕ) (i : CodedInstance) (x y : CodedValue) → IsMemberAt part.members.entries k i x → IsMemberAt es number i y → IsFinalAt p v es number x
+final_at p f v part sealed es k number i x y there here e at =
+    let both : Some e ≡ Some here.entry = sym at ∙ here.at in
+    let is : e ≡ here.entry = cc in
+    subst (λ (u : CodedInstance). IsFinal p v (instance_of p u) x) (sym (ap (λ (q : CodedInstance × Member). q.0) is ∙ here.is)) (member_final p f v part sealed k i x there)
+
+-- claims for what is led to
+claims_led : (p : Program) (i j : Instance) (v w : View) → Chain p i j → ClaimsFrom p j v w → ClaimsFrom p i v w
+claims_led p i j v w c h q = ⊎_elim inl (λ a. inr (a.0, a.1, record { of = a.2.of; reached = chain_then p c a.2.reached; key = a.2.key })) (h q)
+
+fills_led : (p : Program) (i j : Instance) (f : Frame) (v : View) → Chain p i j → FillsFrom p j f v → FillsFrom p i f v
+fills_led p i j f v c h = (h.0, record { of = h.1.of; reached = chain_then p c h.1.reached; key = h.1.key }, h.2)
+
+fault_led : (p : Program) (i j : Instance) (f : Frame) (v : View) → Chain p i j → (fault : CircFault) → AnswersFault p j f v fault → AnswersFault p i f v fault
+fault_led p i j f v c CellsFull h = fills_led p i j f v c h
+fault_led p i j f v c Memory h = tt
+
+-- where only memory may be wanting
+only_memory : (p : Program) (i : Instance) (f : Frame) (v : View) (y : Result Unit CircFault) → ((fault : CircFault) → y ≡ Err fault → fault ≡ Memory) → IfErr y (AnswersFault p i f v)
+only_memory p i f v (Ok u) h = tt
+only_memory p i f v (Err fault) h = subst (λ (z : CircFault). AnswersFault p i f v z) (sym (h fault refl)) tt
+
+-- the member that isn't sealed
+option_slot : (o : Option Slot) (e : CodedInstance × Member) (i : CodedInstance) → e.1.slot ≡ o → option_map (λ (s : Slot). e.0) o ≡ Some i → e.0 ≡ i
+option_slot None e i q h = cc
+option_slot (Some s) e i q h = cc
+
+entry_unsealed : (o : Option (CodedInstance × Member)) (i : CodedInstance) → option_and_then (λ (e : CodedInstance × Member). option_map (λ (s : Slot). e.0) e.1.slot) o ≡ Some i → (e : CodedInstance × Member) × (o ≡ Some e) × (e.0 ≡ i)
+entry_unsealed None i h = cc
+entry_unsealed (Some e) i h = (e, refl, option_slot e.1.slot e i refl h)
+
+pub unsealed_entry : (es : Members) (n : ℕ) (i : CodedInstance) → unsealed_at es n ≡ Some i → (e : CodedInstance × Member) × (slice_get es n ≡ Some e) × (e.0 ≡ i)
+unsealed_entry es n i h = entry_unsealed (slice_get es n) i h
+
+-- a part begins at a member
+module _ (s : System) (d : Held) (l : Local) (r : IsReady s d l) (n : ℕ) (i : CodedInstance) (un : unsealed_at l.members.entries n ≡ Some i) where
+  abbrev p : Program
+  p = program_at d
+
+  entry : (e : CodedInstance × Member) × (slice_get l.members.entries n ≡ Some e) × (e.0 ≡ i)
+  entry = unsealed_entry l.members.entries n i un
+
+  pub part_ready : (part : Local) → ((q : Program) (f : Frame) (v : View) → IsInstance q (instance_of q i) → IsCoded q i → (equations_of q).circular (instance_of q i) ≡ true → IsLocal q f v part) → IsReady s d part
+  part_ready part begun =
+      let m = r.local.set.members n entry.0 entry.1 in
+      let q = program_of s in
+      record {
+        program = r.program;
+        same = r.same;
+        own = r.own;
+        local = begun q d.0 d.1 (subst (λ (u : CodedInstance). IsInstance q (instance_of q u)) entry.2 m.instance) (subst (λ (u : CodedInstance). IsCoded q u) entry.2 m.coded) (subst (λ (u : CodedInstance). (equations_of q).circular (instance_of q u) ≡ true) entry.2 m.is_circular);
+      }
+
+  reached : Chain p (instance_of p l.start) (instance_of p i)
+  reached = subst (λ (u : CodedInstance). Chain p (instance_of p l.start) (instance_of p u)) entry.2 (member_chain p d.0 d.1 l (local_is_here s d l r) n entry.0 entry.1)
+
+  module _ (e : Held) (begun part : Local) (is : begun.start ≡ i) where
+    -- what a part did, the set did
+    pub part_goes : (m : Local) → GoesOnWith p d e begun part → m.start ≡ l.start → (0 < length l.members.entries → 0 < length m.members.entries) → IsLocal p d.0 e.1 m → GoesOnWith p d e l m
+    part_goes m goes start some local = record {
+      on = goes.on;
+      local = local;
+      start = start;
+      claims = claims_led p (instance_of p l.start) (instance_of p i) d.1 e.1 reached (subst (λ (u : CodedInstance). ClaimsFrom p (instance_of p u) d.1 e.1) is goes.claims);
+      some = some;
+    }
+
+    later : GoesOnWith p d e begun part → IsLocal p d.0 e.1 l
+    later goes = local_later p d.1 e.1 goes.on.kept d.0 l (local_is_here s d l r)
+
+    -- it needs what is missing: nothing changed
+    pub part_waits : (x : CodedInstance) → Advances d e begun part (Ok (turn.Need x)) → SealsPart d e l l (Ok tt)
+    part_waits x a = record { goes = part_goes l a.goes refl (λ h. h) (later a.goes); fault = tt }
+
+    pub part_fails : (fault : CircFault) → Advances d e begun part (Err fault) → (y : Result Unit CircFault) → y ≡ Err fault → SealsPart d e l l y
+    part_fails fault a y same =
+        subst (λ (z : Result Unit CircFault). SealsPart d e l l z) (sym same)
+        (record { goes = part_goes l a.goes refl (λ h. h) (later a.goes); fault = fault_led p (instance_of p l.start) (instance_of p i) d.0 e.1 reached fault (subst (λ (u : CodedInstance). AnswersFault p (instance_of p u) d.0 e.1 fault) (a.goes.start ∙ is) a.answer) })
+
+    -- it was sealed
+    pub part_sealed : Advances d e begun part (Ok turn.Closed) → IsSealedSet p d.0 e.1 part
+    part_sealed a = record { local = a.goes.local; sealed = a.answer }
+
+    pub part_taken : (m : Local) → Advances d e begun part (Ok turn.Closed) → m.start ≡ l.start → (0 < length l.members.entries → 0 < length m.members.entries) → ((q : Program) (f : Frame) (v : View) → IsLocal q f v l → IsSealedSet q f v part → IsLocal q f v m) → (y : Result Unit CircFault) → ((fault : CircFault) → y ≡ Err fault → fault ≡ Memory) → SealsPart d e l m y
+    part_taken m a start some kept y memory = record {
+      goes = part_goes m a.goes start some (kept p d.0 e.1 (later a.goes) (part_sealed a));
+      fault = only_memory p (instance_of p l.start) d.0 e.1 y memory;
+    }
+
+-- what was taken over from a part so far
+pub takes_none : (part l : Local) → Takes part l l
+takes_none part l = record { start = refl; some = λ h. h; kept = λ p f v h sealed. h }
+
+pub takes_settled : (part m n : Local) (k number : ℕ) (i : CodedInstance) (x y : CodedValue) → IsMemberAt part.members.entries k i x → IsMemberAt m.members.entries number i y → Settles m n number x → Takes part m n
+takes_settled part m n k number i x y there here s = record {
+  start = s.start;
+  some = s.some;
+  kept = λ p f v h sealed. s.kept p f v h (final_at p f v part sealed m.members.entries k number i x y there here);
+}
+
+pub takes_then : (part l m n : Local) → Takes part l m → Takes part m n → Takes part l n
+takes_then part l m n a b = record { start = b.start ∙ a.start; some = λ h. b.some (a.some h); kept = λ p f v h sealed. b.kept p f v (a.kept p f v h sealed) sealed }
+
+-- parts, one after the other
+module _ (d e f : Held) (l m n : Local) (h : GoesOnWith (program_at d) d e l m) where
+  part_back : (y : Result Unit CircFault) → SealsPart e f m n y → IfErr y (AnswersFault (program_at d) (instance_of (program_at d) l.start) d.0 f.1)
+  part_back y v = subst (λ (u : (Program × Frame) × CodedInstance). IfErr y (AnswersFault u.0.0 (instance_of u.0.0 u.1) u.0.1 f.1)) (λ j. ((program_on d e h.on j, h.on.cells j), h.start j)) v.fault
+
+  pub parts_then : (y : Result Unit CircFault) → SealsPart e f m n y → SealsPart d f l n y
+  parts_then y v = record { goes = with_then d e f l m n h v.goes; fault = part_back y v }
+
+  -- going on behind them
+  turn_back : (y : Result CircTurn CircFault) → Advances e f m n y → AnswersTurn (program_at d) d.0 f.1 n y
+  turn_back y v = subst (λ (u : Program × Frame). AnswersTurn u.0 u.1 f.1 n y) (λ j. (program_on d e h.on j, h.on.cells j)) v.answer
+
+  pub turns_then : (y : Result CircTurn CircFault) → Advances e f m n y → Advances d f l n y
+  turns_then y v = record { goes = with_then d e f l m n h v.goes; answer = turn_back y v }
+
+  pub parts_fail : (fault : CircFault) → SealsPart e f m n (Err fault) → (y : Result CircTurn CircFault) → y ≡ Err fault → Advances d f l n y
+  parts_fail fault v y is =
+      subst (λ (z : Result CircTurn CircFault). Advances d f l n z) (sym is)
+      (record { goes = with_then d e f l m n h v.goes; answer = subst (λ (u : CodedInstance). AnswersFault (program_at d) (instance_of (program_at d) u) d.0 f.1 fault) (sym (with_then d e f l m n h v.goes).start) (part_back (Err fault) v) })
+
+-- where none is sealed
+pub parts_none : (s : System) (d : Held) (l m : Local) (r : IsReady s d l) → GoesOnWith (program_at d) d d l m → (y : Result Unit CircFault) → ((fault : CircFault) → y ≡ Err fault → fault ≡ Memory) → SealsPart d d l m y
+parts_none s d l m r goes y memory = record { goes = goes; fault = only_memory (program_at d) (instance_of (program_at d) l.start) d.0 d.1 y memory }
+
+pub ok_memory : (y : Result Unit CircFault) → y ≡ Ok tt → (fault : CircFault) → y ≡ Err fault → fault ≡ Memory
+ok_memory y is fault e = let both : Ok tt ≡ Err fault = sym is ∙ e in cc
+
+pub err_memory : (y : Result Unit CircFault) → y ≡ Err Memory → (fault : CircFault) → y ≡ Err fault → fault ≡ Memory
+err_memory y is fault e = let both : Err Memory ≡ Err fault = sym is ∙ e in cc
+
+-- which member is next changes nothing of what is answered
+turn_same : (p : Program) (f : Frame) (v : View) (m n : Local) (y : Result CircTurn CircFault) → n.start ≡ m.start → n.members ≡ m.members → n.need ≡ m.need → AnswersTurn p f v m y → AnswersTurn p f v n y
+turn_same p f v m n (Ok (turn.Need x)) start members need a = record {
+  instance = a.instance;
+  coded = a.coded;
+  undeclared = a.undeclared;
+  unknown = a.unknown;
+  reached = subst (λ (u : CodedInstance). Chain p (instance_of p u) (instance_of p x)) (sym start) a.reached;
+  number = a.number;
+  noted = need ∙ a.noted;
+}
+turn_same p f v m n (Ok turn.Closed) start members need a = record {
+  start = subst (λ (u : CodedInstance). Knows p v (instance_of p u)) (sym start) a.start;
+  members = λ e there. a.members e (subst (λ (es : Members). Has es e) (ap (λ x. x.entries) members) there);
+  values = λ e there. a.values e (subst (λ (es : Members). Has es e) (ap (λ x. x.entries) members) there);
+}
+turn_same p f v m n (Err fault) start members need a = subst (λ (u : CodedInstance). AnswersFault p (instance_of p u) f v fault) (sym start) a
+
+pub turn_looked : (d e : Held) (l m n : Local) (y : Result CircTurn CircFault) → Advances d e l m y → n.start ≡ m.start → n.members ≡ m.members → n.need ≡ m.need → n.saved ≡ m.saved → Advances d e l n y
+turn_looked d e l m n y a start members need saved = record { goes = goes_looked d e l m n start members need saved a.goes; answer = turn_same (program_at d) d.0 e.1 m n y start members need a.answer }
+
+pub turn_refused : (d e : Held) (l m n : Local) → GoesOnWith (program_at d) d e l m → n.start ≡ m.start → n.members ≡ m.members → n.need ≡ m.need → n.saved ≡ m.saved → (y : Result CircTurn CircFault) → y ≡ Err Memory → Advances d e l n y
+turn_refused d e l m n h start members need saved y is = subst (λ (z : Result CircTurn CircFault). Advances d e l n z) (sym is) (record { goes = goes_looked d e l m n start members need saved h; answer = tt })
+
+pub turn_fails : (d e : Held) (l m : Local) (fault : CircFault) → Advances d e l m (Err fault) → (y : Result CircTurn CircFault) → y ≡ Err fault → Advances d e l m y
+turn_fails d e l m fault a y is = subst (λ (z : Result CircTurn CircFault). Advances d e l m z) (sym is) a
+
+pub parts_stop : (d e f : Held) (l m n : Local) → GoesOnWith (program_at d) d e l m → (fault : CircFault) → SealsPart e f m n (Err fault) → (y : Result Unit CircFault) → y ≡ Err fault → SealsPart d f l n y
+parts_stop d e f l m n h fault v y is = subst (λ (z : Result Unit CircFault). SealsPart d f l n z) (sym is) (parts_then d e f l m n h (Err fault) v)
