@@ -11,13 +11,13 @@ use rag_io::Memory;
 use std::alloc::Global;
 use std::marker::Model;
 
-/// A pass at its cells.
+/// A pass at its cells, as what local sets are worked out by. `ask` makes one for itself; whoever goes on with a local set without it needs one too.
 #[derive(Drop)]
-pub(crate) struct Desk<'a> {
-    pub system: &'a System,
-    pub cells: &'a Cells,
-    pub notes: Notebook,
-    pub pass: &'a mut Pass,
+pub struct Desk<'a> {
+    pub(crate) system: &'a System,
+    pub(crate) cells: &'a Cells,
+    pub(crate) notes: Notebook,
+    pub(crate) pass: &'a mut Pass,
 }
 
 impl<'a> Model for Desk<'a> {
@@ -77,7 +77,7 @@ impl Work for Desk<'_> {
     ghost tells_pass = { told_pass };
 }
 
-impl Desk<'_> {
+impl<'a> Desk<'a> {
     ghost use Rattle.std.specs.Prelude.{◌<◌, IfOk, IfSome, OnErr, false, true};
     ghost use Rattle.attr_rules.specs.Rules.{is_single};
     ghost use Rattle.equation_law.specs.declared.coding.Instance.TheVariants.{Attr as attribute_at};
@@ -88,10 +88,25 @@ impl Desk<'_> {
     ghost use Rattle.equation_law.specs.Loops.{HasLoop};
     ghost use Rattle.equation_law.specs.Names.{Instance as StandingInstance};
     ghost use Rattle.memo_cells.specs.Naming.{ClaimsKeysTo, IsCellOf, LacksCell};
-    ghost use Rattle.memo_cells.specs.Standing.{Knows, MaySettle};
+    ghost use Rattle.memo_cells.specs.Standing.{IsPassOf, Knows, MaySettle};
     ghost use Rattle.memo_cells.specs.Working.{GoesOn, IsOwn, ReadsOn, program_at};
     ghost use Rattle.caller_pass.specs.Knowing.{FindsCode, FindsValue, IsKnownValue};
     ghost use Rattle.caller_pass.specs.Noting.{IsNoted};
+
+    /// A pass at its cells, where nothing is noted.
+    pub fn new(alloc: Global, system: &'a System, cells: &'a Cells, pass: &'a mut Pass) -> Desk<'a>
+        requires same { cells.now.system.value ≡ system.now }
+        requires own { IsPassOf cells.now pass.old }
+        ensures cells { result.0 ≡ cells.now }
+        ensures pass { result.1 ≡ pass.old }
+    {
+        Desk {
+            system,
+            cells,
+            notes: Notebook::new(alloc, system),
+            pass,
+        }
+    }
 
     /// The one slot of an instance of the system, claimed where it wasn't.
     pub(crate) fn claim_cell(&mut self, i: Instance) -> Result<Slot, CellsFull>

@@ -12,6 +12,7 @@ mod turns;
 mod waiting;
 
 pub use asking::{ask, ask_noted};
+pub use desk::Desk;
 pub use equation_law::Chain;
 pub use evals::Steps;
 pub use faults::AskFault;

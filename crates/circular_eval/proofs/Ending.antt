@@ -88,7 +88,7 @@ nothing : (es : Members) → length es ≡ 0 → (e : CodedInstance × Member) �
 nothing [] h e there = there
 nothing (x ∷ es) h e there = absurd (omega (arith, h))
 
-head_of : (es : Members) → 0 < length es → (e : CodedInstance × Member) × (slice_get es 0 ≡ Some e)
+pub head_of : (es : Members) → 0 < length es → (e : CodedInstance × Member) × (slice_get es 0 ≡ Some e)
 head_of [] h = absurd (omega (arith, h))
 head_of (e ∷ es) h = (e, refl)
 
@@ -109,19 +109,19 @@ begin_admits d e l m y h = record { goes = h.goes; some = h.some; fault = h.faul
 pub on_refused : (d e : Held) (l m : Local) (fault : CircFault) → Begins d e l m (Err fault) → (y : Result CircTurn CircFault) → y ≡ Err fault → Advances d e l m y
 on_refused d e l m fault h y is =
     subst (λ (z : Result CircTurn CircFault). Advances d e l m z) (sym is)
-    (record { goes = h.goes; answer = subst (λ (u : CodedInstance). AnswersFault (program_at d) (instance_of (program_at d) u) d.0 e.1 fault) (sym h.goes.start) h.fault })
+    (record { goes = h.goes; begun = tt; answer = subst (λ (u : CodedInstance). AnswersFault (program_at d) (instance_of (program_at d) u) d.0 e.1 fault) (sym h.goes.start) h.fault })
 
 module _ (d e f : Held) (l m n : Local) (h : GoesOnWith (program_at d) d e l m) where
   pub on_fault : (fault : CircFault) → Closes e f m n (Err fault) → (y : Result CircTurn CircFault) → y ≡ Err fault → Advances d f l n y
   on_fault fault v y is =
       subst (λ (z : Result CircTurn CircFault). Advances d f l n z) (sym is)
-      (record { goes = with_then d e f l m n h v.goes; answer = subst (λ (u : CodedInstance). AnswersFault (program_at d) (instance_of (program_at d) u) d.0 f.1 fault) (sym v.goes.start) (close_back d e f l m n h (Err fault) v) })
+      (record { goes = with_then d e f l m n h v.goes; begun = tt; answer = subst (λ (u : CodedInstance). AnswersFault (program_at d) (instance_of (program_at d) u) d.0 f.1 fault) (sym v.goes.start) (close_back d e f l m n h (Err fault) v) })
 
-  pub on_need : (x : CodedInstance) → Closes e f m n (Ok (Some x)) → Advances d f l n (Ok (turn.Need x))
-  on_need x v = record { goes = with_then d e f l m n h v.goes; answer = close_back d e f l m n h (Ok (Some x)) v }
+  pub on_need : 0 < length m.members.entries → (x : CodedInstance) → Closes e f m n (Ok (Some x)) → Advances d f l n (Ok (turn.Need x))
+  on_need some x v = record { goes = with_then d e f l m n h v.goes; begun = v.goes.some some; answer = close_back d e f l m n h (Ok (Some x)) v }
 
   pub on_late : Closes e f m n (Ok None) → (y : Result CircTurn CircFault) → y ≡ Err Memory → Advances d f l n y
-  on_late v y is = subst (λ (z : Result CircTurn CircFault). Advances d f l n z) (sym is) (record { goes = with_then d e f l m n h v.goes; answer = tt })
+  on_late v y is = subst (λ (z : Result CircTurn CircFault). Advances d f l n z) (sym is) (record { goes = with_then d e f l m n h v.goes; begun = tt; answer = tt })
 
   module _ (s : System) (r : IsReady s d l) (some : 0 < length m.members.entries) (closed : Closes e f m n (Ok None)) where
     pub on_goes : GoesOnWith (program_at d) d f l n
@@ -157,5 +157,6 @@ module _ (d e f : Held) (l m n : Local) (h : GoesOnWith (program_at d) d e l m) 
         pub on_closed : Advances d g l n (Ok turn.Closed)
         on_closed = record {
           goes = with_then d f g l n n on_goes (goes_read s f g n n ready on (record { start = refl; entries = refl; need = refl; saved = refl }));
+          begun = closed.goes.some some;
           answer = record { start = start_sealed; members = each_here; values = each_value };
         }

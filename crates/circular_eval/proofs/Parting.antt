@@ -1,7 +1,7 @@
 -- Parts of a local set that are sealed: the set stays one.
-use Rattle.std.proofs.Common.{◌≡◌, ◌⊎◌, ℕ, zero, suc, ◌<◌, true, cond, List, [], ◌∷◌, Option, Some, None, IsSome, Result, Ok, Err, length, slice_get, inl, inr, ⊎_elim, refl, sym, ap, subst, ◌∙◌}
+use Rattle.std.proofs.Common.{◌≡◌, ◌⊎◌, ℕ, zero, suc, ◌<◌, Bool, true, false, cond, List, [], ◌∷◌, Option, Some, None, IsSome, Result, Ok, Err, length, slice_get, inl, inr, ⊎_elim, refl, sym, ap, subst, ◌∙◌}
 use Rattle.std.specs.Option.{option_and_then, option_map}
-use Rattle.std.specs.Prelude.{IfErr}
+use Rattle.std.specs.Prelude.{IfErr, OnOk}
 use Rattle.equation_law.specs.declared.coding.Instance.{Instance as CodedInstance}
 use Rattle.equation_law.specs.declared.coding.Value.{Value as CodedValue}
 use Rattle.equation_law.specs.declared.system.System.{System}
@@ -22,6 +22,7 @@ use Rattle.memo_cells.specs.Showing.{ShowsAtLeast}
 use Rattle.memo_cells.specs.Standing.{Knows}
 use Rattle.memo_cells.specs.Views.{Has}
 use Rattle.memo_cells.specs.Working.{Held, program_at}
+use Rattle.memo_cells.proofs.Holding.{goes_itself}
 use Rattle.memo_cells.proofs.More.{at_least_itself}
 use Rattle.circular_eval.specs.declared.advancing.CircFault.{CircFault}
 use Rattle.circular_eval.specs.declared.advancing.CircFault.TheVariants.{CellsFull, Memory}
@@ -31,16 +32,18 @@ use Rattle.circular_eval.specs.declared.local.Local.{Local}
 use Rattle.circular_eval.specs.declared.members.Member.{Member}
 use Rattle.circular_eval.specs.Advancing.{AnswersFault, AnswersTurn, ClaimsFrom, FillsFrom}
 use Rattle.circular_eval.specs.Local.{AreMembers, IsKept, IsLedBy, IsLocal, IsMember, IsMemberOf, IsNeedOf, IsNumberOf, IsPlaced, Members, ReadsHere, StillMembers, local_value, with_value}
-use Rattle.circular_eval.specs.Parts.{IsFinal, IsFinalAt, IsSealedSet, SealsPart, Settles, Takes, unsealed_at, without_slot}
+use Rattle.circular_eval.specs.Parts.{AnswersPart, IsFinal, IsFinalAt, IsSealedAt, IsSealedSet, SameMembers, SealsMember, SealsPart, Settles, Takes, unsealed_at, without_slot}
 use Rattle.circular_eval.specs.Sealed.{IsMemberAt}
 use Rattle.circular_eval.specs.Visiting.{Advances, GoesOnWith, IsReady}
 use Rattle.circular_eval.proofs.Admitting.{local_is_here}
 use Rattle.circular_eval.proofs.Entries.{at_has, changed_at, length_changed}
+use Rattle.circular_eval.proofs.Ending.{head_of}
 use Rattle.circular_eval.proofs.Going.{chain_then, member_chain, program_on, with_then}
 use Rattle.circular_eval.proofs.Growing.{local_risen}
 use Rattle.circular_eval.proofs.Later.{local_later}
 use Rattle.circular_eval.proofs.Passing.{goes_looked}
 use Rattle.circular_eval.proofs.Resuming.{kept_on}
+use Rattle.circular_eval.proofs.Sealing.{entry_sealed, same_itself, same_risen, same_then}
 
 -- the member that is sealed: its entry, but for the cell
 pub record IsShut (n : ℕ) (k : ℕ) (d e : CodedInstance × Member) : Type 0 where
@@ -152,16 +155,24 @@ module _ (p : Program) (f : Frame) (v : View) (l : Local) (h : IsLocal p f v l) 
 some_shut : (es fs : Members) (n : ℕ) → fs ≡ without_slot es n → 0 < length es → 0 < length fs
 some_shut es fs n is h = subst (λ (k : ℕ). 0 < k) (sym (ap length is ∙ length_shut es n)) h
 
+same_shut : (es fs : Members) (n : ℕ) → fs ≡ without_slot es n → SameMembers es fs
+same_shut es fs n is = record {
+  same = λ k e at.
+      let c = shut_at es n k e (subst (λ (u : Members). slice_get u k ≡ Some e) is at) in
+      (c.0, c.1, c.2.instance, λ h. ⊎_elim (λ a. a.1) (λ a. a ∙ h) c.2.slot);
+}
+
 some_risen : (es fs : Members) (n : ℕ) (x : CodedValue) → fs ≡ with_value es n x → 0 < length es → 0 < length fs
 some_risen es fs n x is h = subst (λ (k : ℕ). 0 < k) (sym (ap length is ∙ length_changed es n x)) h
 
 -- the value with which it is sealed is its value already
 pub settled_none : (l : Local) (n : ℕ) (x : CodedValue) → Settles l l n x
-settled_none l n x = record { start = refl; some = λ h. h; kept = λ p f v h final. h }
+settled_none l n x = record { start = refl; members = same_itself l.members.entries; some = λ h. h; kept = λ p f v h final. h }
 
 pub settled_same : (l m : Local) (n : ℕ) (d : CodedInstance × Member) (x : CodedValue) → slice_get l.members.entries n ≡ Some d → x ≡ d.1.value → m.start ≡ l.start → m.need ≡ l.need → m.saved ≡ l.saved → m.members.entries ≡ without_slot l.members.entries n → Settles l m n x
 settled_same l m n d x at same s q k e = record {
   start = s;
+  members = same_shut l.members.entries m.members.entries n e;
   some = some_shut l.members.entries m.members.entries n e;
   kept = λ p f v h final.
       local_shut p f v l h n
@@ -176,6 +187,7 @@ settled_same l m n d x at same s q k e = record {
 pub risen_final : (l m : Local) (n : ℕ) (d : CodedInstance × Member) (x : CodedValue) → slice_get l.members.entries n ≡ Some d → IsSome d.1.slot → m.start ≡ l.start → m.need ≡ l.need → m.saved ≡ None → m.members.entries ≡ with_value l.members.entries n x → Settles l m n x
 risen_final l m n d x at there s q k e = record {
   start = s;
+  members = same_risen l.members.entries m.members.entries n x e;
   some = some_risen l.members.entries m.members.entries n x e;
   kept = λ p f v h final. let a = final d at in local_risen p f v l h n x d at there a.elements a.fits a.shown m s q k e;
 }
@@ -195,6 +207,7 @@ value_there (e ∷ es) (suc n) x c at = value_there es n x c at
 pub settled_risen : (l r m : Local) (n : ℕ) (x : CodedValue) → Settles l r n x → r.members.entries ≡ with_value l.members.entries n x → m.start ≡ r.start → m.need ≡ r.need → m.saved ≡ r.saved → m.members.entries ≡ without_slot r.members.entries n → Settles l m n x
 settled_risen l r m n x risen e s2 q2 k2 e2 = record {
   start = s2 ∙ risen.start;
+  members = same_then l.members.entries r.members.entries m.members.entries risen.members (same_shut r.members.entries m.members.entries n e2);
   some = λ h. some_shut r.members.entries m.members.entries n e2 (risen.some h);
   kept = λ p f v h final.
       local_shut p f v r (risen.kept p f v h final) n
@@ -220,6 +233,7 @@ same_final p v es n x y same elements final e at =
 pub settled_copy : (l m : Local) (n : ℕ) (x y : CodedValue) → ((texts : ℕ → List ℕ) → value_of texts y ≡ value_of texts x) → ((q : Program) → AreElements q x → AreElements q y) → Settles l m n y → Settles l m n x
 settled_copy l m n x y same elements s = record {
   start = s.start;
+  members = s.members;
   some = s.some;
   kept = λ p f v h final. s.kept p f v h (same_final p v l.members.entries n x y same elements final);
 }
@@ -251,7 +265,7 @@ fault_led p i j f v c CellsFull h = fills_led p i j f v c h
 fault_led p i j f v c Memory h = tt
 
 -- where only memory may be wanting
-only_memory : (p : Program) (i : Instance) (f : Frame) (v : View) (y : Result Unit CircFault) → ((fault : CircFault) → y ≡ Err fault → fault ≡ Memory) → IfErr y (AnswersFault p i f v)
+only_memory : {X : Type 0} (p : Program) (i : Instance) (f : Frame) (v : View) (y : Result X CircFault) → ((fault : CircFault) → y ≡ Err fault → fault ≡ Memory) → IfErr y (AnswersFault p i f v)
 only_memory p i f v (Ok u) h = tt
 only_memory p i f v (Err fault) h = subst (λ (z : CircFault). AnswersFault p i f v z) (sym (h fault refl)) tt
 
@@ -304,66 +318,99 @@ module _ (s : System) (d : Held) (l : Local) (r : IsReady s d l) (n : ℕ) (i : 
     later goes = local_later p d.1 e.1 goes.on.kept d.0 l (local_is_here s d l r)
 
     -- it needs what is missing: nothing changed
-    pub part_waits : (x : CodedInstance) → Advances d e begun part (Ok (turn.Need x)) → SealsPart d e l l (Ok tt)
-    part_waits x a = record { goes = part_goes l a.goes refl (λ h. h) (later a.goes); fault = tt }
+    pub part_waits : (x : CodedInstance) → Advances d e begun part (Ok (turn.Need x)) → SealsPart d e l l (Ok false)
+    part_waits x a = record { goes = part_goes l a.goes refl (λ h. h) (later a.goes); members = same_itself l.members.entries; fault = tt }
 
-    pub part_fails : (fault : CircFault) → Advances d e begun part (Err fault) → (y : Result Unit CircFault) → y ≡ Err fault → SealsPart d e l l y
+    pub part_waited : (x : CodedInstance) → Advances d e begun part (Ok (turn.Need x)) → AnswersPart d e l.members.entries l.members.entries n false
+    part_waited x a = (
+      i,
+      un,
+      record {
+        then = e;
+        before = a.goes.on;
+        after = goes_itself e a.goes.on.own;
+        need = x;
+        reached = subst (λ (u : CodedInstance). Chain p (instance_of p u) (instance_of p x)) (a.goes.start ∙ is) a.answer.reached;
+        undeclared = a.answer.undeclared;
+        unknown = a.answer.unknown;
+      },
+    )
+
+    pub part_fails : (fault : CircFault) → Advances d e begun part (Err fault) → (y : Result Bool CircFault) → y ≡ Err fault → SealsPart d e l l y
     part_fails fault a y same =
-        subst (λ (z : Result Unit CircFault). SealsPart d e l l z) (sym same)
-        (record { goes = part_goes l a.goes refl (λ h. h) (later a.goes); fault = fault_led p (instance_of p l.start) (instance_of p i) d.0 e.1 reached fault (subst (λ (u : CodedInstance). AnswersFault p (instance_of p u) d.0 e.1 fault) (a.goes.start ∙ is) a.answer) })
+        subst (λ (z : Result Bool CircFault). SealsPart d e l l z) (sym same)
+        (record { goes = part_goes l a.goes refl (λ h. h) (later a.goes); members = same_itself l.members.entries; fault = fault_led p (instance_of p l.start) (instance_of p i) d.0 e.1 reached fault (subst (λ (u : CodedInstance). AnswersFault p (instance_of p u) d.0 e.1 fault) (a.goes.start ∙ is) a.answer) })
 
     -- it was sealed
     pub part_sealed : Advances d e begun part (Ok turn.Closed) → IsSealedSet p d.0 e.1 part
     part_sealed a = record { local = a.goes.local; sealed = a.answer }
 
-    pub part_taken : (m : Local) → Advances d e begun part (Ok turn.Closed) → m.start ≡ l.start → (0 < length l.members.entries → 0 < length m.members.entries) → ((q : Program) (f : Frame) (v : View) → IsLocal q f v l → IsSealedSet q f v part → IsLocal q f v m) → (y : Result Unit CircFault) → ((fault : CircFault) → y ≡ Err fault → fault ≡ Memory) → SealsPart d e l m y
-    part_taken m a start some kept y memory = record {
+    -- the member is the first one of the part
+    first : Advances d e begun part (Ok turn.Closed) → (c : CodedInstance × Member) × (slice_get part.members.entries 0 ≡ Some c) × (c.0 ≡ i)
+    first a =
+        let c = head_of part.members.entries a.begun in
+        (c.0, c.1, a.goes.local.set.first c.0 c.1 ∙ a.goes.start ∙ is)
+
+    pub part_done : (m : Local) → Advances d e begun part (Ok turn.Closed) → SameMembers l.members.entries m.members.entries → ((k : ℕ) → SealsMember part l m k) → IsSealedAt m.members.entries n
+    part_done m a same seals =
+        let c = first a in
+        entry_sealed m.members.entries n
+        (λ x at.
+        let before = same.same n x at in
+        let both : Some before.0 ≡ Some entry.0 = sym before.1 ∙ entry.1 in
+        let one : before.0 ≡ entry.0 = cc in
+        seals 0 p d.0 e.1 (later a.goes) (part_sealed a) c.0 c.1 n x at (before.2 ∙ ap (λ (q : CodedInstance × Member). q.0) one ∙ entry.2 ∙ sym c.2))
+
+    pub part_taken : (m : Local) → Advances d e begun part (Ok turn.Closed) → m.start ≡ l.start → SameMembers l.members.entries m.members.entries → (0 < length l.members.entries → 0 < length m.members.entries) → ((q : Program) (f : Frame) (v : View) → IsLocal q f v l → IsSealedSet q f v part → IsLocal q f v m) → (y : Result Bool CircFault) → ((fault : CircFault) → y ≡ Err fault → fault ≡ Memory) → SealsPart d e l m y
+    part_taken m a start same some kept y memory = record {
       goes = part_goes m a.goes start some (kept p d.0 e.1 (later a.goes) (part_sealed a));
+      members = same;
       fault = only_memory p (instance_of p l.start) d.0 e.1 y memory;
     }
 
 -- what was taken over from a part so far
 pub takes_none : (part l : Local) → Takes part l l
-takes_none part l = record { start = refl; some = λ h. h; kept = λ p f v h sealed. h }
+takes_none part l = record { start = refl; members = same_itself l.members.entries; some = λ h. h; kept = λ p f v h sealed. h }
 
 pub takes_settled : (part m n : Local) (k number : ℕ) (i : CodedInstance) (x y : CodedValue) → IsMemberAt part.members.entries k i x → IsMemberAt m.members.entries number i y → Settles m n number x → Takes part m n
 takes_settled part m n k number i x y there here s = record {
   start = s.start;
+  members = s.members;
   some = s.some;
   kept = λ p f v h sealed. s.kept p f v h (final_at p f v part sealed m.members.entries k number i x y there here);
 }
 
 pub takes_then : (part l m n : Local) → Takes part l m → Takes part m n → Takes part l n
-takes_then part l m n a b = record { start = b.start ∙ a.start; some = λ h. b.some (a.some h); kept = λ p f v h sealed. b.kept p f v (a.kept p f v h sealed) sealed }
+takes_then part l m n a b = record { start = b.start ∙ a.start; members = same_then l.members.entries m.members.entries n.members.entries a.members b.members; some = λ h. b.some (a.some h); kept = λ p f v h sealed. b.kept p f v (a.kept p f v h sealed) sealed }
 
 -- parts, one after the other
 module _ (d e f : Held) (l m n : Local) (h : GoesOnWith (program_at d) d e l m) where
-  part_back : (y : Result Unit CircFault) → SealsPart e f m n y → IfErr y (AnswersFault (program_at d) (instance_of (program_at d) l.start) d.0 f.1)
+  part_back : {X : Type 0} (y : Result X CircFault) → SealsPart e f m n y → IfErr y (AnswersFault (program_at d) (instance_of (program_at d) l.start) d.0 f.1)
   part_back y v = subst (λ (u : (Program × Frame) × CodedInstance). IfErr y (AnswersFault u.0.0 (instance_of u.0.0 u.1) u.0.1 f.1)) (λ j. ((program_on d e h.on j, h.on.cells j), h.start j)) v.fault
 
-  pub parts_then : (y : Result Unit CircFault) → SealsPart e f m n y → SealsPart d f l n y
-  parts_then y v = record { goes = with_then d e f l m n h v.goes; fault = part_back y v }
+  pub parts_then : {X : Type 0} → SameMembers l.members.entries m.members.entries → (y : Result X CircFault) → SealsPart e f m n y → SealsPart d f l n y
+  parts_then same y v = record { goes = with_then d e f l m n h v.goes; members = same_then l.members.entries m.members.entries n.members.entries same v.members; fault = part_back y v }
 
   -- going on behind them
   turn_back : (y : Result CircTurn CircFault) → Advances e f m n y → AnswersTurn (program_at d) d.0 f.1 n y
   turn_back y v = subst (λ (u : Program × Frame). AnswersTurn u.0 u.1 f.1 n y) (λ j. (program_on d e h.on j, h.on.cells j)) v.answer
 
   pub turns_then : (y : Result CircTurn CircFault) → Advances e f m n y → Advances d f l n y
-  turns_then y v = record { goes = with_then d e f l m n h v.goes; answer = turn_back y v }
+  turns_then y v = record { goes = with_then d e f l m n h v.goes; begun = v.begun; answer = turn_back y v }
 
-  pub parts_fail : (fault : CircFault) → SealsPart e f m n (Err fault) → (y : Result CircTurn CircFault) → y ≡ Err fault → Advances d f l n y
-  parts_fail fault v y is =
+  pub parts_fail : {X : Type 0} (fault : CircFault) → SealsPart {X = X} e f m n (Err fault) → (y : Result CircTurn CircFault) → y ≡ Err fault → Advances d f l n y
+  parts_fail {X = X} fault v y is =
       subst (λ (z : Result CircTurn CircFault). Advances d f l n z) (sym is)
-      (record { goes = with_then d e f l m n h v.goes; answer = subst (λ (u : CodedInstance). AnswersFault (program_at d) (instance_of (program_at d) u) d.0 f.1 fault) (sym (with_then d e f l m n h v.goes).start) (part_back (Err fault) v) })
+      (record { goes = with_then d e f l m n h v.goes; begun = tt; answer = subst (λ (u : CodedInstance). AnswersFault (program_at d) (instance_of (program_at d) u) d.0 f.1 fault) (sym (with_then d e f l m n h v.goes).start) (part_back {X = X} (Err fault) v) })
 
 -- where none is sealed
-pub parts_none : (s : System) (d : Held) (l m : Local) (r : IsReady s d l) → GoesOnWith (program_at d) d d l m → (y : Result Unit CircFault) → ((fault : CircFault) → y ≡ Err fault → fault ≡ Memory) → SealsPart d d l m y
-parts_none s d l m r goes y memory = record { goes = goes; fault = only_memory (program_at d) (instance_of (program_at d) l.start) d.0 d.1 y memory }
+pub parts_none : (s : System) (d : Held) (l m : Local) (r : IsReady s d l) → GoesOnWith (program_at d) d d l m → SameMembers l.members.entries m.members.entries → (y : Result Bool CircFault) → ((fault : CircFault) → y ≡ Err fault → fault ≡ Memory) → SealsPart d d l m y
+parts_none s d l m r goes same y memory = record { goes = goes; members = same; fault = only_memory (program_at d) (instance_of (program_at d) l.start) d.0 d.1 y memory }
 
-pub ok_memory : (y : Result Unit CircFault) → y ≡ Ok tt → (fault : CircFault) → y ≡ Err fault → fault ≡ Memory
-ok_memory y is fault e = let both : Ok tt ≡ Err fault = sym is ∙ e in cc
+pub ok_memory : {X : Type 0} (x : X) (y : Result X CircFault) → y ≡ Ok x → (fault : CircFault) → y ≡ Err fault → fault ≡ Memory
+ok_memory x y is fault e = let both : Ok x ≡ Err fault = sym is ∙ e in cc
 
-pub err_memory : (y : Result Unit CircFault) → y ≡ Err Memory → (fault : CircFault) → y ≡ Err fault → fault ≡ Memory
+pub err_memory : {X : Type 0} (y : Result X CircFault) → y ≡ Err Memory → (fault : CircFault) → y ≡ Err fault → fault ≡ Memory
 err_memory y is fault e = let both : Err Memory ≡ Err fault = sym is ∙ e in cc
 
 -- which member is next changes nothing of what is answered
@@ -385,13 +432,15 @@ turn_same p f v m n (Ok turn.Closed) start members need a = record {
 turn_same p f v m n (Err fault) start members need a = subst (λ (u : CodedInstance). AnswersFault p (instance_of p u) f v fault) (sym start) a
 
 pub turn_looked : (d e : Held) (l m n : Local) (y : Result CircTurn CircFault) → Advances d e l m y → n.start ≡ m.start → n.members ≡ m.members → n.need ≡ m.need → n.saved ≡ m.saved → Advances d e l n y
-turn_looked d e l m n y a start members need saved = record { goes = goes_looked d e l m n start members need saved a.goes; answer = turn_same (program_at d) d.0 e.1 m n y start members need a.answer }
+turn_looked d e l m n y a start members need saved = record { goes = goes_looked d e l m n start members need saved a.goes; begun = subst (λ u. OnOk y (0 < length u.entries)) (sym members) a.begun; answer = turn_same (program_at d) d.0 e.1 m n y start members need a.answer }
 
 pub turn_refused : (d e : Held) (l m n : Local) → GoesOnWith (program_at d) d e l m → n.start ≡ m.start → n.members ≡ m.members → n.need ≡ m.need → n.saved ≡ m.saved → (y : Result CircTurn CircFault) → y ≡ Err Memory → Advances d e l n y
-turn_refused d e l m n h start members need saved y is = subst (λ (z : Result CircTurn CircFault). Advances d e l n z) (sym is) (record { goes = goes_looked d e l m n start members need saved h; answer = tt })
+turn_refused d e l m n h start members need saved y is = subst (λ (z : Result CircTurn CircFault). Advances d e l n z) (sym is) (record { goes = goes_looked d e l m n start members need saved h; begun = tt; answer = tt })
 
 pub turn_fails : (d e : Held) (l m : Local) (fault : CircFault) → Advances d e l m (Err fault) → (y : Result CircTurn CircFault) → y ≡ Err fault → Advances d e l m y
 turn_fails d e l m fault a y is = subst (λ (z : Result CircTurn CircFault). Advances d e l m z) (sym is) a
 
-pub parts_stop : (d e f : Held) (l m n : Local) → GoesOnWith (program_at d) d e l m → (fault : CircFault) → SealsPart e f m n (Err fault) → (y : Result Unit CircFault) → y ≡ Err fault → SealsPart d f l n y
-parts_stop d e f l m n h fault v y is = subst (λ (z : Result Unit CircFault). SealsPart d f l n z) (sym is) (parts_then d e f l m n h (Err fault) v)
+pub parts_stop : {X Y : Type 0} (d e f : Held) (l m n : Local) → GoesOnWith (program_at d) d e l m → SameMembers l.members.entries m.members.entries → (fault : CircFault) → SealsPart {X = X} e f m n (Err fault) → (y : Result Y CircFault) → y ≡ Err fault → SealsPart d f l n y
+parts_stop {Y = Y} d e f l m n h same fault v y is =
+    let back : SealsPart {X = Y} e f m n (Err fault) = record { goes = v.goes; members = v.members; fault = v.fault } in
+    subst (λ (z : Result Y CircFault). SealsPart d f l n z) (sym is) (parts_then d e f l m n h same (Err fault) back)

@@ -1,10 +1,11 @@
 -- Parts of a local set that are sealed while it waits.
-use Rattle.std.specs.Prelude.{◌≡◌, ℕ, zero, suc, ◌<◌, [], ◌∷◌, Option, Some, None, Result, IfErr, length, slice_get}
+use Rattle.std.specs.Prelude.{◌≡◌, ◌⊎◌, ℕ, zero, suc, ◌<◌, Bool, true, false, List, [], ◌∷◌, Contains, Option, Some, None, IsSome, Result, IfErr, length, slice_get}
 use Rattle.std.specs.Option.{option_and_then, option_map}
 use Rattle.equation_law.specs.declared.coding.Instance.{Instance as CodedInstance}
 use Rattle.equation_law.specs.declared.coding.Value.{Value as CodedValue}
 use Rattle.equation_law.specs.Codes.{AreElements, instance_of, value_of}
-use Rattle.equation_law.specs.Equations.{HasValue, kind_in}
+use Rattle.equation_law.specs.Equations.{HasValue, equations_of, kind_in}
+use Rattle.equation_law.specs.Loops.{Chain}
 use Rattle.equation_law.specs.Names.{Instance}
 use Rattle.equation_law.specs.Orders.{FitsKind}
 use Rattle.equation_law.specs.Program.{Program, text_of}
@@ -12,13 +13,14 @@ use Rattle.memo_cells.specs.declared.view.Frame.{Frame}
 use Rattle.memo_cells.specs.declared.view.View.{View}
 use Rattle.memo_cells.specs.Showing.{ShowsAtLeast}
 use Rattle.memo_cells.specs.Standing.{Knows}
-use Rattle.memo_cells.specs.Working.{Held, program_at}
+use Rattle.memo_cells.specs.Working.{GoesOn, Held, program_at}
 use Rattle.circular_eval.specs.declared.advancing.CircFault.{CircFault}
 use Rattle.circular_eval.specs.declared.local.Local.{Local}
 use Rattle.circular_eval.specs.declared.members.Member.{Member}
 use Rattle.circular_eval.specs.Advancing.{AnswersFault, IsSealed}
 use Rattle.circular_eval.specs.Local.{IsLocal, Members}
 use Rattle.circular_eval.specs.Visiting.{GoesOnWith}
+use Rattle.circular_eval.specs.Waiting.{IsClosed}
 
 -- the members, where the one of this number is sealed: it has no cell any more
 abbrev pub without_slot : Members → ℕ → Members
@@ -29,6 +31,30 @@ without_slot (e ∷ es) (suc n) = e ∷ without_slot es n
 -- the member of this number, unless it is sealed
 abbrev pub unsealed_at : Members → ℕ → Option CodedInstance
 unsealed_at es n = option_and_then (λ e. option_map (λ s. e.0) e.1.slot) (slice_get es n)
+
+-- a member that isn't sealed and leads to nothing that is missing, as far as was noted
+pub record IsClosedMember (l : Local) (k : ℕ) : Type 0 where
+  pub stopped : ℕ × CodedInstance
+  pub need : l.need ≡ Some stopped
+  pub closed : IsClosed l.worklist stopped.0 k
+  pub unsealed : IsSome (unsealed_at l.members.entries k)
+
+-- these are all such members
+pub record AreClosedMembers (l : Local) (ks : List ℕ) : Type 0 where
+  pub closed : (k : ℕ) → Contains ks k → IsClosedMember l k
+  pub all : (k : ℕ) → IsClosedMember l k → Contains ks k
+
+-- the member of this number is sealed, if there is one
+abbrev pub IsSealedAt : Members → ℕ → Type 0
+IsSealedAt es n = unsealed_at es n ≡ None
+
+-- the instance is sealed wherever it is a member
+abbrev pub IsSealedIn : Members → CodedInstance → Type 0
+IsSealedIn es i = (n : ℕ) (e : CodedInstance × Member) → slice_get es n ≡ Some e → e.0 ≡ i → e.1.slot ≡ None
+
+-- the same members under the same numbers, and those that were sealed are
+pub record SameMembers (es fs : Members) : Type 0 where
+  pub same : (n : ℕ) (e : CodedInstance × Member) → slice_get fs n ≡ Some e → (d : CodedInstance × Member) × (slice_get es n ≡ Some d) × (e.0 ≡ d.0) × (d.1.slot ≡ None → e.1.slot ≡ None)
 
 -- the value with which i is seen sealed
 pub record IsFinal (p : Program) (v : View) (i : Instance) (x : CodedValue) : Type 0 where
@@ -50,16 +76,42 @@ pub record IsSealedSet (p : Program) (f : Frame) (v : View) (l : Local) : Type 0
 -- the member of this number has the value with which its instance was sealed: the set stays one
 pub record Settles (old new : Local) (number : ℕ) (x : CodedValue) : Type 0 where
   pub start : new.start ≡ old.start
+  pub members : SameMembers old.members.entries new.members.entries
   pub some : 0 < length old.members.entries → 0 < length new.members.entries
   pub kept : (p : Program) (f : Frame) (v : View) → IsLocal p f v old → IsFinalAt p v old.members.entries number x → IsLocal p f v new
 
 -- what was sealed with a part is final in the set: it stays one
 pub record Takes (part old new : Local) : Type 0 where
   pub start : new.start ≡ old.start
+  pub members : SameMembers old.members.entries new.members.entries
   pub some : 0 < length old.members.entries → 0 < length new.members.entries
   pub kept : (p : Program) (f : Frame) (v : View) → IsLocal p f v old → IsSealedSet p f v part → IsLocal p f v new
 
+-- the member of this number of a sealed part is sealed in the set, if it is a member there
+abbrev pub SealsMember : Local → Local → Local → ℕ → Type 0
+SealsMember part old new k = (p : Program) (f : Frame) (v : View) → IsLocal p f v old → IsSealedSet p f v part → (e : CodedInstance × Member) → slice_get part.members.entries k ≡ Some e → IsSealedIn new.members.entries e.0
+
 -- what sealing parts of a local set says, with what is held before and after
-pub record SealsPart (d e : Held) (old new : Local) (result : Result Unit CircFault) : Type 0 where
+pub record SealsPart {X : Type 0} (d e : Held) (old new : Local) (result : Result X CircFault) : Type 0 where
   pub goes : GoesOnWith (program_at d) d e old new
+  pub members : SameMembers old.members.entries new.members.entries
   pub fault : IfErr result (AnswersFault (program_at d) (instance_of (program_at d) old.start) d.0 e.1)
+
+-- i led to an instance that isn't circular, and whose value was missing then
+pub record HadToWait (d e : Held) (i : CodedInstance) : Type 0 where
+  pub then : Held
+  pub before : GoesOn d then
+  pub after : GoesOn then e
+  pub need : CodedInstance
+  pub reached : Chain (program_at d) (instance_of (program_at d) i) (instance_of (program_at d) need)
+  pub undeclared : (equations_of (program_at d)).circular (instance_of (program_at d) need) ≡ false
+  pub unknown : ¬ Knows (program_at d) then.1 (instance_of (program_at d) need)
+
+-- whether the member of this number is sealed now; where it isn't it had to wait
+abbrev pub AnswersPart : Held → Held → Members → Members → ℕ → Bool → Type 0
+AnswersPart d e es fs n true = IsSealedAt fs n
+AnswersPart d e es fs n false = (i : CodedInstance) × (unsealed_at es n ≡ Some i) × HadToWait d e i
+
+-- the members of these numbers are sealed now, unless one of them had to wait
+abbrev pub SealsClosed : Held → Held → Members → Members → List ℕ → Type 0
+SealsClosed d e es fs ks = ((k : ℕ) → Contains ks k → IsSealedAt fs k) ⊎ ((k : ℕ) × Contains ks k × AnswersPart d e es fs k false)

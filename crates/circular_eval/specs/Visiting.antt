@@ -158,4 +158,5 @@ pub record Begins (d e : Held) (old new : Local) (result : Result Unit CircFault
 -- what going on with a local set says
 pub record Advances (d e : Held) (old new : Local) (result : Result CircTurn CircFault) : Type 0 where
   pub goes : GoesOnWith (program_at d) d e old new
+  pub begun : OnOk result (0 < length new.members.entries)
   pub answer : AnswersTurn (program_at d) d.0 e.1 new result

@@ -179,8 +179,9 @@ pub(crate) fn finish<'a, W: Work>(
     Ok(CircTurn::Closed)
 }
 
-/// Closes a local set and seals its members. Where an undeclared instance is missing, it seals those members from which nothing that is missing is
-/// led to, and answers what is missing then.
+/// Closes a local set and seals its members. Where an undeclared instance is missing, it seals the members that are closed, as far as was noted, and
+/// goes on again: what it answers then is missing from the others. Closed members aren't looked for each time, so that looking for them takes no longer
+/// than the evaluations.
 fn go_on<'a, W: Work>(
     alloc: Global,
     system: &'a System,
@@ -203,7 +204,11 @@ fn go_on<'a, W: Work>(
 }
 
 /// Goes on with a local set: its members are evaluated until an undeclared instance is missing or no value rises any more. Then the set is
-/// closed, and its members are sealed. Where an instance is missing, those members are sealed already from which nothing that is missing is led to.
+/// closed, and its members are sealed.
+///
+/// Where an instance is missing, closed members are sealed first: those from which no way of recorded reads leads to the member that stopped, nor to
+/// one that wasn't evaluated yet. They are looked for where at least as much was read since as was looked at the last time, so that looking for
+/// them takes no longer than the evaluations. Where that isn't so yet, a later call seals them. Sealed members are final: no set evaluates them again.
 ///
 /// After a fault the local set stays, and may be gone on with.
 pub fn advance<'a, W: Work>(

@@ -1,7 +1,7 @@
 // In which order the members of a local set are evaluated: in sweeps from the last one that was admitted down to the first.
-ghost use Rattle.std.specs.Prelude.{◌≡◌, ◌≢◌, ◌<◌, ◌||◌, ℕ, Contains, IfSome, OnOk, length};
+ghost use Rattle.std.specs.Prelude.{◌≡◌, ◌≢◌, ◌<◌, ℕ, Contains, IfSome, OnOk, length};
 ghost use Rattle.std.specs.Ordering.{nat_cmp};
-ghost use Rattle.std.specs.BTreeSet.{IsUpperBound, contains_by};
+ghost use Rattle.std.specs.BTreeSet.{IsUpperBound};
 ghost use Rattle.circular_eval.specs.Waiting.{IsDue, IsWithin, StillDue, due_count};
 
 use rag_io::Memory;
@@ -39,13 +39,6 @@ impl Due {
             sweep: BTreeSet::new(alloc),
             later: BTreeSet::new(alloc),
         }
-    }
-
-    /// Whether a member is due, in this sweep or the next one.
-    pub(crate) fn has(&self, number: usize) -> bool
-        ensures { result ≡ (contains_by (nat_cmp number) self.now.sweep || contains_by (nat_cmp number) self.now.later) }
-    {
-        self.sweep.contains(&number) || self.later.contains(&number)
     }
 
     /// The member that is evaluated next, if one is due. Where a sweep is over, the next one begins.

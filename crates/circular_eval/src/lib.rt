@@ -11,6 +11,7 @@ mod parts;
 mod raising;
 mod reading;
 mod sealed;
+mod search;
 mod visiting;
 mod worklist;
 

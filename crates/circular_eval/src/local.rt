@@ -1,5 +1,5 @@
 // Local sets.
-ghost use Rattle.std.specs.Prelude.{◌≡◌, ◌⊎◌, ◌++◌, ◌∷◌, [], ℕ, true, ◌<◌, IfNone, IfOk, IfSome, None, OnErr, OnOk, Some, length, map, option_to_list, slice_get};
+ghost use Rattle.std.specs.Prelude.{◌≡◌, ◌⊎◌, ◌++◌, ◌∷◌, [], ℕ, true, ◌<◌, ◌≤◌, Contains, IfNone, IfOk, IfSome, None, OnErr, OnOk, Some, length, map, option_to_list, slice_get};
 ghost use Rattle.std.specs.Option.{option_and_then, option_map};
 ghost use Rattle.rag_io.specs.Pool.{ArePooled};
 ghost use Rattle.equation_law.specs.declared.coding.Instance.{Instance as CodedInstance};
@@ -12,10 +12,10 @@ ghost use Rattle.memo_cells.specs.declared.view.View.{View};
 ghost use Rattle.expr_eval.specs.Saved.{SavesNothing};
 ghost use Rattle.circular_eval.specs.Advancing.{IsPath};
 ghost use Rattle.circular_eval.specs.Local.{AreKept, AreSlots, IsAbsent, IsLocal, IsMemberOf, local_value, with_value};
-ghost use Rattle.circular_eval.specs.Parts.{unsealed_at, without_slot};
+ghost use Rattle.circular_eval.specs.Parts.{AreClosedMembers, unsealed_at, without_slot};
 ghost use Rattle.circular_eval.specs.Sealed.{IsMemberAt};
 ghost use Rattle.circular_eval.specs.Left.{member_bound};
-ghost use Rattle.circular_eval.specs.Waiting.{due_count};
+ghost use Rattle.circular_eval.specs.Waiting.{IsReader, due_count};
 
 use crate::members::Member;
 use crate::worklist::Worklist;
@@ -121,6 +121,7 @@ impl<'a> Local<'a> {
         ensures value { (p : Program) → ArePooled p.texts → IsCoded p i.now → AreKept p self.now.members.entries → IfSome result (λ x. local_value p self.now.members.entries (instance_of p i.now) ≡ value_of (text_of p) x.1.now) }
         ensures elements { (p : Program) → AreKept p self.now.members.entries → IfSome result (λ x. AreElements p x.1.now) }
         ensures at { IfSome result (λ x. IsMemberAt self.now.members.entries x.0 i.now x.1.now) }
+        ensures absent { IfNone result (IsAbsent self.now.members.entries i.now) }
     {
         let (number, _, member) = self.members.get_full(i)?;
         Some((number, &member.value))
@@ -211,6 +212,7 @@ impl<'a> Local<'a> {
         ensures need { self.new.need ≡ self.old.need }
         ensures saved { self.new.saved ≡ self.old.saved }
         ensures due { self.new.worklist.due ≡ self.old.worklist.due }
+        ensures noted { OnOk result ((k : ℕ) → Contains read.now k → k < length self.old.worklist.noted.items → IsReader self.new.worklist k number) }
     {
         self.worklist.note_reads(number, read)
     }
@@ -289,13 +291,15 @@ impl<'a> Local<'a> {
         self.worklist.rest(number);
     }
 
-    /// The numbers of the members that aren't sealed and lead to nothing that is missing, as far as is known: neither to the member whose equation
-    /// stopped last nor to one that is due. None are answered where the search would take longer than what was read since the last one.
+    /// The numbers of the members that aren't sealed and lead to nothing that is missing, as far as was noted: neither to the member whose equation
+    /// stopped last nor to one that wasn't evaluated yet. None are answered where less was read since they were looked for last than was looked at then.
     pub(crate) fn closed(&mut self, alloc: Global) -> Result<Vec<usize>, Memory>
         ensures start { self.new.start ≡ self.old.start }
         ensures members { self.new.members ≡ self.old.members }
         ensures need { self.new.need ≡ self.old.need }
         ensures saved { self.new.saved ≡ self.old.saved }
+        ensures soon { self.old.worklist.effort < self.old.worklist.cost → IfOk result (λ closed. closed.items ≡ []) }
+        ensures all { self.old.worklist.cost ≤ self.old.worklist.effort → IfOk result (λ closed. AreClosedMembers self.old closed.items) }
     {
         let mut closed = Vec::new(alloc);
         let Some((stopped, _)) = self.need else {
@@ -304,7 +308,9 @@ impl<'a> Local<'a> {
         let found = self.worklist.closed(alloc, stopped)?;
         for number in found.as_slice() {
             if self.unsealed(*number).is_some() {
-                closed.push(*number).map_err(|_| Memory)?;
+                let Ok(()) = closed.push(*number) else {
+                    return Err(Memory);
+                };
             }
         }
         Ok(closed)

@@ -1,6 +1,6 @@
 // Sealing the closed parts of a local set while it waits.
-ghost use Rattle.std.specs.Prelude.{◌≡◌, ◌≢◌, true, false};
-ghost use Rattle.circular_eval.specs.Parts.{SealsPart, Settles, Takes};
+ghost use Rattle.std.specs.Prelude.{◌≡◌, ◌≢◌, ℕ, true, false, IfOk, OnOk};
+ghost use Rattle.circular_eval.specs.Parts.{AnswersPart, IsSealedAt, SealsClosed, SealsMember, SealsPart, Settles, Takes};
 ghost use Rattle.circular_eval.specs.Visiting.{IsReady};
 
 use crate::advancing::{CircFault, CircTurn, finish};
@@ -28,7 +28,8 @@ fn is_same(value: &Value, other: &Value) -> bool
 
 /// A member has the value with which its instance was sealed. An evaluation that stopped goes on only where the member had that value already.
 fn settle(local: &mut Local<'_>, number: usize, value: &Value) -> Result<(), Memory>
-    ensures { Settles local.old local.new number value.now }
+    ensures settles { Settles local.old local.new number value.now }
+    ensures sealed { OnOk result (IsSealedAt local.new.members.entries number) }
 {
     let Some((_, member)) = local.member(number) else {
         return Ok(());
@@ -48,7 +49,8 @@ fn settle(local: &mut Local<'_>, number: usize, value: &Value) -> Result<(), Mem
 
 /// A member of a part is sealed, and so it is in the local set, if it is a member there.
 fn take_member(local: &mut Local<'_>, part: &Local<'_>, number: usize) -> Result<(), Memory>
-    ensures { Takes part.now local.old local.new }
+    ensures takes { Takes part.now local.old local.new }
+    ensures sealed { OnOk result (SealsMember part.now local.old local.new number) }
 {
     let Some((i, value)) = part.value_at(number) else {
         return Ok(());
@@ -61,7 +63,8 @@ fn take_member(local: &mut Local<'_>, part: &Local<'_>, number: usize) -> Result
 
 /// The members of a part are sealed, and so they are in the local set.
 fn take_over(local: &mut Local<'_>, part: &Local<'_>) -> Result<(), Memory>
-    ensures { Takes part.now local.old local.new }
+    ensures takes { Takes part.now local.old local.new }
+    ensures sealed { OnOk result ((k : ℕ) → SealsMember part.now local.old local.new k) }
 {
     for number in 0..part.len() {
         take_member(local, part, number)?;
@@ -69,28 +72,34 @@ fn take_over(local: &mut Local<'_>, part: &Local<'_>) -> Result<(), Memory>
     Ok(())
 }
 
-/// Seals what a member leads to, by a local set of its own, unless an undeclared instance is missing.
+/// Seals what a member leads to, by a local set of its own. It answers whether the member is sealed then: it isn't where an undeclared instance is
+/// missing.
 fn seal_part<'a, W: Work>(
     alloc: Global,
     system: &'a System,
     work: &mut W,
     local: &mut Local<'_>,
     number: usize,
-) -> Result<(), CircFault>
+) -> Result<bool, CircFault>
     requires ready { IsReady system.now (W.held work.old) local.old }
-    ensures { SealsPart (W.held work.old) (W.held work.new) local.old local.new result }
+    ensures part { SealsPart (W.held work.old) (W.held work.new) local.old local.new result }
+    ensures answer { IfOk result (AnswersPart (W.held work.old) (W.held work.new) local.old.members.entries local.new.members.entries number) }
 {
     let Some(i) = local.unsealed(number) else {
-        return Ok(());
+        return Ok(true);
     };
     let mut part = Local::start(alloc, i)?;
     match finish(alloc, system, work, &mut part)? {
-        CircTurn::Need(_) => Ok(()),
-        CircTurn::Closed => Ok(take_over(local, &part)?),
+        CircTurn::Need(_) => Ok(false),
+        CircTurn::Closed => {
+            take_over(local, &part)?;
+            Ok(true)
+        }
     }
 }
 
-/// Seals members of a local set that lead to nothing that is missing. They are final: neither this set nor another one evaluates them again.
+/// Seals the members of these numbers in turn, up to one that leads to something that is missing. They are final: neither this set nor another one
+/// evaluates them again.
 pub(crate) fn seal_closed<'a, W: Work>(
     alloc: Global,
     system: &'a System,
@@ -99,10 +108,13 @@ pub(crate) fn seal_closed<'a, W: Work>(
     closed: &[usize],
 ) -> Result<(), CircFault>
     requires ready { IsReady system.now (W.held work.old) local.old }
-    ensures { SealsPart (W.held work.old) (W.held work.new) local.old local.new result }
+    ensures parts { SealsPart (W.held work.old) (W.held work.new) local.old local.new result }
+    ensures sealed { OnOk result (SealsClosed (W.held work.old) (W.held work.new) local.old.members.entries local.new.members.entries closed.now) }
 {
     for number in closed {
-        seal_part(alloc, system, work, local, *number)?;
+        if !seal_part(alloc, system, work, local, *number)? {
+            return Ok(());
+        }
     }
     Ok(())
 }

@@ -1,28 +1,31 @@
 // Which member of a local set is evaluated next. Nothing but time hangs on it: a set is sealed only after a pass over all its members.
-ghost use Rattle.std.specs.Prelude.{◌≡◌, ◌≢◌, ◌<◌, ℕ, [], true, Contains, IfSome, OnOk, length};
-ghost use Rattle.circular_eval.specs.Waiting.{IsDue, IsReader, IsWithin, StillDue, due_count};
+ghost use Rattle.std.specs.Prelude.{◌≡◌, ◌≢◌, ◌<◌, ◌≤◌, ℕ, [], true, Contains, IfOk, IfSome, OnOk, length};
+ghost use Rattle.circular_eval.specs.Searching.{FindsOpen, IsSearch};
+ghost use Rattle.circular_eval.specs.Waiting.{AreClosed, IsDue, IsFresh, IsReader, IsWithin, StillDue, due_count};
 
 use crate::due::Due;
+use crate::search::Search;
 use indexmap::IndexSet;
 use rag_io::Memory;
 use std::alloc::Global;
+
+/// What is noted of a member.
+#[derive(Drop)]
+pub(crate) struct Noted {
+    // The members that read its value.
+    readers: IndexSet<usize>,
+    // Whether what it reads is noted: it was evaluated, or needn't be.
+    evaluated: bool,
+}
 
 /// The members that are to be evaluated, by their numbers.
 #[derive(Drop)]
 pub struct Worklist {
     due: Due,
-    // The members that read the value of each.
-    readers: Vec<IndexSet<usize>>,
+    noted: Vec<Noted>,
     // How much was read since closed members were looked for, and how much was looked at then.
     effort: usize,
     cost: usize,
-}
-
-/// The members from which a way of reads leads to one that is due or that stopped, and how many reads were looked at.
-#[derive(Drop)]
-struct Search {
-    open: IndexSet<usize>,
-    looked: usize,
 }
 
 /// Puts a number last, unless it is there.
@@ -47,24 +50,15 @@ fn wake_all(due: &mut Due, readers: &IndexSet<usize>, risen: usize) -> Result<()
     Ok(())
 }
 
-/// The members that read the value of one that is open are open.
-fn open_all(search: &mut Search, readers: &IndexSet<usize>) -> Result<(), Memory> {
-    search.looked = search.looked.saturating_add(readers.len());
-    for number in readers.as_slice() {
-        insert(&mut search.open, *number)?;
-    }
-    Ok(())
-}
-
 impl Worklist {
     /// No members.
     pub(crate) fn new(alloc: Global) -> Worklist
         ensures due { due_count result.due ≡ 0 }
-        ensures readers { result.readers.items ≡ [] }
+        ensures noted { result.noted.items ≡ [] }
     {
         Worklist {
             due: Due::new(alloc),
-            readers: Vec::new(alloc),
+            noted: Vec::new(alloc),
             effort: 0,
             cost: 0,
         }
@@ -102,11 +96,14 @@ impl Worklist {
     ) -> Result<(), Memory>
         ensures due { OnOk result (unsettled ≡ true → IsDue self.new.due number) }
         ensures kept { StillDue self.old.due self.new.due }
+        ensures fresh { OnOk result (length self.old.noted.items ≡ number → unsettled ≡ true → IsFresh self.new number) }
     {
-        if self.readers.len() <= number {
-            let Ok(()) = self.readers.push(IndexSet::new(alloc)) else {
-                return Err(Memory);
+        if self.noted.len() <= number {
+            let noted = Noted {
+                readers: IndexSet::new(alloc),
+                evaluated: !unsettled,
             };
+            self.noted.push(noted).map_err(|_| Memory)?;
         }
         if unsettled {
             self.due.add(number)?;
@@ -114,14 +111,31 @@ impl Worklist {
         Ok(())
     }
 
-    /// Notes the members whose values a member read.
+    // Notes that a member was evaluated.
+    fn note_evaluated(&mut self, number: usize)
+        ensures due { self.new.due ≡ self.old.due }
+        ensures len { length self.new.noted.items ≡ length self.old.noted.items }
+        ensures evaluated { ¬ IsFresh self.new number }
+        ensures fresh { (k : ℕ) → IsFresh self.new k → IsFresh self.old k }
+        ensures readers { (k other : ℕ) → IsReader self.old k other → IsReader self.new k other }
+    {
+        if let Some(noted) = self.noted.get_mut(number) {
+            noted.evaluated = true;
+        }
+    }
+
+    /// Notes that a member was evaluated, and the members whose values it read.
     pub(crate) fn note_reads(&mut self, reader: usize, read: &[usize]) -> Result<(), Memory>
-        ensures { self.new.due ≡ self.old.due }
+        ensures due { self.new.due ≡ self.old.due }
+        ensures evaluated { ¬ IsFresh self.new reader }
+        ensures noted { OnOk result ((k : ℕ) → Contains read.now k → k < length self.old.noted.items → IsReader self.new k reader) }
+        ensures kept { (k other : ℕ) → IsReader self.old k other → IsReader self.new k other }
     {
         self.effort = self.effort.saturating_add(read.len()).saturating_add(1);
+        self.note_evaluated(reader);
         for number in read {
-            if let Some(readers) = self.readers.get_mut(*number) {
-                insert(readers, reader)?;
+            if let Some(noted) = self.noted.get_mut(*number) {
+                insert(&mut noted.readers, reader)?;
             }
         }
         Ok(())
@@ -133,55 +147,53 @@ impl Worklist {
         ensures kept { (k : ℕ) → k ≢ number → IsDue self.old.due k → IsDue self.new.due k }
     {
         self.due.remove(number);
-        if let Some(readers) = self.readers.get(number) {
-            wake_all(&mut self.due, readers, number)?;
+        if let Some(noted) = self.noted.get(number) {
+            wake_all(&mut self.due, &noted.readers, number)?;
         }
         Ok(())
     }
 
-    // The member that stopped, and those that are due.
-    fn begun(&self, alloc: Global, stopped: usize) -> Result<Search, Memory> {
-        let mut open = IndexSet::new(alloc);
-        insert(&mut open, stopped)?;
-        for number in 0..self.readers.len() {
-            if self.due.has(number) {
-                insert(&mut open, number)?;
-            }
-        }
-        Ok(Search { open, looked: 0 })
-    }
-
-    // All members from which a way of reads leads to the one that stopped or to one that is due.
-    fn search(&self, alloc: Global, stopped: usize) -> Result<Search, Memory> {
-        let mut search = self.begun(alloc, stopped)?;
-        for at in 0..self.readers.len() {
-            let Some(number) = search.open.get_index(at).copied() else {
-                break;
-            };
-            if let Some(readers) = self.readers.get(number) {
-                open_all(&mut search, readers)?;
+    // A search that begins at the member that stopped and at those that weren't evaluated yet.
+    fn begun(&self, alloc: Global, stopped: usize) -> Result<Search, Memory>
+        ensures { IfOk result (λ search. IsSearch self.now stopped search) }
+    {
+        let mut search = Search::new(alloc, self.noted.len())?;
+        search.find(stopped)?;
+        for (number, noted) in self.noted.iter().enumerate() {
+            if !noted.evaluated {
+                search.find(number)?;
             }
         }
         Ok(search)
     }
 
-    /// The members from which no way of reads leads to the one that stopped or to one that is due. None are answered where the search would look at
-    /// more than was read since the last one: so all searches together take no longer than the evaluations.
-    pub(crate) fn closed(&mut self, alloc: Global, stopped: usize) -> Result<Vec<usize>, Memory>
-        ensures { self.new.due ≡ self.old.due }
+    // All members from which a way of reads leads to the one that stopped or to one that wasn't evaluated yet.
+    fn search(&self, alloc: Global, stopped: usize) -> Result<Search, Memory>
+        ensures { IfOk result (λ search. FindsOpen self.now stopped search) }
     {
-        let mut closed = Vec::new(alloc);
+        let mut search = self.begun(alloc, stopped)?;
+        while let Some(number) = search.next() {
+            if let Some(noted) = self.noted.get(number) {
+                search.find_all(&noted.readers)?;
+            }
+        }
+        Ok(search)
+    }
+
+    /// The members from which no way of reads leads to the one that stopped or to one that wasn't evaluated yet. None are answered where less was
+    /// read since they were looked for last than was looked at then: so all searches together take no longer than the evaluations.
+    pub(crate) fn closed(&mut self, alloc: Global, stopped: usize) -> Result<Vec<usize>, Memory>
+        ensures due { self.new.due ≡ self.old.due }
+        ensures noted { self.new.noted ≡ self.old.noted }
+        ensures soon { self.old.effort < self.old.cost → IfOk result (λ closed. closed.items ≡ []) }
+        ensures all { self.old.cost ≤ self.old.effort → IfOk result (λ closed. AreClosed self.old stopped closed.items) }
+    {
         if self.effort < self.cost {
-            return Ok(closed);
+            return Ok(Vec::new(alloc));
         }
         let search = self.search(alloc, stopped)?;
         self.effort = 0;
-        self.cost = search.looked.saturating_add(self.readers.len());
-        for number in 0..self.readers.len() {
-            if !search.open.contains(&number) {
-                closed.push(number).map_err(|_| Memory)?;
-            }
-        }
-        Ok(closed)
+        self.cost = search.looked().saturating_add(self.noted.len());
+        search.others(alloc)
     }
 }

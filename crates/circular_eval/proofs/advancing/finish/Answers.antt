@@ -29,7 +29,7 @@ returns-in_err-need g c =
 
 pub returns-in-Some : goal.returns-in-Some
 returns-in-Some g c =
-    on_need (g.W.Words.held c.args.work.now) (g.W.Words.held c.begin.new.work) (g.W.Words.held c.close.new.work) c.args.local.now c.begin.new.local c.close.new.local c.begin.ensures.goes c.in-Some.need (subst (λ (o : Option CodedInstance). Closes (g.W.Words.held c.begin.new.work) (g.W.Words.held c.close.new.work) c.begin.new.local c.close.new.local (Ok o)) c.in-Some.is c.in_ok-need.ensures)
+    on_need (g.W.Words.held c.args.work.now) (g.W.Words.held c.begin.new.work) (g.W.Words.held c.close.new.work) c.args.local.now c.begin.new.local c.close.new.local c.begin.ensures.goes c.in_ok-begin.ensures.some c.in-Some.need (subst (λ (o : Option CodedInstance). Closes (g.W.Words.held c.begin.new.work) (g.W.Words.held c.close.new.work) c.begin.new.local c.close.new.local (Ok o)) c.in-Some.is c.in_ok-need.ensures)
 
 pub returns-in_err-slots : goal.returns-in_err-slots
 returns-in_err-slots g c =

@@ -30,14 +30,14 @@ seal_closed-requires g c =
 
 pub returns-in_err-seal_closed : goal.returns-in_err-seal_closed
 returns-in_err-seal_closed g c =
-    parts_fail (g.W.Words.held c.args.work.now) (g.W.Words.held c.finish.new.work) (g.W.Words.held c.seal_closed.new.work) c.args.local.now c.closed.new.self c.seal_closed.new.local (goes_looked (g.W.Words.held c.args.work.now) (g.W.Words.held c.finish.new.work) c.args.local.now c.finish.new.local c.closed.new.self c.closed.ensures.start c.closed.ensures.members c.closed.ensures.need c.closed.ensures.saved c.finish.ensures.goes) c.in_err-seal_closed.field-0.0 c.in_err-seal_closed.ensures c.from_residual-in_err-seal_closed.result (err_is c.from_residual-in_err-seal_closed.result c.in_err-seal_closed.field-0.0 c.from_residual-in_err-seal_closed.ensures)
+    parts_fail (g.W.Words.held c.args.work.now) (g.W.Words.held c.finish.new.work) (g.W.Words.held c.seal_closed.new.work) c.args.local.now c.closed.new.self c.seal_closed.new.local (goes_looked (g.W.Words.held c.args.work.now) (g.W.Words.held c.finish.new.work) c.args.local.now c.finish.new.local c.closed.new.self c.closed.ensures.start c.closed.ensures.members c.closed.ensures.need c.closed.ensures.saved c.finish.ensures.goes) c.in_err-seal_closed.field-0.0 c.in_err-seal_closed.ensures.parts c.from_residual-in_err-seal_closed.result (err_is c.from_residual-in_err-seal_closed.result c.in_err-seal_closed.field-0.0 c.from_residual-in_err-seal_closed.ensures)
 
 pub finish-requires-2 : goal.finish-requires-2
 finish-requires-2 g c =
     let looked = goes_looked (g.W.Words.held c.args.work.now) (g.W.Words.held c.finish.new.work) c.args.local.now c.finish.new.local c.closed.new.self c.closed.ensures.start c.closed.ensures.members c.closed.ensures.need c.closed.ensures.saved c.finish.ensures.goes in
-    record { ready = ready_then c.args.system.now (g.W.Words.held c.finish.new.work) (g.W.Words.held c.seal_closed.new.work) c.closed.new.self c.seal_closed.new.local (ready_then c.args.system.now (g.W.Words.held c.args.work.now) (g.W.Words.held c.finish.new.work) c.args.local.now c.closed.new.self c.requires.ready looked) c.seal_closed.ensures.goes }
+    record { ready = ready_then c.args.system.now (g.W.Words.held c.finish.new.work) (g.W.Words.held c.seal_closed.new.work) c.closed.new.self c.seal_closed.new.local (ready_then c.args.system.now (g.W.Words.held c.args.work.now) (g.W.Words.held c.finish.new.work) c.args.local.now c.closed.new.self c.requires.ready looked) c.seal_closed.ensures.parts.goes }
 
 pub returns : goal.returns
 returns g c =
     let looked = goes_looked (g.W.Words.held c.args.work.now) (g.W.Words.held c.finish.new.work) c.args.local.now c.finish.new.local c.closed.new.self c.closed.ensures.start c.closed.ensures.members c.closed.ensures.need c.closed.ensures.saved c.finish.ensures.goes in
-    turns_then (g.W.Words.held c.args.work.now) (g.W.Words.held c.seal_closed.new.work) (g.W.Words.held c.finish-2.new.work) c.args.local.now c.seal_closed.new.local c.finish-2.new.local (with_then (g.W.Words.held c.args.work.now) (g.W.Words.held c.finish.new.work) (g.W.Words.held c.seal_closed.new.work) c.args.local.now c.closed.new.self c.seal_closed.new.local looked c.seal_closed.ensures.goes) c.finish-2.result c.finish-2.ensures
+    turns_then (g.W.Words.held c.args.work.now) (g.W.Words.held c.seal_closed.new.work) (g.W.Words.held c.finish-2.new.work) c.args.local.now c.seal_closed.new.local c.finish-2.new.local (with_then (g.W.Words.held c.args.work.now) (g.W.Words.held c.finish.new.work) (g.W.Words.held c.seal_closed.new.work) c.args.local.now c.closed.new.self c.seal_closed.new.local looked c.seal_closed.ensures.parts.goes) c.finish-2.result c.finish-2.ensures

@@ -8,6 +8,9 @@ use Rattle.circular_eval.proofs.local.Local.find.Goals as goal
 pub returns-in_err-number-clause-none : goal.returns-in_err-number-clause-none
 returns-in_err-number-clause-none c = λ p pooled coded kept. if_none c.from_residual.result (absent_member p pooled c.args.self.now.members.entries c.args.i.now kept coded (not_found c.args.self.now.members.entries c.args.i.now c.in_err-number.ensures.value))
 
+pub returns-in_err-number-clause-absent : goal.returns-in_err-number-clause-absent
+returns-in_err-number-clause-absent c = if_none c.from_residual.result (not_found c.args.self.now.members.entries c.args.i.now c.in_err-number.ensures.value)
+
 pub returns-clause-member : goal.returns-clause-member
 returns-clause-member c = λ p. member_at p c.args.self.now.members.entries c.args.i.now c.in_ok-number.member.now (sym c.in_ok-number.ensures.value)
 

@@ -1,6 +1,6 @@
--- The members that are due stay.
-use Rattle.std.proofs.Common.{◌≡◌}
+-- The member is noted as a reader of those so far.
+use Rattle.circular_eval.proofs.Noting.{AreNoted}
 use Rattle.circular_eval.proofs.worklist.Worklist.note_reads.Given as goal
 
 abbrev pub invariant-loop-number : goal.invariant-loop-number
-invariant-loop-number l = l.self.due ≡ l.initial.self.due
+invariant-loop-number l = AreNoted l.initial.self l.reader l.read l.number-index l.self
