@@ -1,2 +1,3 @@
+pub mod Circular
 pub mod Late
 pub mod Nothing

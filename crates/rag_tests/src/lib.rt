@@ -33,6 +33,8 @@ mod random;
 #[cfg(test)]
 mod resumed;
 #[cfg(test)]
+mod sweeps;
+#[cfg(test)]
 mod texts;
 #[cfg(test)]
 mod trees;

@@ -6,7 +6,7 @@ ghost use Rattle.equation_law.specs.Systems.{program_of};
 
 use ast_grammar::{Grammar, read_ast_bytes};
 use equation_law::System;
-use program_reader::read_system;
+use program_reader::{Refusal, read_system};
 use rag_io::LONGEST_FILE;
 use run_io::Contents;
 use std::alloc::{AllocError, Global};
@@ -25,26 +25,31 @@ pub(crate) struct Texts<'a> {
 /// The number of nodes below each node of a chain.
 pub(crate) const COUNTED: &str = "aspect A { syn int L.d() = hasL() ? getL().d() + 1 : 0; }";
 
-fn bytes_of(rt: &impl Abort, alloc: Global, text: &str) -> Result<Vec<u8>, Fail>
+fn bytes_of(alloc: Global, text: &str) -> Result<Vec<u8>, Refusal>
     ensures { IfOk result (λ bytes. length bytes.items ≤ longest_file) }
 {
-    assert!(rt; text.len() <= LONGEST_FILE);
-    Ok(Vec::from_slice(alloc, text.as_bytes())?)
+    if text.len() > LONGEST_FILE {
+        return Err(Refusal::Memory);
+    }
+    match Vec::from_slice(alloc, text.as_bytes()) {
+        Ok(bytes) => Ok(bytes),
+        Err(_) => Err(Refusal::Memory),
+    }
 }
 
 /// The system that four texts say.
-pub(crate) fn system_said(rt: &impl Abort, alloc: Global, texts: Texts<'_>) -> Result<System, Fail>
+pub(crate) fn system_said(alloc: Global, texts: &Texts<'_>) -> Result<System, Refusal>
     ensures { IfOk result (λ system. IsProgram (program_of system)) }
 {
     let contents = Contents {
-        ast: bytes_of(rt, alloc, texts.ast)?,
-        jrag: bytes_of(rt, alloc, texts.jrag)?,
-        tree: bytes_of(rt, alloc, texts.tree)?,
-        queries: bytes_of(rt, alloc, texts.queries)?,
+        ast: bytes_of(alloc, texts.ast)?,
+        jrag: bytes_of(alloc, texts.jrag)?,
+        tree: bytes_of(alloc, texts.tree)?,
+        queries: bytes_of(alloc, texts.queries)?,
     };
     match read_system(alloc, &contents) {
         Ok(system) => Ok(system),
-        Err(_) => Err("refused".into()),
+        Err(refusal) => Err(refusal),
     }
 }
 
@@ -61,7 +66,7 @@ pub(crate) fn check_said(
     texts: Texts<'_>,
     checks: &impl Checks,
 ) -> Result<(), Fail> {
-    let system = system_said(rt, alloc, texts)?;
+    let system = system_said(alloc, &texts)?;
     checks.check(rt, alloc, &system)
 }
 

@@ -121,7 +121,7 @@ fn each_element_is_gone_over_once(rt: HostRuntime) -> Result<(), Fail> {
         tree: &tree,
         queries: "",
     };
-    let system = system_said(&rt, rt.alloc(), texts)?;
+    let system = system_said(rt.alloc(), &texts)?;
     for (attr, wanted) in DEMANDS {
         assert_eq!(&rt; demands_of(rt.alloc(), &system, attr)?, wanted);
     }

@@ -5,4 +5,4 @@ use Rattle.program_reader.proofs.Answerable.{is_program}
 use Rattle.rag_tests.proofs.programs.system_said.Goals as goal
 
 pub returns-in-Ok : goal.returns-in-Ok
-returns-in-Ok g c = is_program _ (program_of c.in-Ok.system) c.in-Ok.ensures.said (texts_pooled c.in-Ok.system)
+returns-in-Ok c = is_program _ (program_of c.in-Ok.system) c.in-Ok.ensures.said (texts_pooled c.in-Ok.system)

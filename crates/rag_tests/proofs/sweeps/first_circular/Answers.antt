@@ -1,0 +1,44 @@
+use Rattle.std.proofs.Common.{Ok, ap, sym, subst, ◌∙◌}
+use Rattle.equation_law.specs.Codes.{instance_of}
+use Rattle.equation_law.specs.Equations.{equations_of}
+use Rattle.equation_law.specs.Systems.{program_of}
+use Rattle.expr_eval.specs.declared.sites.Turn.{Turn}
+use Rattle.expr_eval.specs.Evaluating.{AnswersTurn}
+use Rattle.expr_eval.proofs.Found.{none_saved}
+use Rattle.memo_cells.specs.Working.{told_by}
+use Rattle.memo_cells.proofs.Holding.{reads_itself}
+use Rattle.caller_pass.proofs.Desks.{sound_for}
+use Rattle.rag_tests.proofs.Sweeping.{need_circular, need_is, program_here}
+use Rattle.rag_tests.proofs.sweeps.first_circular.Goals as goal
+
+pub loop-init : goal.loop-init
+loop-init c = record { on = reads_itself c.args.work.now c.requires.own; instance = c.requires.instance; coded = c.requires.coded }
+
+pub resume_instance-requires-clause-sound : goal.resume_instance-requires-clause-sound
+resume_instance-requires-clause-sound c = sound_for (program_of c.args.system.now) c.loop.work (program_here c.args.system.now c.args.work.now c.loop.work c.requires.same c.loop.invariant.on)
+
+pub returns-in_err-resume_instance-clause-on : goal.returns-in_err-resume_instance-clause-on
+returns-in_err-resume_instance-clause-on c = c.resume_instance.ensures.evaluates.kept.kept c.args.work.now c.loop.invariant.on
+
+pub returns-in-Done-clause-on : goal.returns-in-Done-clause-on
+returns-in-Done-clause-on c = c.resume_instance.ensures.evaluates.kept.kept c.args.work.now c.loop.invariant.on
+
+pub returns-then-is_declared-clause-on : goal.returns-then-is_declared-clause-on
+returns-then-is_declared-clause-on c = c.resume_instance.ensures.evaluates.kept.kept c.args.work.now c.loop.invariant.on
+
+pub returns-then-is_declared-clause-found : goal.returns-then-is_declared-clause-found
+returns-then-is_declared-clause-found c =
+    let p = program_of c.args.system.now in
+    need_circular c.args.system.now c.requires.program c.args.work.now c.resume_instance.new.reader c.requires.same (c.resume_instance.ensures.evaluates.kept.kept c.args.work.now c.loop.invariant.on) c.loop.at c.in-Need.next c.loop.invariant.instance
+    (subst (λ (t : Turn). AnswersTurn p (told_by c.resume_instance.new.reader) ((equations_of p).equation (instance_of p c.loop.at)) (Ok t)) c.in-Need.is c.in_ok-resume_instance.ensures.evaluates.answer) (sym c.is_declared.ensures ∙ c.if-is_declared.true)
+
+pub loop-preserved : goal.loop-preserved
+loop-preserved c =
+    let p = program_of c.args.system.now in
+    let on = c.resume_instance.ensures.evaluates.kept.kept c.args.work.now c.loop.invariant.on in
+    let answer = subst (λ (t : Turn). AnswersTurn p (told_by c.resume_instance.new.reader) ((equations_of p).equation (instance_of p c.loop.at)) (Ok t)) c.in-Need.is c.in_ok-resume_instance.ensures.evaluates.answer in
+    record {
+      on = on;
+      instance = need_is c.args.system.now c.requires.program c.args.work.now c.resume_instance.new.reader c.requires.same on c.loop.at c.in-Need.next c.loop.invariant.instance answer;
+      coded = answer.coded;
+    }
