@@ -1,11 +1,11 @@
 -- What an instance demands first, by a pass at its cells.
-use Rattle.std.proofs.Common.{◌≡◌, true, Option, Result, Ok, refl, sym, ap, subst, ◌∙◌}
+use Rattle.std.proofs.Common.{◌≡◌, true, Option, Result, Ok, refl, sym, ap, ◌∙◌}
 use Rattle.rag_io.specs.declared.Memory.{Memory}
 use Rattle.equation_law.specs.declared.coding.Instance.{Instance as CodedInstance}
 use Rattle.equation_law.specs.declared.coding.Value.{Value as CodedValue}
 use Rattle.equation_law.specs.declared.system.System.{System}
 use Rattle.equation_law.specs.Checked.{IsInstance, IsProgram}
-use Rattle.equation_law.specs.Codes.{IsCoded, instance_of}
+use Rattle.equation_law.specs.Codes.{instance_of}
 use Rattle.equation_law.specs.Equations.{equations_of, is_declared}
 use Rattle.equation_law.specs.Program.{Program}
 use Rattle.equation_law.specs.Reading.{SettledBy}

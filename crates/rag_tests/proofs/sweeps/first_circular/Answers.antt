@@ -1,10 +1,9 @@
-use Rattle.std.proofs.Common.{Ok, ap, sym, subst, ◌∙◌}
+use Rattle.std.proofs.Common.{Ok, sym, subst, ◌∙◌}
 use Rattle.equation_law.specs.Codes.{instance_of}
 use Rattle.equation_law.specs.Equations.{equations_of}
 use Rattle.equation_law.specs.Systems.{program_of}
 use Rattle.expr_eval.specs.declared.sites.Turn.{Turn}
 use Rattle.expr_eval.specs.Evaluating.{AnswersTurn}
-use Rattle.expr_eval.proofs.Found.{none_saved}
 use Rattle.memo_cells.specs.Working.{told_by}
 use Rattle.memo_cells.proofs.Holding.{reads_itself}
 use Rattle.caller_pass.proofs.Desks.{sound_for}
