@@ -18,11 +18,6 @@ at_has [] n x e = cc
 at_has (y ∷ ys) zero x e = inl (let q : x ≡ y = cc in q)
 at_has (y ∷ ys) (suc n) x e = inr (at_has ys n x e)
 
-pub at_low : {X : Type 0} (xs : List X) (n : ℕ) (x : X) → slice_get xs n ≡ Some x → n < length xs
-at_low [] n x e = cc
-at_low (y ∷ ys) zero x e = omega arith
-at_low (y ∷ ys) (suc n) x e = let h : n < length ys = at_low ys n x e in omega (arith, h)
-
 -- one more
 pub at_more : {X : Type 0} (xs : List X) (y : X) (n : ℕ) (x : X) → slice_get xs n ≡ Some x → slice_get (xs ++ y ∷ []) n ≡ Some x
 at_more [] y n x e = cc

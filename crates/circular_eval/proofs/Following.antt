@@ -1,5 +1,6 @@
 -- Going on by what the equation of a member is stuck at.
 use Rattle.std.proofs.Common.{◌≡◌, ℕ, ◌<◌, Bool, true, false, Option, Some, None, Result, Ok, Err, length, refl, sym, ap, subst, ◌∙◌}
+use Rattle.std.proofs.lemmas.Option.{slice_get_within}
 use Rattle.solutions.specs.Asking.{Halts}
 use Rattle.solutions.proofs.Looping.{halts_meets}
 use Rattle.equation_law.specs.declared.coding.Instance.{Instance as CodedInstance}
@@ -24,7 +25,6 @@ use Rattle.circular_eval.specs.declared.visiting.Visited.TheVariants.{Need}
 use Rattle.circular_eval.specs.Local.{IsMember, Members, ReadsHere, here, local_value, settled}
 use Rattle.circular_eval.specs.Visiting.{Admits, ComesAt, IsNew, IsReady, Steps}
 use Rattle.circular_eval.proofs.Admitting.{local_is_here, near_is, program_is}
-use Rattle.circular_eval.proofs.Entries.{at_low}
 use Rattle.circular_eval.proofs.Going.{chain_more, claims_from_none, member_chain}
 use Rattle.circular_eval.proofs.Growing.{local_needs}
 use Rattle.memo_cells.proofs.Holding.{goes_itself}
@@ -81,7 +81,7 @@ module _ (s : System) (d : Held) (l : Local) (r : IsReady s d l) (number : ℕ) 
         coded = came.comes.1;
         is_circular = c;
         absent = λ m. not_read (local_value p es j) (here (sym (as_declared p (program_is s d l r) j needed) ∙ c) m);
-        led = (at_low es number came.entry came.at, (came.entry, came.at, leads));
+        led = (slice_get_within es number came.entry came.at, (came.entry, came.at, leads));
       }
 
   -- another one is missing

@@ -12,9 +12,6 @@ pub mod Later
 pub mod Left
 pub mod Looking
 pub mod Lowering
-pub mod Marks
-pub mod Noting
-pub mod Numbers
 pub mod Parting
 pub mod Passing
 pub mod Paths
@@ -22,7 +19,6 @@ pub mod Raised
 pub mod Resuming
 pub mod Rising
 pub mod Sealing
-pub mod Searching
 pub mod Settling
 pub mod Slots
 pub mod ValueRaised

@@ -1,6 +1,7 @@
 -- Visits of members, one after the other.
 use Rattle.std.proofs.Common.{◌≡◌, ◌⊎◌, ℕ, ◌<◌, ◌+◌, ◌-◌, ◌≤◌, Bool, true, false, Option, Some, None, IsSome, IfSome, is_some, Result, Ok, Err, length, slice_get, inl, inr, ⊎_elim, refl, sym, ap, subst, ◌∙◌, arith}
 use Rattle.std.proofs.lemmas.Bool.{cases_order}
+use Rattle.std.proofs.lemmas.Option.{slice_get_within}
 use Rattle.equation_law.specs.declared.coding.Instance.{Instance as CodedInstance}
 use Rattle.equation_law.specs.declared.system.System.{System}
 use Rattle.equation_law.specs.Codes.{instance_of}
@@ -17,7 +18,6 @@ use Rattle.memo_cells.specs.Working.{Held, ReadsOn, program_at}
 use Rattle.memo_cells.proofs.Showing.{not_both}
 use Rattle.circular_eval.specs.declared.advancing.CircFault.{CircFault}
 use Rattle.circular_eval.specs.declared.advancing.CircFault.TheVariants.{Memory}
-use Rattle.circular_eval.specs.declared.due.Due.{Due}
 use Rattle.circular_eval.specs.declared.local.Local.{Local}
 use Rattle.circular_eval.specs.declared.members.Member.{Member}
 use Rattle.circular_eval.specs.declared.visiting.Visited.{Visited}
@@ -26,10 +26,10 @@ use Rattle.circular_eval.specs.Advancing.{AnswersFault, ClaimsFrom, IsMissing}
 use Rattle.circular_eval.specs.Left.{left}
 use Rattle.circular_eval.specs.Local.{AreKept, IsKept, Members, ReadsHere, StillMembers}
 use Rattle.circular_eval.specs.Looking.{ComesTo}
-use Rattle.circular_eval.specs.Waiting.{due_count}
+use Rattle.worklists.specs.Waiting.{due_count}
 use Rattle.circular_eval.specs.Visiting.{AnswersStep, AnswersVisit, ComesAt, GoesOnWith, IsConfirmed, IsReady, KeepsSaved, Passes, Stays, Steps, Visits}
 use Rattle.circular_eval.proofs.Admitting.{IsSame, goes_same}
-use Rattle.circular_eval.proofs.Entries.{at_low, has_at}
+use Rattle.circular_eval.proofs.Entries.{has_at}
 use Rattle.circular_eval.proofs.Going.{claims_from_none, program_on, ready_then, with_itself, with_then}
 use Rattle.circular_eval.proofs.Growing.{local_free, local_kept}
 use Rattle.circular_eval.proofs.Later.{confirmed_later}
@@ -228,7 +228,7 @@ pass_whole d e l m upto most h = record {
   goes = h.goes;
   answer = λ x there.
       let at = has_at m.members.entries x there in
-      let low : at.0 < length m.members.entries = at_low m.members.entries at.0 x at.1 in
+      let low : at.0 < length m.members.entries = slice_get_within m.members.entries at.0 x at.1 in
       h.confirmed at.0 x (omega (arith, low, most)) at.1;
 }
 
@@ -287,7 +287,7 @@ pub popped_less : (l m n : Local) (upto : ℕ) → m.members.entries ≡ l.membe
 popped_less l m n upto same due members some fewer =
     let entries : length n.members.entries ≡ length l.members.entries = ap (λ x. length x.entries) members ∙ ap length same in
     let count : due_count m.worklist.due ≡ due_count l.worklist.due = ap due_count due in
-    let less : due_count n.worklist.due < due_count m.worklist.due = fewer (subst (λ (d : Due). 0 < length d.sweep.keys) (sym due) some) in
+    let less : due_count n.worklist.due < due_count m.worklist.due = fewer (subst (λ d. 0 < length d.sweep.keys) (sym due) some) in
     omega (arith, entries, count, less)
 
 pub next_less : (l m : Local) (upto : ℕ) → m.members.entries ≡ l.members.entries → m.worklist.due ≡ l.worklist.due → upto < length l.members.entries → (length m.members.entries - (upto + 1)) + due_count m.worklist.due < (length l.members.entries - upto) + due_count l.worklist.due

@@ -2,6 +2,7 @@
 use Rattle.std.proofs.Common.{◌≡◌, ◌∙◌, ◌++◌, ℕ, zero, suc, ◌+◌, ◌<◌, ◌≤◌, Bool, true, false, List, [], ◌∷◌, Option, Some, None, IsSome, Result, Ok, Err, Contains, length, slice_get, slice_index_or, inl, inr, ⊎_elim, refl, sym, ap, subst, arith}
 use Rattle.std.proofs.lemmas.Bool.{cases_order}
 use Rattle.std.proofs.lemmas.List.Elements.{Contains-append_cases, Contains-append_left, Contains-push}
+use Rattle.std.proofs.lemmas.Option.{slice_get_within}
 use Rattle.std.specs.Option.{option_and_then, option_map}
 use Rattle.std.specs.Prelude.{OnOk}
 use Rattle.rag_io.specs.declared.Memory.{Memory}
@@ -20,12 +21,12 @@ use Rattle.circular_eval.specs.declared.members.Member.{Member}
 use Rattle.circular_eval.specs.Local.{IsAbsent, Members, with_value}
 use Rattle.circular_eval.specs.Parts.{AnswersPart, AreClosedMembers, HadToWait, IsSealedAt, IsSealedIn, SameMembers, SealsMember, Takes, unsealed_at, without_slot}
 use Rattle.circular_eval.specs.Sealed.{IsMemberAt}
-use Rattle.circular_eval.specs.Waiting.{AreClosed, IsClosed}
-use Rattle.circular_eval.proofs.Entries.{at_has, at_low, changed_at}
+use Rattle.worklists.specs.Waiting.{AreClosed, IsClosed}
+use Rattle.circular_eval.proofs.Entries.{at_has, changed_at}
 use Rattle.circular_eval.proofs.Going.{program_on}
-use Rattle.circular_eval.proofs.Noting.{number_is}
-use Rattle.circular_eval.proofs.Numbers.{number_within}
-use Rattle.circular_eval.proofs.Searching.{contains_none, contains_one}
+use Rattle.worklists.proofs.Noting.{number_is}
+use Rattle.worklists.proofs.Numbers.{number_within}
+use Rattle.worklists.proofs.Searching.{contains_none, contains_one}
 
 -- the members under their numbers
 pub same_itself : (es : Members) → SameMembers es es
@@ -126,7 +127,7 @@ was_waiting b d e es fs n a h = subst (λ (c : Bool). AnswersPart d e es fs n c)
 
 -- a member of a part, in the set
 pub member_past : (part l : Local) (k : ℕ) → length part.members.entries ≤ k → SealsMember part l l k
-member_past part l k past p f v h sealed e at = let low : k < length part.members.entries = at_low part.members.entries k e at in absurd (omega (arith, low, past))
+member_past part l k past p f v h sealed e at = let low : k < length part.members.entries = slice_get_within part.members.entries k e at in absurd (omega (arith, low, past))
 
 pub member_absent : (part l : Local) (k : ℕ) (i : CodedInstance) (x : CodedValue) → IsMemberAt part.members.entries k i x → IsAbsent l.members.entries i → SealsMember part l l k
 member_absent part l k i x there absent p f v h sealed e at n d in_l is =
@@ -161,7 +162,7 @@ taken_more part l m n k a b before now j low = elim (cases_order j k) [
 ]
 
 pub taken_all : (part l m : Local) (n : ℕ) → length part.members.entries ≤ n → AreTaken part l m n → (k : ℕ) → SealsMember part l m k
-taken_all part l m n all h k p f v local sealed e at = let low : k < length part.members.entries = at_low part.members.entries k e at in h k (omega (arith, low, all)) p f v local sealed e at
+taken_all part l m n all h k p f v local sealed e at = let low : k < length part.members.entries = slice_get_within part.members.entries k e at in h k (omega (arith, low, all)) p f v local sealed e at
 
 -- of the first ones of a list, the members that aren't sealed
 pub record AreUnsealed (es : Members) (found : List ℕ) (i : ℕ) (closed : List ℕ) : Type 0 where

@@ -3,13 +3,14 @@ use Rattle.std.proofs.Common.{◌≡◌, ℕ, ◌<◌, ◌+◌, List, [], ◌∷
 use Rattle.std.specs.Option.{option_and_then}
 use Rattle.std.proofs.lemmas.Bool.{cases_order}
 use Rattle.std.proofs.lemmas.List.{append-nil}
+use Rattle.std.proofs.lemmas.Option.{slice_get_within}
 use Rattle.equation_law.specs.declared.coding.Instance.{Instance as CodedInstance}
 use Rattle.memo_cells.specs.declared.keys.Slot.{Slot}
 use Rattle.memo_cells.specs.Views.{Has}
 use Rattle.memo_cells.proofs.Bits.{has_either, has_left, has_right}
 use Rattle.circular_eval.specs.declared.members.Member.{Member}
 use Rattle.circular_eval.specs.Local.{AreSlots, Members}
-use Rattle.circular_eval.proofs.Entries.{at_has, at_low, has_at}
+use Rattle.circular_eval.proofs.Entries.{at_has, has_at}
 
 -- these are the cells of the first members
 pub record AreFirstSlots (es : Members) (n : ℕ) (slots : List Slot) : Type 0 where
@@ -24,7 +25,7 @@ first_all es n slots e h = record {
   within = h.within;
   all = λ d s there is.
       let at = has_at es d there in
-      let low : at.0 < length es = at_low es at.0 d at.1 in
+      let low : at.0 < length es = slice_get_within es at.0 d at.1 in
       h.all at.0 d s (omega (arith, low, e)) at.1 is;
 }
 

@@ -5,6 +5,4 @@ pub mod Looking
 pub mod Parts
 pub mod Rising
 pub mod Sealed
-pub mod Searching
 pub mod Visiting
-pub mod Waiting

@@ -20,7 +20,7 @@ use Rattle.circular_eval.specs.declared.members.Member.{Member}
 use Rattle.circular_eval.specs.Advancing.{AnswersFault, IsSealed}
 use Rattle.circular_eval.specs.Local.{IsLocal, Members}
 use Rattle.circular_eval.specs.Visiting.{GoesOnWith}
-use Rattle.circular_eval.specs.Waiting.{IsClosed}
+use Rattle.worklists.specs.Waiting.{IsClosed}
 
 -- the members, where the one of this number is sealed: it has no cell any more
 abbrev pub without_slot : Members → ℕ → Members

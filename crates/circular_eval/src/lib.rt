@@ -4,16 +4,13 @@
 
 mod advancing;
 mod claiming;
-mod due;
 mod local;
 mod members;
 mod parts;
 mod raising;
 mod reading;
 mod sealed;
-mod search;
 mod visiting;
-mod worklist;
 
 pub use advancing::{CircFault, CircTurn, advance};
 pub use local::Local;

@@ -15,16 +15,16 @@ ghost use Rattle.circular_eval.specs.Local.{AreKept, AreSlots, IsAbsent, IsLocal
 ghost use Rattle.circular_eval.specs.Parts.{AreClosedMembers, unsealed_at, without_slot};
 ghost use Rattle.circular_eval.specs.Sealed.{IsMemberAt};
 ghost use Rattle.circular_eval.specs.Left.{member_bound};
-ghost use Rattle.circular_eval.specs.Waiting.{IsReader, due_count};
+ghost use Rattle.worklists.specs.Waiting.{IsReader, due_count};
 
 use crate::members::Member;
-use crate::worklist::Worklist;
 use equation_law::{Chain, Instance, Value};
 use expr_eval::Saved;
 use indexmap::IndexMap;
 use memo_cells::Slot;
 use rag_io::Memory;
 use std::alloc::Global;
+use worklists::Worklist;
 
 /// Circular instances that are solved together: a start, and what its equations lead to. They are numbered in the order in which they were
 /// met.

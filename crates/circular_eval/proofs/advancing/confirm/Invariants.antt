@@ -1,6 +1,6 @@
 -- The members up to this one are confirmed.
 use Rattle.std.proofs.Common.{◌+◌, ◌-◌, length}
-use Rattle.circular_eval.specs.Waiting.{due_count}
+use Rattle.worklists.specs.Waiting.{due_count}
 use Rattle.circular_eval.proofs.Passing.{IsPassed}
 use Rattle.circular_eval.proofs.advancing.confirm.Given as goal
 

@@ -1,6 +1,6 @@
 use Rattle.std.proofs.Common.{inl, inr, slice_index_or, arith}
 use Rattle.circular_eval.proofs.Going.{with_then}
-use Rattle.circular_eval.proofs.Numbers.{number_within}
+use Rattle.worklists.proofs.Numbers.{number_within}
 use Rattle.circular_eval.proofs.Parting.{parts_stop}
 use Rattle.circular_eval.proofs.Raised.{err_is}
 use Rattle.circular_eval.proofs.Sealing.{is_sealed, same_then, sealed_more, waits_before, was_waiting}

@@ -1,6 +1,6 @@
 use Rattle.std.proofs.Common.{◌≡◌, ◌+◌, ◌∙◌, ℕ, IsSome, List, ap, false, true, sym, subst, arith}
 use Rattle.std.specs.Option.{is_some}
-use Rattle.circular_eval.specs.Waiting.{AreClosed}
+use Rattle.worklists.specs.Waiting.{AreClosed}
 use Rattle.circular_eval.proofs.Sealing.{AreUnsealed, closed_members, unsealed_empty, unsealed_more, unsealed_none, unsealed_same}
 use Rattle.circular_eval.proofs.local.Local.closed.Goals as goal
 use Rattle.circular_eval.proofs.local.Local.closed.Goals.{then-is_some+in-Ok, else-is_some}

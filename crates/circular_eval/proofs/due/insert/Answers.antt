@@ -1,8 +1,0 @@
-use Rattle.circular_eval.proofs.Numbers.{ordered_in, ordered_within}
-use Rattle.circular_eval.proofs.due.insert.Goals as goal
-
-pub returns-clause-has : goal.returns-clause-has
-returns-clause-has c = ordered_in c.args.numbers.now c.insert.new.self c.args.number c.in-Ok.ensures.updates
-
-pub returns-clause-kept : goal.returns-clause-kept
-returns-clause-kept c = ordered_within c.args.numbers.now c.insert.new.self c.args.number c.in-Ok.ensures.updates

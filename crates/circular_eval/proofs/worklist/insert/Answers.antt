@@ -1,8 +1,0 @@
-use Rattle.circular_eval.proofs.Numbers.{put_in, put_within}
-use Rattle.circular_eval.proofs.worklist.insert.Goals as goal
-
-pub returns-clause-has : goal.returns-clause-has
-returns-clause-has c = put_in c.args.numbers.now c.insert.new.self c.args.number c.in-Ok.ensures.updates
-
-pub returns-clause-kept : goal.returns-clause-kept
-returns-clause-kept c = put_within c.args.numbers.now c.insert.new.self c.args.number c.in-Ok.ensures.updates

@@ -1,0 +1,4 @@
+pub mod Marks
+pub mod Noting
+pub mod Numbers
+pub mod Searching
