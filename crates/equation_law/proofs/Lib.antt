@@ -29,3 +29,4 @@ mod Worked
 mod WorkedCircular
 mod WorkedLoops
 mod WorkedPaths
+pub mod Written

@@ -1,12 +1,12 @@
 -- Names and instances are told apart by their writing.
-use Rattle.std.proofs.Common.{◌≡◌, ℕ, suc, ℤ, pos, negsuc, Bool, true, false, List, [], ◌∷◌, refl, ap, arith}
+use Rattle.std.proofs.Common.{◌≡◌, ℕ, zero, suc, ℤ, pos, negsuc, Bool, true, false, List, [], ◌∷◌, refl, ap, arith}
 use Rattle.std.specs.declared.cmp.Ordering.{Ordering}
 use Rattle.std.specs.declared.cmp.Ordering.TheVariants.{Less, Equal, Greater}
 use Rattle.std.specs.Ordering.{nat_cmp, is_eq}
 use Rattle.std.specs.Cmp.{tied_itself}
 use Rattle.std.specs.Cmp.Lexicographic.{slice_cmp, nat_list_cmp_total}
 use Rattle.std.specs.FinMap.{IsAntisymmetric, slice_cmp-IsAntisymmetric, nat_cmp-IsAntisymmetric}
-use Rattle.equation_law.specs.Names.{NodeName, Source, Reference, Null, At, Argument, OfInt, OfNode, OfText, OfTruth, Instance, Attribute, Query, argument_code, arguments_code, int_code, text_code, truth_code, node_code, reference_code, instance_code, node_cmp, same_instance}
+use Rattle.equation_law.specs.Names.{NodeName, Source, Reference, Null, At, Argument, OfInt, OfNode, OfText, OfTruth, Instance, Attribute, Query, argument_code, arguments_code, below_code, int_code, text_code, truth_code, node_code, reference_code, instance_code, node_cmp, same_instance}
 
 -- two writings that begin with different numbers differ
 tags : {A : Type 0} (a b : ℕ) (x y : List ℕ) → (a ≡ b → ⊥) → a ∷ x ≡ b ∷ y → A
@@ -24,8 +24,14 @@ reference_same (At m) Null x y e = tags 1 0 _ _ (λ h. omega arith) e
 reference_same (At m) (At n) x y e = let r = node_same m n x y cc in let h = r.0 in (cc, r.1)
 
 -- that of an integer and of a text
+below_same : (n m : ℕ) (x y : List ℕ) → below_code n x ≡ below_code m y → (n ≡ m) × (x ≡ y)
+below_same zero zero x y e = (refl, cc)
+below_same zero (suc m) x y e = tags 1 0 _ _ (λ h. omega arith) e
+below_same (suc n) zero x y e = tags 0 1 _ _ (λ h. omega arith) e
+below_same (suc n) (suc m) x y e = let r = below_same n m x y cc in (ap suc r.0, r.1)
+
 int_same : (a b : ℤ) (x y : List ℕ) → int_code a x ≡ int_code b y → (a ≡ b) × (x ≡ y)
-int_same (negsuc n) (negsuc m) x y e = (cc, cc)
+int_same (negsuc n) (negsuc m) x y e = let r = below_same n m x y cc in (ap negsuc r.0, r.1)
 int_same (negsuc n) (pos m) x y e = tags 0 1 _ _ (λ h. omega arith) e
 int_same (pos n) (negsuc m) x y e = tags 1 0 _ _ (λ h. omega arith) e
 int_same (pos n) (pos m) x y e = (cc, cc)

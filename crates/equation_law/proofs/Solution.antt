@@ -11,6 +11,7 @@ use Rattle.solutions.specs.Asking.{Demands, Ends, Gives, Halts, Meets, Needs, ne
 use Rattle.solutions.specs.Rounds.{HasFinalValue, is_in}
 use Rattle.solutions.specs.Rising.{AgreeBelow, AreRising, HaveHeights, Leaves, LiesBelow, Rise, Under, leaves}
 use Rattle.solutions.specs.Leading.{AreJoins, Demanded, Mixed}
+use Rattle.solutions.proofs.Assigned.{demands_assigned, values_assigned}
 use Rattle.solutions.proofs.Cleaning.{val_finished}
 use Rattle.solutions.proofs.Closed.{closed_val}
 use Rattle.solutions.proofs.Composing.{rise_next}
@@ -185,6 +186,13 @@ demands_grow p i c A B l w demands e = growing l ((are_rising p).rising i c) e
 
 pub values_grow : (p : Program) (i : Instance) → (equations_of p).circular i ≡ true → (A B : Instance → Value → Type 0) → AgreeBelow (equations_of p).circular (order_in p) A B → (v w : Value) (first second : List Instance) → Ends A ((equations_of p).equation i) v first → Ends B ((equations_of p).equation i) w second → order_in p i v w
 values_grow p i c A B g v w first second d e = done_below g ((are_rising p).rising i c) d e
+
+-- under assignments to circular instances, of which the first is at most the second
+pub demands_under : (p : Program) (T U : Instance → Value) → ((j : Instance) → (equations_of p).circular j ≡ true → order_in p j (T j) (U j)) → (i : Instance) → (equations_of p).circular i ≡ true → (w : Value) (demands : List Instance) → Ends (Mixed (equations_of p) U) ((equations_of p).equation i) w demands → Under (order_in p i) (Mixed (equations_of p) T) ((equations_of p).equation i) w demands
+demands_under p T U low i c w demands e = demands_assigned (equations_of p) (order_in p) (fits_in p) (are_rising p) T U low i c w demands e
+
+pub values_under : (p : Program) (T U : Instance → Value) → ((j : Instance) → (equations_of p).circular j ≡ true → order_in p j (T j) (U j)) → (i : Instance) → (equations_of p).circular i ≡ true → (v w : Value) (first second : List Instance) → Ends (Mixed (equations_of p) T) ((equations_of p).equation i) v first → Ends (Mixed (equations_of p) U) ((equations_of p).equation i) w second → order_in p i v w
+values_under p T U low i c v w first second d e = values_assigned (equations_of p) (order_in p) (fits_in p) (are_rising p) T U low i c v w first second d e
 
 -- and of each rising expression, wherever it is read
 pub expression_grows : (p : Program) (e : Expression) (q : Place) → IsRising (circular_at p.rules.attributes) e → (A B : Instance → Value → Type 0) → LiesBelow (is_circular p) (order_in p) A B → (w : Value) (demands : List Instance) → Ends B (meaning_of (world_of p) e q) w demands → Under AtMost A (meaning_of (world_of p) e q) w demands

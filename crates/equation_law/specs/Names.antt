@@ -1,6 +1,6 @@
 -- Names of nodes, and instances of attributes. What tells two of them apart, and their order, is their writing
 -- as a list of numbers.
-use Rattle.std.specs.Prelude.{ℕ, suc, ℤ, pos, negsuc, Bool, true, false, List, [], ◌∷◌}
+use Rattle.std.specs.Prelude.{ℕ, zero, suc, ℤ, pos, negsuc, Bool, true, false, List, [], ◌∷◌}
 use Rattle.std.specs.Ordering.{nat_cmp, on, is_eq}
 use Rattle.std.specs.declared.cmp.Ordering.{Ordering}
 use Rattle.std.specs.Cmp.Lexicographic.{slice_cmp}
@@ -38,8 +38,13 @@ abbrev pub truth_code : Bool → List ℕ → List ℕ
 truth_code false rest = 0 ∷ rest
 truth_code true rest = 1 ∷ rest
 
+-- A negative integer lies so far below -1: the farther it does, the earlier it comes.
+abbrev pub below_code : ℕ → List ℕ → List ℕ
+below_code zero rest = 1 ∷ rest
+below_code (suc n) rest = 0 ∷ below_code n rest
+
 abbrev pub int_code : ℤ → List ℕ → List ℕ
-int_code (negsuc n) rest = 0 ∷ n ∷ rest
+int_code (negsuc n) rest = 0 ∷ below_code n rest
 int_code (pos n) rest = 1 ∷ n ∷ rest
 
 -- a text ends where no byte follows

@@ -1,5 +1,7 @@
 // The laws of the solution and of the instances of a program, over the definitions alone.
-ghost use Rattle.std.specs.Prelude.{◌≡◌, ◌↔◌, ◌⊎◌, List, Option, IsSome, true};
+ghost use Rattle.std.specs.Prelude.{◌≡◌, ◌↔◌, ◌⊎◌, ℕ, ℤ, Bool, List, Option, IsSome, true};
+ghost use Rattle.std.specs.Cmp.Lexicographic.{slice_cmp};
+ghost use Rattle.std.specs.Ordering.{bool_cmp, int_cmp, nat_cmp, ordering_then};
 ghost use Rattle.attr_rules.specs.Expression.{Expression};
 ghost use Rattle.attr_rules.specs.Rising.{IsRising};
 ghost use Rattle.attr_rules.specs.Rules.{circular_at};
@@ -8,7 +10,7 @@ ghost use Rattle.solutions.specs.Rounds.{Ended, Graph, HasFinalValue, is_in};
 ghost use Rattle.solutions.specs.Rising.{AgreeBelow, LiesBelow, Under};
 ghost use Rattle.solutions.specs.Leading.{Demanded, Mixed};
 ghost use Rattle.equation_law.specs.Checked.{Fits, HasNoArguments, IsInstance, IsProgram, IsValue};
-ghost use Rattle.equation_law.specs.Names.{Instance, same_instance};
+ghost use Rattle.equation_law.specs.Names.{Instance, int_code, same_instance, text_cmp, text_code, truth_code};
 ghost use Rattle.equation_law.specs.Values.{Value};
 ghost use Rattle.equation_law.specs.Program.{Program, source_instances};
 ghost use Rattle.equation_law.specs.Equations.{HasValue, equation_of, equations_of, is_circular, is_declared, kind_in, world_of};
@@ -70,6 +72,11 @@ pub fn well_typed_values()
     ensures { (p : Program) → IsProgram p → (i : Instance) → IsInstance p i → (A : Instance → Option Value) → Fits p A → (v : Value) (demands : List Instance) → Ends (Graph A) ((equations_of p).equation i) v demands → IsValue p (kind_in p i) v }
 {}
 
+/// The value of an instance is one of its type.
+pub fn values_have_types()
+    ensures { (p : Program) → IsProgram p → (i : Instance) → IsInstance p i → (v : Value) → HasValue p i v → IsValue p (kind_in p i) v }
+{}
+
 /// Each instance of a program has an equation. So an inherited attribute is met uncovered in no tree of the grammar: above each node whose
 /// class has it stands an ancestor with an equation that covers the way to the node.
 pub fn instances_have_equations()
@@ -104,6 +111,18 @@ pub fn growing_values()
     ensures { (p : Program) (i : Instance) → (equations_of p).circular i ≡ true → (A B : Instance → Option Value) → AgreeBelow (equations_of p).circular (order_in p) (Graph A) (Graph B) → (v w : Value) (first second : List Instance) → Ends (Graph A) ((equations_of p).equation i) v first → Ends (Graph B) ((equations_of p).equation i) w second → order_in p i v w }
 {}
 
+/// Growing demands under assignments that give each circular instance a value, where the others have the solution's: a lower assignment is one.
+/// Where the equation of a circular instance isn't stuck under some, it isn't stuck under values at most those. It demands no more, in the same
+/// order, and its value is at most the other one.
+pub fn assigned_demands()
+    ensures { (p : Program) (T U : Instance → Value) → ((j : Instance) → (equations_of p).circular j ≡ true → order_in p j (T j) (U j)) → (i : Instance) → (equations_of p).circular i ≡ true → (w : Value) (demands : List Instance) → Ends (Mixed (equations_of p) U) ((equations_of p).equation i) w demands → Under (order_in p i) (Mixed (equations_of p) T) ((equations_of p).equation i) w demands }
+{}
+
+/// Growing values under such assignments: where the equation is stuck under neither, its value under the lower one is at most that under the other.
+pub fn assigned_values()
+    ensures { (p : Program) (T U : Instance → Value) → ((j : Instance) → (equations_of p).circular j ≡ true → order_in p j (T j) (U j)) → (i : Instance) → (equations_of p).circular i ≡ true → (v w : Value) (first second : List Instance) → Ends (Mixed (equations_of p) T) ((equations_of p).equation i) v first → Ends (Mixed (equations_of p) U) ((equations_of p).equation i) w second → order_in p i v w }
+{}
+
 /// A lower assignment is at most the solution wherever a circular instance has a value.
 pub fn lower_below()
     ensures { (p : Program) (T : Instance → Value) → IsLower p T → (i : Instance) (v : Value) → (equations_of p).circular i ≡ true → HasValue p i v → order_in p i (T i) v }
@@ -123,4 +142,19 @@ pub fn lower_raised()
 /// Each instance of a closed set under a lower assignment has that assignment's value.
 pub fn closed_set()
     ensures { (p : Program) (C : List Instance) (T : Instance → Value) → IsClosed p C T → (i : Instance) → is_in same_instance C i ≡ true → HasValue p i (T i) }
+{}
+
+/// Integers are written in names in their order, and two are told apart, whatever follows: arguments go by value.
+pub fn order_of_ints()
+    ensures { (y z : ℤ) (u v : List ℕ) → slice_cmp nat_cmp (int_code y u) (int_code z v) ≡ ordering_then (int_cmp y z) (slice_cmp nat_cmp u v) }
+{}
+
+/// So are truth values: false comes before true.
+pub fn order_of_truths()
+    ensures { (a b : Bool) (u v : List ℕ) → slice_cmp nat_cmp (truth_code a u) (truth_code b v) ≡ ordering_then (bool_cmp a b) (slice_cmp nat_cmp u v) }
+{}
+
+/// So are texts: they go by their bytes.
+pub fn order_of_texts()
+    ensures { (s t u v : List ℕ) → slice_cmp nat_cmp (text_code s u) (text_code t v) ≡ ordering_then (text_cmp s t) (slice_cmp nat_cmp u v) }
 {}
