@@ -21,11 +21,12 @@ use Rattle.tree_arena.specs.Terms.{IsTreeOf}
 use Rattle.tree_reader.specs.FromBytes.{ReadsTree}
 use Rattle.tree_reader.proofs.Said.{said_tree}
 use Rattle.equation_law.specs.Program.{Program, class_of}
-use Rattle.program_reader.specs.Files.{AreAccepted, SaysProgram}
+use Rattle.program_reader.specs.Files.{AreAccepted, SaysProgram, no_texts}
 use Rattle.run_io.specs.Files.{Contents}
 use Rattle.program_reader.specs.Queries.{SaysLines, over, silent, query, SaysQuery, SaysQueries}
 use Rattle.rag_io.specs.Decimal.{decimal}
 use Rattle.program_reader.specs.Tokens.{place_at, text_at}
+use Rattle.program_reader.proofs.Pooled.{kept_pooled, one_pooled}
 use Rattle.program_reader.proofs.Tested.{clean_front, clean_last}
 
 -- what tokens and lines ask
@@ -82,3 +83,9 @@ is_program held p s pooled =
       tree = tree_allowed s.tree;
       queries = queries_typed p rules s.queries;
     }
+
+-- those texts are
+pub said_program : (held : Contents) (p : Program) → SaysProgram held p → IsProgram p
+said_program held p s =
+    let between : ArePooled s.between = subst ArePooled (sym s.aspects.are_pooled) (kept_pooled no_texts s.aspects.tokens one_pooled) in
+    is_program held p s (subst ArePooled (sym s.tree.pooled) (kept_pooled s.between s.tree.tokens between))

@@ -2,8 +2,10 @@
 #![tactic(auto)]
 
 mod files;
+mod laws;
 mod queries;
 mod query_language;
 mod query_table;
 
 pub use files::{Refusal, counts_text, read_system, tree_text};
+pub use laws::said_programs;

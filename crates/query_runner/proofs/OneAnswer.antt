@@ -1,5 +1,5 @@
 -- For some words and the files that a shelf holds there is one answer.
-use Rattle.std.proofs.Common.{◌≡◌, ◌≤◌, ℕ, List, ◌++◌, length, Some, None, codes, refl, sym, ap, subst, ◌∙◌, arith}
+use Rattle.std.proofs.Common.{◌≡◌, ◌≢◌, ◌≤◌, ℕ, List, ◌++◌, length, Some, None, codes, refl, sym, ap, subst, ◌∙◌, arith}
 use Rattle.rag_io.specs.Outside.{Named, IsLong, IsShort}
 use Rattle.broken_rules.specs.declared.broken.Broken.{Broken}
 use Rattle.ast_grammar.specs.Grammar.{Class}
@@ -294,13 +294,18 @@ module _ (words : List (List ℕ)) (files : List Named) where
       let both = one_tree_breaking c a (subst (λ (z : PairContents). IsTreeBroken z g y) (pair_once r s h k) b) in
       ap (λ (z : PairNames). broken_line (pair_name_of z f) x) (same_tree_names r s) ∙ ap (λ (z : File). broken_line (pair_name_of m z) x) both.0 ∙ ap (broken_line (pair_name_of m g)) both.1
 
+  -- where four files say a program, none of them is refused
+  module _ {n : FileNames} {c : Contents} {p : Program} (read : command_of words ≡ Some (Run n)) (held : HoldsAll files n c) (said : SaysProgram c p) where
+    program_or_line : {u : List ℕ} → IsRefused words files u → ⊥
+    program_or_line (too_long r l) = none_long r read l held
+    program_or_line (broken {file = f} {b = b} r h breaks) = program_or_broken c p said (subst (λ (x : Contents). IsBroken x f b) (held_once read r held h) breaks)
+    program_or_line (not_built {file = f} r h b) = says_or_refuses c p said (subst (λ (x : Contents). IsNotBuilt x f) (held_once read r held h) b)
+    program_or_line (broken_check r h b) = run_or_check read r
+    program_or_line (check_not_built r h b) = run_or_check read r
+    program_or_line (broken_tree r h b) = run_or_tree read r
+
   output_or_line : (t : List ℕ) {u : List ℕ} → Output words files t → IsRefused words files u → ⊥
-  output_or_line t a (too_long r l) = none_long r a.read l a.held
-  output_or_line t a (broken {file = f} {b = b} r h breaks) = program_or_broken a.contents a.program a.said (subst (λ (x : Contents). IsBroken x f b) (held_once a.read r a.held h) breaks)
-  output_or_line t a (not_built {file = f} r h b) = says_or_refuses a.contents a.program a.said (subst (λ (x : Contents). IsNotBuilt x f) (held_once a.read r a.held h) b)
-  output_or_line t a (broken_check r h b) = run_or_check a.read r
-  output_or_line t a (check_not_built r h b) = run_or_check a.read r
-  output_or_line t a (broken_tree r h b) = run_or_tree a.read r
+  output_or_line t a b = program_or_line a.read a.held a.said b
 
   check_or_line : (t : List ℕ) {u : List ℕ} → CheckOutput words files t → IsRefused words files u → ⊥
   check_or_line t a (too_long r l) = check_long r a.read l a.held
@@ -362,3 +367,20 @@ module _ (words : List (List ℕ)) (files : List Named) where
   one_answer s r t u (misused e) (misused f) le me = (refl, refl)
   one_answer s r t u (misused e) (full b) le me = absurd (omega (arith, me))
   one_answer s r t u (full a) b le me = absurd (omega (arith, le))
+
+  -- full cells go with no refusal
+  full_with : (s r : ℕ) (t u : List ℕ) → Answers words files s t → Answers words files r u → s ≡ 4 → (r ≢ 1) × (r ≢ 2)
+  full_with s r t u (full a) (replied b) four = (λ e. omega (arith, e), λ e. omega (arith, e))
+  full_with s r t u (full a) (counted b) four = (λ e. omega (arith, e), λ e. omega (arith, e))
+  full_with s r t u (full a) (printed b) four = (λ e. omega (arith, e), λ e. omega (arith, e))
+  full_with s r t u (full a) (refused b) four = absurd (program_or_line a.read a.held a.said b)
+  full_with s r t u (full a) (misused e) four = absurd (given a.read e)
+  full_with s r t u (full a) (full b) four = (λ e. omega (arith, e), λ e. omega (arith, e))
+  full_with s r t u (replied a) b four = absurd (omega (arith, four))
+  full_with s r t u (counted a) b four = absurd (omega (arith, four))
+  full_with s r t u (printed a) b four = absurd (omega (arith, four))
+  full_with s r t u (refused a) b four = absurd (omega (arith, four))
+  full_with s r t u (misused e) b four = absurd (omega (arith, four))
+
+  pub full_or_refused : (s : ℕ) (t u : List ℕ) → Answers words files 4 t → Answers words files s u → (s ≢ 1) × (s ≢ 2)
+  full_or_refused s t u a b = full_with 4 s t u a b refl

@@ -1,5 +1,5 @@
-// The law of the output, over the definitions alone.
-ghost use Rattle.std.specs.Prelude.{◌≡◌, ◌≤◌, ℕ, List};
+// The laws of the output, over the definitions alone.
+ghost use Rattle.std.specs.Prelude.{◌≡◌, ◌≢◌, ◌≤◌, ℕ, List};
 ghost use Rattle.rag_io.specs.Outside.{Named};
 ghost use Rattle.query_runner.specs.Output.{Answers};
 
@@ -7,4 +7,10 @@ ghost use Rattle.query_runner.specs.Output.{Answers};
 /// that is refused excludes replies, the replies are one text, and the file that is refused is one.
 pub fn one_answer()
     ensures { (words : List (List ℕ)) (files : List Named) (s r : ℕ) (t u : List ℕ) → Answers words files s t → Answers words files r u → s ≤ 2 → r ≤ 2 → (s ≡ r) × (t ≡ u) }
+{}
+
+/// Where the cells may be full, no file is refused and the words ask for a run: words and files that have an answer of status 1 or 2 have none of
+/// status 4.
+pub fn full_or_refused()
+    ensures { (words : List (List ℕ)) (files : List Named) (s : ℕ) (t u : List ℕ) → Answers words files 4 t → Answers words files s u → (s ≢ 1) × (s ≢ 2) }
 {}

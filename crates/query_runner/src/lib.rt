@@ -4,5 +4,5 @@
 mod laws;
 mod running;
 
-pub use laws::one_answer;
+pub use laws::{full_or_refused, one_answer};
 pub use running::run;

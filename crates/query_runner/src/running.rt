@@ -2,7 +2,7 @@
 ghost use Rattle.std.specs.Prelude.{◌≡◌, ◌≢◌, ◌⊎◌, ◌≤◌, ◌++◌, ℕ, List, None, Some, Ok, Err, map, IfOk, IfErr};
 ghost use Rattle.rag_io.specs.Outside.{Rose};
 ghost use Rattle.query_runner.specs.Answered.{AnswersWhereTold, Stopped, status_of, text_of};
-ghost use Rattle.run_io.specs.Taking.{Took};
+ghost use Rattle.run_io.specs.Taking.{Took, TookSome};
 ghost use Rattle.query_runner.specs.Run.{WritesAnswer, WritesPart};
 ghost use Rattle.query_runner.specs.Output.{broken_line, usage};
 ghost use Rattle.run_io.specs.Words.{Check as AsksCheck, PrintTree, Run as AsksRun, command_of, text_of_word};
@@ -222,7 +222,7 @@ fn prepare<S: Shelf, G: Gate>(
 /// | 3 | for want of memory | nothing |
 /// | 4 | where more cells are demanded than there are | `full: cells` |
 /// | 5 | where the shelf's count of faults rose | nothing |
-/// | 6 | where the sink's count of faults rose | a front of what was to be put |
+/// | 6 | where the sink's count of faults rose | a front of what was to be put: of the usage text where the words are neither |
 pub fn run<R: Threads + Sync, S: Shelf, K: Sink, G: Gate>(
     _rt: &R,
     alloc: Global,
@@ -238,6 +238,7 @@ pub fn run<R: Threads + Sync, S: Shelf, K: Sink, G: Gate>(
     ensures memory { result ≡ 3 → K.taken sink.new ≡ K.taken sink.old }
     ensures fetch { result ≡ 5 → Rose (S.faults shelf.old) (S.faults shelf.new) × (K.taken sink.new ≡ K.taken sink.old) }
     ensures put { result ≡ 6 → Rose (K.faults sink.old) (K.faults sink.new) × WritesPart (map text_of_word words.now) (S.files shelf.old) (K.taken sink.old) (K.taken sink.new) }
+    ensures misused_put { command_of (map text_of_word words.now) ≡ None → result ≡ 6 → TookSome (K.taken sink.old) usage (K.taken sink.new) }
     ensures statuses { (result ≤ 2) ⊎ ((result ≡ 3) ⊎ ((result ≡ 4) ⊎ ((result ≡ 5) ⊎ (result ≡ 6)))) }
 {
     let answer = match prepare(alloc, words, shelf, gate) {
