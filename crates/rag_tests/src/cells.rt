@@ -2,13 +2,13 @@
 ghost use Rattle.std.specs.Prelude.{◌≡◌};
 ghost use Rattle.memo_cells.specs.Standing.{IsPassOf};
 
-use crate::programs::{Checks, Texts, check_said};
+use crate::programs::{Texts, system_said};
 use attr_rules::AttrId;
 use equation_law::{Code, NodeRef, System, Value};
 use memo_cells::{Cells, Key, Pass, Slot, codes_of};
+use program_reader::Refusal;
+use rag_io::Memory;
 use std::alloc::Global;
-use std::process::Abort;
-use std::test::Fail;
 
 const TEXTS: Texts<'_> = Texts {
     ast: "P;",
@@ -17,57 +17,38 @@ const TEXTS: Texts<'_> = Texts {
     queries: "@0.v()\n@0.v()\n@0.v()\n@0.v()",
 };
 
-// Attributes at nodes that a system has or hasn't.
-const ATTRIBUTES: [(AttrId, NodeRef); 2] = [
-    (AttrId(0), NodeRef(1)),
-    (AttrId(65535), NodeRef(4294967295)),
+// Attributes at nodes that a system has or hasn't, without arguments and with one.
+const KEYS: [Key; 4] = [
+    Key::Inst {
+        attr: AttrId(0),
+        node: NodeRef(1),
+    },
+    Key::Inst {
+        attr: AttrId(65535),
+        node: NodeRef(4294967295),
+    },
+    Key::Arg {
+        slot: Slot(1023),
+        code: 1,
+    },
+    Key::Arg {
+        slot: Slot(1023),
+        code: 4294967295,
+    },
 ];
 
-// How many of them are claimed, with an argument or without.
-fn count_claimed(cells: &Cells, pass: &mut Pass) -> u32
-    requires { IsPassOf cells.now pass.old }
-    ensures { IsPassOf cells.now pass.new }
-{
-    let mut count: u32 = 0;
-    for (attr, node) in ATTRIBUTES {
-        if cells.seek(pass, Key::Inst { attr, node }).is_some() {
-            count = count.wrapping_add(1);
-        }
-        let slot = Slot(1023);
-        let code = node.0;
-        if cells.seek(pass, Key::Arg { slot, code }).is_some() {
-            count = count.wrapping_add(1);
-        }
-    }
-    count
-}
-
-// Makes so many cells, and answers their number, how many are settled, and how many keys are claimed.
-fn make(alloc: Global, system: &System, count: u32) -> Result<(u32, u32, u32), Fail> {
-    if count < 1024 || count > 4194304 {
-        return Err("no such number of cells".into());
-    }
-    let (cells, mut pass) = Cells::new(alloc, system, count)?;
+// Makes so many cells, and answers their number, how many are settled, and whether a key is claimed.
+fn make(alloc: Global, system: &System, count: u32) -> Result<(u32, u32, bool), Memory> {
+    let (cells, mut pass) = Cells::new(alloc, system, count.clamp(1024, 4194304))?;
     let settled = cells.settled_count(&mut pass);
-    let claimed = count_claimed(&cells, &mut pass);
-    Ok((cells.size(), settled, claimed))
-}
-
-struct NewCells;
-
-impl Checks for NewCells {
-    fn check(&self, rt: &impl Abort, alloc: Global, system: &System) -> Result<(), Fail> {
-        for count in [1024, 1025, 65536, 4194304] {
-            assert_eq!(rt; make(alloc, system, count)?, (count, 0, 0));
-        }
-        Ok(())
-    }
-}
-
-#[test]
-fn new_cells_have_no_key(rt: HostRuntime) -> Result<(), Fail> {
-    assert!(rt; codes_of(rt.alloc(), &Value::Truth(true))?.is_empty());
-    check_said(&rt, rt.alloc(), TEXTS, &NewCells)
+    let [own, last, argument, last_argument] = KEYS;
+    let found = (cells.seek(&mut pass, own), cells.seek(&mut pass, last));
+    let called = (
+        cells.seek(&mut pass, argument),
+        cells.seek(&mut pass, last_argument),
+    );
+    let is_claimed = (found, called) != ((None, None), (None, None));
+    Ok((cells.size(), settled, is_claimed))
 }
 
 // Claims a query of the system: where it was before, where it stands now, the code that is settled there, and the word that it shows. None
@@ -103,29 +84,63 @@ const CLAIMS: [(u32, Option<Slot>, Slot); 7] = [
     (3, Some(Slot(1129)), Slot(1129)),
 ];
 
-// The first claim that comes out otherwise, and how many cells are settled in the end.
-fn other_claim(alloc: Global, system: &System) -> Result<(Option<u32>, u32), Fail> {
-    let (cells, mut pass) = Cells::new(alloc, system, 1569)?;
-    let mut other = None;
-    for (query, before, slot) in CLAIMS {
-        let found = claim_query(&cells, &mut pass, system, query);
-        if other.is_none() && found != Some((before, slot, None, 0)) {
-            other = Some(query);
+// The first claim that comes out otherwise.
+fn other_among(cells: &Cells, pass: &mut Pass, system: &System) -> Option<usize>
+    requires own { IsPassOf cells.now pass.old }
+    requires system { cells.now.system.value ≡ system.now }
+    ensures own { IsPassOf cells.now pass.new }
+{
+    for (k, (query, before, slot)) in CLAIMS.iter().enumerate() {
+        let found = claim_query(cells, pass, system, *query);
+        if found != Some((*before, *slot, None, 0)) {
+            return Some(k);
         }
     }
-    Ok((other, cells.settled_count(&mut pass)))
+    None
 }
 
-struct Claimed;
+// The first claim in new cells that comes out otherwise, or how many cells are settled in the end.
+fn other_claim(alloc: Global, system: &System) -> Result<Result<u32, usize>, Memory> {
+    let (cells, mut pass) = Cells::new(alloc, system, 1569)?;
+    let other = other_among(&cells, &mut pass, system);
+    let settled = cells.settled_count(&mut pass);
+    Ok(match other {
+        Some(k) => Err(k),
+        None => Ok(settled),
+    })
+}
 
-impl Checks for Claimed {
-    fn check(&self, rt: &impl Abort, alloc: Global, system: &System) -> Result<(), Fail> {
-        assert_eq!(rt; other_claim(alloc, system)?, (None, 0));
-        Ok(())
+// The first number of new cells that come out otherwise.
+fn other_number(alloc: Global, system: &System) -> Result<Option<u32>, Memory> {
+    for count in &[1024, 1025, 65536, 4194304] {
+        if make(alloc, system, *count)? != (*count, 0, false) {
+            return Ok(Some(*count));
+        }
     }
+    Ok(None)
+}
+
+// The first number of new cells and the first claim that come out otherwise.
+type Found = (
+    Result<Option<u32>, Memory>,
+    Result<Result<u32, usize>, Memory>,
+);
+
+fn found_in_cells(alloc: Global) -> Result<Found, Refusal> {
+    let system = system_said(alloc, &TEXTS)?;
+    Ok((other_number(alloc, &system), other_claim(alloc, &system)))
+}
+
+// Whether a truth value has codes in the words of a set.
+fn has_codes(alloc: Global) -> Result<bool, Memory> {
+    let codes = codes_of(alloc, &Value::Truth(true))?;
+    Ok(!codes.is_empty())
 }
 
 #[test]
-fn each_key_has_one_slot(rt: HostRuntime) -> Result<(), Fail> {
-    check_said(&rt, rt.alloc(), TEXTS, &Claimed)
+fn each_key_has_one_slot(rt: HostRuntime) {
+    assert_eq!(rt;
+        (found_in_cells(rt.alloc()), has_codes(rt.alloc())),
+        (Ok((Ok(None), Ok(Ok(0)))), Ok(false))
+    );
 }

@@ -1,22 +1,28 @@
 // Readings of aspects, event by event.
+use broken_rules::{ReadFault, Rule};
 use jrag_syntax::{Start, push_events};
-use rag_io::{LONGEST_FILE, scan};
+use rag_io::LONGEST_FILE;
+use sentences::tokens_of;
 use std::alloc::Global;
 use std::fmt::Write;
-use std::process::Abort;
-use std::test::Fail;
 
-// The actions of some events, by their numbers, and `.` for each token.
-fn events_said(alloc: Global, events: &[u8]) -> Result<String, Fail> {
-    let mut text = String::new(alloc);
-    for event in events {
+// The actions of a text, by their numbers, and `.` for each token.
+fn events_said(alloc: Global, text: &str) -> Result<String, ReadFault> {
+    if text.len() > LONGEST_FILE {
+        return Err(ReadFault::Memory);
+    }
+    let tokens = tokens_of(alloc, text.as_bytes(), Rule::J1)?;
+    let mut events = Vec::new(alloc);
+    let _ = push_events(alloc, &tokens, Start::File, &mut events);
+    let mut said = String::new(alloc);
+    for event in &events {
         if *event == 255 {
-            text.push('.')?;
+            said.push('.')?;
         } else {
-            write!(text, "{event} ")?;
+            write!(said, "{event} ")?;
         }
     }
-    Ok(text)
+    Ok(said)
 }
 
 const EVENTS: [(&str, &str); 5] = [
@@ -43,20 +49,19 @@ const EVENTS: [(&str, &str); 5] = [
     ),
 ];
 
-fn expect_events(rt: &impl Abort, alloc: Global, text: &str, want: &str) -> Result<(), Fail> {
-    assert!(rt; text.len() <= LONGEST_FILE);
-    let tokens = scan(alloc, text.as_bytes())?;
-    let mut events = Vec::new(alloc);
-    let _ = push_events(alloc, &tokens, Start::File, &mut events);
-    let said = events_said(alloc, &events)?;
-    assert_eq!(rt; said.as_str(), want, "{text}");
-    Ok(())
+// The first text with other events.
+fn other_events(alloc: Global) -> Result<Option<&'static str>, ReadFault> {
+    for row in &EVENTS {
+        let (text, want) = *row;
+        let said = events_said(alloc, text)?;
+        if said.as_str() != want {
+            return Ok(Some(text));
+        }
+    }
+    Ok(None)
 }
 
 #[test]
-fn events_are_the_actions_and_tokens_in_order(rt: HostRuntime) -> Result<(), Fail> {
-    for (text, want) in EVENTS {
-        expect_events(&rt, rt.alloc(), text, want)?;
-    }
-    Ok(())
+fn events_are_the_actions_and_tokens_in_order(rt: HostRuntime) {
+    assert_eq!(rt; other_events(rt.alloc()), Ok(None));
 }

@@ -2,20 +2,30 @@
 ghost use Rattle.std.specs.Prelude.{◌≤◌, length};
 ghost use Rattle.equation_law.specs.Program.{most_replies};
 
-use crate::calls::Nothing;
-use crate::programs::grammar_of;
+use crate::programs::{grammar_of, tree_of};
 use ast_grammar::{ClassId, Grammar};
 use attr_rules::{Attributes, Dispatch, Kind, Operator, QueryEq, Rules, SetOperator, TExpr};
+use broken_rules::ReadFault;
 use code_sets::Codes;
-use equation_law::{NodeRef, Queries, Single, System, Value};
+use equation_law::{Instance, NodeRef, Queries, Reader, Single, System, Value};
 use expr_eval::{Turn, evaluate_query};
-use rag_io::{LONGEST_FILE, Memory, Pool};
+use rag_io::Memory;
 use set_values::{set_operate, size};
 use std::alloc::{AllocFailed, Global};
-use std::process::Abort;
-use std::test::Fail;
-use tree_arena::Tree;
-use tree_reader::read_tree_bytes;
+
+/// A reader that has no value.
+#[derive(Drop)]
+pub(crate) struct Nothing;
+
+impl Reader for Nothing {
+    ghost use Rattle.rag_tests.specs.Nothing.{nothing};
+
+    ghost tells = { λ _. nothing };
+
+    fn settled(&mut self, _alloc: Global, _i: &Instance) -> Result<Option<Value>, Memory> {
+        Ok(None)
+    }
+}
 
 const GRAMMAR: &str =
     "P ::= l:E [o:E] [n:E] s:E* e:E*; abstract E ::= <V:int> <T:String> <F:boolean>; A : E; B : E; C : A;";
@@ -24,33 +34,27 @@ const GRAMMAR: &str =
 const TREE: &str =
     "P(A(-5, \"x\", true), [B(7, \"y\", false)], [], [C(1, \"x\", false), B(2, \"\", true)], [])";
 
-// An expression, by the numbers in it.
-#[derive(Clone, Copy, Debug)]
+// A form of two numbers: of two texts, or of a component or a class and a node.
 enum Form {
     // Whether two texts are equal, whether the set of the first has the second, and how many both are together.
-    Same(u32, u32),
-    Contains(u32, u32),
-    Both(u32, u32),
-    // Of a component and a node: the child, whether there is one, the element at a place, how many there are, the token, and the size of a set
-    // that is made over the list.
-    Child(u32, u32),
-    Has(u32, u32),
-    Element(u32, u32, i32),
-    Count(u32, u32),
-    Token(Kind, u32, u32),
-    Each(u32, u32),
-    // Of a class and a node: the node where it is of the class, and whether it is.
-    Cast(u16, u32),
-    Is(u16, u32),
+    Same,
+    Contains,
+    Both,
+    // The child, whether there is one, the element at a place, how many there are, the token, and the size of a set that is made over the list.
+    Child,
+    Has,
+    Element(i32),
+    Count,
+    Token(Kind),
+    Each,
+    // The node where it is of the class, and whether it is.
+    Cast(ClassId),
+    Is(ClassId),
     // A name that no form binds.
-    Variable(usize),
+    Variable,
 }
 
 type Failed = AllocFailed<TExpr>;
-
-fn node(alloc: Global, number: u32) -> Result<Box<TExpr>, Failed> {
-    Box::new(alloc, TExpr::Source(number))
-}
 
 // The set of one text.
 fn single(alloc: Global, text: u32) -> Result<Box<TExpr>, Failed> {
@@ -58,96 +62,95 @@ fn single(alloc: Global, text: u32) -> Result<Box<TExpr>, Failed> {
     Box::new(alloc, TExpr::Single(text))
 }
 
-fn of_texts(alloc: Global, form: Form, first: u32, second: u32) -> Result<TExpr, Failed> {
-    let set = single(alloc, first)?;
-    let other = Box::new(alloc, TExpr::Text(second))?;
+// An expression over two texts.
+fn of_texts(alloc: Global, form: &Form, first: u32, second: u32) -> Result<TExpr, Failed> {
     match form {
-        Form::Contains(..) => Ok(TExpr::Contains(set, other)),
-        Form::Both(..) => {
+        Form::Contains => {
+            let set = single(alloc, first)?;
+            let other = Box::new(alloc, TExpr::Text(second))?;
+            Ok(TExpr::Contains(set, other))
+        }
+        Form::Both => {
+            let set = single(alloc, first)?;
             let other = single(alloc, second)?;
             let both = TExpr::Sets(SetOperator::Union, Kind::Texts, set, other);
             Ok(TExpr::Size(Box::new(alloc, both)?))
         }
         _ => {
             let text = Box::new(alloc, TExpr::Text(first))?;
+            let other = Box::new(alloc, TExpr::Text(second))?;
             Ok(TExpr::Binary(Operator::Equal, text, other))
         }
     }
 }
 
-fn each_size(alloc: Global, k: u32, n: u32) -> Result<TExpr, Failed> {
-    let owner = node(alloc, n)?;
-    let body = single(alloc, 1)?;
-    let each = TExpr::Each(Kind::Texts, k, owner, body);
-    Ok(TExpr::Size(Box::new(alloc, each)?))
-}
-
-fn element(alloc: Global, k: u32, n: u32, place: i32) -> Result<TExpr, Failed> {
-    let owner = node(alloc, n)?;
-    let place = Box::new(alloc, TExpr::Int(place))?;
-    Ok(TExpr::Element(k, owner, place))
-}
-
-fn expression(alloc: Global, form: Form) -> Result<TExpr, Failed> {
+fn expression(alloc: Global, form: &Form, k: u32, n: u32) -> Result<TExpr, Failed> {
+    let owner = Box::new(alloc, TExpr::Source(n))?;
     match form {
-        Form::Same(a, b) | Form::Contains(a, b) | Form::Both(a, b) => of_texts(alloc, form, a, b),
-        Form::Child(k, n) => Ok(TExpr::Child(k, node(alloc, n)?)),
-        Form::Has(k, n) => Ok(TExpr::Has(k, node(alloc, n)?)),
-        Form::Element(k, n, place) => element(alloc, k, n, place),
-        Form::Count(k, n) => Ok(TExpr::Count(k, node(alloc, n)?)),
-        Form::Token(kind, k, n) => Ok(TExpr::Token(kind, k, node(alloc, n)?)),
-        Form::Each(k, n) => each_size(alloc, k, n),
-        Form::Cast(class, n) => Ok(TExpr::Cast(ClassId(class), node(alloc, n)?)),
-        Form::Is(class, n) => Ok(TExpr::InstanceOf(ClassId(class), node(alloc, n)?)),
-        Form::Variable(number) => Ok(TExpr::Variable(number)),
+        Form::Same | Form::Contains | Form::Both => of_texts(alloc, form, k, n),
+        Form::Child => Ok(TExpr::Child(k, owner)),
+        Form::Has => Ok(TExpr::Has(k, owner)),
+        Form::Element(place) => {
+            let place = Box::new(alloc, TExpr::Int(*place))?;
+            Ok(TExpr::Element(k, owner, place))
+        }
+        Form::Count => Ok(TExpr::Count(k, owner)),
+        Form::Token(kind) => Ok(TExpr::Token(*kind, k, owner)),
+        Form::Each => {
+            let each = TExpr::Each(Kind::Texts, k, owner, single(alloc, 1)?);
+            Ok(TExpr::Size(Box::new(alloc, each)?))
+        }
+        Form::Cast(class) => Ok(TExpr::Cast(*class, owner)),
+        Form::Is(class) => Ok(TExpr::InstanceOf(*class, owner)),
+        Form::Variable => Ok(TExpr::Variable(k as usize)),
     }
 }
 
 const NULL: Single = Single::Node(NodeRef(0));
 
 // Expressions and their values. What is no number of a text counts as the empty one, and what isn't there as the type's default.
-const FORMS: [(Form, Single); 34] = [
-    (Form::Same(9, 0), Single::Truth(true)),
-    (Form::Same(0, 9), Single::Truth(true)),
-    (Form::Same(9, 1), Single::Truth(false)),
-    (Form::Contains(0, 9), Single::Truth(true)),
-    (Form::Contains(9, 0), Single::Truth(true)),
-    (Form::Contains(9, 1), Single::Truth(false)),
-    (Form::Both(9, 0), Single::Int(1)),
-    (Form::Both(9, 2), Single::Int(2)),
+const FORMS: [(Form, u32, u32, Single); 34] = [
+    (Form::Same, 9, 0, Single::Truth(true)),
+    (Form::Same, 0, 9, Single::Truth(true)),
+    (Form::Same, 9, 1, Single::Truth(false)),
+    (Form::Contains, 0, 9, Single::Truth(true)),
+    (Form::Contains, 9, 0, Single::Truth(true)),
+    (Form::Contains, 9, 1, Single::Truth(false)),
+    (Form::Both, 9, 0, Single::Int(1)),
+    (Form::Both, 9, 2, Single::Int(2)),
     // A child that there is; a list, a component that the class hasn't, a token, and a node that there isn't.
-    (Form::Child(1, 0), Single::Node(NodeRef(3))),
-    (Form::Child(4, 0), NULL),
-    (Form::Child(5, 0), NULL),
-    (Form::Child(0, 1), NULL),
-    (Form::Child(0, 9), NULL),
-    (Form::Has(1, 0), Single::Truth(true)),
-    (Form::Has(4, 0), Single::Truth(false)),
-    (Form::Has(5, 0), Single::Truth(false)),
-    (Form::Has(0, 1), Single::Truth(false)),
-    (Form::Has(0, 9), Single::Truth(false)),
-    (Form::Element(3, 0, 1), Single::Node(NodeRef(5))),
-    (Form::Element(3, 9, 0), NULL),
-    (Form::Count(3, 0), Single::Int(2)),
-    (Form::Count(5, 0), Single::Int(0)),
-    (Form::Count(0, 1), Single::Int(0)),
-    (Form::Count(3, 1), Single::Int(0)),
-    (Form::Count(3, 9), Single::Int(0)),
-    (Form::Token(Kind::Text, 1, 2), Single::Text(2)),
-    (Form::Token(Kind::Int, 0, 0), Single::Int(0)),
-    (Form::Token(Kind::Int, 3, 1), Single::Int(0)),
-    (Form::Token(Kind::Text, 1, 9), Single::Text(0)),
-    (Form::Each(3, 0), Single::Int(1)),
-    (Form::Each(3, 1), Single::Int(0)),
-    (Form::Cast(1, 9), NULL),
-    (Form::Is(1, 9), Single::Truth(false)),
-    (Form::Variable(0), NULL),
+    (Form::Child, 1, 0, Single::Node(NodeRef(3))),
+    (Form::Child, 4, 0, NULL),
+    (Form::Child, 5, 0, NULL),
+    (Form::Child, 0, 1, NULL),
+    (Form::Child, 0, 9, NULL),
+    (Form::Has, 1, 0, Single::Truth(true)),
+    (Form::Has, 4, 0, Single::Truth(false)),
+    (Form::Has, 5, 0, Single::Truth(false)),
+    (Form::Has, 0, 1, Single::Truth(false)),
+    (Form::Has, 0, 9, Single::Truth(false)),
+    (Form::Element(1), 3, 0, Single::Node(NodeRef(5))),
+    (Form::Element(0), 3, 9, NULL),
+    (Form::Count, 3, 0, Single::Int(2)),
+    (Form::Count, 5, 0, Single::Int(0)),
+    (Form::Count, 0, 1, Single::Int(0)),
+    (Form::Count, 3, 1, Single::Int(0)),
+    (Form::Count, 3, 9, Single::Int(0)),
+    (Form::Token(Kind::Text), 1, 2, Single::Text(2)),
+    (Form::Token(Kind::Int), 0, 0, Single::Int(0)),
+    (Form::Token(Kind::Int), 3, 1, Single::Int(0)),
+    (Form::Token(Kind::Text), 1, 9, Single::Text(0)),
+    (Form::Each, 3, 0, Single::Int(1)),
+    (Form::Each, 3, 1, Single::Int(0)),
+    (Form::Cast(ClassId(1)), 0, 9, NULL),
+    (Form::Is(ClassId(1)), 0, 9, Single::Truth(false)),
+    (Form::Variable, 0, 0, NULL),
 ];
 
-fn queries_of_forms(alloc: Global) -> Result<Vec<QueryEq>, Fail> {
+fn queries_of_forms(alloc: Global) -> Result<Vec<QueryEq>, ReadFault> {
     let mut queries = Vec::new(alloc);
-    for (form, _) in FORMS {
-        let query = expression(alloc, form)?;
+    for (form, k, n, _) in &FORMS {
+        let query = expression(alloc, form, *k, *n)?;
         queries.push(QueryEq::of(query, Kind::Truth))?;
     }
     Ok(queries)
@@ -160,54 +163,44 @@ fn no_rules(alloc: Global, grammar: &Grammar) -> Result<Rules, Memory> {
     Ok(Rules::of_parts(attributes, dispatch, Vec::new(alloc)))
 }
 
-fn source(rt: &impl Abort, alloc: Global, grammar: &Grammar) -> Result<(Tree, Pool), Fail> {
-    assert!(rt; TREE.len() <= LONGEST_FILE);
-    let mut pool = Pool::new(alloc)?;
-    match read_tree_bytes(alloc, grammar, TREE.as_bytes(), &mut pool) {
-        Ok(tree) => Ok((tree, pool)),
-        Err(_) => Err("no tree".into()),
-    }
-}
-
-fn system_of(rt: &impl Abort, alloc: Global, queries: Vec<QueryEq>) -> Result<System, Fail>
+fn system_of(alloc: Global, queries: Vec<QueryEq>) -> Result<System, ReadFault>
     requires { length queries.items ≤ most_replies }
 {
-    let grammar = grammar_of(rt, alloc, GRAMMAR)?;
+    let grammar = grammar_of(alloc, GRAMMAR)?;
     let rules = no_rules(alloc, &grammar)?;
-    let (tree, pool) = source(rt, alloc, &grammar)?;
+    let (tree, pool) = tree_of(alloc, &grammar, TREE)?;
     let queries = Queries::new(queries);
     Ok(System::new(alloc, grammar, rules, tree, pool, queries)?)
 }
 
-fn is_value(turn: &Turn, query: u32) -> bool {
-    match (turn, FORMS.get(query as usize)) {
-        (Turn::Done(value), Some((_, want))) => value.single() == Some(*want),
-        _ => false,
+// The first of these expressions that has another value.
+fn other_form(alloc: Global, system: &System) -> Result<Option<u32>, Memory> {
+    for query in 0..system.replies() {
+        let turn = evaluate_query(alloc, system, query, &mut Nothing)?;
+        let is_value = match (&turn, FORMS.get(query as usize)) {
+            (Turn::Done(value), Some((_, _, _, want))) => value.single() == Some(*want),
+            _ => false,
+        };
+        if !is_value {
+            return Ok(Some(query));
+        }
     }
+    Ok(None)
 }
 
-fn check_forms(rt: &impl Abort, alloc: Global, system: &System) -> Result<(), Fail> {
-    let mut nothing = Nothing;
-    for query in 0..system.replies() {
-        let turn = evaluate_query(alloc, system, query, &mut nothing)?;
-        assert!(rt; is_value(&turn, query), "row {query}");
+// How many expressions there are, and the first that has another value.
+fn found_of_forms(alloc: Global) -> Result<(u32, Result<Option<u32>, Memory>), ReadFault> {
+    let queries = queries_of_forms(alloc)?;
+    if queries.len() > 262_144 {
+        return Err(ReadFault::Memory);
     }
-    Ok(())
+    let system = system_of(alloc, queries)?;
+    Ok((system.replies(), other_form(alloc, &system)))
 }
 
 #[test]
-fn what_there_is_not_has_default_values(rt: HostRuntime) -> Result<(), Fail> {
-    let queries = queries_of_forms(rt.alloc())?;
-    assert!(rt; queries.len() <= 262_144);
-    let system = system_of(&rt, rt.alloc(), queries)?;
-    check_forms(&rt, rt.alloc(), &system)
-}
-
-// The set of two nodes.
-fn pair(alloc: Global, kind: Kind, first: u32, second: u32) -> Result<Value, Memory> {
-    let first = Value::Nodes(Codes::one(alloc, first)?);
-    let second = Value::Nodes(Codes::one(alloc, second)?);
-    set_operate(alloc, SetOperator::Union, kind, first, second)
+fn what_there_is_not_has_default_values(rt: HostRuntime) {
+    assert_eq!(rt; found_of_forms(rt.alloc()), Ok((34, Ok(None))));
 }
 
 const NODES: Kind = Kind::Nodes(ClassId(0));
@@ -220,16 +213,28 @@ const PAIRS: [(Kind, u32, u32, i32); 4] = [
     (Kind::Int, 2, 3, 0),
 ];
 
-#[test]
-fn other_values_have_no_elements(rt: HostRuntime) -> Result<(), Fail> {
-    for (kind, first, second, want) in PAIRS {
-        let set = pair(rt.alloc(), kind, first, second)?;
-        assert_eq!(rt; size(&set), want);
+// The first of these unions that has another number of elements.
+fn other_pair(alloc: Global) -> Result<Option<usize>, Memory> {
+    for (k, (kind, first, second, want)) in PAIRS.iter().enumerate() {
+        let first = Value::Nodes(Codes::one(alloc, *first)?);
+        let second = Value::Nodes(Codes::one(alloc, *second)?);
+        let set = set_operate(alloc, SetOperator::Union, *kind, first, second)?;
+        if size(&set) != *want {
+            return Ok(Some(k));
+        }
     }
-    assert_eq!(rt; size(&Value::Text(1)), 0);
-    assert_eq!(rt; size(&Value::Node(NodeRef(1))), 0);
+    Ok(None)
+}
+
+// The type of a query, and whether it is `this`.
+fn kept_query() -> (Kind, bool) {
     let query = QueryEq::of(TExpr::This, Kind::Node(ClassId(3)));
-    assert!(rt; matches!(query.expression(), TExpr::This));
-    assert_eq!(rt; query.kind(), Kind::Node(ClassId(3)));
-    Ok(())
+    (query.kind(), matches!(query.expression(), TExpr::This))
+}
+
+#[test]
+fn other_values_have_no_elements(rt: HostRuntime) {
+    let sizes = (size(&Value::Text(1)), size(&Value::Node(NodeRef(1))));
+    let found = (other_pair(rt.alloc()), sizes, kept_query());
+    assert_eq!(rt; found, (Ok(None), (0, 0), (Kind::Node(ClassId(3)), true)));
 }

@@ -1,118 +1,121 @@
-// Accessors, attributes and equations by names and numbers that there aren't, and kept names.
+// Attributes and equations by names and numbers that there aren't, and kept names.
 ghost use Rattle.std.specs.Prelude.{◌≡◌, ◌<◌, ◌↔◌, All, IfOk, IsTrue, length, map};
 ghost use Rattle.ast_grammar.specs.Grammar.{superclasses_of};
 ghost use Rattle.attr_rules.specs.Dispatching.{IsTarget};
 ghost use Rattle.attr_rules.specs.KeptEquations.{kept_target};
+ghost use Rattle.attr_rules.specs.Kept.{rules_in};
 
 use crate::programs::grammar_of;
 use ast_grammar::{ClassId, Grammar};
 use attr_rules::{
-    Access, Accessor, Attr, AttrId, Attributes, Dispatch, EqId, KeptEquation, Kind, NamedAttr,
-    Params, Reach, Rules, Sort, Start, TExpr, Target, ValueType, accessor_of, is_spelled,
+    Attr, AttrId, Attributes, Dispatch, EqId, KeptEquation, Kind, NamedAttr, Params, Reach, Rules,
+    Sort, Start, TExpr, Target, ValueType, accessor_of, is_spelled,
 };
-use rag_io::Memory;
+use broken_rules::ReadFault;
 use std::alloc::{AllocError, Global};
-use std::process::Abort;
-use std::test::Fail;
 
 // Two components of P and its subclass Q, and a third one of the subclass R of Q.
 const PARTS: &str = "P ::= A:X B:X; Q : P; R : Q ::= C:X; X; Y : X;";
 
-// Classes by their names, in the order of their rules.
-const NAMES: [(&str, Option<u16>); 8] = [
-    ("P", Some(0)),
-    ("Q", Some(1)),
-    ("R", Some(2)),
-    ("X", Some(3)),
-    ("Y", Some(4)),
-    ("Z", None),
-    ("A", None),
-    ("", None),
+const NO_PARAMETERS: Params = Params {
+    count: 0,
+    first: Kind::Truth,
+    second: Kind::Truth,
+    third: Kind::Truth,
+};
+
+const INT: Attr = Attr {
+    class: ClassId(0),
+    sort: Sort::Syn,
+    kind: Kind::Int,
+    params: NO_PARAMETERS,
+    circular: false,
+    start: Start::Plain,
+};
+
+const AT_X: Attr = Attr {
+    class: ClassId(3),
+    sort: Sort::Inh,
+    ..INT
+};
+
+const AT_Y: Attr = Attr {
+    class: ClassId(4),
+    ..AT_X
+};
+
+// The attribute v is synthesized at P and inherited at X and Y, w is inherited at X and synthesized at P, and u is synthesized.
+const DECLARED: [NamedAttr<'static>; 6] = [
+    NamedAttr {
+        name: b"v",
+        declared: INT,
+    },
+    NamedAttr {
+        name: b"v",
+        declared: AT_X,
+    },
+    NamedAttr {
+        name: b"v",
+        declared: AT_Y,
+    },
+    NamedAttr {
+        name: b"w",
+        declared: AT_X,
+    },
+    NamedAttr {
+        name: b"w",
+        declared: INT,
+    },
+    NamedAttr {
+        name: b"u",
+        declared: INT,
+    },
 ];
 
-const SUPERCLASSES: [Option<u16>; 5] = [None, Some(0), Some(1), None, Some(3)];
-
-// A name, a class, and whether there is an accessor of this name, also of a class that there isn't.
-const SPELLED: [(u16, &str, bool); 6] = [
-    (0, "getA", true),
-    (2, "getC", true),
-    (0, "getC", false),
-    (0, "get", false),
-    (0, "", false),
-    (9, "getA", false),
+// Equations of v for every child of P and of Q, for A of P and for B of R, and one of w for A of P. The last three are for the same as ones
+// before, and for w at nodes of R.
+const TARGETS: [Target; 8] = [
+    Target {
+        class: ClassId(0),
+        reach: Reach::Children,
+        attribute: AttrId(1),
+    },
+    Target {
+        class: ClassId(0),
+        reach: Reach::Component(0),
+        attribute: AttrId(1),
+    },
+    Target {
+        class: ClassId(1),
+        reach: Reach::Children,
+        attribute: AttrId(1),
+    },
+    Target {
+        class: ClassId(2),
+        reach: Reach::Component(1),
+        attribute: AttrId(1),
+    },
+    Target {
+        class: ClassId(0),
+        reach: Reach::Component(0),
+        attribute: AttrId(3),
+    },
+    Target {
+        class: ClassId(0),
+        reach: Reach::Component(0),
+        attribute: AttrId(1),
+    },
+    Target {
+        class: ClassId(1),
+        reach: Reach::Children,
+        attribute: AttrId(1),
+    },
+    Target {
+        class: ClassId(2),
+        reach: Reach::Own,
+        attribute: AttrId(3),
+    },
 ];
-
-fn check_classes(rt: &impl Abort, grammar: &Grammar) {
-    for (name, want) in NAMES {
-        let found = grammar.find_class(name.as_bytes());
-        assert_eq!(rt; found, want.map(ClassId), "{name}");
-    }
-    for (k, want) in SUPERCLASSES.iter().enumerate() {
-        let class = ClassId(k as u16);
-        assert!(rt; u32::from(class.0) < grammar.classes());
-        assert_eq!(rt; grammar.superclass(class), want.map(ClassId), "{k}");
-        assert_eq!(rt; grammar.find_component(class, b""), None, "{k}");
-    }
-}
-
-fn check_spelled(rt: &impl Abort, grammar: &Grammar) {
-    for (class, name, want) in SPELLED {
-        let class = ClassId(class);
-        let found = accessor_of(grammar, class, name.as_bytes(), 0);
-        assert_eq!(rt; found.is_some(), want, "{class:?} {name}");
-        let spelled = is_spelled(grammar, class, name.as_bytes());
-        assert_eq!(rt; spelled, want, "{class:?} {name}");
-    }
-}
-
-#[test]
-fn classes_and_accessors_are_named(rt: HostRuntime) -> Result<(), Fail> {
-    let grammar = grammar_of(&rt, rt.alloc(), PARTS)?;
-    check_classes(&rt, &grammar);
-    check_spelled(&rt, &grammar);
-    Ok(())
-}
-
-const L: ValueType = ValueType::Of(Kind::Node(ClassId(1)));
-
-// What is read of a component of the class L, its type, and how many arguments it takes.
-const READ: [(Access, Option<ValueType>, usize); 6] = [
-    (Access::Child, Some(L), 0),
-    (
-        Access::Token(Kind::Text),
-        Some(ValueType::Of(Kind::Text)),
-        0,
-    ),
-    (Access::Has, Some(ValueType::Of(Kind::Truth)), 0),
-    (Access::Count, Some(ValueType::Of(Kind::Int)), 0),
-    (Access::Elements, None, 0),
-    (Access::Element, Some(L), 1),
-];
-
-// Types, their classes, and the types that values of them are kept at.
-const TYPES: [(ValueType, Option<ClassId>, Kind); 3] = [
-    (L, Some(ClassId(1)), Kind::Node(ClassId(1))),
-    (ValueType::Null, None, Kind::Node(ClassId(0))),
-    (ValueType::Of(Kind::Int), None, Kind::Int),
-];
-
-#[test]
-fn accessors_have_types(rt: HostRuntime) -> Result<(), Fail> {
-    for (access, want, count) in READ {
-        let accessor = Accessor {
-            component: 0,
-            class: ClassId(1),
-            access,
-        };
-        assert_eq!(rt; accessor.value_type(), want, "{access:?}");
-        assert_eq!(rt; access.arguments().len(), count, "{access:?}");
-    }
-    for (of, class, kind) in TYPES {
-        assert_eq!(rt; of.class(), class, "{of:?}");
-        assert_eq!(rt; of.kept_kind(), kind, "{of:?}");
-    }
-    Ok(())
-}
 
 // Whether there is a class of this number.
 fn has_class(grammar: &Grammar, class: ClassId) -> bool
@@ -130,180 +133,186 @@ fn are_targets(grammar: &Grammar, attributes: u32, targets: &[Target]) -> bool
     })
 }
 
-const NO_PARAMETERS: Params = Params {
-    count: 0,
-    first: Kind::Truth,
-    second: Kind::Truth,
-    third: Kind::Truth,
-};
-
-fn named(name: &[u8], class: u16, sort: Sort) -> NamedAttr<'_> {
-    let declared = Attr {
-        class: ClassId(class),
-        sort,
-        kind: Kind::Int,
-        params: NO_PARAMETERS,
-        circular: false,
-        start: Start::Plain,
-    };
-    NamedAttr { name, declared }
-}
-
-// The attribute v is synthesized at P and inherited at X and Y, w is inherited at X and synthesized at P, and u is synthesized.
-fn attributes(alloc: Global, grammar: &Grammar) -> Result<Attributes, Memory>
-    ensures { IfOk result (λ a. a.superclasses ≡ superclasses_of grammar.now) }
+// An equation for each of these.
+fn equations_for(alloc: Global, targets: &[Target]) -> Result<Vec<KeptEquation>, AllocError>
+    ensures { IfOk result (λ equations. map kept_target equations.items ≡ targets.now) }
 {
-    let list = [
-        named(b"v", 0, Sort::Syn),
-        named(b"v", 3, Sort::Inh),
-        named(b"v", 4, Sort::Inh),
-        named(b"w", 3, Sort::Inh),
-        named(b"w", 0, Sort::Syn),
-        named(b"u", 0, Sort::Syn),
-    ];
-    Attributes::of_list(alloc, grammar, &list)
-}
-
-// An attribute, and the first inherited one of its name.
-const FIRST_OF_NAME: [(u16, Option<u16>); 7] = [
-    (0, Some(1)),
-    (1, Some(1)),
-    (2, Some(1)),
-    (3, Some(3)),
-    (4, Some(3)),
-    (5, None),
-    (6, None),
-];
-
-// A class, a name, and the attribute of that name that the class has.
-const FOUND: [(u16, &str, Option<u16>); 6] = [
-    (0, "v", Some(0)),
-    (2, "v", Some(0)),
-    (3, "v", Some(1)),
-    (0, "u", Some(5)),
-    (3, "u", None),
-    (0, "", None),
-];
-
-// Equations of v for every child of P and of Q, for A of P and for B of R, and one of w for A of P. The last three are for the same as ones
-// before, and for w at nodes of R.
-const PATHS: [(u16, Reach, u16); 8] = [
-    (0, Reach::Children, 1),
-    (0, Reach::Component(0), 1),
-    (1, Reach::Children, 1),
-    (2, Reach::Component(1), 1),
-    (0, Reach::Component(0), 3),
-    (0, Reach::Component(0), 1),
-    (1, Reach::Children, 1),
-    (2, Reach::Own, 3),
-];
-
-fn equations(alloc: Global) -> Result<Vec<KeptEquation>, AllocError> {
     let mut equations = Vec::new(alloc);
-    for (class, reach, attribute) in PATHS {
+    for target in targets {
         equations.push(KeptEquation {
-            target: Target {
-                class: ClassId(class),
-                reach,
-                attribute: AttrId(attribute),
-            },
+            target: *target,
             body: TExpr::This,
         })?;
     }
     Ok(equations)
 }
 
-fn targets(alloc: Global, equations: &[KeptEquation]) -> Result<Vec<Target>, AllocError>
-    ensures { IfOk result (λ v. v.items ≡ map kept_target equations.now) }
+// The rules of these targets, or want of memory where they are none.
+fn rules_of(alloc: Global, grammar: &Grammar, targets: &[Target]) -> Result<Rules, ReadFault>
+    ensures { IfOk result (λ rules. (rules_in rules).superclasses ≡ superclasses_of grammar.now) }
 {
-    let mut targets = Vec::new(alloc);
-    for equation in equations {
-        targets.push(equation.target)?;
+    let attributes = Attributes::of_list(alloc, grammar, &DECLARED)?;
+    if !are_targets(grammar, attributes.len(), targets) {
+        return Err(ReadFault::Memory);
     }
-    Ok(targets)
-}
-
-fn rules_of(
-    alloc: Global,
-    grammar: &Grammar,
-    attributes: Attributes,
-    equations: Vec<KeptEquation>,
-) -> Result<Rules, Fail>
-    requires { attributes.superclasses ≡ superclasses_of grammar.now }
-{
-    let targets = targets(alloc, &equations)?;
-    if !are_targets(grammar, attributes.len(), &targets) {
-        return Err("no targets".into());
-    }
-    let dispatch = Dispatch::of_targets(alloc, grammar, attributes.len(), &targets)?;
+    let dispatch = Dispatch::of_targets(alloc, grammar, attributes.len(), targets)?;
+    let equations = equations_for(alloc, targets)?;
     Ok(Rules::of_parts(attributes, dispatch, equations))
 }
 
-// A class, a component and an attribute, and the equation that covers what hangs there.
-const COVERED: [(u16, u32, u16, Option<u32>); 19] = [
-    // The component before every child.
-    (0, 0, 1, Some(1)),
-    // A component that is covered as every child alone.
-    (0, 1, 1, Some(0)),
-    // Every child of the nearest class before a component of one further up.
-    (1, 0, 1, Some(2)),
-    (1, 1, 1, Some(2)),
-    (2, 0, 1, Some(2)),
-    (2, 1, 1, Some(3)),
-    (2, 2, 1, Some(2)),
-    // Another attribute of the same name.
-    (0, 0, 2, Some(1)),
-    (2, 1, 2, Some(3)),
-    (0, 0, 0, Some(1)),
-    // A class further up.
-    (0, 0, 3, Some(4)),
-    (1, 0, 3, Some(4)),
-    (2, 0, 3, Some(4)),
-    // None for the component, none for the class, and no inherited attribute of the name.
-    (0, 1, 3, None),
-    (2, 1, 3, None),
-    (3, 0, 1, None),
-    (9, 0, 1, None),
-    (0, 0, 5, None),
-    (0, 0, 9, None),
+// What there is for a class and a name: the class of that name, the superclass of the class, its component of that name, whether there is an accessor
+// that is so spelled, and its attribute.
+type Named = (
+    (Option<ClassId>, Option<ClassId>),
+    Option<u32>,
+    bool,
+    Option<AttrId>,
+);
+
+const NAMED: [(u16, &str, Named); 22] = [
+    // Classes by their names.
+    (0, "P", ((Some(ClassId(0)), None), None, false, None)),
+    (
+        1,
+        "Q",
+        ((Some(ClassId(1)), Some(ClassId(0))), None, false, None),
+    ),
+    (
+        2,
+        "R",
+        ((Some(ClassId(2)), Some(ClassId(1))), None, false, None),
+    ),
+    (3, "X", ((Some(ClassId(3)), None), None, false, None)),
+    (
+        4,
+        "Y",
+        ((Some(ClassId(4)), Some(ClassId(3))), None, false, None),
+    ),
+    (0, "Z", ((None, None), None, false, None)),
+    (0, "A", ((None, None), Some(0), false, None)),
+    // What has no name.
+    (0, "", ((None, None), None, false, None)),
+    (1, "", ((None, Some(ClassId(0))), None, false, None)),
+    (2, "", ((None, Some(ClassId(1))), None, false, None)),
+    (3, "", ((None, None), None, false, None)),
+    (4, "", ((None, Some(ClassId(3))), None, false, None)),
+    // Accessors.
+    (0, "getA", ((None, None), None, true, None)),
+    (2, "getC", ((None, Some(ClassId(1))), None, true, None)),
+    (0, "getC", ((None, None), None, false, None)),
+    (0, "get", ((None, None), None, false, None)),
+    (2, "C", ((None, Some(ClassId(1))), Some(2), false, None)),
+    // Attributes.
+    (0, "v", ((None, None), None, false, Some(AttrId(0)))),
+    (
+        2,
+        "v",
+        ((None, Some(ClassId(1))), None, false, Some(AttrId(0))),
+    ),
+    (3, "v", ((None, None), None, false, Some(AttrId(1)))),
+    (0, "u", ((None, None), None, false, Some(AttrId(5)))),
+    (3, "u", ((None, None), None, false, None)),
 ];
 
-fn check_covered(rt: &impl Abort, rules: &Rules) {
-    for (class, component, attribute, want) in COVERED {
-        let found = rules.inh_equation(ClassId(class), component, AttrId(attribute));
-        assert_eq!(rt; found, want.map(EqId), "{class} {component} {attribute}");
-    }
-    for (class, attribute, want) in [(2, 3, Some(7)), (1, 3, None), (9, 0, None), (1, 9, None)] {
-        let found = rules.syn_equation(ClassId(class), AttrId(attribute));
-        assert_eq!(rt; found, want.map(EqId), "{class} {attribute}");
-    }
-}
-
-fn check_attributes(rt: &impl Abort, grammar: &Grammar, attributes: &Attributes)
-    requires { attributes.now.superclasses ≡ superclasses_of grammar.now }
+// The first class and name for which there is something else.
+fn other_name(grammar: &Grammar, rules: &Rules) -> Option<(u16, &'static str)>
+    requires { (rules_in rules.now).superclasses ≡ superclasses_of grammar.now }
 {
-    for (attribute, want) in FIRST_OF_NAME {
-        let first = attributes.first_of_name(AttrId(attribute));
-        assert_eq!(rt; first, want.map(AttrId), "{attribute}");
+    for (k, name, want) in &NAMED {
+        let (class, text) = (ClassId(*k), name.as_bytes());
+        if !has_class(grammar, class) {
+            return Some((*k, *name));
+        }
+        let attribute = rules.attributes().find(class, text);
+        let named = (grammar.find_class(text), grammar.superclass(class));
+        let component = grammar.find_component(class, text);
+        let is_accessor = accessor_of(grammar, class, text, 0).is_some();
+        let found = (named, component, is_accessor, attribute);
+        if found != *want || is_spelled(grammar, class, text) != is_accessor {
+            return Some((*k, *name));
+        }
     }
-    for (class, name, want) in FOUND {
-        let class = ClassId(class);
-        assert!(rt; has_class(grammar, class));
-        let found = attributes.find(class, name.as_bytes());
-        assert_eq!(rt; found, want.map(AttrId), "{class:?} {name}");
-    }
+    None
 }
 
-fn check_rules(rt: &impl Abort, alloc: Global, grammar: &Grammar) -> Result<(), Fail> {
-    let attributes = attributes(alloc, grammar)?;
-    check_attributes(rt, grammar, &attributes);
-    let rules = rules_of(alloc, grammar, attributes, equations(alloc)?)?;
-    check_covered(rt, &rules);
-    Ok(())
+// What there is for an attribute at a component of a class and at the class: the equation that covers what hangs there, that of the attribute at
+// the class itself, and the first inherited attribute of the same name.
+type Numbered = (Option<EqId>, Option<EqId>, Option<AttrId>);
+
+const NUMBERED: [(u16, u32, u16, Numbered); 23] = [
+    // The component before every child.
+    (0, 0, 1, (Some(EqId(1)), None, Some(AttrId(1)))),
+    // A component that is covered as every child alone.
+    (0, 1, 1, (Some(EqId(0)), None, Some(AttrId(1)))),
+    // Every child of the nearest class before a component of one further up.
+    (1, 0, 1, (Some(EqId(2)), None, Some(AttrId(1)))),
+    (1, 1, 1, (Some(EqId(2)), None, Some(AttrId(1)))),
+    (2, 0, 1, (Some(EqId(2)), None, Some(AttrId(1)))),
+    (2, 1, 1, (Some(EqId(3)), None, Some(AttrId(1)))),
+    (2, 2, 1, (Some(EqId(2)), None, Some(AttrId(1)))),
+    // Another attribute of the same name.
+    (0, 0, 2, (Some(EqId(1)), None, Some(AttrId(1)))),
+    (2, 1, 2, (Some(EqId(3)), None, Some(AttrId(1)))),
+    (0, 0, 0, (Some(EqId(1)), None, Some(AttrId(1)))),
+    (0, 0, 4, (Some(EqId(4)), None, Some(AttrId(3)))),
+    // A class further up.
+    (0, 0, 3, (Some(EqId(4)), None, Some(AttrId(3)))),
+    (1, 0, 3, (Some(EqId(4)), None, Some(AttrId(3)))),
+    (2, 0, 3, (Some(EqId(4)), Some(EqId(7)), Some(AttrId(3)))),
+    // None for the component, none for the class, and no inherited attribute of the name.
+    (0, 1, 3, (None, None, Some(AttrId(3)))),
+    (2, 1, 3, (None, Some(EqId(7)), Some(AttrId(3)))),
+    (3, 0, 1, (None, None, Some(AttrId(1)))),
+    (9, 0, 1, (None, None, Some(AttrId(1)))),
+    (9, 0, 0, (None, None, Some(AttrId(1)))),
+    (0, 0, 5, (None, None, None)),
+    (0, 0, 6, (None, None, None)),
+    (0, 0, 9, (None, None, None)),
+    (1, 0, 9, (None, None, None)),
+];
+
+// The first class, component and attribute for which there is something else.
+fn other_number(rules: &Rules) -> Option<(u16, u32, u16)> {
+    for (class, component, attribute, want) in &NUMBERED {
+        let (at, of) = (ClassId(*class), AttrId(*attribute));
+        let covering = rules.inh_equation(at, *component, of);
+        let own = rules.syn_equation(at, of);
+        let first = rules.attributes().first_of_name(of);
+        if (covering, own, first) != *want {
+            return Some((*class, *component, *attribute));
+        }
+    }
+    None
+}
+
+const L: ValueType = ValueType::Of(Kind::Node(ClassId(1)));
+
+// A class that there isn't has no accessors.
+fn has_accessors(grammar: &Grammar) -> bool {
+    let class = ClassId(9);
+    accessor_of(grammar, class, b"getA", 0).is_some() || is_spelled(grammar, class, b"getA")
+}
+
+// The first name and the first number for which there is something else, and whether a class that there isn't has accessors.
+type Found = (Option<(u16, &'static str)>, Option<(u16, u32, u16)>, bool);
+
+fn found_in_rules(alloc: Global) -> Result<Found, ReadFault> {
+    let grammar = grammar_of(alloc, PARTS)?;
+    let rules = rules_of(alloc, &grammar, &TARGETS)?;
+    let other = (other_name(&grammar, &rules), other_number(&rules));
+    Ok((other.0, other.1, has_accessors(&grammar)))
 }
 
 #[test]
-fn attributes_and_equations_are_found(rt: HostRuntime) -> Result<(), Fail> {
-    let grammar = grammar_of(&rt, rt.alloc(), PARTS)?;
-    check_rules(&rt, rt.alloc(), &grammar)
+fn what_has_a_name_or_a_number_is_found(rt: HostRuntime) {
+    assert_eq!(rt; found_in_rules(rt.alloc()), Ok((None, None, false)));
+}
+
+#[test]
+fn types_have_classes_and_are_kept(rt: HostRuntime) {
+    let (null, int) = (ValueType::Null, ValueType::Of(Kind::Int));
+    let classes = (L.class(), null.class(), int.class());
+    let kinds = (L.kept_kind(), null.kept_kind(), int.kept_kind());
+    let want = (Kind::Node(ClassId(1)), Kind::Node(ClassId(0)), Kind::Int);
+    assert_eq!(rt; (classes, kinds), ((Some(ClassId(1)), None, None), want));
 }

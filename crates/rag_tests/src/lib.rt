@@ -3,8 +3,6 @@
 #![tactic(auto)]
 
 #[cfg(test)]
-mod calls;
-#[cfg(test)]
 mod cells;
 #[cfg(test)]
 mod codes;
@@ -16,10 +14,6 @@ mod events;
 mod forms;
 #[cfg(test)]
 mod kept;
-#[cfg(test)]
-mod limits;
-#[cfg(test)]
-mod long;
 #[cfg(test)]
 mod named;
 #[cfg(test)]

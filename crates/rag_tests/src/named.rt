@@ -1,13 +1,19 @@
-// The rounds over instances that callers name.
-use crate::programs::{Checks, Texts, check_said};
-use attr_rules::AttrId;
-use equation_law::System;
-use plain_rounds::{
-    NameList, NamedArg, NamedArgs, NamedInstance, NamedValue, NodeName, Table, plain_rounds,
-};
+// The rounds over instances that callers name, and the equation of one.
+ghost use Rattle.std.specs.Prelude.{◌<◌};
+ghost use Rattle.equation_law.specs.Checked.{IsProgram};
+ghost use Rattle.equation_law.specs.Systems.{program_of};
+
+use crate::forms::Nothing;
+use crate::programs::{Texts, system_said};
+use attr_rules::{AttrId, EqId};
+use broken_rules::ReadFault;
+use equation_law::{Args, EqSite, NodeRef, System, Value};
+use expr_eval::{Turn, evaluate};
+use inherited_walk::equation_of;
+use plain_rounds::{NameList, NamedArg, NamedArgs, NamedInstance, NodeName, plain_rounds};
+use program_reader::Refusal;
+use rag_io::Memory;
 use std::alloc::Global;
-use std::process::Abort;
-use std::test::Fail;
 
 const D: AttrId = AttrId(0);
 
@@ -19,10 +25,13 @@ const B: AttrId = AttrId(3);
 
 const Z: AttrId = AttrId(4);
 
+const Y: AttrId = AttrId(5);
+
 const TEXTS: Texts<'_> = Texts {
     ast: "P ::= l:L*; L ::= <V:int>;",
     jrag: "aspect A { syn int P.d(int n) = n == 0 ? 0 : d(n - 1) + 1; syn String P.t(String s) = s == \"x\" ? \"y\" : s; \
-           syn L P.n(L x) = x; syn boolean P.b(boolean c, int n) = c && n > 1; syn int P.z() = 7; }",
+           syn L P.n(L x) = x; syn boolean P.b(boolean c, int n) = c && n > 1; syn int P.z() = 7; \
+           inh int L.y(); eq P.getl(int i).y() = i; }",
     tree: "P([L(1), L(2)])",
     queries: "",
 };
@@ -31,46 +40,44 @@ const ROOT: NodeName = NodeName::Source(0);
 
 const SECOND: NodeName = NodeName::Source(2);
 
-/// What a value is, if there is one.
-#[derive(Clone, Copy, Debug, PartialEq, Eq)]
-enum Wanted {
-    Truth(bool),
-    Int(i32),
-    Text(u32),
-    Node(NodeName),
-    Nothing,
-}
+// What a value is, by its accessors.
+type Seen = (Option<bool>, Option<i32>, Option<u32>, Option<NodeName>);
 
-// Instances, and the values that the rounds give them. `d(3)` demands `d(2)`, which isn't listed. The texts "x" and "y" have the numbers 1 and 2.
-const INSTANCES: &[(AttrId, &[NamedArg], Wanted)] = &[
-    (D, &[NamedArg::Int(1)], Wanted::Int(1)),
-    (D, &[NamedArg::Int(0)], Wanted::Int(0)),
-    (D, &[NamedArg::Int(3)], Wanted::Nothing),
-    (T, &[NamedArg::Text(1)], Wanted::Text(2)),
-    (T, &[NamedArg::Text(0)], Wanted::Text(0)),
-    // A number that is no text's counts as the empty text's.
-    (T, &[NamedArg::Text(9)], Wanted::Text(0)),
-    (N, &[NamedArg::Node(SECOND)], Wanted::Node(SECOND)),
-    (
-        N,
-        &[NamedArg::Node(NodeName::Null)],
-        Wanted::Node(NodeName::Null),
-    ),
-    (
-        B,
-        &[NamedArg::Truth(true), NamedArg::Int(2)],
-        Wanted::Truth(true),
-    ),
-    (
-        B,
-        &[NamedArg::Truth(true), NamedArg::Int(1)],
-        Wanted::Truth(false),
-    ),
+// An instance: an attribute, a node and arguments.
+type Row = (AttrId, NodeName, &'static [NamedArg]);
+
+// Instances of the root. `d(3)` demands `d(2)`, which isn't listed. The texts "x" and "y" have the numbers 1 and 2, and 9 is no text's: it counts as
+// the empty one's.
+const INSTANCES: [Row; 10] = [
+    (D, ROOT, &[NamedArg::Int(1)]),
+    (D, ROOT, &[NamedArg::Int(0)]),
+    (D, ROOT, &[NamedArg::Int(3)]),
+    (T, ROOT, &[NamedArg::Text(1)]),
+    (T, ROOT, &[NamedArg::Text(0)]),
+    (T, ROOT, &[NamedArg::Text(9)]),
+    (N, ROOT, &[NamedArg::Node(SECOND)]),
+    (N, ROOT, &[NamedArg::Node(NodeName::Null)]),
+    (B, ROOT, &[NamedArg::Truth(true), NamedArg::Int(2)]),
+    (B, ROOT, &[NamedArg::Truth(true), NamedArg::Int(1)]),
+];
+
+// Their places behind the three instances of the source, and the values that the rounds give them.
+const VALUES: [(u32, Seen); 10] = [
+    (3, (None, Some(1), None, None)),
+    (4, (None, Some(0), None, None)),
+    (5, (None, None, None, None)),
+    (6, (None, None, Some(2), None)),
+    (7, (None, None, Some(0), None)),
+    (8, (None, None, Some(0), None)),
+    (9, (None, None, None, Some(SECOND))),
+    (10, (None, None, None, Some(NodeName::Null))),
+    (11, (Some(true), None, None, None)),
+    (12, (Some(false), None, None, None)),
 ];
 
 // What is no instance: too few arguments or too many, one of another type or class, no node of the tree, a node of another class, null, and an
 // attribute that isn't declared.
-const NO_INSTANCES: &[(AttrId, NodeName, &[NamedArg])] = &[
+const NO_INSTANCES: [Row; 10] = [
     (D, ROOT, &[]),
     (D, ROOT, &[NamedArg::Int(0), NamedArg::Int(0)]),
     (Z, ROOT, &[NamedArg::Int(0)]),
@@ -80,77 +87,132 @@ const NO_INSTANCES: &[(AttrId, NodeName, &[NamedArg])] = &[
     (Z, SECOND, &[]),
     (Z, NodeName::Source(3), &[]),
     (Z, NodeName::Null, &[]),
-    (AttrId(5), ROOT, &[]),
+    (AttrId(6), ROOT, &[]),
 ];
 
-// Adds an instance, of which the arguments are at most three.
-fn add(
-    alloc: Global,
-    names: &mut NameList,
-    attr: AttrId,
-    node: NodeName,
-    arguments: &[NamedArg],
-) -> Result<(), Fail> {
-    if arguments.len() > 3 {
-        return Err("too many arguments".into());
-    }
-    let args = NamedArgs::of(Vec::from_slice(alloc, arguments)?);
-    names.add(NamedInstance { attr, node, args })?;
-    Ok(())
-}
-
-// What a value is by its accessors, of which one answers.
-fn seen(value: &NamedValue) -> Wanted {
-    match (value.truth(), value.int(), value.text(), value.node()) {
-        (Some(truth), None, None, None) => Wanted::Truth(truth),
-        (None, Some(int), None, None) => Wanted::Int(int),
-        (None, None, Some(text), None) => Wanted::Text(text),
-        (None, None, None, Some(node)) => Wanted::Node(node),
-        _ => Wanted::Nothing,
-    }
-}
-
-fn check_table(rt: &impl Abort, table: &Table) {
-    for (k, (_, _, want)) in INSTANCES.iter().enumerate() {
-        let found = table.value((k as u32).saturating_add(1));
-        assert_eq!(rt; found.map_or(Wanted::Nothing, seen), *want, "place {k}");
-    }
-}
-
-// Checks the values of instances that stand behind those of the source, of which there is one.
-fn check_rounds(rt: &impl Abort, alloc: Global, system: &System) -> Result<(), Fail> {
+// The names of the source, and of instances behind them, of whose arguments three at most are taken.
+fn names_of(alloc: Global, system: &System, rows: &[Row]) -> Result<NameList, ReadFault> {
     let mut names = NameList::of_source(alloc, system)?;
-    assert_eq!(rt; names.len(), 1);
-    for (attr, arguments, _) in INSTANCES {
-        add(alloc, &mut names, *attr, ROOT, arguments)?;
+    for (attr, node, arguments) in rows {
+        let taken = &arguments[..arguments.len().min(3)];
+        names.add(NamedInstance {
+            attr: *attr,
+            node: *node,
+            args: NamedArgs::of(Vec::from_slice(alloc, taken)?),
+        })?;
     }
-    assert!(rt; names.are_of(system));
+    Ok(names)
+}
+
+// The place of the first instance to which the rounds give another value, or 0 where they aren't instances.
+fn other_value(alloc: Global, system: &System) -> Result<Option<u32>, ReadFault> {
+    let names = names_of(alloc, system, &INSTANCES)?;
+    if names.len() != 13 || !names.are_of(system) {
+        return Ok(Some(0));
+    }
     let table = plain_rounds(alloc, system, &names)?;
-    check_table(rt, &table);
-    Ok(())
+    for (place, want) in &VALUES {
+        let found = match table.value(*place) {
+            Some(value) => (value.truth(), value.int(), value.text(), value.node()),
+            None => (None, None, None, None),
+        };
+        if found != *want {
+            return Ok(Some(*place));
+        }
+    }
+    Ok(None)
 }
 
-// Checks that each of these alone makes a list that isn't one of instances.
-fn check_no_instances(rt: &impl Abort, alloc: Global, system: &System) -> Result<(), Fail> {
-    for (k, (attr, node, arguments)) in NO_INSTANCES.iter().enumerate() {
-        let mut names = NameList::of_source(alloc, system)?;
-        add(alloc, &mut names, *attr, *node, arguments)?;
-        assert!(rt; !names.are_of(system), "place {k}");
+// The first row of what is no instance that makes a list of instances.
+fn instance_among(alloc: Global, system: &System) -> Result<Option<usize>, ReadFault> {
+    for (k, row) in NO_INSTANCES.iter().enumerate() {
+        let names = names_of(alloc, system, &[*row])?;
+        if names.are_of(system) {
+            return Ok(Some(k));
+        }
     }
-    Ok(())
+    Ok(None)
 }
 
-// The values of instances, and what is none.
-struct Instances;
+// The first value that is another one, and the first row of no instance that makes a list of instances.
+type Found = (
+    Result<Option<u32>, ReadFault>,
+    Result<Option<usize>, ReadFault>,
+);
 
-impl Checks for Instances {
-    fn check(&self, rt: &impl Abort, alloc: Global, system: &System) -> Result<(), Fail> {
-        check_rounds(rt, alloc, system)?;
-        check_no_instances(rt, alloc, system)
-    }
+fn found_by_names(alloc: Global) -> Result<Found, Refusal> {
+    let system = system_said(alloc, &TEXTS)?;
+    Ok((other_value(alloc, &system), instance_among(alloc, &system)))
 }
 
 #[test]
-fn named_instances_have_values(rt: HostRuntime) -> Result<(), Fail> {
-    check_said(&rt, rt.alloc(), TEXTS, &Instances)
+fn named_instances_have_values(rt: HostRuntime) {
+    assert_eq!(rt; found_by_names(rt.alloc()), Ok((Ok(None), Ok(None))));
+}
+
+// The equation of an attribute without arguments at a node, where they are an instance.
+fn site_of(
+    alloc: Global,
+    system: &System,
+    attr: AttrId,
+    node: u16,
+) -> Result<Option<EqSite>, Memory>
+    requires { IsProgram (program_of system.now) }
+{
+    let node = u32::from(node);
+    let mut names = NameList::of_source(alloc, system)?;
+    let args = NamedArgs::of(Vec::new(alloc));
+    names.add(NamedInstance {
+        attr,
+        node: NodeName::Source(node),
+        args,
+    })?;
+    if !names.are_of(system) {
+        return Ok(None);
+    }
+    let at = NodeRef::of_source(Some(node));
+    Ok(Some(equation_of(system, attr, at, Args::none())))
+}
+
+// The place of the second statement is what the path binds.
+const SECOND_PLACE: Args = Args {
+    count: 1,
+    first: 1,
+    second: 0,
+    third: 0,
+};
+
+const NONE: Args = Args {
+    count: 0,
+    first: 0,
+    second: 0,
+    third: 0,
+};
+
+// Where the equation of `y` at the second node of the list is read, and what is bound there.
+const PLACE: EqSite = EqSite {
+    equation: EqId(5),
+    node: NodeRef(1),
+    outer: SECOND_PLACE,
+    inner: NONE,
+};
+
+// Whether the equation of `y` there comes to the place that is bound.
+fn is_evaluated(alloc: Global, system: &System) -> bool {
+    if system.rules().equations() <= 5 {
+        return false;
+    }
+    let turn = evaluate(alloc, system, &PLACE, &mut Nothing);
+    matches!(turn, Ok(Turn::Done(Value::Int(1))))
+}
+
+// The equation of `y` at the second node of the list, and whether it is evaluated so.
+fn found_at_node(alloc: Global) -> Result<(Result<Option<EqSite>, Memory>, bool), Refusal> {
+    let system = system_said(alloc, &TEXTS)?;
+    Ok((site_of(alloc, &system, Y, 2), is_evaluated(alloc, &system)))
+}
+
+#[test]
+fn equations_are_found_and_evaluated(rt: HostRuntime) {
+    assert_eq!(rt; found_at_node(rt.alloc()), Ok((Ok(Some(PLACE)), true)));
 }

@@ -5,13 +5,15 @@ ghost use Rattle.equation_law.specs.Checked.{IsProgram};
 ghost use Rattle.equation_law.specs.Systems.{program_of};
 
 use ast_grammar::{Grammar, read_ast_bytes};
+use broken_rules::ReadFault;
 use equation_law::System;
 use program_reader::{Refusal, read_system};
-use rag_io::LONGEST_FILE;
+use rag_io::{LONGEST_FILE, Pool};
 use run_io::Contents;
 use std::alloc::{AllocError, Global};
-use std::process::Abort;
-use std::test::Fail;
+use std::fmt::Write;
+use tree_arena::Tree;
+use tree_reader::read_tree_bytes;
 
 /// The texts of a grammar, aspects, a tree and queries.
 #[derive(Clone, Copy)]
@@ -21,9 +23,6 @@ pub(crate) struct Texts<'a> {
     pub(crate) tree: &'a str,
     pub(crate) queries: &'a str,
 }
-
-/// The number of nodes below each node of a chain.
-pub(crate) const COUNTED: &str = "aspect A { syn int L.d() = hasL() ? getL().d() + 1 : 0; }";
 
 fn bytes_of(alloc: Global, text: &str) -> Result<Vec<u8>, Refusal>
     ensures { IfOk result (λ bytes. length bytes.items ≤ longest_file) }
@@ -53,47 +52,67 @@ pub(crate) fn system_said(alloc: Global, texts: &Texts<'_>) -> Result<System, Re
     }
 }
 
-/// What is checked of a system.
-pub(crate) trait Checks {
-    fn check(&self, rt: &impl Abort, alloc: Global, system: &System) -> Result<(), Fail>
-        requires { IsProgram (program_of system.now) };
-}
-
-/// Checks the system that four texts say.
-pub(crate) fn check_said(
-    rt: &impl Abort,
-    alloc: Global,
-    texts: Texts<'_>,
-    checks: &impl Checks,
-) -> Result<(), Fail> {
-    let system = system_said(alloc, &texts)?;
-    checks.check(rt, alloc, &system)
-}
-
 /// The grammar that a text says.
-pub(crate) fn grammar_of(rt: &impl Abort, alloc: Global, text: &str) -> Result<Grammar, Fail> {
-    assert!(rt; text.len() <= LONGEST_FILE);
-    match read_ast_bytes(alloc, text.as_bytes()) {
-        Ok(grammar) => Ok(grammar),
-        Err(_) => Err("no grammar".into()),
+pub(crate) fn grammar_of(alloc: Global, text: &str) -> Result<Grammar, ReadFault> {
+    if text.len() > LONGEST_FILE {
+        return Err(ReadFault::Memory);
     }
+    read_ast_bytes(alloc, text.as_bytes())
 }
 
-/// A text so many times.
-pub(crate) fn repeated(alloc: Global, part: &str, times: usize) -> Result<String, AllocError> {
-    let mut text = String::new(alloc);
-    for _ in 0..times {
-        text.push_str(part)?;
+/// The tree that a text says, and its texts.
+pub(crate) fn tree_of(
+    alloc: Global,
+    grammar: &Grammar,
+    text: &str,
+) -> Result<(Tree, Pool), ReadFault> {
+    if text.len() > LONGEST_FILE {
+        return Err(ReadFault::Memory);
     }
+    let mut pool = Pool::new(alloc)?;
+    let tree = read_tree_bytes(alloc, grammar, text.as_bytes(), &mut pool)?;
+    Ok((tree, pool))
+}
+
+/// A text whose second part and whose last one stand so many times, the second one each time with its number, from 1 on, in place of `#`.
+#[derive(Clone, Copy)]
+pub(crate) struct Long<'a> {
+    pub(crate) head: &'a str,
+    pub(crate) part: &'a str,
+    pub(crate) middle: &'a str,
+    pub(crate) end: &'a str,
+    pub(crate) times: u32,
+}
+
+/// A text with nothing in it.
+pub(crate) const NOTHING: Long<'_> = Long {
+    head: "",
+    part: "",
+    middle: "",
+    end: "",
+    times: 0,
+};
+
+// Writes a part with its number.
+fn push_part(text: &mut String, part: &str, number: u32) -> Result<(), AllocError> {
+    for letter in part.chars() {
+        if letter == '#' {
+            write!(text, "{number}")?;
+        } else {
+            text.push(letter)?;
+        }
+    }
+    Ok(())
+}
+
+/// A long text.
+pub(crate) fn long_text(alloc: Global, long: &Long<'_>) -> Result<String, AllocError> {
+    let mut text = String::from_str(alloc, long.head)?;
+    let mut behind = String::from_str(alloc, long.middle)?;
+    for number in 1..=long.times {
+        push_part(&mut text, long.part, number)?;
+        behind.push_str(long.end)?;
+    }
+    text.push_str(behind.as_str())?;
     Ok(text)
-}
-
-/// So many nodes, each below the one before.
-pub(crate) fn chained_tree(alloc: Global, nodes: usize) -> Result<String, AllocError> {
-    let before = nodes.saturating_sub(1);
-    let mut tree = repeated(alloc, "L([", before)?;
-    tree.push_str("L([])")?;
-    let ends = repeated(alloc, "])", before)?;
-    tree.push_str(&ends)?;
-    Ok(tree)
 }

@@ -1,243 +1,221 @@
 // Random programs, whose replies by rounds and by demand are the same.
+ghost use Rattle.equation_law.specs.Checked.{IsProgram};
+ghost use Rattle.equation_law.specs.Systems.{program_of};
+
 use crate::demand::Silent;
-use crate::programs::{Checks, Texts, chained_tree, check_said};
+use crate::programs::{Long, NOTHING, Texts, long_text, system_said};
+use broken_rules::ReadFault;
 use equation_law::System;
-use plain_rounds::{NameList, NamedValue, plain_rounds};
+use plain_rounds::{NameList, plain_rounds};
 use query_replies::reply_lines;
 use rand_core::Rng;
 use rand_pcg::Pcg32;
-use std::alloc::Global;
+use std::alloc::{AllocError, Global};
 use std::fmt::Write;
-use std::process::Abort;
-use std::test::Fail;
 
-// The line of an integer that the rounds give, or `circular` where they give none.
-fn write_rounds_line(text: &mut String, value: Option<&NamedValue>) -> Result<(), Fail> {
-    match value {
-        Some(value) => write!(text, "{}\n", value.int().unwrap_or(-1))?,
-        None => text.push_str("circular\n")?,
-    }
-    Ok(())
+// The forms of an equation, and below which numbers those are drawn that stand in it in place of `I`, `A`, `B` and `C`. `#` is the number of the equation.
+struct Family {
+    forms: &'static [&'static str],
+    below: [u32; 4],
 }
 
-// The lines of all queries, by rounds.
-fn rounds_lines(alloc: Global, system: &System) -> Result<String, Fail> {
+// Integers over attributes of the node and of the node below it.
+const INTEGERS: Family = Family {
+    forms: &[
+        "syn int L.a#() = I; ",
+        "syn int L.a#() = aA() + I; ",
+        "syn int L.a#() = aA() < I ? aB() : I; ",
+        "syn int L.a#() = hasL() ? getL().aA() : I; ",
+        "syn int L.a#() = (hasL() ? getL().aA() : aB()) * I; ",
+        "syn int L.a#() = I == 0 ? getL().aA() : I; ",
+    ],
+    below: [3, 6, 6, 1],
+};
+
+// Circular sets over sets of the node, of those below it and of the one above it. Nodes that are above and below one another make large components.
+const SETS: Family = Family {
+    forms: &[
+        "syn Set<L> L.s#() circular [empty] = single(this); ",
+        "syn Set<L> L.s#() circular [empty] = union(single(this), up().sA()); ",
+        "syn Set<L> L.s#() circular [empty] = union(sA(), sB()); ",
+        "syn Set<L> L.s#() circular [empty] = each(x : getlList() | x.sA()); ",
+        "syn Set<L> L.s#() circular [empty] = inter(sA(), each(x : sB() | x.sA())); ",
+        "syn Set<L> L.s#() circular [empty] = union(up().sA(), each(x : getlList() | x.sB())); ",
+        "syn Set<L> L.s#() circular [empty] = each(x : sA() | union(single(x), x.sB())); ",
+    ],
+    below: [1, 4, 4, 1],
+};
+
+// Integers over sets and over integers of the node and of those below it.
+const COUNTS: Family = Family {
+    forms: &[
+        "syn int L.n#() = size(sA()); ",
+        "syn int L.n#() = nB() + size(sA()); ",
+        "syn int L.n#() = all(x : getlList() | x.nB() > I) ? size(sA()) : nC(); ",
+        "syn int L.n#() = size(each(x : getlList() | x.nB() == I ? x.sA() : empty)); ",
+        "syn int L.n#() = any(x : sA() | x.nB() == I) ? I : size(sA()); ",
+        "syn int L.n#() = first(x : getlList() | size(x.sA()) > I) == null ? I : nB(); ",
+    ],
+    below: [3, 4, 4, 4],
+};
+
+// Drawn programs: the seed and how many are drawn, their texts, and how many equations each family gives.
+struct Drawn {
+    seed: u64,
+    times: u32,
+    ast: &'static str,
+    aspect: &'static str,
+    families: &'static [Family],
+    equations: u32,
+    tree: Long<'static>,
+    queries: Long<'static>,
+}
+
+const DRAWN: [Drawn; 2] = [
+    // Over a chain of four nodes, asked for all attributes.
+    Drawn {
+        seed: 8,
+        times: 40,
+        ast: "L ::= [L];",
+        aspect: "aspect A { ",
+        families: &[INTEGERS],
+        equations: 6,
+        tree: Long {
+            head: "",
+            part: "L([",
+            middle: "L([])",
+            end: "])",
+            times: 3,
+        },
+        queries: Long {
+            head: "@0.a0()\n@0.a1()\n@0.a2()\n@0.a3()\n@0.a4()\n@0.a5()\n",
+            part: "@#.a0()\n@#.a1()\n@#.a2()\n@#.a3()\n@#.a4()\n@#.a5()\n",
+            times: 3,
+            ..NOTHING
+        },
+    },
+    // 24 nodes stand below the one below the root; every third has none below it, and the others one or two.
+    Drawn {
+        seed: 29,
+        times: 10,
+        ast: "P ::= L; L ::= l:L*;",
+        aspect: "aspect A { inh L L.up(); eq P.getL().up() = null; eq L.getl(int i).up() = this; ",
+        families: &[SETS, COUNTS],
+        equations: 4,
+        tree: Long {
+            head: "P(L([L([])",
+            part: ", L([L([])]), L([L([]), L([])]), L([])",
+            middle: ", L([L([])]), L([L([]), L([])])]))",
+            end: "",
+            times: 7,
+        },
+        queries: Long {
+            part: "@#.n0()\n@#.n1()\n@#.n2()\n@#.n3()\n",
+            times: 49,
+            ..NOTHING
+        },
+    },
+];
+
+// The lines of all queries, by rounds: an integer, or `circular` where the rounds give none.
+fn rounds_lines(alloc: Global, system: &System) -> Result<String, ReadFault> {
     let names = NameList::of_source(alloc, system)?;
     let table = plain_rounds(alloc, system, &names)?;
     let mut text = String::new(alloc);
     for place in names.len().saturating_sub(system.replies())..names.len() {
-        write_rounds_line(&mut text, table.value(place))?;
-    }
-    Ok(text)
-}
-
-// The lines of rounds and of demand, which are the same.
-struct BothWays;
-
-impl Checks for BothWays {
-    fn check(&self, rt: &impl Abort, alloc: Global, system: &System) -> Result<(), Fail> {
-        let slow = rounds_lines(alloc, system)?;
-        match reply_lines(alloc, &Silent, system, 4096) {
-            Ok(lines) => assert_eq!(rt; lines.as_slice(), slow.as_bytes()),
-            Err(_) => panic!(rt; "no lines"),
+        match table.value(place) {
+            Some(value) => write!(text, "{}\n", value.int().unwrap_or(-1))?,
+            None => text.push_str("circular\n")?,
         }
-        Ok(())
+    }
+    Ok(text)
+}
+
+// Whether the lines of rounds and of demand are the same, and there are some.
+fn agree(alloc: Global, system: &System) -> Result<bool, ReadFault>
+    requires { IsProgram (program_of system.now) }
+{
+    let slow = rounds_lines(alloc, system)?;
+    match reply_lines(alloc, &Silent, system, 4096) {
+        Ok(lines) => Ok(!slow.is_empty() && lines.as_slice() == slow.as_bytes()),
+        Err(_) => Ok(false),
     }
 }
 
-// How many attributes of integers there are, whose names begin with `a`.
-const ATTRIBUTES: u32 = 6;
+// The same of the system that four texts are to say.
+fn texts_agree(alloc: Global, texts: &Texts<'_>) -> Result<bool, ReadFault> {
+    match system_said(alloc, texts) {
+        Ok(system) => agree(alloc, &system),
+        Err(_) => Ok(false),
+    }
+}
 
-// How many nodes a chain has.
-const NODES: u32 = 4;
-
-// An equation with one of six forms, over attributes of the node and of the node below it.
-fn write_equation(text: &mut String, number: u32, random: &mut Pcg32) -> Result<(), Fail> {
-    let form = random.next_u32() % 6;
-    let int = random.next_u32() % 3;
-    let a = random.next_u32() % ATTRIBUTES;
-    let b = random.next_u32() % ATTRIBUTES;
-    write!(text, "syn int L.a{number}() = ")?;
-    match form {
-        0 => write!(text, "{int}; ")?,
-        1 => write!(text, "a{a}() + {int}; ")?,
-        2 => write!(text, "a{a}() < {int} ? a{b}() : {int}; ")?,
-        3 => write!(text, "hasL() ? getL().a{a}() : {int}; ")?,
-        4 => write!(text, "(hasL() ? getL().a{a}() : a{b}()) * {int}; ")?,
-        _ => write!(text, "{int} == 0 ? getL().a{a}() : {int}; ")?,
+// Writes a drawn equation with its number.
+fn write_equation(
+    text: &mut String,
+    family: &Family,
+    number: u32,
+    random: &mut Pcg32,
+) -> Result<(), AllocError> {
+    let form = random.next_u32() as usize % family.forms.len().max(1);
+    let [int, a, b, c] = family.below;
+    let form = family.forms.get(form).copied().unwrap_or("");
+    for letter in form.chars() {
+        let below = match letter {
+            'I' => int,
+            'A' => a,
+            'B' => b,
+            'C' => c,
+            _ => 0,
+        };
+        if below > 0 {
+            write!(text, "{}", random.next_u32() % below)?;
+        } else if letter == '#' {
+            write!(text, "{number}")?;
+        } else {
+            text.push(letter)?;
+        }
     }
     Ok(())
 }
 
-fn random_aspects(alloc: Global, random: &mut Pcg32) -> Result<String, Fail> {
-    let mut text = String::from_str(alloc, "aspect A { ")?;
-    for number in 0..ATTRIBUTES {
-        write_equation(&mut text, number, random)?;
+fn drawn_aspect(alloc: Global, row: &Drawn, random: &mut Pcg32) -> Result<String, AllocError> {
+    let mut text = String::from_str(alloc, row.aspect)?;
+    for number in 0..row.equations {
+        for family in row.families {
+            write_equation(&mut text, family, number, random)?;
+        }
     }
     text.push('}')?;
     Ok(text)
 }
 
-// Asks for each of these attributes at a node.
-fn ask_all(text: &mut String, node: u32, letter: char, attributes: u32) -> Result<(), Fail> {
-    for number in 0..attributes {
-        write!(text, "@{node}.{letter}{number}()\n")?;
+// The first of the drawn programs that has other replies by rounds than by demand.
+fn other_drawn(alloc: Global, row: &Drawn) -> Result<Option<u32>, ReadFault> {
+    let tree = long_text(alloc, &row.tree)?;
+    let queries = long_text(alloc, &row.queries)?;
+    let mut random = Pcg32::new(row.seed, 1);
+    for k in 0..row.times {
+        let aspect = drawn_aspect(alloc, row, &mut random)?;
+        let texts = Texts {
+            ast: row.ast,
+            jrag: aspect.as_str(),
+            tree: tree.as_str(),
+            queries: queries.as_str(),
+        };
+        if !texts_agree(alloc, &texts)? {
+            return Ok(Some(k));
+        }
     }
-    Ok(())
-}
-
-// Asks for each of these attributes at each node from one on, below another.
-fn all_queries(
-    alloc: Global,
-    from: u32,
-    to: u32,
-    letter: char,
-    attributes: u32,
-) -> Result<String, Fail> {
-    let mut text = String::new(alloc);
-    for node in from..to {
-        ask_all(&mut text, node, letter, attributes)?;
-    }
-    Ok(text)
-}
-
-fn expect_same(
-    rt: &impl Abort,
-    alloc: Global,
-    random: &mut Pcg32,
-    tree: &str,
-    queries: &str,
-) -> Result<(), Fail> {
-    let aspects = random_aspects(alloc, random)?;
-    let texts = Texts {
-        ast: "L ::= [L];",
-        jrag: aspects.as_str(),
-        tree,
-        queries,
-    };
-    check_said(rt, alloc, texts, &BothWays)
+    Ok(None)
 }
 
 #[test]
-fn rounds_and_demand_agree(rt: HostRuntime) -> Result<(), Fail> {
-    let mut random = Pcg32::new(8, 1);
-    let tree = chained_tree(rt.alloc(), NODES as usize)?;
-    let queries = all_queries(rt.alloc(), 0, NODES, 'a', ATTRIBUTES)?;
-    for _ in 0..40 {
-        expect_same(&rt, rt.alloc(), &mut random, &tree, &queries)?;
-    }
-    Ok(())
-}
-
-// How many attributes of sets there are, and of integers over them.
-const SETS: u32 = 4;
-
-// A circular set with one of seven forms, over sets of the node, of those below it and of the one above it. Nodes that are above and below one another
-// make large components.
-fn write_set(text: &mut String, number: u32, random: &mut Pcg32) -> Result<(), Fail> {
-    let form = random.next_u32() % 7;
-    let a = random.next_u32() % SETS;
-    let b = random.next_u32() % SETS;
-    write!(text, "syn Set<L> L.s{number}() circular [empty] = ")?;
-    match form {
-        0 => write!(text, "single(this); ")?,
-        1 => write!(text, "union(single(this), up().s{a}()); ")?,
-        2 => write!(text, "union(s{a}(), s{b}()); ")?,
-        3 => write!(text, "each(x : getlList() | x.s{a}()); ")?,
-        4 => write!(text, "inter(s{a}(), each(x : s{b}() | x.s{a}())); ")?,
-        5 => write!(
-            text,
-            "union(up().s{a}(), each(x : getlList() | x.s{b}())); "
-        )?,
-        _ => write!(text, "each(x : s{a}() | union(single(x), x.s{b}())); ")?,
-    }
-    Ok(())
-}
-
-// An integer with one of six forms, over sets and over integers of the node and of those below it.
-fn write_count(text: &mut String, number: u32, random: &mut Pcg32) -> Result<(), Fail> {
-    let form = random.next_u32() % 6;
-    let int = random.next_u32() % 3;
-    let s = random.next_u32() % SETS;
-    let n = random.next_u32() % SETS;
-    let m = random.next_u32() % SETS;
-    write!(text, "syn int L.n{number}() = ")?;
-    match form {
-        0 => write!(text, "size(s{s}()); ")?,
-        1 => write!(text, "n{n}() + size(s{s}()); ")?,
-        2 => write!(
-            text,
-            "all(x : getlList() | x.n{n}() > {int}) ? size(s{s}()) : n{m}(); "
-        )?,
-        3 => write!(
-            text,
-            "size(each(x : getlList() | x.n{n}() == {int} ? x.s{s}() : empty)); "
-        )?,
-        4 => write!(
-            text,
-            "any(x : s{s}() | x.n{n}() == {int}) ? {int} : size(s{s}()); "
-        )?,
-        _ => write!(
-            text,
-            "first(x : getlList() | size(x.s{s}()) > {int}) == null ? {int} : n{n}(); "
-        )?,
-    }
-    Ok(())
-}
-
-fn random_sets(alloc: Global, random: &mut Pcg32) -> Result<String, Fail> {
-    let mut text = String::from_str(
-        alloc,
-        "aspect A { inh L L.up(); eq P.getL().up() = null; eq L.getl(int i).up() = this; ",
-    )?;
-    for number in 0..SETS {
-        write_set(&mut text, number, random)?;
-        write_count(&mut text, number, random)?;
-    }
-    text.push('}')?;
-    Ok(text)
-}
-
-// How many nodes stand below the one below the root; every third has none below it, and the others one or two.
-const BELOW: u32 = 24;
-
-fn listed_tree(alloc: Global) -> Result<String, Fail> {
-    let mut tree = String::from_str(alloc, "P(L([L([])")?;
-    for number in 1..BELOW {
-        tree.push_str(match number % 3 {
-            0 => ", L([])",
-            1 => ", L([L([])])",
-            _ => ", L([L([]), L([])])",
-        })?;
-    }
-    tree.push_str("]))")?;
-    Ok(tree)
-}
-
-fn expect_same_sets(
-    rt: &impl Abort,
-    alloc: Global,
-    random: &mut Pcg32,
-    tree: &str,
-    queries: &str,
-) -> Result<(), Fail> {
-    let aspects = random_sets(alloc, random)?;
-    let texts = Texts {
-        ast: "P ::= L; L ::= l:L*;",
-        jrag: aspects.as_str(),
-        tree,
-        queries,
-    };
-    check_said(rt, alloc, texts, &BothWays)
-}
-
-#[test]
-fn rounds_and_demand_agree_on_sets(rt: HostRuntime) -> Result<(), Fail> {
-    let mut random = Pcg32::new(29, 1);
-    let tree = listed_tree(rt.alloc())?;
-    let queries = all_queries(rt.alloc(), 1, 2 * BELOW + 2, 'n', SETS)?;
-    for _ in 0..10 {
-        expect_same_sets(&rt, rt.alloc(), &mut random, &tree, &queries)?;
-    }
-    Ok(())
+fn rounds_and_demand_agree(rt: HostRuntime) {
+    let [integers, sets] = &DRAWN;
+    let other = (
+        other_drawn(rt.alloc(), integers),
+        other_drawn(rt.alloc(), sets),
+    );
+    assert_eq!(rt; other, (Ok(None), Ok(None)));
 }

@@ -7,5 +7,5 @@ use Rattle.rag_tests.proofs.demand.asked.Goals as goal
 pub ask-requires-clause-instance : goal.ask-requires-clause-instance
 ask-requires-clause-instance g c =
     let p = program_of c.args.system.now in
-    let within : c.args.query < length p.queries = omega (arith, c.if-query-replies.true, c.replies.ensures.number) in
+    let within : c.args.query < length p.queries = omega (arith, c.if-query-replies.false, c.replies.ensures.number) in
     query_instance p c.args.query within

@@ -4,10 +4,10 @@ use Rattle.rag_io.specs.Tokens.{seen_tokens}
 use Rattle.rag_io.specs.declared.token.Token as memory
 use Rattle.token_texts.specs.Texts.{AllQuoted}
 use Rattle.token_texts.proofs.Quoted.{quoted_front_seen, quoted_tokens}
-use Rattle.rag_tests.proofs.texts.expect_front.Goals as goal
+use Rattle.rag_tests.proofs.texts.read_tokens.Goals as goal
 
-pub expect_tokens-requires : goal.expect_tokens-requires
-expect_tokens-requires g c =
+pub pool_texts-requires : goal.pool_texts-requires
+pool_texts-requires c =
     quoted_front_seen c.deref.result.now
     (subst (λ (ts : List memory.Token). AllQuoted (seen_tokens ts)) (sym c.deref.ensures.value)
     (quoted_tokens (record { bytes = _; scanned = c.in_ok-tokens.ensures })))

@@ -5,7 +5,7 @@ use Rattle.equation_law.specs.Checked.{IsInstance}
 use Rattle.equation_law.specs.Systems.{program_of}
 use Rattle.plain_rounds.specs.Named.{instances_in}
 use Rattle.rag_tests.proofs.Bare.{bare, coded}
-use Rattle.rag_tests.proofs.calls.site_of.Goals as goal
+use Rattle.rag_tests.proofs.named.site_of.Goals as goal
 
 pub equation_of-requires-clause-instance : goal.equation_of-requires-clause-instance
 equation_of-requires-clause-instance c =
