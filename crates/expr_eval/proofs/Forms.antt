@@ -1,5 +1,5 @@
 -- The answers to an expression from those to its parts, form by form.
-use Rattle.std.proofs.Common.{◌≡◌, ℕ, ℤ, pos, List, Option, [], ◌∷◌, ◌++◌, Bool, true, false, ◌||◌, cond, not, neg_ℤ, Result, Ok, Err, refl, sym, ap, arith, subst, ◌∙◌}
+use Rattle.std.proofs.Common.{◌≡◌, ℕ, pos, List, Option, [], ◌∷◌, ◌++◌, Bool, true, false, ◌||◌, cond, not, neg_ℤ, Result, Ok, Err, refl, sym, ap, arith, subst, ◌∙◌}
 use Rattle.std.specs.Int.{int_wrap}
 use Rattle.std.specs.Result.{IsErr, IsErrAnd}
 use Rattle.std.proofs.lemmas.Result.{err_from_is_err_and}
@@ -24,11 +24,11 @@ use Rattle.equation_law.specs.Names.{Instance}
 use Rattle.equation_law.specs.Program.{Program, attribute_parameters, text_of}
 use Rattle.equation_law.specs.Sets.{no_elements}
 use Rattle.equation_law.specs.Reading.{Grows, IsSound, Told}
+use Rattle.equation_law.specs.Systems.{program_of}
 use Rattle.equation_law.specs.Values.{Value, Int, Node, Nodes, Truth, contains, int, node, set_operate, single, size_of, truth}
 use Rattle.expr_eval.specs.declared.evaluation.Halt.{Halt}
-use Rattle.expr_eval.specs.declared.saved.Saved.{Saved}
 use Rattle.expr_eval.specs.declared.evaluation.Halt.TheVariants.{Need, Memory}
-use Rattle.expr_eval.specs.Evaluating.{Answers, CallReads, Collects, Given, end, more, read_at}
+use Rattle.expr_eval.specs.Evaluating.{Answers, CallReads, Collects, Given, Makes, MakesRoom, end, more, read_at}
 use Rattle.expr_eval.specs.Reads.{Advances, ArgumentsRead, IsReady, Reads, State, state}
 use Rattle.expr_eval.proofs.Growing.{saved_more}
 use Rattle.expr_eval.proofs.Plain.{operate_plain, plain_coded}
@@ -169,132 +169,205 @@ module _ {p : Program} {place : Place} where
       (collected p u place (λ vs. call_at (world_of p) t (node (value_of (text_of p) v)) vs) res (collects_more c.kept.values y.is.collects) (c.is y.is.values y.is.are))
 
   -- the child of a receiver
-  pub child_stops : {S : Type 0} {r s : State S} {a : Expression} {h : Halt} {k : ℕ} → Reads p r s place a (Err h) → Reads p r s place (Child k a) (Err h)
+  child_stops : {S : Type 0} {r s : State S} {a : Expression} {h : Halt} {k : ℕ} → Reads p r s place a (Err h) → Reads p r s place (Child k a) (Err h)
   child_stops {a = a} {h = h} {k = k} x = stops (Child k a) a h _ refl x
 
-  pub child_goes : {S : Type 0} {r s : State S} {a : Expression} {v x : CodedValue} {k : ℕ} → Reads p r s place a (Ok v) → value_of (text_of p) x ≡ Node (child_at (world_of p) k (node (value_of (text_of p) v))) → Reads p r s place (Child k a) (Ok x)
+  child_goes : {S : Type 0} {r s : State S} {a : Expression} {v x : CodedValue} {k : ℕ} → Reads p r s place a (Ok v) → value_of (text_of p) x ≡ Node (child_at (world_of p) k (node (value_of (text_of p) v))) → Reads p r s place (Child k a) (Ok x)
   child_goes {a = a} {v = v} {x = x} {k = k} y e = ends (Child k a) a v x _ refl y _ refl e (plain_coded p x _ e refl)
 
+  pub child_made : {S : Type 0} {r s : State S} {a : Expression} {k : ℕ} {v x : Result CodedValue Halt} → Reads p r s place a v → Makes (λ w y. value_of (text_of p) y ≡ Node (child_at (world_of p) k (node (value_of (text_of p) w)))) v x → Reads p r s place (Child k a) x
+  child_made {v = Ok v} {x = Ok x} y e = child_goes y e
+  child_made {r = r} {s = s} {a = a} {k = k} {v = Err h} {x = Err i} y e = subst (λ j. Reads p r s place (Child k a) (Err j)) (sym e) (child_stops y)
+  child_made {v = Ok v} {x = Err h} y e = absurd e
+  child_made {v = Err h} {x = Ok x} y e = absurd e
+
   -- a cast, and a test of a class
-  pub cast_stops : {S : Type 0} {r s : State S} {a : Expression} {h : Halt} {k : ClassId} → Reads p r s place a (Err h) → Reads p r s place (Cast k a) (Err h)
+  cast_stops : {S : Type 0} {r s : State S} {a : Expression} {h : Halt} {k : ClassId} → Reads p r s place a (Err h) → Reads p r s place (Cast k a) (Err h)
   cast_stops {a = a} {h = h} {k = k} x = stops (Cast k a) a h _ refl x
 
-  pub cast_goes : {S : Type 0} {r s : State S} {a : Expression} {v x : CodedValue} {k : ClassId} → Reads p r s place a (Ok v) → value_of (text_of p) x ≡ Node (cast_to (world_of p) k (node (value_of (text_of p) v))) → Reads p r s place (Cast k a) (Ok x)
+  cast_goes : {S : Type 0} {r s : State S} {a : Expression} {v x : CodedValue} {k : ClassId} → Reads p r s place a (Ok v) → value_of (text_of p) x ≡ Node (cast_to (world_of p) k (node (value_of (text_of p) v))) → Reads p r s place (Cast k a) (Ok x)
   cast_goes {a = a} {v = v} {x = x} {k = k} y e = ends (Cast k a) a v x _ refl y _ refl e (plain_coded p x _ e refl)
 
-  pub instance_stops : {S : Type 0} {r s : State S} {a : Expression} {h : Halt} {k : ClassId} → Reads p r s place a (Err h) → Reads p r s place (InstanceOf k a) (Err h)
+  pub cast_made : {S : Type 0} {r s : State S} {a : Expression} {k : ClassId} {v x : Result CodedValue Halt} → Reads p r s place a v → Makes (λ w y. value_of (text_of p) y ≡ Node (cast_to (world_of p) k (node (value_of (text_of p) w)))) v x → Reads p r s place (Cast k a) x
+  cast_made {v = Ok v} {x = Ok x} y e = cast_goes y e
+  cast_made {r = r} {s = s} {a = a} {k = k} {v = Err h} {x = Err i} y e = subst (λ j. Reads p r s place (Cast k a) (Err j)) (sym e) (cast_stops y)
+  cast_made {v = Ok v} {x = Err h} y e = absurd e
+  cast_made {v = Err h} {x = Ok x} y e = absurd e
+
+  instance_stops : {S : Type 0} {r s : State S} {a : Expression} {h : Halt} {k : ClassId} → Reads p r s place a (Err h) → Reads p r s place (InstanceOf k a) (Err h)
   instance_stops {a = a} {h = h} {k = k} x = stops (InstanceOf k a) a h _ refl x
 
-  pub instance_goes : {S : Type 0} {r s : State S} {a : Expression} {v x : CodedValue} {k : ClassId} → Reads p r s place a (Ok v) → value_of (text_of p) x ≡ Truth (is_instance (world_of p) k (node (value_of (text_of p) v))) → Reads p r s place (InstanceOf k a) (Ok x)
+  instance_goes : {S : Type 0} {r s : State S} {a : Expression} {v x : CodedValue} {k : ClassId} → Reads p r s place a (Ok v) → value_of (text_of p) x ≡ Truth (is_instance (world_of p) k (node (value_of (text_of p) v))) → Reads p r s place (InstanceOf k a) (Ok x)
   instance_goes {a = a} {v = v} {x = x} {k = k} y e = ends (InstanceOf k a) a v x _ refl y _ refl e (plain_coded p x _ e refl)
+
+  pub instance_made : {S : Type 0} {r s : State S} {a : Expression} {k : ClassId} {v x : Result CodedValue Halt} → Reads p r s place a v → Makes (λ w y. value_of (text_of p) y ≡ Truth (is_instance (world_of p) k (node (value_of (text_of p) w)))) v x → Reads p r s place (InstanceOf k a) x
+  instance_made {v = Ok v} {x = Ok x} y e = instance_goes y e
+  instance_made {r = r} {s = s} {a = a} {k = k} {v = Err h} {x = Err i} y e = subst (λ j. Reads p r s place (InstanceOf k a) (Err j)) (sym e) (instance_stops y)
+  instance_made {v = Ok v} {x = Err h} y e = absurd e
+  instance_made {v = Err h} {x = Ok x} y e = absurd e
 
   -- an element of the list of a receiver
   pub element_stops : {S : Type 0} {r s : State S} {a b : Expression} {h : Halt} {k : ℕ} → Reads p r s place a (Err h) → Reads p r s place (Element k a b) (Err h)
   element_stops {a = a} {b = b} {h = h} {k = k} x = stops (Element k a b) a h _ refl x
 
-  pub element_stops_at : {S : Type 0} {r m s : State S} {a b : Expression} {v : CodedValue} {h : Halt} {k : ℕ} → Reads p r m place a (Ok v) → Reads p m s place b (Err h) → Reads p r s place (Element k a b) (Err h)
+  element_stops_at : {S : Type 0} {r m s : State S} {a b : Expression} {v : CodedValue} {h : Halt} {k : ℕ} → Reads p r m place a (Ok v) → Reads p m s place b (Err h) → Reads p r s place (Element k a b) (Err h)
   element_stops_at {a = a} {b = b} {v = v} {h = h} {k = k} x y = goes (Element k a b) a v (Err h) _ refl x y.kept (second_stops b h _ y)
 
-  pub element_goes : {S : Type 0} {r m s : State S} {a b : Expression} {v w x : CodedValue} {k : ℕ} → Reads p r m place a (Ok v) → Reads p m s place b (Ok w) → value_of (text_of p) x ≡ Node (element_at (world_of p) k (node (value_of (text_of p) v)) (int (value_of (text_of p) w)))
+  element_goes : {S : Type 0} {r m s : State S} {a b : Expression} {v w x : CodedValue} {k : ℕ} → Reads p r m place a (Ok v) → Reads p m s place b (Ok w) → value_of (text_of p) x ≡ Node (element_at (world_of p) k (node (value_of (text_of p) v)) (int (value_of (text_of p) w)))
       → Reads p r s place (Element k a b) (Ok x)
   element_goes {a = a} {b = b} {v = v} {w = w} {x = x} {k = k} y z e = goes (Element k a b) a v (Ok x) _ refl y z.kept (second_goes b w x _ z _ refl e (plain_coded p x _ e refl))
 
+  pub element_made : {S : Type 0} {r m s : State S} {a b : Expression} {k : ℕ} {v : CodedValue} {w x : Result CodedValue Halt} → Reads p r m place a (Ok v) → Reads p m s place b w → Makes (λ u y. value_of (text_of p) y ≡ Node (element_at (world_of p) k (node (value_of (text_of p) v)) (int (value_of (text_of p) u)))) w x → Reads p r s place (Element k a b) x
+  element_made {w = Ok w} {x = Ok x} y z e = element_goes y z e
+  element_made {r = r} {s = s} {a = a} {b = b} {k = k} {w = Err h} {x = Err i} y z e = subst (λ j. Reads p r s place (Element k a b) (Err j)) (sym e) (element_stops_at y z)
+  element_made {w = Ok w} {x = Err i} y z e = absurd e
+  element_made {w = Err h} {x = Ok x} y z e = absurd e
+
   -- how many elements a list has
-  pub count_stops : {S : Type 0} {r s : State S} {a : Expression} {h : Halt} {k : ℕ} → Reads p r s place a (Err h) → Reads p r s place (Count k a) (Err h)
+  count_stops : {S : Type 0} {r s : State S} {a : Expression} {h : Halt} {k : ℕ} → Reads p r s place a (Err h) → Reads p r s place (Count k a) (Err h)
   count_stops {a = a} {h = h} {k = k} x = stops (Count k a) a h _ refl x
 
-  pub count_goes : {S : Type 0} {r s : State S} {a : Expression} {v x : CodedValue} {k : ℕ} → Reads p r s place a (Ok v) → value_of (text_of p) x ≡ Int (count_at (world_of p) k (node (value_of (text_of p) v))) → Reads p r s place (Count k a) (Ok x)
+  count_goes : {S : Type 0} {r s : State S} {a : Expression} {v x : CodedValue} {k : ℕ} → Reads p r s place a (Ok v) → value_of (text_of p) x ≡ Int (count_at (world_of p) k (node (value_of (text_of p) v))) → Reads p r s place (Count k a) (Ok x)
   count_goes {a = a} {v = v} {x = x} {k = k} y e = ends (Count k a) a v x _ refl y _ refl e (plain_coded p x _ e refl)
 
+  pub count_made : {S : Type 0} {r s : State S} {a : Expression} {k : ℕ} {v x : Result CodedValue Halt} → Reads p r s place a v → Makes (λ w y. value_of (text_of p) y ≡ Int (count_at (world_of p) k (node (value_of (text_of p) w)))) v x → Reads p r s place (Count k a) x
+  count_made {v = Ok v} {x = Ok x} y e = count_goes y e
+  count_made {r = r} {s = s} {a = a} {k = k} {v = Err h} {x = Err i} y e = subst (λ j. Reads p r s place (Count k a) (Err j)) (sym e) (count_stops y)
+  count_made {v = Ok v} {x = Err h} y e = absurd e
+  count_made {v = Err h} {x = Ok x} y e = absurd e
+
   -- whether there is a child
-  pub has_stops : {S : Type 0} {r s : State S} {a : Expression} {h : Halt} {k : ℕ} → Reads p r s place a (Err h) → Reads p r s place (Has k a) (Err h)
+  has_stops : {S : Type 0} {r s : State S} {a : Expression} {h : Halt} {k : ℕ} → Reads p r s place a (Err h) → Reads p r s place (Has k a) (Err h)
   has_stops {a = a} {h = h} {k = k} x = stops (Has k a) a h _ refl x
 
-  pub has_goes : {S : Type 0} {r s : State S} {a : Expression} {v x : CodedValue} {k : ℕ} → Reads p r s place a (Ok v) → value_of (text_of p) x ≡ Truth (is_there (child_at (world_of p) k (node (value_of (text_of p) v)))) → Reads p r s place (Has k a) (Ok x)
+  has_goes : {S : Type 0} {r s : State S} {a : Expression} {v x : CodedValue} {k : ℕ} → Reads p r s place a (Ok v) → value_of (text_of p) x ≡ Truth (is_there (child_at (world_of p) k (node (value_of (text_of p) v)))) → Reads p r s place (Has k a) (Ok x)
   has_goes {a = a} {v = v} {x = x} {k = k} y e = ends (Has k a) a v x _ refl y _ refl e (plain_coded p x _ e refl)
 
+  pub has_made : {S : Type 0} {r s : State S} {a : Expression} {k : ℕ} {v x : Result CodedValue Halt} → Reads p r s place a v → Makes (λ w y. value_of (text_of p) y ≡ Truth (is_there (child_at (world_of p) k (node (value_of (text_of p) w))))) v x → Reads p r s place (Has k a) x
+  has_made {v = Ok v} {x = Ok x} y e = has_goes y e
+  has_made {r = r} {s = s} {a = a} {k = k} {v = Err h} {x = Err i} y e = subst (λ j. Reads p r s place (Has k a) (Err j)) (sym e) (has_stops y)
+  has_made {v = Ok v} {x = Err h} y e = absurd e
+  has_made {v = Err h} {x = Ok x} y e = absurd e
+
   -- the token of a receiver
-  pub token_stops : {S : Type 0} {r s : State S} {a : Expression} {h : Halt} {t : Kind} {k : ℕ} → Reads p r s place a (Err h) → Reads p r s place (Token t k a) (Err h)
+  token_stops : {S : Type 0} {r s : State S} {a : Expression} {h : Halt} {t : Kind} {k : ℕ} → Reads p r s place a (Err h) → Reads p r s place (Token t k a) (Err h)
   token_stops {a = a} {h = h} {t = t} {k = k} x = stops (Token t k a) a h _ refl x
 
-  pub token_goes : {S : Type 0} {r s : State S} {a : Expression} {v x : CodedValue} {t : Kind} {k : ℕ} → Reads p r s place a (Ok v) → value_of (text_of p) x ≡ token_at (world_of p) t k (node (value_of (text_of p) v)) → AreElements p x → Reads p r s place (Token t k a) (Ok x)
+  token_goes : {S : Type 0} {r s : State S} {a : Expression} {v x : CodedValue} {t : Kind} {k : ℕ} → Reads p r s place a (Ok v) → value_of (text_of p) x ≡ token_at (world_of p) t k (node (value_of (text_of p) v)) → AreElements p x → Reads p r s place (Token t k a) (Ok x)
   token_goes {a = a} {v = v} {x = x} {t = t} {k = k} y e good = ends (Token t k a) a v x _ refl y _ refl e good
 
+  pub token_made : {S : Type 0} {r s : State S} {a : Expression} {t : Kind} {k : ℕ} {v x : Result CodedValue Halt} → Reads p r s place a v → Makes (λ w y. (value_of (text_of p) y ≡ token_at (world_of p) t k (node (value_of (text_of p) w))) × ((q : Program) → AreElements q y)) v x → Reads p r s place (Token t k a) x
+  token_made {v = Ok v} {x = Ok x} y e = token_goes y e.0 (e.1 p)
+  token_made {r = r} {s = s} {a = a} {t = t} {k = k} {v = Err h} {x = Err i} y e = subst (λ j. Reads p r s place (Token t k a) (Err j)) (sym e) (token_stops y)
+  token_made {v = Ok v} {x = Err i} y e = absurd e
+  token_made {v = Err h} {x = Ok x} y e = absurd e
+
   -- a denial
-  pub not_stops : {S : Type 0} {r s : State S} {a : Expression} {h : Halt} → Reads p r s place a (Err h) → Reads p r s place (Not a) (Err h)
+  not_stops : {S : Type 0} {r s : State S} {a : Expression} {h : Halt} → Reads p r s place a (Err h) → Reads p r s place (Not a) (Err h)
   not_stops {a = a} {h = h} x = stops (Not a) a h _ refl x
 
-  pub not_goes : {S : Type 0} {r s : State S} {a : Expression} {v x : CodedValue} → Reads p r s place a (Ok v) → ((texts : ℕ → List ℕ) → value_of texts x ≡ Truth (not (truth (value_of texts v)))) → Reads p r s place (Not a) (Ok x)
+  not_goes : {S : Type 0} {r s : State S} {a : Expression} {v x : CodedValue} → Reads p r s place a (Ok v) → ((texts : ℕ → List ℕ) → value_of texts x ≡ Truth (not (truth (value_of texts v)))) → Reads p r s place (Not a) (Ok x)
   not_goes {a = a} {v = v} {x = x} y e = ends (Not a) a v x _ refl y _ refl (e (text_of p)) (plain_coded p x _ (e (text_of p)) refl)
 
+  pub not_made : {S : Type 0} {r s : State S} {a : Expression} {v x : Result CodedValue Halt} → Reads p r s place a v → Makes (λ w y. (texts : ℕ → List ℕ) → value_of texts y ≡ Truth (not (truth (value_of texts w)))) v x → Reads p r s place (Not a) x
+  not_made {v = Ok v} {x = Ok x} y e = not_goes y e
+  not_made {r = r} {s = s} {a = a} {v = Err h} {x = Err i} y e = subst (λ j. Reads p r s place (Not a) (Err j)) (sym e) (not_stops y)
+  not_made {v = Ok v} {x = Err h} y e = absurd e
+  not_made {v = Err h} {x = Ok x} y e = absurd e
+
   -- a change of sign
-  pub negate_stops : {S : Type 0} {r s : State S} {a : Expression} {h : Halt} → Reads p r s place a (Err h) → Reads p r s place (Negate a) (Err h)
+  negate_stops : {S : Type 0} {r s : State S} {a : Expression} {h : Halt} → Reads p r s place a (Err h) → Reads p r s place (Negate a) (Err h)
   negate_stops {a = a} {h = h} x = stops (Negate a) a h _ refl x
 
-  pub negate_goes : {S : Type 0} {r s : State S} {a : Expression} {v x : CodedValue} → Reads p r s place a (Ok v) → ((texts : ℕ → List ℕ) → value_of texts x ≡ Int (int_wrap w32 (neg_ℤ (int (value_of texts v))))) → Reads p r s place (Negate a) (Ok x)
+  negate_goes : {S : Type 0} {r s : State S} {a : Expression} {v x : CodedValue} → Reads p r s place a (Ok v) → ((texts : ℕ → List ℕ) → value_of texts x ≡ Int (int_wrap w32 (neg_ℤ (int (value_of texts v))))) → Reads p r s place (Negate a) (Ok x)
   negate_goes {a = a} {v = v} {x = x} y e = ends (Negate a) a v x _ refl y _ refl (e (text_of p)) (plain_coded p x _ (e (text_of p)) refl)
+
+  pub negate_made : {S : Type 0} {r s : State S} {a : Expression} {v x : Result CodedValue Halt} → Reads p r s place a v → Makes (λ w y. (texts : ℕ → List ℕ) → value_of texts y ≡ Int (int_wrap w32 (neg_ℤ (int (value_of texts w))))) v x → Reads p r s place (Negate a) x
+  negate_made {v = Ok v} {x = Ok x} y e = negate_goes y e
+  negate_made {r = r} {s = s} {a = a} {v = Err h} {x = Err i} y e = subst (λ j. Reads p r s place (Negate a) (Err j)) (sym e) (negate_stops y)
+  negate_made {v = Ok v} {x = Err h} y e = absurd e
+  negate_made {v = Err h} {x = Ok x} y e = absurd e
 
   -- a binary operator
   pub binary_stops : {S : Type 0} {r s : State S} {a b : Expression} {h : Halt} {o : Operator} → Reads p r s place a (Err h) → Reads p r s place (Binary o a b) (Err h)
   binary_stops {a = a} {b = b} {h = h} {o = o} x = stops (Binary o a b) a h _ refl x
 
-  pub binary_stops_right : {S : Type 0} {r m s : State S} {a b : Expression} {v : CodedValue} {h : Halt} {o : Operator} → Reads p r m place a (Ok v) → Reads p m s place b (Err h) → Reads p r s place (Binary o a b) (Err h)
+  binary_stops_right : {S : Type 0} {r m s : State S} {a b : Expression} {v : CodedValue} {h : Halt} {o : Operator} → Reads p r m place a (Ok v) → Reads p m s place b (Err h) → Reads p r s place (Binary o a b) (Err h)
   binary_stops_right {a = a} {b = b} {v = v} {h = h} {o = o} x y = goes (Binary o a b) a v (Err h) _ refl x y.kept (second_stops b h _ y)
 
-  pub binary_goes : {S : Type 0} {r m s : State S} {a b : Expression} {v w x : CodedValue} {o : Operator} → Reads p r m place a (Ok v) → Reads p m s place b (Ok w) → value_of (text_of p) x ≡ operate o (value_of (text_of p) v) (value_of (text_of p) w)
+  binary_goes : {S : Type 0} {r m s : State S} {a b : Expression} {v w x : CodedValue} {o : Operator} → Reads p r m place a (Ok v) → Reads p m s place b (Ok w) → value_of (text_of p) x ≡ operate o (value_of (text_of p) v) (value_of (text_of p) w)
       → Reads p r s place (Binary o a b) (Ok x)
   binary_goes {a = a} {b = b} {v = v} {w = w} {x = x} {o = o} y z e = goes (Binary o a b) a v (Ok x) _ refl y z.kept (second_goes b w x _ z _ refl e (plain_coded p x _ e (operate_plain o _ _)))
+
+  pub binary_made : {S : Type 0} {r m s : State S} {a b : Expression} {o : Operator} {v : CodedValue} {w x : Result CodedValue Halt} → Reads p r m place a (Ok v) → Reads p m s place b w → Makes (λ u y. value_of (text_of p) y ≡ operate o (value_of (text_of p) v) (value_of (text_of p) u)) w x → Reads p r s place (Binary o a b) x
+  binary_made {w = Ok w} {x = Ok x} y z e = binary_goes y z e
+  binary_made {r = r} {s = s} {a = a} {b = b} {o = o} {w = Err h} {x = Err i} y z e = subst (λ j. Reads p r s place (Binary o a b) (Err j)) (sym e) (binary_stops_right y z)
+  binary_made {w = Ok w} {x = Err i} y z e = absurd e
+  binary_made {w = Err h} {x = Ok x} y z e = absurd e
 
   -- `&&`
   pub and_stops : {S : Type 0} {r s : State S} {a b : Expression} {h : Halt} → Reads p r s place a (Err h) → Reads p r s place (And a b) (Err h)
   and_stops {a = a} {b = b} {h = h} x = stops (And a b) a h _ refl x
 
   -- `&&` that ends on the left
-  pub and_ends : {S : Type 0} {r s : State S} {a b : Expression} {v : CodedValue} {d : Bool} → Reads p r s place a (Ok v) → ReadsTruth d v → d ≡ false → Reads p r s place (And a b) (Ok (coded.Truth d))
-  and_ends {s = s} {a = a} {b = b} {v = v} {d = d} x e f =
-      goes (And a b) a v (Ok (coded.Truth d)) _ refl x (advances_self x.kept.sound) (tested p s.told false (truth (value_of (text_of p) v)) _ _ (Ok (coded.Truth d)) (sym (e (text_of p)) ∙ f) (gives_value (ap Truth f) tt))
+  pub and_ends : {S : Type 0} {r s : State S} {a b : Expression} {v : CodedValue} {d : Bool} → Reads p r s place a (Ok v) → ReadsTruth d v → d ≡ false → Reads p r s place (And a b) (Ok (coded.Truth false))
+  and_ends {s = s} {a = a} {b = b} {v = v} x e f =
+      goes (And a b) a v (Ok (coded.Truth false)) _ refl x (advances_self x.kept.sound) (tested p s.told false (truth (value_of (text_of p) v)) _ _ (Ok (coded.Truth false)) (sym (e (text_of p)) ∙ f) (gives_value refl tt))
 
   -- `&&` that is stuck on the right
-  pub and_stops_right : {S : Type 0} {r m s : State S} {a b : Expression} {v : CodedValue} {h : Halt} {d : Bool} → Reads p r m place a (Ok v) → ReadsTruth d v → d ≡ true → Reads p m s place b (Err h) → Reads p r s place (And a b) (Err h)
+  and_stops_right : {S : Type 0} {r m s : State S} {a b : Expression} {v : CodedValue} {h : Halt} {d : Bool} → Reads p r m place a (Ok v) → ReadsTruth d v → d ≡ true → Reads p m s place b (Err h) → Reads p r s place (And a b) (Err h)
   and_stops_right {s = s} {a = a} {b = b} {v = v} {h = h} {d = d} x e f y =
       goes (And a b) a v (Err h) _ refl x y.kept (tested p s.told true (truth (value_of (text_of p) v)) _ _ (Err h) (sym (e (text_of p)) ∙ f) (second_stops b h _ y))
 
   -- `&&` that ends on the right
-  pub and_goes : {S : Type 0} {r m s : State S} {a b : Expression} {v w : CodedValue} {d t : Bool} → Reads p r m place a (Ok v) → ReadsTruth d v → d ≡ true → Reads p m s place b (Ok w) → ReadsTruth t w → Reads p r s place (And a b) (Ok (coded.Truth t))
-  and_goes {s = s} {a = a} {b = b} {v = v} {w = w} {t = t} x e f y g =
-      goes (And a b) a v (Ok (coded.Truth t)) _ refl x y.kept
-      (tested p s.told true (truth (value_of (text_of p) v)) _ _ (Ok (coded.Truth t)) (sym (e (text_of p)) ∙ f) (second_goes b w (coded.Truth t) _ y _ refl (ap Truth (g (text_of p))) tt))
+  pub and_made : {S : Type 0} {r m s : State S} {a b : Expression} {v : CodedValue} {w x : Result CodedValue Halt} {d : Bool} → Reads p r m place a (Ok v) → ReadsTruth d v → d ≡ true → Reads p m s place b w → Makes (λ u y. (texts : ℕ → List ℕ) → value_of texts y ≡ Truth (truth (value_of texts u))) w x
+      → Reads p r s place (And a b) x
+  and_made {s = s} {a = a} {b = b} {v = v} {w = Ok w} {x = Ok x} y e f z g =
+      goes (And a b) a v (Ok x) _ refl y z.kept
+      (tested p s.told true (truth (value_of (text_of p) v)) _ _ (Ok x) (sym (e (text_of p)) ∙ f) (second_goes b w x _ z _ refl (g (text_of p)) (plain_coded p x _ (g (text_of p)) refl)))
+  and_made {r = r} {s = s} {a = a} {b = b} {w = Err h} {x = Err i} y e f z g = subst (λ j. Reads p r s place (And a b) (Err j)) (sym g) (and_stops_right y e f z)
+  and_made {w = Ok w} {x = Err h} y e f z g = absurd g
+  and_made {w = Err h} {x = Ok x} y e f z g = absurd g
 
   -- `||`
   pub or_stops : {S : Type 0} {r s : State S} {a b : Expression} {h : Halt} → Reads p r s place a (Err h) → Reads p r s place (Or a b) (Err h)
   or_stops {a = a} {b = b} {h = h} x = stops (Or a b) a h _ refl x
 
   -- `||` that ends on the left
-  pub or_ends : {S : Type 0} {r s : State S} {a b : Expression} {v : CodedValue} {d : Bool} → Reads p r s place a (Ok v) → ReadsTruth d v → d ≡ true → Reads p r s place (Or a b) (Ok (coded.Truth d))
-  or_ends {s = s} {a = a} {b = b} {v = v} {d = d} x e f =
-      goes (Or a b) a v (Ok (coded.Truth d)) _ refl x (advances_self x.kept.sound) (tested p s.told true (truth (value_of (text_of p) v)) _ _ (Ok (coded.Truth d)) (sym (e (text_of p)) ∙ f) (gives_value (ap Truth f) tt))
+  pub or_ends : {S : Type 0} {r s : State S} {a b : Expression} {v : CodedValue} {d : Bool} → Reads p r s place a (Ok v) → ReadsTruth d v → d ≡ true → Reads p r s place (Or a b) (Ok (coded.Truth true))
+  or_ends {s = s} {a = a} {b = b} {v = v} x e f =
+      goes (Or a b) a v (Ok (coded.Truth true)) _ refl x (advances_self x.kept.sound) (tested p s.told true (truth (value_of (text_of p) v)) _ _ (Ok (coded.Truth true)) (sym (e (text_of p)) ∙ f) (gives_value refl tt))
 
   -- `||` that is stuck on the right
-  pub or_stops_right : {S : Type 0} {r m s : State S} {a b : Expression} {v : CodedValue} {h : Halt} {d : Bool} → Reads p r m place a (Ok v) → ReadsTruth d v → d ≡ false → Reads p m s place b (Err h) → Reads p r s place (Or a b) (Err h)
+  or_stops_right : {S : Type 0} {r m s : State S} {a b : Expression} {v : CodedValue} {h : Halt} {d : Bool} → Reads p r m place a (Ok v) → ReadsTruth d v → d ≡ false → Reads p m s place b (Err h) → Reads p r s place (Or a b) (Err h)
   or_stops_right {s = s} {a = a} {b = b} {v = v} {h = h} {d = d} x e f y =
       goes (Or a b) a v (Err h) _ refl x y.kept (tested p s.told false (truth (value_of (text_of p) v)) _ _ (Err h) (sym (e (text_of p)) ∙ f) (second_stops b h _ y))
 
   -- `||` that ends on the right
-  pub or_goes : {S : Type 0} {r m s : State S} {a b : Expression} {v w : CodedValue} {d t : Bool} → Reads p r m place a (Ok v) → ReadsTruth d v → d ≡ false → Reads p m s place b (Ok w) → ReadsTruth t w → Reads p r s place (Or a b) (Ok (coded.Truth t))
-  or_goes {s = s} {a = a} {b = b} {v = v} {w = w} {t = t} x e f y g =
-      goes (Or a b) a v (Ok (coded.Truth t)) _ refl x y.kept
-      (tested p s.told false (truth (value_of (text_of p) v)) _ _ (Ok (coded.Truth t)) (sym (e (text_of p)) ∙ f) (second_goes b w (coded.Truth t) _ y _ refl (ap Truth (g (text_of p))) tt))
+  pub or_made : {S : Type 0} {r m s : State S} {a b : Expression} {v : CodedValue} {w x : Result CodedValue Halt} {d : Bool} → Reads p r m place a (Ok v) → ReadsTruth d v → d ≡ false → Reads p m s place b w → Makes (λ u y. (texts : ℕ → List ℕ) → value_of texts y ≡ Truth (truth (value_of texts u))) w x
+      → Reads p r s place (Or a b) x
+  or_made {s = s} {a = a} {b = b} {v = v} {w = Ok w} {x = Ok x} y e f z g =
+      goes (Or a b) a v (Ok x) _ refl y z.kept
+      (tested p s.told false (truth (value_of (text_of p) v)) _ _ (Ok x) (sym (e (text_of p)) ∙ f) (second_goes b w x _ z _ refl (g (text_of p)) (plain_coded p x _ (g (text_of p)) refl)))
+  or_made {r = r} {s = s} {a = a} {b = b} {w = Err h} {x = Err i} y e f z g = subst (λ j. Reads p r s place (Or a b) (Err j)) (sym g) (or_stops_right y e f z)
+  or_made {w = Ok w} {x = Err h} y e f z g = absurd g
+  or_made {w = Err h} {x = Ok x} y e f z g = absurd g
 
   -- `||` of which both sides are evaluated
   pub or_both_stops : {S : Type 0} {r s : State S} {a b : Expression} {h : Halt} → Reads p r s place a (Err h) → Reads p r s place (OrBoth a b) (Err h)
   or_both_stops {a = a} {b = b} {h = h} x = stops (OrBoth a b) a h _ refl x
 
-  pub or_both_stops_right : {S : Type 0} {r m s : State S} {a b : Expression} {v : CodedValue} {h : Halt} → Reads p r m place a (Ok v) → Reads p m s place b (Err h) → Reads p r s place (OrBoth a b) (Err h)
+  or_both_stops_right : {S : Type 0} {r m s : State S} {a b : Expression} {v : CodedValue} {h : Halt} → Reads p r m place a (Ok v) → Reads p m s place b (Err h) → Reads p r s place (OrBoth a b) (Err h)
   or_both_stops_right {a = a} {b = b} {v = v} {h = h} x y = goes (OrBoth a b) a v (Err h) _ refl x y.kept (second_stops b h _ y)
 
-  pub or_both_goes : {S : Type 0} {r m s : State S} {a b : Expression} {v w x : CodedValue} → Reads p r m place a (Ok v) → Reads p m s place b (Ok w) → ((texts : ℕ → List ℕ) → value_of texts x ≡ Truth (truth (value_of texts v) || truth (value_of texts w)))
-      → Reads p r s place (OrBoth a b) (Ok x)
-  or_both_goes {a = a} {b = b} {v = v} {w = w} {x = x} y z e = goes (OrBoth a b) a v (Ok x) _ refl y z.kept (second_goes b w x _ z _ refl (e (text_of p)) (plain_coded p x _ (e (text_of p)) refl))
+  pub or_both_made : {S : Type 0} {r m s : State S} {a b : Expression} {v : CodedValue} {w x : Result CodedValue Halt} {d : Bool} → Reads p r m place a (Ok v) → ReadsTruth d v → Reads p m s place b w → Makes (λ u y. (texts : ℕ → List ℕ) → value_of texts y ≡ Truth (d || truth (value_of texts u))) w x
+      → Reads p r s place (OrBoth a b) x
+  or_both_made {a = a} {b = b} {v = v} {w = Ok w} {x = Ok x} y e z g =
+      let is : value_of (text_of p) x ≡ Truth (truth (value_of (text_of p) v) || truth (value_of (text_of p) w)) = g (text_of p) ∙ ap (λ t. Truth (t || truth (value_of (text_of p) w))) (e (text_of p)) in
+      goes (OrBoth a b) a v (Ok x) _ refl y z.kept (second_goes b w x _ z _ refl is (plain_coded p x _ is refl))
+  or_both_made {r = r} {s = s} {a = a} {b = b} {w = Err h} {x = Err i} y e z g = subst (λ j. Reads p r s place (OrBoth a b) (Err j)) (sym g) (or_both_stops_right y z)
+  or_both_made {w = Ok w} {x = Err h} y e z g = absurd g
+  or_both_made {w = Err h} {x = Ok x} y e z g = absurd g
 
   -- a choice
   pub if_stops : {S : Type 0} {r s : State S} {c a b : Expression} {here : Option TextPlace} {h : Halt} → Reads p r s place c (Err h) → Reads p r s place (If c a here b) (Err h)
@@ -316,44 +389,63 @@ module _ {p : Program} {place : Place} where
   pub sets_stops : {S : Type 0} {r s : State S} {a b : Expression} {h : Halt} {o : SetOperator} {t : Kind} → Reads p r s place a (Err h) → Reads p r s place (Sets o t a b) (Err h)
   sets_stops {a = a} {b = b} {h = h} {o = o} {t = t} x = stops (Sets o t a b) a h _ refl x
 
-  pub sets_stops_right : {S : Type 0} {r m s : State S} {a b : Expression} {v : CodedValue} {h : Halt} {o : SetOperator} {t : Kind} → Reads p r m place a (Ok v) → Reads p m s place b (Err h) → Reads p r s place (Sets o t a b) (Err h)
+  sets_stops_right : {S : Type 0} {r m s : State S} {a b : Expression} {v : CodedValue} {h : Halt} {o : SetOperator} {t : Kind} → Reads p r m place a (Ok v) → Reads p m s place b (Err h) → Reads p r s place (Sets o t a b) (Err h)
   sets_stops_right {a = a} {b = b} {v = v} {h = h} {o = o} {t = t} x y = goes (Sets o t a b) a v (Err h) _ refl x y.kept (second_stops b h _ y)
 
-  pub sets_goes : {S : Type 0} {r m s : State S} {a b : Expression} {v w x : CodedValue} {o : SetOperator} {t : Kind} → Reads p r m place a (Ok v) → Reads p m s place b (Ok w) → value_of (text_of p) x ≡ set_operate o t (value_of (text_of p) v) (value_of (text_of p) w) → AreElements p x
+  sets_goes : {S : Type 0} {r m s : State S} {a b : Expression} {v w x : CodedValue} {o : SetOperator} {t : Kind} → Reads p r m place a (Ok v) → Reads p m s place b (Ok w) → value_of (text_of p) x ≡ set_operate o t (value_of (text_of p) v) (value_of (text_of p) w) → AreElements p x
       → Reads p r s place (Sets o t a b) (Ok x)
   sets_goes {a = a} {b = b} {v = v} {w = w} {x = x} {o = o} {t = t} y z e good = goes (Sets o t a b) a v (Ok x) _ refl y z.kept (second_goes b w x _ z _ refl e good)
 
+  pub sets_made : {S : Type 0} {r m s : State S} {a b : Expression} {o : SetOperator} {t : Kind} {v : CodedValue} {w x : Result CodedValue Halt} → Reads p r m place a (Ok v) → Reads p m s place b w → MakesRoom (λ u y. (value_of (text_of p) y ≡ set_operate o t (value_of (text_of p) v) (value_of (text_of p) u)) × AreElements p y) w x → Reads p r s place (Sets o t a b) x
+  sets_made {w = Ok w} {x = Ok x} y z e = sets_goes y z e.0 e.1
+  sets_made {r = r} {s = s} {a = a} {b = b} {o = o} {t = t} {w = Err h} {x = Err i} y z e = subst (λ j. Reads p r s place (Sets o t a b) (Err j)) (sym e) (sets_stops_right y z)
+  sets_made {r = r} {s = s} {a = a} {b = b} {o = o} {t = t} {w = Ok w} {x = Err i} y z e = subst (λ j. Reads p r s place (Sets o t a b) (Err j)) (sym e) (record { kept = advances_then y.kept z.kept; is = tt })
+  sets_made {w = Err h} {x = Ok x} y z e = absurd e
+
   -- the set of one element
-  pub single_stops : {S : Type 0} {r s : State S} {a : Expression} {h : Halt} → Reads p r s place a (Err h) → Reads p r s place (Single a) (Err h)
+  single_stops : {S : Type 0} {r s : State S} {a : Expression} {h : Halt} → Reads p r s place a (Err h) → Reads p r s place (Single a) (Err h)
   single_stops {a = a} {h = h} x = stops (Single a) a h _ refl x
 
-  pub single_goes : {S : Type 0} {r s : State S} {a : Expression} {v x : CodedValue} → Reads p r s place a (Ok v) → value_of (text_of p) x ≡ single (value_of (text_of p) v) → AreElements p x → Reads p r s place (Single a) (Ok x)
+  single_goes : {S : Type 0} {r s : State S} {a : Expression} {v x : CodedValue} → Reads p r s place a (Ok v) → value_of (text_of p) x ≡ single (value_of (text_of p) v) → AreElements p x → Reads p r s place (Single a) (Ok x)
   single_goes {a = a} {v = v} {x = x} y e good = ends (Single a) a v x _ refl y _ refl e good
+
+  pub single_made : {S : Type 0} {r s : State S} {a : Expression} {v x : Result CodedValue Halt} → Reads p r s place a v → MakesRoom (λ w y. (value_of (text_of p) y ≡ single (value_of (text_of p) w)) × AreElements p y) v x → Reads p r s place (Single a) x
+  single_made {v = Ok v} {x = Ok x} y e = single_goes y e.0 e.1
+  single_made {r = r} {s = s} {a = a} {v = Err h} {x = Err i} y e = subst (λ j. Reads p r s place (Single a) (Err j)) (sym e) (single_stops y)
+  single_made {r = r} {s = s} {a = a} {v = Ok v} {x = Err i} y e = subst (λ j. Reads p r s place (Single a) (Err j)) (sym e) (record { kept = y.kept; is = tt })
+  single_made {v = Err h} {x = Ok x} y e = absurd e
 
   -- whether a set has an element
   pub contains_stops : {S : Type 0} {r s : State S} {a b : Expression} {h : Halt} → Reads p r s place a (Err h) → Reads p r s place (Contains a b) (Err h)
   contains_stops {a = a} {b = b} {h = h} x = stops (Contains a b) a h _ refl x
 
-  pub contains_stops_right : {S : Type 0} {r m s : State S} {a b : Expression} {v : CodedValue} {h : Halt} → Reads p r m place a (Ok v) → Reads p m s place b (Err h) → Reads p r s place (Contains a b) (Err h)
+  contains_stops_right : {S : Type 0} {r m s : State S} {a b : Expression} {v : CodedValue} {h : Halt} → Reads p r m place a (Ok v) → Reads p m s place b (Err h) → Reads p r s place (Contains a b) (Err h)
   contains_stops_right {a = a} {b = b} {v = v} {h = h} x y = goes (Contains a b) a v (Err h) _ refl x y.kept (second_stops b h _ y)
 
-  pub contains_goes : {S : Type 0} {r m s : State S} {a b : Expression} {v w : CodedValue} {d : Bool} → Reads p r m place a (Ok v) → Reads p m s place b (Ok w) → d ≡ contains (value_of (text_of p) v) (value_of (text_of p) w) → Reads p r s place (Contains a b) (Ok (coded.Truth d))
-  contains_goes {a = a} {b = b} {v = v} {w = w} {d = d} y z e = goes (Contains a b) a v (Ok (coded.Truth d)) _ refl y z.kept (second_goes b w (coded.Truth d) _ z _ refl (ap Truth e) tt)
+  contains_goes : {S : Type 0} {r m s : State S} {a b : Expression} {v w x : CodedValue} → Reads p r m place a (Ok v) → Reads p m s place b (Ok w) → value_of (text_of p) x ≡ Truth (contains (value_of (text_of p) v) (value_of (text_of p) w)) → Reads p r s place (Contains a b) (Ok x)
+  contains_goes {a = a} {b = b} {v = v} {w = w} {x = x} y z e = goes (Contains a b) a v (Ok x) _ refl y z.kept (second_goes b w x _ z _ refl e (plain_coded p x _ e refl))
+
+  pub contains_made : {S : Type 0} {r m s : State S} {a b : Expression} {v : CodedValue} {w x : Result CodedValue Halt} → Reads p r m place a (Ok v) → Reads p m s place b w → Makes (λ u y. value_of (text_of p) y ≡ Truth (contains (value_of (text_of p) v) (value_of (text_of p) u))) w x → Reads p r s place (Contains a b) x
+  contains_made {w = Ok w} {x = Ok x} y z e = contains_goes y z e
+  contains_made {r = r} {s = s} {a = a} {b = b} {w = Err h} {x = Err i} y z e = subst (λ j. Reads p r s place (Contains a b) (Err j)) (sym e) (contains_stops_right y z)
+  contains_made {w = Ok w} {x = Err i} y z e = absurd e
+  contains_made {w = Err h} {x = Ok x} y z e = absurd e
 
   -- how many elements a set has
-  pub size_stops : {S : Type 0} {r s : State S} {a : Expression} {h : Halt} → Reads p r s place a (Err h) → Reads p r s place (Size a) (Err h)
+  size_stops : {S : Type 0} {r s : State S} {a : Expression} {h : Halt} → Reads p r s place a (Err h) → Reads p r s place (Size a) (Err h)
   size_stops {a = a} {h = h} x = stops (Size a) a h _ refl x
 
-  pub size_goes : {S : Type 0} {r s : State S} {a : Expression} {v x : CodedValue} {z : ℤ} → Reads p r s place a (Ok v) → z ≡ int_wrap w32 (pos (size_of (value_of (text_of p) v))) → value_of (text_of p) x ≡ Int z → Reads p r s place (Size a) (Ok x)
-  size_goes {a = a} {v = v} {x = x} y e is = ends (Size a) a v x _ refl y _ refl (is ∙ ap Int e) (plain_coded p x _ (is ∙ ap Int e) refl)
-
-  -- where two ways come together
-  pub rejoined : {S : Type 0} {r : State S} {system : System} {e : Expression} {x y : S} {m n : Saved} {b d : Bool} (tells : S → Told S) → y ≡ x → n ≡ m → d ≡ b → Reads p r (state system (tells x) m) place e (Ok (coded.Truth b)) → Reads p r (state system (tells y) n) place e (Ok (coded.Truth d))
-  rejoined {S = S} {r = r} {system = system} {e = e} {x = x} {y = y} {m = m} {d = d} tells same kept is a =
-      let by_value = subst (λ (t : Bool). Reads p r (state system (tells x) m) place e (Ok (coded.Truth t))) (sym is) a in
-      let by_reader = subst (λ (z : S). Reads p r (state system (tells z) m) place e (Ok (coded.Truth d))) (sym same) by_value in
-      subst (λ (z : Saved). Reads p r (state system (tells y) z) place e (Ok (coded.Truth d))) (sym kept) by_reader
+  size_goes : {S : Type 0} {r s : State S} {a : Expression} {v x : CodedValue} → Reads p r s place a (Ok v) → value_of (text_of p) x ≡ Int (int_wrap w32 (pos (size_of (value_of (text_of p) v)))) → Reads p r s place (Size a) (Ok x)
+  size_goes {a = a} {v = v} {x = x} y e = ends (Size a) a v x _ refl y _ refl e (plain_coded p x _ e refl)
 
   -- the set without elements
   pub empty_goes : {S : Type 0} {r : State S} {cs : List ℕ} → IsReady p r → cs ≡ [] → Reads p r r place Empty (Ok (coded.Nodes cs))
   empty_goes {r = r} sound none = subst (λ ds. Reads p r r place Empty (Ok (coded.Nodes ds))) (sym none) (leaf (Nodes no_elements) sound refl refl (λ k d h. absurd (omega (arith, h))))
+
+-- how many elements a set has, which is said for every system
+pub size_made : {S : Type 0} (system : System) {place : Place} {r s : State S} {a : Expression} {v x : Result CodedValue Halt} → Reads (program_of system) r s place a v
+    → Makes (λ w y. (k : System) → AreElements (program_of k) w → value_of (text_of (program_of k)) y ≡ Int (int_wrap w32 (pos (size_of (value_of (text_of (program_of k)) w))))) v x → Reads (program_of system) r s place (Size a) x
+size_made system {v = Ok v} {x = Ok x} y e = size_goes y (e system y.is.coded)
+size_made system {place = place} {r = r} {s = s} {a = a} {v = Err h} {x = Err i} y e = subst (λ j. Reads (program_of system) r s place (Size a) (Err j)) (sym e) (size_stops y)
+size_made system {v = Ok v} {x = Err i} y e = absurd e
+size_made system {v = Err h} {x = Ok x} y e = absurd e

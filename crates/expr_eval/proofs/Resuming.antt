@@ -28,9 +28,9 @@ use Rattle.expr_eval.specs.declared.saved.Making.{Making}
 use Rattle.expr_eval.specs.declared.saved.Saved.{Saved}
 use Rattle.expr_eval.specs.declared.saved.Stand.{Stand}
 use Rattle.expr_eval.specs.Elements.{Rooms, element_in, elements_in, read_with}
-use Rattle.expr_eval.specs.Evaluating.{Answers, Given, Stopped, is_over_form, place_in, place_kept, read_at, texts_in}
-use Rattle.expr_eval.specs.Reads.{Advances, GoesOver, IsStood, Reads, ReadsRange, State, state}
-use Rattle.expr_eval.specs.Saved.{AreSaved, HasGone, IsGoing, IsRanged, IsTaken, Loses, Stands, begun, body_of, done, made, making_of, over, range_of, ranged}
+use Rattle.expr_eval.specs.Evaluating.{Answers, Given, Makes, MakesRoom, Stopped, is_over_form, place_in, place_kept, read_at, texts_in}
+use Rattle.expr_eval.specs.Reads.{Advances, GoesOver, IsStood, Reads, ReadsRange, ReadsStand, State, state}
+use Rattle.expr_eval.specs.Saved.{AreSaved, HasGone, IsFirst, IsGoing, IsRanged, IsTaken, Loses, Stands, begun, body_of, done, made, making_of, over, range_of, ranged}
 use Rattle.expr_eval.proofs.Forms.{advances_then, behind_value, part_err}
 use Rattle.expr_eval.proofs.Growing.{stands_more}
 use Rattle.expr_eval.proofs.Over.{done_within, gone_begun, gone_ends, gone_further, gone_halts}
@@ -53,16 +53,26 @@ said_over s place e v = over (making_of e) (ranged (world_of (program_of s)) e v
 
 module _ {S : Type 0} (s : System) {r t : State S} (place : Place) (e : Expression) (form : is_over_form e ≡ true) where
   -- what its elements come from has no value
-  pub range_stops : {h : Halt} → Reads (program_of s) r t place (range_of e) (Err h) → ReadsRange s r t place e (Err h)
+  range_stops : {h : Halt} → Reads (program_of s) r t place (range_of e) (Err h) → ReadsRange s r t place e (Err h)
   range_stops {h} a = record { kept = a.kept; is = subst (λ c. Answers (program_of s) t.told c (Err h)) (sym (over_part (program_of s) place e form)) (part_err (program_of s) t.told (read_at (program_of s) place (range_of e)) (said_over s place e) h a.is) }
 
   -- it has one
-  pub range_goes : {v : CodedValue} {list : Elements} → Reads (program_of s) r t place (range_of e) (Ok v) → elements_in s list ≡ ranged (world_of (program_of s)) e (value_of (text_of (program_of s)) v) → ReadsRange s r t place e (Ok list)
+  range_goes : {v : CodedValue} {list : Elements} → Reads (program_of s) r t place (range_of e) (Ok v) → elements_in s list ≡ ranged (world_of (program_of s)) e (value_of (text_of (program_of s)) v) → ReadsRange s r t place e (Ok list)
   range_goes {v} a are = record { kept = a.kept; is = record { value = value_of (text_of (program_of s)) v; demands = a.is.demands; ends = a.is.ends; are = are } }
 
-  -- there is not enough memory
-  pub range_short : {res : Result Elements Halt} → Advances (program_of s) r t → IsErr res × IsErrAnd res (λ m. m ≡ Memory) → ReadsRange s r t place e res
-  range_short kept f = handed (ReadsRange s r t place e) f (record { kept = kept; is = tt })
+  -- by the answer to it
+  pub range_made : {v : Result CodedValue Halt} {list : Result Elements Halt} → Reads (program_of s) r t place (range_of e) v → Makes (λ w all. elements_in s all ≡ ranged (world_of (program_of s)) e (value_of (text_of (program_of s)) w)) v list → ReadsRange s r t place e list
+  range_made {v = Ok v} {list = Ok list} a are = range_goes a are
+  range_made {v = Ok v} {list = Err k} a are = absurd are
+  range_made {v = Err h} {list = Ok list} a are = absurd are
+  range_made {v = Err h} {list = Err k} a same = subst (λ j. ReadsRange s r t place e (Err j)) (sym same) (range_stops a)
+
+  -- or there is not enough memory
+  pub range_collected : {v : Result CodedValue Halt} {list : Result Elements Halt} → Reads (program_of s) r t place (range_of e) v → MakesRoom (λ w all. elements_in s all ≡ ranged (world_of (program_of s)) e (value_of (text_of (program_of s)) w)) v list → ReadsRange s r t place e list
+  range_collected {v = Ok v} {list = Ok list} a are = range_goes a are
+  range_collected {v = Ok v} {list = Err k} a none = subst (λ j. ReadsRange s r t place e (Err j)) (sym none) (record { kept = a.kept; is = tt })
+  range_collected {v = Err h} {list = Ok list} a are = absurd are
+  range_collected {v = Err h} {list = Err k} a same = subst (λ j. ReadsRange s r t place e (Err j)) (sym same) (range_stops a)
 
   -- all elements are done with
   pub over_ends : (x : CodedValue) {list : Elements} {stand : Stand} → Advances (program_of s) r t → IsRanged s t.told.has place e list → Stands s t.told.has place (making_of e) (body_of e) list stand → stand.next ≡ list.count → value_of (text_of (program_of s)) x ≡ value_of (text_of (program_of s)) stand.so_far → AreElements (program_of s) x → Reads (program_of s) r t place e (Ok x)
@@ -126,6 +136,24 @@ stands_begun {s} {A} {place} {m} {b} {list} stand none value coded =
       within = subst (λ n. n ≤ list.count) (sym none) (omega arith);
       coded = coded;
     }
+
+pub first_stood : (c : Context) (e : Expression) (list : Result Elements Halt) (all : Elements) (stand : Stand) → list ≡ Ok all → IsFirst c e stand → MakesRoom (λ (x : Elements) (stood : Elements × Stand). (stood.0 ≡ x) × IsFirst c e stood.1) list (Ok (all, stand))
+first_stood c e list all stand same first = subst (λ (l : Result Elements Halt). MakesRoom (λ (x : Elements) (stood : Elements × Stand). (stood.0 ≡ x) × IsFirst c e stood.1) l (Ok (all, stand))) (sym same) (refl, first)
+
+-- its elements are known, and it stands before the first of them
+pub stood_first : {S : Type 0} (c : Context) (e : Expression) {r t : State S} {list : Result Elements Halt} {res : Result (Elements × Stand) Halt} → ReadsRange c.system.now r t (place_in c) e list → MakesRoom (λ all stood. (stood.0 ≡ all) × IsFirst c e stood.1) list res
+    → ReadsStand c.system.now r t (place_in c) c.names.now (making_of e) e (body_of e) res
+stood_first c e {t = t} {list = Ok all} {res = Ok (l, stand)} a h = record {
+  kept = a.kept;
+  is = record {
+    room = h.1.room;
+    ranged = subst (λ x. IsRanged c.system.now t.told.has (place_in c) e x) (sym h.0) a.is;
+    stands = stands_begun stand h.1.next h.1.so_far h.1.coded;
+  };
+}
+stood_first c e {r = r} {t = t} {list = Ok all} {res = Err k} a none = subst (λ j. ReadsStand c.system.now r t (place_in c) c.names.now (making_of e) e (body_of e) (Err j)) (sym none) (record { kept = a.kept; is = tt })
+stood_first c e {list = Err h} {res = Ok stood} a none = absurd none
+stood_first c e {r = r} {t = t} {list = Err h} {res = Err k} a same = subst (λ j. ReadsStand c.system.now r t (place_in c) c.names.now (making_of e) e (body_of e) (Err j)) (sym same) (record { kept = a.kept; is = a.is })
 
 -- the same names stand behind the first
 one_room : {names more all : List CodedSingle} → Rooms names all → Rooms more all → names ≡ more

@@ -47,6 +47,20 @@ Answers p s c (Ok v) = Given p s c v
 Answers p s c (Err (Need i)) = Stopped p s c i
 Answers p s c (Err Memory) = Unit {0}
 
+-- What is made of a value, if there is one; why there is none is handed on.
+abbrev pub Makes : {A T : Type 0} → (A → T → Type 0) → Result A Halt → Result T Halt → Type 0
+Makes P (Ok v) (Ok x) = P v x
+Makes P (Ok v) (Err k) = ⊥
+Makes P (Err h) (Ok x) = ⊥
+Makes P (Err h) (Err k) = k ≡ h
+
+-- the same, where there may not be enough memory for it
+abbrev pub MakesRoom : {A T : Type 0} → (A → T → Type 0) → Result A Halt → Result T Halt → Type 0
+MakesRoom P (Ok v) (Ok x) = P v x
+MakesRoom P (Ok v) (Err k) = k ≡ Memory
+MakesRoom P (Err h) (Ok x) = ⊥
+MakesRoom P (Err h) (Err k) = k ≡ h
+
 -- what is demanded of an expression that is read at a place
 abbrev pub read_at : Program → Place → Expression → Demands Instance Value
 read_at p place e = meaning_of (world_of p) e place

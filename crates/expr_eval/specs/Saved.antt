@@ -92,6 +92,13 @@ pub record Stands (s : System) (A : Instance → Value → Type 0) (place : Plac
   pub within : stand.next ≤ list.count
   pub coded : AreElements (program_of s) stand.so_far
 
+-- a form stands before its first element, with room for one name more
+pub record IsFirst (c : Context) (e : Expression) (stand : Stand) : Type 0 where
+  pub room : Rooms c.names.now stand.names.items
+  pub next : stand.next ≡ 0
+  pub so_far : value_of (texts_in c.system.now) stand.so_far ≡ begun (making_of e)
+  pub coded : AreElements (program_of c.system.now) stand.so_far
+
 -- these are the elements that a form goes over
 pub record IsRanged (s : System) (A : Instance → Value → Type 0) (place : Place) (e : Expression) (list : Elements) : Type 0 where
   pub value : Value

@@ -9,8 +9,9 @@ ghost use Rattle.equation_law.specs.Systems.{program_of};
 ghost use Rattle.equation_law.specs.Codes.{AreElements};
 ghost use Rattle.equation_law.specs.Program.{Program};
 ghost use Rattle.equation_law.specs.Values.{Int, Node, Truth, int, node};
-ghost use Rattle.expr_eval.specs.Evaluating.{texts_in, world_in};
+ghost use Rattle.expr_eval.specs.Evaluating.{Makes, texts_in, world_in};
 
+use crate::evaluation::Halt;
 use ast_grammar::ClassId;
 use attr_rules::Kind;
 use equation_law::{NodeRef, Single, System, Value};
@@ -74,26 +75,47 @@ fn child_of(system: &System, k: u32, receiver: Value) -> NodeRef
 }
 
 /// The child, or the optional child, of a receiver at a component, or null.
-pub(crate) fn child(system: &System, k: u32, receiver: Value) -> Value
-    ensures { value_of (texts_in system.now) result ≡ Node (child_on (world_in system.now) k (node (value_of (texts_in system.now) receiver))) }
+pub(crate) fn child(system: &System, k: u32, receiver: Result<Value, Halt>) -> Result<Value, Halt>
+    ensures { Makes (λ v x. value_of (texts_in system.now) x ≡ Node (child_on (world_in system.now) k (node (value_of (texts_in system.now) v)))) receiver result }
 {
-    Value::Node(child_of(system, k, receiver))
+    match receiver {
+        Ok(receiver) => Ok(Value::Node(child_of(system, k, receiver))),
+        Err(halt) => Err(halt),
+    }
 }
 
 /// Whether a receiver has a child at a component; null has none.
-pub(crate) fn has(system: &System, k: u32, receiver: Value) -> Value
-    ensures { value_of (texts_in system.now) result ≡ Truth (is_there (child_on (world_in system.now) k (node (value_of (texts_in system.now) receiver)))) }
+pub(crate) fn has(system: &System, k: u32, receiver: Result<Value, Halt>) -> Result<Value, Halt>
+    ensures { Makes (λ v x. value_of (texts_in system.now) x ≡ Truth (is_there (child_on (world_in system.now) k (node (value_of (texts_in system.now) v))))) receiver result }
 {
-    Value::Truth(child_of(system, k, receiver).source().is_some())
+    match receiver {
+        Ok(receiver) => Ok(Value::Truth(child_of(system, k, receiver).source().is_some())),
+        Err(halt) => Err(halt),
+    }
 }
 
 /// The element of a receiver's list at a place, or null where the list doesn't have that place.
-pub(crate) fn element(system: &System, k: u32, receiver: Value, place: Value) -> Value
+fn element_of(system: &System, k: u32, receiver: Value, place: Value) -> Value
     ensures { value_of (texts_in system.now) result ≡ Node (element_on (world_in system.now) k (node (value_of (texts_in system.now) receiver)) (int (value_of (texts_in system.now) place))) }
 {
     match (receiver.node().source(), u32::try_from(place.int())) {
         (Some(node), Ok(place)) => Value::Node(child_at(system.tree(), node, k, place)),
         _ => Value::Node(NodeRef(0)),
+    }
+}
+
+/// The same, where the place may have no value.
+pub(crate) fn element(
+    system: &System,
+    k: u32,
+    receiver: Value,
+    place: Result<Value, Halt>,
+) -> Result<Value, Halt>
+    ensures { Makes (λ v x. value_of (texts_in system.now) x ≡ Node (element_on (world_in system.now) k (node (value_of (texts_in system.now) receiver)) (int (value_of (texts_in system.now) v)))) place result }
+{
+    match place {
+        Ok(place) => Ok(element_of(system, k, receiver, place)),
+        Err(halt) => Err(halt),
     }
 }
 
@@ -215,22 +237,43 @@ fn is_of(system: &System, class: ClassId, node: NodeRef) -> bool
     }
 }
 
-/// The receiver where it is of a class or below, or null.
-pub(crate) fn cast(system: &System, class: ClassId, receiver: Value) -> Value
-    ensures { value_of (texts_in system.now) result ≡ Node (cast_to (world_in system.now) class (node (value_of (texts_in system.now) receiver))) }
+/// The node where it is of a class or below, or null.
+fn cast_of(system: &System, class: ClassId, node: NodeRef) -> NodeRef
+    ensures { reference_of result.0 ≡ cast_to (world_in system.now) class (reference_of node.0) }
 {
-    if is_of(system, class, receiver.node()) {
-        Value::Node(receiver.node())
+    if is_of(system, class, node) {
+        node
     } else {
-        Value::Node(NodeRef(0))
+        NodeRef(0)
+    }
+}
+
+/// The receiver where it is of a class or below, or null.
+pub(crate) fn cast(
+    system: &System,
+    class: ClassId,
+    receiver: Result<Value, Halt>,
+) -> Result<Value, Halt>
+    ensures { Makes (λ v x. value_of (texts_in system.now) x ≡ Node (cast_to (world_in system.now) class (node (value_of (texts_in system.now) v)))) receiver result }
+{
+    match receiver {
+        Ok(receiver) => Ok(Value::Node(cast_of(system, class, receiver.node()))),
+        Err(halt) => Err(halt),
     }
 }
 
 /// Whether a receiver is a node of a class or below.
-pub(crate) fn is_instance(system: &System, class: ClassId, receiver: Value) -> Value
-    ensures { value_of (texts_in system.now) result ≡ Truth (is_instance (world_in system.now) class (node (value_of (texts_in system.now) receiver))) }
+pub(crate) fn is_instance(
+    system: &System,
+    class: ClassId,
+    receiver: Result<Value, Halt>,
+) -> Result<Value, Halt>
+    ensures { Makes (λ v x. value_of (texts_in system.now) x ≡ Truth (is_instance (world_in system.now) class (node (value_of (texts_in system.now) v)))) receiver result }
 {
-    Value::Truth(is_of(system, class, receiver.node()))
+    match receiver {
+        Ok(receiver) => Ok(Value::Truth(is_of(system, class, receiver.node()))),
+        Err(halt) => Err(halt),
+    }
 }
 
 /// How many elements a receiver's list has; on null there are none.
@@ -244,10 +287,13 @@ fn count_of(system: &System, k: u32, receiver: Value) -> i32
 }
 
 /// How many elements a receiver's list has, as a value.
-pub(crate) fn count(system: &System, k: u32, receiver: Value) -> Value
-    ensures { value_of (texts_in system.now) result ≡ Int (count_on (world_in system.now) k (node (value_of (texts_in system.now) receiver))) }
+pub(crate) fn count(system: &System, k: u32, receiver: Result<Value, Halt>) -> Result<Value, Halt>
+    ensures { Makes (λ v x. value_of (texts_in system.now) x ≡ Int (count_on (world_in system.now) k (node (value_of (texts_in system.now) v)))) receiver result }
 {
-    Value::Int(count_of(system, k, receiver))
+    match receiver {
+        Ok(receiver) => Ok(Value::Int(count_of(system, k, receiver))),
+        Err(halt) => Err(halt),
+    }
 }
 
 /// The value that a token's code stands for; a missing one is the type's default.
@@ -262,12 +308,28 @@ fn decoded(alloc: Global, kind: Kind, code: Option<u32>) -> Value
 }
 
 /// The token of a receiver at a component, read at a type; on null it is the type's default.
-pub(crate) fn token(alloc: Global, system: &System, kind: Kind, k: u32, receiver: Value) -> Value
+fn token_of(alloc: Global, system: &System, kind: Kind, k: u32, receiver: Value) -> Value
     ensures value { value_of (texts_in system.now) result ≡ token_on (world_in system.now) kind k (node (value_of (texts_in system.now) receiver)) }
     ensures coded { (p : Program) → AreElements p result }
 {
     match receiver.node().source() {
         None => Value::default_of(alloc, kind),
         Some(node) => decoded(alloc, kind, code_at(system.tree(), node, k)),
+    }
+}
+
+/// The same, where the receiver may have no value.
+pub(crate) fn token(
+    alloc: Global,
+    system: &System,
+    kind: Kind,
+    k: u32,
+    receiver: Result<Value, Halt>,
+) -> Result<Value, Halt>
+    ensures { Makes (λ v x. (value_of (texts_in system.now) x ≡ token_on (world_in system.now) kind k (node (value_of (texts_in system.now) v))) × ((p : Program) → AreElements p x)) receiver result }
+{
+    match receiver {
+        Ok(receiver) => Ok(token_of(alloc, system, kind, k, receiver)),
+        Err(halt) => Err(halt),
     }
 }

@@ -1,21 +1,24 @@
 // The meaning of an expression under what a reader has.
-ghost use Rattle.std.specs.Prelude.{◌≡◌, ◌<◌, ℕ, List, [], IfOk, OnOk, cond, length, true};
+ghost use Rattle.std.specs.Prelude.{◌≡◌, ◌<◌, pos, ℕ, List, [], IfOk, OnOk, cond, length, true};
 ghost use Rattle.attr_rules.specs.Expression.{arguments_of, expression_of};
 ghost use Rattle.attr_rules.specs.Types.{parameter_kinds, text_kind};
 ghost use Rattle.equation_law.specs.Codes.{AreCodes, AreElements, IsCode, IsCoded, IsRow, codes_in, instance_of, single_of, value_at, value_of};
 ghost use Rattle.equation_law.specs.Equations.{attribute_kind as kind_of};
-ghost use Rattle.equation_law.specs.Meaning.{named, with_name};
+ghost use Rattle.equation_law.specs.Meaning.{elements_at, named, with_name};
 ghost use Rattle.equation_law.specs.Program.{Program, attribute_parameters};
 ghost use Rattle.equation_law.specs.Reading.{IsSound};
-ghost use Rattle.equation_law.specs.Values.{as_argument, set_operate as set_operated, truth};
+ghost use Rattle.equation_law.specs.Values.{Int, Truth, as_argument, contains as is_in, elements_of, node, set_operate as set_operated, single as set_of, size_of, truth};
+ghost use Rattle.equation_law.specs.declared.system.System.{System as KeptSystem};
+ghost use Rattle.std.specs.Int.{int_wrap};
+ghost use mir.Syntax.{w32};
 ghost use Rattle.equation_law.specs.Systems.{program_of};
-ghost use Rattle.expr_eval.specs.Elements.{Rooms};
-ghost use Rattle.expr_eval.specs.Evaluating.{CallReads, DemandReads, is_accessor, is_operation, is_over_form, is_set_form, place_in, texts_in};
+ghost use Rattle.expr_eval.specs.Elements.{Rooms, elements_in};
+ghost use Rattle.expr_eval.specs.Evaluating.{CallReads, DemandReads, Makes, MakesRoom, is_accessor, is_operation, is_over_form, is_set_form, place_in, texts_in, world_in};
 ghost use Rattle.expr_eval.specs.Reads.{ArgumentsRead, GoesOver, IsReady, Reads, ReadsRange, ReadsStand, state};
-ghost use Rattle.expr_eval.specs.Saved.{Stands, begun as begun_with, body_of, done as done_with, made as made_of, making_of as makes};
+ghost use Rattle.expr_eval.specs.Saved.{IsFirst, Stands, begun as begun_with, body_of, done as done_with, made as made_of, making_of as makes};
 
 use crate::accessors::{Elements, cast, child, count, element, has, is_instance, source, token};
-use crate::operators::{deny, either, is_true, negate, operate};
+use crate::operators::{deny, either, is_true, negate, operate, truth_of};
 use crate::saved::{Making, Saved, Stand, making_of};
 use attr_rules::{AttrId, Kind, Params, Quantifier, SetOperator, TArgs, TExpr};
 use code_sets::Codes;
@@ -36,7 +39,7 @@ pub(crate) struct Context<'a> {
 }
 
 /// Why an expression has no value.
-#[derive(Clone, Copy, Debug, PartialEq, Eq)]
+#[derive(Clone, Copy)]
 pub(crate) enum Halt {
     /// The reader has no value for this instance, which is the first demand of that kind.
     Need(Instance),
@@ -382,6 +385,30 @@ fn go_over<'a, R: Reader>(
     }
 }
 
+/// The list of a receiver at a component.
+fn listed(system: &System, component: u32, receiver: Result<Value, Halt>) -> Result<Elements, Halt>
+    ensures { Makes (λ v all. elements_in system.now all ≡ elements_at (world_in system.now) component (node (value_of (texts_in system.now) v))) receiver result }
+{
+    match receiver {
+        Ok(receiver) => Ok(Elements::of(system, component, receiver)),
+        Err(halt) => Err(halt),
+    }
+}
+
+/// The elements of a set.
+fn collected(context: &Context<'_>, set: Result<Value, Halt>) -> Result<Elements, Halt>
+    requires { IfOk set (AreElements (program_of context.now.system.now)) }
+    ensures { MakesRoom (λ v all. elements_in context.now.system.now all ≡ elements_of (value_of (texts_in context.now.system.now) v)) set result }
+{
+    match set {
+        Ok(set) => match Elements::of_set(context.alloc, context.system, set) {
+            Ok(list) => Ok(list),
+            Err(_) => Err(Halt::Memory),
+        },
+        Err(halt) => Err(halt),
+    }
+}
+
 /// The elements that a form goes over.
 #[cycle(meaning)]
 fn ranged<'a, R: Reader>(
@@ -397,24 +424,43 @@ fn ranged<'a, R: Reader>(
     let system = context.system;
     match form {
         TExpr::Quantified(_, k, receiver, _) => {
-            let receiver = meaning(context, receiver, reader, saved)?;
-            Ok(Elements::of(system, *k, receiver))
+            listed(system, *k, meaning(context, receiver, reader, saved))
         }
         TExpr::Each(_, k, receiver, _) => {
-            let receiver = meaning(context, receiver, reader, saved)?;
-            Ok(Elements::of(system, *k, receiver))
+            listed(system, *k, meaning(context, receiver, reader, saved))
         }
         TExpr::QuantifiedSet(_, set, _) => {
-            let set = meaning(context, set, reader, saved)?;
-            let list = Elements::of_set(context.alloc, system, set)?;
-            Ok(list)
+            collected(context, meaning(context, set, reader, saved))
         }
-        TExpr::EachOfSet(_, set, _) => {
-            let set = meaning(context, set, reader, saved)?;
-            let list = Elements::of_set(context.alloc, system, set)?;
-            Ok(list)
-        }
+        TExpr::EachOfSet(_, set, _) => { collected(context, meaning(context, set, reader, saved)) }
         _ => unreachable!(),
+    }
+}
+
+/// The elements of a form, which stands before the first.
+fn at_first(
+    context: &Context<'_>,
+    form: &TExpr,
+    list: Result<Elements, Halt>,
+) -> Result<(Elements, Stand), Halt>
+    ensures { MakesRoom (λ all stood. (stood.0 ≡ all) × IsFirst context.now (expression_of form.now) stood.1) list result }
+{
+    match list {
+        Ok(list) => match with_room(context) {
+            Ok(names) => {
+                let so_far = begun(context.alloc, making_of(form));
+                Ok((
+                    list,
+                    Stand {
+                        names,
+                        next: 0,
+                        so_far,
+                    },
+                ))
+            }
+            Err(_) => Err(Halt::Memory),
+        },
+        Err(halt) => Err(halt),
     }
 }
 
@@ -430,16 +476,10 @@ fn standing<'a, R: Reader>(
     requires form { is_over_form (expression_of form.now) ≡ true }
     ensures { ReadsStand context.now.system.now (state context.now.system.now (R.tells reader.old) saved.old) (state context.now.system.now (R.tells reader.new) saved.new) (place_in context.now) context.now.names.now (makes (expression_of form.now)) (expression_of form.now) (body_of (expression_of form.now)) result }
 {
-    if let Some(found) = saved.take(context, form) {
-        return Ok(found);
+    match saved.take(context, form) {
+        Some(found) => Ok(found),
+        None => at_first(context, form, ranged(context, form, reader, saved)),
     }
-    let list = ranged(context, form, reader, saved)?;
-    let stand = Stand {
-        names: with_room(context)?,
-        next: 0,
-        so_far: begun(context.alloc, making_of(form)),
-    };
-    Ok((list, stand))
 }
 
 /// The value of a form over elements, which goes on where it stood. Where it stands then is saved.
@@ -483,34 +523,91 @@ fn operation<'a, R: Reader>(
 {
     let system = context.system;
     match expression {
-        TExpr::Not(operand) => Ok(deny(meaning(context, operand, reader, saved)?)),
-        TExpr::Negate(operand) => Ok(negate(meaning(context, operand, reader, saved)?)),
+        TExpr::Not(operand) => deny(meaning(context, operand, reader, saved)),
+        TExpr::Negate(operand) => negate(meaning(context, operand, reader, saved)),
         TExpr::Binary(operator, left, right) => {
             let left = meaning(context, left, reader, saved)?;
-            Ok(operate(
-                system,
-                *operator,
-                left,
-                meaning(context, right, reader, saved)?,
-            ))
+            let right = meaning(context, right, reader, saved);
+            operate(system, *operator, left, right)
         }
-        TExpr::And(left, right) => Ok(Value::Truth(
-            is_true(meaning(context, left, reader, saved)?)
-                && is_true(meaning(context, right, reader, saved)?),
-        )),
-        TExpr::Or(left, right) => Ok(Value::Truth(
-            is_true(meaning(context, left, reader, saved)?)
-                || is_true(meaning(context, right, reader, saved)?),
-        )),
+        TExpr::And(left, right) => {
+            if is_true(meaning(context, left, reader, saved)?) {
+                truth_of(meaning(context, right, reader, saved))
+            } else {
+                Ok(Value::Truth(false))
+            }
+        }
+        TExpr::Or(left, right) => {
+            if is_true(meaning(context, left, reader, saved)?) {
+                Ok(Value::Truth(true))
+            } else {
+                truth_of(meaning(context, right, reader, saved))
+            }
+        }
         TExpr::OrBoth(left, right) => {
-            let left = meaning(context, left, reader, saved)?;
-            Ok(either(&left, &meaning(context, right, reader, saved)?))
+            let left = is_true(meaning(context, left, reader, saved)?);
+            either(left, meaning(context, right, reader, saved))
         }
         TExpr::If(condition, then, _, otherwise) => {
             let holds = is_true(meaning(context, condition, reader, saved)?);
             meaning(context, if holds { then } else { otherwise }, reader, saved)
         }
         _ => set_form(context, expression, reader, saved),
+    }
+}
+
+/// What is made of two sets, of which the right one may have no value.
+fn joined(
+    context: &Context<'_>,
+    operator: SetOperator,
+    kind: Kind,
+    left: Value,
+    right: Result<Value, Halt>,
+) -> Result<Value, Halt>
+    requires left { AreElements (program_of context.now.system.now) left }
+    requires right { IfOk right (AreElements (program_of context.now.system.now)) }
+    ensures { MakesRoom (λ v x. (value_of (texts_in context.now.system.now) x ≡ set_operated operator kind (value_of (texts_in context.now.system.now) left) (value_of (texts_in context.now.system.now) v)) × AreElements (program_of context.now.system.now) x) right result }
+{
+    match right {
+        Ok(right) => match combined(context, operator, kind, left, right) {
+            Ok(made) => Ok(made),
+            Err(_) => Err(Halt::Memory),
+        },
+        Err(halt) => Err(halt),
+    }
+}
+
+/// The set of one element.
+fn single(context: &Context<'_>, element: Result<Value, Halt>) -> Result<Value, Halt>
+    ensures { MakesRoom (λ v x. (value_of (texts_in context.now.system.now) x ≡ set_of (value_of (texts_in context.now.system.now) v)) × AreElements (program_of context.now.system.now) x) element result }
+{
+    match element {
+        Ok(element) => match single_set(context.alloc, context.system, &element) {
+            Ok(made) => Ok(made),
+            Err(_) => Err(Halt::Memory),
+        },
+        Err(halt) => Err(halt),
+    }
+}
+
+/// Whether a set has an element.
+fn contained(system: &System, set: &Value, element: Result<Value, Halt>) -> Result<Value, Halt>
+    requires { AreElements (program_of system.now) set.now }
+    ensures { Makes (λ v x. value_of (texts_in system.now) x ≡ Truth (is_in (value_of (texts_in system.now) set.now) (value_of (texts_in system.now) v))) element result }
+{
+    match element {
+        Ok(element) => Ok(Value::Truth(contains(system, set, &element))),
+        Err(halt) => Err(halt),
+    }
+}
+
+/// How many elements a set has.
+fn counted(set: Result<Value, Halt>) -> Result<Value, Halt>
+    ensures { Makes (λ v x. (system : KeptSystem) → AreElements (program_of system) v → value_of (texts_in system) x ≡ Int (int_wrap w32 (pos (size_of (value_of (texts_in system) v))))) set result }
+{
+    match set {
+        Ok(set) => Ok(Value::Int(size(&set))),
+        Err(halt) => Err(halt),
     }
 }
 
@@ -531,24 +628,15 @@ fn set_form<'a, R: Reader>(
         TExpr::Empty => Ok(Value::Nodes(Codes::none(context.alloc))),
         TExpr::Sets(operator, kind, left, right) => {
             let left = meaning(context, left, reader, saved)?;
-            let right = meaning(context, right, reader, saved)?;
-            let made = combined(context, *operator, *kind, left, right)?;
-            Ok(made)
+            let right = meaning(context, right, reader, saved);
+            joined(context, *operator, *kind, left, right)
         }
-        TExpr::Single(element) => {
-            let element = meaning(context, element, reader, saved)?;
-            let made = single_set(context.alloc, system, &element)?;
-            Ok(made)
-        }
+        TExpr::Single(element) => single(context, meaning(context, element, reader, saved)),
         TExpr::Contains(set, element) => {
             let set = meaning(context, set, reader, saved)?;
-            let element = meaning(context, element, reader, saved)?;
-            Ok(Value::Truth(contains(system, &set, &element)))
+            contained(system, &set, meaning(context, element, reader, saved))
         }
-        TExpr::Size(set) => {
-            let set = meaning(context, set, reader, saved)?;
-            Ok(Value::Int(size(&set)))
-        }
+        TExpr::Size(set) => counted(meaning(context, set, reader, saved)),
         _ => over_form(context, expression, reader, saved),
     }
 }
@@ -567,39 +655,28 @@ fn accessor<'a, R: Reader>(
 {
     let system = context.system;
     match expression {
-        TExpr::Child(k, receiver) => Ok(child(
-            system,
-            *k,
-            meaning(context, receiver, reader, saved)?,
-        )),
+        TExpr::Child(k, receiver) => {
+            child(system, *k, meaning(context, receiver, reader, saved))
+        }
         TExpr::Element(k, receiver, place) => {
             let receiver = meaning(context, receiver, reader, saved)?;
-            Ok(element(
-                system,
-                *k,
-                receiver,
-                meaning(context, place, reader, saved)?,
-            ))
+            let place = meaning(context, place, reader, saved);
+            element(system, *k, receiver, place)
         }
-        TExpr::Count(k, receiver) => Ok(count(
-            system,
-            *k,
-            meaning(context, receiver, reader, saved)?,
-        )),
-        TExpr::Has(k, receiver) => Ok(has(system, *k, meaning(context, receiver, reader, saved)?)),
-        TExpr::Token(of, k, node) => Ok(token(
-            context.alloc,
-            system,
-            *of,
-            *k,
-            meaning(context, node, reader, saved)?,
-        )),
-        TExpr::Cast(class, operand) => Ok(cast(
-            system,
-            *class,
-            meaning(context, operand, reader, saved)?,
-        )),
-        TExpr::InstanceOf(c, e) => Ok(is_instance(system, *c, meaning(context, e, reader, saved)?)),
+        TExpr::Count(k, receiver) => {
+            count(system, *k, meaning(context, receiver, reader, saved))
+        }
+        TExpr::Has(k, receiver) => has(system, *k, meaning(context, receiver, reader, saved)),
+        TExpr::Token(of, k, node) => {
+            let node = meaning(context, node, reader, saved);
+            token(context.alloc, system, *of, *k, node)
+        }
+        TExpr::Cast(class, operand) => {
+            cast(system, *class, meaning(context, operand, reader, saved))
+        }
+        TExpr::InstanceOf(class, operand) => {
+            is_instance(system, *class, meaning(context, operand, reader, saved))
+        }
         _ => operation(context, expression, reader, saved),
     }
 }

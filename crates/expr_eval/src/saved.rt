@@ -15,7 +15,7 @@ use rag_io::Memory;
 use std::alloc::Global;
 
 /// What a form over elements makes of what is said at them: by a condition, or the union, of a type, of sets.
-#[derive(Clone, Copy, Debug, PartialEq, Eq)]
+#[derive(Clone, Copy)]
 pub(crate) enum Making {
     Tests(Quantifier),
     Joins(Kind),

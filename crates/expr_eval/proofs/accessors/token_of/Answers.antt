@@ -4,7 +4,7 @@ use Rattle.equation_law.specs.Equations.{decoded}
 use Rattle.equation_law.specs.Meaning.{token_at}
 use Rattle.equation_law.proofs.Pooled.{first_text}
 use Rattle.expr_eval.specs.Evaluating.{texts_in, world_in}
-use Rattle.expr_eval.proofs.accessors.token.Goals as goal
+use Rattle.expr_eval.proofs.accessors.token_of.Goals as goal
 
 pub returns-in-None-clause-value : goal.returns-in-None-clause-value
 returns-in-None-clause-value c =
