@@ -130,6 +130,7 @@ module _ (g : List ClassOf) where
   pub record IsHead (before : List Head) (s : Head) : Type 0 where
     pub of : type_broken g s.of ≡ []
     pub class : class_broken g s.class ≡ []
+    pub again : again_broken g before s ≡ []
     pub count : count_broken before s.signature.name ≡ []
     pub start : start_broken g s.sort s.of s.circular ≡ []
     pub other : other_broken g before s ≡ []
@@ -145,7 +146,8 @@ module _ (g : List ClassOf) where
       let last = append_none (other_broken g before s) (all_parameters_broken g None s.signature) rest.1 in
       let of = append_none (type_broken g s.of) (class_broken g s.class ++ named) all.0 in
       let parts = append_none (class_broken g s.class) named of.1 in
-      record { of = of.0; class = parts.0; count = (append_none (again_broken g before s) count parts.1).1; start = rest.0; other = last.0; parameters = last.1 }
+      let alone = append_none (again_broken g before s) count parts.1 in
+      record { of = of.0; class = parts.0; again = alone.0; count = alone.1; start = rest.0; other = last.0; parameters = last.1 }
 
   few_after : (before list : List Head) → each_after (head_broken g) before list ≡ [] → length before ≤ most_attributes → length before + length list ≤ most_attributes
   few_after before [] none le = omega arith

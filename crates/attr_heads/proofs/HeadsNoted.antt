@@ -14,7 +14,7 @@ use Rattle.broken_rules.proofs.Clean.{append_none, each_after_none, not_broken}
 use Rattle.broken_rules.proofs.Noting.{notes_then}
 use Rattle.attr_heads.specs.declared.declared.Declared.{Declared}
 use Rattle.attr_heads.specs.DeclaredNames.{Adds, IsEven, Tells, relates}
-use Rattle.attr_heads.specs.Heads.{again_broken, again_for, are_related, count_broken, head_broken, heads_broken, is_declared, named_broken, other_broken, type_broken}
+use Rattle.attr_heads.specs.Heads.{again_broken, again_for, are_related, count_broken, head_broken, heads_broken, has_declaration, named_broken, other_broken, type_broken}
 use Rattle.attr_scope.specs.Classes.{class_broken}
 use Rattle.attr_heads.specs.Parameters.{all_parameters_broken}
 use Rattle.attr_heads.specs.Starts.{start_broken}
@@ -30,10 +30,10 @@ module _ (g : List Class) (before : List Head) (s : Head) where
   named_noted {r} {count} {z} {a} {b} {c} {d} is long f h k j =
       notes_then f (notes_then h (notes_then (again_at is k) (subst (λ n. Notes (broken_if (n == 1024) (at s.signature.name.place J17)) c d) long j)))
 
-  one_more : (c : ℕ) (q : List ℕ) → is_declared g c q (before ++ s ∷ []) ≡ (is_declared g c q before || (are_related g (class_named g s.class.text) c && bytes_eq s.signature.name.text q))
+  one_more : (c : ℕ) (q : List ℕ) → has_declaration g c q (before ++ s ∷ []) ≡ (has_declaration g c q before || (are_related g (class_named g s.class.text) c && bytes_eq s.signature.name.text q))
   one_more c q =
       let declares = λ (s : Head). are_related g (class_named g s.class.text) c && bytes_eq s.signature.name.text q in
-      list_any-append declares before (s ∷ []) ∙ ap (λ b. is_declared g c q before || b) (or-false (declares s))
+      list_any-append declares before (s ∷ []) ∙ ap (λ b. has_declaration g c q before || b) (or-false (declares s))
 
   -- a class that there is
   turned : (a b : Bool) → (a && b) ≡ (b && a)
@@ -49,7 +49,7 @@ module _ (g : List Class) (before : List Head) (s : Head) where
         even = even;
         tells = λ c q.
             h.adds (relates g c) q ∙ ap (λ b. b || (bytes_eq q s.signature.name.text && relates g c class)) (told.tells c q)
-            ∙ ap (λ b. is_declared g c q before || b)
+            ∙ ap (λ b. has_declaration g c q before || b)
             (turned (bytes_eq q s.signature.name.text) (relates g c class) ∙ ap (λ b. relates g c class && b) (nat_list_eq_equiv.symm q s.signature.name.text) ∙ ap (λ o. are_related g o c && bytes_eq s.signature.name.text q) at)
             ∙ sym (one_more c q);
       }
@@ -61,7 +61,7 @@ module _ (g : List Class) (before : List Head) (s : Head) where
       record {
         even = told.even;
         tells = λ c q.
-            told.tells c q ∙ sym (or-false (is_declared g c q before)) ∙ ap (λ o. is_declared g c q before || (are_related g o c && bytes_eq s.signature.name.text q)) at ∙ sym (one_more c q);
+            told.tells c q ∙ sym (or-false (has_declaration g c q before)) ∙ ap (λ o. has_declaration g c q before || (are_related g o c && bytes_eq s.signature.name.text q)) at ∙ sym (one_more c q);
       }
 
 few_or : (g : List Class) (s : Head) (list : List Head) → heads_broken g (s ∷ list) ≡ [] → 1024 < length (s ∷ list) → ⊥

@@ -5,6 +5,8 @@ pub mod Differing
 pub mod HeadsNoted
 pub mod InheritedNoted
 pub mod KindsKnown
+pub mod OnceDeclared
+pub mod OnceGiven
 pub mod ParametersClean
 pub mod ParametersNoted
 pub mod TargetsClean

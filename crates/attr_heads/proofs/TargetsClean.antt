@@ -5,7 +5,7 @@ use Rattle.std.proofs.lemmas.Bool.{and_parts}
 use Rattle.std.proofs.lemmas.Option.{slice_get_within}
 use Rattle.std.proofs.lemmas.Slice.Eq.{bytes_eq-Decides}
 use Rattle.broken_rules.specs.Notes.{at}
-use Rattle.broken_rules.specs.declared.rule.Rule.TheVariants.{J5, J15}
+use Rattle.broken_rules.specs.declared.rule.Rule.TheVariants.{J5, J6, J15}
 use Rattle.broken_rules.proofs.Clean.{append_none, not_broken}
 use Rattle.ast_grammar.proofs.Inherited.{length-superclasses_of}
 use Rattle.ast_grammar.specs.Grammar.{Class, Component, component_at, component_named, superclasses_of}
@@ -21,7 +21,7 @@ use Rattle.aspect_items.specs.Items.{Signature}
 use Rattle.attr_scope.specs.Classes.{class_broken}
 use Rattle.attr_heads.specs.Parameters.{all_parameters_broken, differ, parameter_names, parameters_broken, path_parameters}
 use Rattle.attr_heads.specs.Paths.{if_for_nodes, node_component, node_component_named, path_broken, reach_broken, reach_named, reach_of}
-use Rattle.attr_heads.specs.Targets.{attribute_for, attribute_given, class_of, differing_broken, differing_from, given_broken, if_own, inherits, lacking_broken, own_attribute, second_broken, target, target_by, target_given, target_of, target_or_first, targets_broken, targets_of, types_declared, unknown_broken}
+use Rattle.attr_heads.specs.Targets.{attribute_for, attribute_given, class_of, differing_broken, differing_from, given_broken, if_own, inherits, is_given, lacking_broken, own_attribute, second_broken, target, target_by, target_given, target_of, target_or_first, targets_broken, targets_of, types_declared, unknown_broken}
 use Rattle.attr_scope.specs.Written.{Given}
 use Rattle.attr_scope.proofs.ClassesFound.{class_there, class_within}
 use Rattle.attr_scope.proofs.ItemsFound.{after_found, all_found, map_found, position_found, some_from, some_there}
@@ -216,6 +216,14 @@ module _ (g : List Class) (attributes : List Attribute) where
         typed = are_typed g (parameter_names (path_parameters e.path)) e.attribute.parameters clean.parameters;
         same = not_broken (differ g (types_declared d) e.attribute.parameters) (at e.attribute.name.place J15) none_differs;
       }
+
+  -- what an equation is for is known, and no equation before is for the same
+  pub given_once : (before : List Given) (e : Given) → given_broken g attributes before e ≡ [] → (target_of g attributes e ≡ Some (target_given g attributes e)) × (is_given g attributes (target_given g attributes e) before ≡ false)
+  given_once before e none =
+      let given = clean_target e (given_parts before e none) in
+      let known : target_of g attributes e ≡ Some (target_given g attributes e) = given.is ∙ ap (λ o. Some (target_or_first o)) (sym given.is) in
+      let second = (append_none (unknown_broken g attributes e) (second_broken g attributes before e.attribute.name (target_of g attributes e)) none).1 in
+      (known, not_broken (is_given g attributes (target_given g attributes e) before) (at e.attribute.name.place J6) (ap (second_broken g attributes before e.attribute.name) (sym known) ∙ second))
 
   -- what an equation is for, is there
   pub given_target : (list : List Given) (i : ℕ) (e : Given) → targets_broken g attributes list ≡ [] → slice_get list i ≡ Some e → IsFound g attributes (target_given g attributes e)

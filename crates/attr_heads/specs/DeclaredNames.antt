@@ -7,7 +7,7 @@ use Rattle.std.specs.declared.alloc.Global.{Global}
 use Rattle.ast_grammar.specs.declared.grammar.ClassId.{ClassId}
 use Rattle.ast_grammar.specs.Grammar.{Class, is_sub}
 use Rattle.attr_heads.specs.declared.declared.Declared.{Declared}
-use Rattle.attr_heads.specs.Heads.{is_declared}
+use Rattle.attr_heads.specs.Heads.{has_declaration}
 use Rattle.attr_scope.specs.Written.{Head}
 
 -- one of the two classes is the other or below it
@@ -40,4 +40,4 @@ pub record Adds (old : Declared) (class : ClassId) (name : List ℕ) (new : Decl
 -- what is kept tells which names the declarations declare
 pub record Tells (g : List Class) (list : List Head) (d : Declared) : Type 0 where
   pub even : IsEven d
-  pub tells : (c : ℕ) (name : List ℕ) → list_any (relates g c) (declaring d name) ≡ is_declared g c name list
+  pub tells : (c : ℕ) (name : List ℕ) → list_any (relates g c) (declaring d name) ≡ has_declaration g c name list

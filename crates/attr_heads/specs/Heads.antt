@@ -27,8 +27,8 @@ are_related g None c = false
 are_related g (Some d) c = is_sub g d c || is_sub g c d
 
 -- one of the declarations is of this name, for the class, a superclass or a subclass
-abbrev pub is_declared : List Class → ℕ → List ℕ → List Head → Bool
-is_declared g c name list = list_any (λ h. are_related g (class_named g h.class.text) c && bytes_eq h.signature.name.text name) list
+abbrev pub has_declaration : List Class → ℕ → List ℕ → List Head → Bool
+has_declaration g c name list = list_any (λ h. are_related g (class_named g h.class.text) c && bytes_eq h.signature.name.text name) list
 
 -- the name is that of an accessor of the class or of a subclass
 abbrev pub is_taken : List Class → ℕ → List ℕ → Bool
@@ -37,7 +37,7 @@ is_taken g c name = list_any (λ d. is_sub g d c && is_spelled g d name) (class_
 -- J3: the attribute is declared a second time, or has an accessor's name
 abbrev pub again_for : List Class → List Head → Name → Option ℕ → List Broken
 again_for g before n None = []
-again_for g before n (Some c) = broken_if (is_declared g c n.text before || is_taken g c n.text) (at n.place J3)
+again_for g before n (Some c) = broken_if (has_declaration g c n.text before || is_taken g c n.text) (at n.place J3)
 
 abbrev pub again_broken : List Class → List Head → Head → List Broken
 again_broken g before h = again_for g before h.signature.name (class_named g h.class.text)

@@ -21,6 +21,7 @@ use Rattle.attr_rules.specs.declared.kinds.Sort.TheVariants.{Syn, Inh, Nta, Coll
 use Rattle.attr_rules.specs.declared.kinds.Start.{Start}
 use Rattle.attr_rules.specs.declared.kinds.Start.TheVariants.{Plain, False, Empty}
 use Rattle.attr_rules.specs.declared.types.ValueType.{ValueType}
+use Rattle.attr_rules.specs.Accessors.{is_spelled}
 use Rattle.attr_rules.specs.Expression.{Expression}
 use Rattle.attr_rules.specs.Rising.{IsRising}
 use Rattle.attr_rules.specs.WellMade.{IsWellMade}
@@ -246,13 +247,17 @@ pub data Uncovered (g : List Class) (r : RuleSet) (a : ℕ) : ℕ → Type 0 whe
   below : {p c : ℕ} (k : ℕ) (x : Component) → Uncovered g r a p → component_at g p k ≡ Some x → is_for_nodes x.shape ≡ true → covering_number r (record { 0 = p }) k a ≡ None
       → IsConcrete g c → is_sub g c x.class.0 ≡ true → Uncovered g r a c
 
--- Rules of a grammar that break nothing: each equation is well typed, each concrete class has an equation for each of its attributes that
--- aren't inherited, the inherited ones of one name are of one type and circular or not alike, and none of them can be met uncovered.
+-- Rules of a grammar that break nothing: each equation is well typed and the only one of its class for its attribute and its reach, each concrete
+-- class has an equation for each of its attributes that aren't inherited, the inherited ones of one name are of one type and circular or not alike,
+-- and none of them can be met uncovered. A name means one thing at a class: one attribute, or accessors.
 pub record AreRules (g : List Class) (r : RuleSet) : Type 0 where
   pub superclasses : r.superclasses ≡ superclasses_of g
   pub few : length r.attributes ≤ most_attributes
   pub attributes : All (IsAttribute g) r.attributes
   pub equations : All (IsEquation g r.attributes) r.equations
+  pub one_equation : (i j : ℕ) (e f : Equation) → slice_get r.equations i ≡ Some e → slice_get r.equations j ≡ Some f → e.target ≡ f.target → i ≡ j
+  pub one_attribute : (a b : ℕ) (x y : Attribute) → slice_get r.attributes a ≡ Some x → slice_get r.attributes b ≡ Some y → x.name ≡ y.name → is_sub g x.declared.class.0 y.declared.class.0 ≡ true → a ≡ b
+  pub no_accessor : (a c : ℕ) (x : Attribute) → slice_get r.attributes a ≡ Some x → c < length g → is_sub g c x.declared.class.0 ≡ true → is_spelled g c x.name ≡ false
   pub complete : (c : ClassId) (a : ℕ) (d : Attr) → IsConcrete g c.0 → attribute_at r a ≡ Some d → is_inherited d.sort ≡ false → is_sub g c.0 d.class.0 ≡ true → IsSome (equation_number r c a)
   pub alike : (a b : ℕ) (d e : Attr) → attribute_at r a ≡ Some d → is_inherited d.sort ≡ true → first_of_name r.attributes a ≡ Some b → attribute_at r b ≡ Some e → (d.kind ≡ e.kind) × (d.params ≡ e.params) × (d.circular ≡ e.circular)
   pub covered : (c : ClassId) (a : ℕ) (d : Attr) → attribute_at r a ≡ Some d → is_inherited d.sort ≡ true → IsConcrete g c.0 → is_sub g c.0 d.class.0 ≡ true → Uncovered g r a c.0 → ⊥
@@ -265,10 +270,15 @@ Rises attributes e = circular_at attributes e.target.attribute.0 ≡ true → Is
 abbrev pub EquationsRise : RuleSet → Type 0
 EquationsRise r = All (Rises r.attributes) r.equations
 
--- the right side of an equation of a circular attribute says which sides of `||` are always evaluated, and where else parts stand
-abbrev pub MadeWell : List Attribute → Equation → Type 0
-MadeWell attributes e = circular_at attributes e.target.attribute.0 ≡ true → IsWellMade (circular_at attributes) e.body
+-- the calls that count in the equation of an attribute: those of circular attributes, where it is circular itself
+abbrev pub counting_calls : List Attribute → ℕ → ℕ → Bool
+counting_calls attributes a b = circular_at attributes a && circular_at attributes b
 
--- the equations of circular attributes do
+-- The right side of an equation says which sides of `||` are always evaluated, and where else parts stand. For an attribute that isn't circular
+-- no `||` always evaluates both.
+abbrev pub MadeWell : List Attribute → Equation → Type 0
+MadeWell attributes e = IsWellMade (counting_calls attributes e.target.attribute.0) e.body
+
+-- all equations do
 abbrev pub EquationsMadeWell : RuleSet → Type 0
 EquationsMadeWell r = All (MadeWell r.attributes) r.equations

@@ -1,5 +1,5 @@
--- Expressions that say what the equation of a circular attribute says: `||` says whether both sides are always evaluated, and a choice where its
--- else part stands.
+-- Expressions that say what an equation says, in which the calls of some attributes count: `||` says whether both sides are always evaluated, and a
+-- choice where its else part stands.
 use Rattle.std.specs.Prelude.{◌≡◌, ℕ, Bool, true, not, ◌&&◌, Option, Some, None}
 use Rattle.rag_io.specs.declared.Place.{Place}
 use Rattle.attr_rules.specs.Expression.{Expression, Arguments, no_more, argument, Truth, Int, Text, Null, Empty, This, Variable, Source, Child, Element, Count, Has, Token, Call, Cast, InstanceOf, Quantified, QuantifiedSet, Each, EachOfSet, Sets, Single, Contains, Size, Not, Negate, Binary, And, Or, OrBoth, If}
@@ -11,8 +11,8 @@ is_placed None b = is_bottom b
 is_placed (Some p) b = true
 
 abbrev mutual
-  -- The left side of each `||` of which the right side may be left out calls no circular attribute, and each else part without a place is the
-  -- literal `false` or `empty`.
+  -- Both sides of a `||` are always evaluated exactly where its left side has a call that counts, and each else part without a place is the literal
+  -- `false` or `empty`.
   pub is_well_made : (ℕ → Bool) → Expression → Bool
   is_well_made circular (Truth b) = true
   is_well_made circular (Int z) = true
@@ -43,7 +43,7 @@ abbrev mutual
   is_well_made circular (Binary o a b) = is_well_made circular a && is_well_made circular b
   is_well_made circular (And a b) = is_well_made circular a && is_well_made circular b
   is_well_made circular (Or a b) = not (has_call circular a) && (is_well_made circular a && is_well_made circular b)
-  is_well_made circular (OrBoth a b) = is_well_made circular a && is_well_made circular b
+  is_well_made circular (OrBoth a b) = has_call circular a && (is_well_made circular a && is_well_made circular b)
   is_well_made circular (If c a at b) = is_placed at b && (is_well_made circular c && (is_well_made circular a && is_well_made circular b))
 
   -- all of some arguments are

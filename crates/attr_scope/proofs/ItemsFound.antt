@@ -1,6 +1,8 @@
 -- Items of lists by their places, and what a test that passes or fails says of them.
-use Rattle.std.proofs.Common.{◌≡◌, ℕ, zero, suc, ◌+◌, ◌<◌, List, [], ◌∷◌, Bool, true, false, ◌||◌, All, Option, Some, None, is_none, option_map, get_or, take, map, position, slice_get, refl, ap, sym, ◌∙◌, subst, arith}
+use Rattle.std.proofs.Common.{◌≡◌, ℕ, zero, suc, ◌+◌, ◌<◌, List, [], ◌∷◌, Bool, true, false, ◌||◌, All, Option, Some, None, is_none, option_map, get_or, nat_lt, take, map, position, slice_get, refl, ap, sym, ◌∙◌, subst, arith}
 use Rattle.std.specs.List.{list_any, range_with_len}
+use Rattle.std.proofs.lemmas.Bool.{ltb-true}
+use Rattle.std.proofs.lemmas.Bool.Decides.{nat_tests}
 use Rattle.std.proofs.lemmas.List.Quantifiers.{position-Some}
 use Rattle.std.proofs.lemmas.Option.{get_or_from_slice_get, slice_get-get_or, slice_get_within}
 use Rattle.broken_rules.specs.declared.broken.Broken.{Broken}
@@ -49,3 +51,25 @@ range_fails p first (suc count) zero e lt =
 range_fails p first (suc count) (suc k) e lt =
     let shifted : (first + 1) + k ≡ first + suc k = omega arith in
     subst (λ n. p n ≡ false) shifted (range_fails p (first + 1) count k (either_false (p first) (list_any p (range_with_len (first + 1) count)) e).1 (omega arith))
+
+-- a test that no item before a place passes, fails on each of them
+pub before_fails : {X : Type 0} (p : X → Bool) (xs : List X) (i j : ℕ) (x : X) → list_any p (take j xs) ≡ false → slice_get xs i ≡ Some x → i < j → p x ≡ false
+before_fails p [] i j x none there lt = absurd (cc)
+before_fails p (y ∷ ys) i zero x none there lt = absurd (omega arith)
+before_fails p (y ∷ ys) zero (suc j) x none there lt =
+    let same : y ≡ x = cc in
+    subst (λ z. p z ≡ false) same (either_false (p y) (list_any p (take j ys)) none).0
+before_fails p (y ∷ ys) (suc i) (suc j) x none there lt = before_fails p ys i j x (either_false (p y) (list_any p (take j ys)) none).1 there (omega arith)
+
+-- places of which none is before the other are the same
+pub same_place : (i j : ℕ) → (i < j → ⊥) → (j < i → ⊥) → i ≡ j
+same_place i j not_before not_after =
+    elim (nat_lt i j) as (λ t. nat_lt i j ≡ t → i ≡ j) [
+      | true ↦ λ lt. absurd (not_before (ltb-true i j lt))
+      | false ↦ λ not_below. (
+          elim (nat_lt j i) as (λ t. nat_lt j i ≡ t → i ≡ j) [
+            | true ↦ λ lt. absurd (not_after (ltb-true j i lt))
+            | false ↦ λ not_above. grind (arith, nat_tests)
+          ] refl
+          )
+    ] refl

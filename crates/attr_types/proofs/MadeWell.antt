@@ -92,7 +92,8 @@ module _ (circular : ℕ → Bool) where
   two a b p q = and_from (is_well_made circular (with_both circular a)) (is_well_made circular (with_both circular b)) p q
 
   either_made : (a b : Expression) (c : Bool) → has_call circular a ≡ c → IsMade a → IsMade b → is_well_made circular (either c (with_both circular a) (with_both circular b)) ≡ true
-  either_made a b true is p q = two a b p q
+  either_made a b true is p q =
+      and_from (has_call circular (with_both circular a)) (is_well_made circular (with_both circular a) && is_well_made circular (with_both circular b)) (calls_kept a ∙ is) (two a b p q)
   either_made a b false is p q =
       and_from (not (has_call circular (with_both circular a))) (is_well_made circular (with_both circular a) && is_well_made circular (with_both circular b)) (ap not (calls_kept a ∙ is)) (two a b p q)
 
@@ -226,9 +227,90 @@ module _ (circular : ℕ → Bool) where
     all_made s read.no_more = refl
     all_made s (read.argument e es) = and_from (is_well_made circular (with_both circular (body_of s e))) (are_well_made circular (all_with_both circular (arguments_said s es))) (made s e) (all_made s es)
 
-  said_made : (s : Scope) (e : Expr) (b : Bool) → b ≡ true → IsWellMade circular (said_where b circular (body_of s e))
-  said_made s e true is = made s e
-  said_made s e false is = absurd (cc)
+-- no call counts
+abbrev none : ℕ → Bool
+none a = false
+
+mutual
+  no_call : (e : Expression) → has_call none e ≡ false
+  no_call (Truth b) = refl
+  no_call (Int z) = refl
+  no_call (Text n) = refl
+  no_call Null = refl
+  no_call Empty = refl
+  no_call This = refl
+  no_call (Variable k) = refl
+  no_call (Source k) = refl
+  no_call (Child k e) = no_call e
+  no_call (Count k e) = no_call e
+  no_call (Has k e) = no_call e
+  no_call (Token t k e) = no_call e
+  no_call (Cast c e) = no_call e
+  no_call (InstanceOf c e) = no_call e
+  no_call (Single e) = no_call e
+  no_call (Size e) = no_call e
+  no_call (Not e) = no_call e
+  no_call (Negate e) = no_call e
+  no_call (Element k a b) = (λ j. no_call a j || no_call b j)
+  no_call (Quantified q k a b) = (λ j. no_call a j || no_call b j)
+  no_call (QuantifiedSet q a b) = (λ j. no_call a j || no_call b j)
+  no_call (Each t k a b) = (λ j. no_call a j || no_call b j)
+  no_call (EachOfSet t a b) = (λ j. no_call a j || no_call b j)
+  no_call (Sets o t a b) = (λ j. no_call a j || no_call b j)
+  no_call (Contains a b) = (λ j. no_call a j || no_call b j)
+  no_call (Binary o a b) = (λ j. no_call a j || no_call b j)
+  no_call (And a b) = (λ j. no_call a j || no_call b j)
+  no_call (Or a b) = (λ j. no_call a j || no_call b j)
+  no_call (OrBoth a b) = (λ j. no_call a j || no_call b j)
+  no_call (Call n at e es) = (λ j. no_call e j || no_calls es j)
+  no_call (If c a at b) = (λ j. no_call c j || (no_call a j || no_call b j))
+
+  no_calls : (es : Arguments) → have_call none es ≡ false
+  no_calls no_more = refl
+  no_calls (argument e es) = (λ j. no_call e j || no_calls es j)
+
+mutual
+  -- where no call counts, an expression stays what it is
+  unchanged : (e : Expression) → with_both none e ≡ e
+  unchanged (Truth b) = refl
+  unchanged (Int z) = refl
+  unchanged (Text n) = refl
+  unchanged Null = refl
+  unchanged Empty = refl
+  unchanged This = refl
+  unchanged (Variable k) = refl
+  unchanged (Source k) = refl
+  unchanged (Child k e) = (λ j. Child k (unchanged e j))
+  unchanged (Count k e) = (λ j. Count k (unchanged e j))
+  unchanged (Has k e) = (λ j. Has k (unchanged e j))
+  unchanged (Token t k e) = (λ j. Token t k (unchanged e j))
+  unchanged (Cast c e) = (λ j. Cast c (unchanged e j))
+  unchanged (InstanceOf c e) = (λ j. InstanceOf c (unchanged e j))
+  unchanged (Single e) = (λ j. Single (unchanged e j))
+  unchanged (Size e) = (λ j. Size (unchanged e j))
+  unchanged (Not e) = (λ j. Not (unchanged e j))
+  unchanged (Negate e) = (λ j. Negate (unchanged e j))
+  unchanged (Element k a b) = (λ j. Element k (unchanged a j) (unchanged b j))
+  unchanged (Quantified q k a b) = (λ j. Quantified q k (unchanged a j) (unchanged b j))
+  unchanged (QuantifiedSet q a b) = (λ j. QuantifiedSet q (unchanged a j) (unchanged b j))
+  unchanged (Each t k a b) = (λ j. Each t k (unchanged a j) (unchanged b j))
+  unchanged (EachOfSet t a b) = (λ j. EachOfSet t (unchanged a j) (unchanged b j))
+  unchanged (Sets o t a b) = (λ j. Sets o t (unchanged a j) (unchanged b j))
+  unchanged (Contains a b) = (λ j. Contains (unchanged a j) (unchanged b j))
+  unchanged (Binary o a b) = (λ j. Binary o (unchanged a j) (unchanged b j))
+  unchanged (And a b) = (λ j. And (unchanged a j) (unchanged b j))
+  unchanged (Or a b) = (λ j. either (no_call a j) (unchanged a j) (unchanged b j))
+  unchanged (OrBoth a b) = (λ j. OrBoth (unchanged a j) (unchanged b j))
+  unchanged (Call n at e es) = (λ j. Call n at (unchanged e j) (all_unchanged es j))
+  unchanged (If c a at b) = (λ j. If (unchanged c j) (unchanged a j) at (unchanged b j))
+
+  all_unchanged : (es : Arguments) → all_with_both none es ≡ es
+  all_unchanged no_more = refl
+  all_unchanged (argument e es) = (λ j. argument (unchanged e j) (all_unchanged es j))
+
+said_made : (circular : ℕ → Bool) (s : Scope) (e : Expr) (b : Bool) → IsWellMade (λ n. b && circular n) (said_where b circular (body_of s e))
+said_made circular s e true = made circular s e
+said_made circular s e false = subst (IsWellMade none) (unchanged (body_of s e)) (made none s e)
 
 pub equations_made : (g : List Class) (items : List Item) → EquationsMadeWell (rules_of g items)
 unfolding rules_of
@@ -238,4 +320,4 @@ equations_made g items =
     let found = map_found (equation_of g attributes) (givens items) i x is in
     let e = found.0 in
     let t = target_given g attributes e in
-    subst (MadeWell attributes) found.2 (λ circular. said_made (circular_at attributes) (scope_of g attributes e t) e.body (circular_at attributes t.attribute.0) circular))
+    subst (MadeWell attributes) found.2 (said_made (circular_at attributes) (scope_of g attributes e t) e.body (circular_at attributes t.attribute.0)))

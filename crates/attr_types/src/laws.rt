@@ -9,13 +9,14 @@ ghost use Rattle.built_forms.specs.Built.{all_built};
 ghost use Rattle.aspect_items.specs.Items.{Item};
 
 /// Aspects that break no rule over a grammar make rules of it: each equation is of a class that has the attribute, its right side is well
-/// typed and fits, and each concrete class has an equation for each of its attributes.
+/// typed and fits, each concrete class has an equation for each of its attributes, and no two are for the same; no two attributes of related
+/// classes have one name, and none has that of an accessor.
 pub fn accepted_rules()
     ensures { (g : List Class) (items : List Item) → IsGrammar g → all_built items ≡ true → Answers (phases_of g items) None → AreRules g (rules_of g items) }
 {}
 
-/// In the equations of circular attributes, the left side of a `||` whose right side may be left out calls no circular attribute; and only the
-/// literals `false` and `empty` stand behind `:` without their place.
+/// In the equations of circular attributes, a `||` always evaluates both sides exactly where its left side calls a circular attribute, and in other
+/// equations none does; and only the literals `false` and `empty` stand behind `:` without their place.
 pub fn equations_are_made_well()
     ensures { (g : List Class) (items : List Item) → EquationsMadeWell (rules_of g items) }
 {}
