@@ -14,10 +14,10 @@ one_of false y h = inr h
 inside : {circular : ℕ → Bool} (e part : Expression) → Includes (parts_of e) part → CallsCircular circular part → CallsCircular circular e
 inside e part is h = record { attribute = h.attribute; is = h.is; called = in_part {e = e} {part = part} is h.called }
 
-first_in : (x : Expression) (xs : List Expression) → Includes (x ∷ xs) x
+pub first_in : (x : Expression) (xs : List Expression) → Includes (x ∷ xs) x
 first_in x xs = (0, omega arith, refl)
 
-later_in : (x part : Expression) (xs : List Expression) → Includes xs part → Includes (x ∷ xs) part
+pub later_in : (x part : Expression) (xs : List Expression) → Includes xs part → Includes (x ∷ xs) part
 later_in x part xs (k, lt, is) = (suc k, omega arith, is)
 
 -- a call that is found in one of some expressions

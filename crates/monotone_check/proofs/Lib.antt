@@ -1,6 +1,9 @@
 pub mod Checked
+pub mod Deciding
+pub mod DecidingEquations
 pub mod Found
 pub mod Noted
 pub mod PermittedEquations
 pub mod PermittedRises
 pub mod Positioned
+pub mod Ways

@@ -1,5 +1,5 @@
 -- Where calls of circular attributes stand in permitted positions, a well made expression rises.
-use Rattle.std.proofs.Common.{◌≡◌, ℕ, [], Bool, true, false, not, Option, Some, None, refl}
+use Rattle.std.proofs.Common.{◌≡◌, ℕ, [], Bool, true, false, not, ◌&&◌, get_or, subst, Option, Some, None, refl}
 use Rattle.std.proofs.lemmas.Bool.{and_parts}
 use Rattle.rag_io.specs.declared.Place.{Place}
 use Rattle.attr_rules.specs.Expression.{Expression}
@@ -25,7 +25,7 @@ rises circular (without h) w = rising.without h
 rises circular (call a place h k) w = rising.call a place h k
 rises circular (and p q) w = let parts = and_parts _ _ w in rising.and (rises circular p parts.0) (rises circular q parts.1)
 rises circular (or {a} p q) w = let left = and_parts _ _ w in let parts = and_parts _ _ left.1 in rising.or (none_called (has_call circular a) left.0) (rises circular q parts.1)
-rises circular (or_both p q) w = let parts = and_parts _ _ w in rising.or_both (rises circular p parts.0) (rises circular q parts.1)
+rises circular (or_both {a} p q) w = let both = and_parts (has_call circular a) _ w in let parts = and_parts _ _ both.1 in rising.or_both (rises circular p parts.0) (rises circular q parts.1)
 rises circular (choice {c} {a} {b} place p q r h) w =
     let last = and_parts (is_placed place b) _ w in
     let parts = and_parts _ _ last.1 in
@@ -44,7 +44,8 @@ rises circular (contains p h) w = rising.contains (rises circular p (and_parts _
 
 -- the equations of circular attributes that break nothing and are well made rise
 pub equations_rise : (rules : RuleSet) → EquationsMadeWell rules → equations_broken rules ≡ [] → EquationsRise rules
-equations_rise rules made h k d lt circular = rises (is_circular rules) (accepted rules h k d lt circular) (made k d lt circular)
+equations_rise rules made h k d lt circular =
+    rises (is_circular rules) (accepted rules h k d lt circular) (subst (λ (c : Bool). IsWellMade (λ n. c && is_circular rules n) (get_or rules.equations k d).body) circular (made k d lt))
 
 pub permitted_rises : (circular : ℕ → Bool) (e : Expression) → IsPermitted circular e → IsWellMade circular e → IsRising circular e
 permitted_rises circular e p w = rises circular p w

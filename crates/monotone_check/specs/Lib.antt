@@ -2,3 +2,4 @@ pub mod Equations
 pub mod Parts
 pub mod Permitted
 pub mod Positions
+pub mod Ways

@@ -8,6 +8,7 @@ mod laws;
 
 pub use equations::check_monotone;
 pub use laws::{
-    accepted_rises, accepted_rules_are_permitted, calls_are_found, permitted_rises,
-    permitted_rules_are_accepted, unbroken_is_permitted,
+    accepted_rises, accepted_rules_are_permitted, calls_are_found, first_broken_is_decided,
+    one_position_decides, permitted_rises, permitted_rules_are_accepted, positions_decide,
+    unbroken_is_permitted,
 };
