@@ -1,0 +1,5 @@
+use Rattle.typing_rules.proofs.EquationsTyped.{accepted_exactly}
+use Rattle.typing_rules.proofs.laws.accepted_exactly.Goals as goal
+
+pub returns : goal.returns
+returns c = accepted_exactly

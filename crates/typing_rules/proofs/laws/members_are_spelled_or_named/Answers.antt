@@ -1,0 +1,5 @@
+use Rattle.typing_rules.proofs.MembersNamed.{calls_meant, reads_meant}
+use Rattle.typing_rules.proofs.laws.members_are_spelled_or_named.Goals as goal
+
+pub returns : goal.returns
+returns c = record { reads = reads_meant; calls = calls_meant }

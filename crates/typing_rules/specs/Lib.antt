@@ -1,0 +1,4 @@
+pub mod EquationTypes
+pub mod FittingRules
+pub mod MemberRules
+pub mod TypeRules
