@@ -56,6 +56,10 @@ ordered_kept s n k j u other h =
       | false ↦ λ e. there n j (u.2 j e ∙ seen s j h)
     ] refl
 
+-- and the one that was taken away isn't there
+pub ordered_gone : (s n : BTreeSet ℕ) (k : ℕ) → UpdatesOrderedBy nat_cmp (nat_cmp k) s n false → ¬ Contains n.keys k
+ordered_gone s n k u h = let both : true ≡ false = sym (seen n k h) ∙ u.1 in cc
+
 -- a number of a list is the same whatever stands for those behind its end
 pub number_within : (ks : List ℕ) (i j k : ℕ) → i < length ks → slice_index_or ks i j ≡ slice_index_or ks i k
 number_within [] i j k low = absurd (omega (arith, low))

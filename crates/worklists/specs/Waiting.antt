@@ -26,6 +26,12 @@ pub record IsReader (w : Worklist) (number reader : ℕ) : Type 0 where
   pub noted : slice_get w.noted.items number ≡ Some of
   pub has : Contains of.readers.keys reader
 
+-- what is noted, and how much was read and looked at, is the same
+pub record IsSameBesideDue (v w : Worklist) : Type 0 where
+  pub noted : w.noted ≡ v.noted
+  pub effort : w.effort ≡ v.effort
+  pub cost : w.cost ≡ v.cost
+
 -- what the member of this number reads isn't noted yet
 pub record IsFresh (w : Worklist) (k : ℕ) : Type 0 where
   pub of : Noted

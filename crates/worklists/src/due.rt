@@ -1,5 +1,5 @@
 // In which order the members of a local set are evaluated: in sweeps from the last one that was admitted down to the first.
-ghost use Rattle.std.specs.Prelude.{◌≡◌, ◌≢◌, ◌<◌, ℕ, Contains, IfSome, OnOk, length};
+ghost use Rattle.std.specs.Prelude.{◌≡◌, ◌≢◌, ◌<◌, ◌⊎◌, ℕ, Contains, IfNone, IfSome, OnOk, length};
 ghost use Rattle.std.specs.Ordering.{nat_cmp};
 ghost use Rattle.std.specs.BTreeSet.{IsUpperBound};
 ghost use Rattle.worklists.specs.Waiting.{IsDue, IsWithin, StillDue, due_count};
@@ -45,6 +45,9 @@ impl Due {
     pub(crate) fn next(&mut self) -> Option<usize>
         ensures greatest { IfSome result (IsUpperBound nat_cmp self.new.sweep) }
         ensures some { IfSome result (λ number. 0 < length self.new.sweep.keys) }
+        ensures none { IfNone result (due_count self.old ≡ 0) }
+        ensures goes_on { 0 < length self.old.sweep.keys → self.new ≡ self.old }
+        ensures begins { length self.old.sweep.keys ≡ 0 → self.new.sweep ≡ self.old.later }
         ensures kept { StillDue self.old self.new }
         ensures count { due_count self.new ≡ due_count self.old }
     {
@@ -56,14 +59,16 @@ impl Due {
 
     /// Takes away the member that is evaluated next.
     pub(crate) fn pop(&mut self)
-        ensures { 0 < length self.old.sweep.keys → due_count self.new < due_count self.old }
+        ensures fewer { 0 < length self.old.sweep.keys → due_count self.new < due_count self.old }
+        ensures others { (k : ℕ) → IsDue self.old k → IsDue self.new k ⊎ IsUpperBound nat_cmp self.old.sweep k }
     {
         let _member = self.sweep.pop_last();
     }
 
     /// Takes away the member that is evaluated.
     pub(crate) fn remove(&mut self, number: usize)
-        ensures { (k : ℕ) → k ≢ number → IsDue self.old k → IsDue self.new k }
+        ensures others { (k : ℕ) → k ≢ number → IsDue self.old k → IsDue self.new k }
+        ensures gone { ¬ Contains self.new.sweep.keys number }
     {
         self.sweep.remove(&number);
     }

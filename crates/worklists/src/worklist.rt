@@ -1,7 +1,9 @@
 // Which member of a local set is evaluated next. Nothing but time hangs on it: a set is sealed only after a pass over all its members.
-ghost use Rattle.std.specs.Prelude.{◌≡◌, ◌≢◌, ◌<◌, ◌≤◌, ℕ, [], true, Contains, IfOk, IfSome, OnOk, length};
+ghost use Rattle.std.specs.Prelude.{◌≡◌, ◌≢◌, ◌<◌, ◌≤◌, ◌⊎◌, ℕ, [], true, Contains, IfNone, IfOk, IfSome, OnOk, length};
+ghost use Rattle.std.specs.BTreeSet.{IsUpperBound};
+ghost use Rattle.std.specs.Ordering.{nat_cmp};
 ghost use Rattle.worklists.specs.Searching.{FindsOpen, IsSearch};
-ghost use Rattle.worklists.specs.Waiting.{AreClosed, IsDue, IsFresh, IsReader, IsWithin, StillDue, due_count};
+ghost use Rattle.worklists.specs.Waiting.{AreClosed, IsDue, IsFresh, IsReader, IsSameBesideDue, IsWithin, StillDue, due_count};
 
 use crate::due::Due;
 use crate::search::Search;
@@ -66,7 +68,12 @@ impl Worklist {
 
     /// The member that is evaluated next, if one is due.
     pub fn next(&mut self) -> Option<usize>
+        ensures greatest { IfSome result (IsUpperBound nat_cmp self.new.due.sweep) }
         ensures some { IfSome result (λ number. 0 < length self.new.due.sweep.keys) }
+        ensures none { IfNone result (due_count self.old.due ≡ 0) }
+        ensures goes_on { 0 < length self.old.due.sweep.keys → self.new.due ≡ self.old.due }
+        ensures begins { length self.old.due.sweep.keys ≡ 0 → self.new.due.sweep ≡ self.old.due.later }
+        ensures same { IsSameBesideDue self.old self.new }
         ensures kept { StillDue self.old.due self.new.due }
         ensures count { due_count self.new.due ≡ due_count self.old.due }
     {
@@ -75,14 +82,18 @@ impl Worklist {
 
     /// Takes away the member that is evaluated next.
     pub fn pop(&mut self)
-        ensures { 0 < length self.old.due.sweep.keys → due_count self.new.due < due_count self.old.due }
+        ensures fewer { 0 < length self.old.due.sweep.keys → due_count self.new.due < due_count self.old.due }
+        ensures others { (k : ℕ) → IsDue self.old.due k → IsDue self.new.due k ⊎ IsUpperBound nat_cmp self.old.due.sweep k }
+        ensures same { IsSameBesideDue self.old self.new }
     {
         self.due.pop();
     }
 
     /// A member isn't due until a value rises that it read.
     pub fn rest(&mut self, number: usize)
-        ensures { (k : ℕ) → k ≢ number → IsDue self.old.due k → IsDue self.new.due k }
+        ensures others { (k : ℕ) → k ≢ number → IsDue self.old.due k → IsDue self.new.due k }
+        ensures gone { ¬ Contains self.new.due.sweep.keys number }
+        ensures same { IsSameBesideDue self.old self.new }
     {
         self.due.remove(number);
     }
@@ -140,6 +151,7 @@ impl Worklist {
     pub fn wake_readers(&mut self, number: usize) -> Result<(), Memory>
         ensures woken { OnOk result ((k : ℕ) → IsReader self.old number k → IsDue self.new.due k) }
         ensures kept { (k : ℕ) → k ≢ number → IsDue self.old.due k → IsDue self.new.due k }
+        ensures same { IsSameBesideDue self.old self.new }
     {
         self.due.remove(number);
         if let Some(noted) = self.noted.get(number) {

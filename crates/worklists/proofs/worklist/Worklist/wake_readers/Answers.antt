@@ -6,7 +6,7 @@ use Rattle.worklists.specs.declared.worklist.Noted.{Noted}
 use Rattle.worklists.proofs.worklist.Worklist.wake_readers.Goals as goal
 
 pub returns-in_err-wake_all-clause-kept : goal.returns-in_err-wake_all-clause-kept
-returns-in_err-wake_all-clause-kept c k other h = c.wake_all.ensures.kept.due k (c.remove.ensures k other h)
+returns-in_err-wake_all-clause-kept c k other h = c.wake_all.ensures.kept.due k (c.remove.ensures.others k other h)
 
 pub returns-in_ok-wake_all-clause-woken : goal.returns-in_ok-wake_all-clause-woken
 returns-in_ok-wake_all-clause-woken c k reader =
@@ -15,7 +15,7 @@ returns-in_ok-wake_all-clause-woken c k reader =
     c.in_ok-wake_all.ensures.all k (subst (λ (n : Noted). Contains n.readers.keys k) (sym same) reader.has)
 
 pub returns-in_ok-wake_all-clause-kept : goal.returns-in_ok-wake_all-clause-kept
-returns-in_ok-wake_all-clause-kept c k other h = c.wake_all.ensures.kept.due k (c.remove.ensures k other h)
+returns-in_ok-wake_all-clause-kept c k other h = c.wake_all.ensures.kept.due k (c.remove.ensures.others k other h)
 
 pub returns-in_default-clause-woken : goal.returns-in_default-clause-woken
 returns-in_default-clause-woken c k reader =
@@ -24,4 +24,4 @@ returns-in_default-clause-woken c k reader =
     absurd (omega (arith, low, high))
 
 pub returns-in_default-clause-kept : goal.returns-in_default-clause-kept
-returns-in_default-clause-kept c k other h = c.remove.ensures k other h
+returns-in_default-clause-kept c k other h = c.remove.ensures.others k other h
