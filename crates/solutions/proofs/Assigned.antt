@@ -1,7 +1,7 @@
 -- Growing demands under assignments to circular instances, with the solution on the others.
 use Rattle.std.proofs.Common.{◌≡◌, true, false, List}
 use Rattle.solutions.specs.Asking.{Ends}
-use Rattle.solutions.specs.Rounds.{Equations, HasValue}
+use Rattle.solutions.specs.Rounds.{Equations}
 use Rattle.solutions.specs.Rising.{AgreeBelow, AreRising, LiesBelow, Under}
 use Rattle.solutions.specs.Leading.{Mixed, fixed, present}
 use Rattle.solutions.proofs.Growing.{done_below, growing}
