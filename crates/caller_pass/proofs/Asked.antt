@@ -19,17 +19,18 @@ use Rattle.equation_law.proofs.Keys.{key_is}
 use Rattle.equation_law.proofs.QueryValues.{value_typed}
 use Rattle.memo_cells.specs.declared.view.Frame.{Frame}
 use Rattle.memo_cells.specs.declared.view.View.{View}
+use Rattle.memo_cells.specs.Claiming.{ClaimsKeys}
 use Rattle.memo_cells.specs.Naming.{LacksCell}
 use Rattle.memo_cells.specs.Standing.{Knows}
 use Rattle.memo_cells.specs.Views.{Has, IsAtLeast}
+use Rattle.memo_cells.proofs.Claiming.{claims_same, claims_then}
 use Rattle.caller_pass.specs.declared.faults.AskFault.{AskFault}
 use Rattle.caller_pass.specs.declared.faults.AskFault.TheVariants.{CellsFull, Circular, Memory}
 use Rattle.caller_pass.specs.declared.waiting.Waiter.{Waiter}
-use Rattle.caller_pass.specs.Answering.{AnswersFault, AnswersNoted, AnswersSolve, Asks, AsksNoted, ClaimsKeys, EndsAtLoop, IsCircular, IsLoop, Solves, StopsAt}
+use Rattle.caller_pass.specs.Answering.{AnswersFault, AnswersNoted, AnswersSolve, Asks, AsksNoted, EndsAtLoop, IsCircular, IsLoop, Solves, StopsAt}
 use Rattle.caller_pass.specs.Knowing.{IsKnownValue}
 use Rattle.caller_pass.specs.Noting.{MayNote}
 use Rattle.caller_pass.specs.Waiting.{AnswersWait}
-use Rattle.caller_pass.proofs.Claiming.{claims_same, claims_then}
 use Rattle.caller_pass.proofs.Closing.{unsettled_less}
 use Rattle.caller_pass.proofs.Listing.{map_both}
 use Rattle.caller_pass.proofs.Lines.{each_has, ends_has, ends_twice, has_map, same_last}

@@ -10,16 +10,17 @@ use Rattle.equation_law.specs.Program.{Program}
 use Rattle.equation_law.specs.Systems.{program_of}
 use Rattle.memo_cells.specs.declared.view.Frame.{Frame}
 use Rattle.memo_cells.specs.declared.view.View.{View}
+use Rattle.memo_cells.specs.Claiming.{ClaimsKeys}
 use Rattle.memo_cells.specs.Standing.{IsPassOf, Knows}
 use Rattle.memo_cells.specs.Views.{IsAtLeast}
+use Rattle.memo_cells.proofs.Claiming.{claims_same, claims_then}
 use Rattle.memo_cells.proofs.More.{at_least_itself, at_least_then}
 use Rattle.circular_eval.specs.declared.advancing.CircFault.{CircFault}
 use Rattle.circular_eval.specs.declared.advancing.CircFault.TheVariants as set_fault
 use Rattle.circular_eval.specs.declared.local.Local.{Local}
 use Rattle.circular_eval.specs.Advancing.{AnswersFault as AnswersCircular, IsMissing}
 use Rattle.caller_pass.specs.declared.faults.AskFault.{AskFault}
-use Rattle.caller_pass.specs.Answering.{StopsAt, ClaimsKeys, ClosesMore, IsSameFault, Solves, SolvesFor, unsettled}
-use Rattle.caller_pass.proofs.Claiming.{claims_same, claims_then, fills_from}
+use Rattle.caller_pass.specs.Answering.{StopsAt, ClosesMore, IsSameFault, Solves, SolvesFor, unsettled}
 use Rattle.caller_pass.proofs.Falling.{by_value, left_falls, left_less, left_unsettled, not_taken, taken, taken_by}
 use Rattle.caller_pass.proofs.Knowing.{known_cell, settled_known}
 use Rattle.caller_pass.proofs.Paying.{knows_or_not}
@@ -48,7 +49,7 @@ unsettled_falls p f same v w own then kept i unknown k =
 
 -- the fault of a local set
 pub same_fault : (p : Program) (f : Frame) (v : View) (i : Instance) (from : CircFault) (e : AskFault) → IsSameFault from e → AnswersCircular p i f v from → StopsAt p f v i e
-same_fault p f v i set_fault.CellsFull e is a = subst (λ (x : AskFault). StopsAt p f v i x) (sym is) (fills_from p i f v a)
+same_fault p f v i set_fault.CellsFull e is a = subst (λ (x : AskFault). StopsAt p f v i x) (sym is) a
 same_fault p f v i set_fault.Memory e is a = subst (λ (x : AskFault). StopsAt p f v i x) (sym is) tt
 
 module _ (p : Program) (f : Frame) (same : p ≡ program_of f.system.value) (v w : View) (own : IsPassOf f v) (then : IsPassOf f w) (kept : IsAtLeast v w) (i : Instance) (unknown : ¬ Knows p v i) (claims : ClaimsKeys p i v w) (before after : ℕ) (evals : after ≡ before + 1) where

@@ -9,13 +9,13 @@ use Rattle.equation_law.specs.declared.coding.Value.{Value as CodedValue}
 use Rattle.equation_law.specs.declared.coding.Value.TheVariants as coded
 use Rattle.equation_law.specs.Checked.{IsNodeOf, IsValue, int, node, nodes, text, texts, truth}
 use Rattle.equation_law.specs.Codes.{AreElements, nodes_of, value_of}
+use Rattle.equation_law.specs.Keys.{IsElementCode, has_code}
 use Rattle.equation_law.specs.Names.{At, Instance, NodeName, Source, node_cmp, text_cmp}
 use Rattle.equation_law.specs.Program.{Program, text_of}
 use Rattle.equation_law.specs.Sets.{SetBy, has, set_of}
 use Rattle.equation_law.specs.Values.{Nodes, Texts, Value}
 use Rattle.memo_cells.specs.declared.view.View.{View}
-use Rattle.memo_cells.specs.Naming.{IsElementCode}
-use Rattle.memo_cells.specs.Showing.{ShowsAtLeast, ShowsCode, has_code}
+use Rattle.memo_cells.specs.Showing.{ShowsAtLeast, ShowsCode}
 use Rattle.memo_cells.specs.Views.{Has}
 use Rattle.memo_cells.specs.SetRaising.{set_codes}
 use Rattle.memo_cells.proofs.SetMembers.{among, is_among, node_code, node_in, text_code, text_in}

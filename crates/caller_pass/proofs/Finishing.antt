@@ -1,25 +1,27 @@
 -- Settling an instance whose equation ended.
-use Rattle.std.proofs.Common.{◌≡◌, ℕ, inr, false, true, List, Ok, Err, sym, subst}
+use Rattle.std.proofs.Common.{◌≡◌, ℕ, inl, inr, false, true, List, Ok, Err, sym, subst}
+use Rattle.solutions.specs.Leading.{none}
 use Rattle.equation_law.specs.declared.coding.Value.{Value as CodedValue}
 use Rattle.equation_law.specs.Checked.{IsInstance, IsProgram, IsValue}
 use Rattle.equation_law.specs.Codes.{value_of}
 use Rattle.equation_law.specs.Equations.{equations_of, kind_in}
+use Rattle.equation_law.specs.Keys.{HasElement, IsElementCode, has_code}
 use Rattle.equation_law.specs.Names.{Instance}
 use Rattle.equation_law.specs.Program.{Program, text_of}
 use Rattle.equation_law.specs.Systems.{program_of}
 use Rattle.equation_law.proofs.QueryValues.{value_typed}
 use Rattle.memo_cells.specs.declared.view.Frame.{Frame}
 use Rattle.memo_cells.specs.declared.view.View.{View}
-use Rattle.memo_cells.specs.Naming.{IsCellOf, IsElementCode}
-use Rattle.memo_cells.specs.Showing.{has_code}
+use Rattle.memo_cells.specs.Claiming.{ClaimsKeys, FillsCells}
+use Rattle.memo_cells.specs.Naming.{IsCellOf}
 use Rattle.memo_cells.specs.Views.{Has}
 use Rattle.memo_cells.specs.Working.{Held, program_at}
 use Rattle.memo_cells.specs.SetRaising.{ClaimsWords, LacksWord, MayShowAll, ShowsAll, set_codes}
+use Rattle.memo_cells.proofs.Claiming.{claims_words, fills_words}
 use Rattle.caller_pass.specs.declared.faults.AskFault.{AskFault}
 use Rattle.caller_pass.specs.declared.faults.AskFault.TheVariants.{CellsFull}
-use Rattle.caller_pass.specs.Answering.{AnswersShow, ClaimsKeys, FillsCells}
+use Rattle.caller_pass.specs.Answering.{AnswersShow}
 use Rattle.caller_pass.specs.Knowing.{HasEnded}
-use Rattle.caller_pass.proofs.Claiming.{claims_words, fills_words}
 use Rattle.caller_pass.proofs.Elements.{are_elements, shows_set}
 use Rattle.caller_pass.proofs.Knowing.{ended_value}
 
@@ -29,6 +31,10 @@ module _ (p : Program) (good : IsProgram p) (f : Frame) (v : View) (i : Instance
 
   its_elements : (c : ℕ) → Has (set_codes x) c → IsElementCode p (kind_in p i) c × (has_code (text_of p) (kind_in p i) (value_of (text_of p) x) c ≡ true)
   its_elements = are_elements p (kind_in p i) x typed ended.elements
+
+  -- so their words are keys of it
+  counted : (c : ℕ) → Has (set_codes x) c → IsElementCode p (kind_in p i) c × HasElement p i c
+  counted c among = let e = its_elements c among in (e.0, inl (value_of (text_of p) x, ended_value p v i x ended, e.1))
 
   -- its words may show the set
   pub may_show : MayShowAll p f v i slot (set_codes x)
@@ -44,10 +50,10 @@ module _ (p : Program) (good : IsProgram p) (f : Frame) (v : View) (i : Instance
       back P h = subst (λ (q : Program). P q f) (sym same) (subst (λ (g : Frame). P (program_of g.system.value) g) cells h)
 
       pub show_claims : ClaimsWords (program_at e) v e.1 i codes → ClaimsKeys p i v e.1
-      show_claims h = claims_words p i (value_of (text_of p) x) (ended_value p v i x ended) (set_codes x) its_elements v e.1 (subst (λ (cs : List ℕ). ClaimsWords p v e.1 i cs) are (back (λ q g. ClaimsWords q v e.1 i codes) h))
+      show_claims h = claims_words p i i none (set_codes x) counted v e.1 (subst (λ (cs : List ℕ). ClaimsWords p v e.1 i cs) are (back (λ q g. ClaimsWords q v e.1 i codes) h))
 
       pub show_full : LacksWord (program_at e) e.0 e.1 i codes → FillsCells p i f e.1
-      show_full h = fills_words p i (value_of (text_of p) x) (ended_value p v i x ended) (set_codes x) its_elements f e.1 (subst (λ (cs : List ℕ). LacksWord p f e.1 i cs) are (back (λ q g. LacksWord q g e.1 i codes) h))
+      show_full h = fills_words p i i none (set_codes x) counted f e.1 (subst (λ (cs : List ℕ). LacksWord p f e.1 i cs) are (back (λ q g. LacksWord q g e.1 i codes) h))
 
       pub show_done : (done : Unit {0}) → ShowsAll (program_at e) e.1 i codes → AnswersShow p f e.1 i x (Ok done)
       show_done done h set = shows_set p e.1 i (kind_in p i) x typed set (subst (λ (cs : List ℕ). ShowsAll p e.1 i cs) are (back (λ q g. ShowsAll q e.1 i codes) h))

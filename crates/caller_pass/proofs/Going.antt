@@ -14,12 +14,14 @@ use Rattle.equation_law.specs.Systems.{program_of}
 use Rattle.equation_law.proofs.Solution.{loopless}
 use Rattle.memo_cells.specs.declared.view.Frame.{Frame}
 use Rattle.memo_cells.specs.declared.view.View.{View}
+use Rattle.memo_cells.specs.Claiming.{ClaimsKeys}
 use Rattle.memo_cells.specs.Naming.{ClaimsKeysTo, IsCellOf}
 use Rattle.memo_cells.specs.Standing.{IsPassOf, Knows}
 use Rattle.memo_cells.specs.Views.{Has, IsAtLeast}
 use Rattle.expr_eval.specs.Saved.{AreSaved, SavesNothing}
 use Rattle.expr_eval.proofs.Found.{none_saved}
 use Rattle.memo_cells.specs.Working.{Held, IsKnown, program_at}
+use Rattle.memo_cells.proofs.Claiming.{chain_then, claims_same, claims_then, claims_to, fills_more, fills_to}
 use Rattle.memo_cells.proofs.More.{at_least_then}
 use Rattle.memo_cells.proofs.Naming.{knows_later}
 use Rattle.circular_eval.specs.declared.local.Local.{Local}
@@ -27,13 +29,11 @@ use Rattle.caller_pass.specs.declared.faults.AskFault.{AskFault}
 use Rattle.caller_pass.specs.declared.faults.AskFault.TheVariants.{CellsFull, Circular, Memory}
 use Rattle.caller_pass.specs.declared.solving.Went.{Went}
 use Rattle.caller_pass.specs.declared.waiting.Waiter.{Waiter}
-use Rattle.caller_pass.specs.Answering.{AnswersStep, ClaimsKeys, EndsAtLoop, GoesThrough, IsNext, LeavesOne, SameWay, Solves, StopsAt, WayChanges, unsettled}
+use Rattle.caller_pass.specs.Answering.{AnswersStep, EndsAtLoop, GoesThrough, IsNext, LeavesOne, SameWay, Solves, StopsAt, WayChanges, unsettled}
 use Rattle.caller_pass.specs.Waiting.{AnswersWait, AreWaiting, IsLineTo, IsPlaced, IsStack, IsWayOf, LooksAgain, waits, way_of}
-use Rattle.caller_pass.proofs.Claiming.{claims_same, claims_then, claims_to, fills_more, fills_to}
 use Rattle.caller_pass.proofs.Falling.{measure}
 use Rattle.caller_pass.proofs.Frames.{stack_fewer, stack_more, stack_on, stack_one, waiting_later, waiting_more}
 use Rattle.caller_pass.proofs.Knowing.{has_value}
-use Rattle.circular_eval.proofs.Going.{chain_then}
 use Rattle.caller_pass.proofs.Lines.{met_loop, waits_chain}
 use Rattle.caller_pass.proofs.Paid.{pays_all, pays_back, pays_first, pays_further, pays_more, top_reached}
 use Rattle.caller_pass.proofs.Paying.{AreApart, Pays}

@@ -1,5 +1,4 @@
 pub mod Asked
-pub mod Claiming
 pub mod Closing
 pub mod Desks
 pub mod Elements

@@ -12,9 +12,9 @@ use Rattle.equation_law.proofs.Keys.{key_is}
 use Rattle.memo_cells.specs.declared.view.Frame.{Frame}
 use Rattle.memo_cells.specs.declared.view.View.{View}
 use Rattle.memo_cells.specs.Views.{Has}
+use Rattle.memo_cells.proofs.Claiming.{chain_then}
 use Rattle.circular_eval.specs.declared.local.Local.{Local}
 use Rattle.circular_eval.specs.Advancing.{AreLed, IsPath}
-use Rattle.circular_eval.proofs.Going.{chain_then}
 use Rattle.caller_pass.specs.declared.waiting.Waiter.{Waiter}
 use Rattle.caller_pass.specs.Answering.{EndsAtLoop, IsLoop}
 use Rattle.caller_pass.specs.Waiting.{AreWaiting, IsLineTo, WaitsBy, waits, way_of}

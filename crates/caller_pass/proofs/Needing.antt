@@ -7,14 +7,15 @@ use Rattle.equation_law.specs.Names.{Instance}
 use Rattle.equation_law.specs.Program.{Program}
 use Rattle.memo_cells.specs.declared.view.Frame.{Frame}
 use Rattle.memo_cells.specs.declared.view.View.{View}
+use Rattle.memo_cells.specs.Claiming.{ClaimsKeys}
+use Rattle.memo_cells.proofs.Claiming.{fills_more}
 use Rattle.circular_eval.specs.declared.local.Local.{Local}
 use Rattle.circular_eval.specs.Advancing.{IsMissing}
 use Rattle.circular_eval.specs.Local.{IsLocal}
 use Rattle.caller_pass.specs.declared.faults.AskFault.{AskFault}
 use Rattle.caller_pass.specs.declared.faults.AskFault.TheVariants.{CellsFull, Circular, Memory}
-use Rattle.caller_pass.specs.Answering.{StopsAt, ClaimsKeys, EndsAtLoop, LeavesOne, Solves, SolvesFor}
+use Rattle.caller_pass.specs.Answering.{StopsAt, EndsAtLoop, LeavesOne, Solves, SolvesFor}
 use Rattle.caller_pass.specs.Waiting.{IsBehind, Needed}
-use Rattle.caller_pass.proofs.Claiming.{fills_more}
 use Rattle.caller_pass.proofs.Lines.{ends_behind}
 use Rattle.caller_pass.proofs.Listing.{map_both}
 

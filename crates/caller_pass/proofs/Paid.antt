@@ -16,6 +16,7 @@ use Rattle.memo_cells.specs.declared.view.View.{View}
 use Rattle.memo_cells.specs.Naming.{IsCellOf}
 use Rattle.memo_cells.specs.Standing.{IsPassOf, Knows}
 use Rattle.memo_cells.specs.Views.{Has, IsAtLeast}
+use Rattle.memo_cells.proofs.Claiming.{chain_then}
 use Rattle.memo_cells.proofs.Naming.{cell_later}
 use Rattle.circular_eval.specs.declared.local.Local.{Local}
 use Rattle.caller_pass.specs.declared.waiting.Waiter.{Waiter}
@@ -25,7 +26,6 @@ use Rattle.caller_pass.proofs.Falling.{left}
 use Rattle.caller_pass.proofs.Frames.{waiting_front}
 use Rattle.caller_pass.proofs.Knowing.{known_cell, one_cell, settled_known}
 use Rattle.memo_cells.proofs.Bits.{has_left}
-use Rattle.circular_eval.proofs.Going.{chain_then}
 use Rattle.caller_pass.proofs.Lines.{has_last, has_snoc, start_chain, waiting_chain}
 use Rattle.caller_pass.proofs.Paying.{AreApart, IsFresh, IsStart, Pays, by_done, done, done_by, empty_of, falls_so, fresh_circular, fresh_frame, has_or_not, left_done, none_some, some_once, sorted, without}
 use Rattle.caller_pass.proofs.Turning.{length_snoc, on_stack, waits_each}

@@ -12,6 +12,7 @@ use Rattle.memo_cells.specs.declared.view.Frame.{Frame}
 use Rattle.memo_cells.specs.declared.view.View.{View}
 use Rattle.memo_cells.specs.Standing.{IsPassOf, Knows}
 use Rattle.memo_cells.specs.Working.{GoesOn, Held, IsOwn, ReadsOn, program_at}
+use Rattle.memo_cells.proofs.Claiming.{claims_same}
 use Rattle.memo_cells.proofs.More.{at_least_then}
 use Rattle.circular_eval.specs.declared.local.Local.{Local}
 use Rattle.circular_eval.specs.Local.{IsLocal}
@@ -20,7 +21,6 @@ use Rattle.caller_pass.specs.declared.faults.AskFault.{AskFault}
 use Rattle.caller_pass.specs.declared.faults.AskFault.TheVariants.{Memory}
 use Rattle.caller_pass.specs.Answering.{ClosesMore, Solves, unsettled}
 use Rattle.caller_pass.specs.Knowing.{FindsCode}
-use Rattle.caller_pass.proofs.Claiming.{claims_same}
 use Rattle.caller_pass.proofs.Closing.{IsClosing, closed, closing_fault, closing_first, closing_looked, closing_more, unsettled_less}
 use Rattle.memo_cells.proofs.Holding.{own_then}
 use Rattle.caller_pass.proofs.Going.{solve_fault}

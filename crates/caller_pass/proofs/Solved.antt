@@ -13,6 +13,7 @@ use Rattle.memo_cells.specs.declared.view.Frame.{Frame}
 use Rattle.memo_cells.specs.Naming.{ClaimsKeysTo, IsCellOf, LacksCell}
 use Rattle.memo_cells.specs.Standing.{IsPassOf, Knows}
 use Rattle.memo_cells.specs.Working.{GoesOn, Held, IsOwn, ReadsOn, program_at}
+use Rattle.memo_cells.proofs.Claiming.{claims_to, fills_to}
 use Rattle.memo_cells.proofs.More.{at_least_then}
 use Rattle.caller_pass.specs.declared.faults.AskFault.{AskFault}
 use Rattle.caller_pass.specs.declared.faults.AskFault.TheVariants.{CellsFull}
@@ -21,7 +22,6 @@ use Rattle.caller_pass.specs.declared.solving.Went.TheVariants.{Further, Need, S
 use Rattle.caller_pass.specs.declared.waiting.Waiter.{Waiter}
 use Rattle.caller_pass.specs.Answering.{AnswersStep, GoesThrough, LeavesOne, Solves}
 use Rattle.caller_pass.specs.Waiting.{AnswersWait, IsFrame, LooksAgain, waits, way_of}
-use Rattle.caller_pass.proofs.Claiming.{claims_to, fills_to}
 use Rattle.memo_cells.proofs.Holding.{own_then}
 use Rattle.caller_pass.proofs.Falling.{measure}
 use Rattle.caller_pass.proofs.Going.{IsSolving, WentThrough, begun, claims_more, claims_now, fell_back, fell_further, fell_more, leaves_one, solve_fault, solved_all, step_fault, through, wait_fault, went_back, went_further, went_more}
@@ -33,20 +33,20 @@ pub record IsTurn (o d : Held) (i : CodedInstance) (es : List (CodedInstance × 
   pub solving : IsSolving (program_at o) o.0 o.1 d.1 (instance_of (program_at o) i) es (top, x) before now
 
 -- no cell is left for the instance
-pub no_cell : {o d : Held} (i : CodedInstance) {before : ℕ} {r : Result Unit AskFault} → GoesOn o d → LacksCell (program_at o) d.0 d.1 (instance_of (program_at o) i) → ClaimsKeysTo (program_at o) o.1 d.1 (instance_of (program_at o) i) → IsErr r × IsErrAnd r (λ e. e ≡ CellsFull) → Solves (program_at o) o.0 o.1 d.1 (instance_of (program_at o) i) before before r
+pub no_cell : {o d : Held} (i : CodedInstance) {before : ℕ} {r : Result Unit AskFault} → GoesOn o d → LacksCell (program_at o) o.0 d.1 (instance_of (program_at o) i) → ClaimsKeysTo (program_at o) o.1 d.1 (instance_of (program_at o) i) → IsErr r × IsErrAnd r (λ e. e ≡ CellsFull) → Solves (program_at o) o.0 o.1 d.1 (instance_of (program_at o) i) before before r
 no_cell {o} {d} i {before} {r} on lacks claims h =
     let p = program_at o in
-    solve_fault p o.0 o.1 d.1 (instance_of p i) before before CellsFull r h (claims_to p (instance_of p i) o.1 d.1 claims) (fills_to p (instance_of p i) o.0 d.1 (subst (λ (f : Frame). LacksCell p f d.1 (instance_of p i)) on.cells lacks))
+    solve_fault p o.0 o.1 d.1 (instance_of p i) before before CellsFull r h (claims_to p (instance_of p i) o.1 d.1 claims) (fills_to p (instance_of p i) o.0 d.1 lacks)
 
 -- the first turn
-pub first_turn : {o d : Held} {i : CodedInstance} {s : Slot} (before : ℕ) → IsOwn o → GoesOn o d → IsInstance (program_at o) (instance_of (program_at o) i) → IsCoded (program_at o) i → (equations_of (program_at o)).circular (instance_of (program_at o) i) ≡ false → ¬ Knows (program_at o) o.1 (instance_of (program_at o) i) → IsCellOf (program_at o) d.0 d.1 (instance_of (program_at o) i) s.0 → ClaimsKeysTo (program_at o) o.1 d.1 (instance_of (program_at o) i) → (es : List (CodedInstance × Waiter)) → es ≡ [] → (m : Saved) → SavesNothing m → IsTurn o d i es i (record { slot = s; way = None; saved = m }) before before
+pub first_turn : {o d : Held} {i : CodedInstance} {s : Slot} (before : ℕ) → IsOwn o → GoesOn o d → IsInstance (program_at o) (instance_of (program_at o) i) → IsCoded (program_at o) i → (equations_of (program_at o)).circular (instance_of (program_at o) i) ≡ false → ¬ Knows (program_at o) o.1 (instance_of (program_at o) i) → IsCellOf (program_at o) o.0 d.1 (instance_of (program_at o) i) s.0 → ClaimsKeysTo (program_at o) o.1 d.1 (instance_of (program_at o) i) → (es : List (CodedInstance × Waiter)) → es ≡ [] → (m : Saved) → SavesNothing m → IsTurn o d i es i (record { slot = s; way = None; saved = m }) before before
 first_turn {o} {d} {i} {s} before own on instance coded plain unknown cell claims es empty m fresh =
     let p = program_at o in
     record {
       cells = on.cells;
       lender = on.lender;
       solving = subst (λ (l : List (CodedInstance × Waiter)). IsSolving p o.0 o.1 d.1 (instance_of p i) l (i, record { slot = s; way = None; saved = m }) before before) (sym empty)
-          (begun p o.0 o.1 d.1 refl own (own_then o d on) on.kept i (record { slot = s; way = None; saved = m }) instance coded plain unknown (subst (λ (f : Frame). IsCellOf p f d.1 (instance_of p i) s.0) on.cells cell) refl fresh claims before);
+          (begun p o.0 o.1 d.1 refl own (own_then o d on) on.kept i (record { slot = s; way = None; saved = m }) instance coded plain unknown cell refl fresh claims before);
     }
 
 module _ {o d : Held} {i : CodedInstance} {es : List (CodedInstance × Waiter)} {top : CodedInstance} {x : Waiter} {before now : ℕ} (t : IsTurn o d i es top x before now) where

@@ -17,18 +17,17 @@ use Rattle.expr_eval.specs.declared.sites.Turn.TheVariants as turns
 use Rattle.memo_cells.specs.declared.view.Frame.{Frame}
 use Rattle.memo_cells.specs.declared.view.View.{View}
 use Rattle.memo_cells.specs.Standing.{IsPassOf, Knows}
-use Rattle.memo_cells.specs.Views.{IsAtLeast}
+use Rattle.memo_cells.proofs.Claiming.{fills_more}
 use Rattle.circular_eval.specs.declared.advancing.CircFault.{CircFault}
 use Rattle.circular_eval.specs.declared.advancing.CircFault.TheVariants as set_fault
 use Rattle.circular_eval.specs.declared.local.Local.{Local}
-use Rattle.circular_eval.specs.Advancing.{AnswersFault as AnswersCircular, ClaimsFrom, IsMissing}
+use Rattle.circular_eval.specs.Advancing.{AnswersFault as AnswersCircular, IsMissing}
 use Rattle.circular_eval.specs.Local.{IsLocal}
 use Rattle.caller_pass.specs.declared.faults.AskFault.{AskFault}
 use Rattle.caller_pass.specs.declared.faults.AskFault.TheVariants.{CellsFull, Circular, Memory}
-use Rattle.caller_pass.specs.Answering.{AnswersFinish, AnswersStep, ClaimsKeys, IsNext, IsSameFault}
+use Rattle.caller_pass.specs.Answering.{AnswersFinish, AnswersStep, IsNext, IsSameFault}
 use Rattle.caller_pass.specs.Knowing.{TurnsTo}
 use Rattle.caller_pass.specs.Waiting.{IsWay}
-use Rattle.caller_pass.proofs.Claiming.{claims_from, claims_same, claims_then, fills_from, fills_more}
 use Rattle.caller_pass.proofs.Knowing.{halts_meets, halts_unknown, stuck_leads}
 
 -- a fault that is handed on
@@ -41,13 +40,9 @@ pub not_ok : {A X E : Type 0} (r : Result X E) → IsErr r → IsOk r → A
 not_ok (Ok x) h ok = cc
 not_ok (Err e) h ok = cc
 
--- what a local set that it demands claimed
-pub local_claims : (p : Program) (i s : Instance) (v w : View) → Leads p i s → IsAtLeast v w → ClaimsFrom p s v w → ClaimsKeys p i v w
-local_claims p i s v w led kept h = claims_then p i s v v w (more led none) (claims_same p i v v refl) kept (claims_from p s v w h)
-
--- its fault
+-- the fault of a local set that it demands
 pub local_fault : (p : Program) (f : Frame) (v : View) (i s : Instance) (old new : Option Local) (from : CircFault) (e : AskFault) → Leads p i s → AnswersCircular p s f v from → IsSameFault from e → AnswersStep p f v i old new (Err e)
-local_fault p f v i s old new set_fault.CellsFull e led a is = subst (λ (x : AskFault). AnswersStep p f v i old new (Err x)) (sym is) (fills_more p i s f v (more led none) (fills_from p s f v a))
+local_fault p f v i s old new set_fault.CellsFull e led a is = subst (λ (x : AskFault). AnswersStep p f v i old new (Err x)) (sym is) (fills_more p i s f v (more led none) a)
 local_fault p f v i s old new set_fault.Memory e led a is = subst (λ (x : AskFault). AnswersStep p f v i old new (Err x)) (sym is) tt
 
 pub memory_step : (p : Program) (f : Frame) (v : View) (i : Instance) (old new : Option Local) (e : AskFault) → e ≡ Memory → AnswersStep p f v i old new (Err e)

@@ -2,7 +2,7 @@
 use Rattle.std.proofs.Common.{◌≡◌, ℕ, ◌+◌, false, true, Option, Some, None, Result, Ok, Err, refl, sym, ap, subst}
 use Rattle.std.specs.Global.{Box}
 use Rattle.std.specs.Result.{IsErr, IsErrAnd}
-use Rattle.solutions.specs.Leading.{none}
+use Rattle.solutions.specs.Leading.{more, none}
 use Rattle.equation_law.specs.declared.coding.Instance.{Instance as CodedInstance}
 use Rattle.equation_law.specs.declared.coding.Value.{Value as CodedValue}
 use Rattle.equation_law.specs.Checked.{IsInstance, IsProgram}
@@ -15,35 +15,36 @@ use Rattle.equation_law.specs.Systems.{program_of}
 use Rattle.expr_eval.specs.declared.sites.Turn.TheVariants as turns
 use Rattle.memo_cells.specs.declared.view.Frame.{Frame}
 use Rattle.memo_cells.specs.declared.view.View.{View}
+use Rattle.memo_cells.specs.Claiming.{ClaimsKeys}
 use Rattle.memo_cells.specs.Naming.{IsCellOf}
 use Rattle.memo_cells.specs.Standing.{Knows}
 use Rattle.expr_eval.specs.declared.saved.Saved.{Saved}
 use Rattle.expr_eval.specs.Saved.{AreSaved}
 use Rattle.memo_cells.specs.Working.{GoesOn, Held, IsKnown, ReadsOn, program_at}
+use Rattle.memo_cells.proofs.Claiming.{claims_same, claims_then}
 use Rattle.memo_cells.proofs.Naming.{cell_later}
 use Rattle.circular_eval.specs.declared.advancing.CircFault.{CircFault}
 use Rattle.circular_eval.specs.declared.local.Local.{Local}
-use Rattle.circular_eval.specs.Advancing.{AnswersFault as AnswersCircular, ClaimsFrom, IsMissing}
+use Rattle.circular_eval.specs.Advancing.{AnswersFault as AnswersCircular, IsMissing}
 use Rattle.circular_eval.specs.Local.{IsLocal}
 use Rattle.caller_pass.specs.declared.faults.AskFault.{AskFault}
 use Rattle.caller_pass.specs.declared.faults.AskFault.TheVariants.{Memory}
 use Rattle.caller_pass.specs.declared.solving.Went.{Went}
 use Rattle.caller_pass.specs.declared.solving.Went.TheVariants.{Further, Need, Settled}
 use Rattle.caller_pass.specs.declared.waiting.Waiter.{Waiter}
-use Rattle.caller_pass.specs.Answering.{AnswersFinish, AnswersStep, ClaimsKeys, GoesThrough, IsNext, IsSameFault, SameWay, WayChanges}
+use Rattle.caller_pass.specs.Answering.{AnswersFinish, AnswersStep, GoesThrough, IsNext, IsSameFault, SameWay, WayChanges}
 use Rattle.caller_pass.specs.Knowing.{HasEnded, TurnsTo}
 use Rattle.caller_pass.specs.Waiting.{IsFrame, IsWay, IsWayOf, way_of}
-use Rattle.caller_pass.proofs.Claiming.{claims_same, claims_then}
 use Rattle.caller_pass.proofs.Frames.{saved_known}
 use Rattle.memo_cells.proofs.Holding.{goes_then, own_then}
-use Rattle.caller_pass.proofs.Stepping.{err_is, finish_step, local_claims, local_fault, memory_step, next_local, next_need, way_need}
+use Rattle.caller_pass.proofs.Stepping.{err_is, finish_step, local_fault, memory_step, next_local, next_need, way_need}
 
 -- the local set through which an instance waits
 pub frame_way : (p : Program) (f : Frame) (v : View) (i : CodedInstance) (x : Waiter) (l : Local) → IsFrame p f v (i, x) → way_of x ≡ Some l → IsWay p f v (instance_of p i) l
 frame_way p f v i x l frame way = subst (λ (o : Option Local). IsWayOf p f v (instance_of p i) o) way frame.way
 
 -- the instance waits for a local set, which went on
-module _ (d e : Held) (i : CodedInstance) (x : Waiter) (l : Local) (b : Box Local) (way : way_of x ≡ Some l) (frame : IsFrame (program_at d) d.0 d.1 (i, x)) (on : GoesOn d e) (local : IsLocal (program_at d) d.0 e.1 b.value × (b.value.start ≡ l.start)) (claims : ClaimsFrom (program_at d) (instance_of (program_at d) l.start) d.1 e.1) (before after : ℕ) (evals : after ≡ before + 1) where
+module _ (d e : Held) (i : CodedInstance) (x : Waiter) (l : Local) (b : Box Local) (way : way_of x ≡ Some l) (frame : IsFrame (program_at d) d.0 d.1 (i, x)) (on : GoesOn d e) (local : IsLocal (program_at d) d.0 e.1 b.value × (b.value.start ≡ l.start)) (claims : ClaimsKeys (program_at d) (instance_of (program_at d) l.start) d.1 e.1) (before after : ℕ) (evals : after ≡ before + 1) where
   its : IsWay (program_at d) d.0 d.1 (instance_of (program_at d) i) l
   its = frame_way (program_at d) d.0 d.1 i x l frame way
 
@@ -51,7 +52,7 @@ module _ (d e : Held) (i : CodedInstance) (x : Waiter) (l : Local) (b : Box Loca
   start_is = ap (instance_of (program_at d)) local.1
 
   all_claims : ClaimsKeys (program_at d) (instance_of (program_at d) i) d.1 e.1
-  all_claims = local_claims (program_at d) (instance_of (program_at d) i) (instance_of (program_at d) l.start) d.1 e.1 its.led on.kept claims
+  all_claims = claims_then (program_at d) (instance_of (program_at d) i) (instance_of (program_at d) l.start) d.1 d.1 e.1 (more its.led none) (claims_same (program_at d) (instance_of (program_at d) i) d.1 d.1 refl) on.kept claims
 
   pub local_err : (from : CircFault) (r : Result Went AskFault) → IsErr r × IsErrAnd r (λ e. IsSameFault from e) → AnswersCircular (program_at d) (instance_of (program_at d) b.value.start) d.0 e.1 from → GoesThrough (program_at d) d e i x (record { slot = x.slot; way = Some b; saved = x.saved }) before after r
   local_err from r h a = record {

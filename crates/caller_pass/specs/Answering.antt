@@ -1,5 +1,5 @@
 -- The answers to an instance that is asked for.
-use Rattle.std.specs.Prelude.{◌≡◌, ℕ, zero, suc, ◌+◌, ◌*◌, ◌/◌, ◌<◌, ◌≤◌, ◌==◌, if◌then◌else◌, true, false, List, [], ◌∷◌, ◌++◌, ◌⊎◌, Option, Some, None, Result, Ok, Err, IsOk, map}
+use Rattle.std.specs.Prelude.{◌≡◌, ℕ, zero, suc, ◌+◌, ◌*◌, ◌<◌, ◌≤◌, ◌==◌, if◌then◌else◌, true, false, List, [], ◌∷◌, ◌++◌, ◌⊎◌, Option, Some, None, Result, Ok, Err, IsOk, map}
 use Rattle.std.specs.List.{list_any}
 use Rattle.attr_rules.specs.Rules.{is_single}
 use Rattle.equation_law.specs.declared.coding.Instance.{Instance as CodedInstance}
@@ -8,17 +8,14 @@ use Rattle.equation_law.specs.Checked.{IsInstance}
 use Rattle.equation_law.specs.Codes.{AreElements, IsCoded, instance_of, value_of}
 use Rattle.equation_law.specs.Equations.{HasValue, equations_of, kind_in}
 use Rattle.equation_law.specs.Loops.{Chain, HasLoop}
-use Rattle.equation_law.specs.Lower.{IsLower}
 use Rattle.equation_law.specs.Names.{Instance}
 use Rattle.equation_law.specs.Program.{Program, text_of}
-use Rattle.equation_law.specs.Values.{Value}
 use Rattle.expr_eval.specs.Saved.{AreSaved}
 use Rattle.memo_cells.specs.declared.view.Frame.{Frame}
 use Rattle.memo_cells.specs.declared.view.View.{View}
-use Rattle.memo_cells.specs.Naming.{IsElementCode, IsKeyTo, IsWordOf}
-use Rattle.memo_cells.specs.Showing.{ShowsAtLeast, has_code}
+use Rattle.memo_cells.specs.Claiming.{ClaimsKeys, FillsCells}
+use Rattle.memo_cells.specs.Showing.{ShowsAtLeast}
 use Rattle.memo_cells.specs.Standing.{Knows}
-use Rattle.memo_cells.specs.Views.{Has, IsFull, times}
 use Rattle.memo_cells.specs.Working.{GoesOn, Held, IsKnown, program_at}
 use Rattle.circular_eval.specs.declared.advancing.CircFault.{CircFault}
 use Rattle.circular_eval.specs.declared.advancing.CircFault.TheVariants as set_fault
@@ -50,33 +47,6 @@ pub record EndsAtLoop (p : Program) (i on : Instance) (chain : List Instance) : 
   pub ends : chain ≡ front ++ on ∷ []
   pub undeclared : (equations_of p).circular on ≡ false
   pub loop : HasLoop p on
-
--- a set in which the element of code c lies counts for i: its value in the solution, or one that it has under a lower assignment
-abbrev pub HasElement : Program → Instance → ℕ → Type 0
-HasElement p i c = ((x : Value) × HasValue p i x × (has_code (text_of p) (kind_in p i) x c ≡ true)) ⊎ ((T : Instance → Value) × IsLower p T × ((equations_of p).circular i ≡ true) × (has_code (text_of p) (kind_in p i) (T i) c ≡ true))
-
--- k is the key of a word of the set of i, in which an element of such a set lies
-pub record IsElementKey (p : Program) (v : View) (i : Instance) (k : ℕ) : Type 0 where
-  pub word : ℕ
-  pub key : IsWordOf p v k i word
-  pub code : ℕ
-  pub element : IsElementCode p (kind_in p i) code
-  pub within : HasElement p i code
-  pub lies : code / 64 ≡ word
-
--- k is a key of i: one on the way to the cell of an instance to which a chain leads from i, or of a word of its set
-pub record IsKeyOf (p : Program) (v : View) (i : Instance) (k : ℕ) : Type 0 where
-  pub of : Instance
-  pub reached : Chain p i of
-  pub key : IsKeyTo p v of k ⊎ IsElementKey p v of k
-
--- what was claimed are cells of keys of i
-abbrev pub ClaimsKeys : Program → Instance → View → View → Type 0
-ClaimsKeys p i v w = (q : ℕ) → (times q w.claims ≡ times q v.claims) ⊎ ((k : ℕ) × Has w.keys (q, k) × IsKeyOf p w i k)
-
--- other keys have all the cells than some key of i
-abbrev pub FillsCells : Program → Instance → Frame → View → Type 0
-FillsCells p i f v = (k : ℕ) × IsKeyOf p v i k × IsFull f v k
 
 -- `Circular` comes with a loop, and `CellsFull` where other keys have all the cells than some key of i
 abbrev pub AnswersFault : Program → Frame → View → Instance → AskFault → Type 0

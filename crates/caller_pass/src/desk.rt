@@ -78,18 +78,17 @@ impl Work for Desk<'_> {
 }
 
 impl<'a> Desk<'a> {
-    ghost use Rattle.std.specs.Prelude.{◌<◌, IfOk, IfSome, OnErr, false, true};
+    ghost use Rattle.std.specs.Prelude.{◌<◌, IfOk, IfSome, false, true};
     ghost use Rattle.attr_rules.specs.Rules.{is_single};
     ghost use Rattle.equation_law.specs.declared.coding.Instance.TheVariants.{Attr as attribute_at};
     ghost use Rattle.equation_law.specs.Equations.{equation_of, kind_in};
     ghost use Rattle.inherited_walk.specs.Sites.{IsFound};
-    ghost use Rattle.equation_law.specs.Checked.{IsInstance};
     ghost use Rattle.equation_law.specs.Codes.{IsCoded, IsRow, instance_of};
     ghost use Rattle.equation_law.specs.Loops.{HasLoop};
     ghost use Rattle.equation_law.specs.Names.{Instance as StandingInstance};
-    ghost use Rattle.memo_cells.specs.Naming.{ClaimsKeysTo, IsCellOf, LacksCell};
+    ghost use Rattle.memo_cells.specs.Naming.{IsCellOf};
     ghost use Rattle.memo_cells.specs.Standing.{IsPassOf, Knows, MaySettle};
-    ghost use Rattle.memo_cells.specs.Working.{GoesOn, IsOwn, ReadsOn, program_at};
+    ghost use Rattle.memo_cells.specs.Working.{IsOwn, ReadsOn, program_at};
     ghost use Rattle.caller_pass.specs.Knowing.{FindsCode, FindsValue, IsKnownValue};
     ghost use Rattle.caller_pass.specs.Noting.{IsNoted};
 
@@ -106,18 +105,6 @@ impl<'a> Desk<'a> {
             notes: Notebook::new(alloc, system),
             pass,
         }
-    }
-
-    /// The one slot of an instance of the system, claimed where it wasn't.
-    pub(crate) fn claim_cell(&mut self, i: Instance) -> Result<Slot, CellsFull>
-        requires instance { IsInstance (program_at self.old) (instance_of (program_at self.old) i) }
-        requires coded { IsCoded (program_at self.old) i }
-        ensures on { GoesOn self.old self.new }
-        ensures slot { IfOk result (λ s. IsCellOf (program_at self.old) self.new.0 self.new.1 (instance_of (program_at self.old) i) s.0) }
-        ensures full { OnErr result (LacksCell (program_at self.old) self.new.0 self.new.1 (instance_of (program_at self.old) i)) }
-        ensures claims { ClaimsKeysTo (program_at self.old) self.old.1 self.new.1 (instance_of (program_at self.old) i) }
-    {
-        self.cells.claim_instance(self.pass, i)
     }
 
     /// The slot of a well coded instance whose cell is settled, and its code. Of another one, the slot is that of some instance.

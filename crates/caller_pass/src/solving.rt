@@ -23,6 +23,7 @@ use crate::waiting::{Waiter, Waiting, alone, push_all, push_path};
 use circular_eval::{CircTurn, Local};
 use equation_law::{Chain, Instance};
 use expr_eval::{Saved, Turn, is_declared};
+use memo_cells::claim_instance;
 use rag_io::Memory;
 use std::alloc::Global;
 use std::sync::ledger::Ledger;
@@ -117,7 +118,7 @@ fn wait_for<'a>(
         let chain = waiting.chain(alloc, next)?;
         return Err(AskFault::Circular { on: next, chain });
     }
-    let slot = desk.claim_cell(next)?;
+    let slot = claim_instance(desk, next)?;
     Ok(Waiter {
         slot,
         way: None,
@@ -161,7 +162,7 @@ fn solve<L: Ledger>(
     let mut waiting = Waiting::new(alloc);
     let mut top = i;
     let mut waiter = Waiter {
-        slot: desk.claim_cell(i)?,
+        slot: claim_instance(desk, i)?,
         way: None,
         saved: Saved::new(alloc),
     };

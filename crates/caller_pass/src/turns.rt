@@ -1,7 +1,8 @@
 // One turn: the equation of an instance is evaluated, or a local set goes on.
 ghost use Rattle.std.specs.Prelude.{◌≡◌, ◌+◌, false, not};
 ghost use Rattle.attr_rules.specs.Rules.{is_single};
-ghost use Rattle.circular_eval.specs.Advancing.{AnswersTurn, ClaimsFrom};
+ghost use Rattle.memo_cells.specs.Claiming.{ClaimsKeys};
+ghost use Rattle.circular_eval.specs.Advancing.{AnswersTurn};
 ghost use Rattle.circular_eval.specs.Local.{IsLocal};
 ghost use Rattle.equation_law.specs.Codes.{IsCoded, instance_of};
 ghost use Rattle.equation_law.specs.Equations.{equations_of};
@@ -12,7 +13,7 @@ ghost use Rattle.equation_law.specs.Systems.{program_of};
 ghost use Rattle.expr_eval.specs.Evaluating.{Evaluates};
 ghost use Rattle.expr_eval.specs.Saved.{AreSaved};
 ghost use Rattle.memo_cells.specs.Working.{GoesOn, IsKnown, IsOwn, ReadsOn, program_at, told_by};
-ghost use Rattle.caller_pass.specs.Answering.{AnswersFinish, AnswersShow, ClaimsKeys};
+ghost use Rattle.caller_pass.specs.Answering.{AnswersFinish, AnswersShow};
 ghost use Rattle.caller_pass.specs.Knowing.{HasEnded, TurnsTo};
 
 use crate::desk::Desk;
@@ -90,7 +91,7 @@ pub(crate) fn go_on<'a, L: Ledger>(
     requires local { IsLocal (program_at desk.old) desk.old.0 desk.old.1 local.old }
     ensures on { GoesOn desk.old desk.new }
     ensures local { IsLocal (program_at desk.old) desk.old.0 desk.new.1 local.new × (local.new.start ≡ local.old.start) }
-    ensures claims { ClaimsFrom (program_at desk.old) (instance_of (program_at desk.old) local.old.start) desk.old.1 desk.new.1 }
+    ensures claims { ClaimsKeys (program_at desk.old) (instance_of (program_at desk.old) local.old.start) desk.old.1 desk.new.1 }
     ensures answer { AnswersTurn (program_at desk.old) desk.old.0 desk.new.1 local.new result }
     ensures evals { evals.new ≡ evals.old + 1 }
 {

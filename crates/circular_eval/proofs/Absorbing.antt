@@ -7,11 +7,12 @@ use Rattle.equation_law.specs.declared.system.System.{System}
 use Rattle.equation_law.specs.Codes.{instance_of, value_of}
 use Rattle.equation_law.specs.Loops.{Chain}
 use Rattle.equation_law.specs.Names.{Instance}
-use Rattle.equation_law.specs.Orders.{AtMost}
+use Rattle.equation_law.specs.Orders.{IsAtMost}
 use Rattle.equation_law.specs.Program.{Program, text_of}
 use Rattle.equation_law.specs.Values.{Value}
 use Rattle.expr_eval.specs.declared.sites.Turn.TheVariants as turns
 use Rattle.memo_cells.specs.declared.keys.Slot.{Slot}
+use Rattle.memo_cells.specs.Claiming.{ClaimsKeys}
 use Rattle.memo_cells.specs.Working.{Held, program_at}
 use Rattle.memo_cells.specs.SetRaising.{set_codes}
 use Rattle.circular_eval.specs.declared.advancing.CircFault.{CircFault}
@@ -20,7 +21,7 @@ use Rattle.circular_eval.specs.declared.local.Local.{Local}
 use Rattle.circular_eval.specs.declared.members.Member.{Member}
 use Rattle.circular_eval.specs.declared.visiting.Visited.{Visited}
 use Rattle.circular_eval.specs.declared.visiting.Visited.TheVariants.{Changed, Same}
-use Rattle.circular_eval.specs.Advancing.{AnswersFault, ClaimsFrom}
+use Rattle.circular_eval.specs.Advancing.{AnswersFault}
 use Rattle.circular_eval.specs.Left.{left}
 use Rattle.circular_eval.specs.Local.{IsCurrent, IsMember, Members, local_value, with_value}
 use Rattle.circular_eval.specs.Rising.{AnswersRaise, IsRisen, LacksSome, MayRise, RaisesValue}
@@ -28,7 +29,7 @@ use Rattle.circular_eval.specs.Visiting.{ComesAt, GoesOnWith, IsReady, Steps}
 use Rattle.circular_eval.proofs.Admitting.{IsSame, goes_same, local_is_here, near_is, program_is}
 use Rattle.circular_eval.proofs.Closing.{placed_at, value_there}
 use Rattle.circular_eval.proofs.Entries.{length_changed}
-use Rattle.circular_eval.proofs.Going.{claims_from_words, fills_from_words, member_chain}
+use Rattle.circular_eval.proofs.Going.{claims_raised, fills_raised, member_chain}
 use Rattle.circular_eval.proofs.Growing.{left_risen, local_risen}
 use Rattle.circular_eval.proofs.Later.{local_later, read_later}
 use Rattle.circular_eval.proofs.Lowering.{comes, ended_typed}
@@ -86,14 +87,14 @@ module _ (s : System) (d : Held) (l : Local) (r : IsReady s d l) (number : ℕ) 
     chain = member_chain p d.0 d.1 l (local_is_here s d l r) number came.entry came.at
 
     module _ (f : Held) (q : Result (Option CodedValue) CircFault) (raises : RaisesValue d f place x e.1.value q) where
-      claims : ClaimsFrom p (instance_of p l.start) d.1 f.1
-      claims = claims_from_words p (instance_of p l.start) i chain d.1 (near_is s d l r) member.is_circular (value_of (text_of p) x) may_rise.comes (set_codes x) (value_elements d i place x e.1.value may_rise) d.1 f.1 (raises.claims i may_rise)
+      claims : ClaimsKeys p (instance_of p l.start) d.1 f.1
+      claims = claims_raised p (instance_of p l.start) i chain d.1 (near_is s d l r) member.is_circular (value_of (text_of p) x) may_rise.comes (set_codes x) (value_elements d i place x e.1.value may_rise) d.1 f.1 (raises.claims i may_rise)
 
       goes : (m : Local) → IsSame l m → GoesOnWith p d f l m
       goes m same = goes_same s d l r f raises.on claims m same
 
       fault_answer : (fault : CircFault) → LacksSome p d.0 f.1 i (set_codes x) fault → AnswersFault p (instance_of p l.start) d.0 f.1 fault
-      fault_answer CellsFull lacks = fills_from_words p (instance_of p l.start) i chain d.1 (near_is s d l r) member.is_circular (value_of (text_of p) x) may_rise.comes (set_codes x) (value_elements d i place x e.1.value may_rise) d.0 f.1 lacks
+      fault_answer CellsFull lacks = fills_raised p (instance_of p l.start) i chain d.1 (near_is s d l r) member.is_circular (value_of (text_of p) x) may_rise.comes (set_codes x) (value_elements d i place x e.1.value may_rise) d.0 f.1 lacks
       fault_answer Memory lacks = tt
 
       -- a fault
@@ -103,12 +104,12 @@ module _ (s : System) (d : Held) (l : Local) (r : IsReady s d l) (number : ℕ) 
           (record { goes = goes l (record { start = refl; entries = refl; need = refl; saved = refl }); answer = fault_answer fault (subst (λ (z : Result (Option CodedValue) CircFault). AnswersRaise p d.0 f.1 i x e.1.value z) is_fault (raises.answer i may_rise)) })
 
       -- the value isn't more
-      current : AtMost (value_of (text_of p) x) (value_of (text_of p) e.1.value) → (c : CodedInstance × Member) → slice_get es number ≡ Some c → IsCurrent p f.1 es (instance_of p c.0)
+      current : IsAtMost (value_of (text_of p) x) (value_of (text_of p) e.1.value) → (c : CodedInstance × Member) → slice_get es number ≡ Some c → IsCurrent p f.1 es (instance_of p c.0)
       current most c there =
           let here : local_value p es i ≡ value_of (text_of p) came.entry.1.value = value_there p es (local_is_here s d l r).set.different number came.entry came.at in
           let same : local_value p es i ≡ value_of (text_of p) e.1.value = here ∙ ap (λ (u : CodedInstance × Member). value_of (text_of p) u.1.value) (one_entry e at) in
           subst (λ (u : CodedInstance × Member). IsCurrent p f.1 es (instance_of p u.0)) (one_entry c there)
-          (record { value = value_of (text_of p) x; demands = came.comes.0.0; ends = ends_more (read_later p d.1 f.1 raises.on.kept es) came.comes.0.1; below = subst (λ (v : Value). AtMost (value_of (text_of p) x) v) (sym same) most })
+          (record { value = value_of (text_of p) x; demands = came.comes.0.0; ends = ends_more (read_later p d.1 f.1 raises.on.kept es) came.comes.0.1; below = subst (λ (v : Value). IsAtMost (value_of (text_of p) x) v) (sym same) most })
 
       pub absorb_same : q ≡ Ok None → Steps d f l l number (Ok (Some Same))
       absorb_same none = record {

@@ -21,21 +21,23 @@ use Rattle.equation_law.proofs.Solution.{circular_site, one}
 use Rattle.memo_cells.specs.declared.keys.Slot.{Slot}
 use Rattle.memo_cells.specs.declared.view.Frame.{Frame}
 use Rattle.memo_cells.specs.declared.view.View.{View}
+use Rattle.memo_cells.specs.Claiming.{ClaimsKeys, FillsCells}
 use Rattle.memo_cells.specs.Naming.{ClaimsKeysTo, IsCellOf, LacksCell}
 use Rattle.memo_cells.specs.Showing.{ShowsAtLeast}
 use Rattle.memo_cells.specs.Standing.{AreApproximations}
 use Rattle.memo_cells.specs.Views.{times}
 use Rattle.memo_cells.specs.Working.{GoesOn, Held, IsKnown, TellsPass, program_at}
 use Rattle.memo_cells.specs.SetShown.{IsShownValue}
+use Rattle.memo_cells.proofs.Claiming.{chain_more, claims_way, fills_way}
 use Rattle.circular_eval.specs.declared.advancing.CircFault.{CircFault}
 use Rattle.circular_eval.specs.declared.local.Local.{Local}
 use Rattle.circular_eval.specs.declared.members.Member.{Member}
-use Rattle.circular_eval.specs.Advancing.{AnswersFault, ClaimsFrom, FillsFrom}
+use Rattle.circular_eval.specs.Advancing.{AnswersFault}
 use Rattle.circular_eval.specs.Left.{left, member_bound}
 use Rattle.circular_eval.specs.Local.{IsAbsent, IsLedBy, IsLocal, StillMembers}
 use Rattle.circular_eval.specs.Visiting.{Admits, BeginsWith, GoesOnWith, IsNew, IsReady}
 use Rattle.circular_eval.proofs.Entries.{length_more}
-use Rattle.circular_eval.proofs.Going.{chain_more, claims_from_keys, fills_from_keys, member_chain, program_on}
+use Rattle.circular_eval.proofs.Going.{member_chain, program_on}
 use Rattle.circular_eval.proofs.Growing.{IsFit, left_more, local_more, local_same}
 use Rattle.circular_eval.proofs.Later.{local_later}
 use Rattle.circular_eval.proofs.Lowering.{bottom_fits, bottom_shown}
@@ -76,7 +78,7 @@ module _ (s : System) (d : Held) (l : Local) (r : IsReady s d l) where
   near_is = r.own.approximations
 
   -- the set stays as it is
-  pub goes_same : (e : Held) → GoesOn d e → ClaimsFrom p (instance_of p l.start) d.1 e.1 → (m : Local) → IsSame l m → GoesOnWith p d e l m
+  pub goes_same : (e : Held) → GoesOn d e → ClaimsKeys p (instance_of p l.start) d.1 e.1 → (m : Local) → IsSame l m → GoesOnWith p d e l m
   goes_same e on claims m same = record {
     on = on;
     local = local_same p d.0 e.1 l m same.start same.entries same.need same.saved (local_later p d.1 e.1 on.kept d.0 l local_is_here);
@@ -94,24 +96,24 @@ module _ (s : System) (d : Held) (l : Local) (r : IsReady s d l) where
     new_chain = led_chain by new.led
 
     -- claims of its cell
-    pub keys_claimed : (e f : Held) → GoesOn d e → e.1.claims ≡ d.1.claims → ClaimsKeysTo (program_at e) e.1 f.1 (instance_of (program_at e) i) → ClaimsFrom p (instance_of p l.start) d.1 f.1
+    pub keys_claimed : (e f : Held) → GoesOn d e → e.1.claims ≡ d.1.claims → ClaimsKeysTo (program_at e) e.1 f.1 (instance_of (program_at e) i) → ClaimsKeys p (instance_of p l.start) d.1 f.1
     keys_claimed e f on same claims q =
         ⊎_elim (λ a. inl (a ∙ ap (λ (cs : List ℕ). times q cs) same)) inr
-        (claims_from_keys p (instance_of p l.start) (instance_of p i) e.1 f.1 new_chain (subst (λ (u : Program). ClaimsKeysTo u e.1 f.1 (instance_of u i)) (program_on d e on) claims) q)
+        (claims_way p (instance_of p l.start) (instance_of p i) new_chain e.1 f.1 (subst (λ (u : Program). ClaimsKeysTo u e.1 f.1 (instance_of u i)) (program_on d e on) claims) q)
 
-    pub cell_lacks : (e f : Held) → GoesOn d e → LacksCell (program_at e) e.0 f.1 (instance_of (program_at e) i) → FillsFrom p (instance_of p l.start) d.0 f.1
-    cell_lacks e f on full = fills_from_keys p (instance_of p l.start) (instance_of p i) d.0 f.1 new_chain (subst (λ (u : Program × Frame). LacksCell u.0 u.1 f.1 (instance_of u.0 i)) (λ j. (program_on d e on j, on.cells j)) full)
+    pub cell_lacks : (e f : Held) → GoesOn d e → LacksCell (program_at e) e.0 f.1 (instance_of (program_at e) i) → FillsCells p (instance_of p l.start) d.0 f.1
+    cell_lacks e f on full = fills_way p (instance_of p l.start) (instance_of p i) new_chain d.0 f.1 (subst (λ (u : Program × Frame). LacksCell u.0 u.1 f.1 (instance_of u.0 i)) (λ j. (program_on d e on j, on.cells j)) full)
 
     -- it is no member yet
     pub is_absent : IsAbsent l.members.entries i
     is_absent e there is = new.absent (e, there, ap (λ (x : CodedInstance). instance_of p x) is)
 
     -- nothing was added
-    pub refused : (e : Held) → GoesOn d e → ClaimsFrom p (instance_of p l.start) d.1 e.1 → (m : Local) → IsSame l m → (fault : CircFault) → AnswersFault p (instance_of p l.start) d.0 e.1 fault → (x : Result Unit CircFault) → x ≡ Err fault → Admits d e l m x
+    pub refused : (e : Held) → GoesOn d e → ClaimsKeys p (instance_of p l.start) d.1 e.1 → (m : Local) → IsSame l m → (fault : CircFault) → AnswersFault p (instance_of p l.start) d.0 e.1 fault → (x : Result Unit CircFault) → x ≡ Err fault → Admits d e l m x
     refused e on claims m same fault answer x is = subst (λ (y : Result Unit CircFault). Admits d e l m y) (sym is) (record { goes = goes_same e on claims m same; grown = tt; still = tt; some = tt; fault = answer })
 
     -- it was added
-    pub admitted : (e : Held) → GoesOn d e → ClaimsFrom p (instance_of p l.start) d.1 e.1 → (m : Local) (n : Member) → n.by ≡ by → IsFit p d.0 e.1 (instance_of p i) n → length l.members.entries < member_bound → m.start ≡ l.start → m.need ≡ l.need → m.saved ≡ l.saved → m.members.entries ≡ l.members.entries ++ (i, n) ∷ [] → (u : Unit) → Admits d e l m (Ok u)
+    pub admitted : (e : Held) → GoesOn d e → ClaimsKeys p (instance_of p l.start) d.1 e.1 → (m : Local) (n : Member) → n.by ≡ by → IsFit p d.0 e.1 (instance_of p i) n → length l.members.entries < member_bound → m.start ≡ l.start → m.need ≡ l.need → m.saved ≡ l.saved → m.members.entries ≡ l.members.entries ++ (i, n) ∷ [] → (u : Unit) → Admits d e l m (Ok u)
     admitted e on claims m n of fit few start need saved entries u =
         let later = local_later p d.1 e.1 on.kept d.0 l local_is_here in
         let longer : length (l.members.entries ++ (i, n) ∷ []) ≡ suc (length l.members.entries) = length_more l.members.entries (i, n) in

@@ -18,6 +18,7 @@ use Rattle.expr_eval.specs.declared.sites.Turn.{Turn}
 use Rattle.expr_eval.specs.declared.sites.Turn.TheVariants as turns
 use Rattle.memo_cells.specs.Standing.{Knows}
 use Rattle.memo_cells.specs.Working.{Held, program_at}
+use Rattle.memo_cells.proofs.Claiming.{chain_more, claims_same}
 use Rattle.circular_eval.specs.declared.advancing.CircFault.{CircFault}
 use Rattle.circular_eval.specs.declared.local.Local.{Local}
 use Rattle.circular_eval.specs.declared.visiting.Visited.{Visited}
@@ -25,7 +26,7 @@ use Rattle.circular_eval.specs.declared.visiting.Visited.TheVariants.{Need}
 use Rattle.circular_eval.specs.Local.{IsMember, Members, ReadsHere, here, local_value, settled}
 use Rattle.circular_eval.specs.Visiting.{Admits, ComesAt, IsNew, IsReady, Steps}
 use Rattle.circular_eval.proofs.Admitting.{local_is_here, near_is, program_is}
-use Rattle.circular_eval.proofs.Going.{chain_more, claims_from_none, member_chain}
+use Rattle.circular_eval.proofs.Going.{member_chain}
 use Rattle.circular_eval.proofs.Growing.{local_needs}
 use Rattle.memo_cells.proofs.Holding.{goes_itself}
 use Rattle.circular_eval.proofs.Lowering.{met_is, stuck_leads}
@@ -98,7 +99,7 @@ module _ (s : System) (d : Held) (l : Local) (r : IsReady s d l) (number : ℕ) 
         on = goes_itself d r.own;
         local = local_needs p d.0 d.1 l m number n came.entry came.at leads start members need saved (local_is_here s d l r);
         start = start;
-        claims = claims_from_none p (instance_of p l.start) d.1 d.1 refl;
+        claims = claims_same p (instance_of p l.start) d.1 d.1 refl;
         some = λ h. subst (λ (k : ℕ). 0 < k) (sym (ap (λ x. length x.entries) members)) h;
       };
       answer = (

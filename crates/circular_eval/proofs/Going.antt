@@ -1,11 +1,12 @@
 -- How the steps of a local set go on from each other.
-use Rattle.std.proofs.Common.{◌≡◌, ℕ, ◌<◌, zero, suc, true, List, Option, Some, None, slice_get, inl, inr, ⊎_elim, refl, sym, ap, subst, ◌∙◌, arith}
-use Rattle.solutions.specs.Leading.{more, none}
+use Rattle.std.proofs.Common.{◌≡◌, ℕ, ◌<◌, zero, suc, true, List, Option, Some, None, slice_get, inl, inr, refl, sym, ap, subst, ◌∙◌, arith}
+use Rattle.solutions.specs.Leading.{none}
 use Rattle.equation_law.specs.declared.coding.Instance.{Instance as CodedInstance}
 use Rattle.equation_law.specs.declared.system.System.{System}
 use Rattle.equation_law.specs.Codes.{instance_of}
 use Rattle.equation_law.specs.Equations.{equations_of, kind_in}
-use Rattle.equation_law.specs.Loops.{Chain, Leads}
+use Rattle.equation_law.specs.Keys.{HasElement, IsElementCode, has_code}
+use Rattle.equation_law.specs.Loops.{Chain}
 use Rattle.equation_law.specs.Names.{Instance}
 use Rattle.equation_law.specs.Program.{Program, text_of}
 use Rattle.equation_law.specs.Systems.{program_of}
@@ -13,31 +14,19 @@ use Rattle.equation_law.specs.Values.{Value}
 use Rattle.equation_law.proofs.Solution.{are_joins, are_rising}
 use Rattle.memo_cells.specs.declared.view.Frame.{Frame}
 use Rattle.memo_cells.specs.declared.view.View.{View}
-use Rattle.memo_cells.specs.Naming.{ClaimsKeysTo, IsElementCode, LacksCell}
-use Rattle.memo_cells.specs.Showing.{has_code}
+use Rattle.memo_cells.specs.Claiming.{ClaimsKeys, FillsCells}
 use Rattle.memo_cells.specs.Standing.{AreApproximations, ComesTo}
-use Rattle.memo_cells.specs.Views.{Has, IsAtLeast, times}
+use Rattle.memo_cells.specs.Views.{Has, IsAtLeast}
 use Rattle.memo_cells.specs.Working.{GoesOn, Held, program_at}
-use Rattle.memo_cells.proofs.Naming.{key_later, word_later}
+use Rattle.memo_cells.proofs.Claiming.{chain_more, claims_same, claims_then, claims_words, fills_words}
 use Rattle.memo_cells.proofs.Raising.{higher}
 use Rattle.memo_cells.proofs.Showing.{has_code_more}
-use Rattle.memo_cells.specs.SetRaising.{ClaimsWords, IsWordWith, LacksWord}
+use Rattle.memo_cells.specs.SetRaising.{ClaimsWords, LacksWord}
 use Rattle.circular_eval.specs.declared.local.Local.{Local}
 use Rattle.circular_eval.specs.declared.members.Member.{Member}
-use Rattle.circular_eval.specs.Advancing.{ClaimsFrom, FillsFrom, IsKeyFrom}
 use Rattle.circular_eval.specs.Local.{AreMembers, IsLedBy, IsLocal, Members}
 use Rattle.circular_eval.specs.Visiting.{GoesOnWith, IsReady}
 use Rattle.memo_cells.proofs.Holding.{goes_itself, goes_then}
-
--- a chain, and one step more
-pub chain_more : (p : Program) (i j k : Instance) → Chain p i j → Leads p j k → Chain p i k
-chain_more p i j k none l = more l none
-chain_more p i j k (more {j = h} m c) l = more m (chain_more p h j k c l)
-
--- a chain, and another one
-pub chain_then : (p : Program) {i j k : Instance} → Chain p i j → Chain p j k → Chain p i k
-chain_then p none c = c
-chain_then p (more l d) c = more l (chain_then p d c)
 
 -- the start leads to each member
 led_by : (p : Program) (start : CodedInstance) (es : Members) (k : ℕ) (i : CodedInstance) (by : Option ℕ) → ((b : ℕ) (d : CodedInstance × Member) → b < k → slice_get es b ≡ Some d → Chain p (instance_of p start) (instance_of p d.0)) → IsLedBy p es start k i by → Chain p (instance_of p start) (instance_of p i)
@@ -51,44 +40,23 @@ led_chain p f v start es set (suc bound) k e low at = led_by p start es k e.0 e.
 pub member_chain : (p : Program) (f : Frame) (v : View) (l : Local) → IsLocal p f v l → (k : ℕ) (e : CodedInstance × Member) → slice_get l.members.entries k ≡ Some e → Chain p (instance_of p l.start) (instance_of p e.0)
 member_chain p f v l h k e at = led_chain p f v l.start l.members.entries h.set (suc k) k e (omega arith) at
 
--- keys of what it leads to, later
-key_from_later : (p : Program) (v w : View) → IsAtLeast v w → (i : Instance) (k : ℕ) → IsKeyFrom p v i k → IsKeyFrom p w i k
-key_from_later p v w kept i k h = record {
-  of = h.of;
-  reached = h.reached;
-  key = ⊎_elim (λ a. inl (key_later v w kept p h.of k a)) (λ a. inr (record { word = a.word; key = word_later v w kept p k h.of a.word a.key; is_circular = a.is_circular; values = a.values; lower = a.lower; code = a.code; element = a.element; within = a.within; lies = a.lies })) h.key;
-}
-
-pub claims_from_then : (p : Program) (i : Instance) (u v w : View) → ClaimsFrom p i u v → ClaimsFrom p i v w → IsAtLeast v w → ClaimsFrom p i u w
-claims_from_then p i u v w a b kept q =
-    ⊎_elim
-    (λ x. ⊎_elim (λ y. inl (x ∙ y)) (λ y. inr (y.0, kept.keys q y.0 y.1, key_from_later p v w kept i y.0 y.2)) (a q))
-    inr
-    (b q)
-
-pub claims_from_none : (p : Program) (i : Instance) (v w : View) → w.claims ≡ v.claims → ClaimsFrom p i v w
-claims_from_none p i v w e q = inl (ap (λ (cs : List ℕ). times q cs) e)
-
--- the way to a cell of something that is led to
-pub claims_from_keys : (p : Program) (i j : Instance) (v w : View) → Chain p i j → ClaimsKeysTo p v w j → ClaimsFrom p i v w
-claims_from_keys p i j v w c h q = ⊎_elim inl (λ a. inr (a.0, a.1, record { of = j; reached = c; key = inl a.2 })) (h q)
-
-pub fills_from_keys : (p : Program) (i j : Instance) (f : Frame) (v : View) → Chain p i j → LacksCell p f v j → FillsFrom p i f v
-fills_from_keys p i j f v c h = (h.0, record { of = j; reached = c; key = inl h.1 }, h.2)
+-- what calls claimed in turn
+pub claims_more : (p : Program) (i : Instance) (u v w : View) → ClaimsKeys p i u v → ClaimsKeys p i v w → IsAtLeast v w → ClaimsKeys p i u w
+claims_more p i u v w a b kept = claims_then p i i u v w none a kept b
 
 -- the words of a value to which its equation comes
 module _ (p : Program) (i j : Instance) (c : Chain p i j) (u : View) (near : AreApproximations p u) (is_circular : (equations_of p).circular j ≡ true) (x : Value) (comes : ComesTo p u j x) (codes : List ℕ) (elements : (k : ℕ) → Has codes k → IsElementCode p (kind_in p j) k × (has_code (text_of p) (kind_in p j) x k ≡ true)) where
-  word_from : (v : View) (k : ℕ) → IsWordWith p v j codes k → IsKeyFrom p v i k
-  word_from v k h =
+  counted : (k : ℕ) → Has codes k → IsElementCode p (kind_in p j) k × HasElement p j k
+  counted k among =
       let t = higher p (are_rising p) (are_joins p) u near.values near.lower near.circular j x (inl (is_circular, comes)) in
-      let e = elements h.code h.among in
-      record { of = j; reached = c; key = inr (record { word = h.word; key = h.key; is_circular = is_circular; values = t.values; lower = t.lower; code = h.code; element = e.0; within = has_code_more (text_of p) (kind_in p j) x (t.values j) h.code (t.reaches is_circular) e.1; lies = h.lies }) }
+      let e = elements k among in
+      (e.0, inr (t.values, t.lower, is_circular, has_code_more (text_of p) (kind_in p j) x (t.values j) k (t.reaches is_circular) e.1))
 
-  pub claims_from_words : (v w : View) → ClaimsWords p v w j codes → ClaimsFrom p i v w
-  claims_from_words v w h q = ⊎_elim inl (λ a. inr (a.0, a.1, word_from w a.0 a.2)) (h q)
+  pub claims_raised : (v w : View) → ClaimsWords p v w j codes → ClaimsKeys p i v w
+  claims_raised v w h = claims_words p i j c codes counted v w h
 
-  pub fills_from_words : (f : Frame) (v : View) → LacksWord p f v j codes → FillsFrom p i f v
-  fills_from_words f v h = (h.0, word_from v h.0 h.1, h.2)
+  pub fills_raised : (f : Frame) (v : View) → LacksWord p f v j codes → FillsCells p i f v
+  fills_raised f v h = fills_words p i j c codes counted f v h
 
 -- the program stays
 pub program_on : (d e : Held) → GoesOn d e → program_at e ≡ program_at d
@@ -99,7 +67,7 @@ with_itself s d l r = record {
   on = goes_itself d r.own;
   local = subst (λ (q : System). IsLocal (program_of q) d.0 d.1 l) (sym r.same) r.local;
   start = refl;
-  claims = claims_from_none (program_at d) (instance_of (program_at d) l.start) d.1 d.1 refl;
+  claims = claims_same (program_at d) (instance_of (program_at d) l.start) d.1 d.1 refl;
   some = λ x. x;
 }
 
@@ -110,7 +78,7 @@ with_then a b c l m n x y =
       on = goes_then a b c x.on back.on;
       local = subst (λ (f : Frame). IsLocal (program_at a) f c.1 n) x.on.cells back.local;
       start = back.start ∙ x.start;
-      claims = claims_from_then (program_at a) (instance_of (program_at a) l.start) a.1 b.1 c.1 x.claims (subst (λ (i : CodedInstance). ClaimsFrom (program_at a) (instance_of (program_at a) i) b.1 c.1) x.start back.claims) back.on.kept;
+      claims = claims_more (program_at a) (instance_of (program_at a) l.start) a.1 b.1 c.1 x.claims (subst (λ (i : CodedInstance). ClaimsKeys (program_at a) (instance_of (program_at a) i) b.1 c.1) x.start back.claims) back.on.kept;
       some = λ h. back.some (x.some h);
     }
 

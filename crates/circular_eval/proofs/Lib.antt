@@ -7,7 +7,6 @@ pub mod Finding
 pub mod Following
 pub mod Going
 pub mod Growing
-pub mod Holding
 pub mod Later
 pub mod Left
 pub mod Looking

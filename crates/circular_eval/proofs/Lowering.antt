@@ -12,6 +12,7 @@ use Rattle.equation_law.specs.declared.coding.Instance.{Instance as CodedInstanc
 use Rattle.equation_law.specs.Checked.{IsInstance, IsNodeOf, IsProgram, IsValue, nodes, texts, truth}
 use Rattle.equation_law.specs.Codes.{instance_of, reference_of, value_of}
 use Rattle.equation_law.specs.Equations.{equations_of, is_ordered, kind_in}
+use Rattle.equation_law.specs.Keys.{IsElementCode}
 use Rattle.equation_law.specs.Loops.{Leads}
 use Rattle.equation_law.specs.Lower.{IsLower}
 use Rattle.equation_law.specs.Names.{Instance, Reference, node_cmp, same_instance, text_cmp}
@@ -28,7 +29,6 @@ use Rattle.equation_law.proofs.Sets.{none_has}
 use Rattle.equation_law.proofs.Solution.{circular_site}
 use Rattle.memo_cells.specs.declared.view.View.{View}
 use Rattle.memo_cells.specs.declared.view.Frame.{Frame}
-use Rattle.memo_cells.specs.Naming.{IsElementCode}
 use Rattle.memo_cells.specs.Showing.{AreShown, ShowsAtLeast, ShowsCode}
 use Rattle.memo_cells.specs.Standing.{AreApproximations, ComesTo}
 use Rattle.memo_cells.specs.Views.{Has}

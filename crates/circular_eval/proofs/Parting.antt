@@ -18,10 +18,12 @@ use Rattle.expr_eval.specs.declared.saved.Saved.{Saved}
 use Rattle.memo_cells.specs.declared.keys.Slot.{Slot}
 use Rattle.memo_cells.specs.declared.view.Frame.{Frame}
 use Rattle.memo_cells.specs.declared.view.View.{View}
+use Rattle.memo_cells.specs.Claiming.{ClaimsKeys}
 use Rattle.memo_cells.specs.Showing.{ShowsAtLeast}
 use Rattle.memo_cells.specs.Standing.{Knows}
 use Rattle.memo_cells.specs.Views.{Has}
 use Rattle.memo_cells.specs.Working.{Held, program_at}
+use Rattle.memo_cells.proofs.Claiming.{claims_same, claims_then, fills_more}
 use Rattle.memo_cells.proofs.Holding.{goes_itself}
 use Rattle.memo_cells.proofs.More.{at_least_itself}
 use Rattle.circular_eval.specs.declared.advancing.CircFault.{CircFault}
@@ -30,7 +32,7 @@ use Rattle.circular_eval.specs.declared.advancing.CircTurn.{CircTurn}
 use Rattle.circular_eval.specs.declared.advancing.CircTurn.TheVariants as turn
 use Rattle.circular_eval.specs.declared.local.Local.{Local}
 use Rattle.circular_eval.specs.declared.members.Member.{Member}
-use Rattle.circular_eval.specs.Advancing.{AnswersFault, AnswersTurn, ClaimsFrom, FillsFrom}
+use Rattle.circular_eval.specs.Advancing.{AnswersFault, AnswersTurn}
 use Rattle.circular_eval.specs.Local.{AreMembers, IsKept, IsLedBy, IsLocal, IsMember, IsMemberOf, IsNeedOf, IsNumberOf, IsPlaced, Members, ReadsHere, StillMembers, local_value, with_value}
 use Rattle.circular_eval.specs.Parts.{AnswersPart, IsFinal, IsFinalAt, IsSealedAt, IsSealedSet, SameMembers, SealsMember, SealsPart, Settles, Takes, unsealed_at, without_slot}
 use Rattle.circular_eval.specs.Sealed.{IsMemberAt}
@@ -38,7 +40,7 @@ use Rattle.circular_eval.specs.Visiting.{Advances, GoesOnWith, IsReady}
 use Rattle.circular_eval.proofs.Admitting.{local_is_here}
 use Rattle.circular_eval.proofs.Entries.{at_has, changed_at, length_changed}
 use Rattle.circular_eval.proofs.Ending.{head_of}
-use Rattle.circular_eval.proofs.Going.{chain_then, member_chain, program_on, with_then}
+use Rattle.circular_eval.proofs.Going.{member_chain, program_on, with_then}
 use Rattle.circular_eval.proofs.Growing.{local_risen}
 use Rattle.circular_eval.proofs.Later.{local_later}
 use Rattle.circular_eval.proofs.Passing.{goes_looked}
@@ -253,15 +255,9 @@ final_at p f v part sealed es k number i x y there here e at =
     let is : e ≡ here.entry = cc in
     subst (λ (u : CodedInstance). IsFinal p v (instance_of p u) x) (sym (ap (λ (q : CodedInstance × Member). q.0) is ∙ here.is)) (member_final p f v part sealed k i x there)
 
--- claims for what is led to
-claims_led : (p : Program) (i j : Instance) (v w : View) → Chain p i j → ClaimsFrom p j v w → ClaimsFrom p i v w
-claims_led p i j v w c h q = ⊎_elim inl (λ a. inr (a.0, a.1, record { of = a.2.of; reached = chain_then p c a.2.reached; key = a.2.key })) (h q)
-
-fills_led : (p : Program) (i j : Instance) (f : Frame) (v : View) → Chain p i j → FillsFrom p j f v → FillsFrom p i f v
-fills_led p i j f v c h = (h.0, record { of = h.1.of; reached = chain_then p c h.1.reached; key = h.1.key }, h.2)
-
+-- a fault for what is led to
 fault_led : (p : Program) (i j : Instance) (f : Frame) (v : View) → Chain p i j → (fault : CircFault) → AnswersFault p j f v fault → AnswersFault p i f v fault
-fault_led p i j f v c CellsFull h = fills_led p i j f v c h
+fault_led p i j f v c CellsFull h = fills_more p i j f v c h
 fault_led p i j f v c Memory h = tt
 
 -- where only memory may be wanting
@@ -310,7 +306,7 @@ module _ (s : System) (d : Held) (l : Local) (r : IsReady s d l) (n : ℕ) (i : 
       on = goes.on;
       local = local;
       start = start;
-      claims = claims_led p (instance_of p l.start) (instance_of p i) d.1 e.1 reached (subst (λ (u : CodedInstance). ClaimsFrom p (instance_of p u) d.1 e.1) is goes.claims);
+      claims = claims_then p (instance_of p l.start) (instance_of p i) d.1 d.1 e.1 reached (claims_same p (instance_of p l.start) d.1 d.1 refl) goes.on.kept (subst (λ (u : CodedInstance). ClaimsKeys p (instance_of p u) d.1 e.1) is goes.claims);
       some = some;
     }
 

@@ -14,7 +14,9 @@ use Rattle.expr_eval.specs.Saved.{AreSaved, SavesNothing}
 use Rattle.expr_eval.proofs.Found.{none_saved}
 use Rattle.memo_cells.specs.declared.view.Frame.{Frame}
 use Rattle.memo_cells.specs.declared.view.View.{View}
+use Rattle.memo_cells.specs.Claiming.{ClaimsKeys}
 use Rattle.memo_cells.specs.Working.{Held, ReadsOn, program_at}
+use Rattle.memo_cells.proofs.Claiming.{claims_same}
 use Rattle.memo_cells.proofs.Showing.{not_both}
 use Rattle.circular_eval.specs.declared.advancing.CircFault.{CircFault}
 use Rattle.circular_eval.specs.declared.advancing.CircFault.TheVariants.{Memory}
@@ -22,7 +24,7 @@ use Rattle.circular_eval.specs.declared.local.Local.{Local}
 use Rattle.circular_eval.specs.declared.members.Member.{Member}
 use Rattle.circular_eval.specs.declared.visiting.Visited.{Visited}
 use Rattle.circular_eval.specs.declared.visiting.Visited.TheVariants.{Changed, Need, Same}
-use Rattle.circular_eval.specs.Advancing.{AnswersFault, ClaimsFrom, IsMissing}
+use Rattle.circular_eval.specs.Advancing.{AnswersFault, IsMissing}
 use Rattle.circular_eval.specs.Left.{left}
 use Rattle.circular_eval.specs.Local.{AreKept, IsKept, Members, ReadsHere, StillMembers}
 use Rattle.circular_eval.specs.Looking.{ComesTo}
@@ -30,7 +32,7 @@ use Rattle.worklists.specs.Waiting.{due_count}
 use Rattle.circular_eval.specs.Visiting.{AnswersStep, AnswersVisit, ComesAt, GoesOnWith, IsConfirmed, IsReady, KeepsSaved, Passes, Stays, Steps, Visits}
 use Rattle.circular_eval.proofs.Admitting.{IsSame, goes_same}
 use Rattle.circular_eval.proofs.Entries.{has_at}
-use Rattle.circular_eval.proofs.Going.{claims_from_none, program_on, ready_then, with_itself, with_then}
+use Rattle.circular_eval.proofs.Going.{program_on, ready_then, with_itself, with_then}
 use Rattle.circular_eval.proofs.Growing.{local_free, local_kept}
 use Rattle.circular_eval.proofs.Later.{confirmed_later}
 use Rattle.circular_eval.proofs.Resuming.{saved_on, still_itself}
@@ -44,7 +46,7 @@ kept_members s d l r e there = let at = has_at l.members.entries e there in let 
 
 -- what was read
 pub goes_read : (s : System) (d e : Held) (l m : Local) → IsReady s d l → ReadsOn d e → IsSame l m → GoesOnWith (program_at d) d e l m
-goes_read s d e l m r on same = goes_same s d l r e on.on (claims_from_none (program_at d) (instance_of (program_at d) l.start) d.1 e.1 on.claims) m same
+goes_read s d e l m r on same = goes_same s d l r e on.on (claims_same (program_at d) (instance_of (program_at d) l.start) d.1 e.1 on.claims) m same
 
 pub read_refused : (s : System) (d e : Held) (l m : Local) (number : ℕ) → IsReady s d l → ReadsOn d e → IsSame l m → (y : Result (Option Visited) CircFault) → y ≡ Err Memory → Steps d e l m number y
 read_refused s d e l m number r on same y is = subst (λ (z : Result (Option Visited) CircFault). Steps d e l m number z) (sym is) (record { goes = goes_read s d e l m r on same; answer = tt })
@@ -131,7 +133,7 @@ visit_from d f l m n number y start members due h =
         on = h.goes.on;
         local = h.goes.local;
         start = h.goes.start ∙ start;
-        claims = subst (λ (u : CodedInstance). ClaimsFrom (program_at d) (instance_of (program_at d) u) d.1 f.1) start h.goes.claims;
+        claims = subst (λ (u : CodedInstance). ClaimsKeys (program_at d) (instance_of (program_at d) u) d.1 f.1) start h.goes.claims;
         some = λ some. h.goes.some (subst (λ (u : Members). 0 < length u) (sym entries) some);
       };
       answer = visit_answer (program_at d) d.0 f.1 l m n number y start entries due h.answer;

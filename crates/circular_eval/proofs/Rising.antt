@@ -16,7 +16,7 @@ use Rattle.equation_law.specs.Checked.{IsValue, nodes as are_nodes, texts as are
 use Rattle.equation_law.specs.Codes.{nodes_of, reference_of, value_of}
 use Rattle.equation_law.specs.Equations.{kind_in}
 use Rattle.equation_law.specs.Names.{At, Instance, NodeName, Source, node_cmp, text_cmp}
-use Rattle.equation_law.specs.Orders.{AtMost, FitsKind}
+use Rattle.equation_law.specs.Orders.{IsAtMost, FitsKind}
 use Rattle.equation_law.specs.Program.{Program, text_of}
 use Rattle.equation_law.specs.Sets.{SetBy, has}
 use Rattle.equation_law.specs.Systems.{program_of}
@@ -155,14 +155,14 @@ module _ (s : System) (v : View) (i : Instance) where
   }
 
   -- a set whose codes the other one has is at most that
-  pub texts_most : (a b : List ℕ) → All (IsKnown s) b → ((c : ℕ) → has_code a c ≡ true → has_code b c ≡ true) → AtMost (value_of (text_of p) (coded.Texts a)) (value_of (text_of p) (coded.Texts b))
+  pub texts_most : (a b : List ℕ) → All (IsKnown s) b → ((c : ℕ) → has_code a c ≡ true → has_code b c ≡ true) → IsAtMost (value_of (text_of p) (coded.Texts a)) (value_of (text_of p) (coded.Texts b))
   texts_most a b eb h = record {
     in_truth = λ e. absurd (not_both refl e);
     in_texts = λ t x. let c = text_coded p a t x in coded_text s b eb c.0 t c.2 (h c.0 c.1);
     in_nodes = λ n x. absurd (none_has node_cmp n x);
   }
 
-  pub nodes_most : (a b : List ℕ) → All IsNode b → ((c : ℕ) → has_code a c ≡ true → has_code b c ≡ true) → AtMost (value_of (text_of p) (coded.Nodes a)) (value_of (text_of p) (coded.Nodes b))
+  pub nodes_most : (a b : List ℕ) → All IsNode b → ((c : ℕ) → has_code a c ≡ true → has_code b c ≡ true) → IsAtMost (value_of (text_of p) (coded.Nodes a)) (value_of (text_of p) (coded.Nodes b))
   nodes_most a b eb h = record {
     in_truth = λ e. absurd (not_both refl e);
     in_texts = λ t x. absurd (none_has text_cmp t x);
@@ -170,7 +170,7 @@ module _ (s : System) (v : View) (i : Instance) where
   }
 
 -- truth values
-pub truth_most : (texts : ℕ → List ℕ) (a b : Bool) → (a ≡ true → b ≡ true) → AtMost (value_of texts (coded.Truth a)) (value_of texts (coded.Truth b))
+pub truth_most : (texts : ℕ → List ℕ) (a b : Bool) → (a ≡ true → b ≡ true) → IsAtMost (value_of texts (coded.Truth a)) (value_of texts (coded.Truth b))
 truth_most texts a b h = record { in_truth = h; in_texts = λ t x. absurd (none_has text_cmp t x); in_nodes = λ n x. absurd (none_has node_cmp n x) }
 
 pub truth_risen : (p : Program) (v : View) (i : Instance) → kind_in p i ≡ kinds.Truth → ShowsTrue p v i → IsRisen p v i (coded.Truth true) (coded.Truth false) (coded.Truth true)

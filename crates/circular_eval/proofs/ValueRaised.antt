@@ -14,13 +14,14 @@ use Rattle.equation_law.specs.declared.system.System.{System}
 use Rattle.equation_law.specs.Checked.{IsNodeOf, IsValue, int as is_int, node as is_node, nodes as are_nodes, text as is_text}
 use Rattle.equation_law.specs.Codes.{reference_of, value_of}
 use Rattle.equation_law.specs.Equations.{kind_in}
+use Rattle.equation_law.specs.Keys.{IsElementCode, has_code}
 use Rattle.equation_law.specs.Names.{At, Instance, NodeName, Reference, Source}
 use Rattle.equation_law.specs.Orders.{FitsKind}
 use Rattle.equation_law.specs.Program.{Program, text_of}
 use Rattle.equation_law.specs.Sets.{has}
 use Rattle.equation_law.specs.Values.{Int, Node, Nodes, Text, Value}
-use Rattle.memo_cells.specs.Naming.{IsCellOf, IsElementCode}
-use Rattle.memo_cells.specs.Showing.{IsWordSeen, ShowsAtLeast, ShowsTrue, has_code}
+use Rattle.memo_cells.specs.Naming.{IsCellOf}
+use Rattle.memo_cells.specs.Showing.{IsWordSeen, ShowsAtLeast, ShowsTrue}
 use Rattle.memo_cells.specs.Standing.{HasWord, MayRaise}
 use Rattle.memo_cells.specs.Views.{Has, times}
 use Rattle.memo_cells.specs.Working.{GoesOn, Held, IsOwn, program_at}

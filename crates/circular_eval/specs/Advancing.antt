@@ -1,20 +1,17 @@
 -- What going on with a local set says.
-use Rattle.std.specs.Prelude.{◌≡◌, ℕ, true, false, ◌/◌, ◌⊎◌, List, [], ◌∷◌, ◌++◌, Some, Result, Ok, Err}
+use Rattle.std.specs.Prelude.{◌≡◌, ℕ, false, List, [], ◌∷◌, ◌++◌, Some, Result, Ok, Err}
 use Rattle.equation_law.specs.declared.coding.Instance.{Instance as CodedInstance}
 use Rattle.equation_law.specs.Checked.{IsInstance}
 use Rattle.equation_law.specs.Codes.{IsCoded, instance_of, value_of}
-use Rattle.equation_law.specs.Equations.{HasValue, equations_of, kind_in}
+use Rattle.equation_law.specs.Equations.{HasValue, equations_of}
 use Rattle.equation_law.specs.Loops.{Chain, Leads}
-use Rattle.equation_law.specs.Lower.{IsLower}
 use Rattle.equation_law.specs.Names.{Instance}
 use Rattle.equation_law.specs.Program.{Program, text_of}
-use Rattle.equation_law.specs.Values.{Value}
 use Rattle.memo_cells.specs.declared.view.Frame.{Frame}
 use Rattle.memo_cells.specs.declared.view.View.{View}
-use Rattle.memo_cells.specs.Naming.{IsElementCode, IsKeyTo, IsWordOf}
-use Rattle.memo_cells.specs.Showing.{has_code}
+use Rattle.memo_cells.specs.Claiming.{FillsCells}
 use Rattle.memo_cells.specs.Standing.{Knows}
-use Rattle.memo_cells.specs.Views.{Has, IsFull, times}
+use Rattle.memo_cells.specs.Views.{Has}
 use Rattle.circular_eval.specs.declared.advancing.CircFault.{CircFault}
 use Rattle.circular_eval.specs.declared.advancing.CircFault.TheVariants.{CellsFull, Memory}
 use Rattle.circular_eval.specs.declared.advancing.CircTurn.{CircTurn}
@@ -36,32 +33,6 @@ pub record IsPath (p : Program) (i n : Instance) (path : List Instance) : Type 0
   pub ends : path ≡ front ++ n ∷ []
   pub led : AreLed p path
 
--- k is the key of a word of the set of a circular j, in which an element of a value lies that j has under some lower assignment
-pub record IsLowerWord (p : Program) (v : View) (j : Instance) (k : ℕ) : Type 0 where
-  pub word : ℕ
-  pub key : IsWordOf p v k j word
-  pub is_circular : (equations_of p).circular j ≡ true
-  pub values : Instance → Value
-  pub lower : IsLower p values
-  pub code : ℕ
-  pub element : IsElementCode p (kind_in p j) code
-  pub within : has_code (text_of p) (kind_in p j) (values j) code ≡ true
-  pub lies : code / 64 ≡ word
-
--- k is a key of i: one on the way to the cell of an instance to which a chain leads from i, or of a word of its set
-pub record IsKeyFrom (p : Program) (v : View) (i : Instance) (k : ℕ) : Type 0 where
-  pub of : Instance
-  pub reached : Chain p i of
-  pub key : IsKeyTo p v of k ⊎ IsLowerWord p v of k
-
--- what was claimed are cells of keys of i
-abbrev pub ClaimsFrom : Program → Instance → View → View → Type 0
-ClaimsFrom p i v w = (q : ℕ) → (times q w.claims ≡ times q v.claims) ⊎ ((k : ℕ) × Has w.keys (q, k) × IsKeyFrom p w i k)
-
--- other keys have all the cells than some key of i
-abbrev pub FillsFrom : Program → Instance → Frame → View → Type 0
-FillsFrom p i f v = (k : ℕ) × IsKeyFrom p v i k × IsFull f v k
-
 -- an instance whose value is missing: it isn't circular, a member demands it, and its cell isn't seen settled
 pub record IsMissing (p : Program) (v : View) (l : Local) (n : CodedInstance) : Type 0 where
   pub instance : IsInstance p (instance_of p n)
@@ -80,7 +51,7 @@ pub record IsSealed (p : Program) (v : View) (l : Local) : Type 0 where
 
 -- where cells are wanting, other keys have all of them than some key of i
 abbrev pub AnswersFault : Program → Instance → Frame → View → CircFault → Type 0
-AnswersFault p i f v CellsFull = FillsFrom p i f v
+AnswersFault p i f v CellsFull = FillsCells p i f v
 AnswersFault p i f v Memory = Unit {0}
 
 abbrev pub AnswersTurn : Program → Frame → View → Local → Result CircTurn CircFault → Type 0

@@ -6,12 +6,12 @@ use Rattle.equation_law.specs.declared.coding.Value.{Value as CodedValue}
 use Rattle.equation_law.specs.declared.system.System.{System}
 use Rattle.equation_law.specs.Checked.{IsInstance}
 use Rattle.equation_law.specs.Codes.{AreElements, IsCoded, instance_of, value_of}
-use Rattle.equation_law.specs.Equations.{HasValue, equations_of, is_declared, kind_in}
-use Rattle.equation_law.specs.Loops.{Leads}
+use Rattle.equation_law.specs.Equations.{HasValue, bottom_of, equations_of, is_declared, kind_in}
+use Rattle.equation_law.specs.Loops.{Leads, order_in}
 use Rattle.equation_law.specs.Names.{Instance, same_instance}
-use Rattle.equation_law.specs.Orders.{AtMost, FitsKind}
+use Rattle.equation_law.specs.Orders.{FitsKind}
 use Rattle.equation_law.specs.Program.{Program, text_of}
-use Rattle.equation_law.specs.Values.{Value, default_of}
+use Rattle.equation_law.specs.Values.{Value}
 use Rattle.expr_eval.specs.declared.saved.Saved.{Saved}
 use Rattle.expr_eval.specs.Saved.{AreSaved}
 use Rattle.memo_cells.specs.declared.keys.Slot.{Slot}
@@ -28,9 +28,9 @@ use Rattle.circular_eval.specs.declared.members.Member.{Member}
 abbrev pub Members : Type 0
 Members = List (CodedInstance × Member)
 
--- the value that the set has for i: that of the member, and the bottom of its type where i is none
+-- the value that the set has for i: that of the member, and the one with which it starts where i is none
 abbrev pub local_value : Program → Members → Instance → Value
-local_value p [] i = default_of (kind_in p i)
+local_value p [] i = bottom_of p i
 local_value p (e ∷ es) i = cond (same_instance i (instance_of p e.0)) (value_of (text_of p) e.1.value) (local_value p es i)
 
 -- the members, where the one of this number has another value
@@ -77,7 +77,7 @@ pub record IsCurrent (p : Program) (v : View) (es : Members) (i : Instance) : Ty
   pub value : Value
   pub demands : List Instance
   pub ends : Ends (ReadsHere p v es) ((equations_of p).equation i) value demands
-  pub below : AtMost value (local_value p es i)
+  pub below : order_in p i value (local_value p es i)
 
 -- its cell; without one its value is that of the solution, and it was seen sealed
 abbrev pub IsPlaced : Program → Frame → View → Instance → Value → Option Slot → Type 0

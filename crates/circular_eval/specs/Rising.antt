@@ -6,7 +6,8 @@ use Rattle.equation_law.specs.Checked.{IsInstance, IsValue}
 use Rattle.equation_law.specs.Codes.{AreElements, value_of}
 use Rattle.equation_law.specs.Equations.{equations_of, kind_in}
 use Rattle.equation_law.specs.Names.{Instance}
-use Rattle.equation_law.specs.Orders.{AtMost, FitsKind}
+use Rattle.equation_law.specs.Loops.{order_in}
+use Rattle.equation_law.specs.Orders.{FitsKind}
 use Rattle.equation_law.specs.Program.{Program, text_of}
 use Rattle.memo_cells.specs.declared.view.Frame.{Frame}
 use Rattle.memo_cells.specs.declared.view.View.{View}
@@ -64,7 +65,7 @@ pub record IsRisen (p : Program) (v : View) (i : Instance) (value other both : C
   pub more : room both < room other
 
 abbrev pub AnswersRaise : Program → Frame → View → Instance → CodedValue → CodedValue → Result (Option CodedValue) CircFault → Type 0
-AnswersRaise p f v i value other (Ok None) = AtMost (value_of (text_of p) value) (value_of (text_of p) other)
+AnswersRaise p f v i value other (Ok None) = order_in p i (value_of (text_of p) value) (value_of (text_of p) other)
 AnswersRaise p f v i value other (Ok (Some both)) = IsRisen p v i value other both
 AnswersRaise p f v i value other (Err fault) = LacksSome p f v i (set_codes value) fault
 

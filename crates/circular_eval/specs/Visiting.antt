@@ -15,6 +15,7 @@ use Rattle.expr_eval.specs.declared.sites.Turn.{Turn}
 use Rattle.expr_eval.specs.Saved.{AreSaved}
 use Rattle.memo_cells.specs.declared.view.Frame.{Frame}
 use Rattle.memo_cells.specs.declared.view.View.{View}
+use Rattle.memo_cells.specs.Claiming.{ClaimsKeys}
 use Rattle.memo_cells.specs.Showing.{ShowsAtLeast}
 use Rattle.memo_cells.specs.Views.{Has}
 use Rattle.memo_cells.specs.Working.{GoesOn, Held, IsOwn, program_at}
@@ -24,7 +25,7 @@ use Rattle.circular_eval.specs.declared.local.Local.{Local}
 use Rattle.circular_eval.specs.declared.members.Member.{Member}
 use Rattle.circular_eval.specs.declared.visiting.Visited.{Visited}
 use Rattle.circular_eval.specs.declared.visiting.Visited.TheVariants.{Changed, Need, Same}
-use Rattle.circular_eval.specs.Advancing.{AnswersFault, AnswersTurn, ClaimsFrom, IsMissing}
+use Rattle.circular_eval.specs.Advancing.{AnswersFault, AnswersTurn, IsMissing}
 use Rattle.circular_eval.specs.Left.{left}
 use Rattle.circular_eval.specs.Local.{IsCurrent, IsLedBy, IsLocal, IsMemberOf, Members, ReadsHere, StillMembers}
 use Rattle.circular_eval.specs.Looking.{ComesTo}
@@ -41,7 +42,7 @@ pub record GoesOnWith (p : Program) (d e : Held) (old new : Local) : Type 0 wher
   pub on : GoesOn d e
   pub local : IsLocal p d.0 e.1 new
   pub start : new.start ≡ old.start
-  pub claims : ClaimsFrom p (instance_of p old.start) d.1 e.1
+  pub claims : ClaimsKeys p (instance_of p old.start) d.1 e.1
   pub some : 0 < length old.members.entries → 0 < length new.members.entries
 
 -- a circular instance that is no member yet, and is the start or led to by this member

@@ -3,8 +3,9 @@ ghost use Rattle.std.specs.Prelude.{◌≡◌};
 ghost use Rattle.equation_law.specs.Checked.{IsProgram};
 ghost use Rattle.equation_law.specs.Codes.{instance_of};
 ghost use Rattle.equation_law.specs.Systems.{program_of};
+ghost use Rattle.memo_cells.specs.Claiming.{ClaimsKeys};
 ghost use Rattle.memo_cells.specs.Working.{GoesOn, IsOwn};
-ghost use Rattle.circular_eval.specs.Advancing.{AnswersTurn, ClaimsFrom};
+ghost use Rattle.circular_eval.specs.Advancing.{AnswersTurn};
 ghost use Rattle.circular_eval.specs.Local.{IsLocal};
 ghost use Rattle.circular_eval.specs.Visiting.{Advances, Begins, Closes, GoesAgain, IsReady, Passes};
 
@@ -224,7 +225,7 @@ pub fn advance<'a, W: Work>(
     ensures on { GoesOn (W.held work.old) (W.held work.new) }
     ensures local { IsLocal (program_of system.now) (W.held work.old).0 (W.held work.new).1 local.new }
     ensures start { local.new.start ≡ local.old.start }
-    ensures claims { ClaimsFrom (program_of system.now) (instance_of (program_of system.now) local.old.start) (W.held work.old).1 (W.held work.new).1 }
+    ensures claims { ClaimsKeys (program_of system.now) (instance_of (program_of system.now) local.old.start) (W.held work.old).1 (W.held work.new).1 }
     ensures answer { AnswersTurn (program_of system.now) (W.held work.old).0 (W.held work.new).1 local.new result }
 {
     go_on(alloc, system, work, local)

@@ -1,6 +1,8 @@
 // Local sets.
-ghost use Rattle.std.specs.Prelude.{◌≡◌, ◌⊎◌, ◌++◌, ◌∷◌, [], ℕ, true, ◌<◌, ◌≤◌, Contains, IfNone, IfOk, IfSome, None, OnErr, OnOk, Some, length, map, option_to_list, slice_get};
+ghost use Rattle.std.specs.Prelude.{◌≡◌, ◌≢◌, ◌⊎◌, ◌++◌, ◌∷◌, [], ℕ, true, ◌<◌, ◌≤◌, Contains, IfNone, IfOk, IfSome, None, OnErr, OnOk, Some, length, map, option_to_list, slice_get};
+ghost use Rattle.std.specs.BTreeSet.{IsUpperBound};
 ghost use Rattle.std.specs.Option.{option_and_then, option_map};
+ghost use Rattle.std.specs.Ordering.{nat_cmp};
 ghost use Rattle.rag_io.specs.Pool.{ArePooled};
 ghost use Rattle.equation_law.specs.declared.coding.Instance.{Instance as CodedInstance};
 ghost use Rattle.equation_law.specs.Checked.{IsInstance};
@@ -15,7 +17,7 @@ ghost use Rattle.circular_eval.specs.Local.{AreKept, AreSlots, IsAbsent, IsLocal
 ghost use Rattle.circular_eval.specs.Parts.{AreClosedMembers, unsealed_at, without_slot};
 ghost use Rattle.circular_eval.specs.Sealed.{IsMemberAt};
 ghost use Rattle.circular_eval.specs.Left.{member_bound};
-ghost use Rattle.worklists.specs.Waiting.{IsReader, due_count};
+ghost use Rattle.worklists.specs.Waiting.{IsDue, IsReader, StillDue, due_count};
 
 use crate::members::Member;
 use equation_law::{Chain, Instance, Value};
@@ -133,7 +135,12 @@ impl<'a> Local<'a> {
         ensures members { self.new.members ≡ self.old.members }
         ensures need { self.new.need ≡ self.old.need }
         ensures saved { self.new.saved ≡ self.old.saved }
+        ensures greatest { IfSome result (IsUpperBound nat_cmp self.new.worklist.due.sweep) }
         ensures some { IfSome result (λ number. 0 < length self.new.worklist.due.sweep.keys) }
+        ensures none { IfNone result (due_count self.old.worklist.due ≡ 0) }
+        ensures goes_on { 0 < length self.old.worklist.due.sweep.keys → self.new.worklist.due ≡ self.old.worklist.due }
+        ensures begins { length self.old.worklist.due.sweep.keys ≡ 0 → self.new.worklist.due.sweep ≡ self.old.worklist.due.later }
+        ensures kept { StillDue self.old.worklist.due self.new.worklist.due }
         ensures count { due_count self.new.worklist.due ≡ due_count self.old.worklist.due }
     {
         self.worklist.next()
@@ -146,6 +153,7 @@ impl<'a> Local<'a> {
         ensures need { self.new.need ≡ self.old.need }
         ensures saved { self.new.saved ≡ self.old.saved }
         ensures fewer { 0 < length self.old.worklist.due.sweep.keys → due_count self.new.worklist.due < due_count self.old.worklist.due }
+        ensures others { (k : ℕ) → IsDue self.old.worklist.due k → IsDue self.new.worklist.due k ⊎ IsUpperBound nat_cmp self.old.worklist.due.sweep k }
     {
         self.worklist.pop();
     }
@@ -156,6 +164,8 @@ impl<'a> Local<'a> {
         ensures members { self.new.members ≡ self.old.members }
         ensures need { self.new.need ≡ self.old.need }
         ensures saved { self.new.saved ≡ self.old.saved }
+        ensures others { (k : ℕ) → k ≢ number → IsDue self.old.worklist.due k → IsDue self.new.worklist.due k }
+        ensures gone { ¬ Contains self.new.worklist.due.sweep.keys number }
     {
         self.worklist.rest(number);
     }
@@ -177,6 +187,8 @@ impl<'a> Local<'a> {
         ensures due { self.new.worklist.due ≡ self.old.worklist.due }
         ensures none { self.new.saved ≡ None }
         ensures saved { SavesNothing result ⊎ (self.old.saved ≡ Some result) }
+        ensures own { option_map (λ n. n.0) self.old.need ≡ Some number → IfSome self.old.saved (λ s. result ≡ s) }
+        ensures other { option_map (λ n. n.0) self.old.need ≢ Some number → SavesNothing result }
     {
         let last = self.stopped();
         match self.saved.take() {
@@ -238,6 +250,7 @@ impl<'a> Local<'a> {
     // Gives a member a value.
     fn set_value(&mut self, number: usize, value: Value)
         ensures start { self.new.start ≡ self.old.start }
+        ensures worklist { self.new.worklist ≡ self.old.worklist }
         ensures need { self.new.need ≡ self.old.need }
         ensures saved { self.new.saved ≡ self.old.saved }
         ensures members { self.new.members.entries ≡ with_value self.old.members.entries number value }
@@ -253,6 +266,8 @@ impl<'a> Local<'a> {
         ensures need { self.new.need ≡ self.old.need }
         ensures saved { self.new.saved ≡ None }
         ensures members { self.new.members.entries ≡ with_value self.old.members.entries number value }
+        ensures woken { OnOk result ((k : ℕ) → IsReader self.old.worklist number k → IsDue self.new.worklist.due k) }
+        ensures kept { (k : ℕ) → k ≢ number → IsDue self.old.worklist.due k → IsDue self.new.worklist.due k }
     {
         self.saved = None;
         self.set_value(number, value);
@@ -286,6 +301,7 @@ impl<'a> Local<'a> {
         ensures need { self.new.need ≡ self.old.need }
         ensures saved { self.new.saved ≡ self.old.saved }
         ensures members { self.new.members.entries ≡ without_slot self.old.members.entries number }
+        ensures gone { ¬ Contains self.new.worklist.due.sweep.keys number }
     {
         self.take_slot(number);
         self.worklist.rest(number);

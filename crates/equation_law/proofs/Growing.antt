@@ -18,7 +18,7 @@ use Rattle.solutions.proofs.Composing.{IsPlain, plain_rise, rise_after, rise_nex
 use Rattle.solutions.proofs.Runs.{and_true, or_left, or_right}
 use Rattle.equation_law.specs.Meaning.{World, Place, at_each, call_at, elements_at, meaning_of, united, with_arguments, with_name}
 use Rattle.equation_law.specs.Names.{Argument, At, Attribute, Instance, Null, Reference, node_cmp, text_cmp}
-use Rattle.equation_law.specs.Orders.{AtMost}
+use Rattle.equation_law.specs.Orders.{IsAtMost}
 use Rattle.equation_law.specs.Sets.{SetBy, IsPart, elements, has, inter, minus, no_elements, union}
 use Rattle.equation_law.specs.Values.{Value, Truth, Int, Text, Node, Texts, Nodes, as_arguments, as_kind, contains, default_of, elements_of, has_node, node, nodes, of_node, set_operate, text, texts, truth}
 use Rattle.equation_law.proofs.Names.{code_anti, node_anti}
@@ -28,7 +28,7 @@ use Rattle.equation_law.proofs.Sets.{has-inter, has-minus, none_has, or_least, p
 use Rattle.equation_law.proofs.SetsOrder.{elements_none}
 
 -- truth values
-truth_below : (a b : Bool) → (a ≡ true → b ≡ true) → AtMost (Truth a) (Truth b)
+truth_below : (a b : Bool) → (a ≡ true → b ≡ true) → IsAtMost (Truth a) (Truth b)
 truth_below a b f = record { in_truth = f; in_texts = λ q e. e; in_nodes = λ q e. e }
 
 and_both : (a b : Bool) → a ≡ true → b ≡ true → (a && b) ≡ true
@@ -42,10 +42,10 @@ or_mono : (a b c d : Bool) → (a ≡ true → c ≡ true) → (b ≡ true → d
 or_mono a b c d f g e = or_least a b (c || d) (λ h. or_left c d (f h)) (λ h. or_right c d (g h)) e
 
 -- sets
-texts_below : (s t : SetBy text_cmp) → IsPart s t → AtMost (Texts s) (Texts t)
+texts_below : (s t : SetBy text_cmp) → IsPart s t → IsAtMost (Texts s) (Texts t)
 texts_below s t f = record { in_truth = λ e. e; in_texts = f; in_nodes = λ q e. e }
 
-nodes_below : (s t : SetBy node_cmp) → IsPart s t → AtMost (Nodes s) (Nodes t)
+nodes_below : (s t : SetBy node_cmp) → IsPart s t → IsAtMost (Nodes s) (Nodes t)
 nodes_below s t f = record { in_truth = λ e. e; in_texts = λ q e. e; in_nodes = f }
 
 module _ {K : Type 0} {R : K → K → Ordering} (o : IsTotalOrder R) where
@@ -64,7 +64,7 @@ module _ {K : Type 0} {R : K → K → Ordering} (o : IsTotalOrder R) where
         has-minus o same t x q ∙ and_both (has t q) (not (has x q)) (f q h.0) h.1
 
 -- a value read at a type
-pub kind_below : (k : Kind) (v w : Value) → AtMost v w → AtMost (as_kind k v) (as_kind k w)
+pub kind_below : (k : Kind) (v w : Value) → IsAtMost v w → IsAtMost (as_kind k v) (as_kind k w)
 kind_below kinds.Truth v w l = truth_below (truth v) (truth w) l.in_truth
 kind_below kinds.Int v w l = record { in_truth = λ e. e; in_texts = λ q e. e; in_nodes = λ q e. e }
 kind_below kinds.Text v w l = record { in_truth = λ e. e; in_texts = λ q e. e; in_nodes = λ q e. e }
@@ -73,7 +73,7 @@ kind_below kinds.Texts v w l = texts_below (texts v) (texts w) l.in_texts
 kind_below (kinds.Nodes c) v w l = nodes_below (nodes v) (nodes w) l.in_nodes
 
 -- what is made of two sets
-union_below : (t : Kind) (v w x y : Value) → AtMost v w → AtMost x y → AtMost (set_operate Union t v x) (set_operate Union t w y)
+union_below : (t : Kind) (v w x y : Value) → IsAtMost v w → IsAtMost x y → IsAtMost (set_operate Union t v x) (set_operate Union t w y)
 union_below kinds.Truth v w x y l m = at_most_itself _
 union_below kinds.Int v w x y l m = at_most_itself _
 union_below kinds.Text v w x y l m = at_most_itself _
@@ -81,7 +81,7 @@ union_below (kinds.Node c) v w x y l m = at_most_itself _
 union_below kinds.Texts v w x y l m = texts_below _ _ (union_part nat_list_cmp_total (texts v) (texts w) (texts x) (texts y) l.in_texts m.in_texts)
 union_below (kinds.Nodes c) v w x y l m = nodes_below _ _ (union_part node_total (nodes v) (nodes w) (nodes x) (nodes y) l.in_nodes m.in_nodes)
 
-inter_below : (t : Kind) (v w x y : Value) → AtMost v w → AtMost x y → AtMost (set_operate Inter t v x) (set_operate Inter t w y)
+inter_below : (t : Kind) (v w x y : Value) → IsAtMost v w → IsAtMost x y → IsAtMost (set_operate Inter t v x) (set_operate Inter t w y)
 inter_below kinds.Truth v w x y l m = at_most_itself _
 inter_below kinds.Int v w x y l m = at_most_itself _
 inter_below kinds.Text v w x y l m = at_most_itself _
@@ -89,7 +89,7 @@ inter_below (kinds.Node c) v w x y l m = at_most_itself _
 inter_below kinds.Texts v w x y l m = texts_below _ _ (inter_part nat_list_cmp_total code_anti (texts v) (texts w) (texts x) (texts y) l.in_texts m.in_texts)
 inter_below (kinds.Nodes c) v w x y l m = nodes_below _ _ (inter_part node_total node_anti (nodes v) (nodes w) (nodes x) (nodes y) l.in_nodes m.in_nodes)
 
-minus_below : (t : Kind) (v w x : Value) → AtMost v w → AtMost (set_operate Minus t v x) (set_operate Minus t w x)
+minus_below : (t : Kind) (v w x : Value) → IsAtMost v w → IsAtMost (set_operate Minus t v x) (set_operate Minus t w x)
 minus_below kinds.Truth v w x l = at_most_itself _
 minus_below kinds.Int v w x l = at_most_itself _
 minus_below kinds.Text v w x l = at_most_itself _
@@ -122,7 +122,7 @@ part_node : (s t : SetBy node_cmp) → IsPart s t → (r : Reference) → has_no
 part_node s t f Null h = h
 part_node s t f (At n) h = f n h
 
-contains_below : (v w x : Value) → AtMost v w → contains v x ≡ true → contains w x ≡ true
+contains_below : (v w x : Value) → IsAtMost v w → contains v x ≡ true → contains w x ≡ true
 contains_below (Truth b) w x l e = cc
 contains_below (Int z) w x l e = cc
 contains_below (Text t) w x l e = cc
@@ -166,7 +166,7 @@ nodes_part s w f = by w (part_elements node_total node_anti s (nodes w) f)
     by (Texts t) p = nothing_part _ _ (part_map of_node (subst (Part (elements s)) (elements_none node_cmp) p))
     by (Nodes t) p = part_map of_node p
 
-elements_part : (v w : Value) → AtMost v w → Part (elements_of v) (elements_of w)
+elements_part : (v w : Value) → IsAtMost v w → Part (elements_of v) (elements_of w)
 elements_part (Truth b) w l = part_nil _
 elements_part (Int z) w l = part_nil _
 elements_part (Text t) w l = part_nil _
@@ -176,11 +176,11 @@ elements_part (Nodes s) w l = nodes_part s w l.in_nodes
 
 -- the order of the values of instances
 abbrev pub order : Instance → Value → Value → Type 0
-order i v w = AtMost v w
+order i v w = IsAtMost v w
 
 module _ (W : World) (circular : Instance → Bool) (declared : ℕ → Bool) (free : (a : ℕ) (r : Reference) (xs : List Argument) → declared a ≡ false → circular (Attribute a r xs) ≡ false) where
   abbrev Up : Demands Instance Value → Demands Instance Value → Type 0
-  Up c d = Rise circular order AtMost c d
+  Up c d = Rise circular order IsAtMost c d
 
   weaken : {R Q : Value → Value → Type 0} {c d : Demands Instance Value} → ((v w : Value) → R v w → Q v w) → Rise circular order R c d → Rise circular order Q c d
   weaken f (leaves {v = v} {w = w} l) = leaves (f v w l)
@@ -189,16 +189,16 @@ module _ (W : World) (circular : Instance → Bool) (declared : ℕ → Bool) (f
   weaken f (more r) = more (λ w. weaken f (r w))
 
   plain_up : (c : Demands Instance Value) → IsPlain circular c → Up c c
-  plain_up c p = weaken (λ v w e. subst (AtMost v) e (at_most_itself v)) (plain_rise circular order c p)
+  plain_up c p = weaken (λ v w e. subst (IsAtMost v) e (at_most_itself v)) (plain_rise circular order c p)
 
-  up_next : (c d : Demands Instance Value) (k h : Value → Demands Instance Value) → Up c d → ((v w : Value) → AtMost v w → Up (k v) (h w)) → Up (next c k) (next d h)
+  up_next : (c d : Demands Instance Value) (k h : Value → Demands Instance Value) → Up c d → ((v w : Value) → IsAtMost v w → Up (k v) (h w)) → Up (next c k) (next d h)
   up_next c d k h r g = rise_next k h r g
 
   up_same : (c : Demands Instance Value) (k h : Value → Demands Instance Value) → IsPlain circular c → ((v : Value) → Up (k v) (h v)) → Up (next c k) (next c h)
   up_same c k h p g = rise_same c k h p g
 
   -- the least value is at most what anything comes to
-  from_least : (v : Value) → ((w : Value) → AtMost v w) → (d : Demands Instance Value) → Up (Gives v) d
+  from_least : (v : Value) → ((w : Value) → IsAtMost v w) → (d : Demands Instance Value) → Up (Gives v) d
   from_least v f (Gives w) = leaves (f w)
   from_least v f (Needs j k) = more (λ w. from_least v f (k w))
 

@@ -11,7 +11,7 @@ use Rattle.attr_rules.specs.declared.kinds.Kind.TheVariants as kinds
 use Rattle.solutions.specs.Rising.{Part, none, keep, skip}
 use Rattle.equation_law.specs.Sets.{SetBy, elements, IsPart}
 use Rattle.equation_law.specs.Values.{Value, Truth, Texts, Nodes, truth, texts, nodes, as_kind}
-use Rattle.equation_law.specs.Orders.{AtMost, FitsKind}
+use Rattle.equation_law.specs.Orders.{IsAtMost, FitsKind}
 use Rattle.equation_law.proofs.Names.{code_anti, node_anti}
 use Rattle.equation_law.proofs.Orders.{fits_as, node_total}
 use Rattle.equation_law.proofs.Sets.{part_elements, same_parts}
@@ -68,7 +68,7 @@ truth_strict false true e = absurd (omega arith)
 truth_strict false false e = refl
 
 -- the greater value is no lower
-pub height_grows : (k : Kind) (v w : Value) → AtMost v w → height_of k v ≤ height_of k w
+pub height_grows : (k : Kind) (v w : Value) → IsAtMost v w → height_of k v ≤ height_of k w
 height_grows kinds.Truth v w l = truth_grows (truth v) (truth w) l.in_truth
 height_grows kinds.Int v w l = omega arith
 height_grows kinds.Text v w l = omega arith
@@ -77,7 +77,7 @@ height_grows kinds.Texts v w l = set_length nat_list_cmp_total code_anti (texts 
 height_grows (kinds.Nodes c) v w l = set_length node_total node_anti (nodes v) (nodes w) l.in_nodes
 
 -- and reads alike, where it is as high
-read_strict : (k : Kind) (v w : Value) → FitsKind k v → AtMost v w → height_of k v ≡ height_of k w → as_kind k w ≡ as_kind k v
+read_strict : (k : Kind) (v w : Value) → FitsKind k v → IsAtMost v w → height_of k v ≡ height_of k w → as_kind k w ≡ as_kind k v
 read_strict kinds.Truth v w f l e = ap Truth (truth_strict (truth v) (truth w) e)
 read_strict kinds.Int v w f l e = elim f [ ]
 read_strict kinds.Text v w f l e = elim f [ ]
@@ -86,5 +86,5 @@ read_strict kinds.Texts v w f l e = ap Texts (set_same nat_list_cmp_total code_a
 read_strict (kinds.Nodes c) v w f l e = ap Nodes (set_same node_total node_anti (nodes v) (nodes w) l.in_nodes e)
 
 -- so it is the same value
-pub height_strict : (k : Kind) (v w : Value) → FitsKind k v → FitsKind k w → AtMost v w → height_of k v ≡ height_of k w → w ≡ v
+pub height_strict : (k : Kind) (v w : Value) → FitsKind k v → FitsKind k w → IsAtMost v w → height_of k v ≡ height_of k w → w ≡ v
 height_strict k v w f g l e = sym (fits_as k w g) ∙ read_strict k v w f l e ∙ fits_as k v f

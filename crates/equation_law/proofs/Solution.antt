@@ -29,7 +29,7 @@ use Rattle.equation_law.specs.Equations.{HasValue, Site, attribute_kind, equatio
 use Rattle.equation_law.specs.Loops.{order_in, fits_in, join_in, Chain, HasLoop, Leads}
 use Rattle.equation_law.specs.Lower.{IsClosed, IsLower, joined, raised_at}
 use Rattle.equation_law.specs.Meaning.{Place, meaning_of}
-use Rattle.equation_law.specs.Orders.{AtMost, FitsKind}
+use Rattle.equation_law.specs.Orders.{IsAtMost, FitsKind}
 use Rattle.equation_law.proofs.Above.{inherited_above}
 use Rattle.equation_law.proofs.Growing.{kind_below, rises as rising_meaning}
 use Rattle.equation_law.proofs.Heights.{height_of, height_grows, height_strict}
@@ -195,7 +195,7 @@ pub values_under : (p : Program) (T U : Instance → Value) → ((j : Instance) 
 values_under p T U low i c v w first second d e = values_assigned (equations_of p) (order_in p) (fits_in p) (are_rising p) T U low i c v w first second d e
 
 -- and of each rising expression, wherever it is read
-pub expression_grows : (p : Program) (e : Expression) (q : Place) → IsRising (circular_at p.rules.attributes) e → (A B : Instance → Value → Type 0) → LiesBelow (is_circular p) (order_in p) A B → (w : Value) (demands : List Instance) → Ends B (meaning_of (world_of p) e q) w demands → Under AtMost A (meaning_of (world_of p) e q) w demands
+pub expression_grows : (p : Program) (e : Expression) (q : Place) → IsRising (circular_at p.rules.attributes) e → (A B : Instance → Value → Type 0) → LiesBelow (is_circular p) (order_in p) A B → (w : Value) (demands : List Instance) → Ends B (meaning_of (world_of p) e q) w demands → Under IsAtMost A (meaning_of (world_of p) e q) w demands
 expression_grows p e q r A B l w demands h = growing l (rising_meaning (world_of p) (is_circular p) (circular_at p.rules.attributes) (not_circular p) r q) h
 
 -- lower assignments

@@ -182,13 +182,17 @@ is_declared p (Query q) = false
 abbrev pub is_circular : Program → Instance → Bool
 is_circular p i = is_declared p i && (is_ordered (kind_in p i) && site_rises (circular_at p.rules.attributes) (equation_of p i))
 
--- a circular instance starts at the default of its type
+-- where the rounds of a circular instance start: the least value of its type, whatever a call on null gives
+abbrev pub bottom_of : Program → Instance → Value
+bottom_of p i = default_of (kind_in p i)
+
+-- what the instances of a program demand, which of them are circular, and where their rounds start
 unfoldable pub equations_of : Program → Equations Instance Value
 equations_of p = record {
   same = same_instance;
   equation = λ i. site_demands (world_of p) (equation_of p i);
   circular = is_circular p;
-  bottom = λ i. default_of (kind_in p i);
+  bottom = bottom_of p;
 }
 
 -- the solution: the value of an instance that the rounds over some list of instances give

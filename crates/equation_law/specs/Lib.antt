@@ -1,6 +1,7 @@
 pub mod Checked
 pub mod Codes
 pub mod Equations
+pub mod Keys
 pub mod Loops
 pub mod Lower
 pub mod Meaning

@@ -4,11 +4,11 @@ use Rattle.equation_law.specs.Names.{Instance}
 use Rattle.equation_law.specs.Values.{Value}
 use Rattle.equation_law.specs.Program.{Program}
 use Rattle.equation_law.specs.Equations.{equations_of, kind_in}
-use Rattle.equation_law.specs.Orders.{AtMost, FitsKind, join_of}
+use Rattle.equation_law.specs.Orders.{IsAtMost, FitsKind, join_of}
 
 -- the order of an instance's values, those of its type, and their joins
 abbrev pub order_in : Program → Instance → Value → Value → Type 0
-order_in p i v w = AtMost v w
+order_in p i v w = IsAtMost v w
 
 abbrev pub fits_in : Program → Instance → Value → Type 0
 fits_in p i v = FitsKind (kind_in p i) v

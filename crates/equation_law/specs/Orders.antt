@@ -7,7 +7,7 @@ use Rattle.equation_law.specs.Sets.{SetBy, IsPart, union}
 use Rattle.equation_law.specs.Values.{Value, Truth, Texts, Nodes, truth, texts, nodes}
 
 -- false is below true, and sets are ordered by inclusion; all else counts as the bottom
-pub record AtMost (v w : Value) : Type 0 where
+pub record IsAtMost (v w : Value) : Type 0 where
   pub in_truth : truth v ≡ true → truth w ≡ true
   pub in_texts : IsPart (texts v) (texts w)
   pub in_nodes : IsPart (nodes v) (nodes w)

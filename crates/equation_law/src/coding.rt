@@ -136,6 +136,21 @@ impl Args {
         }
     }
 
+    /// The code of an argument by its place, from 0 on, or None where there are no more.
+    pub fn code_at(self, place: u32) -> Option<Code>
+        ensures { result ≡ slice_get (codes_in self) place }
+    {
+        if place >= self.count {
+            return None;
+        }
+        match place {
+            0 => Some(self.first),
+            1 => Some(self.second),
+            2 => Some(self.third),
+            _ => None,
+        }
+    }
+
     /// The arguments behind the first.
     pub fn rest(self) -> Args
         requires { IsRow self }

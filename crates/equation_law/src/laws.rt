@@ -16,7 +16,7 @@ ghost use Rattle.equation_law.specs.Program.{Program, source_instances};
 ghost use Rattle.equation_law.specs.Equations.{HasValue, equation_of, equations_of, is_circular, is_declared, kind_in, world_of};
 ghost use Rattle.equation_law.specs.Loops.{Chain, HasLoop, fits_in, order_in};
 ghost use Rattle.equation_law.specs.Meaning.{Place, meaning_of};
-ghost use Rattle.equation_law.specs.Orders.{AtMost};
+ghost use Rattle.equation_law.specs.Orders.{IsAtMost};
 ghost use Rattle.equation_law.specs.Lower.{IsClosed, IsLower, joined, raised_at};
 
 /// One solution: two lists of instances that give an instance a value give it the same one.
@@ -102,7 +102,7 @@ pub fn growing_demands()
 
 /// The same of each rising expression, wherever it is read: this is what makes the positions of calls in it permitted.
 pub fn rising_demands()
-    ensures { (p : Program) (e : Expression) (q : Place) → IsRising (circular_at p.rules.attributes) e → (A B : Instance → Option Value) → LiesBelow (is_circular p) (order_in p) (Graph A) (Graph B) → (w : Value) (demands : List Instance) → Ends (Graph B) (meaning_of (world_of p) e q) w demands → Under AtMost (Graph A) (meaning_of (world_of p) e q) w demands }
+    ensures { (p : Program) (e : Expression) (q : Place) → IsRising (circular_at p.rules.attributes) e → (A B : Instance → Option Value) → LiesBelow (is_circular p) (order_in p) (Graph A) (Graph B) → (w : Value) (demands : List Instance) → Ends (Graph B) (meaning_of (world_of p) e q) w demands → Under IsAtMost (Graph A) (meaning_of (world_of p) e q) w demands }
 {}
 
 /// Growing values: where neither is stuck, under two assignments of which the first is at most the second where both have values, the value of

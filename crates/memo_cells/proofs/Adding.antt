@@ -9,7 +9,7 @@ use Rattle.solutions.proofs.Lower.{lower_below}
 use Rattle.equation_law.specs.Equations.{equations_of, kind_in}
 use Rattle.equation_law.specs.Loops.{fits_in, join_in, order_in}
 use Rattle.equation_law.specs.Names.{Instance}
-use Rattle.equation_law.specs.Orders.{AtMost}
+use Rattle.equation_law.specs.Orders.{IsAtMost}
 use Rattle.equation_law.specs.Program.{Program, text_of}
 use Rattle.equation_law.specs.Systems.{program_of}
 use Rattle.equation_law.specs.Values.{truth}
@@ -169,7 +169,7 @@ module _ (f : Frame) (ks vs : List ℕ) (lk : length ks ≡ f.cells) (lv : lengt
         (λ x.
         let of : x.2.settled.of ≡ may.of = stands_once v (one_there f ks vs lk lv o) p may.key x.2.settled.of may.of x.2.settled.stands may.stands in
         let circular = ap (equations_of p).circular of ∙ may.is_circular in
-        let least : AtMost (grown_true.values x.2.settled.of) x.2.settled.code.value
+        let least : IsAtMost (grown_true.values x.2.settled.of) x.2.settled.code.value
         = lower_below (equations_of p) (order_in p) (fits_in p) (join_in p) (are_rising p) (are_joins p) grown_true.values grown_true.lower x.2.settled.of x.2.settled.code.value circular x.2.settled.code.has in
         let yes = least.in_truth (subst (λ (j : Instance). truth (grown_true.values j) ≡ true) (sym of) is_true) in
         let one : x.0 ≡ 1 = true_code p x.2.settled.of x.0 x.2.settled.code (ap (kind_in p) of ∙ may.kind) yes in

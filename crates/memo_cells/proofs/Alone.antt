@@ -8,7 +8,7 @@ use Rattle.equation_law.specs.Equations.{equations_of}
 use Rattle.equation_law.specs.Names.{Instance}
 use Rattle.equation_law.specs.Program.{Program}
 use Rattle.equation_law.specs.Values.{Value}
-use Rattle.equation_law.specs.Orders.{AtMost}
+use Rattle.equation_law.specs.Orders.{IsAtMost}
 use Rattle.equation_law.proofs.Orders.{at_most_itself}
 use Rattle.memo_cells.specs.declared.view.View.{View}
 use Rattle.memo_cells.specs.declared.view.Frame.{Frame}
@@ -133,7 +133,7 @@ module _ (f : Frame) (ks vs : List ℕ) (v : View) (is : knows_all f ks vs ≡ v
         (λ q way. let seen = passed q way in let word = key_there q seen.0 seen.1 in ((λ z. word.0 (sym word.2 ∙ z)), (λ z. seen.2 (sym word.2 ∙ z)))) (get_or-set_same ks p k 0 (omega (arith, lk, lt))) (λ q ne. get_or-set_other ks p q k 0 ne) (λ q. refl)
 
     -- value words change, and no key word does
-    pub words_after : (U : Instance → Value) (ws : List ℕ) → IsAtLeast v (knows_all f ks ws) → ((j : Instance) → (equations_of program).circular j ≡ true → AtMost (T j) (U j)) → ((p : ℕ) → p < f.cells → get_or ws p 0 ≢ 0 → get_or ks p 0 ≢ 0)
+    pub words_after : (U : Instance → Value) (ws : List ℕ) → IsAtLeast v (knows_all f ks ws) → ((j : Instance) → (equations_of program).circular j ≡ true → IsAtMost (T j) (U j)) → ((p : ℕ) → p < f.cells → get_or ws p 0 ≢ 0 → get_or ks p 0 ≢ 0)
         → ((p : ℕ) → p < f.cells → is_set_word (get_or ks p 0) ≡ false → get_or ws p 0 ≢ 0 → (get_or ws p 0 ≡ get_or vs p 0) ⊎ IsCoded (IsFinal program (knows_all f ks ws) U) (IsRaised program (knows_all f ks ws) U) (get_or ks p 0) (get_or ws p 0))
         → ((p b : ℕ) → p < f.cells → is_set_word (get_or ks p 0) ≡ true → b < 64 → bit_at (get_or ws p 0) b ≡ 1 → (bit_at (get_or vs p 0) b ≡ 1) ⊎ IsElement program (knows_all f ks ws) U (get_or ks p 0) b)
         → (let w = knows_all f ks ws in AreOrdered (IsFormed program w) (IsFinal program w U) (IsRaised program w U) (IsElement program w U) f.cells (word_at ks) (word_at ws))

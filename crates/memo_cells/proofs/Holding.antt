@@ -3,8 +3,9 @@ use Rattle.std.proofs.Common.{refl, sym, subst, ℕ, ◌∙◌}
 use Rattle.equation_law.specs.Names.{Instance}
 use Rattle.equation_law.specs.Systems.{program_of}
 use Rattle.memo_cells.specs.declared.view.Frame.{Frame}
-use Rattle.memo_cells.specs.Naming.{IsCellOf}
+use Rattle.memo_cells.specs.Naming.{IsCellOf, IsFormed}
 use Rattle.memo_cells.specs.Standing.{IsPassOf}
+use Rattle.memo_cells.specs.Views.{IsFull, IsSlot}
 use Rattle.memo_cells.specs.Working.{GoesOn, Held, IsOwn, ReadsOn, TellsPass, program_at, told_by}
 use Rattle.memo_cells.proofs.More.{at_least_itself, at_least_then}
 use Rattle.memo_cells.proofs.Naming.{cell_later}
@@ -40,3 +41,13 @@ reads_then a b c x y = record { on = goes_then a b c x.on y.on; claims = y.claim
 -- the cell of an instance, seen where it went on to
 pub cell_on : (d e : Held) → GoesOn d e → (i : Instance) (s : ℕ) → IsCellOf (program_at d) d.0 d.1 i s → IsCellOf (program_at e) e.0 e.1 i s
 cell_on d e on i s h = subst (λ (f : Frame). IsCellOf (program_of f.system.value) f e.1 i s) (sym on.cells) (cell_later d.1 e.1 on.kept (program_at d) d.0 i s h)
+
+-- what is said of the cells, where it went on
+pub formed_at : (d e : Held) (k : ℕ) → GoesOn d e → IsFormed (program_at d) e.1 k → IsFormed (program_at e) e.1 k
+formed_at d e k on h = subst (λ (f : Frame). IsFormed (program_of f.system.value) e.1 k) (sym on.cells) h
+
+pub slot_back : (d e w : Held) (s k : ℕ) → GoesOn d e → IsSlot e.0 w.1 s k → IsSlot d.0 w.1 s k
+slot_back d e w s k on h = subst (λ (f : Frame). IsSlot f w.1 s k) on.cells h
+
+pub full_back : (d e w : Held) (k : ℕ) → GoesOn d e → IsFull e.0 w.1 k → IsFull d.0 w.1 k
+full_back d e w k on h = subst (λ (f : Frame). IsFull f w.1 k) on.cells h

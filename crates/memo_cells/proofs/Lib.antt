@@ -1,6 +1,7 @@
 pub mod Adding
 pub mod Alone
 pub mod Bits
+pub mod Claiming
 pub mod Counting
 pub mod Facts
 pub mod Firsts

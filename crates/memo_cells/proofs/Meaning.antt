@@ -10,6 +10,7 @@ use Rattle.attr_rules.specs.declared.kinds.Kind.TheVariants as kinds
 use Rattle.attr_rules.specs.Rules.{is_single}
 use Rattle.equation_law.specs.Codes.{IsSmall, value_at}
 use Rattle.equation_law.specs.Equations.{HasValue, equations_of, kind_in}
+use Rattle.equation_law.specs.Keys.{IsElementCode, has_code}
 use Rattle.equation_law.specs.Names.{Instance}
 use Rattle.equation_law.specs.Program.{Program, text_of}
 use Rattle.equation_law.specs.Systems.{program_of}
@@ -17,8 +18,8 @@ use Rattle.equation_law.specs.Values.{Value, as_kind, truth}
 use Rattle.memo_cells.specs.declared.view.Frame.{Frame}
 use Rattle.memo_cells.specs.declared.view.View.{View}
 use Rattle.memo_cells.specs.Keys.{is_set_word}
-use Rattle.memo_cells.specs.Naming.{IsElementCode, StandsFor}
-use Rattle.memo_cells.specs.Showing.{ShowsAtLeast, ShowsAtMost, ShowsCode, ShowsTrue, has_code}
+use Rattle.memo_cells.specs.Naming.{StandsFor}
+use Rattle.memo_cells.specs.Showing.{ShowsAtLeast, ShowsAtMost, ShowsCode, ShowsTrue}
 use Rattle.memo_cells.specs.Standing.{AreApproximations, AreWords, IsCodeOf, IsElement, IsFinal, IsPart, IsRaised, Knows}
 use Rattle.memo_cells.specs.Views.{Has, knows_all, shown_bits}
 use Rattle.memo_cells.specs.Words.{IsCoded}

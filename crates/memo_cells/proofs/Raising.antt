@@ -6,7 +6,7 @@ use Rattle.solutions.proofs.Lower.{raised_lower, raised_up, step_fits}
 use Rattle.equation_law.specs.Equations.{equations_of, kind_in}
 use Rattle.equation_law.specs.Loops.{fits_in, join_in, order_in}
 use Rattle.equation_law.specs.Names.{Instance}
-use Rattle.equation_law.specs.Orders.{AtMost, FitsKind}
+use Rattle.equation_law.specs.Orders.{IsAtMost, FitsKind}
 use Rattle.equation_law.specs.Program.{Program}
 use Rattle.equation_law.specs.Values.{Value}
 use Rattle.equation_law.proofs.Orders.{at_most_itself}
@@ -25,23 +25,23 @@ Joins p = AreJoins (equations_of p) (order_in p) (fits_in p) (join_in p)
 pub record Higher (p : Program) (T : Instance → Value) (i : Instance) (x : Value) : Type 0 where
   pub values : Instance → Value
   pub lower : IsLowerOf p values
-  pub up : (j : Instance) → (equations_of p).circular j ≡ true → AtMost (T j) (values j)
-  pub reaches : (equations_of p).circular i ≡ true → AtMost x (values i)
+  pub up : (j : Instance) → (equations_of p).circular j ≡ true → IsAtMost (T j) (values j)
+  pub reaches : (equations_of p).circular i ≡ true → IsAtMost x (values i)
 
 module _ (p : Program) (r : Rules p) (u : Joins p) (v : View) (T : Instance → Value) (lower : IsLowerOf p T) (most : (j : Instance) → (equations_of p).circular j ≡ true → ShowsAtMost p v j (kind_in p j) (T j)) where
   -- what is shown is at most T
-  pub shown_below : (B : Instance → Value) → AreShown p v B → (j : Instance) → (equations_of p).circular j ≡ true → AtMost (B j) (T j)
+  pub shown_below : (B : Instance → Value) → AreShown p v B → (j : Instance) → (equations_of p).circular j ≡ true → IsAtMost (B j) (T j)
   shown_below B h j c = shown_between p v j (kind_in p j) (B j) (T j) (h j c).0 (h j c).1 (most j c)
 
   comes_higher : (i : Instance) (x : Value) → (equations_of p).circular i ≡ true → ComesTo p v i x → Higher p T i x
   comes_higher i x c h =
       let fit : FitsKind (kind_in p i) x = step_fits (equations_of p) (order_in p) (fits_in p) (join_in p) r u h.below i x h.demands c h.ends in
-      let right : AtMost x (join_in p i (T i) x) = u.right i (T i) x (lower.fits i c) fit in
+      let right : IsAtMost x (join_in p i (T i) x) = u.right i (T i) x (lower.fits i c) fit in
       record {
         values = raised (equations_of p) (join_in p) T i x;
         lower = raised_lower (equations_of p) (order_in p) (fits_in p) (join_in p) r u T h.below lower i c (shown_below h.below h.shown) x x h.demands h.ends fit (at_most_itself x);
         up = λ j d. raised_up (equations_of p) (order_in p) (fits_in p) (join_in p) r u T i x fit j (lower.fits j d);
-        reaches = λ _. subst (λ b. AtMost x (cond b (join_in p i (T i) x) (T i))) (sym (r.same_self i)) right;
+        reaches = λ _. subst (λ b. IsAtMost x (cond b (join_in p i (T i) x) (T i))) (sym (r.same_self i)) right;
       }
 
   pub higher : (i : Instance) (x : Value) → MayShow p v i x → Higher p T i x

@@ -16,7 +16,7 @@ use Rattle.equation_law.specs.Codes.{IsSmall, value_at}
 use Rattle.equation_law.specs.Equations.{HasValue, equations_of, kind_in}
 use Rattle.equation_law.specs.Loops.{fits_in, join_in, order_in}
 use Rattle.equation_law.specs.Names.{Instance}
-use Rattle.equation_law.specs.Orders.{AtMost, FitsKind}
+use Rattle.equation_law.specs.Orders.{IsAtMost, FitsKind}
 use Rattle.equation_law.specs.Program.{Program, text_of}
 use Rattle.equation_law.specs.Systems.{program_of}
 use Rattle.equation_law.specs.Values.{Truth, Value, as_kind, truth}
@@ -80,7 +80,7 @@ module _ (f : Frame) (ks vs : List ℕ) (lk : length ks ≡ f.cells) (lv : lengt
   own = pass_of f ks vs few lk lv o
 
   module _ (may : MaySeal p f v slots) where
-    lower_shown : (j : Instance) → (equations_of p).circular j ≡ true → AtMost (may.values j) (o.values j)
+    lower_shown : (j : Instance) → (equations_of p).circular j ≡ true → IsAtMost (may.values j) (o.values j)
     lower_shown j c = shown_below p (are_rising p) (are_joins p) v o.values o.lower (λ i d. shown_at_most f ks vs lk lv o i (kind_in p i) refl d) may.values may.shown j c
 
     lower_values : IsLowerOf p may.values
@@ -98,7 +98,7 @@ module _ (f : Frame) (ks vs : List ℕ) (lk : length ks ≡ f.cells) (lv : lengt
     has : (i : Instance) → is_in (equations_of p).same may.set i ≡ true → HasValue p i (may.values i)
     has i m = closed_val (equations_of p) (order_in p) (fits_in p) (join_in p) (are_rising p) (are_joins p) (height_in p) (have_heights p) may.set may.values closed i m
 
-    at_least_lower : (i : Instance) → is_in (equations_of p).same may.set i ≡ true → AtMost (o.values i) (may.values i)
+    at_least_lower : (i : Instance) → is_in (equations_of p).same may.set i ≡ true → IsAtMost (o.values i) (may.values i)
     at_least_lower i m = lower_below (equations_of p) (order_in p) (fits_in p) (join_in p) (are_rising p) (are_joins p) o.values o.lower i (may.values i) (may.holds i m).is_circular (has i m)
 
     read_value : (j : Instance) (x y : Value) → Read (equations_of p) may.set may.values j x → HasValue p j y → x ≡ y

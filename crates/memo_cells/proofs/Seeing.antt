@@ -8,12 +8,13 @@ use Rattle.attr_rules.specs.declared.kinds.Kind.TheVariants as kinds
 use Rattle.attr_rules.specs.Rules.{is_single}
 use Rattle.rag_io.specs.Pool.{ArePooled}
 use Rattle.equation_law.specs.Equations.{kind_in}
+use Rattle.equation_law.specs.Keys.{IsElementCode}
 use Rattle.equation_law.specs.Names.{Instance}
 use Rattle.equation_law.specs.Program.{Program}
 use Rattle.memo_cells.specs.declared.view.Frame.{Frame}
 use Rattle.memo_cells.specs.declared.view.View.{View}
 use Rattle.memo_cells.specs.Keys.{is_set_word, set_word}
-use Rattle.memo_cells.specs.Naming.{IsCellOf, IsElementCode, IsFormed, IsWordOf, StandsFor}
+use Rattle.memo_cells.specs.Naming.{IsCellOf, IsFormed, IsWordOf, StandsFor}
 use Rattle.memo_cells.specs.Showing.{IsWordSeen, ShowsCode, ShowsTrue}
 use Rattle.memo_cells.specs.Standing.{HasWord, IsPassOf, MayAdd, MayRaiseSet, MayRaiseTruth}
 use Rattle.memo_cells.specs.Steps.{BitsAdded, BitsSeen}

@@ -16,6 +16,7 @@ use Rattle.equation_law.specs.declared.coding.Value.TheVariants as coded
 use Rattle.equation_law.specs.Checked.{IsNodeOf, at, null}
 use Rattle.equation_law.specs.Codes.{nodes_of, reference_of}
 use Rattle.equation_law.specs.Equations.{HasValue, equations_of, kind_in}
+use Rattle.equation_law.specs.Keys.{IsElementCode, has_code as has_element}
 use Rattle.equation_law.specs.Loops.{fits_in, join_in, order_in}
 use Rattle.equation_law.specs.Names.{Instance, Null, Reference, Source, node_cmp, text_cmp}
 use Rattle.equation_law.specs.Orders.{FitsKind}
@@ -31,8 +32,7 @@ use Rattle.equation_law.proofs.Sets.{same_parts}
 use Rattle.equation_law.proofs.Solution.{are_joins, are_rising, one}
 use Rattle.memo_cells.specs.declared.view.Frame.{Frame}
 use Rattle.memo_cells.specs.declared.view.View.{View}
-use Rattle.memo_cells.specs.Naming.{IsElementCode}
-use Rattle.memo_cells.specs.Showing.{ShowsAtLeast, ShowsAtMost, ShowsCode, ShowsTrue, has_code as has_element}
+use Rattle.memo_cells.specs.Showing.{ShowsAtLeast, ShowsAtMost, ShowsCode, ShowsTrue}
 use Rattle.memo_cells.specs.Standing.{AreApproximations, Knows}
 use Rattle.memo_cells.specs.Views.{IsAtLeast}
 use Rattle.memo_cells.proofs.Showing.{true_later}

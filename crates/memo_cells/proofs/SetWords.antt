@@ -7,14 +7,14 @@ use Rattle.std.specs.List.{slice_get}
 use Rattle.std.proofs.lemmas.Nat.Bits.{bit_at-zero}
 use Rattle.attr_rules.specs.Rules.{is_single}
 use Rattle.equation_law.specs.Equations.{kind_in}
+use Rattle.equation_law.specs.Keys.{IsElementCode, has_code}
 use Rattle.equation_law.specs.Names.{Instance}
 use Rattle.equation_law.specs.Program.{Program, text_of}
 use Rattle.equation_law.specs.Systems.{program_of}
 use Rattle.memo_cells.specs.declared.view.Frame.{Frame}
 use Rattle.memo_cells.specs.declared.view.View.{View}
 use Rattle.memo_cells.specs.Keys.{set_word}
-use Rattle.memo_cells.specs.Naming.{IsElementCode}
-use Rattle.memo_cells.specs.Showing.{ShowsCode, has_code}
+use Rattle.memo_cells.specs.Showing.{ShowsCode}
 use Rattle.memo_cells.specs.Standing.{HasWord, IsPassOf, MayRaise}
 use Rattle.memo_cells.specs.Views.{ClaimsOnly, Has, IsAtLeast, IsFull}
 use Rattle.memo_cells.specs.Working.{GoesOn, Held, IsOwn, program_at}

@@ -4,15 +4,16 @@ use Rattle.attr_rules.specs.declared.kinds.Kind.{Kind}
 use Rattle.attr_rules.specs.declared.kinds.Kind.TheVariants as kinds
 use Rattle.equation_law.specs.Codes.{reference_of}
 use Rattle.equation_law.specs.Equations.{equations_of, kind_in}
+use Rattle.equation_law.specs.Keys.{has_code}
 use Rattle.equation_law.specs.Names.{At, Instance, Null, Reference}
-use Rattle.equation_law.specs.Orders.{AtMost, FitsKind}
+use Rattle.equation_law.specs.Orders.{IsAtMost, FitsKind}
 use Rattle.equation_law.specs.Program.{Program, text_of}
 use Rattle.equation_law.specs.Sets.{IsPart as IsSetPart, has}
 use Rattle.equation_law.specs.Values.{Value, has_node, nodes, texts, truth}
 use Rattle.equation_law.proofs.Orders.{at_most_through}
 use Rattle.equation_law.proofs.Sets.{empty_part}
 use Rattle.memo_cells.specs.declared.view.View.{View}
-use Rattle.memo_cells.specs.Showing.{AreShown, ShowsAtLeast, ShowsAtMost, ShowsCode, ShowsTrue, has_code}
+use Rattle.memo_cells.specs.Showing.{AreShown, ShowsAtLeast, ShowsAtMost, ShowsCode, ShowsTrue}
 use Rattle.memo_cells.specs.Standing.{ComesTo, IsElement, IsFinal, IsPart, IsRaised, IsSettled, MayShow}
 use Rattle.memo_cells.specs.Views.{IsAtLeast}
 use Rattle.memo_cells.proofs.Naming.{knows_later, stands_later, word_later}
@@ -22,11 +23,11 @@ pub not_both : {b : Bool} → b ≡ false → b ≡ true → ⊥
 not_both f t = cc
 
 -- an element of a value is one of a greater value
-has_node_more : (x y : Value) (r : Reference) → AtMost x y → has_node (nodes x) r ≡ true → has_node (nodes y) r ≡ true
+has_node_more : (x y : Value) (r : Reference) → IsAtMost x y → has_node (nodes x) r ≡ true → has_node (nodes y) r ≡ true
 has_node_more x y Null l e = e
 has_node_more x y (At n) l e = l.in_nodes n e
 
-pub has_code_more : (numbered : ℕ → List ℕ) (k : Kind) (x y : Value) (c : ℕ) → AtMost x y → has_code numbered k x c ≡ true → has_code numbered k y c ≡ true
+pub has_code_more : (numbered : ℕ → List ℕ) (k : Kind) (x y : Value) (c : ℕ) → IsAtMost x y → has_code numbered k x c ≡ true → has_code numbered k y c ≡ true
 has_code_more numbered kinds.Truth x y c l e = e
 has_code_more numbered kinds.Int x y c l e = e
 has_code_more numbered kinds.Text x y c l e = e
@@ -42,7 +43,7 @@ nodes_none : (x y : Value) {z : Value} → x ≡ z → IsSetPart (nodes z) (node
 nodes_none x y e h = subst (λ (u : Value). IsSetPart (nodes u) (nodes y)) (sym e) h
 
 -- a value of a type that is at most what is shown, which is at most another
-pub shown_between : (p : Program) (v : View) (i : Instance) (k : Kind) (x y : Value) → FitsKind k x → ShowsAtLeast p v i k x → ShowsAtMost p v i k y → AtMost x y
+pub shown_between : (p : Program) (v : View) (i : Instance) (k : Kind) (x y : Value) → FitsKind k x → ShowsAtLeast p v i k x → ShowsAtMost p v i k y → IsAtMost x y
 shown_between p v i kinds.Truth x y f l m = record { in_truth = λ e. m (l e); in_texts = texts_none x y f.1 (empty_part (texts y)); in_nodes = nodes_none x y f.1 (empty_part (nodes y)) }
 shown_between p v i kinds.Int x y f l m = elim f [ ]
 shown_between p v i kinds.Text x y f l m = elim f [ ]
@@ -86,7 +87,7 @@ module _ (p : Program) (v w : View) (more : IsAtLeast v w) where
   may_show_later i x h = ⊎_elim (λ a. inl (a.0, comes_later i x a.1)) inr h
 
   -- under a greater lower assignment too
-  module _ (T U : Instance → Value) (below : (j : Instance) → (equations_of p).circular j ≡ true → AtMost (T j) (U j)) where
+  module _ (T U : Instance → Value) (below : (j : Instance) → (equations_of p).circular j ≡ true → IsAtMost (T j) (U j)) where
     pub final_later : (k c : ℕ) → IsFinal p v T k c → IsFinal p w U k c
     final_later k c h = record { settled = settled_later k c h.settled; lower = λ e. at_most_through h.settled.code.value (T h.settled.of) (U h.settled.of) (h.lower e) (below h.settled.of e) }
 

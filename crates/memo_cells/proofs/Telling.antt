@@ -11,6 +11,7 @@ use Rattle.rag_io.specs.Pool.{ArePooled}
 use Rattle.rag_io.proofs.Numbers.{same_number}
 use Rattle.equation_law.specs.Codes.{reference_of}
 use Rattle.equation_law.specs.Equations.{HasValue, equations_of, kind_in}
+use Rattle.equation_law.specs.Keys.{IsElementCode, has_code}
 use Rattle.equation_law.specs.Loops.{fits_in, join_in, order_in}
 use Rattle.equation_law.specs.Names.{At, Instance, Null, Reference}
 use Rattle.equation_law.specs.Program.{Program, text_of}
@@ -20,8 +21,8 @@ use Rattle.equation_law.proofs.Keys.{one_reference}
 use Rattle.equation_law.proofs.Solution.{are_joins, are_rising, one}
 use Rattle.memo_cells.specs.declared.view.Frame.{Frame}
 use Rattle.memo_cells.specs.declared.view.View.{View}
-use Rattle.memo_cells.specs.Naming.{IsCellOf, IsElementCode}
-use Rattle.memo_cells.specs.Showing.{IsWordSeen, ShowsAtLeast, ShowsAtMost, ShowsCode, has_code}
+use Rattle.memo_cells.specs.Naming.{IsCellOf}
+use Rattle.memo_cells.specs.Showing.{IsWordSeen, ShowsAtLeast, ShowsAtMost, ShowsCode}
 use Rattle.memo_cells.specs.Standing.{AreApproximations, HasWord, IsPassOf, IsWordOfValue, Knows, MayRaise, MayRaiseSet, MayRaiseTruth}
 use Rattle.memo_cells.specs.Steps.{BitsSeen}
 use Rattle.memo_cells.specs.Views.{IsAtLeast}

@@ -1,3 +1,4 @@
+pub mod Claiming
 pub mod Keys
 pub mod Naming
 pub mod SetRaising

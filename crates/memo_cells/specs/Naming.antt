@@ -1,10 +1,9 @@
 -- What a key word stands for: an instance, or one with the first of its arguments.
-use Rattle.std.specs.Prelude.{◌≡◌, ℕ, ◌<◌, ◌^◌, ◌/◌, List, [], ◌∷◌, ◌++◌, ◌⊎◌, length, reverse}
-use Rattle.attr_rules.specs.declared.kinds.Kind.{Kind}
-use Rattle.attr_rules.specs.declared.kinds.Kind.TheVariants as kinds
-use Rattle.equation_law.specs.Checked.{IsInstance, IsNodeOf}
+use Rattle.std.specs.Prelude.{◌≡◌, ℕ, ◌<◌, ◌^◌, ◌/◌, List, [], ◌∷◌, ◌⊎◌, reverse}
+use Rattle.equation_law.specs.Checked.{IsInstance}
 use Rattle.equation_law.specs.Codes.{AreCodes, arguments_at, reference_of}
 use Rattle.equation_law.specs.Equations.{kind_in}
+use Rattle.equation_law.specs.Keys.{IsElementCode, IsPrefix}
 use Rattle.equation_law.specs.Names.{Argument, Attribute, Instance, Query, Reference}
 use Rattle.equation_law.specs.Program.{Program, attribute_parameters, text_of}
 use Rattle.memo_cells.specs.declared.view.Frame.{Frame}
@@ -32,15 +31,6 @@ abbrev pub StandsFor : Program → View → ℕ → Instance → Type 0
 StandsFor p v k (Attribute a r xs) = IsAttributeKey p v k a r xs
 StandsFor p v k (Query q) = (q < 2 ^ 32) × (k ≡ query_word q)
 
--- an instance with more arguments, which come last
-abbrev pub with_more : Instance → List Argument → Instance
-with_more (Attribute a r xs) zs = Attribute a r (xs ++ zs)
-with_more (Query q) zs = Query q
-
--- x is i with the first of its arguments: with none of them, some, or all
-abbrev pub IsPrefix : Instance → Instance → Type 0
-IsPrefix x i = (zs : List Argument) × (with_more x zs ≡ i)
-
 -- it is a key on the way to the cell of i, the key of i included
 pub record IsKeyTo (p : Program) (v : View) (i : Instance) (k : ℕ) : Type 0 where
   pub prefix : Instance
@@ -52,15 +42,6 @@ pub record IsFormedKey (p : Program) (v : View) (k : ℕ) : Type 0 where
   pub of : Instance
   pub instance : IsInstance p of
   pub key : IsKeyTo p v of k
-
--- the code of a text of the program, or of a node of the class
-abbrev pub IsElementCode : Program → Kind → ℕ → Type 0
-IsElementCode p kinds.Truth c = ⊥
-IsElementCode p kinds.Int c = ⊥
-IsElementCode p kinds.Text c = ⊥
-IsElementCode p (kinds.Node d) c = ⊥
-IsElementCode p kinds.Texts c = c < length p.texts
-IsElementCode p (kinds.Nodes d) c = (0 < c) × IsNodeOf p d (reference_of c)
 
 -- k is the key of the w-th word of the set of i
 pub record IsWordOf (p : Program) (v : View) (k : ℕ) (i : Instance) (w : ℕ) : Type 0 where

@@ -5,13 +5,14 @@ use Rattle.equation_law.specs.declared.coding.Value.{Value as CodedValue}
 use Rattle.equation_law.specs.declared.coding.Value.TheVariants as coded
 use Rattle.equation_law.specs.Checked.{IsInstance}
 use Rattle.equation_law.specs.Equations.{kind_in}
+use Rattle.equation_law.specs.Keys.{IsElementCode, has_code}
 use Rattle.equation_law.specs.Names.{Instance}
 use Rattle.equation_law.specs.Program.{Program, text_of}
 use Rattle.equation_law.specs.Values.{Value}
 use Rattle.memo_cells.specs.declared.view.Frame.{Frame}
 use Rattle.memo_cells.specs.declared.view.View.{View}
-use Rattle.memo_cells.specs.Naming.{IsCellOf, IsElementCode, IsWordOf}
-use Rattle.memo_cells.specs.Showing.{ShowsCode, has_code}
+use Rattle.memo_cells.specs.Naming.{IsCellOf, IsWordOf}
+use Rattle.memo_cells.specs.Showing.{ShowsCode}
 use Rattle.memo_cells.specs.Standing.{MayShow}
 use Rattle.memo_cells.specs.Views.{Has, IsFull, times}
 

@@ -1,5 +1,5 @@
 -- What the words of the table show of the value of an instance.
-use Rattle.std.specs.Prelude.{◌≡◌, ◌↔◌, ℕ, true, false, Bool, ◌+◌, ◌*◌, ◌/◌, ◌%◌, ◌<◌, ◌≤◌, List}
+use Rattle.std.specs.Prelude.{◌≡◌, ◌↔◌, ℕ, true, ◌+◌, ◌*◌, ◌/◌, ◌%◌, ◌<◌, ◌≤◌, List}
 use Rattle.std.specs.Int.{bit_at}
 use Rattle.attr_rules.specs.declared.kinds.Kind.{Kind}
 use Rattle.attr_rules.specs.declared.kinds.Kind.TheVariants as kinds
@@ -13,15 +13,6 @@ use Rattle.equation_law.specs.Values.{Value, has_node, nodes, texts, truth}
 use Rattle.memo_cells.specs.declared.view.View.{View}
 use Rattle.memo_cells.specs.Naming.{IsWordOf, StandsFor}
 use Rattle.memo_cells.specs.Views.{Has}
-
--- the text or the node of this code is in the set, by the texts that the numbers stand for
-abbrev pub has_code : (ℕ → List ℕ) → Kind → Value → ℕ → Bool
-has_code numbered kinds.Truth x c = false
-has_code numbered kinds.Int x c = false
-has_code numbered kinds.Text x c = false
-has_code numbered (kinds.Node d) x c = false
-has_code numbered kinds.Texts x c = has (texts x) (numbered c)
-has_code numbered (kinds.Nodes d) x c = has_node (nodes x) (reference_of c)
 
 -- the cell of i shows true
 abbrev pub ShowsTrue : Program → View → Instance → Type 0

@@ -10,16 +10,16 @@ use Rattle.equation_law.specs.declared.system.System.{System}
 use Rattle.equation_law.specs.Checked.{IsInstance}
 use Rattle.equation_law.specs.Codes.{IsSmall, value_at}
 use Rattle.equation_law.specs.Equations.{HasValue, equations_of, kind_in}
+use Rattle.equation_law.specs.Keys.{IsElementCode, has_code}
 use Rattle.equation_law.specs.Loops.{fits_in, join_in, order_in}
 use Rattle.equation_law.specs.Names.{Instance}
-use Rattle.equation_law.specs.Orders.{AtMost}
 use Rattle.equation_law.specs.Program.{Program, text_of}
 use Rattle.equation_law.specs.Systems.{program_of}
 use Rattle.equation_law.specs.Values.{Value, as_kind, truth}
 use Rattle.memo_cells.specs.declared.view.Frame.{Frame}
 use Rattle.memo_cells.specs.declared.view.View.{View}
-use Rattle.memo_cells.specs.Naming.{IsCellOf, IsElementCode, IsFormed, IsWordOf, StandsFor}
-use Rattle.memo_cells.specs.Showing.{AreShown, IsWordSeen, ShowsAtLeast, ShowsAtMost, ShowsCode, ShowsTrue, has_code}
+use Rattle.memo_cells.specs.Naming.{IsCellOf, IsFormed, IsWordOf, StandsFor}
+use Rattle.memo_cells.specs.Showing.{AreShown, IsWordSeen, ShowsAtLeast, ShowsAtMost, ShowsCode, ShowsTrue}
 use Rattle.memo_cells.specs.Views.{Has, first_view, knows_all, times, word_at}
 use Rattle.memo_cells.specs.Words.{AreOrdered}
 
@@ -167,7 +167,7 @@ pub record MaySeal (p : Program) (f : Frame) (v : View) (slots : List ℕ) : Typ
 -- a settled code is final: no value of the lower assignment is above that of a circular instance, so it has that value there
 pub record IsFinal (p : Program) (v : View) (T : Instance → Value) (k c : ℕ) : Type 0 where
   pub settled : IsSettled p v k c
-  pub lower : (equations_of p).circular settled.of ≡ true → AtMost settled.code.value (T settled.of)
+  pub lower : (equations_of p).circular settled.of ≡ true → order_in p settled.of settled.code.value (T settled.of)
 
 -- k stands for a circular instance that T makes true
 pub record IsRaised (p : Program) (v : View) (T : Instance → Value) (k : ℕ) : Type 0 where

@@ -1,79 +1,63 @@
 // The cells of instances: one key for the attribute at the node, and one for each argument.
-ghost use Rattle.std.specs.Prelude.{◌≡◌, ◌<◌, ℕ, IfNone, IfOk, IfSome, OnErr, slice_get};
+ghost use Rattle.std.specs.Prelude.{◌≡◌, ◌<◌, ℕ, IfNone, IfOk, IfSome, OnErr};
 ghost use Rattle.equation_law.specs.declared.coding.Instance.TheVariants.{Attr as attribute_at};
 ghost use Rattle.equation_law.specs.Checked.{IsInstance};
-ghost use Rattle.equation_law.specs.Codes.{IsCoded, codes_in, instance_of};
+ghost use Rattle.equation_law.specs.Codes.{IsCoded, instance_of};
 ghost use Rattle.equation_law.specs.Systems.{program_of};
 ghost use Rattle.memo_cells.specs.Naming.{ClaimsKeysTo, IsCellOf, LacksCell};
 ghost use Rattle.memo_cells.specs.Standing.{IsPassOf};
 ghost use Rattle.memo_cells.specs.Views.{Has, IsAtLeast, IsPlain};
+ghost use Rattle.memo_cells.specs.Working.{GoesOn, IsOwn, program_at};
 
 use crate::calls::CellsFull;
 use crate::cells::{Cells, Pass};
 use crate::keys::{Key, Slot};
+use crate::work::Work;
 use attr_rules::AttrId;
-use equation_law::{Args, Code, Instance, NodeRef};
+use equation_law::{Args, Instance, NodeRef};
 
-/// The code of an argument by its place, from 0 on, or None where there are no more.
-fn code_at(args: Args, place: u32) -> Option<Code>
-    ensures { result ≡ slice_get (codes_in args) place }
+/// The slot of an attribute at a node with arguments.
+fn claim_attribute<W: Work>(
+    work: &mut W,
+    attr: AttrId,
+    node: NodeRef,
+    args: Args,
+) -> Result<Slot, CellsFull>
+    requires own { IsOwn (W.held work.old) }
+    requires instance { IsInstance (program_at (W.held work.old)) (instance_of (program_at (W.held work.old)) (attribute_at attr node args)) }
+    requires coded { IsCoded (program_at (W.held work.old)) (attribute_at attr node args) }
+    ensures on { GoesOn (W.held work.old) (W.held work.new) }
+    ensures slot { IfOk result (λ s. IsCellOf (program_at (W.held work.old)) (W.held work.old).0 (W.held work.new).1 (instance_of (program_at (W.held work.old)) (attribute_at attr node args)) s.0) }
+    ensures full { OnErr result (LacksCell (program_at (W.held work.old)) (W.held work.old).0 (W.held work.new).1 (instance_of (program_at (W.held work.old)) (attribute_at attr node args))) }
+    ensures claims { ClaimsKeysTo (program_at (W.held work.old)) (W.held work.old).1 (W.held work.new).1 (instance_of (program_at (W.held work.old)) (attribute_at attr node args)) }
 {
-    if place >= args.count {
-        return None;
+    let mut slot = work.claim(Key::Inst { attr, node })?;
+    let mut place = 0;
+    while let Some(code) = args.code_at(place) {
+        slot = work.claim(Key::Arg { slot, code })?;
+        place += 1;
     }
-    match place {
-        0 => Some(args.first),
-        1 => Some(args.second),
-        2 => Some(args.third),
-        _ => None,
+    Ok(slot)
+}
+
+/// The one slot of an instance of the system, claimed where it wasn't, with those on the way to it, of which there is one for each
+/// argument. It refuses only where other keys have all the cells than one of these.
+pub fn claim_instance<W: Work>(work: &mut W, i: Instance) -> Result<Slot, CellsFull>
+    requires own { IsOwn (W.held work.old) }
+    requires instance { IsInstance (program_at (W.held work.old)) (instance_of (program_at (W.held work.old)) i) }
+    requires coded { IsCoded (program_at (W.held work.old)) i }
+    ensures on { GoesOn (W.held work.old) (W.held work.new) }
+    ensures slot { IfOk result (λ s. IsCellOf (program_at (W.held work.old)) (W.held work.old).0 (W.held work.new).1 (instance_of (program_at (W.held work.old)) i) s.0) }
+    ensures full { OnErr result (LacksCell (program_at (W.held work.old)) (W.held work.old).0 (W.held work.new).1 (instance_of (program_at (W.held work.old)) i)) }
+    ensures claims { ClaimsKeysTo (program_at (W.held work.old)) (W.held work.old).1 (W.held work.new).1 (instance_of (program_at (W.held work.old)) i) }
+{
+    match i {
+        Instance::Attr { attr, node, args } => claim_attribute(work, attr, node, args),
+        Instance::Query(query) => work.claim(Key::Query(query)),
     }
 }
 
 impl Cells {
-    /// The slot of an attribute at a node with arguments.
-    fn claim_attribute(
-        &self,
-        pass: &mut Pass,
-        attr: AttrId,
-        node: NodeRef,
-        args: Args,
-    ) -> Result<Slot, CellsFull>
-        requires own { IsPassOf self.now pass.old }
-        requires instance { IsInstance (program_of self.now.system.value) (instance_of (program_of self.now.system.value) (attribute_at attr node args)) }
-        requires coded { IsCoded (program_of self.now.system.value) (attribute_at attr node args) }
-        ensures own { IsPassOf self.now pass.new }
-        ensures kept { IsAtLeast pass.old pass.new }
-        ensures slot { IfOk result (λ s. IsCellOf (program_of self.now.system.value) self.now pass.new (instance_of (program_of self.now.system.value) (attribute_at attr node args)) s.0) }
-        ensures full { OnErr result (LacksCell (program_of self.now.system.value) self.now pass.new (instance_of (program_of self.now.system.value) (attribute_at attr node args))) }
-        ensures claims { ClaimsKeysTo (program_of self.now.system.value) pass.old pass.new (instance_of (program_of self.now.system.value) (attribute_at attr node args)) }
-    {
-        let mut slot = self.claim(pass, Key::Inst { attr, node })?;
-        let mut place = 0;
-        while let Some(code) = code_at(args, place) {
-            slot = self.claim(pass, Key::Arg { slot, code })?;
-            place += 1;
-        }
-        Ok(slot)
-    }
-
-    /// The one slot of an instance of the system, claimed where it wasn't, with those on the way to it, of which there is one for each
-    /// argument. It refuses only where other keys have all the cells than one of these.
-    pub fn claim_instance(&self, pass: &mut Pass, i: Instance) -> Result<Slot, CellsFull>
-        requires own { IsPassOf self.now pass.old }
-        requires instance { IsInstance (program_of self.now.system.value) (instance_of (program_of self.now.system.value) i) }
-        requires coded { IsCoded (program_of self.now.system.value) i }
-        ensures own { IsPassOf self.now pass.new }
-        ensures kept { IsAtLeast pass.old pass.new }
-        ensures slot { IfOk result (λ s. IsCellOf (program_of self.now.system.value) self.now pass.new (instance_of (program_of self.now.system.value) i) s.0) }
-        ensures full { OnErr result (LacksCell (program_of self.now.system.value) self.now pass.new (instance_of (program_of self.now.system.value) i)) }
-        ensures claims { ClaimsKeysTo (program_of self.now.system.value) pass.old pass.new (instance_of (program_of self.now.system.value) i) }
-    {
-        match i {
-            Instance::Attr { attr, node, args } => self.claim_attribute(pass, attr, node, args),
-            Instance::Query(query) => self.claim(pass, Key::Query(query)),
-        }
-    }
-
     /// The slot of an attribute at a node with arguments, if it is claimed.
     fn seek_attribute(
         &self,
@@ -94,7 +78,7 @@ impl Cells {
     {
         let mut slot = self.seek(pass, Key::Inst { attr, node })?;
         let mut place = 0;
-        while let Some(code) = code_at(args, place) {
+        while let Some(code) = args.code_at(place) {
             slot = self.seek(pass, Key::Arg { slot, code })?;
             place += 1;
         }

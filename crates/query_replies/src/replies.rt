@@ -3,9 +3,9 @@ ghost use Rattle.std.specs.Prelude.{◌≡◌, ◌≤◌, ◌<◌, ◌++◌, ◌
 ghost use Rattle.equation_law.specs.Checked.{IsProgram};
 ghost use Rattle.equation_law.specs.Systems.{program_of};
 ghost use Rattle.equation_law.specs.Names.{Query};
+ghost use Rattle.memo_cells.specs.Claiming.{ClaimsKeys, FillsCells};
 ghost use Rattle.memo_cells.specs.Standing.{AreNew, IsPassOf};
 ghost use Rattle.memo_cells.specs.Views.{IsAtLeast};
-ghost use Rattle.caller_pass.specs.Answering.{ClaimsKeys, FillsCells};
 ghost use Rattle.caller_pass.specs.Overfull.{IsOverfull};
 ghost use Rattle.query_replies.specs.Replies.{AreReplies};
 ghost use Rattle.query_replies.specs.Replies.{AddsAnswer};

@@ -5,23 +5,23 @@ use Rattle.caller_pass.proofs.Solved.{first_turn, next_coded, next_instance, no_
 use Rattle.caller_pass.proofs.Stepping.{not_ok}
 use Rattle.caller_pass.proofs.solving.solve.Goals as goal
 
-pub claim_cell-requires-clause-instance : goal.claim_cell-requires-clause-instance
-claim_cell-requires-clause-instance g c = c.requires.instance
+pub claim_instance-requires-clause-instance : goal.claim_instance-requires-clause-instance
+claim_instance-requires-clause-instance g c = c.requires.instance
 
-pub claim_cell-requires-clause-coded : goal.claim_cell-requires-clause-coded
-claim_cell-requires-clause-coded g c = c.requires.coded
+pub claim_instance-requires-clause-coded : goal.claim_instance-requires-clause-coded
+claim_instance-requires-clause-coded g c = c.requires.coded
 
-pub returns-in_err-claim_cell-clause-on : goal.returns-in_err-claim_cell-clause-on
-returns-in_err-claim_cell-clause-on g c = c.in_err-claim_cell.ensures.on
+pub returns-in_err-claim_instance-clause-on : goal.returns-in_err-claim_instance-clause-on
+returns-in_err-claim_instance-clause-on g c = c.in_err-claim_instance.ensures.on
 
-pub returns-in_err-claim_cell-clause-solved : goal.returns-in_err-claim_cell-clause-solved
-returns-in_err-claim_cell-clause-solved g c = no_cell c.args.i c.in_err-claim_cell.ensures.on c.in_err-claim_cell.ensures.full c.in_err-claim_cell.ensures.claims c.from_residual.ensures
+pub returns-in_err-claim_instance-clause-solved : goal.returns-in_err-claim_instance-clause-solved
+returns-in_err-claim_instance-clause-solved g c = no_cell c.args.i c.in_err-claim_instance.ensures.on c.in_err-claim_instance.ensures.full c.in_err-claim_instance.ensures.claims c.from_residual.ensures
 
-pub returns-in_err-claim_cell-clause-outer : goal.returns-in_err-claim_cell-clause-outer
-returns-in_err-claim_cell-clause-outer g c = λ ok. not_ok c.from_residual.result c.from_residual.ensures.0 ok
+pub returns-in_err-claim_instance-clause-outer : goal.returns-in_err-claim_instance-clause-outer
+returns-in_err-claim_instance-clause-outer g c = λ ok. not_ok c.from_residual.result c.from_residual.ensures.0 ok
 
 pub turns-init : goal.turns-init
-turns-init g c = first_turn c.args.evals.now c.requires.own c.in_ok-claim_cell.ensures.on c.requires.instance c.requires.coded c.requires.undeclared c.requires.unknown c.in_ok-claim_cell.ensures.slot c.in_ok-claim_cell.ensures.claims c.new-waiting.result c.new-waiting.ensures c.new.result c.new.ensures
+turns-init g c = first_turn c.args.evals.now c.requires.own c.in_ok-claim_instance.ensures.on c.requires.instance c.requires.coded c.requires.undeclared c.requires.unknown c.in_ok-claim_instance.ensures.slot c.in_ok-claim_instance.ensures.claims c.new-waiting.result c.new-waiting.ensures c.new.result c.new.ensures
 
 pub step-requires-clause-program : goal.step-requires-clause-program
 step-requires-clause-program g c = turn_program c.turns.invariant c.requires.program

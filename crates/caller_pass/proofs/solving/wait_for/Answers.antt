@@ -2,8 +2,6 @@ use Rattle.std.proofs.Common.{◌≡◌, ◌⊎◌, true, List, map, refl, sym, 
 use Rattle.equation_law.specs.declared.coding.Instance.{Instance as CodedInstance}
 use Rattle.equation_law.specs.Codes.{instance_of}
 use Rattle.equation_law.specs.Loops.{HasLoop}
-use Rattle.memo_cells.specs.declared.view.Frame.{Frame}
-use Rattle.memo_cells.specs.Naming.{IsCellOf}
 use Rattle.memo_cells.specs.Working.{program_at}
 use Rattle.caller_pass.specs.declared.waiting.Waiter.{Waiter}
 use Rattle.caller_pass.specs.Waiting.{AreWaiting, IsLineTo, waits}
@@ -24,7 +22,7 @@ returns-clause-answer c =
     let p = program_at c.args.desk.now in
     let pushed = c.in_ok-push.ensures in (
       pushed,
-      subst (λ (f : Frame). IsCellOf p f c.claim_cell.new.self.1 (instance_of p c.args.next) c.in_ok-slot.slot.0) c.claim_cell.ensures.on.cells c.in_ok-slot.ensures.slot,
+      c.in_ok-slot.ensures.slot,
       refl,
       ap (λ es. waits es c.args.next) (sym pushed) ∙ c.closes_loop.ensures.other c.if-closes_loop.false,
       c.new.ensures,

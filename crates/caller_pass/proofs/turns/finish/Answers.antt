@@ -8,17 +8,17 @@ use Rattle.equation_law.specs.Program.{Program, text_of}
 use Rattle.equation_law.specs.Systems.{program_of}
 use Rattle.equation_law.proofs.Pooled.{first_text}
 use Rattle.memo_cells.specs.declared.view.Frame.{Frame}
+use Rattle.memo_cells.specs.Claiming.{ClaimsKeys}
 use Rattle.memo_cells.specs.Naming.{IsCellOf}
 use Rattle.memo_cells.specs.Showing.{ShowsAtLeast}
 use Rattle.memo_cells.specs.Standing.{Knows, MaySettle}
 use Rattle.memo_cells.specs.Working.{GoesOn, Held, program_at}
+use Rattle.memo_cells.proofs.Claiming.{claims_same, claims_then}
 use Rattle.memo_cells.proofs.Holding.{goes_then}
 use Rattle.memo_cells.proofs.Naming.{cell_later}
 use Rattle.solutions.specs.Leading.{none}
-use Rattle.caller_pass.specs.Answering.{ClaimsKeys}
 use Rattle.caller_pass.specs.Noting.{IsNoted}
 use Rattle.caller_pass.proofs.Noted.{ended_noted}
-use Rattle.caller_pass.proofs.Claiming.{claims_same, claims_then}
 use Rattle.caller_pass.proofs.Knowing.{may_settle}
 use Rattle.caller_pass.proofs.turns.finish.Goals as goal
 

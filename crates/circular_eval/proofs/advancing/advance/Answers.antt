@@ -2,7 +2,8 @@ use Rattle.std.proofs.Common.{subst}
 use Rattle.equation_law.specs.declared.system.System.{System}
 use Rattle.equation_law.specs.Codes.{instance_of}
 use Rattle.equation_law.specs.Systems.{program_of}
-use Rattle.circular_eval.specs.Advancing.{AnswersTurn, ClaimsFrom}
+use Rattle.memo_cells.specs.Claiming.{ClaimsKeys}
+use Rattle.circular_eval.specs.Advancing.{AnswersTurn}
 use Rattle.circular_eval.specs.Local.{IsLocal}
 use Rattle.circular_eval.proofs.advancing.advance.Goals as goal
 
@@ -24,7 +25,7 @@ returns-clause-start g c =
 
 pub returns-clause-claims : goal.returns-clause-claims
 returns-clause-claims g c =
-    subst (λ (s : System). ClaimsFrom (program_of s) (instance_of (program_of s) c.args.local.now.start) (g.W.Words.held c.args.work.now).1 (g.W.Words.held c.go_on.new.work).1) c.requires.same c.go_on.ensures.goes.claims
+    subst (λ (s : System). ClaimsKeys (program_of s) (instance_of (program_of s) c.args.local.now.start) (g.W.Words.held c.args.work.now).1 (g.W.Words.held c.go_on.new.work).1) c.requires.same c.go_on.ensures.goes.claims
 
 pub returns-clause-answer : goal.returns-clause-answer
 returns-clause-answer g c =

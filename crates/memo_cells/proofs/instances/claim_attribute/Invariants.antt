@@ -5,7 +5,7 @@ use Rattle.equation_law.specs.Codes.{codes_in, instance_of}
 use Rattle.memo_cells.specs.Naming.{ClaimsKeysTo}
 use Rattle.memo_cells.specs.Working.{GoesOn, program_at}
 use Rattle.memo_cells.proofs.Ways.{IsOnWay}
-use Rattle.circular_eval.proofs.claiming.claim_attribute.Given as goal
+use Rattle.memo_cells.proofs.instances.claim_attribute.Given as goal
 
 abbrev pub invariant-loop-code : goal.invariant-loop-code
 invariant-loop-code g l = record {

@@ -8,7 +8,7 @@ use Rattle.memo_cells.specs.Working.{program_at}
 use Rattle.memo_cells.specs.Keys.{query_word}
 use Rattle.memo_cells.specs.Naming.{ClaimsKeysTo, LacksCell}
 use Rattle.memo_cells.proofs.Ways.{claims_key, query_formed, query_key}
-use Rattle.circular_eval.proofs.claiming.claim_at.Goals as goal
+use Rattle.memo_cells.proofs.instances.claim_instance.Goals as goal
 
 pub claim-requires-clause-key : goal.claim-requires-clause-key
 claim-requires-clause-key g c =

@@ -7,8 +7,8 @@ use Rattle.memo_cells.proofs.More.{at_least_itself}
 use Rattle.memo_cells.proofs.Naming.{key_later}
 use Rattle.memo_cells.proofs.Ways.{claims_key, claims_on, fits, formed_on_way, key_next, key_on_way, on_err, place_less, way_next}
 use Rattle.memo_cells.proofs.Holding.{goes_then, own_then}
-use Rattle.circular_eval.proofs.Holding.{formed_at, full_back, slot_back}
-use Rattle.circular_eval.proofs.claiming.claim_attribute.Goals as goal
+use Rattle.memo_cells.proofs.Holding.{formed_at, full_back, slot_back}
+use Rattle.memo_cells.proofs.instances.claim_attribute.Goals as goal
 
 pub claim-requires-clause-key : goal.claim-requires-clause-key
 claim-requires-clause-key g c = formed_on_way (program_at (g.W.Words.held c.args.work.now)) (g.W.Words.held c.args.work.now).1 c.args.attr.0 c.args.node.0 c.args.args c.requires.coded.1 (attribute_word c.args.attr.0 c.args.node.0) [] (codes_in c.args.args) c.requires.instance refl (search rules, search rules, refl)

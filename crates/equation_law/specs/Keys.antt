@@ -1,0 +1,91 @@
+-- What the instances of a set lead to, and the cells that they need: one for each instance to which they lead, one for each of the first of
+-- its arguments, and one for each word of its set in which an element lies. A set of instances is a test of membership.
+use Rattle.std.specs.Prelude.{◌≡◌, ℕ, Bool, true, false, ◌<◌, ◌/◌, ◌⊎◌, List, [], ◌∷◌, ◌++◌, length}
+use Rattle.attr_rules.specs.declared.kinds.Kind.{Kind}
+use Rattle.attr_rules.specs.declared.kinds.Kind.TheVariants as kinds
+use Rattle.equation_law.specs.Checked.{IsNodeOf}
+use Rattle.equation_law.specs.Codes.{reference_of}
+use Rattle.equation_law.specs.Equations.{HasValue, equations_of, kind_in}
+use Rattle.equation_law.specs.Loops.{Chain}
+use Rattle.equation_law.specs.Lower.{IsLower}
+use Rattle.equation_law.specs.Names.{Argument, Attribute, Instance, Query}
+use Rattle.equation_law.specs.Program.{Program, text_of}
+use Rattle.equation_law.specs.Sets.{has}
+use Rattle.equation_law.specs.Values.{Value, has_node, nodes, texts}
+
+-- an instance with more arguments, which come last
+abbrev pub with_more : Instance → List Argument → Instance
+with_more (Attribute a r xs) zs = Attribute a r (xs ++ zs)
+with_more (Query q) zs = Query q
+
+-- x is i with the first of its arguments: with none of them, some, or all
+abbrev pub IsPrefix : Instance → Instance → Type 0
+IsPrefix x i = (zs : List Argument) × (with_more x zs ≡ i)
+
+-- what has a cell of its own: an instance or one with the first of its arguments, or one word of the set of an instance
+pub data Part : Type 0 where
+  Prefix : Instance → Part
+  Word : Instance → ℕ → Part
+
+-- the code of a text of the program, or of a node of the class
+abbrev pub IsElementCode : Program → Kind → ℕ → Type 0
+IsElementCode p kinds.Truth c = ⊥
+IsElementCode p kinds.Int c = ⊥
+IsElementCode p kinds.Text c = ⊥
+IsElementCode p (kinds.Node d) c = ⊥
+IsElementCode p kinds.Texts c = c < length p.texts
+IsElementCode p (kinds.Nodes d) c = (0 < c) × IsNodeOf p d (reference_of c)
+
+-- the text or the node of this code is in the set, by the texts that the numbers stand for
+abbrev pub has_code : (ℕ → List ℕ) → Kind → Value → ℕ → Bool
+has_code numbered kinds.Truth x c = false
+has_code numbered kinds.Int x c = false
+has_code numbered kinds.Text x c = false
+has_code numbered (kinds.Node d) x c = false
+has_code numbered kinds.Texts x c = has (texts x) (numbered c)
+has_code numbered (kinds.Nodes d) x c = has_node (nodes x) (reference_of c)
+
+-- a set in which the element of code c lies counts for i: its value in the solution, or one that it has under a lower assignment
+abbrev pub HasElement : Program → Instance → ℕ → Type 0
+HasElement p i c = ((x : Value) × HasValue p i x × (has_code (text_of p) (kind_in p i) x c ≡ true)) ⊎ ((T : Instance → Value) × IsLower p T × ((equations_of p).circular i ≡ true) × (has_code (text_of p) (kind_in p i) (T i) c ≡ true))
+
+-- such an element lies in the word w of the set of i: a word has 64 codes
+pub record HasElementIn (p : Program) (i : Instance) (w : ℕ) : Type 0 where
+  pub code : ℕ
+  pub element : IsElementCode p (kind_in p i) code
+  pub within : HasElement p i code
+  pub lies : code / 64 ≡ w
+
+-- the set of this instance alone
+abbrev pub IsJust : Instance → Instance → Type 0
+IsJust i j = j ≡ i
+
+-- the set of all queries of the program
+abbrev pub IsAsked : Program → Instance → Type 0
+IsAsked p (Attribute a r xs) = ⊥
+IsAsked p (Query q) = q < length p.queries
+
+-- an instance of the set leads to j in none or more steps
+abbrev pub IsReached : Program → (Instance → Type 0) → Instance → Type 0
+IsReached p Q j = (i : Instance) × Q i × Chain p i j
+
+-- x is a key of the set: one to which the set leads, or that with the first of its arguments, or a word of its set in which an element lies
+abbrev pub IsKey : Program → (Instance → Type 0) → Part → Type 0
+IsKey p Q (Prefix x) = (j : Instance) × IsPrefix x j × IsReached p Q j
+IsKey p Q (Word j w) = IsReached p Q j × HasElementIn p j w
+
+-- x is one of these
+abbrev pub IsAmong : List Part → Part → Type 0
+IsAmong [] x = ⊥
+IsAmong (y ∷ ys) x = (x ≡ y) ⊎ IsAmong ys x
+
+abbrev pub AreDifferent : List Part → Type 0
+AreDifferent [] = Unit {0}
+AreDifferent (x ∷ xs) = (IsAmong xs x → ⊥) × AreDifferent xs
+
+-- the set has more keys than n
+pub record HasMoreKeys (p : Program) (Q : Instance → Type 0) (n : ℕ) : Type 0 where
+  pub keys : List Part
+  pub different : AreDifferent keys
+  pub are : (x : Part) → IsAmong keys x → IsKey p Q x
+  pub many : n < length keys

@@ -1,0 +1,34 @@
+-- Which key words are those of what a set of instances needs, and what was claimed of them.
+use Rattle.std.specs.Prelude.{◌≡◌, ℕ, ◌⊎◌}
+use Rattle.equation_law.specs.Keys.{IsJust, IsKey, Part, Prefix, Word}
+use Rattle.equation_law.specs.Names.{Instance}
+use Rattle.equation_law.specs.Program.{Program}
+use Rattle.memo_cells.specs.declared.view.Frame.{Frame}
+use Rattle.memo_cells.specs.declared.view.View.{View}
+use Rattle.memo_cells.specs.Naming.{IsWordOf, StandsFor}
+use Rattle.memo_cells.specs.Views.{Has, IsFull, times}
+
+-- k is the key word of x
+abbrev pub IsKeyOfPart : Program → View → ℕ → Part → Type 0
+IsKeyOfPart p v k (Prefix x) = StandsFor p v k x
+IsKeyOfPart p v k (Word i w) = IsWordOf p v k i w
+
+-- k is the key word of a key of the set
+abbrev pub IsKeyOf : Program → View → (Instance → Type 0) → ℕ → Type 0
+IsKeyOf p v Q k = (x : Part) × IsKeyOfPart p v k x × IsKey p Q x
+
+-- what was claimed are cells of keys of the set
+abbrev pub ClaimsKeysOf : Program → (Instance → Type 0) → View → View → Type 0
+ClaimsKeysOf p Q v w = (s : ℕ) → (times s w.claims ≡ times s v.claims) ⊎ ((k : ℕ) × Has w.keys (s, k) × IsKeyOf p w Q k)
+
+-- other keys have all the cells than some key of the set
+abbrev pub FillsCellsOf : Program → (Instance → Type 0) → Frame → View → Type 0
+FillsCellsOf p Q f v = (k : ℕ) × IsKeyOf p v Q k × IsFull f v k
+
+-- what was claimed are cells of keys of i
+abbrev pub ClaimsKeys : Program → Instance → View → View → Type 0
+ClaimsKeys p i v w = ClaimsKeysOf p (IsJust i) v w
+
+-- other keys have all the cells than some key of i
+abbrev pub FillsCells : Program → Instance → Frame → View → Type 0
+FillsCells p i f v = FillsCellsOf p (IsJust i) f v
