@@ -152,6 +152,49 @@ fn other_list(alloc: Global) -> Result<Option<usize>, Memory> {
     Ok(None)
 }
 
+// Seven hundred numbers, which go to seven groups in turn.
+fn in_turn(alloc: Global) -> Result<Vec<Option<u32>>, Memory> {
+    let mut keys = Vec::new(alloc);
+    for number in 0..700 {
+        keys.push(Some(number % 7)).map_err(|_| Memory)?;
+    }
+    Ok(keys)
+}
+
+// Whether a group has every seventh number, from its own on.
+fn has_every_seventh(groups: &Groups, g: u32) -> bool {
+    if g >= groups.len() {
+        return false;
+    }
+    let members = groups.group(g);
+    let are_in_turn = members.iter().enumerate().all(|(turn, number)| *number % 7 == g
+        && *number as usize / 7 == turn);
+    members.len() == 100 && are_in_turn
+}
+
+// The first group that has other numbers.
+fn other_group(groups: &Groups) -> Option<u32> {
+    (0..7).find(|g| !has_every_seventh(groups, *g))
+}
+
+// The first group of many numbers that has other ones, or 7 where one has another place.
+fn other_turn(alloc: Global) -> Result<Option<u32>, Memory> {
+    let keys = in_turn(alloc)?;
+    if keys.len() != 700 || !are_within(&keys, 7) {
+        return Ok(Some(7));
+    }
+    let found_places = places(alloc, &keys, 7)?;
+    let are_in_turn = found_places
+        .iter()
+        .enumerate()
+        .all(|(number, place)| *place as usize == number / 7);
+    if found_places.len() != 700 || !are_in_turn {
+        return Ok(Some(7));
+    }
+    let groups = Groups::of(alloc, &keys, 7)?;
+    Ok(other_group(&groups))
+}
+
 // The superclasses of some classes, a class, its line, and whether the class is its own superclass.
 const LINES: [(&[Option<usize>], usize, &[usize], bool); 11] = [
     (&[], 0, &[], false),
@@ -185,8 +228,12 @@ fn other_line(alloc: Global) -> Result<Option<usize>, Memory> {
 
 #[test]
 fn numbers_are_grouped_and_lines_go_up(rt: HostRuntime) {
-    let found = (other_list(rt.alloc()), other_line(rt.alloc()));
-    assert_eq!(rt; found, (Ok(None), Ok(None)));
+    let found = (
+        other_list(rt.alloc()),
+        other_turn(rt.alloc()),
+        other_line(rt.alloc()),
+    );
+    assert_eq!(rt; found, (Ok(None), Ok(None), Ok(None)));
 }
 
 // Two trees, a class on its own, and one that is its own superclass with another below it:
