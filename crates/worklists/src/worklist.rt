@@ -103,6 +103,8 @@ impl Worklist {
         ensures due { OnOk result (unsettled ≡ true → IsDue self.new.due number) }
         ensures kept { StillDue self.old.due self.new.due }
         ensures fresh { OnOk result (length self.old.noted.items ≡ number → unsettled ≡ true → IsFresh self.new number) }
+        ensures effort { self.new.effort ≡ self.old.effort }
+        ensures cost { self.new.cost ≡ self.old.cost }
     {
         if self.noted.len() <= number {
             let noted = Noted {
@@ -194,6 +196,8 @@ impl Worklist {
         ensures noted { self.new.noted ≡ self.old.noted }
         ensures soon { self.old.effort < self.old.cost → IfOk result (λ closed. closed.items ≡ []) }
         ensures all { self.old.cost ≤ self.old.effort → IfOk result (λ closed. AreClosed self.old stopped closed.items) }
+        ensures waits { self.old.effort < self.old.cost → (self.new.effort ≡ self.old.effort) × (self.new.cost ≡ self.old.cost) }
+        ensures anew { self.old.cost ≤ self.old.effort → OnOk result ((self.new.effort ≡ 0) × (length self.new.noted.items ≤ self.new.cost)) }
     {
         if self.effort < self.cost {
             return Ok(Vec::new(alloc));
