@@ -11,6 +11,7 @@ mod Finite
 pub mod Growing
 pub mod Heights
 pub mod Keys
+pub mod KeysAsked
 pub mod Listed
 pub mod Lists
 pub mod Names

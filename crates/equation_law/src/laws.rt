@@ -1,5 +1,5 @@
 // The laws of the solution and of the instances of a program, over the definitions alone.
-ghost use Rattle.std.specs.Prelude.{◌≡◌, ◌↔◌, ◌⊎◌, ℕ, ℤ, Bool, List, Option, IsSome, true};
+ghost use Rattle.std.specs.Prelude.{◌≡◌, ◌↔◌, ◌⊎◌, ◌<◌, ℕ, ℤ, Bool, List, Option, IsSome, length, true};
 ghost use Rattle.std.specs.Cmp.Lexicographic.{slice_cmp};
 ghost use Rattle.std.specs.Ordering.{bool_cmp, int_cmp, nat_cmp, ordering_then};
 ghost use Rattle.attr_rules.specs.Expression.{Expression};
@@ -10,7 +10,8 @@ ghost use Rattle.solutions.specs.Rounds.{Ended, Graph, HasFinalValue, is_in};
 ghost use Rattle.solutions.specs.Rising.{AgreeBelow, LiesBelow, Under};
 ghost use Rattle.solutions.specs.Leading.{Demanded, Mixed};
 ghost use Rattle.equation_law.specs.Checked.{Fits, HasNoArguments, IsInstance, IsProgram, IsValue};
-ghost use Rattle.equation_law.specs.Names.{Instance, int_code, same_instance, text_cmp, text_code, truth_code};
+ghost use Rattle.equation_law.specs.Keys.{IsAsked, IsJust, IsKey, IsPrefix, Part, Prefix};
+ghost use Rattle.equation_law.specs.Names.{Instance, Query, int_code, same_instance, text_cmp, text_code, truth_code};
 ghost use Rattle.equation_law.specs.Values.{Value};
 ghost use Rattle.equation_law.specs.Program.{Program, source_instances};
 ghost use Rattle.equation_law.specs.Equations.{HasValue, equation_of, equations_of, is_circular, is_declared, kind_in, world_of};
@@ -59,6 +60,13 @@ pub fn rounds_end()
 /// What a chain leads to from an instance with a value is what is demanded from it under the solution.
 pub fn reach_is_demanded()
     ensures { (p : Program) (i j : Instance) (v : Value) → HasValue p i v → Chain p i j ↔ Demanded (equations_of p) i j }
+{}
+
+/// What needs a cell where all queries are asked is what needs one where some query is asked alone; and of the instances, those are the ones to which
+/// chains lead from what is asked, and those with the first of their arguments.
+pub fn keys_of_queries()
+    ensures asked { (p : Program) (x : Part) → IsKey p (IsAsked p) x ↔ ((q : ℕ) × (q < length p.queries) × IsKey p (IsJust (Query q)) x) }
+    ensures led { (p : Program) (i x : Instance) → IsKey p (IsJust i) (Prefix x) ↔ ((j : Instance) × IsPrefix x j × Chain p i j) }
 {}
 
 /// An instance of a program demands only instances of it, as long as the values that it reads are of their types.
