@@ -16,6 +16,7 @@ pub mod Overfull
 pub mod Paid
 pub mod Paying
 pub mod Sealing
+pub mod Seeking
 pub mod Solved
 pub mod Stacks
 pub mod Stepping

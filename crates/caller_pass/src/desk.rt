@@ -6,7 +6,7 @@ use crate::turns::is_set;
 use attr_rules::{AttrId, Kind};
 use equation_law::{Args, Code, EqSite, Instance, NodeRef, Reader, System, Value};
 use expr_eval::kind_of;
-use memo_cells::{Cells, CellsFull, Key, Pass, Slot, Words, Work, value_shown};
+use memo_cells::{Cells, CellsFull, Key, Pass, Slot, Words, Work, seek_instance, value_shown};
 use rag_io::Memory;
 use std::alloc::Global;
 use std::marker::Model;
@@ -50,6 +50,10 @@ impl Reader for Desk<'_> {
 impl Words for Desk<'_> {
     ghost held = { λ d. d };
 
+    fn seek(&mut self, key: Key) -> Option<Slot> {
+        self.cells.seek(self.pass, key)
+    }
+
     fn word(&mut self, slot: Slot, word: u32) -> u64 {
         self.cells.word(self.pass, slot, word)
     }
@@ -60,10 +64,6 @@ impl Work for Desk<'_> {
 
     fn claim(&mut self, key: Key) -> Result<Slot, CellsFull> {
         self.cells.claim(self.pass, key)
-    }
-
-    fn seek(&mut self, key: Key) -> Option<Slot> {
-        self.cells.seek(self.pass, key)
     }
 
     fn raise(&mut self, slot: Slot, word: u32, bits: u64) -> Result<u64, CellsFull> {
@@ -113,7 +113,7 @@ impl<'a> Desk<'a> {
         ensures known { IsCoded (program_at self.old) i → FindsCode (program_at self.old) self.new.0 self.new.1 (instance_of (program_at self.old) i) result }
         ensures cell { IfSome result (λ x. (j : StandingInstance) × IsCellOf (program_at self.old) self.new.0 self.new.1 j x.0.0) }
     {
-        let slot = self.cells.seek_instance(self.pass, i)?;
+        let slot = seek_instance(self, i)?;
         let code = self.cells.settled(self.pass, slot)?;
         Some((slot, code))
     }

@@ -3,16 +3,13 @@ ghost use Rattle.std.specs.Prelude.{◌≡◌, ◌<◌, ℕ, IfNone, IfOk, IfSom
 ghost use Rattle.equation_law.specs.declared.coding.Instance.TheVariants.{Attr as attribute_at};
 ghost use Rattle.equation_law.specs.Checked.{IsInstance};
 ghost use Rattle.equation_law.specs.Codes.{IsCoded, instance_of};
-ghost use Rattle.equation_law.specs.Systems.{program_of};
 ghost use Rattle.memo_cells.specs.Naming.{ClaimsKeysTo, IsCellOf, LacksCell};
-ghost use Rattle.memo_cells.specs.Standing.{IsPassOf};
-ghost use Rattle.memo_cells.specs.Views.{Has, IsAtLeast, IsPlain};
-ghost use Rattle.memo_cells.specs.Working.{GoesOn, IsOwn, program_at};
+ghost use Rattle.memo_cells.specs.Views.{Has, IsPlain};
+ghost use Rattle.memo_cells.specs.Working.{GoesOn, IsOwn, ReadsOn, program_at};
 
 use crate::calls::CellsFull;
-use crate::cells::{Cells, Pass};
 use crate::keys::{Key, Slot};
-use crate::work::Work;
+use crate::work::{Words, Work};
 use attr_rules::AttrId;
 use equation_law::{Args, Instance, NodeRef};
 
@@ -57,49 +54,35 @@ pub fn claim_instance<W: Work>(work: &mut W, i: Instance) -> Result<Slot, CellsF
     }
 }
 
-impl Cells {
-    /// The slot of an attribute at a node with arguments, if it is claimed.
-    fn seek_attribute(
-        &self,
-        pass: &mut Pass,
-        attr: AttrId,
-        node: NodeRef,
-        args: Args,
-    ) -> Option<Slot>
-        requires own { IsPassOf self.now pass.old }
-        ensures own { IsPassOf self.now pass.new }
-        ensures kept { IsAtLeast pass.old pass.new }
-        ensures slot { IsCoded (program_of self.now.system.value) (attribute_at attr node args) → IfSome result (λ s. IsCellOf (program_of self.now.system.value) self.now pass.new (instance_of (program_of self.now.system.value) (attribute_at attr node args)) s.0) }
-        ensures none { IsCoded (program_of self.now.system.value) (attribute_at attr node args) → IfNone result ((s : ℕ) → ¬ IsCellOf (program_of self.now.system.value) self.now pass.new (instance_of (program_of self.now.system.value) (attribute_at attr node args)) s) }
-        ensures place { IfSome result (λ s. s.0 < self.now.cells) }
-        ensures plain { IfSome result (λ s. IsPlain pass.new s.0) }
-        ensures key { IfSome result (λ s. (k : ℕ) × Has pass.new.keys (s.0, k)) }
-        ensures claims { pass.new.claims ≡ pass.old.claims }
-    {
-        let mut slot = self.seek(pass, Key::Inst { attr, node })?;
-        let mut place = 0;
-        while let Some(code) = args.code_at(place) {
-            slot = self.seek(pass, Key::Arg { slot, code })?;
-            place += 1;
-        }
-        Some(slot)
+/// The slot of an attribute at a node with arguments, if it is claimed.
+fn seek_attribute<W: Words>(work: &mut W, attr: AttrId, node: NodeRef, args: Args) -> Option<Slot>
+    ensures on { ReadsOn (W.held work.old) (W.held work.new) }
+    ensures slot { IsCoded (program_at (W.held work.old)) (attribute_at attr node args) → IfSome result (λ s. IsCellOf (program_at (W.held work.old)) (W.held work.old).0 (W.held work.new).1 (instance_of (program_at (W.held work.old)) (attribute_at attr node args)) s.0) }
+    ensures none { IsCoded (program_at (W.held work.old)) (attribute_at attr node args) → IfNone result ((s : ℕ) → ¬ IsCellOf (program_at (W.held work.old)) (W.held work.old).0 (W.held work.new).1 (instance_of (program_at (W.held work.old)) (attribute_at attr node args)) s) }
+    ensures place { IfSome result (λ s. s.0 < (W.held work.old).0.cells) }
+    ensures plain { IfSome result (λ s. IsPlain (W.held work.new).1 s.0) }
+    ensures key { IfSome result (λ s. (k : ℕ) × Has (W.held work.new).1.keys (s.0, k)) }
+{
+    let mut slot = work.seek(Key::Inst { attr, node })?;
+    let mut place = 0;
+    while let Some(code) = args.code_at(place) {
+        slot = work.seek(Key::Arg { slot, code })?;
+        place += 1;
     }
+    Some(slot)
+}
 
-    /// The one slot of a well coded instance, or None exactly where it isn't claimed. It claims nothing.
-    pub fn seek_instance(&self, pass: &mut Pass, i: Instance) -> Option<Slot>
-        requires own { IsPassOf self.now pass.old }
-        ensures own { IsPassOf self.now pass.new }
-        ensures kept { IsAtLeast pass.old pass.new }
-        ensures slot { IsCoded (program_of self.now.system.value) i → IfSome result (λ s. IsCellOf (program_of self.now.system.value) self.now pass.new (instance_of (program_of self.now.system.value) i) s.0) }
-        ensures none { IsCoded (program_of self.now.system.value) i → IfNone result ((s : ℕ) → ¬ IsCellOf (program_of self.now.system.value) self.now pass.new (instance_of (program_of self.now.system.value) i) s) }
-        ensures place { IfSome result (λ s. s.0 < self.now.cells) }
-        ensures plain { IfSome result (λ s. IsPlain pass.new s.0) }
-        ensures key { IfSome result (λ s. (k : ℕ) × Has pass.new.keys (s.0, k)) }
-        ensures claims { pass.new.claims ≡ pass.old.claims }
-    {
-        match i {
-            Instance::Attr { attr, node, args } => self.seek_attribute(pass, attr, node, args),
-            Instance::Query(query) => self.seek(pass, Key::Query(query)),
-        }
+/// The one slot of a well coded instance, or None exactly where it isn't claimed. It claims nothing.
+pub fn seek_instance<W: Words>(work: &mut W, i: Instance) -> Option<Slot>
+    ensures on { ReadsOn (W.held work.old) (W.held work.new) }
+    ensures slot { IsCoded (program_at (W.held work.old)) i → IfSome result (λ s. IsCellOf (program_at (W.held work.old)) (W.held work.old).0 (W.held work.new).1 (instance_of (program_at (W.held work.old)) i) s.0) }
+    ensures none { IsCoded (program_at (W.held work.old)) i → IfNone result ((s : ℕ) → ¬ IsCellOf (program_at (W.held work.old)) (W.held work.old).0 (W.held work.new).1 (instance_of (program_at (W.held work.old)) i) s) }
+    ensures place { IfSome result (λ s. s.0 < (W.held work.old).0.cells) }
+    ensures plain { IfSome result (λ s. IsPlain (W.held work.new).1 s.0) }
+    ensures key { IfSome result (λ s. (k : ℕ) × Has (W.held work.new).1.keys (s.0, k)) }
+{
+    match i {
+        Instance::Attr { attr, node, args } => seek_attribute(work, attr, node, args),
+        Instance::Query(query) => work.seek(Key::Query(query)),
     }
 }

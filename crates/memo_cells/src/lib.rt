@@ -17,7 +17,7 @@ mod work;
 
 pub use calls::CellsFull;
 pub use cells::{Cells, Pass};
-pub use instances::claim_instance;
+pub use instances::{claim_instance, seek_instance};
 pub use keys::{Key, Slot};
 pub use set_raising::{codes_of, raise_codes};
 pub use set_showing::value_shown;

@@ -16,11 +16,18 @@ use crate::calls::CellsFull;
 use crate::keys::{Key, Slot};
 use equation_law::Reader;
 
-/// What reads the words of some cells through a pass.
+/// What looks for cells and reads their words through a pass.
 pub trait Words {
     ghost use Rattle.memo_cells.specs.Working.{Held};
 
     ghost held: { Self → Held };
+
+    /// The one slot of a key, or None exactly where it isn't claimed. What is held is a pass at its own cells: nothing else is asked.
+    fn seek(&mut self, key: Key) -> Option<Slot>
+        requires slot { Fits key }
+        ensures on { ReadsOn (held self.old) (held self.new) }
+        ensures slot { IfSome result (λ s. IsSlot (held self.old).0 (held self.new).1 s.0 (key_word key)) }
+        ensures none { IfNone result (IsNowhere (held self.new).1 (key_word key)) };
 
     /// A word of what is shown of a slot's instance.
     fn word(&mut self, slot: Slot, word: u32) -> u64
@@ -45,14 +52,6 @@ pub trait Work: Reader + Words {
         ensures slot { IfOk result (λ s. IsSlot (Self.held self.old).0 (Self.held self.new).1 s.0 (key_word key)) }
         ensures full { OnErr result (IsFull (Self.held self.old).0 (Self.held self.new).1 (key_word key)) }
         ensures claims { ClaimsOnly (Self.held self.old).1 (Self.held self.new).1 (key_word key) };
-
-    /// The one slot of a key, or None exactly where it isn't claimed.
-    fn seek(&mut self, key: Key) -> Option<Slot>
-        requires own { IsOwn (Self.held self.old) }
-        requires slot { Fits key }
-        ensures on { ReadsOn (Self.held self.old) (Self.held self.new) }
-        ensures slot { IfSome result (λ s. IsSlot (Self.held self.old).0 (Self.held self.new).1 s.0 (key_word key)) }
-        ensures none { IfNone result (IsNowhere (Self.held self.new).1 (key_word key)) };
 
     /// Adds bits to a word of what is shown of a slot's instance, and answers the word with them.
     fn raise(&mut self, slot: Slot, word: u32, bits: u64) -> Result<u64, CellsFull>

@@ -55,6 +55,10 @@ impl Reader for Counting<'_> {
 impl Words for Counting<'_> {
     ghost held = { λ d. d };
 
+    fn seek(&mut self, key: Key) -> Option<Slot> {
+        self.desk.seek(key)
+    }
+
     fn word(&mut self, slot: Slot, word: u32) -> u64 {
         self.desk.word(slot, word)
     }
@@ -65,10 +69,6 @@ impl Work for Counting<'_> {
 
     fn claim(&mut self, key: Key) -> Result<Slot, CellsFull> {
         self.desk.claim(key)
-    }
-
-    fn seek(&mut self, key: Key) -> Option<Slot> {
-        self.desk.seek(key)
     }
 
     fn raise(&mut self, slot: Slot, word: u32, bits: u64) -> Result<u64, CellsFull> {
