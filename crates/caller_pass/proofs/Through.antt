@@ -19,7 +19,6 @@ use Rattle.memo_cells.specs.Claiming.{ClaimsKeys}
 use Rattle.memo_cells.specs.Naming.{IsCellOf}
 use Rattle.memo_cells.specs.Standing.{Knows}
 use Rattle.expr_eval.specs.declared.saved.Saved.{Saved}
-use Rattle.expr_eval.specs.Saved.{AreSaved}
 use Rattle.memo_cells.specs.Working.{GoesOn, Held, IsKnown, ReadsOn, program_at}
 use Rattle.memo_cells.proofs.Claiming.{claims_same, claims_then}
 use Rattle.memo_cells.proofs.Naming.{cell_later}
@@ -34,8 +33,8 @@ use Rattle.caller_pass.specs.declared.solving.Went.TheVariants.{Further, Need, S
 use Rattle.caller_pass.specs.declared.waiting.Waiter.{Waiter}
 use Rattle.caller_pass.specs.Answering.{AnswersFinish, AnswersStep, GoesThrough, IsNext, IsSameFault, SameWay, WayChanges}
 use Rattle.caller_pass.specs.Knowing.{HasEnded, TurnsTo}
-use Rattle.caller_pass.specs.Waiting.{IsFrame, IsWay, IsWayOf, way_of}
-use Rattle.caller_pass.proofs.Frames.{saved_known}
+use Rattle.caller_pass.specs.Waiting.{IsFrame, IsLeft, IsWay, IsWayOf, way_of}
+use Rattle.caller_pass.proofs.Frames.{left_known}
 use Rattle.memo_cells.proofs.Holding.{goes_then, own_then}
 use Rattle.caller_pass.proofs.Stepping.{err_is, finish_step, local_fault, memory_step, next_local, next_need, way_need}
 
@@ -59,7 +58,7 @@ module _ (d e : Held) (i : CodedInstance) (x : Waiter) (l : Local) (b : Box Loca
     on = on;
     claims = all_claims;
     slot = refl;
-    saved = saved_known (program_at d) d.1 e.1 on.kept d.0.system.value x.saved frame.placed.saved;
+    saved = left_known (program_at d) d.1 e.1 on.kept d.0.system.value x.saved frame.placed.saved;
     answer = err_is (AnswersStep (program_at d) d.0 e.1 (instance_of (program_at d) i) (way_of x) (Some b.value)) (λ (y : AskFault). IsSameFault from y) r h
         (λ y is. local_fault (program_at d) d.0 e.1 (instance_of (program_at d) i) (instance_of (program_at d) l.start) (way_of x) (Some b.value) from y its.led (subst (λ (j : Instance). AnswersCircular (program_at d) j d.0 e.1 from) start_is a) is);
     evals = evals;
@@ -70,7 +69,7 @@ module _ (d e : Held) (i : CodedInstance) (x : Waiter) (l : Local) (b : Box Loca
     on = on;
     claims = all_claims;
     slot = refl;
-    saved = saved_known (program_at d) d.1 e.1 on.kept d.0.system.value x.saved frame.placed.saved;
+    saved = left_known (program_at d) d.1 e.1 on.kept d.0.system.value x.saved frame.placed.saved;
     answer = (
       next_local (program_at d) d.0 e.1 (instance_of (program_at d) i) b.value n (subst (λ (j : Instance). Leads (program_at d) (instance_of (program_at d) i) j) (sym start_is) its.led) local.0 missing,
       subst (λ (o : Option Local). SameWay o (Some b.value)) (sym way) local.1,
@@ -83,13 +82,13 @@ module _ (d e : Held) (i : CodedInstance) (x : Waiter) (l : Local) (b : Box Loca
     on = on;
     claims = all_claims;
     slot = refl;
-    saved = saved_known (program_at d) d.1 e.1 on.kept d.0.system.value x.saved frame.placed.saved;
+    saved = left_known (program_at d) d.1 e.1 on.kept d.0.system.value x.saved frame.placed.saved;
     answer = subst (λ (o : Option Local). WayChanges (program_at d) d.0 e.1 (instance_of (program_at d) i) o None) (sym way) (subst (λ (j : Instance). Knows (program_at d) e.1 j) start_is known);
     evals = evals;
   }
 
 -- its equation was evaluated
-module _ (d e : Held) (i : CodedInstance) (x : Waiter) (way : way_of x ≡ None) (good : IsProgram (program_at d)) (frame : IsFrame (program_at d) d.0 d.1 (i, x)) (on : ReadsOn d e) (before after : ℕ) (evals : after ≡ before + 1) (m : Saved) (told : AreSaved d.0.system.value (IsKnown (program_at d) e.1) m) where
+module _ (d e : Held) (i : CodedInstance) (x : Waiter) (way : way_of x ≡ None) (good : IsProgram (program_at d)) (frame : IsFrame (program_at d) d.0 d.1 (i, x)) (on : ReadsOn d e) (before after : ℕ) (evals : after ≡ before + 1) (m : Option Saved) (told : IsLeft d.0.system.value (IsKnown (program_at d) e.1) m) where
   turn_claims : ClaimsKeys (program_at d) (instance_of (program_at d) i) d.1 e.1
   turn_claims = claims_same (program_at d) (instance_of (program_at d) i) d.1 e.1 on.claims
 
@@ -138,7 +137,7 @@ module _ (d e : Held) (i : CodedInstance) (x : Waiter) (way : way_of x ≡ None)
       on = goes_then d e g on.on then_on;
       claims = ended_claims;
       slot = refl;
-      saved = saved_known (program_at d) e.1 g.1 then_on.kept d.0.system.value m told;
+      saved = left_known (program_at d) e.1 g.1 then_on.kept d.0.system.value m told;
       answer = err_is (AnswersStep (program_at d) d.0 g.1 (instance_of (program_at d) i) (way_of x) (way_of x)) (λ (y : AskFault). y ≡ f) r h
           (λ y is. subst (λ (z : AskFault). AnswersStep (program_at d) d.0 g.1 (instance_of (program_at d) i) (way_of x) (way_of x) (Err z)) (sym is)
           (finish_step (program_at d) d.0 g.1 (instance_of (program_at d) i) (way_of x) (way_of x) f (subst (λ (k : Frame). AnswersFinish (program_of k.system.value) k g.1 (instance_of (program_of k.system.value) i) (Err f)) on.on.cells a)));
@@ -150,7 +149,7 @@ module _ (d e : Held) (i : CodedInstance) (x : Waiter) (way : way_of x ≡ None)
       on = goes_then d e g on.on then_on;
       claims = ended_claims;
       slot = refl;
-      saved = saved_known (program_at d) e.1 g.1 then_on.kept d.0.system.value m told;
+      saved = left_known (program_at d) e.1 g.1 then_on.kept d.0.system.value m told;
       answer = (subst (λ (k : Frame). Knows (program_of k.system.value) g.1 (instance_of (program_of k.system.value) i)) on.on.cells known, way);
       evals = evals;
     }

@@ -19,10 +19,10 @@ use crate::desk::Desk;
 use crate::evals::Steps;
 use crate::faults::AskFault;
 use crate::turns::{finish, go_on, turn};
-use crate::waiting::{Waiter, Waiting, alone, push_all, push_path};
+use crate::waiting::{Waiter, Waiting, alone, push_all, push_path, take_saved, unless_empty};
 use circular_eval::{CircTurn, Local};
 use equation_law::{Chain, Instance};
-use expr_eval::{Saved, Turn, is_declared};
+use expr_eval::{Turn, is_declared};
 use memo_cells::claim_instance;
 use rag_io::Memory;
 use std::alloc::Global;
@@ -72,12 +72,14 @@ fn step<'a, L: Ledger>(
             }
         };
     }
-    match turn(alloc, desk, i, &mut waiter.saved, evals)? {
+    let mut saved = take_saved(alloc, &mut waiter.saved);
+    match turn(alloc, desk, i, &mut saved, evals)? {
         Turn::Done(value) => {
             finish(alloc, desk, i, waiter.slot, &value)?;
             Ok(Went::Settled)
         }
         Turn::Need(next) => {
+            waiter.saved = unless_empty(saved);
             if !is_declared(desk.system, &next) {
                 return Ok(Went::Need(next));
             }
@@ -113,7 +115,7 @@ fn wait_for<'a>(
     ensures answer { AnswersWait (program_at desk.old) desk.old.0 desk.new.1 (waiting.old ++ last.entry ∷ []) next waiting.new result }
 {
     let (top, waiter) = last;
-    waiting.push(top, waiter)?;
+    waiting.push(alloc, top, waiter)?;
     if closes_loop(desk, waiting, next) {
         let chain = waiting.chain(alloc, next)?;
         return Err(AskFault::Circular { on: next, chain });
@@ -122,7 +124,7 @@ fn wait_for<'a>(
     Ok(Waiter {
         slot,
         way: None,
-        saved: Saved::new(alloc),
+        saved: None,
     })
 }
 
@@ -164,7 +166,7 @@ fn solve<L: Ledger>(
     let mut waiter = Waiter {
         slot: claim_instance(desk, i)?,
         way: None,
-        saved: Saved::new(alloc),
+        saved: None,
     };
     'turns: loop {
         match step(alloc, desk, top, &mut waiter, evals)? {

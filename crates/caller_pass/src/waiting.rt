@@ -1,10 +1,12 @@
 // The instances that wait for values.
-ghost use Rattle.std.specs.Prelude.{◌≡◌, ◌++◌, ◌∷◌, [], false, IfNone, IfOk, IfSome, OnOk, map, option_to_list};
+ghost use Rattle.std.specs.Prelude.{◌≡◌, ◌++◌, ◌∷◌, [], false, IfNone, IfOk, IfSome, None, OnOk, map, option_map, option_to_list};
 ghost use Rattle.equation_law.specs.Codes.{instance_of};
 ghost use Rattle.equation_law.specs.Program.{Program};
+ghost use Rattle.expr_eval.specs.Saved.{SavesNothing};
 ghost use Rattle.memo_cells.specs.declared.view.Frame.{Frame as CellsFrame};
 ghost use Rattle.memo_cells.specs.declared.view.View.{View};
-ghost use Rattle.caller_pass.specs.Waiting.{AreWaiting, HasPart, IsLineTo, waits};
+ghost use Rattle.caller_pass.specs.Packing.{IsBare, unpacked};
+ghost use Rattle.caller_pass.specs.Waiting.{AreWaiting, HasPart, IsLineTo, waits, way_of};
 
 use circular_eval::Local;
 use equation_law::{Chain, Instance};
@@ -16,19 +18,33 @@ use std::alloc::Global;
 use std::marker::Model;
 
 /// An instance that isn't circular and waits for another one: the slot of its cell, the local set through which it waits, where it demands a
-/// circular instance, and what its evaluation left behind.
+/// circular instance, and what its evaluation left behind, if that is anything.
 #[derive(Drop)]
 pub(crate) struct Waiter<'a> {
     pub slot: Slot,
     pub way: Option<Box<Local<'a>>>,
-    pub saved: Saved<'a>,
+    pub saved: Option<Saved<'a>>,
+}
+
+/// What few of those that wait have: a local set, or something that their evaluation left behind.
+#[derive(Drop)]
+pub(crate) struct Rest<'a> {
+    pub way: Option<Box<Local<'a>>>,
+    pub saved: Option<Saved<'a>>,
+}
+
+/// One that waits, in few bytes: its slot, and a box only where it has more.
+#[derive(Drop)]
+pub(crate) enum Packed<'a> {
+    Bare(Slot),
+    Laden(Slot, Box<Rest<'a>>),
 }
 
 /// The instances that wait, each for the value of the next one. No instance stands there twice, and whether one stands there takes constant
 /// time.
 #[derive(Drop)]
 pub(crate) struct Waiting<'a> {
-    waiters: IndexMap<Instance, Waiter<'a>>,
+    waiters: IndexMap<Instance, Packed<'a>>,
 }
 
 impl<'a> Model for Waiting<'a> {
@@ -44,7 +60,84 @@ impl<'a> Model for Waiting<'a> {
 
     ghost coded = { Prim.hlevel (codes, expressions.the_row.coded, (locals.the_row static_lft).coded) };
 
-    ghost view = { λ waiting. waiting.waiters.entries };
+    ghost use Rattle.caller_pass.specs.Packing.{all_unpacked};
+
+    ghost view = { λ waiting. all_unpacked waiting.waiters.entries };
+}
+
+/// Takes what an evaluation left behind, or begins with nothing.
+pub(crate) fn take_saved<'a>(alloc: Global, saved: &mut Option<Saved<'a>>) -> Saved<'a>
+    ensures gone { saved.new ≡ None }
+    ensures own { IfSome saved.old (λ s. result ≡ s) }
+    ensures nothing { IfNone saved.old (SavesNothing result) }
+{
+    match saved.take() {
+        Some(saved) => saved,
+        None => Saved::new(alloc),
+    }
+}
+
+/// What an evaluation left behind, if that is anything.
+pub(crate) fn unless_empty(saved: Saved<'_>) -> Option<Saved<'_>>
+    ensures own { IfSome result (λ s. s ≡ saved.entry) }
+    ensures nothing { IfNone result (SavesNothing saved.entry) }
+{
+    if saved.is_empty() {
+        return None;
+    }
+    Some(saved)
+}
+
+/// A local set and what was left behind, put into a box.
+fn boxed<'a>(alloc: Global, rest: Rest<'a>) -> Result<Box<Rest<'a>>, Memory>
+    ensures { IfOk result (λ boxed. boxed.value ≡ rest.entry) }
+{
+    match Box::new(alloc, rest) {
+        Ok(rest) => Ok(rest),
+        Err(_) => Err(Memory),
+    }
+}
+
+/// Packs one that is to wait. Nothing is put on the heap where it has no local set, and nothing was left behind.
+fn pack<'a>(alloc: Global, waiter: Waiter<'a>) -> Result<Packed<'a>, Memory>
+    ensures same { IfOk result (λ packed. unpacked packed ≡ waiter.entry) }
+    ensures small { waiter.entry.way ≡ None → waiter.entry.saved ≡ None → IfOk result IsBare }
+{
+    let Waiter { slot, way, saved } = waiter;
+    match (way, saved) {
+        (None, None) => Ok(Packed::Bare(slot)),
+        (way, saved) => Ok(Packed::Laden(slot, boxed(alloc, Rest { way, saved })?)),
+    }
+}
+
+/// Unpacks one that waited.
+fn unpack<'a>(packed: Packed<'a>) -> Waiter<'a>
+    ensures { result ≡ unpacked packed.entry }
+{
+    match packed {
+        Packed::Bare(slot) => Waiter {
+            slot,
+            way: None,
+            saved: None,
+        },
+        Packed::Laden(slot, rest) => {
+            let Rest { way, saved } = Box::into_inner(rest);
+            Waiter { slot, way, saved }
+        }
+    }
+}
+
+/// The local set through which one waits.
+fn way_in<'b, 'a>(packed: &'b Packed<'a>) -> Option<&'b Local<'a>>
+    ensures { option_map (λ local. local.now) result ≡ way_of (unpacked packed.now) }
+{
+    match packed {
+        Packed::Bare(_) => None,
+        Packed::Laden(_, rest) => match &rest.way {
+            None => None,
+            Some(local) => Some(local.as_ref()),
+        },
+    }
 }
 
 /// Adds an instance last.
@@ -103,11 +196,17 @@ impl<'a> Waiting<'a> {
     }
 
     /// Lets one more wait, which doesn't wait yet.
-    pub(crate) fn push(&mut self, i: Instance, waiter: Waiter<'a>) -> Result<(), Memory>
+    pub(crate) fn push(
+        &mut self,
+        alloc: Global,
+        i: Instance,
+        waiter: Waiter<'a>,
+    ) -> Result<(), Memory>
         requires { waits self.old i ≡ false }
         ensures { OnOk result (self.new ≡ self.old ++ (i, waiter.entry) ∷ []) }
     {
-        let Ok(_) = self.waiters.insert(i, waiter) else {
+        let packed = pack(alloc, waiter)?;
+        let Ok(_) = self.waiters.insert(i, packed) else {
             return Err(Memory);
         };
         Ok(())
@@ -119,7 +218,10 @@ impl<'a> Waiting<'a> {
         ensures none { IfNone result (self.new ≡ []) }
         ensures other { IfSome result (λ e. waits self.new e.0 ≡ false) }
     {
-        self.waiters.pop()
+        match self.waiters.pop() {
+            None => None,
+            Some((i, packed)) => Some((i, unpack(packed))),
+        }
     }
 
     /// The instances by which the first one leads to what the last one waits for, that included.
@@ -127,9 +229,9 @@ impl<'a> Waiting<'a> {
         ensures { IfOk result (λ chain. (p : Program) (f : CellsFrame) (v : View) → AreWaiting p f v self.now (instance_of p on) → IsLineTo p self.now (instance_of p on) (map (instance_of p) chain)) }
     {
         let mut list = Vec::new(alloc);
-        for (instance, waiter) in &self.waiters {
+        for (instance, packed) in &self.waiters {
             push(&mut list, *instance)?;
-            if let Some(local) = &waiter.way {
+            if let Some(local) = way_in(packed) {
                 push_path(alloc, &mut list, local)?;
             }
         }

@@ -97,6 +97,14 @@ impl<'a> Saved<'a> {
         }
     }
 
+    /// Whether nothing is saved.
+    pub fn is_empty(&self) -> bool
+        ensures nothing { result ≡ true → SavesNothing self.now }
+        ensures something { SavesNothing self.now → result ≡ true }
+    {
+        self.goings.is_empty()
+    }
+
     /// The place of what is saved of a form at a node with names.
     fn find(&self, context: &Context<'_>, form: &TExpr) -> Option<usize>
         ensures { IfSome result (λ k. (k < length self.now.goings.items) × ((g : Goes) → IsAt context.now (expression_of form.now) (slice_index_or self.now.goings.items k g))) }

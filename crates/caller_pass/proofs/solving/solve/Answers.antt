@@ -21,7 +21,7 @@ pub returns-in_err-claim_instance-clause-outer : goal.returns-in_err-claim_insta
 returns-in_err-claim_instance-clause-outer g c = λ ok. not_ok c.from_residual.result c.from_residual.ensures.0 ok
 
 pub turns-init : goal.turns-init
-turns-init g c = first_turn c.args.evals.now c.requires.own c.in_ok-claim_instance.ensures.on c.requires.instance c.requires.coded c.requires.undeclared c.requires.unknown c.in_ok-claim_instance.ensures.slot c.in_ok-claim_instance.ensures.claims c.new-waiting.result c.new-waiting.ensures c.new.result c.new.ensures
+turns-init g c = first_turn c.args.evals.now c.requires.own c.in_ok-claim_instance.ensures.on c.requires.instance c.requires.coded c.requires.undeclared c.requires.unknown c.in_ok-claim_instance.ensures.slot c.in_ok-claim_instance.ensures.claims c.new-waiting.result c.new-waiting.ensures
 
 pub step-requires-clause-program : goal.step-requires-clause-program
 step-requires-clause-program g c = turn_program c.turns.invariant c.requires.program

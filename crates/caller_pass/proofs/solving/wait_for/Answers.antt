@@ -25,5 +25,5 @@ returns-clause-answer c =
       c.in_ok-slot.ensures.slot,
       refl,
       ap (λ es. waits es c.args.next) (sym pushed) ∙ c.closes_loop.ensures.other c.if-closes_loop.false,
-      c.new.ensures,
+      refl,
     )
