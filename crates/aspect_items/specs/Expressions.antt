@@ -1,7 +1,7 @@
 -- Expressions as they are written, without where they lie in memory.
 use Rattle.std.specs.Prelude.{ℕ, Bool, List, [], ◌∷◌}
 use Rattle.rag_io.specs.declared.token.Place.{Place}
-use Rattle.aspect_items.specs.declared.expression.Expr as memory
+use Rattle.aspect_items.specs.declared.expression.Expr as kept_expr
 use Rattle.aspect_items.specs.declared.expression.Expr.{fold-Expr}
 use Rattle.aspect_items.specs.declared.expression.Expr.TheOpen.{Expr-F}
 use Rattle.aspect_items.specs.declared.expression.Name as kept
@@ -68,5 +68,5 @@ seen_level (Expr-F.Binary o a b) = Binary o a.value b.value
 seen_level (Expr-F.InstanceOf e n) = InstanceOf e.value (seen_name n)
 seen_level (Expr-F.If c a b) = If c.value a.value b.value
 
-abbrev pub seen_expr : memory.Expr → Expr
+abbrev pub seen_expr : kept_expr.Expr → Expr
 seen_expr = fold-Expr Expr seen_level

@@ -11,7 +11,7 @@ use Rattle.broken_rules.specs.declared.rule.Rule.TheVariants.{J17}
 use Rattle.ll_parser.specs.Grammar.{shift}
 use Rattle.rag_io.specs.Tokens.{Lexed, seen_token, seen_tokens}
 use Rattle.rag_io.specs.declared.token.Place.{Place}
-use Rattle.rag_io.specs.declared.token.Token as memory
+use Rattle.rag_io.specs.declared.token.Token as kept_token
 use Rattle.aspect_limits.specs.Limits.{counted, left, long_at, long_broken, long_event, most_tokens}
 
 -- What is left of the events and of the tokens notes what all of them note.
@@ -34,7 +34,7 @@ pub noted_long : {ts : List Lexed} {es : List ℕ} {first broken : Option Broken
 noted_long {broken = broken} all = all.notes broken notes_none
 
 -- a token that is left notes what stands there
-pub token_noted : (tokens : List memory.Token) (i n : ℕ) (t : memory.Token) (place : Place) (inside : Option ℕ) {old new : Option Broken}
+pub token_noted : (tokens : List kept_token.Token) (i n : ℕ) (t : kept_token.Token) (place : Place) (inside : Option ℕ) {old new : Option Broken}
     → i < length tokens → t ≡ get_or tokens i t → place ≡ (seen_token t).place → inside ≡ Some n
     → Notes (broken_if (n == most_tokens) (at place J17)) old new → Notes (long_at inside (drop i (seen_tokens tokens))) old new
 token_noted tokens i n t place inside {old} {new} within is stands counts noted =

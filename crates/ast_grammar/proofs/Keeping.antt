@@ -11,7 +11,7 @@ use Rattle.ast_rules.specs.Written.{WrittenRule, seen_rule, seen_rules}
 use Rattle.ast_rules.specs.declared.written.WrittenRule as written
 use Rattle.ast_grammar.specs.Building.{IsKeptOf, component_numbered, own_at, own_numbered}
 use Rattle.ast_grammar.specs.Written.{class_id, inherited_first}
-use Rattle.ast_grammar.specs.declared.grammar.Component as memory
+use Rattle.ast_grammar.specs.declared.grammar.Component as kept_component
 use Rattle.ast_grammar.specs.declared.grammar.KeptClass.{KeptClass}
 
 -- the item of a number, of a list with one put last
@@ -37,7 +37,7 @@ module _ (rules : List WrittenRule) where
   along line = (λ j. flat_map (λ k. own_at_is rules rules k j) line) ∙ flat_map_map (component_numbered rules) (components_at rules) line
 
   -- those of a class
-  pub inherited : (class : ℕ) {own : List (List memory.Component)} {superclasses : List (Option ℕ)} {components : List memory.Component} → own ≡ map (own_numbered rules) rules
+  pub inherited : (class : ℕ) {own : List (List kept_component.Component)} {superclasses : List (Option ℕ)} {components : List kept_component.Component} → own ≡ map (own_numbered rules) rules
       → superclasses ≡ superclass_numbers (names_of rules) rules → components ≡ flat_map (own_at own) (reverse (upwards superclasses class)) → components ≡ map (component_numbered rules) (inherited_first rules class)
   inherited class same is e = e ∙ (λ j. flat_map (own_at (same j)) (reverse (upwards (is j) class))) ∙ along (reverse (upwards (superclass_numbers (names_of rules) rules) class))
 

@@ -9,7 +9,7 @@ use Rattle.std.proofs.lemmas.Option.{slice_get-map, slice_get-get_or, slice_get_
 use Rattle.std.proofs.lemmas.Slice.Eq.{bytes_eq-Decides}
 use Rattle.rag_io.proofs.Numbers.{number_at, text_at}
 use Rattle.rag_io.specs.Pool.{ArePooled, number_of}
-use Rattle.ast_grammar.specs.declared.grammar.Component as memory
+use Rattle.ast_grammar.specs.declared.grammar.Component as kept_component
 use Rattle.ast_grammar.specs.declared.grammar.KeptClass.{KeptClass}
 use Rattle.ast_grammar.specs.Grammar.{Class, Component, IsGrammar, class_named, component_at, component_named, components_in, components_of, name_of_component, most_classes, most_components}
 use Rattle.ast_grammar.specs.Kept.{AreNamed, IsKept, class_of, component_of, grammar_of, name_in}
@@ -105,7 +105,7 @@ module _ (names : List (List ℕ)) (superclasses : List (Option ℕ)) (classes :
     names_kept = (all_at (AreNamed names) classes n c kept.components there_kept).named
 
     -- the component at the place k
-    module _ (k : ℕ) (p : memory.Component) (within : k < length (components_of g n)) (is_there : p ≡ get_or c.components.items k p) where
+    module _ (k : ℕ) (p : kept_component.Component) (within : k < length (components_of g n)) (is_there : p ≡ get_or c.components.items k p) where
       pub place_kept : k < length c.components.items
       place_kept = omega (arith, arity_kept)
 
@@ -115,14 +115,14 @@ module _ (names : List (List ℕ)) (superclasses : List (Option ℕ)) (classes :
           ∙ ap (option_map (component_of names)) (slice_get_read c.components.items (length c.components.items) k p refl place_kept is_there)
 
       pub component_name_kept : p.name < length names
-      component_name_kept = subst (λ (q : memory.Component). q.name < length names) (sym is_there) (names_kept k p place_kept)
+      component_name_kept = subst (λ (q : kept_component.Component). q.name < length names) (sym is_there) (names_kept k p place_kept)
 
       pub component_named_kept : (name : List ℕ) → slice_get names p.name ≡ Some name → option_map name_of_component (component_at g n k) ≡ Some name
       component_named_kept name text = ap (option_map name_of_component) component_kept ∙ ap Some (get_or_from_slice_get names p.name name [] text)
 
     by_number : (name : List ℕ) (o : Option ℕ) → number_of names name ≡ o → component_named g n name ≡ position (λ p. is_number o p.name) c.components.items
     by_number name o number =
-        let by_name : memory.Component → Bool = λ p. bytes_eq (name_in names p.name) name in
+        let by_name : kept_component.Component → Bool = λ p. bytes_eq (name_in names p.name) name in
         ap (position (λ p. bytes_eq p.name name)) components_kept ∙ position-map (component_of names) (λ p. bytes_eq p.name name) c.components.items
         ∙ position_agree by_name (λ p. is_number o p.name) c.components.items (λ k d within. named_if names kept.pooled name o (get_or c.components.items k d).name (names_kept k d within) number)
 
@@ -135,7 +135,7 @@ component_unknown names superclasses (d ∷ classes) n name kept is known none =
     by_number names superclasses (d ∷ classes) kept n c is known (get_or_default (d ∷ classes) n d c (omega (arith, ap length is, count names superclasses (d ∷ classes) kept))) name None none
     ∙ position_none (λ p. false) c.components.items (λ k d within. refl)
 
-pub component_found : (names : List (List ℕ)) (superclasses : List (Option ℕ)) (classes : List KeptClass) {g : List Class} (n : ℕ) (name : List ℕ) (c : KeptClass) (m : ℕ) {held : List memory.Component} {found : Option ℕ}
+pub component_found : (names : List (List ℕ)) (superclasses : List (Option ℕ)) (classes : List KeptClass) {g : List Class} (n : ℕ) (name : List ℕ) (c : KeptClass) (m : ℕ) {held : List kept_component.Component} {found : Option ℕ}
     → IsKept names superclasses classes → grammar_of names classes ≡ g → n < length g → c ≡ get_or classes n c → number_of names name ≡ Some m → held ≡ c.components.items
     → found ≡ position (λ p. p.name == m) held → found ≡ component_named g n name
 component_found names superclasses classes n name c m kept is known here some same found =

@@ -27,7 +27,7 @@ use Rattle.ast_grammar.specs.Building.{AreKeptOf, AreSmall, IsKeptOf, component_
 use Rattle.ast_grammar.specs.Grammar.{IsGrammar, components_of, most_components, superclasses_of}
 use Rattle.ast_grammar.specs.Kept.{AreNamed, IsKept, class_of, component_of, grammar_of, name_in}
 use Rattle.ast_grammar.specs.Written.{class_written, classes_from, component_written, grammar_written, inherited_first, name_number, name_table}
-use Rattle.ast_grammar.specs.declared.grammar.Component as memory
+use Rattle.ast_grammar.specs.declared.grammar.Component as kept_component
 use Rattle.ast_grammar.specs.declared.grammar.KeptClass.{KeptClass}
 use Rattle.ast_grammar.proofs.Allowed.{components_short}
 use Rattle.ast_grammar.proofs.CleanMembers.{farthest_first, first_above}
@@ -197,7 +197,7 @@ module _ (rules : List WrittenRule) (allowed : IsGrammar (grammar_written rules)
 
   named_class : (k : ℕ) (c : KeptClass) → slice_get classes k ≡ Some c → AreNamed (name_table rules) c
   named_class k c e =
-      let P : memory.Component → Type 0 = λ (p : memory.Component). p.name < length (name_table rules) in
+      let P : kept_component.Component → Type 0 = λ (p : kept_component.Component). p.name < length (name_table rules) in
       record {
         named = subst (All P) (sym (kept_at k c e).1.components) (All-map P (component_numbered rules) (inherited_first rules k)
             (λ n d within. let x = get_or (inherited_first rules k) n d in below_if (name_table rules) x.name.text (position (bytes_eq x.name.text) (name_table rules)) refl (omega (arith, many))));

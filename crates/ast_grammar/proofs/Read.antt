@@ -13,7 +13,7 @@ use Rattle.ast_rules.specs.Phases.{grammar_phases}
 use Rattle.ast_rules.specs.Reading.{AreNamed, SaysRules}
 use Rattle.ast_rules.specs.Superclasses.{superclass_numbers}
 use Rattle.ast_rules.specs.Written.{WrittenRule, seen_rules}
-use Rattle.ast_rules.specs.declared.written.WrittenRule as memory
+use Rattle.ast_rules.specs.declared.written.WrittenRule as kept_written_rule
 use Rattle.ast_grammar.specs.Grammar.{Class, IsGrammar}
 use Rattle.ast_grammar.specs.Reading.{ReadsAst, SaysGrammar, checked}
 use Rattle.ast_grammar.specs.Written.{grammar_written}
@@ -34,7 +34,7 @@ handed_on ts rules (Ok g) e h says answer = absurd h
 handed_on ts rules (Err x) e h says answer = subst (λ (y : ReadFault). ReadsAst ts (Err y)) (sym h) (refused ts rules e says answer)
 
 -- The rules that are read stand in a list, of which the first copy is checked and the second is built of.
-module _ (ts : List Lexed) (tokens : AreTokens ts) (read first second : List memory.WrittenRule) (says : SaysRules ts (seen_rules read)) (once : first ≡ read) (twice : second ≡ read) where
+module _ (ts : List Lexed) (tokens : AreTokens ts) (read first second : List kept_written_rule.WrittenRule) (says : SaysRules ts (seen_rules read)) (once : first ≡ read) (twice : second ≡ read) where
   same_rules : seen_rules first ≡ seen_rules second
   same_rules = ap seen_rules (once ∙ sym twice)
 

@@ -9,8 +9,8 @@ use Rattle.std.proofs.lemmas.List.Elements.{All-head, All-tail, All-take}
 use Rattle.ast_rules.specs.Members.{names_of_components}
 use Rattle.ast_rules.specs.Naming.{names_of}
 use Rattle.ast_rules.specs.Written.{WrittenComponent, WrittenRule, seen_component, seen_rule, seen_rules}
-use Rattle.ast_rules.specs.declared.written.WrittenComponent as memory_component
-use Rattle.ast_rules.specs.declared.written.WrittenRule as memory
+use Rattle.ast_rules.specs.declared.written.WrittenComponent as kept_written_component
+use Rattle.ast_rules.specs.declared.written.WrittenRule as kept_written_rule
 use Rattle.ast_grammar.specs.Building.{AreSmall}
 use Rattle.ast_grammar.specs.Grammar.{most_classes, most_components}
 use Rattle.ast_grammar.specs.Written.{name_table}
@@ -93,13 +93,13 @@ pooled_table rules small =
     pooled_names ([] ∷ []) (names_of rules ++ all) (record { distinct = refl; few = omega arith; empty_first = refl }) (omega arith)
 
 -- a turn of the loop that adds the names of each rule's components
-module _ (items : List memory.WrittenRule) (i : ℕ) (rule : memory.WrittenRule) (is : rule ≡ get_or items i rule) (lt : i < length items) where
+module _ (items : List kept_written_rule.WrittenRule) (i : ℕ) (rule : kept_written_rule.WrittenRule) (is : rule ≡ get_or items i rule) (lt : i < length items) where
   rules_more : take (i + 1) (seen_rules items) ≡ take i (seen_rules items) ++ seen_rule rule ∷ []
   rules_more =
       let there : i < length (seen_rules items) = omega (arith, length-map items seen_rule) in
       take_more (seen_rules items) i (seen_rule rule) there ∙ ap (λ y. take i (seen_rules items) ++ y ∷ []) (get_or-map seen_rule items i rule ∙ ap seen_rule (sym is))
 
-  pub table_turn : (old : List (List ℕ)) {names more : List (List ℕ)} {components : List memory_component.WrittenComponent}
+  pub table_turn : (old : List (List ℕ)) {names more : List (List ℕ)} {components : List kept_written_component.WrittenComponent}
       → components ≡ rule.components.items → more ≡ with_names names (names_of_components (map seen_component components))
       → names ≡ with_names old (flat_map named_in (take i (seen_rules items))) → more ≡ with_names old (flat_map named_in (take (i + 1) (seen_rules items)))
   table_turn old {components = components} same e h =
@@ -107,7 +107,7 @@ module _ (items : List memory.WrittenRule) (i : ℕ) (rule : memory.WrittenRule)
       e ∙ (λ j. with_names (h j) (names_of_components (map seen_component (same j)))) ∙ sym (with_names-append old now (named_in (seen_rule rule)))
       ∙ ap (with_names old) (sym (ap (flat_map named_in) rules_more ∙ flat_map-append named_in (take i (seen_rules items)) (seen_rule rule ∷ []) ∙ ap (λ ns. now ++ ns) (append-nil (named_in (seen_rule rule)))))
 
-  pub turn_room : AreSmall (seen_rules items) → {names : List (List ℕ)} {components : List memory_component.WrittenComponent} → components ≡ rule.components.items
+  pub turn_room : AreSmall (seen_rules items) → {names : List (List ℕ)} {components : List kept_written_component.WrittenComponent} → components ≡ rule.components.items
       → names ≡ with_names (with_names ([] ∷ []) (names_of (seen_rules items))) (flat_map named_in (take i (seen_rules items))) → length names + length components ≤ most_texts
   turn_room small same h =
       let P : WrittenRule → Type 0 = λ (r : WrittenRule). length r.components ≤ most_components in
@@ -123,7 +123,7 @@ module _ (items : List memory.WrittenRule) (i : ℕ) (rule : memory.WrittenRule)
       omega (arith, ap length h, ap length same, length-with_names base before, room, length-append before own, length-map rule.components.items seen_component, length-map (map seen_component rule.components.items) (λ (x : WrittenComponent). x.name.text))
 
 -- the table is whole
-pub table_done : (items : List memory.WrittenRule) (i : ℕ) {names : List (List ℕ)} → length items ≤ i
+pub table_done : (items : List kept_written_rule.WrittenRule) (i : ℕ) {names : List (List ℕ)} → length items ≤ i
     → names ≡ with_names (with_names ([] ∷ []) (names_of (seen_rules items))) (flat_map named_in (take i (seen_rules items))) → names ≡ name_table (seen_rules items)
 table_done items i past h =
     let rules = seen_rules items in

@@ -7,7 +7,7 @@ use Rattle.ast_rules.specs.Superclasses.{superclass_number}
 use Rattle.ast_rules.specs.Written.{WrittenComponent, WrittenRule}
 use Rattle.ast_grammar.specs.Grammar.{most_classes, most_components, nameless}
 use Rattle.ast_grammar.specs.Written.{class_id, component_written, inherited_first, name_table}
-use Rattle.ast_grammar.specs.declared.grammar.Component as memory
+use Rattle.ast_grammar.specs.declared.grammar.Component as kept_component
 use Rattle.ast_grammar.specs.declared.grammar.KeptClass.{KeptClass}
 
 -- Few rules, with few components each.
@@ -21,18 +21,18 @@ pub record AreNames (rules : List WrittenRule) (names classes : List (List ℕ))
   pub of_classes : classes ≡ names_of rules
 
 -- a component by the numbers of its name and its class
-abbrev pub component_numbered : List WrittenRule → WrittenComponent → memory.Component
+abbrev pub component_numbered : List WrittenRule → WrittenComponent → kept_component.Component
 component_numbered rules c = nameless (component_written rules c)
 
 -- the components that a rule itself writes
-abbrev pub own_numbered : List WrittenRule → WrittenRule → List memory.Component
+abbrev pub own_numbered : List WrittenRule → WrittenRule → List kept_component.Component
 own_numbered rules rule = map (component_numbered rules) rule.components
 
-abbrev pub items_of : Vec memory.Component Global → List memory.Component
+abbrev pub items_of : Vec kept_component.Component Global → List kept_component.Component
 items_of v = v.items
 
 -- the components that the class of this number itself has
-abbrev pub own_at : List (List memory.Component) → ℕ → List memory.Component
+abbrev pub own_at : List (List kept_component.Component) → ℕ → List kept_component.Component
 own_at own class = slice_index_or own class []
 
 -- This is what is kept of the class of a rule, by its number among the rules.

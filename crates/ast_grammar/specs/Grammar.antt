@@ -9,7 +9,7 @@ use Rattle.ast_rules.specs.Naming.{kept_words}
 use Rattle.ast_grammar.specs.declared.grammar.ClassId.{ClassId}
 use Rattle.ast_grammar.specs.declared.grammar.Shape.{Shape}
 use Rattle.ast_grammar.specs.declared.grammar.Shape.TheVariants as shapes
-use Rattle.ast_grammar.specs.declared.grammar.Component as memory
+use Rattle.ast_grammar.specs.declared.grammar.Component as kept_component
 
 -- a component of a class: its name, the number of the name, its shape, and the class of a child
 pub record Component : Type 0 where
@@ -43,7 +43,7 @@ abbrev pub name_of_component : Component → List ℕ
 name_of_component p = p.name
 
 -- a component without its name
-abbrev pub nameless : Component → memory.Component
+abbrev pub nameless : Component → kept_component.Component
 nameless p = record { name = p.number; shape = p.shape; class = p.class }
 
 abbrev pub abstract_in : Class → Bool

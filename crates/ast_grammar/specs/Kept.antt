@@ -2,14 +2,14 @@
 use Rattle.std.specs.Prelude.{◌≡◌, ℕ, ◌+◌, ◌<◌, List, [], Option, Some, All, length, map, slice_get, slice_index_or}
 use Rattle.rag_io.specs.Pool.{ArePooled}
 use Rattle.ast_grammar.specs.Grammar.{Class, Component, IsGrammar, superclasses_of}
-use Rattle.ast_grammar.specs.declared.grammar.Component as memory
+use Rattle.ast_grammar.specs.declared.grammar.Component as kept_component
 use Rattle.ast_grammar.specs.declared.grammar.KeptClass.{KeptClass}
 
 -- the name of this number
 abbrev pub name_in : List (List ℕ) → ℕ → List ℕ
 name_in names number = slice_index_or names number []
 
-abbrev pub component_of : List (List ℕ) → memory.Component → Component
+abbrev pub component_of : List (List ℕ) → kept_component.Component → Component
 component_of names p = record { name = name_in names p.name; number = p.name; shape = p.shape; class = p.class }
 
 abbrev pub class_of : List (List ℕ) → KeptClass → Class

@@ -15,7 +15,7 @@ use Rattle.broken_rules.proofs.Noting.{notes_then}
 use Rattle.names.specs.Among.{is_among, with_name}
 use Rattle.names.proofs.Keys.{among_with}
 use Rattle.ast_rules.specs.Written.{WrittenComponent, WrittenRule, seen_component}
-use Rattle.ast_rules.specs.declared.written.WrittenComponent as memory
+use Rattle.ast_rules.specs.declared.written.WrittenComponent as kept_written_component
 use Rattle.ast_rules.proofs.Seen.{index_seen, item_seen, notes_each_after_seen}
 use Rattle.superclasses.specs.Superclasses.{line_of}
 use Rattle.ast_rules.specs.Members.{Adds, Inherits, names_of_components, components_at, components_in, names_along, member_broken, class_broken}
@@ -40,7 +40,7 @@ adds_more old cs i names {more} {c} {text} t e h is lt = record {
 }
 
 -- the same, by the item that stands there
-pub adds_item : (old : List (List ℕ)) (items : List memory.WrittenComponent) (i : ℕ) (names : List (List ℕ)) {more : List (List ℕ)} (d : memory.WrittenComponent) → more ≡ with_name names (seen_component (get_or items i d)).name.text
+pub adds_item : (old : List (List ℕ)) (items : List kept_written_component.WrittenComponent) (i : ℕ) (names : List (List ℕ)) {more : List (List ℕ)} (d : kept_written_component.WrittenComponent) → more ≡ with_name names (seen_component (get_or items i d)).name.text
     → Adds old (names_of_components (take i (map seen_component items))) names → i < length items → Adds old (names_of_components (take (i + 1) (map seen_component items))) more
 adds_item old items i names {more} d e h lt =
     adds_more old (map seen_component items) i names {c = seen_component (get_or items i d)} refl e h (item_seen seen_component items i (get_or_default items i d (get_or items i d) lt)) (index_seen seen_component items i lt)
@@ -92,7 +92,7 @@ member_noted old names count cs i c {text} {d} {many} {k} {m} {n} is t h le g e 
     notes_then (subst (λ b. Notes (broken_if b (at c.name.place G6)) k m) twice g) (subst (λ b. Notes (broken_if b (at c.name.place G10)) m n) full f)
 
 -- the same, by the item that stands there, behind what was noted for the items before it
-pub member_item : (old names : List (List ℕ)) (count : ℕ) (items : List memory.WrittenComponent) (i : ℕ) (d : memory.WrittenComponent) {added many : Bool} {a k m n : Option Broken} → added ≡ not (is_among names (seen_component (get_or items i d)).name.text)
+pub member_item : (old names : List (List ℕ)) (count : ℕ) (items : List kept_written_component.WrittenComponent) (i : ℕ) (d : kept_written_component.WrittenComponent) {added many : Bool} {a k m n : Option Broken} → added ≡ not (is_among names (seen_component (get_or items i d)).name.text)
     → Adds old (names_of_components (take i (map seen_component items))) names → i < length items → Notes (each_after (member_broken (is_among old) count) [] (take i (map seen_component items))) a k
     → Notes (broken_if (not added) (at (get_or items i d).name.place G6)) k m → many ≡ (min (count + i) (2 ^ 64 - 1) == 16) → Notes (broken_if many (at (get_or items i d).name.place G10)) m n
     → Notes (each_after (member_broken (is_among old) count) [] (take (i + 1) (map seen_component items))) a n

@@ -6,7 +6,7 @@ use Rattle.ll_parser.specs.Grammar.{IsSentence, IsFault}
 use Rattle.ll_parser.specs.Sentences.{FirstFault}
 use Rattle.ll_parser.proofs.Sentences.{fault_there, sentence_there}
 use Rattle.rag_io.specs.Tokens.{Lexed, seen_token, seen_tokens}
-use Rattle.rag_io.specs.declared.token.Token as memory
+use Rattle.rag_io.specs.declared.token.Token as kept_token
 use Rattle.ast_rules.proofs.AstSentences.{printed_sentences}
 use Rattle.ast_rules.specs.AstGrammar.{ast_grammar}
 use Rattle.ast_rules.specs.AstPrintedGrammar.{ast_printed_grammar}
@@ -17,7 +17,7 @@ use Rattle.ast_rules.specs.Written.{Name, WrittenRule}
 use Rattle.broken_rules.specs.declared.rule.Rule.TheVariants.{G1, G9}
 
 -- the classes of the tokens before one of them
-pub classes_before : (ts : List memory.Token) (i : ℕ) → map token_class (seen_tokens (take i ts)) ≡ take i (map token_class (seen_tokens ts))
+pub classes_before : (ts : List kept_token.Token) (i : ℕ) → map token_class (seen_tokens (take i ts)) ≡ take i (map token_class (seen_tokens ts))
 classes_before ts i = sym (take-map token_class i (seen_tokens ts) ∙ ap (map token_class) (take-map seen_token i ts))
 
 -- a fault of the table's grammar is one of the printed grammar

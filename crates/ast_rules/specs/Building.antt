@@ -6,7 +6,7 @@ use Rattle.ll_parser.specs.Grammar.{shift}
 use Rattle.ast_rules.specs.Written.{Name, WrittenComponent, WrittenRule, seen_name, seen_component, seen_rule}
 use Rattle.ast_rules.specs.declared.written.Form.{Form}
 use Rattle.ast_rules.specs.declared.written.Form.TheVariants as forms
-use Rattle.ast_rules.specs.declared.building.Builder as memory
+use Rattle.ast_rules.specs.declared.building.Builder as kept_builder
 
 abbrev pub name_in : Option Lexed → Name
 name_in None = record { text = []; place = first_place }
@@ -77,7 +77,7 @@ built ts b (e ∷ es) = built ts (after ts b e) es
 abbrev pub written : List Lexed → List ℕ → List WrittenRule
 written ts es = (built ts (nothing ts) es).rules
 
-abbrev pub seen_builder : memory.Builder → Building
+abbrev pub seen_builder : kept_builder.Builder → Building
 seen_builder b = record {
   at = b.at;
   abstract = b.is_abstract;

@@ -16,7 +16,7 @@ use Rattle.ast_rules.specs.AstPrintedGrammar.{ast_printed_grammar}
 use Rattle.ast_rules.specs.Building.{name_at, written}
 use Rattle.ast_rules.specs.Tokens.{token_class}
 use Rattle.ast_rules.specs.Written.{WrittenRule, seen_rules}
-use Rattle.ast_rules.specs.declared.written.WrittenRule as memory
+use Rattle.ast_rules.specs.declared.written.WrittenRule as kept_written_rule
 
 -- The tokens say these rules: they are a sentence of the grammar, and its only reading writes them.
 pub record SaysRules (ts : List Lexed) (said : List WrittenRule) : Type 0 where
@@ -58,7 +58,7 @@ pub record IsSyntaxFault (ts : List Lexed) (b : Broken) : Type 0 where
   pub rule : SyntaxRule ts number b.rule
 
 -- what reading some tokens answers
-abbrev pub ReadsRules : List Lexed → Result (Vec memory.WrittenRule Global) ReadFault → Type 0
+abbrev pub ReadsRules : List Lexed → Result (Vec kept_written_rule.WrittenRule Global) ReadFault → Type 0
 ReadsRules ts (Ok rules) = SaysRules ts (seen_rules rules.items)
 ReadsRules ts (Err (faults.Broken b)) = IsSyntaxFault ts b
 ReadsRules ts (Err faults.Memory) = Unit {0}

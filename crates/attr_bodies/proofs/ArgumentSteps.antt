@@ -14,11 +14,11 @@ use Rattle.expr_typing.specs.Typed.{arguments_in, arguments_said, body_of, known
 use Rattle.attr_rules.specs.Expression as said
 use Rattle.attr_rules.specs.Expression.{Expression, expression_of}
 use Rattle.attr_rules.specs.declared.expression.TExpr.{TExpr}
-use Rattle.aspect_items.specs.declared.expression.Expr as memory
+use Rattle.aspect_items.specs.declared.expression.Expr as kept_expr
 use Rattle.aspect_items.specs.Expressions.{Expr, arguments_of, seen_expr}
 
 -- the items of memory so far
-seen_more : (es : List memory.Expr) (i : ℕ) {e : memory.Expr} → i < length es → e ≡ get_or es i e → take (i + 1) (map seen_expr es) ≡ take i (map seen_expr es) ++ seen_expr e ∷ []
+seen_more : (es : List kept_expr.Expr) (i : ℕ) {e : kept_expr.Expr} → i < length es → e ≡ get_or es i e → take (i + 1) (map seen_expr es) ≡ take i (map seen_expr es) ++ seen_expr e ∷ []
 seen_more es i {e} lt is =
     let within : i < length (map seen_expr es) = omega (arith, length-map es seen_expr) in
     take_more (map seen_expr es) i (seen_expr e) within ∙ ap (λ y. take i (map seen_expr es) ++ y ∷ []) (get_or-map seen_expr es i e ∙ ap seen_expr (sym is))
@@ -51,7 +51,7 @@ module _ (s : Scope) where
       ∙ sym (append_assoc (expr_broken s Anywhere x) (fit ++ before) last)
 
   -- what one more breaks
-  pub one_noted : (wanted : List Kind) (es : List memory.Expr) (i : ℕ) {e : memory.Expr} {k : Option Kind} {a b c : Option Broken}
+  pub one_noted : (wanted : List Kind) (es : List kept_expr.Expr) (i : ℕ) {e : kept_expr.Expr} {k : Option Kind} {a b c : Option Broken}
       → e ≡ get_or es i e → i < length es → k ≡ slice_get wanted i
       → Notes (arguments_broken s wanted (arguments_of (take i (map seen_expr es)))) a b → Notes (argument_broken s k (seen_expr e)) b c
       → Notes (arguments_broken s wanted (arguments_of (take (i + 1) (map seen_expr es)))) a c
@@ -70,7 +70,7 @@ module _ (s : Scope) where
   arguments_each (e ∷ es) = ap (said.argument (body_of s e)) (arguments_each es)
 
   -- what the items so far say, with one more of them
-  pub one_said : (es : List memory.Expr) (i : ℕ) {e : memory.Expr} (body : TExpr) (list : List TExpr) {new : List TExpr}
+  pub one_said : (es : List kept_expr.Expr) (i : ℕ) {e : kept_expr.Expr} (body : TExpr) (list : List TExpr) {new : List TExpr}
       → e ≡ get_or es i e → i < length es → expression_of body ≡ body_of s (seen_expr e) → new ≡ list ++ body ∷ []
       → map expression_of list ≡ said_each (take i (map seen_expr es)) → map expression_of new ≡ said_each (take (i + 1) (map seen_expr es))
   one_said es i {e} body list is lt says more h =
@@ -78,7 +78,7 @@ module _ (s : Scope) where
       ∙ sym (ap said_each (seen_more es i lt is) ∙ map-append (body_of s) (take i (map seen_expr es)) (seen_expr e ∷ []))
 
   -- what all of them say
-  pub all_said : (es : List memory.Expr) (i : ℕ) (list : List TExpr) → length es ≤ i → map expression_of list ≡ said_each (take i (map seen_expr es))
+  pub all_said : (es : List kept_expr.Expr) (i : ℕ) (list : List TExpr) → length es ≤ i → map expression_of list ≡ said_each (take i (map seen_expr es))
       → arguments_in (map expression_of list) ≡ arguments_said s (arguments_of (map seen_expr es))
   all_said es i list all same = ap arguments_in (same ∙ ap said_each (take_all i (map seen_expr es) (omega (arith, all, length-map es seen_expr)))) ∙ arguments_each (map seen_expr es)
 

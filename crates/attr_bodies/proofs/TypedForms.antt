@@ -32,7 +32,7 @@ use Rattle.expr_typing.specs.Places.{place_of}
 use Rattle.attr_bodies.specs.Says.{call_says, form_says, quantified_says, said_as, said_by, seen_typed}
 use Rattle.expr_typing.specs.SetForms.{count_broken, one_broken, pair_broken, settled, truth}
 use Rattle.expr_typing.specs.Typed.{arguments_said, body_of, call_said, class_type, count, element_named, element_type, inside, known, over_said, quantified_type, range_of}
-use Rattle.aspect_items.specs.declared.expression.Expr as memory
+use Rattle.aspect_items.specs.declared.expression.Expr as kept_expr
 use Rattle.aspect_items.specs.declared.expression.Expr.TheFolds.{fold-roll-Expr}
 use Rattle.aspect_items.specs.declared.expression.Expr.TheOpen.{Expr-F}
 use Rattle.aspect_items.specs.declared.expression.Expr.TheVariants as kept
@@ -43,25 +43,25 @@ use Rattle.aspect_items.specs.declared.expression.Quantifier.{Quantifier}
 use Rattle.aspect_items.specs.Expressions.{Binary, Call, Cast, Expr, If, InstanceOf, Member, Name, Quantified, argument, arguments_of, no_more, seen_expr, seen_level, seen_name}
 
 -- the forms of several parts as they are seen
-seen-Member : (e : Box memory.Expr Global) (n : kept_name.Name) (es : Vec memory.Expr Global) → seen_expr (kept.Member e n es) ≡ Member (seen_expr e.value) (seen_name n) (arguments_of (map seen_expr es.items))
+seen-Member : (e : Box kept_expr.Expr Global) (n : kept_name.Name) (es : Vec kept_expr.Expr Global) → seen_expr (kept.Member e n es) ≡ Member (seen_expr e.value) (seen_name n) (arguments_of (map seen_expr es.items))
 seen-Member e n es = ap seen_expr (sym (rolls-Member e n es)) ∙ fold-roll-Expr Expr seen_level (Expr-F.Member e n es)
 
-seen-Binary : (o : Operator) (a b : Box memory.Expr Global) → seen_expr (kept.Binary o a b) ≡ Binary o (seen_expr a.value) (seen_expr b.value)
+seen-Binary : (o : Operator) (a b : Box kept_expr.Expr Global) → seen_expr (kept.Binary o a b) ≡ Binary o (seen_expr a.value) (seen_expr b.value)
 seen-Binary o a b = ap seen_expr (sym (rolls-Binary o a b)) ∙ fold-roll-Expr Expr seen_level (Expr-F.Binary o a b)
 
-seen-Cast : (p : Place) (n : kept_name.Name) (a : Box memory.Expr Global) → seen_expr (kept.Cast p n a) ≡ Cast p (seen_name n) (seen_expr a.value)
+seen-Cast : (p : Place) (n : kept_name.Name) (a : Box kept_expr.Expr Global) → seen_expr (kept.Cast p n a) ≡ Cast p (seen_name n) (seen_expr a.value)
 seen-Cast p n a = ap seen_expr (sym (rolls-Cast p n a)) ∙ fold-roll-Expr Expr seen_level (Expr-F.Cast p n a)
 
-seen-InstanceOf : (a : Box memory.Expr Global) (n : kept_name.Name) → seen_expr (kept.InstanceOf a n) ≡ InstanceOf (seen_expr a.value) (seen_name n)
+seen-InstanceOf : (a : Box kept_expr.Expr Global) (n : kept_name.Name) → seen_expr (kept.InstanceOf a n) ≡ InstanceOf (seen_expr a.value) (seen_name n)
 seen-InstanceOf a n = ap seen_expr (sym (rolls-InstanceOf a n)) ∙ fold-roll-Expr Expr seen_level (Expr-F.InstanceOf a n)
 
-pub seen-Call : (n : kept_name.Name) (es : Vec memory.Expr Global) → seen_expr (kept.Call n es) ≡ Call (seen_name n) (arguments_of (map seen_expr es.items))
+pub seen-Call : (n : kept_name.Name) (es : Vec kept_expr.Expr Global) → seen_expr (kept.Call n es) ≡ Call (seen_name n) (arguments_of (map seen_expr es.items))
 seen-Call n es = ap seen_expr (sym (rolls-Call n es)) ∙ fold-roll-Expr Expr seen_level (Expr-F.Call n es)
 
-seen-Quantified : (q : Quantifier) (p : Place) (n : kept_name.Name) (r c : Box memory.Expr Global) → seen_expr (kept.Quantified q p n r c) ≡ Quantified q p (seen_name n) (seen_expr r.value) (seen_expr c.value)
+seen-Quantified : (q : Quantifier) (p : Place) (n : kept_name.Name) (r c : Box kept_expr.Expr Global) → seen_expr (kept.Quantified q p n r c) ≡ Quantified q p (seen_name n) (seen_expr r.value) (seen_expr c.value)
 seen-Quantified q p n r c = ap seen_expr (sym (rolls-Quantified q p n r c)) ∙ fold-roll-Expr Expr seen_level (Expr-F.Quantified q p n r c)
 
-seen-If : (c a b : Box memory.Expr Global) → seen_expr (kept.If c a b) ≡ If (seen_expr c.value) (seen_expr a.value) (seen_expr b.value)
+seen-If : (c a b : Box kept_expr.Expr Global) → seen_expr (kept.If c a b) ≡ If (seen_expr c.value) (seen_expr a.value) (seen_expr b.value)
 seen-If c a b = ap seen_expr (sym (rolls-If c a b)) ∙ fold-roll-Expr Expr seen_level (Expr-F.If c a b)
 
 -- how many arguments there are
@@ -69,7 +69,7 @@ count_is : (es : List Expr) → count (arguments_of es) ≡ length es
 count_is [] = refl
 count_is (e ∷ es) = ap suc (count_is es)
 
-pub count_seen : (es : List memory.Expr) {k : ℕ} → k ≡ length es → count (arguments_of (map seen_expr es)) ≡ k
+pub count_seen : (es : List kept_expr.Expr) {k : ℕ} → k ≡ length es → count (arguments_of (map seen_expr es)) ≡ k
 count_seen es e = count_is (map seen_expr es) ∙ length-map es seen_expr ∙ sym e
 
 module _ (s : Scope) where
@@ -78,7 +78,7 @@ module _ (s : Scope) where
   known_type e t is = ap (λ r. r.type) is
 
   -- what a call breaks behind a receiver of a type, where that is known
-  pub call_noted : (range : Bool) (t : Option ValueType) (n : Name) (first : Place) (es : List memory.Expr) {k : ℕ} {text : List ℕ} {m : Option member.Member} {wanted : List Kind} {a b c : Option Broken}
+  pub call_noted : (range : Bool) (t : Option ValueType) (n : Name) (first : Place) (es : List kept_expr.Expr) {k : ℕ} {text : List ℕ} {m : Option member.Member} {wanted : List Kind} {a b c : Option Broken}
       → k ≡ length es → text ≡ n.text → m ≡ member_on s t text k → wanted ≡ wanted_for s m k
       → (m ≡ member_on s t n.text k → Notes (call_broken s range n k first t) a b) → Notes (arguments_broken s wanted (arguments_of (map seen_expr es))) b c
       → Notes (calls_break s range t n first (arguments_of (map seen_expr es))) a c
@@ -88,7 +88,7 @@ module _ (s : Scope) where
       rw many (notes_then (h named) (rw (for, named) at g))
 
   -- and what it says
-  pub call_tells : (r : kept_typed.Typed) (n : Name) (es : List memory.Expr) (b : TExpr) (i : TArgs) {k : ℕ} {text : List ℕ} {m : Option member.Member} {t : Option ValueType} {o : Option Accessor}
+  pub call_tells : (r : kept_typed.Typed) (n : Name) (es : List kept_expr.Expr) (b : TExpr) (i : TArgs) {k : ℕ} {text : List ℕ} {m : Option member.Member} {t : Option ValueType} {o : Option Accessor}
       → k ≡ length es → text ≡ n.text → m ≡ member_on s r.value_type text k → said_arguments i ≡ arguments_said s (arguments_of (map seen_expr es))
       → t ≡ option_and_then (type_called s) m → o ≡ option_and_then (list_called k) m → expression_of b ≡ call_said m n.place (expression_of r.body) (said_arguments i)
       → seen_typed (record { value_type = t; list = o; body = b }) ≡ call_says s (seen_typed r) n (arguments_of (map seen_expr es))
@@ -97,10 +97,10 @@ module _ (s : Scope) where
       rw many (rw (← named, ← is, ← first) (rw (of, listed, told) refl))
 
   -- a part was looked at
-  abbrev pub IsTyped : memory.Expr → TypedPart → Option Broken → Option Broken → Type 0
+  abbrev pub IsTyped : kept_expr.Expr → TypedPart → Option Broken → Option Broken → Type 0
   IsTyped x p a b = record { noted : Notes (expr_broken s Anywhere (seen_expr x)) a b; written : p.written.now ≡ x; says : seen_typed p.typed ≡ said_by s (seen_expr x) }
 
-  pub member_noted : (at_place : Stands) {e : memory.Expr} {r : Box memory.Expr Global} {n : kept_name.Name} (es : Vec memory.Expr Global) (x : memory.Expr) (xs : List memory.Expr) (p : TypedPart) {a b c : Option Broken}
+  pub member_noted : (at_place : Stands) {e : kept_expr.Expr} {r : Box kept_expr.Expr Global} {n : kept_name.Name} (es : Vec kept_expr.Expr Global) (x : kept_expr.Expr) (xs : List kept_expr.Expr) (p : TypedPart) {a b c : Option Broken}
       → e ≡ kept.Member r n es → x ≡ r.value → xs ≡ es.items → IsTyped x p a b
       → Notes (calls_break s (is_range at_place) p.typed.value_type (seen_name n) (place_of (seen_expr p.written.now)) (arguments_of (map seen_expr xs))) b c
       → Notes (expr_broken s at_place (seen_expr e)) a c
@@ -108,19 +108,19 @@ module _ (s : Scope) where
       rw is (rw seen-Member (rw (← i, ← j) (notes_then f.noted (rw (known_type (seen_expr x) p.typed f.says, f.written) at h))))
 
   -- a cast, and a test of a class
-  pub cast_noted : (at_place : Stands) {e : memory.Expr} {q : Place} {n : kept_name.Name} {r : Box memory.Expr Global} (x : memory.Expr) {a b : Option Broken}
+  pub cast_noted : (at_place : Stands) {e : kept_expr.Expr} {q : Place} {n : kept_name.Name} {r : Box kept_expr.Expr Global} (x : kept_expr.Expr) {a b : Option Broken}
       → e ≡ kept.Cast q n r → x ≡ r.value → Notes (class_broken s.grammar (seen_name n) ++ node_broken s (seen_expr x)) a b → Notes (expr_broken s at_place (seen_expr e)) a b
   cast_noted at_place x is i h = rw is (rw seen-Cast (rw (← i) h))
 
-  pub cast_says : {e : memory.Expr} {q : Place} {n : kept_name.Name} {r : Box memory.Expr Global} (x : memory.Expr) (t : kept_typed.Typed)
+  pub cast_says : {e : kept_expr.Expr} {q : Place} {n : kept_name.Name} {r : Box kept_expr.Expr Global} (x : kept_expr.Expr) (t : kept_typed.Typed)
       → e ≡ kept.Cast q n r → x ≡ r.value → seen_typed t ≡ said_as (class_type s.grammar (seen_name n).text) (said.Cast (class_or_first (class_named s.grammar (seen_name n).text)) (body_of s (seen_expr x))) → seen_typed t ≡ said_by s (seen_expr e)
   cast_says x t is i h = rw is (rw seen-Cast (rw (← i) h))
 
-  pub test_noted : (at_place : Stands) {e : memory.Expr} {n : kept_name.Name} {r : Box memory.Expr Global} (x : memory.Expr) {a b : Option Broken}
+  pub test_noted : (at_place : Stands) {e : kept_expr.Expr} {n : kept_name.Name} {r : Box kept_expr.Expr Global} (x : kept_expr.Expr) {a b : Option Broken}
       → e ≡ kept.InstanceOf r n → x ≡ r.value → Notes (class_broken s.grammar (seen_name n) ++ node_broken s (seen_expr x)) a b → Notes (expr_broken s at_place (seen_expr e)) a b
   test_noted at_place x is i h = rw is (rw seen-InstanceOf (rw (← i) h))
 
-  pub test_says : {e : memory.Expr} {n : kept_name.Name} {r : Box memory.Expr Global} (x : memory.Expr) (t : kept_typed.Typed)
+  pub test_says : {e : kept_expr.Expr} {n : kept_name.Name} {r : Box kept_expr.Expr Global} (x : kept_expr.Expr) (t : kept_typed.Typed)
       → e ≡ kept.InstanceOf r n → x ≡ r.value → seen_typed t ≡ said_as truth (said.InstanceOf (class_or_first (class_named s.grammar (seen_name n).text)) (body_of s (seen_expr x))) → seen_typed t ≡ said_by s (seen_expr e)
   test_says x t is i h = rw is (rw seen-InstanceOf (rw (← i) h))
 
@@ -140,12 +140,12 @@ module _ (s : Scope) where
       → inner ≡ inside s q n range → Notes (range_broken s q range) a b → Notes (body_broken inner q e) b c → Notes (quantified_broken s q n range e) a c
   over_noted q n range e inner {a} {b} {c} is h g = notes_then h (subst (λ t. Notes (body_broken t q e) b c) is g)
 
-  pub quantified_noted : (at_place : Stands) {e : memory.Expr} {q : Quantifier} {p : Place} {n : kept_name.Name} {r c : Box memory.Expr Global} (x y : memory.Expr) {a b : Option Broken}
+  pub quantified_noted : (at_place : Stands) {e : kept_expr.Expr} {q : Quantifier} {p : Place} {n : kept_name.Name} {r c : Box kept_expr.Expr Global} (x y : kept_expr.Expr) {a b : Option Broken}
       → e ≡ kept.Quantified q p n r c → x ≡ r.value → y ≡ c.value → Notes (quantified_broken s q (seen_name n) (seen_expr x) (seen_expr y)) a b → Notes (expr_broken s at_place (seen_expr e)) a b
   quantified_noted at_place x y is i j h = rw is (rw seen-Quantified (rw (← i, ← j) h))
 
   -- a form of sets with one argument
-  pub form_noted : (f : SetForm) (n : Name) (x : memory.Expr) (p : TypedPart) (part : Part) {a b c : Option Broken}
+  pub form_noted : (f : SetForm) (n : Name) (x : kept_expr.Expr) (p : TypedPart) (part : Part) {a b c : Option Broken}
       → IsTyped x p a b → part ≡ record { written = p.written; value_type = p.typed.value_type } → Notes (one_broken f n part.value_type (seen_expr part.written.now)) b c
       → Notes (inner_broken s f n (argument (seen_expr x) no_more)) a c
   form_noted f n x p part {a} {b} {c} g is h =
@@ -153,7 +153,7 @@ module _ (s : Scope) where
       notes_then (notes_then g.noted notes_none) (rw (known_type (seen_expr x) p.typed g.says, g.written) at here)
 
   -- with two
-  pub pair_noted : (f : SetForm) (n : Name) (x y : memory.Expr) (p q : TypedPart) (first second : Part) {a b c d : Option Broken}
+  pub pair_noted : (f : SetForm) (n : Name) (x y : kept_expr.Expr) (p q : TypedPart) (first second : Part) {a b c d : Option Broken}
       → IsTyped x p a b → IsTyped y q b c → first ≡ record { written = p.written; value_type = p.typed.value_type } → second ≡ record { written = q.written; value_type = q.typed.value_type }
       → Notes (pair_broken s.grammar f n first.value_type (seen_expr first.written.now) second.value_type (seen_expr second.written.now)) c d
       → Notes (inner_broken s f n (argument (seen_expr x) (argument (seen_expr y) no_more))) a d
@@ -175,15 +175,15 @@ module _ (s : Scope) where
   more_said f (a ∷ b ∷ []) more = absurd (omega (arith, more))
   more_said f (a ∷ b ∷ d ∷ es) more = refl
 
-  seen_more : (es : List memory.Expr) → 2 < length es → 2 < length (map seen_expr es)
+  seen_more : (es : List kept_expr.Expr) → 2 < length es → 2 < length (map seen_expr es)
   seen_more es more = omega (arith, more, length-map es seen_expr)
 
-  pub more_noted : (f : SetForm) (n : Name) (es : List memory.Expr) {wanted : List Kind} {a b c : Option Broken} → 2 < length es → wanted ≡ []
+  pub more_noted : (f : SetForm) (n : Name) (es : List kept_expr.Expr) {wanted : List Kind} {a b c : Option Broken} → 2 < length es → wanted ≡ []
       → Notes (arguments_broken s wanted (arguments_of (map seen_expr es))) a b → Notes (count_broken n) b c → Notes (inner_broken s f n (arguments_of (map seen_expr es))) a c
   more_noted f n es {wanted} {a} {b} {c} more is h g =
       notes_then (subst (λ ks. Notes (arguments_broken s ks (arguments_of (map seen_expr es))) a b) is h) (subst (λ bs. Notes bs b c) (sym (more_broken f n (map seen_expr es) (seen_more es more))) g)
 
-  pub more_says : (f : SetForm) (es : List memory.Expr) (t : kept_typed.Typed) → 2 < length es → seen_typed t ≡ said_as (settled f) said.Null → seen_typed t ≡ form_says s f (arguments_of (map seen_expr es))
+  pub more_says : (f : SetForm) (es : List kept_expr.Expr) (t : kept_typed.Typed) → 2 < length es → seen_typed t ≡ said_as (settled f) said.Null → seen_typed t ≡ form_says s f (arguments_of (map seen_expr es))
   more_says f es t more says = says ∙ more_said f (map seen_expr es) (seen_more es more)
 
   -- what a form over some elements says
@@ -197,14 +197,14 @@ module _ (s : Scope) where
       let said = ap (λ x. x.body) there in
       says ∙ (λ i. said_as (typed i) (told i)) ∙ (λ i. said_as (quantified_type q (elements i) (type i)) (over_said q (type i) (elements i) (range_says i) (said i)))
 
-  pub binary_noted : (at_place : Stands) {e : memory.Expr} {o : Operator} {l r : Box memory.Expr Global} (x y : memory.Expr) (p q : TypedPart) {a b c d : Option Broken}
+  pub binary_noted : (at_place : Stands) {e : kept_expr.Expr} {o : Operator} {l r : Box kept_expr.Expr Global} (x y : kept_expr.Expr) (p q : TypedPart) {a b c d : Option Broken}
       → e ≡ kept.Binary o l r → x ≡ l.value → y ≡ r.value → IsTyped x p a b → IsTyped y q b c
       → Notes (sides_broken s.grammar o p.typed.value_type (seen_expr p.written.now) q.typed.value_type (seen_expr q.written.now)) c d
       → Notes (expr_broken s at_place (seen_expr e)) a d
   binary_noted at_place {e} {o} {l} {r} x y p q is i j f g h =
       rw is (rw seen-Binary (rw (← i, ← j) (notes_then f.noted (notes_then g.noted (rw (known_type (seen_expr x) p.typed f.says, known_type (seen_expr y) q.typed g.says, f.written, g.written) at h)))))
 
-  pub choice_noted : (at_place : Stands) {e : memory.Expr} {c l r : Box memory.Expr Global} (w x y : memory.Expr) (o p q : TypedPart) {k m n u v : Option Broken}
+  pub choice_noted : (at_place : Stands) {e : kept_expr.Expr} {c l r : Box kept_expr.Expr Global} (w x y : kept_expr.Expr) (o p q : TypedPart) {k m n u v : Option Broken}
       → e ≡ kept.If c l r → w ≡ c.value → x ≡ l.value → y ≡ r.value → IsTyped w o k m → IsTyped x p m n → IsTyped y q n u
       → Notes (choice_broken s.grammar o.typed.value_type (seen_expr o.written.now) p.typed.value_type q.typed.value_type (seen_expr q.written.now)) u v
       → Notes (expr_broken s at_place (seen_expr e)) k v

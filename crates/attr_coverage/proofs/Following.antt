@@ -3,7 +3,7 @@ use Rattle.std.proofs.Common.{◌≡◌, ℕ, zero, suc, ◌+◌, List, [], ◌�
 use Rattle.std.specs.List.{list_any, range_with_len}
 use Rattle.std.specs.Option.{option_map}
 use Rattle.std.proofs.lemmas.List.Folds.{list_any-append}
-use Rattle.ast_grammar.specs.declared.grammar.Component as memory
+use Rattle.ast_grammar.specs.declared.grammar.Component as kept_component
 use Rattle.ast_grammar.specs.Grammar.{Class, component_at, components_of, nameless}
 use Rattle.attr_rules.specs.Rules.{is_for_nodes}
 use Rattle.attr_coverage.specs.Covering.{is_concrete_below, may_hang, may_hang_at}
@@ -33,15 +33,15 @@ module _ (g : List Class) (covered : ℕ → ℕ → Bool) (p : ℕ) where
   hangs_before k c = list_any (λ j. may_hang_at g covered p c j (component_at g p j)) (range_with_len 0 k)
 
   -- what hangs at a component, as memory has it
-  hangs_kept : (k c : ℕ) (m : memory.Component) → option_map nameless (component_at g p k) ≡ Some m
+  hangs_kept : (k c : ℕ) (m : kept_component.Component) → option_map nameless (component_at g p k) ≡ Some m
       → ((is_for_nodes m.shape && not (covered p k)) && is_concrete_below g m.class.0 c) ≡ may_hang_at g covered p c k (component_at g p k)
   hangs_kept k c m e =
       let x = some_from nameless (component_at g p k) m e in
-      ap (λ (m : memory.Component). (is_for_nodes m.shape && not (covered p k)) && is_concrete_below g m.class.0 c) (sym x.2)
+      ap (λ (m : kept_component.Component). (is_for_nodes m.shape && not (covered p k)) && is_concrete_below g m.class.0 c) (sym x.2)
       ∙ sym (and_and (is_for_nodes x.0.shape) (not (covered p k)) (is_concrete_below g x.0.class.0 c))
       ∙ ap (may_hang_at g covered p c k) (sym x.1)
 
-  module _ (k : ℕ) (m : memory.Component) (there : option_map nameless (component_at g p k) ≡ Some m) {e f : Found} (before : Adds (hangs_before k) e f) where
+  module _ (k : ℕ) (m : kept_component.Component) (there : option_map nameless (component_at g p k) ≡ Some m) {e f : Found} (before : Adds (hangs_before k) e f) where
     one_more : {h : Found} → Adds (λ c. (is_for_nodes m.shape && not (covered p k)) && is_concrete_below g m.class.0 c) f h → Adds (hangs_before (k + 1)) e h
     one_more then = adds_same (λ c. ap (λ b. hangs_before k c || b) (hangs_kept k c m there) ∙ sym (any_more (λ j. may_hang_at g covered p c j (component_at g p j)) k)) (adds_then before then)
 

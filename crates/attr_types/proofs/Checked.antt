@@ -11,8 +11,8 @@ use Rattle.broken_rules.specs.Order.{first_of}
 use Rattle.broken_rules.proofs.Answering.{passes_if}
 use Rattle.broken_rules.proofs.Exits.{refuses_here, refuses_later}
 use Rattle.broken_rules.proofs.Order.{none_is}
-use Rattle.aspect_items.specs.declared.aspects.Aspects as memory
-use Rattle.aspect_items.specs.declared.items.Item as memory_item
+use Rattle.aspect_items.specs.declared.aspects.Aspects as kept_aspects
+use Rattle.aspect_items.specs.declared.items.Item as kept_item
 use Rattle.aspect_items.specs.Items.{Item, seen_aspects, seen_item}
 use Rattle.attr_rules.specs.declared.dispatch.Dispatch.{Dispatch}
 use Rattle.attr_rules.specs.declared.dispatch.Target.{Target}
@@ -94,11 +94,11 @@ module _ (g : List Class) (hs : List Head) (es : List Given) where
       is ∙ (λ i. record { superclasses = (known i).superclasses; attributes = (known i).attributes; equations = (bodies ∙ (λ j. map (equation_of g (known j).attributes) es)) i })
 
 -- what was read of the items, through copies of the lists
-pub heads_read : (aspects : memory.Aspects) {items : List memory_item.Item} {list heads : List kept_head.Head}
+pub heads_read : (aspects : kept_aspects.Aspects) {items : List kept_item.Item} {list heads : List kept_head.Head}
     → items ≡ aspects.items.items → map seen_head list ≡ declarations (map seen_item items) → heads ≡ list → map seen_head heads ≡ declarations (seen_aspects aspects)
 heads_read aspects copied are copied_again = ap (map seen_head) copied_again ∙ are ∙ ap (λ items. declarations (map seen_item items)) copied
 
-pub givens_read : (aspects : memory.Aspects) {items : List memory_item.Item} {list given : List kept_given.Given} → items ≡ aspects.items.items → map seen_given list ≡ givens (map seen_item items) → given ≡ list → map seen_given given ≡ givens (seen_aspects aspects)
+pub givens_read : (aspects : kept_aspects.Aspects) {items : List kept_item.Item} {list given : List kept_given.Given} → items ≡ aspects.items.items → map seen_given list ≡ givens (map seen_item items) → given ≡ list → map seen_given given ≡ givens (seen_aspects aspects)
 givens_read aspects copied are copied_again = ap (map seen_given) copied_again ∙ are ∙ ap (λ items. givens (map seen_item items)) copied
 
 -- what holds of what the items declare and give

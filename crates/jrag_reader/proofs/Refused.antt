@@ -10,7 +10,7 @@ use Rattle.broken_rules.specs.declared.broken.ReadFault.{ReadFault}
 use Rattle.broken_rules.specs.declared.broken.ReadFault.TheVariants as faults
 use Rattle.broken_rules.specs.declared.rule.Rule.TheVariants.{J17}
 use Rattle.rag_io.specs.Tokens.{Lexed, seen_token, seen_tokens}
-use Rattle.rag_io.specs.declared.token.Token as memory
+use Rattle.rag_io.specs.declared.token.Token as kept_token
 use Rattle.token_texts.specs.Texts.{texts_broken}
 use Rattle.jrag_syntax.specs.Reading.{SaysEvents, StopsWith}
 use Rattle.jrag_syntax.specs.Tokens.{token_class}
@@ -28,7 +28,7 @@ refused_by start pool ts (Some b) why is first =
     let same : why ≡ faults.Broken b = cc in
     subst (IsRefusal start pool ts) (sym same) (first b refl)
 
-module _ (start : Start) (pool : List (List ℕ)) (tokens : List memory.Token) (fault : Broken) (es : List ℕ)
+module _ (start : Start) (pool : List (List ℕ)) (tokens : List kept_token.Token) (fault : Broken) (es : List ℕ)
     (stops : StopsWith start (seen_tokens tokens) fault es) (count : ℕ) (counts : count ≡ tokens_in es) where
   counted : count ≡ stops.fault.number
   counted = counts ∙ stop_count start (seen_tokens tokens) fault es stops

@@ -5,9 +5,9 @@ use Rattle.rag_io.specs.Tokens.{Lexed, seen_token}
 use Rattle.rag_io.specs.declared.token.Token.{Token as KeptToken}
 use Rattle.aspect_items.specs.declared.expression.Name.{Name as KeptName}
 use Rattle.aspect_items.specs.declared.expression.Quantifier.{Quantifier}
-use Rattle.jrag_reader.specs.declared.parts.Part as memory
+use Rattle.jrag_reader.specs.declared.parts.Part as kept_part
 use Rattle.jrag_reader.specs.declared.parts.Part.TheVariants as kept
-use Rattle.jrag_reader.specs.declared.parts.Said as memory_said
+use Rattle.jrag_reader.specs.declared.parts.Said as kept_said
 use Rattle.jrag_reader.specs.declared.parts.Said.TheVariants as said
 use Rattle.jrag_reader.specs.declared.parts.Unbuilt.{Unbuilt}
 use Rattle.jrag_reader.specs.declared.parts.Unbuilt.TheVariants.{Misfit, Memory}
@@ -15,7 +15,7 @@ use Rattle.aspect_items.specs.Expressions.{Name, seen_expr, seen_name}
 use Rattle.aspect_items.specs.Items.{seen_circular, seen_item, seen_parameter, seen_signature, seen_type}
 use Rattle.jrag_reader.specs.Parts.{Part, Token, Named, Quantifying, Formed, Arguments, Typed, Parameters, Flag, Modifiers, Circularity, Perhaps, Behind, PerhapsNamed, Made, Items, Opened}
 
-abbrev pub seen_said : memory_said.Said → Part
+abbrev pub seen_said : kept_said.Said → Part
 seen_said (said.Name n) = Named (seen_name n)
 seen_said (said.Quantifier q n) = Quantifying q (seen_name n)
 seen_said (said.Expr e) = Formed (seen_expr e)
@@ -32,12 +32,12 @@ seen_said (said.Item i) = Made (seen_item i)
 seen_said (said.Items is) = Items (map seen_item is.items)
 seen_said (said.Opened is) = Opened (map seen_item is.items)
 
-abbrev pub seen_part : memory.Part → Part
+abbrev pub seen_part : kept_part.Part → Part
 seen_part (kept.Token t code) = Token (seen_token t) code
 seen_part (kept.Said s) = seen_said s
 
 -- a stack from its top
-abbrev pub tops : List memory.Part → List Part
+abbrev pub tops : List kept_part.Part → List Part
 tops stack = map seen_part (reverse stack)
 
 -- What taking something from a stack answers, and the parts that it leaves.

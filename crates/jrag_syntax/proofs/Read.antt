@@ -7,7 +7,7 @@ use Rattle.broken_rules.specs.declared.broken.Broken.{Broken}
 use Rattle.ll_parser.specs.Grammar.{IsSentence, IsFault, Leading}
 use Rattle.ll_parser.specs.Sentences.{FirstFault}
 use Rattle.ll_parser.proofs.Sentences.{fault_there, sentence_there}
-use Rattle.rag_io.specs.declared.token.Token as memory
+use Rattle.rag_io.specs.declared.token.Token as kept_token
 use Rattle.rag_io.specs.Tokens.{Lexed, seen_token, seen_tokens}
 use Rattle.jrag_syntax.proofs.JragSentences.{printed_sentences}
 use Rattle.jrag_syntax.specs.JragGrammar.{jrag_grammar}
@@ -22,7 +22,7 @@ module _ (start : Start) where
   says_events reading = record { sentence = sentence_there (printed_sentences start) reading; reading = reading }
 
   -- a fault of the table's grammar is one of the printed grammar, at one of the tokens
-  pub stops_with : (ts : List memory.Token) (i : ℕ) (d : memory.Token) (b : Broken) {es : List ℕ}
+  pub stops_with : (ts : List kept_token.Token) (i : ℕ) (d : kept_token.Token) (b : Broken) {es : List ℕ}
       → IsFault jrag_grammar (nonterminal_of start) (classes_of start (seen_tokens ts)) i
       → Leading jrag_grammar (nonterminal_of start) (take i (classes_of start (seen_tokens ts))) es
       → b.place ≡ (seen_token (get_or ts i d)).place → b.rule ≡ syntax_rule (seen_token (get_or ts i d)) → StopsWith start (seen_tokens ts) b es

@@ -6,7 +6,7 @@ use Rattle.ll_parser.specs.declared.symbols.Symbol.TheVariants.{Terminal, Nonter
 use Rattle.ll_parser.specs.declared.symbols.Step.{Step}
 use Rattle.ll_parser.specs.declared.symbols.Step.TheVariants.{Goes, Shifts, Stops}
 use Rattle.ll_parser.specs.declared.symbols.Memory.{Memory}
-use Rattle.ll_parser.specs.declared.symbols.Table as memory
+use Rattle.ll_parser.specs.declared.symbols.Table as kept_table
 use Rattle.ll_parser.specs.declared.symbols.ParseFault.{ParseFault}
 use Rattle.ll_parser.specs.declared.symbols.ParseFault.TheVariants.{At, OutOfMemory}
 use Rattle.ll_parser.specs.Grammar.{Production, nth, shift, Derives, start, IsSentence, IsFault, Leading}
@@ -73,7 +73,7 @@ abbrev pub listed : List ℕ → List Symbol → ℕ → List ℕ → List Produ
 listed starts bodies k [] = []
 listed starts bodies k (n ∷ of) = record { of = n; body = reverse (body_at bodies (slice_index_or starts k 0) (slice_index_or starts (suc k) 0)) } ∷ listed starts bodies (suc k) of
 
-abbrev pub rows_of : memory.Table → List Production
+abbrev pub rows_of : kept_table.Table → List Production
 rows_of t = listed t.starts.now t.bodies.now 0 t.of.now
 
 -- the row for a nonterminal at a token

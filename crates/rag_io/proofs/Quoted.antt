@@ -8,7 +8,7 @@ use Rattle.rag_io.specs.declared.token.TokenKind.TheVariants.{Text}
 use Rattle.rag_io.specs.Lexemes.{quote, backslash, is_plain, TextBody, IsToken, name, int, text, symbol}
 use Rattle.rag_io.specs.Lexemes as lexemes
 use Rattle.rag_io.specs.Tokens.{Lexed, IsTokens, at_end, blank, token, AreTokens, seen_token, seen_tokens}
-use Rattle.rag_io.specs.declared.token.Token as memory
+use Rattle.rag_io.specs.declared.token.Token as kept_token
 use Rattle.rag_io.specs.Unquoted.{IsQuoted, quoted, unescaped, BodyStandsFor, closed, plain, escape, StandsFor, unquoted}
 
 -- a token that is a text
@@ -61,5 +61,5 @@ pub some_text : {text : List ℕ} → IsQuoted text → (bytes : List ℕ) × St
 some_text (quoted left) = let body = some_body left in (body.0, unquoted body.1)
 
 -- a text among tokens in memory
-pub quoted_at : (tokens : List memory.Token) (i : ℕ) (t : memory.Token) → AreTokens (seen_tokens tokens) → slice_get tokens i ≡ Some t → t.kind ≡ Text → IsQuoted t.text.now
+pub quoted_at : (tokens : List kept_token.Token) (i : ℕ) (t : kept_token.Token) → AreTokens (seen_tokens tokens) → slice_get tokens i ≡ Some t → t.kind ≡ Text → IsQuoted t.text.now
 quoted_at tokens i t are at is = quoted_text i (seen_token t) are (slice_get-map seen_token tokens i ∙ ap (option_map seen_token) at) is

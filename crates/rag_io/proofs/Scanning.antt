@@ -5,7 +5,7 @@ use Rattle.std.proofs.lemmas.List.{map_push, take-append-drop}
 use Rattle.rag_io.specs.declared.token.Place.{Place}
 use Rattle.rag_io.specs.declared.token.TokenKind.{TokenKind}
 use Rattle.rag_io.specs.declared.lexeme.Lexeme.TheVariants as lexemes
-use Rattle.rag_io.specs.declared.token.Token as memory
+use Rattle.rag_io.specs.declared.token.Token as kept_token
 use Rattle.rag_io.specs.declared.token.TokenKind.TheVariants.{End}
 use Rattle.rag_io.specs.Lexemes.{IsBlank, IsToken}
 use Rattle.rag_io.specs.Fronts.{lexeme_of}
@@ -18,11 +18,11 @@ unfolding moved
 moved_at p bytes i h = rw (add-one i, drop-cons bytes i 0) refl
 
 -- one token at the end
-pub seen_last : (old new : List memory.Token) (t : memory.Token) → new ≡ old ++ t ∷ [] → seen_tokens new ≡ seen_tokens old ++ seen_token t ∷ []
+pub seen_last : (old new : List kept_token.Token) (t : kept_token.Token) → new ≡ old ++ t ∷ [] → seen_tokens new ≡ seen_tokens old ++ seen_token t ∷ []
 seen_last old new t e = ap seen_tokens e ∙ map_push seen_token old t
 
 -- one token more, and what follows
-pub seen_more : (old new : List memory.Token) (t : memory.Token) (ts : List Lexed) → new ≡ old ++ t ∷ [] → seen_tokens new ++ ts ≡ seen_tokens old ++ (seen_token t ∷ ts)
+pub seen_more : (old new : List kept_token.Token) (t : kept_token.Token) (ts : List Lexed) → new ≡ old ++ t ∷ [] → seen_tokens new ++ ts ≡ seen_tokens old ++ (seen_token t ∷ ts)
 seen_more old new t ts e =
     ap (λ (xs : List Lexed). xs ++ ts) (seen_last old new t e) ∙ append_assoc (seen_tokens old) (seen_token t ∷ []) ts
 

@@ -3,7 +3,7 @@ use Rattle.std.specs.Prelude.{◌≡◌, ℕ, ◌+◌, ◌<◌, ◌==◌, if◌t
 use Rattle.rag_io.specs.declared.token.TokenKind.{TokenKind}
 use Rattle.rag_io.specs.declared.token.TokenKind.TheVariants.{End}
 use Rattle.rag_io.specs.declared.token.Place.{Place}
-use Rattle.rag_io.specs.declared.token.Token as memory
+use Rattle.rag_io.specs.declared.token.Token as kept_token
 use Rattle.rag_io.specs.declared.token.ScanFault.{ScanFault}
 use Rattle.rag_io.specs.declared.token.ScanFault.TheVariants.{Bad, Memory}
 use Rattle.std.specs.declared.alloc.Global.{Global}
@@ -46,15 +46,15 @@ pub data IsFirstBad : Place → List ℕ → Place → Type 0 where
       → IsFirstBad (moved p front) rest q → IsFirstBad p bytes q
 
 -- a token as clauses see it
-abbrev pub seen_token : memory.Token → Lexed
+abbrev pub seen_token : kept_token.Token → Lexed
 seen_token t = record { kind = t.kind; text = t.text.now; place = record { line = t.line; column = t.column } }
 
 -- each of the tokens
-abbrev pub seen_tokens : List memory.Token → List Lexed
+abbrev pub seen_tokens : List kept_token.Token → List Lexed
 seen_tokens ts = map seen_token ts
 
 -- what scanning some bytes answers
-abbrev pub Scans : List ℕ → Result (Vec memory.Token Global) ScanFault → Type 0
+abbrev pub Scans : List ℕ → Result (Vec kept_token.Token Global) ScanFault → Type 0
 Scans bytes (Ok tokens) = IsTokens first_place bytes (seen_tokens tokens.items)
 Scans bytes (Err (Bad p)) = IsFirstBad first_place bytes p
 Scans bytes (Err Memory) = Unit {0}

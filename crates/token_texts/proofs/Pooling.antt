@@ -7,7 +7,7 @@ use Rattle.broken_rules.specs.Notes.{Notes}
 use Rattle.broken_rules.specs.declared.broken.Broken.{Broken}
 use Rattle.broken_rules.specs.declared.rule.Rule.{Rule}
 use Rattle.rag_io.specs.Tokens.{Lexed, seen_token, seen_tokens}
-use Rattle.rag_io.specs.declared.token.Token as memory
+use Rattle.rag_io.specs.declared.token.Token as kept_token
 use Rattle.token_texts.specs.Texts.{Extends, pooled_by_kind, pooled_texts, text_broken, text_code, texts_broken}
 use Rattle.token_texts.proofs.Pooled.{code_stays, extends_none, extends_then}
 
@@ -66,7 +66,7 @@ pub pools_noted : {rule : Rule} {first pool : List (List ℕ)} {noted broken : O
 pools_noted {broken = broken} all = all.notes broken notes_none
 
 -- the tokens that are left at one of them
-left_at : (tokens : List memory.Token) (i : ℕ) (d : memory.Token) → i < length tokens
+left_at : (tokens : List kept_token.Token) (i : ℕ) (d : kept_token.Token) → i < length tokens
     → drop i (seen_tokens tokens) ≡ seen_token (get_or tokens i d) ∷ drop (i + 1) (seen_tokens tokens)
 left_at tokens i d lt =
     drop-cons (seen_tokens tokens) i (seen_token d) (omega (arith, lt, length-map tokens seen_token))
@@ -74,7 +74,7 @@ left_at tokens i d lt =
 
 -- the turn of the loop at one of them
 pub pools_turn : {rule : Rule} {first pool more : List (List ℕ)} {noted broken later : Option Broken} {ts : List Lexed} {codes new : List ℕ}
-    (tokens : List memory.Token) (i : ℕ) (d : memory.Token) (code : ℕ)
+    (tokens : List kept_token.Token) (i : ℕ) (d : kept_token.Token) (code : ℕ)
     → i < length tokens → PoolsOn rule first noted ts pool broken codes (drop i (seen_tokens tokens)) → code ≡ text_code more (seen_token (get_or tokens i d))
     → more ≡ pooled_by_kind pool (seen_token (get_or tokens i d)).kind (seen_token (get_or tokens i d)).text
     → Notes (text_broken rule pool (seen_token (get_or tokens i d)).kind (seen_token (get_or tokens i d)).text (seen_token (get_or tokens i d)).place)
@@ -85,7 +85,7 @@ pools_turn tokens i d code lt so_far is pooling noting extending pushed =
 
 -- behind the last of them none is left
 pub none_left : {rule : Rule} {first pool : List (List ℕ)} {noted broken : Option Broken} {ts : List Lexed} {codes : List ℕ}
-    (tokens : List memory.Token) (i : ℕ) → length tokens ≤ i → PoolsOn rule first noted ts pool broken codes (drop i (seen_tokens tokens))
+    (tokens : List kept_token.Token) (i : ℕ) → length tokens ≤ i → PoolsOn rule first noted ts pool broken codes (drop i (seen_tokens tokens))
     → PoolsOn rule first noted ts pool broken codes []
 none_left {rule} {first} {pool} {noted} {broken} {ts} {codes} tokens i le so_far =
     subst (λ rest. PoolsOn rule first noted ts pool broken codes rest)

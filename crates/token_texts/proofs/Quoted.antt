@@ -6,7 +6,7 @@ use Rattle.std.proofs.lemmas.Option.{slice_get-get_or}
 use Rattle.rag_io.proofs.Quoted.{quoted_text}
 use Rattle.rag_io.specs.Tokens.{AreTokens, Lexed, seen_token, seen_tokens}
 use Rattle.rag_io.specs.Unquoted.{IsQuoted}
-use Rattle.rag_io.specs.declared.token.Token as memory
+use Rattle.rag_io.specs.declared.token.Token as kept_token
 use Rattle.rag_io.specs.declared.token.TokenKind.TheVariants.{Text}
 use Rattle.token_texts.specs.Texts.{AllQuoted}
 
@@ -23,11 +23,11 @@ pub quoted_front : (ts : List Lexed) → AllQuoted ts → (n : ℕ) → AllQuote
 quoted_front ts all n = All-take HasQuotes n ts all
 
 -- the same of tokens in memory
-pub quoted_front_seen : (tokens : List memory.Token) → AllQuoted (seen_tokens tokens) → (n : ℕ) → AllQuoted (seen_tokens (take n tokens))
+pub quoted_front_seen : (tokens : List kept_token.Token) → AllQuoted (seen_tokens tokens) → (n : ℕ) → AllQuoted (seen_tokens (take n tokens))
 quoted_front_seen tokens all n = subst AllQuoted (take-map seen_token n tokens) (quoted_front (seen_tokens tokens) all n)
 
 -- one of some tokens in memory
-pub quoted_at : (tokens : List memory.Token) (i : ℕ) (d : memory.Token) → AllQuoted (seen_tokens tokens) → i < length tokens → (get_or tokens i d).kind ≡ Text
+pub quoted_at : (tokens : List kept_token.Token) (i : ℕ) (d : kept_token.Token) → AllQuoted (seen_tokens tokens) → i < length tokens → (get_or tokens i d).kind ≡ Text
     → IsQuoted (get_or tokens i d).text.now
 quoted_at tokens i d all lt =
     subst HasQuotes (get_or-map seen_token tokens i d (seen_token d) lt)

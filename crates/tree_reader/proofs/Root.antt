@@ -5,7 +5,7 @@ use Rattle.broken_rules.specs.declared.rule.Rule.TheVariants.{N6}
 use Rattle.broken_rules.specs.Notes.{Notes, at, broken_if}
 use Rattle.rag_io.specs.Tokens.{Lexed, seen_token, seen_tokens}
 use Rattle.rag_io.specs.declared.token.Place.{Place}
-use Rattle.rag_io.specs.declared.token.Token as memory
+use Rattle.rag_io.specs.declared.token.Token as kept_token
 use Rattle.ast_grammar.specs.declared.grammar.ClassId.{ClassId}
 use Rattle.ast_grammar.specs.Grammar.{Class, class_named, number_of}
 use Rattle.tree_arena.specs.Terms.{first_class}
@@ -28,15 +28,15 @@ begins_with (negative sign kind behind) is g t more e = absurd is
 begins_with (truth kind word behind) is g t more e = absurd is
 
 -- the first of some tokens in memory
-first_token : (g : List Class) (tokens : List memory.Token) (name : memory.Token) (w : Written) → Some name ≡ slice_get tokens 0 → Writes (seen_tokens tokens) w
+first_token : (g : List Class) (tokens : List kept_token.Token) (name : kept_token.Token) (w : Written) → Some name ≡ slice_get tokens 0 → Writes (seen_tokens tokens) w
     → broken_first g (seen_token name) ≡ root_broken g w
 first_token g [] name w first writes = absurd (cc)
 first_token g (t ∷ more) name w first writes =
     let same : name ≡ t = cc in
-    begins_with writes.spells writes.node g (seen_token name) (seen_tokens more) (ap (λ (x : memory.Token). seen_token x ∷ seen_tokens more) (sym same))
+    begins_with writes.spells writes.node g (seen_token name) (seen_tokens more) (ap (λ (x : kept_token.Token). seen_token x ∷ seen_tokens more) (sym same))
 
 -- what was noted of it is what the root breaks
-pub root_noted : (g : List Class) (tokens : List memory.Token) (name : memory.Token) (w : Written) (class : Option ClassId) (first : ClassId) {apart : Bool} {place : Place} {old new : Option Broken}
+pub root_noted : (g : List Class) (tokens : List kept_token.Token) (name : kept_token.Token) (w : Written) (class : Option ClassId) (first : ClassId) {apart : Bool} {place : Place} {old new : Option Broken}
     → Some name ≡ slice_get tokens 0 → Writes (seen_tokens tokens) w → option_map number_of class ≡ class_named g name.text.now → first.0 ≡ 0
     → apart ≡ is_apart g (option_map number_of class) first → place ≡ (seen_token name).place → Notes (broken_if apart (at place N6)) old new → Notes (root_broken g w) old new
 root_noted g tokens name w class first {apart} {place} {old} {new} begins writes found zero is stands noted =

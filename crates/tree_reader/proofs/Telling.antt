@@ -6,7 +6,7 @@ use Rattle.std.specs.Option.{option_map}
 use Rattle.broken_rules.specs.declared.broken.Broken.{Broken}
 use Rattle.rag_io.specs.Decimal.{decimal}
 use Rattle.rag_io.specs.declared.token.Place.{Place}
-use Rattle.rag_io.specs.declared.token.Token as memory
+use Rattle.rag_io.specs.declared.token.Token as kept_token
 use Rattle.rag_io.specs.Tokens.{Lexed, seen_token, seen_tokens}
 use Rattle.ast_grammar.specs.declared.grammar.ClassId.{ClassId}
 use Rattle.ast_grammar.specs.Grammar.{Class, class_named, number_of}
@@ -69,7 +69,7 @@ int_is None digits p s = refl
 int_is (Some q) digits p s = refl
 
 -- the next of some tokens is taken
-module _ (tokens : List memory.Token) (i : ℕ) (d : memory.Token) where
+module _ (tokens : List kept_token.Token) (i : ℕ) (d : kept_token.Token) where
   pub next_taken : (g : List Class) (pool : List (List ℕ)) (texts : List ℕ) (code : ℕ) (opening : Bool) (s new : State) → i < length tokens
       → opening ≡ opens (seen_tokens (drop (i + 1) tokens)) → code ≡ get_or texts i 0 → texts ≡ map (text_code pool) (seen_tokens tokens)
       → new ≡ taken g (get_or tokens i d).kind (get_or tokens i d).text.now (seen_token (get_or tokens i d)).place opening code s
@@ -84,7 +84,7 @@ module _ (tokens : List memory.Token) (i : ℕ) (d : memory.Token) where
       let rest = seen_tokens (drop (i + 1) tokens) in
       let by = taken g t.kind t.text.now (seen_token t).place in
       ap (run g pool rest) (h ∙ ap (λ (o : Bool). by o code s) eo ∙ ap (λ (n : ℕ). by (opens rest) n s) coded)
-      ∙ sym (ap (λ (us : List memory.Token). run g pool (seen_tokens us) s) (drop_more tokens i d within))
+      ∙ sym (ap (λ (us : List kept_token.Token). run g pool (seen_tokens us) s) (drop_more tokens i d within))
 
 -- a whole tree
 in_brackets : (g : List Class) (pool : List (List ℕ)) (w : Written) → IsNode w → grown g pool true 0 w ≡ tree_written g pool w

@@ -4,17 +4,17 @@ use Rattle.std.proofs.lemmas.List.{drop_more}
 use Rattle.std.proofs.Math.Dec.{eqb-suc-suc, eqb-suc-zero, eqb-zero-suc, leb-suc-suc, leb-suc-zero, leb-zero}
 use Rattle.std.specs.Option.{option_map}
 use Rattle.ast_grammar.specs.Grammar.{Class, Component, components_of, nameless}
-use Rattle.ast_grammar.specs.declared.grammar.Component as memory
+use Rattle.ast_grammar.specs.declared.grammar.Component as kept_component
 use Rattle.tree_syntax.specs.Written.{Written, Nothing, Node, Brackets, Valued}
 use Rattle.tree_reader.specs.Breaking.{count, miscounts}
 use Rattle.tree_reader.specs.Steps.{is_done, is_uneven}
 use Rattle.tree_reader.specs.Wants.{Wants, Components, Unknown, At, arguments_of, next_of, wanted_by}
 
 -- what is wanted at a component of a class
-pub wanted_dropped : (xs : List Component) (k : ℕ) (x : memory.Component) → option_map nameless (slice_get xs k) ≡ Some x
+pub wanted_dropped : (xs : List Component) (k : ℕ) (x : kept_component.Component) → option_map nameless (slice_get xs k) ≡ Some x
     → At x.shape x.class ≡ wanted_by (Components (drop k xs))
 wanted_dropped [] k x h = let none : None ≡ Some x = h in cc
-wanted_dropped (y ∷ xs) zero x h = let same : Some (nameless y) ≡ Some x = h in let is : nameless y ≡ x = cc in ap (λ (m : memory.Component). At m.shape m.class) (sym is)
+wanted_dropped (y ∷ xs) zero x h = let same : Some (nameless y) ≡ Some x = h in let is : nameless y ≡ x = cc in ap (λ (m : kept_component.Component). At m.shape m.class) (sym is)
 wanted_dropped (y ∷ xs) (suc k) x h = wanted_dropped xs k x h
 
 -- and behind it

@@ -7,7 +7,7 @@ use Rattle.broken_rules.specs.declared.rule.Rule.TheVariants.{N1}
 use Rattle.ll_parser.specs.Grammar.{IsSentence, IsFault}
 use Rattle.ll_parser.specs.Sentences.{FirstFault}
 use Rattle.ll_parser.proofs.Sentences.{fault_there, sentence_there}
-use Rattle.rag_io.specs.declared.token.Token as memory
+use Rattle.rag_io.specs.declared.token.Token as kept_token
 use Rattle.rag_io.specs.Tokens.{Lexed, seen_token, seen_tokens}
 use Rattle.tree_syntax.proofs.Spelled.{written_of}
 use Rattle.tree_syntax.proofs.TreeSentences.{printed_sentences}
@@ -28,7 +28,7 @@ is_text reading =
     record { sentence = sentence; written = written.0; writes = written.1 }
 
 -- the token of a fault is one of the tokens, and N1 is broken at its place
-pub is_fault : (ts : List memory.Token) (i : ℕ) (d : memory.Token) → FirstFault tree_printed_grammar 0 (map token_class (seen_tokens ts)) i
+pub is_fault : (ts : List kept_token.Token) (i : ℕ) (d : kept_token.Token) → FirstFault tree_printed_grammar 0 (map token_class (seen_tokens ts)) i
     → IsSyntaxFault (seen_tokens ts) (record { place = record { line = (get_or ts i d).line; column = (get_or ts i d).column }; rule = N1 })
 is_fault ts i d fault =
     let within : i < length ts = let inside = fault.inside in omega (arith, length-map (seen_tokens ts) token_class, length-map ts seen_token) in

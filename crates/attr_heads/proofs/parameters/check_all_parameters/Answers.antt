@@ -1,12 +1,12 @@
 use Rattle.std.proofs.Common.{ap, map, option_map}
 use Rattle.std.proofs.lemmas.Result.{on_ok_weaker}
 use Rattle.std.specs.Borrow.{Bor}
-use Rattle.aspect_items.specs.declared.items.Signature as memory
+use Rattle.aspect_items.specs.declared.items.Signature as kept_signature
 use Rattle.aspect_items.specs.Items.{Signature, seen_parameter, seen_signature}
 use Rattle.attr_heads.proofs.ParametersNoted.{all_noted}
 use Rattle.attr_heads.proofs.parameters.check_all_parameters.Goals as goal
 
-abbrev seen : Bor memory.Signature → Signature
+abbrev seen : Bor kept_signature.Signature → Signature
 seen s = seen_signature s.now
 
 pub returns : goal.returns

@@ -3,7 +3,7 @@ use Rattle.std.specs.Borrow.{Bor}
 use Rattle.ast_grammar.specs.Grammar.{number_of}
 use Rattle.attr_rules.specs.Rules.{number_of_attribute}
 use Rattle.broken_rules.specs.Notes.{Notes}
-use Rattle.aspect_items.specs.declared.items.Signature as memory
+use Rattle.aspect_items.specs.declared.items.Signature as kept_signature
 use Rattle.aspect_items.specs.Items.{Signature, seen_signature}
 use Rattle.attr_scope.specs.Seen.{seen_given}
 use Rattle.attr_heads.specs.Targets.{attribute_for, lacking_broken}
@@ -11,7 +11,7 @@ use Rattle.attr_heads.proofs.TargetsNoted.{lacking_inherited, lacking_own, unkno
 use Rattle.attr_heads.proofs.targets.check_target.Goals as goal
 use Rattle.attr_heads.proofs.targets.check_target.Goals.{in-None, in-Some}
 
-abbrev seen : Bor memory.Signature → Signature
+abbrev seen : Bor kept_signature.Signature → Signature
 seen s = seen_signature s.now
 
 pub returns-clause-noted : goal.returns-clause-noted
