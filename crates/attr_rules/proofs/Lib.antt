@@ -3,7 +3,6 @@ pub mod CoveringSteps
 pub mod Dispatched
 pub mod FirstPlaces
 pub mod KeptPaths
-pub mod KeptRules
 pub mod LeftOut
 pub mod NamedAttributes
 pub mod NearestRows

@@ -18,8 +18,7 @@ use Rattle.ast_grammar.proofs.Positions.{position-map, position_agree, position_
 use Rattle.attr_rules.specs.declared.attributes.KeptAttr.{KeptAttr}
 use Rattle.attr_rules.specs.declared.attributes.NamedAttr.{NamedAttr}
 use Rattle.attr_rules.specs.declared.kinds.AttrId.{AttrId}
-use Rattle.attr_rules.specs.KeptAttributes.{AreKept, Extends, attribute_in, attributes_in, text_at, text_or_empty}
-use Rattle.attr_rules.specs.KeptEquations.{seen_attribute}
+use Rattle.attr_rules.specs.KeptAttributes.{AreKept, Extends, attribute_in, attributes_in, seen_attribute, text_at, text_or_empty}
 use Rattle.attr_rules.specs.RowsKept.{at_place, at_row}
 use Rattle.attr_rules.specs.Rules.{Attribute, AttributeSet, attribute_named, first_inherited, first_of_name, is_inherited, number_of_attribute}
 
@@ -33,7 +32,7 @@ same_attributes : (first rest : List (List ℕ)) (kept : List KeptAttr) → All 
 same_attributes first rest [] within = refl
 same_attributes first rest (a ∷ kept) within =
     let here : text_at (first ++ rest) a.name ≡ text_at first a.name = ap text_or_empty (slice_get_front first rest a.name (All-head (λ (b : KeptAttr). b.name < length first) a kept within)) in
-    (λ i. record { name = here i; declared = a.declared } ∷ same_attributes first rest kept (All-tail (λ (b : KeptAttr). b.name < length first) a kept within) i)
+    (λ i. record { name = here i; declared = a.declared; collecting = a.collecting } ∷ same_attributes first rest kept (All-tail (λ (b : KeptAttr). b.name < length first) a kept within) i)
 
 -- the attributes so far
 pub record SoFar (names : List (List ℕ)) (kept : List KeptAttr) (list : List NamedAttr) (i most : ℕ) : Type 0 where
@@ -43,11 +42,11 @@ pub record SoFar (names : List (List ℕ)) (kept : List KeptAttr) (list : List N
 
 -- one more
 pub so_far_more : (names all : List (List ℕ)) (list : List NamedAttr) (i most : ℕ) (d : NamedAttr) (a : KeptAttr) {kept later : List KeptAttr} → i < length list → Extends names all → length all ≤ suc (length names)
-    → slice_get all a.name ≡ Some (get_or list i d).name.now → a.declared ≡ (get_or list i d).declared → later ≡ kept ++ a ∷ [] → SoFar names kept list i most → SoFar all later list (i + 1) most
-so_far_more names all list i most d a {kept} {later} within extends one text declared pushed before =
+    → slice_get all a.name ≡ Some (get_or list i d).name.now → a.declared ≡ (get_or list i d).declared → a.collecting ≡ (get_or list i d).collecting → later ≡ kept ++ a ∷ [] → SoFar names kept list i most → SoFar all later list (i + 1) most
+so_far_more names all list i most d a {kept} {later} within extends one text declared collecting pushed before =
     let old : attributes_in all kept ≡ attributes_in names kept = ap (λ ts. attributes_in ts kept) extends.are ∙ same_attributes names extends.rest kept before.within in
     let long : length all ≡ length names + length extends.rest = ap length extends.are ∙ length-append names extends.rest in
-    let new : attribute_in all a ≡ seen_attribute (get_or list i d) = (λ j. record { name = text_or_empty (text j); declared = declared j }) in
+    let new : attribute_in all a ≡ seen_attribute (get_or list i d) = (λ j. record { name = text_or_empty (text j); declared = declared j; collecting = collecting j }) in
     record {
       attributes =
           ap (attributes_in all) pushed ∙ map_push (attribute_in all) kept a ∙ ap (λ xs. xs ++ attribute_in all a ∷ []) (old ∙ before.attributes) ∙ ap (λ x. map seen_attribute (take i list) ++ x ∷ []) new

@@ -5,9 +5,13 @@ use Rattle.std.specs.declared.alloc.Global.{Global}
 use Rattle.rag_io.specs.Pool.{ArePooled}
 use Rattle.superclasses.specs.Superclasses.{is_sub}
 use Rattle.attr_rules.specs.declared.attributes.KeptAttr.{KeptAttr}
+use Rattle.attr_rules.specs.declared.attributes.NamedAttr.{NamedAttr}
 use Rattle.attr_rules.specs.declared.kinds.AttrId.{AttrId}
 use Rattle.attr_rules.specs.RowsKept.{at_place, at_row}
 use Rattle.attr_rules.specs.Rules.{Attribute, is_inherited, most_attributes, number_of_attribute}
+
+abbrev pub seen_attribute : NamedAttr → Attribute
+seen_attribute a = record { name = a.name.now; declared = a.declared; collecting = a.collecting }
 
 -- the text of a number
 abbrev pub text_or_empty : Option (List ℕ) → List ℕ
@@ -18,7 +22,7 @@ abbrev pub text_at : List (List ℕ) → ℕ → List ℕ
 text_at texts n = text_or_empty (slice_get texts n)
 
 abbrev pub attribute_in : List (List ℕ) → KeptAttr → Attribute
-attribute_in names a = record { name = text_at names a.name; declared = a.declared }
+attribute_in names a = record { name = text_at names a.name; declared = a.declared; collecting = a.collecting }
 
 abbrev pub attributes_in : List (List ℕ) → List KeptAttr → List Attribute
 attributes_in names kept = map (attribute_in names) kept

@@ -2,9 +2,7 @@ pub mod AccessorSteps
 pub mod Accessors
 pub mod Dispatching
 pub mod Expression
-pub mod Kept
 pub mod KeptAttributes
-pub mod KeptEquations
 pub mod Queries
 pub mod Rising
 pub mod RowsKept

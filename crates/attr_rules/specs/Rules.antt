@@ -1,5 +1,6 @@
 -- The rules of a grammar: which attributes are declared, and which equation gives which attribute its value.
 use Rattle.std.specs.Prelude.{◌≡◌, ℕ, ◌<◌, ◌≤◌, List, [], ◌∷◌, ◌++◌, Bool, true, false, ◌&&◌, ◌==◌, Option, Some, None, IsSome, All, map, length, position, slice_get}
+use Rattle.std.specs.List.{flat_map}
 use Rattle.std.specs.Option.{option_and_then, option_map, option_or}
 use Rattle.std.specs.Str.{bytes_eq}
 use Rattle.ast_grammar.specs.declared.grammar.ClassId.{ClassId}
@@ -11,10 +12,13 @@ use Rattle.attr_rules.specs.declared.dispatch.Reach.{Reach}
 use Rattle.attr_rules.specs.declared.dispatch.Reach.TheVariants.{Own, Component as AtComponent, Children}
 use Rattle.attr_rules.specs.declared.dispatch.Target.{Target}
 use Rattle.attr_rules.specs.declared.kinds.AttrId.{AttrId}
+use Rattle.attr_rules.specs.declared.kinds.Collecting.{Collecting}
 use Rattle.attr_rules.specs.declared.kinds.EqId.{EqId}
 use Rattle.attr_rules.specs.declared.kinds.Kind.{Kind}
 use Rattle.attr_rules.specs.declared.kinds.Kind.TheVariants as kinds
 use Rattle.attr_rules.specs.declared.kinds.Attr.{Attr}
+use Rattle.attr_rules.specs.declared.kinds.Method.{Method}
+use Rattle.attr_rules.specs.declared.kinds.Method.TheVariants as methods
 use Rattle.attr_rules.specs.declared.kinds.Params.{Params}
 use Rattle.attr_rules.specs.declared.kinds.Sort.{Sort}
 use Rattle.attr_rules.specs.declared.kinds.Sort.TheVariants.{Syn, Inh, Nta, Coll}
@@ -28,10 +32,11 @@ use Rattle.attr_rules.specs.WellMade.{IsWellMade}
 use Rattle.attr_rules.specs.Types.{element_class, fits, kind_class, parameter_kinds}
 use Rattle.attr_rules.specs.Typing.{HasType, Names}
 
--- an attribute: its name, and what is declared of it
+-- an attribute: its name, what is declared of it, and how it collects, where it is a collection
 pub record Attribute : Type 0 where
   pub name : List ℕ
   pub declared : Attr
+  pub collecting : Option Collecting
 
 -- the attributes by number, among classes of which the superclasses count
 pub record AttributeSet : Type 0 where
@@ -43,11 +48,21 @@ pub record Equation : Type 0 where
   pub target : Target
   pub body : Expression
 
--- the rules of a grammar, of which the superclasses count
+-- a contribution: the class at whose nodes it is read, the collection that it is for, its condition, which is `true` where none is written, the
+-- receiver, at which it counts, and the value that is contributed
+pub record Contribution : Type 0 where
+  pub class : ClassId
+  pub target : AttrId
+  pub condition : Expression
+  pub receiver : Expression
+  pub value : Expression
+
+-- the rules of a grammar, of which the superclasses count; contributions stand in the order of the file
 pub record RuleSet : Type 0 where
   pub superclasses : List (Option ℕ)
   pub attributes : List Attribute
   pub equations : List Equation
+  pub contributions : List Contribution
 
 abbrev pub no_params : Params
 no_params = record { count = 0; first = kinds.Truth; second = kinds.Truth; third = kinds.Truth }
@@ -112,6 +127,19 @@ is_inherited Inh = true
 is_inherited Nta = false
 is_inherited Coll = false
 
+-- equations without a path give values to synthesized and to higher-order attributes
+abbrev pub has_own_equations : Sort → Bool
+has_own_equations Syn = true
+has_own_equations Inh = false
+has_own_equations Nta = true
+has_own_equations Coll = false
+
+abbrev pub is_collection : Sort → Bool
+is_collection Syn = false
+is_collection Inh = false
+is_collection Nta = false
+is_collection Coll = true
+
 -- the first inherited attribute of a name
 abbrev pub first_inherited : List Attribute → List ℕ → Option ℕ
 first_inherited attributes name = position (λ a. is_inherited a.declared.sort && bytes_eq a.name name) attributes
@@ -143,9 +171,37 @@ attribute_at rules a = declared_at rules.attributes a
 abbrev pub expression_in : Equation → Expression
 expression_in e = e.body
 
--- the right side of the equation of this number
+-- the expressions of a contribution in the order in which they are evaluated
+abbrev pub expressions_in : Contribution → List Expression
+expressions_in c = c.condition ∷ c.receiver ∷ c.value ∷ []
+
+-- the right sides of the equations, and behind them the expressions of the contributions
+abbrev pub bodies : RuleSet → List Expression
+bodies rules = map expression_in rules.equations ++ flat_map expressions_in rules.contributions
+
+-- the expression of this number
 abbrev pub body_at : RuleSet → ℕ → Option Expression
-body_at rules e = option_map expression_in (slice_get rules.equations e)
+body_at rules e = slice_get (bodies rules) e
+
+-- how the attribute of this number collects, where it is a collection
+abbrev pub collecting_in : Attribute → Option Collecting
+collecting_in a = a.collecting
+
+abbrev pub collecting_at : List Attribute → ℕ → Option Collecting
+collecting_at attributes a = option_and_then collecting_in (slice_get attributes a)
+
+abbrev pub method_in : Collecting → Method
+method_in c = c.method
+
+abbrev pub root_in : Collecting → Option ClassId
+root_in c = c.root
+
+-- the method of a collection, and its root class, where one is written
+abbrev pub method_at : RuleSet → ℕ → Option Method
+method_at rules a = option_map method_in (collecting_at rules.attributes a)
+
+abbrev pub root_at : RuleSet → ℕ → Option ClassId
+root_at rules a = option_and_then root_in (collecting_at rules.attributes a)
 
 abbrev pub number_of_attribute : AttrId → ℕ
 number_of_attribute a = a.0
@@ -199,6 +255,45 @@ declares_circular (Some d) = d.circular
 abbrev pub circular_at : List Attribute → ℕ → Bool
 circular_at attributes a = declares_circular (declared_at attributes a)
 
+-- the types of which a method combines values
+pub data Combines : Method → Kind → Type 0 where
+  texts_by_one : Combines methods.Add kinds.Texts
+  nodes_by_one : (c : ClassId) → Combines methods.Add (kinds.Nodes c)
+  all_texts : Combines methods.AddAll kinds.Texts
+  all_nodes : (c : ClassId) → Combines methods.AddAll (kinds.Nodes c)
+  sums : Combines methods.Sum kinds.Int
+  ors : Combines methods.Or kinds.Truth
+  ands : Combines methods.And kinds.Truth
+
+-- the type of the elements of a set; what is no set counts as its own element
+abbrev pub element_or_same : Kind → Kind
+element_or_same kinds.Truth = kinds.Truth
+element_or_same kinds.Int = kinds.Int
+element_or_same kinds.Text = kinds.Text
+element_or_same (kinds.Node c) = kinds.Node c
+element_or_same kinds.Texts = kinds.Text
+element_or_same (kinds.Nodes c) = kinds.Node c
+
+-- the type that a value has to fit which is contributed to a collection of this type: `add` adds one element
+abbrev pub contributed : Method → Kind → Kind
+contributed methods.Add k = element_or_same k
+contributed methods.AddAll k = k
+contributed methods.Sum k = k
+contributed methods.Or k = k
+contributed methods.And k = k
+
+-- A collection collects by a method that combines values of its type, and its root class is one of the grammar. It has no parameters.
+pub record IsCollection (g : List Class) (d : Attr) (c : Collecting) : Type 0 where
+  pub collection : is_collection d.sort ≡ true
+  pub combines : Combines c.method d.kind
+  pub known : (r : ClassId) → c.root ≡ Some r → r.0 < length g
+  pub params : d.params ≡ no_params
+
+-- collections collect, and no other attributes do
+abbrev pub Collects : List Class → Attr → Option Collecting → Type 0
+Collects g d None = is_collection d.sort ≡ false
+Collects g d (Some c) = IsCollection g d c
+
 -- An attribute of a class of the grammar, whose type speaks of classes of the grammar. A circular one is of a type that has a value at which its
 -- rounds start.
 pub record IsAttribute (g : List Class) (x : Attribute) : Type 0 where
@@ -209,11 +304,12 @@ pub record IsAttribute (g : List Class) (x : Attribute) : Type 0 where
   pub parameters : All (IsParameter g) (parameter_kinds x.declared.params)
   pub circular : x.declared.circular ≡ true → (may_be_circular x.declared.sort ≡ true) × IsStart x.declared.kind x.declared.start
   pub plain : x.declared.circular ≡ false → x.declared.start ≡ Plain
+  pub collects : Collects g x.declared x.collecting
 
--- An equation without a path gives a value to an attribute that its class has and that isn't inherited, one with a path to inherited ones of
+-- An equation without a path gives a value to a synthesized or higher-order attribute that its class has, one with a path to inherited ones of
 -- any class.
 abbrev pub GivesValue : List Class → ClassId → Reach → Attr → Type 0
-GivesValue g c Own d = (is_sub g c.0 d.class.0 ≡ true) × (is_inherited d.sort ≡ false)
+GivesValue g c Own d = (is_sub g c.0 d.class.0 ≡ true) × (has_own_equations d.sort ≡ true)
 GivesValue g c (AtComponent k) d = is_inherited d.sort ≡ true
 GivesValue g c Children d = is_inherited d.sort ≡ true
 
@@ -226,6 +322,28 @@ pub record IsEquation (g : List Class) (attributes : List Attribute) (e : Equati
   pub type : ValueType
   pub typed : HasType (names_for g attributes e.target.class e.target.reach attribute.params) e.body type
   pub fit : fits g type attribute.kind ≡ true
+
+-- what a contribution of a class may name: the node at which it is read, and no variable
+abbrev pub contribution_names : List Class → List Attribute → ClassId → Names
+contribution_names g attributes c = record { grammar = g; attribute = declared_at attributes; node = λ k. None; this = Some c; variables = [] }
+
+-- an expression that is well typed and fits a type
+pub record IsOf (N : Names) (wanted : Kind) (e : Expression) : Type 0 where
+  pub type : ValueType
+  pub typed : HasType N e type
+  pub fit : fits N.grammar type wanted ≡ true
+
+-- A contribution of a class of the grammar to a collection: its condition is a truth value, its receiver fits the class of the collection, and its
+-- value what is contributed.
+pub record IsContribution (g : List Class) (attributes : List Attribute) (c : Contribution) : Type 0 where
+  pub within : c.class.0 < length g
+  pub attribute : Attr
+  pub declared : declared_at attributes c.target.0 ≡ Some attribute
+  pub collecting : Collecting
+  pub collects : collecting_at attributes c.target.0 ≡ Some collecting
+  pub condition : IsOf (contribution_names g attributes c.class) kinds.Truth c.condition
+  pub receiver : IsOf (contribution_names g attributes c.class) (kinds.Node attribute.class) c.receiver
+  pub value : IsOf (contribution_names g attributes c.class) (contributed collecting.method attribute.kind) c.value
 
 -- a class of which there are nodes
 abbrev pub IsConcrete : List Class → ℕ → Type 0
@@ -248,17 +366,18 @@ pub data Uncovered (g : List Class) (r : RuleSet) (a : ℕ) : ℕ → Type 0 whe
       → IsConcrete g c → is_sub g c x.class.0 ≡ true → Uncovered g r a c
 
 -- Rules of a grammar that break nothing: each equation is well typed and the only one of its class for its attribute and its reach, each concrete
--- class has an equation for each of its attributes that aren't inherited, the inherited ones of one name are of one type and circular or not alike,
--- and none of them can be met uncovered. A name means one thing at a class: one attribute, or accessors.
+-- class has an equation for each of its synthesized and higher-order attributes, the inherited ones of one name are of one type and circular or not
+-- alike, and none of them can be met uncovered. Each contribution is well typed. A name means one thing at a class: one attribute, or accessors.
 pub record AreRules (g : List Class) (r : RuleSet) : Type 0 where
   pub superclasses : r.superclasses ≡ superclasses_of g
   pub few : length r.attributes ≤ most_attributes
   pub attributes : All (IsAttribute g) r.attributes
   pub equations : All (IsEquation g r.attributes) r.equations
+  pub contributions : All (IsContribution g r.attributes) r.contributions
   pub one_equation : (i j : ℕ) (e f : Equation) → slice_get r.equations i ≡ Some e → slice_get r.equations j ≡ Some f → e.target ≡ f.target → i ≡ j
   pub one_attribute : (a b : ℕ) (x y : Attribute) → slice_get r.attributes a ≡ Some x → slice_get r.attributes b ≡ Some y → x.name ≡ y.name → is_sub g x.declared.class.0 y.declared.class.0 ≡ true → a ≡ b
   pub no_accessor : (a c : ℕ) (x : Attribute) → slice_get r.attributes a ≡ Some x → c < length g → is_sub g c x.declared.class.0 ≡ true → is_spelled g c x.name ≡ false
-  pub complete : (c : ClassId) (a : ℕ) (d : Attr) → IsConcrete g c.0 → attribute_at r a ≡ Some d → is_inherited d.sort ≡ false → is_sub g c.0 d.class.0 ≡ true → IsSome (equation_number r c a)
+  pub complete : (c : ClassId) (a : ℕ) (d : Attr) → IsConcrete g c.0 → attribute_at r a ≡ Some d → has_own_equations d.sort ≡ true → is_sub g c.0 d.class.0 ≡ true → IsSome (equation_number r c a)
   pub alike : (a b : ℕ) (d e : Attr) → attribute_at r a ≡ Some d → is_inherited d.sort ≡ true → first_of_name r.attributes a ≡ Some b → attribute_at r b ≡ Some e → (d.kind ≡ e.kind) × (d.params ≡ e.params) × (d.circular ≡ e.circular)
   pub covered : (c : ClassId) (a : ℕ) (d : Attr) → attribute_at r a ≡ Some d → is_inherited d.sort ≡ true → IsConcrete g c.0 → is_sub g c.0 d.class.0 ≡ true → Uncovered g r a c.0 → ⊥
 
@@ -282,3 +401,14 @@ MadeWell attributes e = IsWellMade (counting_calls attributes e.target.attribute
 -- all equations do
 abbrev pub EquationsMadeWell : RuleSet → Type 0
 EquationsMadeWell r = All (MadeWell r.attributes) r.equations
+
+-- no call counts
+abbrev pub no_calls : ℕ → Bool
+no_calls a = false
+
+-- So do the expressions of a contribution, in which no `||` always evaluates both sides.
+abbrev pub ContributionMadeWell : Contribution → Type 0
+ContributionMadeWell c = All (IsWellMade no_calls) (expressions_in c)
+
+abbrev pub ContributionsMadeWell : RuleSet → Type 0
+ContributionsMadeWell r = All ContributionMadeWell r.contributions

@@ -1,13 +1,12 @@
 // The attributes of a grammar, by their numbers and by their names.
 ghost use Rattle.std.specs.Prelude.{◌≡◌, ◌↔◌, ◌+◌, ◌<◌, ◌≤◌, ◌++◌, ◌∷◌, [], suc, Some, IfOk, IfSome, IsTrue, OnOk, length, map, slice_get};
 ghost use Rattle.std.specs.Option.{option_map};
-ghost use Rattle.attr_rules.specs.KeptEquations.{seen_attribute};
+ghost use Rattle.attr_rules.specs.KeptAttributes.{AreFirstInherited, AreNumbered, AreRows, Extends, IsRow, attributes_in, seen_attribute};
 ghost use Rattle.rag_io.specs.Pool.{most_texts};
 ghost use Rattle.ast_grammar.specs.Grammar.{superclasses_of};
-ghost use Rattle.attr_rules.specs.KeptAttributes.{AreFirstInherited, AreNumbered, AreRows, Extends, IsRow, attributes_in};
-ghost use Rattle.attr_rules.specs.Rules.{attribute_named, circular_at, declared_at, first_inherited, first_of_name, most_attributes, number_of_attribute};
+ghost use Rattle.attr_rules.specs.Rules.{attribute_named, circular_at, collecting_at, declared_at, first_inherited, first_of_name, most_attributes, number_of_attribute};
 
-use crate::kinds::{Attr, AttrId};
+use crate::kinds::{Attr, AttrId, Collecting};
 use crate::rows::{at_place, at_row, put_first};
 use ast_grammar::{ClassId, Grammar};
 use rag_io::{Memory, Pool, PoolFault};
@@ -15,11 +14,12 @@ use std::alloc::Global;
 use std::marker::Model;
 use superclasses::Subclasses;
 
-/// An attribute: its name, and what is declared of it.
+/// An attribute: its name, what is declared of it, and how it collects, where it is a collection.
 #[derive(Clone, Copy, Debug)]
 pub struct NamedAttr<'a> {
     pub name: &'a [u8],
     pub declared: Attr,
+    pub collecting: Option<Collecting>,
 }
 
 // The same with the number of its name.
@@ -27,6 +27,7 @@ pub struct NamedAttr<'a> {
 pub(crate) struct KeptAttr {
     pub name: u32,
     pub declared: Attr,
+    pub collecting: Option<Collecting>,
 }
 
 /// The attributes of a grammar in the order of their declarations, at most 1,024. They are found by number and by name in constant time:
@@ -84,8 +85,19 @@ fn numbered(
     let mut kept = Vec::new(alloc);
     for attribute in list {
         let name = number_name(names, attribute.name)?;
-        let declared = attribute.declared;
-        push(&mut kept, KeptAttr { name, declared })?;
+        let NamedAttr {
+            declared,
+            collecting,
+            ..
+        } = *attribute;
+        push(
+            &mut kept,
+            KeptAttr {
+                name,
+                declared,
+                collecting,
+            },
+        )?;
     }
     let _texts = names.len();
     Ok(kept)
@@ -194,6 +206,14 @@ impl Attributes {
         ensures { declared_at self.now.attributes a.0 ≡ Some result.now }
     {
         &self.kept[a.0 as usize].declared
+    }
+
+    /// How an attribute collects, or None where it is no collection.
+    pub fn collecting(&self, a: AttrId) -> Option<Collecting>
+        requires { a.0 < length self.now.attributes }
+        ensures { result ≡ collecting_at self.now.attributes a.0 }
+    {
+        self.kept[a.0 as usize].collecting
     }
 
     /// Whether the attribute of this number is declared circular; where there is none, it isn't.

@@ -31,6 +31,25 @@ pub enum Sort {
     Coll,
 }
 
+/// How what is contributed to a collection is combined: the elements of a set one by one (`add`) or sets of them (`addAll`), integers by
+/// their sum, which wraps, and truth values by `or` and `and`.
+#[derive(Clone, Copy, Debug, PartialEq, Eq)]
+pub enum Method {
+    Add,
+    AddAll,
+    Sum,
+    Or,
+    And,
+}
+
+/// How a collection collects: by which method, and its root class. Contributors are looked for below the closest node of that class, from the
+/// collection's own node upwards, and without one in the whole tree.
+#[derive(Clone, Copy, Debug, PartialEq, Eq)]
+pub struct Collecting {
+    pub method: Method,
+    pub root: Option<ClassId>,
+}
+
 /// Where the rounds of a circular attribute start; `Plain` for an attribute that isn't circular.
 #[derive(Clone, Copy, Debug, PartialEq, Eq)]
 pub enum Start {
@@ -91,7 +110,7 @@ impl Params {
 }
 
 impl Sort {
-    ghost use Rattle.attr_rules.specs.Rules.{is_inherited};
+    ghost use Rattle.attr_rules.specs.Rules.{has_own_equations, is_inherited};
 
     /// Whether it is inherited.
     pub fn is_inherited(self) -> bool
@@ -100,6 +119,45 @@ impl Sort {
         match self {
             Sort::Inh => true,
             Sort::Syn | Sort::Nta | Sort::Coll => false,
+        }
+    }
+
+    /// Whether equations without a path give it its values, as those of synthesized and higher-order attributes do.
+    pub fn has_own_equations(self) -> bool
+        ensures { result ≡ has_own_equations self }
+    {
+        match self {
+            Sort::Syn | Sort::Nta => true,
+            Sort::Inh | Sort::Coll => false,
+        }
+    }
+}
+
+impl Kind {
+    ghost use Rattle.attr_rules.specs.Rules.{element_or_same};
+
+    // The type of the elements of a set. What is no set counts as its own element.
+    fn element_or_same(self) -> Kind
+        ensures { result ≡ element_or_same self }
+    {
+        match self {
+            Kind::Texts => Kind::Text,
+            Kind::Nodes(class) => Kind::Node(class),
+            Kind::Truth | Kind::Int | Kind::Text | Kind::Node(_) => self,
+        }
+    }
+}
+
+impl Method {
+    ghost use Rattle.attr_rules.specs.Rules.{contributed};
+
+    /// The type that a value has to fit which is contributed to a collection of this type.
+    pub fn contributed(self, kind: Kind) -> Kind
+        ensures { result ≡ contributed self kind }
+    {
+        match self {
+            Method::Add => kind.element_or_same(),
+            Method::AddAll | Method::Sum | Method::Or | Method::And => kind,
         }
     }
 }

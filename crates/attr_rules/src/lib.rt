@@ -1,4 +1,4 @@
-//! Attributes: their declarations, typed expressions with the rules of their types, and the equations that hold at nodes of each class.
+//! Attributes: their declarations, typed expressions with the rules of their types, and which equation holds at nodes of each class.
 #![tactic(auto)]
 
 mod accessors;
@@ -10,14 +10,12 @@ mod kinds;
 mod paths;
 mod queries;
 mod rows;
-mod rules;
 mod types;
 
 pub use accessors::{Access, Accessor, accessor_of, is_spelled};
 pub use attributes::{Attributes, NamedAttr};
 pub use dispatch::{Dispatch, Reach, Target};
 pub use expression::{Operator, Quantifier, SetOperator, TArgs, TExpr};
-pub use kinds::{Attr, AttrId, EqId, Kind, Params, Sort, Start};
+pub use kinds::{Attr, AttrId, Collecting, EqId, Kind, Method, Params, Sort, Start};
 pub use queries::QueryEq;
-pub use rules::{KeptEquation, Rules};
 pub use types::{ValueType, common, comparable, fits, may_be_element};

@@ -2,8 +2,7 @@ use Rattle.std.proofs.Common.{◌≡◌, List, length, ap, sym, subst, ◌∙◌
 use Rattle.std.proofs.lemmas.List.{length-map}
 use Rattle.ast_grammar.proofs.Inherited.{length-superclasses_of}
 use Rattle.attr_rules.specs.declared.attributes.KeptAttr.{KeptAttr}
-use Rattle.attr_rules.specs.KeptAttributes.{AreFirstInherited, AreRows, attribute_in}
-use Rattle.attr_rules.specs.KeptEquations.{seen_attribute}
+use Rattle.attr_rules.specs.KeptAttributes.{AreFirstInherited, AreRows, attribute_in, seen_attribute}
 use Rattle.attr_rules.proofs.attributes.Attributes.of_list.Goals as goal
 
 pub invariant_of-result : goal.invariant_of-result

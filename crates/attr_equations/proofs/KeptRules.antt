@@ -10,9 +10,9 @@ use Rattle.attr_rules.specs.declared.dispatch.Reach.TheVariants.{Own, Component 
 use Rattle.attr_rules.specs.declared.dispatch.Target.{Target}
 use Rattle.attr_rules.specs.declared.kinds.AttrId.{AttrId}
 use Rattle.attr_rules.specs.declared.kinds.EqId.{EqId}
-use Rattle.attr_rules.specs.declared.rules.KeptEquation.{KeptEquation}
+use Rattle.attr_equations.specs.declared.rules.KeptEquation.{KeptEquation}
 use Rattle.attr_rules.specs.Dispatching.{Dispatches}
-use Rattle.attr_rules.specs.KeptEquations.{equation_in, kept_target}
+use Rattle.attr_equations.specs.KeptEquations.{equation_in, kept_target}
 use Rattle.attr_rules.specs.RowsKept.{at_row}
 use Rattle.attr_rules.specs.Rules.{covering_equation, equation_at, first_of_line, is_target, nearest_equation, number_of_attribute, number_of_equation, own_covering, own_equation, target_in}
 

@@ -1,5 +1,5 @@
-use Rattle.attr_rules.proofs.KeptRules.{covering_found, covering_within}
-use Rattle.attr_rules.proofs.rules.Rules.inh_equation.Goals as goal
+use Rattle.attr_equations.proofs.KeptRules.{covering_found, covering_within}
+use Rattle.attr_equations.proofs.rules.Rules.inh_equation.Goals as goal
 
 pub returns-clause-number : goal.returns-clause-number
 returns-clause-number c =

@@ -1,5 +1,5 @@
-use Rattle.attr_rules.proofs.KeptRules.{equation_found, equation_within}
-use Rattle.attr_rules.proofs.rules.Rules.syn_equation.Goals as goal
+use Rattle.attr_equations.proofs.KeptRules.{equation_found, equation_within}
+use Rattle.attr_equations.proofs.rules.Rules.syn_equation.Goals as goal
 
 pub returns-clause-number : goal.returns-clause-number
 returns-clause-number c =

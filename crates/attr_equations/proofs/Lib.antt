@@ -1,0 +1,5 @@
+pub mod BodiesFound
+pub mod KeptRules
+pub mod Numbering
+pub mod Places
+pub mod Receiving

@@ -1,0 +1,4 @@
+pub mod Kept
+pub mod KeptContributions
+pub mod KeptEquations
+pub mod Offered
