@@ -8,7 +8,7 @@ use Rattle.broken_rules.specs.Notes.{at, broken_if, each_from}
 use Rattle.ast_grammar.specs.Grammar.{Class, is_sub, superclasses_of}
 use Rattle.attr_rules.specs.declared.dispatch.Target.{Target}
 use Rattle.attr_rules.specs.declared.kinds.Attr.{Attr}
-use Rattle.attr_rules.specs.Rules.{Attribute, declared_at, first_of_name, is_inherited, nearest_equation}
+use Rattle.attr_rules.specs.Rules.{Attribute, declared_at, first_of_name, has_own_equations, is_inherited, nearest_equation}
 use Rattle.attr_coverage.specs.Covering.{is_concrete, is_covered, is_uncovered}
 use Rattle.attr_scope.specs.Classes.{class_numbers}
 use Rattle.attr_scope.specs.Written.{Head}
@@ -29,9 +29,11 @@ missing_broken g targets a d place = broken_if (list_any (is_missing g targets a
 abbrev pub open_broken : List Class → List Target → Option ℕ → ℕ → Place → List Broken
 open_broken g targets first d place = broken_if (list_any (is_open g targets first d) (class_numbers g)) (at place J8)
 
--- J7 or J8 of the attribute of number a
+-- J7 or J8 of the attribute of number a; a collection has no equations
 abbrev pub lacking_of : List Class → List Attribute → List Target → ℕ → Place → Attr → List Broken
-lacking_of g attributes targets a place d = if is_inherited d.sort then open_broken g targets (first_of_name attributes a) d.class.0 place else missing_broken g targets a d.class.0 place
+lacking_of g attributes targets a place d =
+    if is_inherited d.sort then open_broken g targets (first_of_name attributes a) d.class.0 place
+    else (if has_own_equations d.sort then missing_broken g targets a d.class.0 place else [])
 
 abbrev pub lacking_at : List Class → List Attribute → List Target → ℕ → Place → Option Attr → List Broken
 lacking_at g attributes targets a place None = []

@@ -8,7 +8,7 @@ ghost use Rattle.broken_rules.specs.Notes.{Notes};
 ghost use Rattle.attr_rules.specs.declared.dispatch.Target.{Target};
 ghost use Rattle.attr_rules.specs.Dispatching.{Dispatches};
 ghost use Rattle.attr_rules.specs.RowsKept.{at_row};
-ghost use Rattle.attr_rules.specs.Rules.{number_of_attribute};
+ghost use Rattle.attr_rules.specs.Rules.{has_own_equations, number_of_attribute};
 ghost use Rattle.attr_coverage.specs.Completeness.{complete_broken, is_open, lacking, place_of, places_of};
 ghost use Rattle.attr_coverage.specs.Covering.{is_concrete};
 ghost use Rattle.attr_coverage.specs.CoveringKept.{mark_at};
@@ -17,7 +17,7 @@ ghost use Rattle.attr_scope.specs.Seen.{seen_head};
 
 use crate::covering::{is_concrete, is_marked, uncovered_classes};
 use ast_grammar::{ClassId, Grammar};
-use attr_rules::{AttrId, Attributes, Dispatch};
+use attr_rules::{Attr, AttrId, Attributes, Dispatch};
 use attr_scope::Head;
 use broken_rules::{Earliest, ReadFault, Rule};
 use rag_io::{Memory, Place};
@@ -38,6 +38,14 @@ fn lacks_equation(
             && grammar.is_sub(class, declared)
             && dispatch.find(class, attribute).is_none()
     })
+}
+
+// An attribute that has equations of its own lacks one.
+fn is_missing(grammar: &Grammar, dispatch: &Dispatch, attribute: AttrId, declared: &Attr) -> bool
+    ensures { result ≡ (has_own_equations declared.now.sort && list_any (λ c. is_concrete grammar.now c && (is_sub grammar.now c declared.now.class.0 && is_none (at_row dispatch.now.rows.items c attribute.0))) (class_numbers grammar.now)) }
+{
+    declared.sort.has_own_equations()
+        && lacks_equation(grammar, dispatch, attribute, declared.class)
 }
 
 // One of the marked classes has the attribute, which is declared for a class.
@@ -64,7 +72,7 @@ fn is_open(
     Ok(is_marked_below(grammar, &marks, declared))
 }
 
-// J7 or J8 of an attribute, whose name in the declaration stands at a place.
+// J7 or J8 of an attribute, whose name in the declaration stands at a place. A collection has no equations.
 fn check_attribute(
     alloc: Global,
     grammar: &Grammar,
@@ -84,7 +92,7 @@ fn check_attribute(
         faults.note_if(is_open, Rule::J8, place);
         return Ok(());
     }
-    let is_missing = lacks_equation(grammar, dispatch, attribute, declared.class);
+    let is_missing = is_missing(grammar, dispatch, attribute, declared);
     faults.note_if(is_missing, Rule::J7, place);
     Ok(())
 }
@@ -93,7 +101,7 @@ fn check_attribute(
 fn place_of(head: &Head<'_>) -> Place
     ensures { result ≡ place_of (seen_head head.now) }
 {
-    head.signature.name.place
+    head.name.place
 }
 
 // Where the names in the declarations stand.

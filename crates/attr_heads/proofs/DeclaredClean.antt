@@ -18,13 +18,15 @@ use Rattle.attr_rules.specs.declared.kinds.Sort.{Sort}
 use Rattle.attr_rules.specs.declared.kinds.Start.TheVariants.{Empty, False, Plain}
 use Rattle.attr_heads.specs.Heads.{again_broken, attribute_of, attributes_of, count_broken, head_broken, heads_broken, named_broken, other_broken, type_broken}
 use Rattle.attr_scope.specs.Classes.{class_broken, class_or_first}
+use Rattle.attr_heads.specs.Collections.{collection_broken}
 use Rattle.attr_heads.specs.Parameters.{all_parameters_broken, parameter_kind, parameters_broken}
 use Rattle.attr_heads.specs.Starts.{has_no_start, is_circular, is_empty, is_false, start_broken, start_declared, start_of, start_where}
-use Rattle.attr_scope.specs.Written.{Head, declarations}
+use Rattle.attr_scope.specs.Written.{Head, declarations, declared_in}
 use Rattle.attr_scope.specs.WrittenTypes.{class_numbered, kind_written, node_kind, nodes_kind, set_named, single_named, type_written}
 use Rattle.attr_heads.proofs.ParametersClean.{AreTyped, are_typed, few_params, params_all}
 use Rattle.attr_scope.proofs.ClassesFound.{class_there, class_within}
-use Rattle.attr_scope.proofs.ItemsFound.{after_found, all_found, either_false, map_found, some_from, some_there}
+use Rattle.attr_heads.proofs.CollectionsClean.{SaysCollection, collects, head_says}
+use Rattle.attr_scope.proofs.ItemsFound.{after_found, all_found, either_false, filter_found, map_found, some_from, some_there}
 
 module _ (g : List ClassOf) where
   classless : (k : Kind) {l : Kind} → k ≡ l → is_single k ≡ true → kind_class k ≡ None → IsParameter g l
@@ -134,6 +136,7 @@ module _ (g : List ClassOf) where
     pub count : count_broken before s.signature.name ≡ []
     pub start : start_broken g s.sort s.of s.circular ≡ []
     pub other : other_broken g before s ≡ []
+    pub collection : collection_broken g s.of s.collection ≡ []
     pub parameters : parameters_broken g [] s.signature.parameters ≡ []
 
   head_parts : (before : List Head) (s : Head) → head_broken g before s ≡ [] → IsHead before s
@@ -141,13 +144,15 @@ module _ (g : List ClassOf) where
       let count = count_broken before s.signature.name in
       let named = again_broken g before s ++ count in
       let start = start_broken g s.sort s.of s.circular in
-      let all = append_none (named_broken g before s) (start ++ (other_broken g before s ++ all_parameters_broken g None s.signature)) none in
-      let rest = append_none start (other_broken g before s ++ all_parameters_broken g None s.signature) all.1 in
-      let last = append_none (other_broken g before s) (all_parameters_broken g None s.signature) rest.1 in
+      let last_two = collection_broken g s.of s.collection ++ all_parameters_broken g None s.signature in
+      let all = append_none (named_broken g before s) (start ++ (other_broken g before s ++ last_two)) none in
+      let rest = append_none start (other_broken g before s ++ last_two) all.1 in
+      let other = append_none (other_broken g before s) last_two rest.1 in
+      let last = append_none (collection_broken g s.of s.collection) (all_parameters_broken g None s.signature) other.1 in
       let of = append_none (type_broken g s.of) (class_broken g s.class ++ named) all.0 in
       let parts = append_none (class_broken g s.class) named of.1 in
       let alone = append_none (again_broken g before s) count parts.1 in
-      record { of = of.0; class = parts.0; again = alone.0; count = alone.1; start = rest.0; other = last.0; parameters = last.1 }
+      record { of = of.0; class = parts.0; again = alone.0; count = alone.1; start = rest.0; other = other.0; collection = last.0; parameters = last.1 }
 
   few_after : (before list : List Head) → each_after (head_broken g) before list ≡ [] → length before ≤ most_attributes → length before + length list ≤ most_attributes
   few_after before [] none le = omega arith
@@ -171,8 +176,9 @@ module _ (g : List ClassOf) where
   pub declared_there : (list : List Head) (i : ℕ) (s : Head) → heads_broken g list ≡ [] → slice_get list i ≡ Some s → (c : ℕ) × (class_named g s.class.text ≡ Some c)
   declared_there list i s none e = class_there g s.class (head_there list i s none e).class
 
-  declared_attribute : (s : Head) (c : ℕ) (k : Kind) → class_named g s.class.text ≡ Some c → type_written g s.of ≡ Some k → start_broken g s.sort s.of s.circular ≡ [] → AreTyped g s.signature.parameters → IsAttribute g (attribute_of g s)
-  declared_attribute s c k e known start typed =
+  declared_attribute : (s : Head) (c : ℕ) (k : Kind) → class_named g s.class.text ≡ Some c → type_written g s.of ≡ Some k → start_broken g s.sort s.of s.circular ≡ [] → collection_broken g s.of s.collection ≡ [] → SaysCollection s.sort s.signature.parameters s.collection
+      → AreTyped g s.signature.parameters → IsAttribute g (attribute_of g s)
+  declared_attribute s c k e known start collection says typed =
       let kind : k ≡ kind_written g s.of = ap (λ o. unwrap_or o kinds.Truth) (sym known) in
       let kept : IsWithin g (kind_written g s.of) = subst (IsWithin g) kind (named_within g s.of.set s.of.name k known) in
       record {
@@ -183,6 +189,7 @@ module _ (g : List ClassOf) where
         parameters = params_all (IsParameter g) (map (parameter_kind g) s.signature.parameters) (kinds_kept g s.signature.parameters typed);
         circular = started g s.sort s.of (kind_written g s.of) s.circular (known ∙ ap Some kind) start;
         plain = plain_start g (kind_written g s.of) s.circular;
+        collects = collects g (attribute_of g s).declared s.of s.signature.parameters s.collection (known ∙ ap Some kind) refl says collection;
       }
 
   -- and declares an attribute of it
@@ -190,7 +197,8 @@ module _ (g : List ClassOf) where
   declared_attributes items none = all_found (IsAttribute g) (attributes_of g (declarations items)) (λ i x e.
       let found = map_found (attribute_of g) (declarations items) i x e in
       let head = found.0 in
+      let item = filter_found declared_in items i head found.1 in
       let class = declared_there (declarations items) i head none found.1 in
       let clean = head_there (declarations items) i head none found.1 in
       let known = some_there (type_written g head.of) (not_broken (is_none (type_written g head.of)) (at head.of.place J4) clean.of) in
-      subst (IsAttribute g) found.2 (declared_attribute head class.0 known.0 class.1 known.1 clean.start (are_typed g [] head.signature.parameters clean.parameters)))
+      subst (IsAttribute g) found.2 (declared_attribute head class.0 known.0 class.1 known.1 clean.start clean.collection (head_says item.0 head item.1) (are_typed g [] head.signature.parameters clean.parameters)))

@@ -1,4 +1,5 @@
 pub mod AlikeClean
+pub mod CollectionsClean
 pub mod DeclaredClean
 pub mod Declaring
 pub mod Differing

@@ -21,7 +21,7 @@ use Rattle.aspect_items.specs.Items.{Signature}
 use Rattle.attr_scope.specs.Classes.{class_broken}
 use Rattle.attr_heads.specs.Parameters.{all_parameters_broken, differ, parameter_names, parameters_broken, path_parameters}
 use Rattle.attr_heads.specs.Paths.{if_for_nodes, node_component, node_component_named, path_broken, reach_broken, reach_named, reach_of}
-use Rattle.attr_heads.specs.Targets.{attribute_for, attribute_given, class_of, differing_broken, differing_from, given_broken, if_own, inherits, is_given, lacking_broken, own_attribute, second_broken, target, target_by, target_given, target_of, target_or_first, targets_broken, targets_of, types_declared, unknown_broken}
+use Rattle.attr_heads.specs.Targets.{attribute_for, attribute_given, class_of, differing_broken, differing_from, given_broken, if_own, is_given, is_own, lacking_broken, own_attribute, second_broken, target, target_by, target_given, target_of, target_or_first, targets_broken, targets_of, types_declared, unknown_broken}
 use Rattle.attr_scope.specs.Written.{Given}
 use Rattle.attr_scope.proofs.ClassesFound.{class_there, class_within}
 use Rattle.attr_scope.proofs.ItemsFound.{after_found, all_found, map_found, position_found, some_from, some_there}
@@ -102,12 +102,12 @@ first_path attributes (AtComponent k) a path first = first
 first_path attributes Children a path first = first
 
 module _ (g : List Class) (attributes : List Attribute) where
-  own_found : (o : Option ℕ) (a : ℕ) → option_and_then (if_own attributes) o ≡ Some a → (o ≡ Some a) × (inherits (declared_at attributes a) ≡ false)
+  own_found : (o : Option ℕ) (a : ℕ) → option_and_then (if_own attributes) o ≡ Some a → (o ≡ Some a) × (is_own (declared_at attributes a) ≡ true)
   own_found None a e = absurd (cc)
   own_found (Some b) a e =
-      elim (inherits (declared_at attributes b)) as (λ t. inherits (declared_at attributes b) ≡ t → (if t then None else Some b) ≡ Some a → (Some b ≡ Some a) × (inherits (declared_at attributes a) ≡ false)) [
-        | true ↦ λ h same. absurd (cc)
-        | false ↦ λ h same. (let here : b ≡ a = cc in (same, subst (λ n. inherits (declared_at attributes n) ≡ false) here h))
+      elim (is_own (declared_at attributes b)) as (λ t. is_own (declared_at attributes b) ≡ t → (if t then Some b else None) ≡ Some a → (Some b ≡ Some a) × (is_own (declared_at attributes a) ≡ true)) [
+        | true ↦ λ h same. (let here : b ≡ a = cc in (same, subst (λ n. is_own (declared_at attributes n) ≡ true) here h))
+        | false ↦ λ h same. absurd (cc)
       ] refl e
 
   -- an inherited attribute that is the first of its name
@@ -137,7 +137,7 @@ module _ (g : List Class) (attributes : List Attribute) where
       let has = named_has g attributes (record { 0 = c }) n.text own.0 named.0 in (
         target c Own own.0,
         ap (target_by (Some c) (Some Own)) own.1,
-        record { within = within; attribute = has.attribute; declared = has.declared; gives = (has.has, ap inherits (sym has.declared) ∙ named.1); first = tt; reached = tt },
+        record { within = within; attribute = has.attribute; declared = has.declared; gives = (has.has, ap is_own (sym has.declared) ∙ named.1); first = tt; reached = tt },
       )
   found_by c (Some p) n within way lacking =
       let reach = reach_known g c p (reach_named g c p.name.text) way in

@@ -1,3 +1,5 @@
+pub mod Collections
+pub mod Contributions
 pub mod DeclaredNames
 pub mod FirstInherited
 pub mod Heads

@@ -11,7 +11,7 @@ use Rattle.attr_rules.specs.declared.dispatch.Reach.TheVariants.{Own}
 use Rattle.attr_rules.specs.declared.dispatch.Target.{Target}
 use Rattle.attr_rules.specs.declared.kinds.Attr.{Attr}
 use Rattle.attr_rules.specs.declared.kinds.Kind.{Kind}
-use Rattle.attr_rules.specs.Rules.{Attribute, attribute_named, declared_at, first_inherited, is_inherited, is_target}
+use Rattle.attr_rules.specs.Rules.{Attribute, attribute_named, declared_at, first_inherited, has_own_equations, is_target}
 use Rattle.attr_rules.specs.Types.{parameter_kinds}
 use Rattle.attr_scope.specs.Classes.{class_broken}
 use Rattle.attr_heads.specs.Parameters.{all_parameters_broken, differ}
@@ -20,19 +20,19 @@ use Rattle.aspect_items.specs.Expressions.{Name}
 use Rattle.aspect_items.specs.Items.{Signature}
 use Rattle.attr_scope.specs.Written.{Given}
 
-abbrev pub inherits : Option Attr → Bool
-inherits None = false
-inherits (Some d) = is_inherited d.sort
+abbrev pub is_own : Option Attr → Bool
+is_own None = false
+is_own (Some d) = has_own_equations d.sort
 
--- an attribute that isn't inherited
+-- an attribute to which equations without a path give values
 abbrev pub if_own : List Attribute → ℕ → Option ℕ
-if_own attributes a = if inherits (declared_at attributes a) then None else Some a
+if_own attributes a = if is_own (declared_at attributes a) then Some a else None
 
--- the attribute that a class has by a name, where it isn't inherited
+-- the attribute that a class has by a name, where equations without a path give it values
 abbrev pub own_attribute : List Class → List Attribute → List ℕ → ℕ → Option ℕ
 own_attribute g attributes name c = option_and_then (if_own attributes) (attribute_named (superclasses_of g) attributes (record { 0 = c }) name)
 
--- the attribute of an equation: one that its class has, and with a path an inherited one of any class, which stands for all of its name
+-- the attribute of an equation: one that its class has and that is synthesized, and with a path an inherited one of any class, which stands for all of its name
 abbrev pub attribute_for : List Class → List Attribute → Option ℕ → Option Signature → List ℕ → Option ℕ
 attribute_for g attributes c None name = option_and_then (own_attribute g attributes name) c
 attribute_for g attributes c (Some p) name = first_inherited attributes name

@@ -4,7 +4,7 @@ ghost use Rattle.std.specs.Option.{option_map};
 ghost use Rattle.ast_grammar.specs.Grammar.{superclasses_of};
 ghost use Rattle.broken_rules.specs.Answers.{Ends};
 ghost use Rattle.broken_rules.specs.Notes.{Notes};
-ghost use Rattle.attr_rules.specs.KeptEquations.{seen_attribute};
+ghost use Rattle.attr_rules.specs.KeptAttributes.{seen_attribute};
 ghost use Rattle.attr_heads.specs.DeclaredNames.{Adds, IsEven, Tells};
 ghost use Rattle.attr_heads.specs.FirstInherited.{TellsFirst};
 ghost use Rattle.attr_heads.specs.Heads.{again_for, attribute_of, attributes_of, heads_broken, is_other, is_taken, named_broken, other_broken, type_broken};
@@ -13,9 +13,10 @@ ghost use Rattle.attr_scope.specs.Written as written;
 ghost use Rattle.aspect_items.specs.Expressions.{seen_name};
 ghost use Rattle.aspect_items.specs.Items.{seen_type};
 
+use crate::collections::{check_collection, collecting_declared};
 use crate::declared::Declared;
 use crate::inheriting::Inheriting;
-use crate::parameters::{check_all_parameters, differ_from, params_written};
+use crate::parameters::{check_own_parameters, differ_from, params_written};
 use crate::starts::{are_unlike, check_start, is_circular, start_declared};
 use aspect_items::{Name, Type};
 use ast_grammar::{ClassId, Grammar};
@@ -78,7 +79,7 @@ fn check_named<'a>(
     ensures noted { (before : List written.Head) → Tells grammar.now before declared.old → count ≡ length before → OnOk result (Notes (named_broken grammar.now before (seen_head head.now)) faults.old faults.new) }
     ensures told { (before : List written.Head) → Tells grammar.now before declared.old → OnOk result (Tells grammar.now (before ++ seen_head head.now ∷ []) declared.new) }
 {
-    let name = &head.signature.name;
+    let name = head.name;
     check_type(grammar, head.of, faults);
     if let Some(class) = check_class(grammar, head.class, faults) {
         check_again(alloc, grammar, declared, class, name, faults)?;
@@ -95,11 +96,7 @@ fn is_other(grammar: &Grammar, head: &Head<'_>, first: Option<Head<'_>>) -> bool
     let kind = type_written(grammar, head.of);
     !same_kind(type_written(grammar, first.of), kind)
         || are_unlike(is_circular(first.circular), is_circular(head.circular))
-        || differ_from(
-            grammar,
-            &first.signature.parameters,
-            &head.signature.parameters,
-        )
+        || differ_from(grammar, first.parameters, head.parameters)
 }
 
 // J15 of a declaration. That of an inherited attribute is kept, where it is the first of its name.
@@ -115,7 +112,7 @@ fn check_other<'a>(
     if !head.sort.is_inherited() {
         return Ok(());
     }
-    let name = &head.signature.name;
+    let name = head.name;
     let first = inheriting.first(&name.text);
     faults.note_if(is_other(grammar, head, first), Rule::J15, name.place);
     inheriting.insert(&name.text, *head)
@@ -128,15 +125,16 @@ pub(crate) fn attribute_of<'a>(grammar: &Grammar, head: &Head<'a>) -> NamedAttr<
     let class = grammar.find_class(&head.class.text).unwrap_or(ClassId(0));
     let kind = kind_written(grammar, head.of);
     NamedAttr {
-        name: &head.signature.name.text,
+        name: &head.name.text,
         declared: Attr {
             class,
             sort: head.sort,
             kind,
-            params: params_written(grammar, &head.signature.parameters),
+            params: params_written(grammar, head.parameters),
             circular: is_circular(head.circular),
             start: start_declared(kind, head.circular),
         },
+        collecting: collecting_declared(grammar, head.collection),
     }
 }
 
@@ -170,7 +168,8 @@ fn note_heads(
         check_named(alloc, grammar, &mut declared, count, head, faults)?;
         check_start(grammar, head.sort, head.of, head.circular, faults);
         check_other(grammar, &mut inheriting, head, faults)?;
-        check_all_parameters(alloc, grammar, None, head.signature, faults)?;
+        check_collection(grammar, head.of, head.collection, faults);
+        check_own_parameters(alloc, grammar, head.parameters, faults)?;
     }
     Ok(())
 }

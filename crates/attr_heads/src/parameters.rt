@@ -1,5 +1,5 @@
 // Parameters, and the rules on them in heads: J3, J4 and J17.
-ghost use Rattle.std.specs.Prelude.{◌≡◌, ◌++◌, ℕ, Some, List, OnOk, length, map};
+ghost use Rattle.std.specs.Prelude.{◌≡◌, ◌++◌, [], ℕ, Some, List, OnOk, length, map};
 ghost use Rattle.std.specs.Option.{option_map};
 ghost use Rattle.broken_rules.specs.Notes.{Notes};
 ghost use Rattle.attr_rules.specs.Types.{parameter_kinds};
@@ -87,6 +87,19 @@ pub(crate) fn check_all_parameters(
     let mut names = Names::new(alloc);
     check_parameters(grammar, &mut names, path_parameters(path), faults)?;
     check_parameters(grammar, &mut names, &attribute.parameters, faults)
+}
+
+/// The same of the parameters of a declaration, which has no path.
+pub(crate) fn check_own_parameters(
+    alloc: Global,
+    grammar: &Grammar,
+    parameters: &[Parameter],
+    faults: &mut Earliest,
+) -> Result<(), Memory>
+    ensures { OnOk result (Notes (parameters_broken grammar.now [] (map seen_parameter parameters.now)) faults.old faults.new) }
+{
+    let mut names = Names::new(alloc);
+    check_parameters(grammar, &mut names, parameters, faults)
 }
 
 /// What is written is known to be another type than this one, as far as that is known. No parameter is a set.

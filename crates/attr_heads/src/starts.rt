@@ -13,8 +13,8 @@ use attr_rules::{Kind, Sort, Start};
 use attr_scope::type_written;
 use broken_rules::{Earliest, Rule};
 
-// The literal `false`, which stands in no parentheses.
-fn is_false(expr: &Expr) -> bool
+/// The literal `false`, which stands in no parentheses.
+pub(crate) fn is_false(expr: &Expr) -> bool
     ensures { result ≡ is_false (seen_expr expr.now) }
 {
     match expr {
@@ -23,8 +23,8 @@ fn is_false(expr: &Expr) -> bool
     }
 }
 
-// The literal `empty`, which stands in no parentheses.
-fn is_empty(expr: &Expr) -> bool
+/// The literal `empty`, which stands in no parentheses.
+pub(crate) fn is_empty(expr: &Expr) -> bool
     ensures { result ≡ is_empty (seen_expr expr.now) }
 {
     match expr {

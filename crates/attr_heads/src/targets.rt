@@ -1,4 +1,4 @@
-// The rules on what equations are for: J2, J5, J6 and J15, beside those on paths and on parameters.
+// The rules on what equations are for: J2, J5, J6 and J15, beside those on paths, on parameters and on contributions.
 ghost use Rattle.std.specs.Prelude.{◌≡◌, ◌<◌, ◌++◌, ◌∷◌, [], List, IfOk, IfSome, None, OnOk, is_none, length, map};
 ghost use Rattle.std.specs.Option.{option_map};
 ghost use Rattle.ast_grammar.specs.Grammar.{Class, number_of, superclasses_of};
@@ -6,16 +6,18 @@ ghost use Rattle.attr_rules.specs.Rules.{Attribute, first_inherited, number_of_a
 ghost use Rattle.broken_rules.specs.Answers.{Ends};
 ghost use Rattle.broken_rules.specs.Notes.{Notes, at, broken_if};
 ghost use Rattle.broken_rules.specs.declared.rule.Rule.TheVariants.{J5};
-ghost use Rattle.attr_scope.specs.Seen.{seen_given};
+ghost use Rattle.attr_heads.specs.Contributions.{uses_broken};
+ghost use Rattle.attr_scope.specs.Seen.{seen_given, seen_offer};
 ghost use Rattle.attr_heads.specs.Targets.{attribute_for, differing_broken, lacking_broken, own_attribute, second_broken, target_by, target_of, target_or_first, targets_broken, targets_of, unknown_broken};
 ghost use Rattle.attr_heads.specs.TargetsKept.{Holds};
 ghost use Rattle.attr_scope.specs.Written as written;
 ghost use Rattle.aspect_items.specs.Expressions.{seen_name};
 ghost use Rattle.aspect_items.specs.Items.{seen_signature};
 
+use crate::contributions::check_contributions;
 use crate::parameters::{check_all_parameters, differ};
 use crate::paths::check_path;
-use aspect_items::{Name, Signature};
+use aspect_items::{Contribution, Name, Signature};
 use ast_grammar::{ClassId, Grammar};
 use attr_rules::{AttrId, Attributes, Reach, Target};
 use attr_scope::{Given, check_class};
@@ -39,16 +41,16 @@ struct Key {
     attribute: u16,
 }
 
-// The attribute that a class has by a name, where it isn't inherited.
+// The attribute that a class has by a name, where equations without a path give it values.
 fn own_attribute(attributes: &Attributes, class: ClassId, name: &[u8]) -> Option<AttrId>
     requires { class.0 < length attributes.now.superclasses }
     ensures { (g : List Class) → attributes.now.superclasses ≡ superclasses_of g → option_map number_of_attribute result ≡ own_attribute g attributes.now.attributes name.now class.0 }
 {
     let attribute = attributes.find(class, name)?;
-    if attributes.attr(attribute).sort.is_inherited() {
-        None
-    } else {
+    if attributes.attr(attribute).sort.has_own_equations() {
         Some(attribute)
+    } else {
+        None
     }
 }
 
@@ -169,25 +171,44 @@ fn check_second(
     Ok(())
 }
 
-/// The phase of what equations are for: the class, the reach and the attribute of each, where no rule on these is broken.
+// The class, the reach and the attribute of each equation. Notes what their heads break.
+fn note_targets(
+    alloc: Global,
+    grammar: &Grammar,
+    attributes: &Attributes,
+    equations: &[Given<'_>],
+    faults: &mut Earliest,
+) -> Result<Vec<Target>, Memory>
+    requires { attributes.now.superclasses ≡ superclasses_of grammar.now }
+    ensures noted { OnOk result (Notes (targets_broken grammar.now attributes.now.attributes (map seen_given equations.now)) faults.old faults.new) }
+    ensures targets { IfOk result (λ list. list.items ≡ targets_of grammar.now attributes.now.attributes (map seen_given equations.now)) }
+{
+    let mut given = HashSet::new(alloc);
+    let mut targets = Vec::new(alloc);
+    for equation in equations {
+        let target = check_target(alloc, grammar, attributes, equation, faults)?;
+        check_second(&mut given, target, &equation.attribute.name, faults)?;
+        targets.push(target_or_first(target)).map_err(|_| Memory)?;
+    }
+    Ok(targets)
+}
+
+/// The phase of what equations and contributions are for: the class, the reach and the attribute of each equation, where no rule on these is
+/// broken.
 pub fn check_targets(
     alloc: Global,
     grammar: &Grammar,
     attributes: &Attributes,
     equations: &[Given<'_>],
+    contributions: &[&Contribution],
 ) -> Result<Vec<Target>, ReadFault>
     requires { attributes.now.superclasses ≡ superclasses_of grammar.now }
-    ensures phase { Ends (targets_broken grammar.now attributes.now.attributes (map seen_given equations.now)) result }
+    ensures phase { Ends (uses_broken grammar.now attributes.now.attributes (map seen_given equations.now) (map seen_offer contributions.now)) result }
     ensures targets { IfOk result (λ list. list.items ≡ targets_of grammar.now attributes.now.attributes (map seen_given equations.now)) }
 {
     let mut faults = Earliest::new();
-    let mut given = HashSet::new(alloc);
-    let mut targets = Vec::new(alloc);
-    for equation in equations {
-        let target = check_target(alloc, grammar, attributes, equation, &mut faults)?;
-        check_second(&mut given, target, &equation.attribute.name, &mut faults)?;
-        targets.push(target_or_first(target)).map_err(|_| Memory)?;
-    }
+    let targets = note_targets(alloc, grammar, attributes, equations, &mut faults)?;
+    check_contributions(grammar, attributes, contributions, &mut faults);
     faults.answer()?;
     Ok(targets)
 }

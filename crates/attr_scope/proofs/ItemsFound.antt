@@ -1,6 +1,6 @@
 -- Items of lists by their places, and what a test that passes or fails says of them.
-use Rattle.std.proofs.Common.{◌≡◌, ℕ, zero, suc, ◌+◌, ◌<◌, List, [], ◌∷◌, Bool, true, false, ◌||◌, All, Option, Some, None, is_none, option_map, get_or, nat_lt, take, map, position, slice_get, refl, ap, sym, ◌∙◌, subst, arith}
-use Rattle.std.specs.List.{list_any, range_with_len}
+use Rattle.std.proofs.Common.{◌≡◌, ℕ, zero, suc, ◌+◌, ◌<◌, List, [], ◌∷◌, Bool, true, false, ◌||◌, All, Option, Some, None, is_none, option_map, get_or, nat_lt, take, map, position, slice_get, inl, inr, ◌⊎◌, refl, ap, sym, ◌∙◌, subst, arith}
+use Rattle.std.specs.List.{cons_option, filter_map, list_any, range_with_len}
 use Rattle.std.proofs.lemmas.Bool.{ltb-true}
 use Rattle.std.proofs.lemmas.Bool.Decides.{nat_tests}
 use Rattle.std.proofs.lemmas.List.Quantifiers.{position-Some}
@@ -18,6 +18,20 @@ pub map_found : {X Y : Type 0} (f : X → Y) (xs : List X) (i : ℕ) (y : Y) →
 map_found f [] i y e = absurd (cc)
 map_found f (x ∷ xs) zero y e = (x, refl, cc)
 map_found f (x ∷ xs) (suc i) y e = map_found f xs i y e
+
+-- an item of a list with one more in front, if there is one more
+pub first_or_later : {Y : Type 0} (o : Option Y) (ys : List Y) (i : ℕ) (y : Y) → slice_get (cons_option o ys) i ≡ Some y → (o ≡ Some y) ⊎ ((k : ℕ) × (slice_get ys k ≡ Some y))
+first_or_later None ys i y e = inr (i, e)
+first_or_later (Some z) ys zero y e = inl e
+first_or_later (Some z) ys (suc i) y e = inr (i, e)
+
+-- what some items give is given by one of them
+pub filter_found : {X Y : Type 0} (h : X → Option Y) (xs : List X) (i : ℕ) (y : Y) → slice_get (filter_map h xs) i ≡ Some y → (x : X) × (h x ≡ Some y)
+filter_found h [] i y e = absurd (cc)
+filter_found h (x ∷ xs) i y e = elim (first_or_later (h x) (filter_map h xs) i y e) [
+  | inl is ↦ (x, is)
+  | inr later ↦ filter_found h xs later.0 y later.1
+]
 
 -- the item at a position passes the test
 pub position_found : {X : Type 0} (p : X → Bool) (xs : List X) (i : ℕ) → position p xs ≡ Some i → (x : X) × (slice_get xs i ≡ Some x) × (p x ≡ true)

@@ -8,5 +8,5 @@ mod written_types;
 
 pub use classes::check_class;
 pub use scope::{Member, Scope, Variable, no_params};
-pub use written::{Given, Head, declarations, givens};
+pub use written::{Given, Head, contributions, declarations, givens};
 pub use written_types::{kind_written, same_kind, type_written};

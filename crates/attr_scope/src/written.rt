@@ -1,23 +1,28 @@
-// What aspects declare, and the equations that they give, as they are written.
+// What aspects declare, and the equations and contributions that they give, as they are written.
 ghost use Rattle.std.specs.Prelude.{◌≡◌, IfOk, map};
 ghost use Rattle.std.specs.Option.{option_map};
-ghost use Rattle.attr_scope.specs.Seen.{seen_given, seen_head};
-ghost use Rattle.attr_scope.specs.Written.{declarations, declared_in, given_by, given_in, givens};
+ghost use Rattle.attr_scope.specs.Seen.{seen_given, seen_head, seen_offer};
+ghost use Rattle.attr_scope.specs.Written.{contributed_in, contributions, declarations, declared_in, given_by, given_in, givens};
 ghost use Rattle.aspect_items.specs.Items.{seen_equation, seen_item};
 
-use aspect_items::{Circular, Equation, Expr, Item, Name, Signature, Type};
+use aspect_items::{
+    Circular, Collection, Contribution, Equation, Expr, Item, Name, Parameter, Signature, Type,
+};
 use attr_rules::Sort;
 use rag_io::Memory;
 use std::alloc::Global;
 
-/// The declaration of an attribute: its sort, its type, the class that has it, its name with the parameters, and whether it is circular.
+/// The declaration of an attribute: its sort, its type, the class that has it, its name with the parameters, whether it is circular, and how it
+/// collects, where it is a collection.
 #[derive(Clone, Copy, Debug)]
 pub struct Head<'a> {
     pub sort: Sort,
     pub of: &'a Type,
     pub class: &'a Name,
-    pub signature: &'a Signature,
+    pub name: &'a Name,
+    pub parameters: &'a [Parameter],
     pub circular: Option<&'a Circular>,
+    pub collection: Option<&'a Collection>,
 }
 
 /// An equation: the name of the class, the path to the nodes, if it has one, the name of the attribute with the parameters, and the right
@@ -39,17 +44,30 @@ fn declared_in(item: &Item) -> Option<Head<'_>>
             sort: Sort::Syn,
             of: &declared.of,
             class: &declared.class,
-            signature: &declared.signature,
+            name: &declared.signature.name,
+            parameters: &declared.signature.parameters,
             circular: declared.circular.as_ref(),
+            collection: None,
         }),
         Item::Inherited(declared) => Some(Head {
             sort: Sort::Inh,
             of: &declared.of,
             class: &declared.class,
-            signature: &declared.signature,
+            name: &declared.signature.name,
+            parameters: &declared.signature.parameters,
             circular: declared.circular.as_ref(),
+            collection: None,
         }),
-        Item::Equation(_) | Item::Collection(_) | Item::Contribution(_) => None,
+        Item::Collection(collection) => Some(Head {
+            sort: Sort::Coll,
+            of: &collection.of,
+            class: &collection.class,
+            name: &collection.name,
+            parameters: &[],
+            circular: None,
+            collection: Some(collection),
+        }),
+        Item::Equation(_) | Item::Contribution(_) => None,
     }
 }
 
@@ -106,6 +124,29 @@ pub fn givens(alloc: Global, items: &[Item]) -> Result<Vec<Given<'_>>, Memory>
     for item in items {
         if let Some(given) = given_in(item) {
             list.push(given).map_err(|_| Memory)?;
+        }
+    }
+    Ok(list)
+}
+
+// The contribution that an item is, if it is one.
+fn contributed_in(item: &Item) -> Option<&Contribution>
+    ensures { option_map seen_offer result ≡ contributed_in (seen_item item.now) }
+{
+    match item {
+        Item::Contribution(contribution) => Some(contribution),
+        Item::Synthesized(_) | Item::Inherited(_) | Item::Equation(_) | Item::Collection(_) => None,
+    }
+}
+
+/// The contributions among some items, in their order.
+pub fn contributions(alloc: Global, items: &[Item]) -> Result<Vec<&Contribution>, Memory>
+    ensures { IfOk result (λ list. map seen_offer list.items ≡ contributions (map seen_item items.now)) }
+{
+    let mut list = Vec::new(alloc);
+    for item in items {
+        if let Some(contribution) = contributed_in(item) {
+            list.push(contribution).map_err(|_| Memory)?;
         }
     }
     Ok(list)

@@ -1,14 +1,10 @@
 -- What is given by items that are built.
-use Rattle.std.proofs.Common.{◌≡◌, ℕ, zero, suc, List, [], ◌∷◌, true, Option, Some, None, slice_get, inl, inr, ◌⊎◌}
-use Rattle.std.specs.List.{cons_option, filter_map}
+use Rattle.std.proofs.Common.{◌≡◌, ℕ, List, [], ◌∷◌, true, Option, Some, slice_get, inl, inr}
+use Rattle.std.specs.List.{filter_map}
 use Rattle.std.proofs.lemmas.Bool.{and_parts}
 use Rattle.built_forms.specs.Built.{all_built, is_built_item}
 use Rattle.aspect_items.specs.Items.{Item}
-
-first_or_later : {Y : Type 0} (o : Option Y) (ys : List Y) (i : ℕ) (y : Y) → slice_get (cons_option o ys) i ≡ Some y → (o ≡ Some y) ⊎ ((k : ℕ) × (slice_get ys k ≡ Some y))
-first_or_later None ys i y e = inr (i, e)
-first_or_later (Some z) ys zero y e = inl e
-first_or_later (Some z) ys (suc i) y e = inr (i, e)
+use Rattle.attr_scope.proofs.ItemsFound.{first_or_later}
 
 -- an item that comes from a built one
 module _ {Y : Type 0} (h : Item → Option Y) where

@@ -1,5 +1,5 @@
 -- What holds of equations that lack none.
-use Rattle.std.proofs.Common.{◌≡◌, ℕ, ◌<◌, List, [], ◌∷◌, ◌&&◌, Bool, true, false, Option, Some, None, IsSome, is_none, length, get_or, map, slice_get, refl, ap, sym, ◌∙◌, subst, zero-add, arith}
+use Rattle.std.proofs.Common.{◌≡◌, ℕ, ◌<◌, List, [], ◌∷◌, ◌&&◌, Bool, true, false, Option, Some, None, IsSome, is_none, length, get_or, map, slice_get, refl, ap, sym, ◌∙◌, subst, zero-add, arith, if◌then◌else◌}
 use Rattle.std.specs.List.{list_any}
 use Rattle.std.proofs.lemmas.List.{length-map}
 use Rattle.std.proofs.lemmas.Option.{slice_get-get_or, slice_get_within}
@@ -11,7 +11,7 @@ use Rattle.ast_grammar.specs.declared.grammar.ClassId.{ClassId}
 use Rattle.ast_grammar.specs.Grammar.{Class, is_sub, superclasses_of}
 use Rattle.attr_rules.specs.declared.dispatch.Target.{Target}
 use Rattle.attr_rules.specs.declared.kinds.Attr.{Attr}
-use Rattle.attr_rules.specs.Rules.{Attribute, IsConcrete, Uncovered, attribute_at, declared_at, declared_of, equation_number, first_of_name, is_inherited, nearest_equation, target_in}
+use Rattle.attr_rules.specs.Rules.{Attribute, IsConcrete, Uncovered, attribute_at, declared_at, declared_of, equation_number, first_of_name, has_own_equations, is_inherited, nearest_equation, target_in}
 use Rattle.attr_coverage.specs.Completeness.{complete_broken, is_missing, is_open, lacking, missing_broken, open_broken, place_of, places_of}
 use Rattle.attr_coverage.specs.Covering.{covers, is_concrete, is_concrete_of, is_covered, is_uncovered}
 use Rattle.attr_heads.specs.Heads.{attribute_of, attributes_of}
@@ -20,7 +20,7 @@ use Rattle.attr_types.specs.Phases.{equation_of, rules_of}
 use Rattle.attr_heads.specs.Targets.{target_given, targets_of}
 use Rattle.attr_scope.specs.Written.{declarations, givens}
 use Rattle.aspect_items.specs.Items.{Item}
-use Rattle.attr_coverage.proofs.Completing.{lacking_by}
+use Rattle.attr_coverage.proofs.Completing.{lacking_by, own_is_not_inherited}
 use Rattle.attr_scope.proofs.ItemsFound.{range_fails, some_from}
 use Rattle.attr_coverage.proofs.Rounds.{concrete_within}
 use Rattle.attr_coverage.proofs.UncoveredClasses.{all_found}
@@ -57,12 +57,14 @@ module _ (g : List Class) (attributes : List Attribute) (targets : List Target) 
   no_class : (test : ℕ → Bool) (c : ℕ) → list_any test (class_numbers g) ≡ false → IsConcrete g c → test c ≡ false
   no_class test c none concrete = subst (λ n. test n ≡ false) (zero-add c) (range_fails test 0 (length g) c none (concrete_within g c (ap is_concrete_of concrete)))
 
-  -- each concrete class has an equation for each of its attributes that aren't inherited
-  nearest_there : (c a : ℕ) (d : Attr) → IsConcrete g c → declared_at attributes a ≡ Some d → is_inherited d.sort ≡ false → is_sub g c d.class.0 ≡ true → IsSome (nearest_equation (superclasses_of g) targets c a)
+  -- each concrete class has an equation for each of its attributes that have equations of their own
+  nearest_there : (c a : ℕ) (d : Attr) → IsConcrete g c → declared_at attributes a ≡ Some d → has_own_equations d.sort ≡ true → is_sub g c d.class.0 ≡ true → IsSome (nearest_equation (superclasses_of g) targets c a)
   nearest_there c a d concrete declared sort below =
       let lacks = lacks_none a d declared in
       let missing = is_missing g targets a d.class.0 in
-      let nothing : missing_broken g targets a d.class.0 lacks.0 ≡ [] = sym (lacking_by g attributes targets a lacks.0 d declared sort) ∙ lacks.1 in
+      let lists = missing_broken g targets a d.class.0 lacks.0 in
+      let by_sort : lacking g attributes targets a lacks.0 ≡ lists = lacking_by g attributes targets a lacks.0 d declared (own_is_not_inherited d.sort sort) ∙ ap (λ b. if b then lists else []) sort in
+      let nothing : lists ≡ [] = sym by_sort ∙ lacks.1 in
       let not_here = no_class missing c (not_broken (list_any missing (class_numbers g)) (at lacks.0 J7) nothing) concrete in
       let nearest = nearest_equation (superclasses_of g) targets c a in
       some_is nearest (there_is (is_concrete g c) (is_sub g c d.class.0) (is_none nearest) (ap is_concrete_of concrete) below not_here)
@@ -89,7 +91,7 @@ module _ (g : List Class) (items : List Item) where
   targets_again : map target_in (map (equation_of g (attributes_of g (declarations items))) (givens items)) ≡ targets_of g (attributes_of g (declarations items)) (givens items)
   targets_again = same_targets (equation_of g (attributes_of g (declarations items))) target_in (target_given g (attributes_of g (declarations items))) (givens items) (λ e. refl)
 
-  pub complete_rules : IsComplete → (c : ClassId) (a : ℕ) (d : Attr) → IsConcrete g c.0 → attribute_at (rules_of g items) a ≡ Some d → is_inherited d.sort ≡ false → is_sub g c.0 d.class.0 ≡ true → IsSome (equation_number (rules_of g items) c a)
+  pub complete_rules : IsComplete → (c : ClassId) (a : ℕ) (d : Attr) → IsConcrete g c.0 → attribute_at (rules_of g items) a ≡ Some d → has_own_equations d.sort ≡ true → is_sub g c.0 d.class.0 ≡ true → IsSome (equation_number (rules_of g items) c a)
   unfolding rules_of
   complete_rules none c a d concrete declared sort below =
       let attributes = attributes_of g (declarations items) in

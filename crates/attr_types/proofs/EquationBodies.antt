@@ -9,9 +9,9 @@ use Rattle.broken_rules.proofs.Noting.{notes_each}
 use Rattle.ast_grammar.specs.Grammar.{Class, superclasses_of}
 use Rattle.attr_rules.specs.declared.dispatch.Target.{Target}
 use Rattle.attr_rules.specs.declared.kinds.Kind.{Kind}
-use Rattle.attr_rules.specs.declared.rules.KeptEquation.{KeptEquation}
+use Rattle.attr_equations.specs.declared.rules.KeptEquation.{KeptEquation}
 use Rattle.attr_scope.specs.declared.written.Given as kept_given
-use Rattle.attr_rules.specs.KeptEquations.{equation_in}
+use Rattle.attr_equations.specs.KeptEquations.{equation_in}
 use Rattle.attr_scope.specs.Seen.{seen_given}
 use Rattle.expr_typing.specs.declared.standing.Stands.TheVariants.{Anywhere}
 use Rattle.attr_bodies.specs.Bodies.{operand_broken}

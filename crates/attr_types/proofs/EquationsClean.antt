@@ -1,5 +1,6 @@
 -- What holds of equations of built items that break nothing.
 use Rattle.std.proofs.Common.{◌≡◌, ℕ, zero, suc, List, [], ◌∷◌, ◌++◌, All, true, false, not, Option, Some, None, is_none, map, slice_get, option_map, refl, ap, sym, ◌∙◌, subst}
+use Rattle.std.specs.List.{flat_map}
 use Rattle.std.specs.Option.{unwrap_or}
 use Rattle.std.proofs.lemmas.Bool.{and_parts}
 use Rattle.std.proofs.lemmas.List.{map-append}
@@ -11,7 +12,7 @@ use Rattle.aspect_items.specs.Items.{Item, Declared, Inherits, Equates, Collects
 use Rattle.expr_typing.specs.declared.standing.Stands.TheVariants.{Anywhere}
 use Rattle.attr_bodies.specs.Bodies.{expr_broken}
 use Rattle.expr_typing.specs.Fitting.{misfit}
-use Rattle.attr_types.specs.Phases.{bodies_broken, equation_broken, equation_of, kind_or_truth, scope_of, wanted_by}
+use Rattle.attr_types.specs.Phases.{equation_broken, equation_of, kind_or_truth, scope_of, wanted_by}
 use Rattle.attr_rules.specs.declared.dispatch.Reach.{Reach}
 use Rattle.attr_rules.specs.declared.dispatch.Reach.TheVariants.{Own, Component as AtComponent, Children}
 use Rattle.attr_rules.specs.declared.kinds.Attr.{Attr}
@@ -121,7 +122,7 @@ module _ (g : List Class) (attributes : List Attribute) where
       }
 
   -- each is well typed and fits
-  pub equations_there : (items : List Item) → all_built items ≡ true → targets_broken g attributes (givens items) ≡ [] → bodies_broken g attributes (givens items) ≡ []
+  pub equations_there : (items : List Item) → all_built items ≡ true → targets_broken g attributes (givens items) ≡ [] → flat_map (equation_broken g attributes) (givens items) ≡ []
       → All (IsEquation g attributes) (map (equation_of g attributes) (givens items))
   equations_there items built targets bodies = all_found (IsEquation g attributes) (map (equation_of g attributes) (givens items)) (λ i x is.
       let found = map_found (equation_of g attributes) (givens items) i x is in

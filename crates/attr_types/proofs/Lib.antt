@@ -4,6 +4,8 @@ pub mod BothTyped
 pub mod BuiltFound
 pub mod Checked
 pub mod CompleteClean
+pub mod ContributionBodies
+pub mod ContributionsClean
 pub mod EquationBodies
 pub mod EquationsClean
 pub mod MadeWell

@@ -1,5 +1,5 @@
 -- The right sides of equations of circular attributes are well made.
-use Rattle.std.proofs.Common.{◌≡◌, ℕ, Bool, true, false, not, ◌||◌, ◌&&◌, List, Option, Some, None, map, refl, ap, subst, ◌∙◌}
+use Rattle.std.proofs.Common.{◌≡◌, ℕ, zero, suc, slice_get, Bool, true, false, not, ◌||◌, ◌&&◌, List, Option, Some, None, map, refl, ap, subst, ◌∙◌}
 use Rattle.std.proofs.lemmas.Bool.{and_from, and_parts}
 use Rattle.rag_io.specs.declared.Place.{Place}
 use Rattle.ast_grammar.specs.Grammar.{Class}
@@ -17,7 +17,7 @@ use Rattle.attr_rules.specs.declared.expression.Quantifier.TheVariants as kept_q
 use Rattle.attr_rules.specs.declared.types.ValueType.{ValueType}
 use Rattle.attr_rules.specs.Expression.{Expression, Arguments, no_more, argument, Truth, Int, Text, Null, Empty, This, Variable, Source, Child, Element, Count, Has, Token, Call, Cast, InstanceOf, Quantified, QuantifiedSet, Each, EachOfSet, Sets, Single, Contains, Size, Not, Negate, Binary, And, Or, OrBoth, If}
 use Rattle.attr_rules.specs.Rising.{has_call, have_call}
-use Rattle.attr_rules.specs.Rules.{EquationsMadeWell, MadeWell, circular_at}
+use Rattle.attr_rules.specs.Rules.{Contribution, ContributionMadeWell, ContributionsMadeWell, EquationsMadeWell, MadeWell, circular_at, expressions_in, no_calls as none_counts}
 use Rattle.attr_rules.specs.Types.{of_class}
 use Rattle.attr_rules.specs.WellMade.{IsWellMade, are_well_made, is_placed, is_well_made}
 use Rattle.expr_typing.specs.declared.ranges.Elements.{Elements}
@@ -27,15 +27,16 @@ use Rattle.attr_scope.specs.declared.scope.Member.TheVariants as members
 use Rattle.expr_typing.specs.declared.set_forms.SetForm.{SetForm}
 use Rattle.expr_typing.specs.declared.set_forms.SetForm.TheVariants as forms
 use Rattle.attr_types.specs.BothSides.{all_with_both, either, said_where, with_both}
+use Rattle.attr_heads.specs.Contributions.{aim_of}
 use Rattle.attr_heads.specs.Heads.{attributes_of}
-use Rattle.attr_types.specs.Phases.{equation_of, rules_of, scope_of}
+use Rattle.attr_types.specs.Phases.{condition_said, contribution_of, equation_of, rules_of, scope_at, scope_of}
 use Rattle.expr_typing.specs.Places.{else_place}
 use Rattle.attr_scope.specs.Scope.{Scope, member_on, variable_named}
 use Rattle.expr_typing.specs.SetForms.{form_named, form_said, form_type, one_said, pair_said, set_known}
 use Rattle.attr_heads.specs.Targets.{target_given}
 use Rattle.expr_typing.specs.Typed as typed
 use Rattle.expr_typing.specs.Typed.{arguments_said, body_of, call_said, count, first_in, inside, joined, known, name_said, over_said, range_of, said_alone, said_over, types_known}
-use Rattle.attr_scope.specs.Written.{declarations, givens}
+use Rattle.attr_scope.specs.Written.{contributions, declarations, givens}
 use Rattle.attr_scope.proofs.ItemsFound.{all_found, map_found}
 
 module _ (circular : ℕ → Bool) where
@@ -321,3 +322,29 @@ equations_made g items =
     let e = found.0 in
     let t = target_given g attributes e in
     subst (MadeWell attributes) found.2 (said_made (circular_at attributes) (scope_of g attributes e t) e.body (circular_at attributes t.attribute.0)))
+
+-- what a condition says
+guard_made : (s : Scope) (o : Option Expr) → IsWellMade none_counts (condition_said s o)
+guard_made s None = refl
+guard_made s (Some e) = said_made none_counts s e false
+
+-- so do the expressions of a contribution
+one_of_three : (c : Contribution) → IsWellMade none_counts c.condition → IsWellMade none_counts c.receiver → IsWellMade none_counts c.value → (i : ℕ) (e : Expression) → slice_get (expressions_in c) i ≡ Some e → IsWellMade none_counts e
+one_of_three c condition receiver value zero e is = let same : c.condition ≡ e = cc in subst (IsWellMade none_counts) same condition
+one_of_three c condition receiver value (suc zero) e is = let same : c.receiver ≡ e = cc in subst (IsWellMade none_counts) same receiver
+one_of_three c condition receiver value (suc (suc zero)) e is = let same : c.value ≡ e = cc in subst (IsWellMade none_counts) same value
+one_of_three c condition receiver value (suc (suc (suc i))) e is = absurd (cc)
+
+three_made : (c : Contribution) → IsWellMade none_counts c.condition → IsWellMade none_counts c.receiver → IsWellMade none_counts c.value → ContributionMadeWell c
+three_made c condition receiver value = all_found (IsWellMade none_counts) (expressions_in c) (one_of_three c condition receiver value)
+
+pub contributions_made : (g : List Class) (items : List Item) → ContributionsMadeWell (rules_of g items)
+unfolding rules_of
+contributions_made g items =
+    let attributes = attributes_of g (declarations items) in
+    all_found ContributionMadeWell (map (contribution_of g attributes) (contributions items)) (λ i x is.
+    let found = map_found (contribution_of g attributes) (contributions items) i x is in
+    let c = found.0 in
+    let scope = scope_at g attributes (aim_of g attributes c).contributor in
+    subst ContributionMadeWell found.2
+    (three_made (contribution_of g attributes c) (guard_made scope c.condition) (said_made none_counts scope c.receiver false) (said_made none_counts scope c.value false)))

@@ -2,12 +2,13 @@
 ghost use Rattle.std.specs.Prelude.{◌≡◌, IfOk};
 ghost use Rattle.std.specs.Option.{option_map};
 ghost use Rattle.ast_grammar.specs.Grammar.{superclasses_of};
-ghost use Rattle.attr_rules.specs.Kept.{rules_in};
+ghost use Rattle.attr_equations.specs.Kept.{rules_in};
 ghost use Rattle.attr_rules.specs.Queries.{query_of};
 ghost use Rattle.attr_types.specs.Asked.{query_named};
 
 use ast_grammar::{ClassId, Grammar};
-use attr_rules::{QueryEq, Rules, TArgs, TExpr};
+use attr_equations::Rules;
+use attr_rules::{QueryEq, TArgs, TExpr};
 use attr_scope::Scope;
 use expr_typing::called;
 use rag_io::{Memory, Place};

@@ -1,19 +1,24 @@
-// The right sides of equations: what they break, and what they say.
-ghost use Rattle.std.specs.Prelude.{◌≡◌, ◌++◌, ◌∷◌, [], IfOk, OnOk, map};
+// The right sides of equations, and the expressions of contributions: what they break, and what they say.
+ghost use Rattle.std.specs.Prelude.{◌≡◌, ◌++◌, ◌∷◌, [], IfOk, OnOk, length, map};
+ghost use Rattle.std.specs.List.{flat_map};
 ghost use Rattle.ast_grammar.specs.Grammar.{superclasses_of};
 ghost use Rattle.broken_rules.specs.Answers.{Ends};
 ghost use Rattle.broken_rules.specs.Notes.{Notes};
-ghost use Rattle.attr_rules.specs.KeptEquations.{equation_in};
+ghost use Rattle.attr_equations.specs.KeptContributions.{AreNumbered, contribution_in};
+ghost use Rattle.attr_equations.specs.KeptEquations.{equation_in};
 ghost use Rattle.expr_typing.specs.declared.standing.Stands.TheVariants.{Anywhere};
-ghost use Rattle.attr_types.specs.Phases.{bodies_broken, equation_broken, equation_of, wanted_by};
-ghost use Rattle.attr_scope.specs.Seen.{seen_given};
+ghost use Rattle.attr_types.specs.Phases.{bodies_broken, contribution_of, equation_broken, equation_of, wanted_by};
+ghost use Rattle.attr_scope.specs.Seen.{seen_given, seen_offer};
 ghost use Rattle.attr_heads.specs.Targets.{target_given, targets_of};
 
 use crate::both_sides::said_for;
+use crate::contributions::type_contributions;
+use aspect_items::Contribution;
 use ast_grammar::Grammar;
 use attr_bodies::type_operand;
+use attr_equations::{KeptContribution, KeptEquation};
 use attr_heads::equation_names;
-use attr_rules::{Attributes, KeptEquation, Kind, Target};
+use attr_rules::{Attributes, Kind, Target};
 use attr_scope::{Given, Scope};
 use broken_rules::{Earliest, ReadFault};
 use expr_typing::Stands;
@@ -77,25 +82,75 @@ fn push(list: &mut Vec<KeptEquation>, equation: KeptEquation) -> Result<(), Memo
     list.push(equation).map_err(|_| Memory)
 }
 
-/// The phase of expressions: the equations for these, where no rule on expressions is broken.
+// The equations for these. Notes what their right sides break.
+fn type_equations(
+    alloc: Global,
+    grammar: &Grammar,
+    attributes: &Attributes,
+    equations: &[Given<'_>],
+    targets: &[Target],
+    faults: &mut Earliest,
+) -> Result<Vec<KeptEquation>, Memory>
+    requires attributes { attributes.now.superclasses ≡ superclasses_of grammar.now }
+    requires targets { targets.now ≡ targets_of grammar.now attributes.now.attributes (map seen_given equations.now) }
+    ensures noted { OnOk result (Notes (flat_map (equation_broken grammar.now attributes.now.attributes) (map seen_given equations.now)) faults.old faults.new) }
+    ensures says { IfOk result (λ list. map equation_in list.items ≡ map (equation_of grammar.now attributes.now.attributes) (map seen_given equations.now)) }
+{
+    let mut list = Vec::new(alloc);
+    for (equation, target) in equations.iter().zip(targets) {
+        let body = check_body(alloc, grammar, attributes, equation, *target, faults)?;
+        push(&mut list, body)?;
+    }
+    Ok(list)
+}
+
+// How many they are. Equations go by numbers of 32 bits.
+fn count_of(equations: &[KeptEquation]) -> Result<u32, Memory>
+    ensures { IfOk result (λ count. count ≡ length equations.now) }
+{
+    match u32::try_from(equations.len()) {
+        Ok(count) => Ok(count),
+        Err(_) => Err(Memory),
+    }
+}
+
+/// Equations and contributions with their expressions.
+#[derive(Drop)]
+pub(crate) struct Bodies {
+    pub equations: Vec<KeptEquation>,
+    pub contributions: Vec<KeptContribution>,
+}
+
+/// The phase of expressions: the equations for these and the contributions, where no rule on expressions is broken.
 pub(crate) fn check_bodies(
     alloc: Global,
     grammar: &Grammar,
     attributes: &Attributes,
     equations: &[Given<'_>],
     targets: &[Target],
-) -> Result<Vec<KeptEquation>, ReadFault>
+    contributions: &[&Contribution],
+) -> Result<Bodies, ReadFault>
     requires attributes { attributes.now.superclasses ≡ superclasses_of grammar.now }
     requires targets { targets.now ≡ targets_of grammar.now attributes.now.attributes (map seen_given equations.now) }
-    ensures phase { Ends (bodies_broken grammar.now attributes.now.attributes (map seen_given equations.now)) result }
-    ensures says { IfOk result (λ list. map equation_in list.items ≡ map (equation_of grammar.now attributes.now.attributes) (map seen_given equations.now)) }
+    ensures phase { Ends (bodies_broken grammar.now attributes.now.attributes (map seen_given equations.now) (map seen_offer contributions.now)) result }
+    ensures says { IfOk result (λ bodies. map equation_in bodies.equations.items ≡ map (equation_of grammar.now attributes.now.attributes) (map seen_given equations.now)) }
+    ensures numbered { IfOk result (λ bodies. AreNumbered (length bodies.equations.items) bodies.contributions.items) }
+    ensures offered { IfOk result (λ bodies. map contribution_in bodies.contributions.items ≡ map (contribution_of grammar.now attributes.now.attributes) (map seen_offer contributions.now)) }
 {
     let mut faults = Earliest::new();
-    let mut list = Vec::new(alloc);
-    for (equation, target) in equations.iter().zip(targets) {
-        let body = check_body(alloc, grammar, attributes, equation, *target, &mut faults)?;
-        push(&mut list, body)?;
-    }
+    let list = type_equations(alloc, grammar, attributes, equations, targets, &mut faults)?;
+    let count = count_of(&list)?;
+    let offered = type_contributions(
+        alloc,
+        grammar,
+        attributes,
+        count,
+        contributions,
+        &mut faults,
+    )?;
     faults.answer()?;
-    Ok(list)
+    Ok(Bodies {
+        equations: list,
+        contributions: offered,
+    })
 }

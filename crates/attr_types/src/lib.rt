@@ -4,9 +4,13 @@
 mod asked;
 mod both_sides;
 mod checking;
+mod contributions;
 mod equations;
 mod laws;
 
 pub use asked::query_of_call;
 pub use checking::check;
-pub use laws::{accepted_rules, equations_are_made_well, uncovered_classes_are_found};
+pub use laws::{
+    accepted_rules, contributions_are_made_well, equations_are_made_well,
+    uncovered_classes_are_found,
+};

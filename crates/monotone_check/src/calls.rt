@@ -1,13 +1,14 @@
 // The positions of calls in an expression.
 ghost use Rattle.std.specs.Prelude.{◌≡◌, ◌++◌, ◌||◌};
 ghost use Rattle.attr_rules.specs.Expression.{arguments_of, expression_of};
-ghost use Rattle.attr_rules.specs.Kept.{rules_in};
+ghost use Rattle.attr_equations.specs.Kept.{rules_in};
 ghost use Rattle.attr_rules.specs.Rising.{has_call, have_call};
 ghost use Rattle.broken_rules.specs.Notes.{Notes};
 ghost use Rattle.monotone_check.specs.Equations.{is_circular};
 ghost use Rattle.monotone_check.specs.Positions.{broken_arguments, broken_in, call_broken, choice_broken, in_body, in_range, in_second};
 
-use attr_rules::{AttrId, Quantifier, Rules, SetOperator, TArgs, TExpr};
+use attr_equations::Rules;
+use attr_rules::{AttrId, Quantifier, SetOperator, TArgs, TExpr};
 use broken_rules::{Earliest, Rule};
 use rag_io::Place;
 

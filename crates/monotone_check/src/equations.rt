@@ -1,11 +1,12 @@
 // The equations of circular attributes.
 ghost use Rattle.std.specs.Prelude.{◌<◌, IfSome, length, slice_get};
-ghost use Rattle.attr_rules.specs.Kept.{rules_in};
+ghost use Rattle.attr_equations.specs.Kept.{rules_in};
 ghost use Rattle.broken_rules.specs.Notes.{Notes};
 ghost use Rattle.monotone_check.specs.Equations.{Verdict, equation_broken, equations_broken};
 
 use crate::calls::check_calls;
-use attr_rules::{EqId, Rules};
+use attr_equations::Rules;
+use attr_rules::EqId;
 use broken_rules::{Broken, Earliest};
 
 // Notes what an equation breaks.

@@ -1,12 +1,11 @@
 -- The right sides of equations that are built.
-use Rattle.std.proofs.Common.{◌≡◌, ◌↔◌, ℕ, suc, List, [], ◌∷◌, ◌++◌, All, true, false, not, Option, Some, None, IsSome, is_none, map, slice_get, option_map, refl, sym, subst}
+use Rattle.std.proofs.Common.{◌≡◌, ◌↔◌, ℕ, suc, List, [], ◌∷◌, ◌++◌, All, true, false, not, Option, Some, None, IsSome, is_none, map, slice_get, option_map, refl, subst}
 use Rattle.std.specs.List.{flat_map}
 use Rattle.std.proofs.lemmas.Bool.{and_parts}
 use Rattle.std.proofs.lemmas.List.Elements.{All-append, All-cons, All-nil}
 use Rattle.std.proofs.lemmas.Option.{get_or_from_slice_get, slice_get_within}
-use Rattle.broken_rules.specs.Answers.{Answers, clean, passes}
 use Rattle.broken_rules.specs.declared.broken.Broken.{Broken}
-use Rattle.broken_rules.proofs.Clean.{flat_map_found, phase_none}
+use Rattle.broken_rules.proofs.Clean.{flat_map_found}
 use Rattle.ast_grammar.specs.Grammar.{Class}
 use Rattle.built_forms.specs.Built.{all_built, is_built, is_built_item, is_built_body}
 use Rattle.aspect_items.specs.Expressions.{Expr}
@@ -17,17 +16,16 @@ use Rattle.attr_rules.specs.declared.kinds.Kind.{Kind}
 use Rattle.attr_rules.specs.declared.types.ValueType.TheVariants as types
 use Rattle.attr_rules.specs.Rules.{Attribute}
 use Rattle.attr_scope.specs.Scope.{Variable}
-use Rattle.attr_scope.specs.Written.{Given, declarations, given_by, given_in, given_with, givens}
+use Rattle.attr_scope.specs.Written.{Given, given_by, given_in, given_with, givens}
 use Rattle.attr_scope.specs.WrittenTypes.{type_written}
 use Rattle.attr_scope.proofs.ItemsFound.{all_found}
 use Rattle.attr_heads.specs.Paths.{bound_names, equation_names, index_name, index_named, parameter_named}
-use Rattle.attr_heads.specs.Heads.{attributes_of}
 use Rattle.attr_heads.specs.Targets.{target_given, targets_broken}
 use Rattle.attr_heads.proofs.ParametersClean.{AreTyped}
 use Rattle.attr_heads.proofs.TargetsClean.{given_parameters}
-use Rattle.attr_types.specs.Phases.{bodies_broken, equation_broken, phases_of, scope_of, wanted_by}
+use Rattle.attr_types.specs.Phases.{equation_broken, scope_of, wanted_by}
 use Rattle.attr_types.proofs.BuiltFound.{built_found}
-use Rattle.typing_rules.specs.EquationTypes.{IsAccepted, IsWellTyped}
+use Rattle.typing_rules.specs.EquationTypes.{IsWellTyped}
 use Rattle.typing_rules.proofs.WellTyped.{exactly}
 
 body_there : (s : Synthesized) (o : Option Expr) (e : Given) → is_built_body o ≡ true → option_map (given_with s) o ≡ Some e → is_built e.body ≡ true
@@ -43,7 +41,7 @@ built_in (Collects c) e built is = absurd (cc)
 built_in (Contributes c) e built is = absurd (cc)
 
 -- a name's type is known
-abbrev IsKnown : Variable → Type 0
+abbrev pub IsKnown : Variable → Type 0
 IsKnown v = IsSome v.type
 
 bound_known : (p : Option Signature) (r : Reach) → All IsKnown (bound_names p r)
@@ -63,11 +61,13 @@ module _ (g : List Class) where
   names_known : (s : Signature) (p : Option Signature) (r : Reach) → AreTyped g s.parameters → All IsKnown (equation_names g s p r)
   names_known s p r typed = All-append IsKnown (map (parameter_named g) s.parameters) (bound_names p r) (parameters_known s.parameters typed) (bound_known p r)
 
-none_each : {X : Type 0} (f : X → List Broken) (xs : List X) → ((i : ℕ) (x : X) → slice_get xs i ≡ Some x → f x ≡ []) → flat_map f xs ≡ []
+-- where each item breaks nothing, all do
+pub none_each : {X : Type 0} (f : X → List Broken) (xs : List X) → ((i : ℕ) (x : X) → slice_get xs i ≡ Some x → f x ≡ []) → flat_map f xs ≡ []
 none_each f [] each = refl
 none_each f (x ∷ xs) each = (λ i. each 0 x refl i ++ none_each f xs (λ j y at_j. each (suc j) y at_j) i)
 
-all_at : {X : Type 0} (P : X → Type 0) (xs : List X) (i : ℕ) (x : X) → All P xs → slice_get xs i ≡ Some x → P x
+-- what holds of each item
+pub all_at : {X : Type 0} (P : X → Type 0) (xs : List X) (i : ℕ) (x : X) → All P xs → slice_get xs i ≡ Some x → P x
 all_at P xs i x all e = subst P (get_or_from_slice_get xs i x x e) (all i x (slice_get_within xs i x e))
 
 module _ (g : List Class) (attributes : List Attribute) (items : List Item) (built : all_built items ≡ true) (targets : targets_broken g attributes (givens items) ≡ []) where
@@ -79,23 +79,8 @@ module _ (g : List Class) (attributes : List Attribute) (items : List Item) (bui
       exactly (scope_of g attributes e target) e.body (wanted_by attributes target) (names_known g e.attribute e.path target.reach has.typed) (built_in from.item e from.built from.gives)
 
   -- they break nothing exactly where each is well typed
-  pub equations_exactly : (bodies_broken g attributes (givens items) ≡ []) ↔ All (IsWellTyped g attributes) (givens items)
+  pub equations_exactly : (flat_map (equation_broken g attributes) (givens items) ≡ []) ↔ All (IsWellTyped g attributes) (givens items)
   equations_exactly = (
     (λ none. all_found (IsWellTyped g attributes) (givens items) (λ i e is. (equation_exactly i e is).0 (flat_map_found (equation_broken g attributes) (givens items) i e none is))),
     (λ all. none_each (equation_broken g attributes) (givens items) (λ i e is. (equation_exactly i e is).1 (all_at (IsWellTyped g attributes) (givens items) i e all is))),
   )
-
--- phases that break nothing
-four_passed : {a b c d : List Broken} → a ≡ [] → b ≡ [] → c ≡ [] → d ≡ [] → Answers (a ∷ b ∷ c ∷ d ∷ []) None
-four_passed h i j k = subst (λ (x : Type 0). x) (λ l. Answers (sym h l ∷ sym i l ∷ sym j l ∷ sym k l ∷ []) None) (passes (passes (passes (passes clean))))
-
-pub accepted_exactly : (g : List Class) (items : List Item) → all_built items ≡ true → Answers (phases_of g items) None ↔ IsAccepted g items
-accepted_exactly g items built = (
-  (λ a.
-      let heads = phase_none a in
-      let targets = phase_none heads.1 in
-      let complete = phase_none targets.1 in
-      let bodies = phase_none complete.1 in
-      record { heads = heads.0; targets = targets.0; complete = complete.0; bodies = (equations_exactly g (attributes_of g (declarations items)) items built targets.0).0 bodies.0 }),
-  (λ h. four_passed h.heads h.targets h.complete ((equations_exactly g (attributes_of g (declarations items)) items built h.targets).1 h.bodies)),
-)

@@ -1,4 +1,6 @@
+pub mod AcceptedExactly
 pub mod AccessorsSpelled
+pub mod ContributionsTyped
 pub mod EquationsTyped
 pub mod MembersNamed
 pub mod NamesMean

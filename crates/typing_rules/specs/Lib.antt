@@ -1,3 +1,4 @@
+pub mod ContributionTypes
 pub mod EquationTypes
 pub mod FittingRules
 pub mod MemberRules

@@ -1,5 +1,6 @@
 // That exactly the expressions that have no type by the rules break one.
 ghost use Rattle.std.specs.Prelude.{◌≡◌, ◌↔◌, ℕ, All, List, [], None, Some, length, true};
+ghost use Rattle.std.specs.List.{flat_map};
 ghost use Rattle.broken_rules.specs.Answers.{Answers};
 ghost use Rattle.ast_grammar.specs.declared.grammar.ClassId.{ClassId};
 ghost use Rattle.ast_grammar.specs.Grammar.{Class, IsGrammar};
@@ -11,7 +12,7 @@ ghost use Rattle.attr_rules.specs.Accessors.{arguments_of};
 ghost use Rattle.attr_rules.specs.Rules.{Attribute};
 ghost use Rattle.attr_rules.specs.Types.{common, fits};
 ghost use Rattle.aspect_items.specs.Expressions.{Expr};
-ghost use Rattle.aspect_items.specs.Items.{Item};
+ghost use Rattle.aspect_items.specs.Items.{Contribution, Item};
 ghost use Rattle.built_forms.specs.Built.{all_built, is_built};
 ghost use Rattle.attr_scope.specs.declared.scope.Member.TheVariants as members;
 ghost use Rattle.attr_scope.specs.Scope.{Scope, member_of};
@@ -22,7 +23,8 @@ ghost use Rattle.expr_typing.specs.declared.standing.Stands.{Stands};
 ghost use Rattle.expr_typing.specs.declared.standing.Stands.TheVariants.{Anywhere};
 ghost use Rattle.expr_typing.specs.Typed.{known};
 ghost use Rattle.attr_bodies.specs.Bodies.{expr_broken, operand_broken};
-ghost use Rattle.attr_types.specs.Phases.{bodies_broken, phases_of};
+ghost use Rattle.attr_types.specs.Phases.{equation_broken, expressions_broken, phases_of};
+ghost use Rattle.typing_rules.specs.ContributionTypes.{AreWellTyped, IsBuilt};
 ghost use Rattle.typing_rules.specs.EquationTypes.{IsAccepted, IsWellTyped};
 ghost use Rattle.typing_rules.specs.FittingRules.{Fits};
 ghost use Rattle.typing_rules.specs.MemberRules.{IsMeant, IsNamed, Spells};
@@ -66,11 +68,17 @@ pub fn common_types_are_least()
 
 /// Equations whose targets break nothing break no rule on expressions exactly where each right side has a type by the rules that fits its attribute.
 pub fn equations_well_typed_exactly()
-    ensures { (g : List Class) (attributes : List Attribute) (items : List Item) → all_built items ≡ true → targets_broken g attributes (givens items) ≡ [] → (bodies_broken g attributes (givens items) ≡ []) ↔ All (IsWellTyped g attributes) (givens items) }
+    ensures { (g : List Class) (attributes : List Attribute) (items : List Item) → all_built items ≡ true → targets_broken g attributes (givens items) ≡ [] → (flat_map (equation_broken g attributes) (givens items) ≡ []) ↔ All (IsWellTyped g attributes) (givens items) }
 {}
 
-/// Aspects break no rule exactly where their declarations, what their equations are for, and completeness break none, and each right side has a type
-/// by the rules that fits.
+/// Contributions break no rule on expressions exactly where each condition is a truth value by the rules, each receiver has a type that fits the class
+/// behind `to`, and each value one that fits what is contributed to the collection.
+pub fn contributions_well_typed_exactly()
+    ensures { (g : List Class) (attributes : List Attribute) (offered : List Contribution) → All IsBuilt offered → (flat_map (expressions_broken g attributes) offered ≡ []) ↔ All (AreWellTyped g attributes) offered }
+{}
+
+/// Aspects break no rule exactly where their declarations, what their equations and contributions are for, and completeness break none, each right side
+/// has a type by the rules that fits, and so have the expressions of each contribution.
 pub fn accepted_exactly()
     ensures { (g : List Class) (items : List Item) → all_built items ≡ true → Answers (phases_of g items) None ↔ IsAccepted g items }
 {}

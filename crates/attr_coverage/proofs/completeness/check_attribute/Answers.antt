@@ -10,4 +10,4 @@ returns-then-is_inherited c = λ targets known.
 pub returns : goal.returns
 returns c = λ targets known.
     let sort = sym c.is_inherited.ensures ∙ c.if-is_inherited.false in
-    missing_noted c.args.grammar.now c.args.attributes.now.attributes targets c.args.attribute.0 c.args.place c.attr-declared.result.now c.attr-declared.ensures c.args.dispatch.now known sort c.lacks_equation-is_missing.ensures c.note_if-2.ensures
+    missing_noted c.args.grammar.now c.args.attributes.now.attributes targets c.args.attribute.0 c.args.place c.attr-declared.result.now c.attr-declared.ensures c.args.dispatch.now known sort c.is_missing-is_missing.ensures c.note_if-2.ensures

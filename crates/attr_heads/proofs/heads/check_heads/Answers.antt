@@ -4,7 +4,7 @@ use Rattle.broken_rules.proofs.Exits.{ends_with}
 use Rattle.broken_rules.proofs.Noting.{ends_of}
 use Rattle.broken_rules.proofs.Order.{none_is}
 use Rattle.attr_heads.specs.Heads.{attribute_of, heads_broken}
-use Rattle.attr_rules.specs.KeptEquations.{seen_attribute}
+use Rattle.attr_rules.specs.KeptAttributes.{seen_attribute}
 use Rattle.attr_scope.specs.Seen.{seen_head}
 use Rattle.attr_heads.proofs.HeadsNoted.{few_heads}
 use Rattle.attr_heads.proofs.heads.check_heads.Goals as goal

@@ -1,5 +1,5 @@
 use Rattle.attr_heads.specs.Heads.{attribute_of}
-use Rattle.attr_rules.specs.KeptEquations.{seen_attribute}
+use Rattle.attr_rules.specs.KeptAttributes.{seen_attribute}
 use Rattle.attr_scope.proofs.Gathering.{Makes}
 use Rattle.attr_scope.specs.Seen.{seen_head}
 use Rattle.attr_heads.proofs.heads.named_attributes.Given as goal

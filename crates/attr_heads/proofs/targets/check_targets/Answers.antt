@@ -1,27 +1,18 @@
-use Rattle.std.proofs.Common.{◌≡◌, ap, map, rules, subst, sym, take, ◌∙◌}
-use Rattle.attr_scope.specs.Seen.{seen_given}
-use Rattle.attr_heads.specs.Targets.{given_broken, target_given, target_or_first}
-use Rattle.attr_heads.specs.TargetsKept.{Holds}
-use Rattle.attr_scope.proofs.Gathering.{makes_more}
-use Rattle.attr_scope.proofs.Seen.{notes_each_after_seen, taken}
-use Rattle.attr_heads.proofs.TargetsNoted.{given_noted}
+use Rattle.std.proofs.Common.{Err, Ok, map, refl}
+use Rattle.broken_rules.proofs.Exits.{ends_passed, ends_with}
+use Rattle.broken_rules.proofs.Noting.{ends_of, notes_then}
+use Rattle.attr_heads.specs.Contributions.{uses_broken}
+use Rattle.attr_scope.specs.Seen.{seen_given, seen_offer}
 use Rattle.attr_heads.proofs.targets.check_targets.Goals as goal
 
-pub loop-equation-preserved : goal.loop-equation-preserved
-loop-equation-preserved c =
-    let g = c.args.grammar.now in
-    let attributes = c.args.attributes.now.attributes in
-    let xs = c.args.equations.now in
-    let i = c.loop-equation.equation-index in
-    let before = take i (map seen_given xs) in
-    let e = seen_given c.equation-item.result in
-    let held = c.loop-equation.invariant.held in
-    let target = c.in_ok-target.ensures.target in
-    record {
-      noted = notes_each_after_seen seen_given xs i (given_broken g attributes) c.equation-item.is c.loop-equation-test.true c.loop-equation.invariant.noted
-          (given_noted g attributes before e target c.in_ok-target.ensures.noted (c.in_ok-check_second.ensures.noted g attributes before held));
-      held = subst (λ zs. Holds g attributes zs c.check_second.new.given) (sym (taken seen_given xs i c.equation-item.is c.loop-equation-test.true)) (c.in_ok-check_second.ensures.held g attributes before e held target);
-      targets =
-          let made : c.target_or_first.result ≡ target_given g attributes e = c.target_or_first.ensures ∙ ap target_or_first target in
-          search (rules, makes_more);
-    }
+pub returns-in_err-answer-clause-phase : goal.returns-in_err-answer-clause-phase
+returns-in_err-answer-clause-phase c =
+    let uses = uses_broken c.args.grammar.now c.args.attributes.now.attributes (map seen_given c.args.equations.now) (map seen_offer c.args.contributions.now) in
+    let first = ends_of c.new-faults.ensures (notes_then c.in_ok-targets.ensures.noted c.check_contributions.ensures) refl in
+    let e = c.in_err-answer.field-0.0 in
+    ends_passed uses c.from_residual-in_err-answer.result e c.from_residual-in_err-answer.ensures.1 (ends_with uses _ (Err e) c.in_err-answer.ensures first)
+
+pub returns-clause-phase : goal.returns-clause-phase
+returns-clause-phase c =
+    let first = ends_of c.new-faults.ensures (notes_then c.in_ok-targets.ensures.noted c.check_contributions.ensures) refl in
+    ends_with (uses_broken c.args.grammar.now c.args.attributes.now.attributes (map seen_given c.args.equations.now) (map seen_offer c.args.contributions.now)) _ (Ok tt) c.in_ok-answer.ensures first

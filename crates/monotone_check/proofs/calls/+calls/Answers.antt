@@ -1,7 +1,7 @@
 use Rattle.std.specs.Prelude.{Some}
 use Rattle.broken_rules.specs.declared.rule.Rule.TheVariants.{M2}
 use Rattle.broken_rules.proofs.Noting.{notes_then}
-use Rattle.attr_rules.specs.Kept.{rules_in}
+use Rattle.attr_equations.specs.Kept.{rules_in}
 use Rattle.monotone_check.specs.Equations.{is_circular}
 use Rattle.monotone_check.proofs.Noted.{said, boxed, both_boxed, chosen, said_arguments, boxed_arguments}
 use Rattle.monotone_check.proofs.calls.+calls.Goals as goal

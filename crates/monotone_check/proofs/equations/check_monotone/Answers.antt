@@ -1,5 +1,5 @@
 use Rattle.std.proofs.Common.{sym, ◌∙◌}
-use Rattle.attr_rules.specs.Kept.{rules_in}
+use Rattle.attr_equations.specs.Kept.{rules_in}
 use Rattle.monotone_check.specs.Equations.{equation_broken}
 use Rattle.monotone_check.proofs.Checked.{next_noted, none_found, first_found}
 use Rattle.monotone_check.proofs.equations.check_monotone.Goals as goal

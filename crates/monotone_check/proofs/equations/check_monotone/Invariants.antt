@@ -1,7 +1,7 @@
 -- What the equations so far break.
 use Rattle.std.proofs.Common.{take}
 use Rattle.std.specs.List.{flat_map}
-use Rattle.attr_rules.specs.Kept.{rules_in}
+use Rattle.attr_equations.specs.Kept.{rules_in}
 use Rattle.broken_rules.specs.Notes.{Notes}
 use Rattle.monotone_check.specs.Equations.{equation_broken}
 use Rattle.monotone_check.proofs.equations.check_monotone.Given as goal

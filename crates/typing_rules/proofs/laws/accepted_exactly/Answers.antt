@@ -1,4 +1,4 @@
-use Rattle.typing_rules.proofs.EquationsTyped.{accepted_exactly}
+use Rattle.typing_rules.proofs.AcceptedExactly.{accepted_exactly}
 use Rattle.typing_rules.proofs.laws.accepted_exactly.Goals as goal
 
 pub returns : goal.returns

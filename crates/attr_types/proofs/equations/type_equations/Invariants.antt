@@ -2,10 +2,10 @@
 use Rattle.std.proofs.Common.{◌≡◌, length, map, take}
 use Rattle.std.specs.List.{flat_map}
 use Rattle.broken_rules.specs.Notes.{Notes}
-use Rattle.attr_rules.specs.KeptEquations.{equation_in}
+use Rattle.attr_equations.specs.KeptEquations.{equation_in}
 use Rattle.attr_types.specs.Phases.{equation_broken, equation_of}
 use Rattle.attr_scope.specs.Seen.{seen_given}
-use Rattle.attr_types.proofs.equations.check_bodies.Given as goal
+use Rattle.attr_types.proofs.equations.type_equations.Given as goal
 
 abbrev pub invariant-loop-equation : goal.invariant-loop-equation
 invariant-loop-equation l = record {

@@ -4,7 +4,7 @@ use Rattle.attr_scope.specs.Seen.{seen_given}
 use Rattle.attr_heads.specs.Targets.{given_broken, target_given}
 use Rattle.attr_heads.specs.TargetsKept.{Holds}
 use Rattle.attr_scope.proofs.Gathering.{Makes}
-use Rattle.attr_heads.proofs.targets.check_targets.Given as goal
+use Rattle.attr_heads.proofs.targets.note_targets.Given as goal
 
 abbrev pub invariant-loop-equation : goal.invariant-loop-equation
 invariant-loop-equation l = record {
