@@ -5,9 +5,11 @@ use Rattle.std.proofs.lemmas.Option.{slice_get_within}
 use Rattle.equation_law.specs.declared.coding.Instance.{Instance as CodedInstance}
 use Rattle.equation_law.specs.declared.system.System.{System}
 use Rattle.equation_law.specs.Codes.{instance_of}
+use Rattle.equation_law.specs.Equations.{collection_of}
 use Rattle.equation_law.specs.Loops.{Chain}
 use Rattle.equation_law.specs.Program.{Program}
 use Rattle.equation_law.specs.Systems.{program_of}
+use Rattle.equation_law.proofs.Solution.{circular_single}
 use Rattle.expr_eval.specs.declared.saved.Saved.{Saved}
 use Rattle.expr_eval.specs.declared.sites.Turn.{Turn}
 use Rattle.expr_eval.specs.Saved.{AreSaved, SavesNothing}
@@ -43,6 +45,10 @@ same_step s d l number r final = record { goes = with_itself s d l r; answer = r
 
 pub kept_members : (s : System) (d : Held) (l : Local) → IsReady s d l → AreKept (program_of s) l.members.entries
 kept_members s d l r e there = let at = has_at l.members.entries e there in let m = r.local.set.members at.0 e at.1 in (m.coded, m.elements, m.fits)
+
+-- no member is a collection
+pub single_member : (s : System) (d : Held) (l : Local) → IsReady s d l → (number : ℕ) (e : CodedInstance × Member) → slice_get l.members.entries number ≡ Some e → collection_of (program_of s) (instance_of (program_of s) e.0) ≡ None
+single_member s d l r number e at = circular_single (program_of s) (instance_of (program_of s) e.0) (r.local.set.members number e at).is_circular
 
 -- what was read
 pub goes_read : (s : System) (d e : Held) (l m : Local) → IsReady s d l → ReadsOn d e → IsSame l m → GoesOnWith (program_at d) d e l m

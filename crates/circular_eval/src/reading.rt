@@ -1,5 +1,6 @@
 // What the equation of a member reads.
-ghost use Rattle.std.specs.Prelude.{◌≡◌, IfOk};
+ghost use Rattle.std.specs.Prelude.{◌≡◌, IfOk, None};
+ghost use Rattle.equation_law.specs.Equations.{collection_of};
 ghost use Rattle.equation_law.specs.Codes.{IsCoded, instance_of};
 ghost use Rattle.equation_law.specs.Systems.{program_of};
 ghost use Rattle.memo_cells.specs.Working.{IsOwn, ReadsOn};
@@ -62,6 +63,7 @@ pub(crate) fn evaluate<'a, W: Work>(
     requires own { IsOwn (W.held work.old) }
     requires same { (W.held work.old).0.system.value ≡ system.now }
     requires coded { IsCoded (program_of system.now) i.now }
+    requires single { collection_of (program_of system.now) (instance_of (program_of system.now) i.now) ≡ None }
     requires kept { AreKept (program_of system.now) local.now.members.entries }
     requires saved { AreSaved system.now (ReadsHere (program_of system.now) (W.held work.old).1 local.now.members.entries) saved.old }
     ensures on { ReadsOn (W.held work.old) (W.held work.new) }

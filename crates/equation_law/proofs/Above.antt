@@ -41,7 +41,7 @@ through f None y e = cc
 through f (Some x) y e = (x, refl, e)
 
 -- what is nothing comes of nothing
-map_nothing : {A B : Type 0} (f : A → B) (o : Option A) → option_map f o ≡ None → o ≡ None
+pub map_nothing : {A B : Type 0} (f : A → B) (o : Option A) → option_map f o ≡ None → o ≡ None
 map_nothing f None e = refl
 map_nothing f (Some x) e = cc
 
@@ -67,7 +67,7 @@ on_line f (c ∷ cs) k e = elim (f c) as (λ o. f c ≡ o → option_or o (first
 pub nearest_above : (s : List (Option ℕ)) (targets : List Target) (c a k : ℕ) → nearest_equation s targets c a ≡ Some k → (b : ℕ) × (is_below s c b ≡ true) × (own_equation targets a b ≡ Some k)
 nearest_above s targets c a k e = on_line (own_equation targets a) (upwards s c) k e
 
-both_hold : (x y : Bool) → (x && y) ≡ true → (x ≡ true) × (y ≡ true)
+pub both_hold : (x y : Bool) → (x && y) ≡ true → (x ≡ true) × (y ≡ true)
 both_hold true y e = (refl, e)
 both_hold false y e = cc
 

@@ -1,7 +1,7 @@
 -- The equation of an instance of a program demands only instances of it, and comes to a value of the instance's type.
-use Rattle.std.proofs.Common.{◌≡◌, ℕ, zero, suc, ℤ, Bool, true, false, cond, List, map, Contains, Option, Some, IsSome, length, slice_get, refl, sym, ap, subst, ◌∙◌, ◌++◌, ◌∷◌, append-nil, All, []}
+use Rattle.std.proofs.Common.{◌≡◌, ℕ, zero, suc, ℤ, Bool, true, false, cond, List, map, Contains, Option, Some, None, IsSome, length, slice_get, refl, sym, ap, subst, ◌∙◌, ◌++◌, ◌∷◌, append-nil, All, []}
 use Rattle.std.specs.Int.{int_wrap}
-use Rattle.std.specs.Option.{option_and_then, option_map}
+use Rattle.std.specs.Option.{option_and_then, option_map, option_or}
 use Rattle.std.proofs.lemmas.List.Elements.{All-head, All-tail}
 use Rattle.std.proofs.lemmas.Int.{SFits-int_wrap, int_wrap_fits}
 use mir.Syntax.{w32}
@@ -15,22 +15,27 @@ use Rattle.attr_rules.specs.declared.kinds.Attr.{Attr}
 use Rattle.attr_rules.specs.declared.kinds.Kind.{Kind}
 use Rattle.attr_rules.specs.declared.kinds.Kind.TheVariants as kinds
 use Rattle.attr_rules.specs.declared.kinds.Params.{Params}
+use Rattle.attr_rules.specs.declared.kinds.Sort.{Sort}
+use Rattle.attr_rules.specs.declared.kinds.Sort.TheVariants.{Syn, Inh, Nta, Coll}
 use Rattle.attr_rules.specs.declared.types.ValueType.TheVariants as types
 use Rattle.attr_rules.specs.Queries.{Query as Asked}
-use Rattle.attr_rules.specs.Rules.{Attribute as DeclaredAttribute, Equation, IsAttribute, IsEquation, IsParameter, Rises, bound_kinds, declared_at, equation_number, is_inherited, names_for, same_reach, target_in}
+use Rattle.attr_rules.specs.Rules.{Attribute as DeclaredAttribute, Equation, IsAttribute, IsEquation, IsParameter, Rises, bound_kinds, collecting_at, declared_at, equation_number, has_own_equations, is_collection, is_inherited, names_for, same_reach, target_in}
 use Rattle.attr_rules.specs.Types.{kept_kind, parameter_kinds}
 use Rattle.solutions.specs.Asking.{Demands, Ends, Gives, Needs, Meets, asks, gives, here, later, next}
 use Rattle.solutions.specs.Rounds.{Graph}
 use Rattle.equation_law.specs.Checked.{AreArguments, Fits, IsAt, IsInstance, IsProgram, IsTyped, IsValue, at, of_attribute, of_query, int, node, nodes, text, texts, truth}
-use Rattle.equation_law.specs.Equations.{Site, asked_kind, attribute_kind, bound_values, equation_for, equation_of, equations_of, inherited_site, inherits, kind_in, kind_or_truth, place_among, place_at, site_at, site_demands, synthesized_site, world_of, place_with}
+use Rattle.equation_law.specs.Collections.{Collection, collection_demands}
+use Rattle.equation_law.specs.Equations.{OfCollection, OfSite, Site, asked_kind, attribute_kind, bound_values, collection_at, collection_of, equation_demands, equation_for, equation_of, equations_of, inherited_site, inherits, kind_in, kind_or_truth, place_among, place_at, site_at, site_demands, site_of, synthesized_site, world_of, place_with}
 use Rattle.equation_law.specs.Meaning.{Place, meaning_of, named}
-use Rattle.equation_law.specs.Names.{Argument, At, Instance, Source}
+use Rattle.equation_law.specs.Names.{Argument, At, Attribute, Instance, Null, Query, Source}
 use Rattle.equation_law.specs.Program.{Program, class_of, declared_of, names_in}
 use Rattle.equation_law.specs.Values.{Value, argument_value, as_kind}
-use Rattle.equation_law.proofs.Above.{each_of, inherited_above, inherited_there, nearest_above, target_found, there_is}
+use Rattle.equation_law.proofs.Above.{each_of, inherited_above, inherited_there, map_nothing, nearest_above, target_found, there_is}
+use Rattle.equation_law.proofs.Collected.{collection_keeps, uncollected}
 use Rattle.equation_law.proofs.Lists.{some_of}
 use Rattle.equation_law.proofs.Pooled.{empty_there, text_there}
 use Rattle.equation_law.proofs.Preordered.{node_concrete}
+use Rattle.equation_law.proofs.Sites.{demands_of_site}
 use Rattle.equation_law.proofs.Typed.{AreBounds, AreNames, AreSingle, KeepsAll, all_behind, typed_keeps}
 use Rattle.equation_law.proofs.TypedValues.{IsOf, fitting, kept, of_int, of_value, value_read}
 
@@ -39,6 +44,13 @@ reach_own : (r : Reach) → same_reach r Own ≡ true → r ≡ Own
 reach_own Own e = refl
 reach_own (Component k) e = cc
 reach_own Children e = cc
+
+-- an attribute that is neither inherited nor a collection has equations of its own
+pub own_equations : (s : Sort) → is_inherited s ≡ false → is_collection s ≡ false → has_own_equations s ≡ true
+own_equations Syn e f = refl
+own_equations Inh e f = cc
+own_equations Nta e f = refl
+own_equations Coll e f = cc
 
 module _ (p : Program) (good : IsProgram p) where
   -- no parameter is a set
@@ -77,7 +89,7 @@ module _ (p : Program) (good : IsProgram p) where
     pub above : is_sub p.grammar c.0 equation.target.class.0 ≡ true
 
   -- there is one for each attribute of the class of a node
-  pub equation_is : (a k : ℕ) (c : ClassId) (d : Attr) → class_of p k ≡ Some c → declared_of p a ≡ Some d → is_inherited d.sort ≡ false → is_sub p.grammar c.0 d.class.0 ≡ true → IsFor a c
+  pub equation_is : (a k : ℕ) (c : ClassId) (d : Attr) → class_of p k ≡ Some c → declared_of p a ≡ Some d → has_own_equations d.sort ≡ true → is_sub p.grammar c.0 d.class.0 ≡ true → IsFor a c
   equation_is a k c d f e s b =
       let number = there_is (equation_number p.rules c a) (good.rules.complete c a d (node_concrete p.grammar (length p.texts) p.tree good.tree k c f) e s b) in
       let near = nearest_above p.rules.superclasses (map target_in p.rules.equations) c.0 a number.0 number.1 in
@@ -92,14 +104,14 @@ module _ (p : Program) (good : IsProgram p) where
         above = subst (λ (s : List (Option ℕ)). is_below s c.0 own.0.target.class.0 ≡ true) good.rules.superclasses (subst (λ (x : ℕ). is_below p.rules.superclasses c.0 x ≡ true) (sym own.2) near.1);
       }
 
-  -- each attribute of a node's class has an equation
-  attribute_site : (a k : ℕ) (xs : List Argument) (c : ClassId) (d : Attr) → class_of p k ≡ Some c → declared_of p a ≡ Some d → is_sub p.grammar c.0 d.class.0 ≡ true → IsSome (cond (inherits (declared_of p a)) (inherited_site p a xs k) (synthesized_site p a k xs))
-  attribute_site a k xs c d f e b =
+  -- each attribute of a node's class that is no collection has an equation
+  attribute_site : (a k : ℕ) (xs : List Argument) (c : ClassId) (d : Attr) → class_of p k ≡ Some c → declared_of p a ≡ Some d → is_collection d.sort ≡ false → is_sub p.grammar c.0 d.class.0 ≡ true → IsSome (cond (inherits (declared_of p a)) (inherited_site p a xs k) (synthesized_site p a k xs))
+  attribute_site a k xs c d f e r b =
       subst (λ (o : Option Attr). IsSome (cond (inherits o) (inherited_site p a xs k) (synthesized_site p a k xs))) (sym e)
       (elim (is_inherited d.sort) as (λ x. is_inherited d.sort ≡ x → IsSome (cond x (inherited_site p a xs k) (synthesized_site p a k xs))) [
         | true ↦ λ s. inherited_there p good a xs k c d f e s b
         | false ↦ λ s.
-            let q = equation_is a k c d f e s b in
+            let q = equation_is a k c d f e (own_equations d.sort s r) b in
             let there : synthesized_site p a k xs ≡ Some (site_at p a k xs q.equation) =
             ap (λ (o : Option ClassId). option_map (site_at p a k xs) (option_and_then (equation_for p a) o)) f ∙ ap (λ (o : Option Equation). option_map (site_at p a k xs) o) q.is
             in
@@ -109,10 +121,18 @@ module _ (p : Program) (good : IsProgram p) where
   abbrev query_site : Asked → Site
   query_site x = record { body = x.body; kind = x.kind; place = place_at 0 }
 
-  -- and so has each instance
+  -- and so has each instance that is none
+  pub has_site : (i : Instance) → IsInstance p i → collection_of p i ≡ None → IsSome (site_of p i)
+  has_site i (of_attribute {a = a} {k = k} {xs = xs} d c e f b q) none = attribute_site a k xs c d f e (uncollected p good a d e (map_nothing (collection_at p a k) (collecting_at p.rules.attributes a) none)) b
+  has_site i (of_query {q = q} e o) none = subst (λ (x : Option Asked). IsSome (option_map query_site x)) (sym o) refl
+
+  -- each instance has an equation
   pub has_equation : (i : Instance) → IsInstance p i → IsSome (equation_of p i)
-  has_equation i (of_attribute {a = a} {k = k} {xs = xs} d c e f b q) = attribute_site a k xs c d f e b
-  has_equation i (of_query {q = q} e o) = subst (λ (x : Option Asked). IsSome (option_map query_site x)) (sym o) refl
+  has_equation i h =
+      elim (collection_of p i) as (λ o. collection_of p i ≡ o → IsSome (option_or (option_map OfCollection o) (option_map OfSite (site_of p i)))) [
+        | Some c ↦ λ is. refl
+        | None ↦ λ none. let s = there_is (site_of p i) (has_site i h none) in subst (λ (o : Option Site). IsSome (option_map OfSite o)) (sym s.1) refl
+      ] refl
 
   module _ (I : ℤ → Type 0) (T : List ℕ → Type 0) (M : Instance → Value → Type 0) (bounds : AreBounds p I T M) where
     -- what a path binds is of its types
@@ -193,15 +213,15 @@ module _ (p : Program) (good : IsProgram p) where
         subst (λ (o : Option Site). KeepsAll p I T M (IsValue p (attribute_kind p a)) (site_demands (world_of p) o)) (sym site.1)
         (subst (λ (x : Site). KeepsAll p I T M (IsValue p (attribute_kind p a)) (site_demands (world_of p) (Some x))) up.is keeps)
 
-    -- the equation of an attribute
-    attribute_keeps : (a k : ℕ) (xs : List Argument) (c : ClassId) (d : Attr) → class_of p k ≡ Some c → declared_of p a ≡ Some d → is_sub p.grammar c.0 d.class.0 ≡ true → AreArguments p (parameter_kinds d.params) xs
+    -- the equation of an attribute that is no collection
+    attribute_keeps : (a k : ℕ) (xs : List Argument) (c : ClassId) (d : Attr) → class_of p k ≡ Some c → declared_of p a ≡ Some d → is_collection d.sort ≡ false → is_sub p.grammar c.0 d.class.0 ≡ true → AreArguments p (parameter_kinds d.params) xs
         → KeepsAll p I T M (IsValue p (attribute_kind p a)) (site_demands (world_of p) (cond (inherits (declared_of p a)) (inherited_site p a xs k) (synthesized_site p a k xs)))
-    attribute_keeps a k xs c d f e b are =
+    attribute_keeps a k xs c d f e r b are =
         let holds : Bool → Type 0 = λ x. KeepsAll p I T M (IsValue p (attribute_kind p a)) (site_demands (world_of p) (cond x (inherited_site p a xs k) (synthesized_site p a k xs))) in
         subst holds (sym (ap inherits e))
         (elim (is_inherited d.sort) as (λ x. is_inherited d.sort ≡ x → holds x) [
           | true ↦ λ s. inherited_keeps a k xs c d f e s b are
-          | false ↦ λ s. synthesized_keeps a k xs c d f e are (equation_is a k c d f e s b)
+          | false ↦ λ s. synthesized_keeps a k xs c d f e are (equation_is a k c d f e (own_equations d.sort s r) b)
         ] refl)
 
     -- the expression of a query, read at the root
@@ -213,12 +233,28 @@ module _ (p : Program) (good : IsProgram p) where
         (all_behind p I T M (IsOf p I T t.type) (IsValue p (kept_kind t.type)) (meaning_of (world_of p) e.body (place_at 0)) (λ v. Gives (as_kind (kept_kind t.type) v)) typed
         (λ v o. value_read p I T bounds.int_value bounds.text_value (kept_kind t.type) v (kept p I T t.type v o)))
 
-    -- the equation of each instance
-    site_keeps : (i : Instance) → IsInstance p i → KeepsAll p I T M (IsValue p (kind_in p i)) (site_demands (world_of p) (equation_of p i))
-    site_keeps i (of_attribute {a = a} {k = k} {xs = xs} d c e f b q) = attribute_keeps a k xs c d f e b q
-    site_keeps i (of_query {q = q} e o) =
+    -- that of each instance that is none
+    site_keeps : (i : Instance) → IsInstance p i → collection_of p i ≡ None → KeepsAll p I T M (IsValue p (kind_in p i)) (site_demands (world_of p) (site_of p i))
+    site_keeps i (of_attribute {a = a} {k = k} {xs = xs} d c e f b q) none = attribute_keeps a k xs c d f e (uncollected p good a d e (map_nothing (collection_at p a k) (collecting_at p.rules.attributes a) none)) b q
+    site_keeps i (of_query {q = q} e o) none =
         subst (λ (x : Option Asked). KeepsAll p I T M (IsValue p (kind_or_truth (option_map asked_kind x))) (site_demands (world_of p) (option_map query_site x))) (sym o)
         (query_keeps e (each_of (IsTyped p) p.queries q e good.queries o))
+
+    -- what is offered to each that is one
+    collected_keeps : (i : Instance) (c : Collection) → collection_of p i ≡ Some c → KeepsAll p I T M (IsValue p (kind_in p i)) (collection_demands (world_of p) c)
+    collected_keeps (Attribute a Null xs) c is = cc
+    collected_keeps (Attribute a (At (Source k)) xs) c is =
+        let s = some_of (collection_at p a k) (collecting_at p.rules.attributes a) c is in
+        subst (λ (x : Collection). KeepsAll p I T M (IsValue p (attribute_kind p a)) (collection_demands (world_of p) x)) s.2 (collection_keeps p good I T M bounds a k s.0 s.1)
+    collected_keeps (Query q) c is = cc
+
+    -- the equation of each instance
+    instance_keeps : (i : Instance) → IsInstance p i → KeepsAll p I T M (IsValue p (kind_in p i)) (equation_demands (world_of p) (equation_of p i))
+    instance_keeps i h =
+        elim (collection_of p i) as (λ o. collection_of p i ≡ o → KeepsAll p I T M (IsValue p (kind_in p i)) (equation_demands (world_of p) (option_or (option_map OfCollection o) (option_map OfSite (site_of p i))))) [
+          | Some c ↦ λ is. collected_keeps i c is
+          | None ↦ λ none. subst (KeepsAll p I T M (IsValue p (kind_in p i))) (sym (demands_of_site (world_of p) (site_of p i))) (site_keeps i h none)
+        ] refl
 
   -- integers of 32 bits, texts of the program, and values of their instances' types
   abbrev IsWrapped : ℤ → Type 0
@@ -263,7 +299,7 @@ module _ (p : Program) (good : IsProgram p) where
   -- the value with which an equation ends
   pub ended_typed : (A : Instance → Value → Type 0) → ((j : Instance) (w : Value) → IsInstance p j → A j w → IsValue p (kind_in p j) w) → (i : Instance) → IsInstance p i → (v : Value) (demands : List Instance) → Ends A ((equations_of p).equation i) v demands → IsValue p (kind_in p i) v
   unfolding equations_of
-  ended_typed A f i h v demands e = ended (kind_in p i) A f (site_demands (world_of p) (equation_of p i)) (site_keeps IsWrapped IsText IsTypedValue value_bounds i h) e
+  ended_typed A f i h v demands e = ended (kind_in p i) A f (equation_demands (world_of p) (equation_of p i)) (instance_keeps IsWrapped IsText IsTypedValue value_bounds i h) e
 
   pub well_typed_values : (i : Instance) → IsInstance p i → (A : Instance → Option Value) → Fits p A → (v : Value) (demands : List Instance) → Ends (Graph A) ((equations_of p).equation i) v demands → IsValue p (kind_in p i) v
   well_typed_values i h A fit v demands e = ended_typed (Graph A) (λ j w q a. fit.fits j w a) i h v demands e
@@ -276,7 +312,7 @@ module _ (p : Program) (good : IsProgram p) where
 
   pub met_instances : (i j : Instance) → IsInstance p i → (A : Instance → Value → Type 0) → ((j : Instance) (w : Value) → IsInstance p j → A j w → IsValue p (kind_in p j) w) → Meets A ((equations_of p).equation i) j → IsInstance p j
   unfolding equations_of
-  met_instances i j h A f m = met (kind_in p i) A f (site_demands (world_of p) (equation_of p i)) j (site_keeps IsWrapped IsText IsTypedValue value_bounds i h) m
+  met_instances i j h A f m = met (kind_in p i) A f (equation_demands (world_of p) (equation_of p i)) j (instance_keeps IsWrapped IsText IsTypedValue value_bounds i h) m
 
   pub demands_instances : (i j : Instance) → IsInstance p i → (A : Instance → Option Value) → Fits p A → Meets (Graph A) ((equations_of p).equation i) j → IsInstance p j
   demands_instances i j h A fit m = met_instances i j h (Graph A) (λ k w q a. fit.fits k w a) m

@@ -3,6 +3,7 @@ mod AllInstances
 pub mod Bounded
 pub mod Checked
 pub mod Codes
+pub mod Collected
 pub mod Deciding
 pub mod Declared
 pub mod Demanded
@@ -15,19 +16,24 @@ pub mod KeysAsked
 pub mod Listed
 pub mod Lists
 pub mod Names
+mod Offered
 pub mod Orders
 pub mod Pooled
 pub mod Preordered
 pub mod QueryValues
 pub mod Quiet
+pub mod Roots
 pub mod Sets
 pub mod SetsOrder
+pub mod Sites
 pub mod Solution
 mod Spanned
+pub mod Subtree
 pub mod Typed
 pub mod TypedValues
 mod Worked
 mod WorkedCircular
+mod WorkedCollections
 mod WorkedLoops
 mod WorkedPaths
 pub mod Written

@@ -1,10 +1,10 @@
 -- The laws of the solution of a program: the equations of its circular instances rise, and their values have an order, joins and heights.
-use Rattle.std.proofs.Common.{◌≡◌, ◌↔◌, ℕ, true, false, ◌&&◌, cond, List, Option, Some, refl, sym, ap, subst, ◌∙◌, inl, inr}
-use Rattle.std.specs.Option.{option_and_then}
+use Rattle.std.proofs.Common.{◌≡◌, ◌↔◌, ℕ, true, false, ◌&&◌, cond, List, Option, Some, None, refl, sym, ap, subst}
+use Rattle.std.specs.Option.{option_and_then, option_map, option_or}
 use Rattle.attr_rules.specs.declared.kinds.Kind.{Kind}
 use Rattle.attr_rules.specs.declared.kinds.Kind.TheVariants as kinds
 use Rattle.attr_rules.specs.Expression.{Expression}
-use Rattle.attr_rules.specs.Rising.{IsRising}
+use Rattle.attr_rules.specs.Rising.{IsRising, rises}
 use Rattle.attr_rules.specs.Rules.{circular_at}
 use Rattle.attr_rules.proofs.Permitted.{test_rising}
 use Rattle.solutions.specs.Asking.{Demands, Ends, Gives, Halts, Meets, Needs, next}
@@ -19,13 +19,13 @@ use Rattle.solutions.proofs.Growing.{done_below, growing}
 use Rattle.solutions.proofs.Loops.{no_loop}
 use Rattle.solutions.proofs.Lower.{joined_lower, lower_below, raised_lower}
 use Rattle.solutions.proofs.Reaching.{reach_is}
-use Rattle.solutions.proofs.Runs.{and_true, option_cases}
+use Rattle.solutions.proofs.Runs.{and_true}
 use Rattle.solutions.proofs.Solved.{met_leads as met_leads_in, solved}
 use Rattle.solutions.proofs.Unique.{stuck_no_val, unique}
 use Rattle.equation_law.specs.Names.{Argument, At, Attribute, Instance, Null, Query, Reference, Source, same_instance}
 use Rattle.equation_law.specs.Values.{Value, as_kind, default_of, nodes, texts, truth}
 use Rattle.equation_law.specs.Program.{Program, class_of, declared_of}
-use Rattle.equation_law.specs.Equations.{HasValue, Site, attribute_kind, equation_for, equation_of, equations_of, inherited_site, inherits, is_circular, is_ordered, kind_in, site_at, site_demands, site_rises, synthesized_site, world_of}
+use Rattle.equation_law.specs.Equations.{HasValue, InstanceEquation, OfCollection, OfSite, Site, attribute_kind, collection_of, equation_demands, equation_for, equation_of, equation_rises, equations_of, inherited_site, inherits, is_circular, is_ordered, kind_in, site_at, site_of, synthesized_site, world_of}
 use Rattle.equation_law.specs.Loops.{order_in, fits_in, join_in, Chain, HasLoop, Leads}
 use Rattle.equation_law.specs.Lower.{IsClosed, IsLower, joined, raised_at}
 use Rattle.equation_law.specs.Meaning.{Place, meaning_of}
@@ -35,11 +35,12 @@ use Rattle.equation_law.proofs.Growing.{kind_below, rises as rising_meaning}
 use Rattle.equation_law.proofs.Heights.{height_of, height_grows, height_strict}
 use Rattle.equation_law.proofs.Lists.{some_of}
 use Rattle.equation_law.proofs.Names.{same_instance_is, same_instance_self}
+use Rattle.equation_law.proofs.Sites.{collection_equation}
 use Rattle.equation_law.proofs.Orders.{at_most_both, at_most_itself, at_most_through, default_least, join_fits, join_least, join_left, join_right}
 
 -- what isn't declared circular isn't
 pub not_circular : (p : Program) (a : ℕ) (r : Reference) (xs : List Argument) → circular_at p.rules.attributes a ≡ false → is_circular p (Attribute a r xs) ≡ false
-not_circular p a r xs e = ap (λ b. b && (is_ordered (attribute_kind p a) && site_rises (circular_at p.rules.attributes) (equation_of p (Attribute a r xs)))) e
+not_circular p a r xs e = ap (λ b. b && (is_ordered (attribute_kind p a) && equation_rises (circular_at p.rules.attributes) (equation_of p (Attribute a r xs)))) e
 
 -- where no attribute is declared so, no instance is
 pub none_circular : (p : Program) → ((a : ℕ) → circular_at p.rules.attributes a ≡ false) → (i : Instance) → (equations_of p).circular i ≡ false
@@ -65,7 +66,7 @@ default_fits kinds.Texts e = (_, refl)
 default_fits (kinds.Nodes c) e = (_, refl)
 
 -- an equation is read at the type of its attribute
-site_kind : (p : Program) (a : ℕ) (r : Reference) (xs : List Argument) (s : Site) → equation_of p (Attribute a r xs) ≡ Some s → s.kind ≡ attribute_kind p a
+site_kind : (p : Program) (a : ℕ) (r : Reference) (xs : List Argument) (s : Site) → site_of p (Attribute a r xs) ≡ Some s → s.kind ≡ attribute_kind p a
 site_kind p a Null xs s e = cc
 site_kind p a (At (Source k)) xs s e =
     elim (inherits (declared_of p a)) as (λ b. cond b (inherited_site p a xs k) (synthesized_site p a k xs) ≡ Some s → s.kind ≡ attribute_kind p a) [
@@ -73,10 +74,23 @@ site_kind p a (At (Source k)) xs s e =
       | false ↦ λ h. ap (λ (x : Site). x.kind) (sym (some_of (site_at p a k xs) (option_and_then (equation_for p a) (class_of p k)) s h).2)
     ] e
 
+-- an equation that rises is an expression
+rising_site : (p : Program) (i : Instance) → equation_rises (circular_at p.rules.attributes) (equation_of p i) ≡ true → (s : Site) × (site_of p i ≡ Some s) × (equation_of p i ≡ Some (OfSite s)) × (rises (circular_at p.rules.attributes) s.body ≡ true)
+rising_site p i h =
+    let Circular = circular_at p.rules.attributes in
+    let Wanted : Option InstanceEquation → Type 0 = λ o. (s : Site) × (site_of p i ≡ Some s) × (o ≡ Some (OfSite s)) × (rises Circular s.body ≡ true) in
+    elim (collection_of p i) as (λ o. equation_rises Circular (option_or (option_map OfCollection o) (option_map OfSite (site_of p i))) ≡ true → Wanted (option_or (option_map OfCollection o) (option_map OfSite (site_of p i)))) [
+      | Some c ↦ λ e. absurd (cc)
+      | None ↦ λ e. elim (site_of p i) as (λ o. site_of p i ≡ o → equation_rises Circular (option_map OfSite o) ≡ true → Wanted (option_map OfSite o)) [
+        | Some s ↦ λ is up. (s, is, refl, up)
+        | None ↦ λ none up. absurd (cc)
+      ] refl e
+    ] h
+
 -- the equation of a circular instance
 pub record HasSite (p : Program) (i : Instance) : Type 0 where
   pub site : Site
-  pub is : equation_of p i ≡ Some site
+  pub is : equation_of p i ≡ Some (OfSite site)
   pub rising : IsRising (circular_at p.rules.attributes) site.body
   pub kind : site.kind ≡ kind_in p i
   pub ordered : is_ordered (kind_in p i) ≡ true
@@ -86,17 +100,26 @@ circular_site p (Query q) c = absurd (cc)
 circular_site p (Attribute a r xs) c =
     let declared = circular_at p.rules.attributes in
     let d = and_true (declared a) _ c in
-    let e = and_true (is_ordered (attribute_kind p a)) (site_rises declared (equation_of p (Attribute a r xs))) d.1 in
-    elim (option_cases (equation_of p (Attribute a r xs))) [
-      | inl s ↦ record {
-        site = s.0;
-        is = s.1;
-        rising = test_rising declared s.0.body (sym (ap (site_rises declared) s.1) ∙ e.1);
-        kind = site_kind p a r xs s.0 s.1;
-        ordered = e.0;
-      }
-      | inr n ↦ (let f : site_rises declared (equation_of p (Attribute a r xs)) ≡ false = ap (site_rises declared) n in let t = e.1 in absurd (cc))
-    ]
+    let e = and_true (is_ordered (attribute_kind p a)) (equation_rises declared (equation_of p (Attribute a r xs))) d.1 in
+    let s = rising_site p (Attribute a r xs) e.1 in
+    record {
+      site = s.0;
+      is = s.2;
+      rising = test_rising declared s.0.body s.3;
+      kind = site_kind p a r xs s.0 s.1;
+      ordered = e.0;
+    }
+
+-- a circular instance is no collection
+pub circular_single : (p : Program) (i : Instance) → (equations_of p).circular i ≡ true → collection_of p i ≡ None
+unfolding equations_of
+circular_single p i c =
+    let s = circular_site p i c in
+    let is = s.is in
+    elim (collection_of p i) as (λ o. collection_of p i ≡ o → o ≡ None) [
+      | None ↦ λ e. refl
+      | Some d ↦ λ e. let other = collection_equation p i d e in absurd (cc)
+    ] refl
 
 -- what demands come to, one after the other
 leaves_next : {I V : Type 0} (P : V → Type 0) (c : Demands I V) (k : V → Demands I V) → ((v : V) → Leaves P (k v)) → Leaves P (next c k)
@@ -104,18 +127,18 @@ leaves_next P (Gives v) k h = h v
 leaves_next P (Needs j f) k h = λ v. leaves_next P (f v) k h
 
 -- it comes to values of the instance's type
-circular_fits : (p : Program) (i : Instance) → is_circular p i ≡ true → Leaves (fits_in p i) (site_demands (world_of p) (equation_of p i))
+circular_fits : (p : Program) (i : Instance) → is_circular p i ≡ true → Leaves (fits_in p i) (equation_demands (world_of p) (equation_of p i))
 circular_fits p i c =
     let s = circular_site p i c in
-    subst (λ (o : Option Site). Leaves (fits_in p i) (site_demands (world_of p) o)) (sym s.is)
+    subst (λ (o : Option InstanceEquation). Leaves (fits_in p i) (equation_demands (world_of p) o)) (sym s.is)
     (leaves_next (fits_in p i) (meaning_of (world_of p) s.site.body s.site.place) (λ v. Gives (as_kind s.site.kind v)) (λ v. subst (λ (k : Kind). FitsKind (kind_in p i) (as_kind k v)) (sym s.kind) (read_fits (kind_in p i) s.ordered v)))
 
 -- and rises
-circular_rises : (p : Program) (i : Instance) → is_circular p i ≡ true → Rise (is_circular p) (order_in p) (order_in p i) (site_demands (world_of p) (equation_of p i)) (site_demands (world_of p) (equation_of p i))
+circular_rises : (p : Program) (i : Instance) → is_circular p i ≡ true → Rise (is_circular p) (order_in p) (order_in p i) (equation_demands (world_of p) (equation_of p i)) (equation_demands (world_of p) (equation_of p i))
 circular_rises p i c =
     let s = circular_site p i c in
     let up = rising_meaning (world_of p) (is_circular p) (circular_at p.rules.attributes) (not_circular p) s.rising s.site.place in
-    subst (λ (o : Option Site). Rise (is_circular p) (order_in p) (order_in p i) (site_demands (world_of p) o) (site_demands (world_of p) o)) (sym s.is)
+    subst (λ (o : Option InstanceEquation). Rise (is_circular p) (order_in p) (order_in p i) (equation_demands (world_of p) o) (equation_demands (world_of p) o)) (sym s.is)
     (rise_next (λ v. Gives (as_kind s.site.kind v)) (λ v. Gives (as_kind s.site.kind v)) up (λ v w l. leaves (kind_below s.site.kind v w l)))
 
 -- all rules of rising equations hold

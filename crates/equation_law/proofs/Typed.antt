@@ -133,7 +133,7 @@ zero_wrapped = refl
 
 module _ (p : Program) (I : ℤ → Type 0) (T : List ℕ → Type 0) (M : Instance → Value → Type 0) (bounds : AreBounds p I T M) where
   -- the default of a type
-  default_keeps : (k : Kind) → IsOf p I T (types.Of k) (default_of k)
+  pub default_keeps : (k : Kind) → IsOf p I T (types.Of k) (default_of k)
   default_keeps kinds.Truth = of_truth false
   default_keeps kinds.Int = of_int (pos 0) (bounds.literal (pos 0) zero_wrapped)
   default_keeps kinds.Text = of_text [] bounds.empty

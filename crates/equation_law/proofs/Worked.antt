@@ -19,15 +19,15 @@ use Rattle.equation_law.specs.Names.{At, Attribute, Instance, Null, Query, Sourc
 use Rattle.equation_law.specs.Values.{Int, Node, Text, Truth, as_kind, truth}
 use Rattle.equation_law.specs.Meaning.{Place, meaning_of, operate}
 use Rattle.equation_law.specs.Program.{Program, at_source, source_instances}
-use Rattle.equation_law.specs.Equations.{HasValue, equation_of, equations_of, world_of}
+use Rattle.equation_law.specs.Equations.{HasValue, OfSite, equation_of, equations_of, world_of}
 use Rattle.equation_law.proofs.Names.{same_instance_is}
 use Rattle.equation_law.proofs.Solution.{none_circular}
 
 -- what is declared, and the equations
 abbrev attributes : List Declared
 attributes =
-    record { name = codes "v"; declared = plain_attribute (record { 0 = 0 }) kinds.Int } ∷
-    record { name = codes "w"; declared = plain_attribute (record { 0 = 1 }) kinds.Truth } ∷
+    record { name = codes "v"; declared = plain_attribute (record { 0 = 0 }) kinds.Int; collecting = None } ∷
+    record { name = codes "w"; declared = plain_attribute (record { 0 = 1 }) kinds.Truth; collecting = None } ∷
     []
 
 abbrev equations : List Equation
@@ -79,7 +79,7 @@ four_nodes =
 abbrev small : Program
 small = record {
   grammar = classes;
-  rules = record { superclasses = superclasses_of classes; attributes = attributes; equations = equations };
+  rules = record { superclasses = superclasses_of classes; attributes = attributes; equations = equations; contributions = [] };
   tree = four_nodes;
   texts = [] ∷ codes "x" ∷ codes "y" ∷ [];
   queries = record { body = v; kind = kinds.Int } ∷ [];
@@ -116,12 +116,12 @@ unfolding source_instances superclasses_of line_of
 instances = refl
 
 -- the equation of its attribute at the root
-of_attribute : equation_of small (at_source 0 0) ≡ Some (record { body = IntLiteral (pos 5); kind = kinds.Int; place = root })
+of_attribute : equation_of small (at_source 0 0) ≡ Some (OfSite (record { body = IntLiteral (pos 5); kind = kinds.Int; place = root }))
 unfolding superclasses_of line_of
 of_attribute = refl
 
 -- that of the query
-of_query : equation_of small (Query 0) ≡ Some (record { body = v; kind = kinds.Int; place = root })
+of_query : equation_of small (Query 0) ≡ Some (OfSite (record { body = v; kind = kinds.Int; place = root }))
 unfolding superclasses_of line_of
 of_query = refl
 

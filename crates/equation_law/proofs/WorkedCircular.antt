@@ -72,11 +72,11 @@ equation_at c r a body = record { target = record { class = record { 0 = c }; re
 abbrev booleans : Program
 booleans =
     at_one_node
-    (record { name = codes "x"; declared = circular_truth } ∷
-    record { name = codes "y"; declared = circular_truth } ∷
-    record { name = codes "c"; declared = plain_attribute (record { 0 = 0 }) kinds.Truth } ∷
-    record { name = codes "d"; declared = circular_truth } ∷
-    record { name = codes "e"; declared = circular_truth } ∷
+    (record { name = codes "x"; declared = circular_truth; collecting = None } ∷
+    record { name = codes "y"; declared = circular_truth; collecting = None } ∷
+    record { name = codes "c"; declared = plain_attribute (record { 0 = 0 }) kinds.Truth; collecting = None } ∷
+    record { name = codes "d"; declared = circular_truth; collecting = None } ∷
+    record { name = codes "e"; declared = circular_truth; collecting = None } ∷
     [])
     (equation_at 0 Own 0 (call 1) ∷ equation_at 0 Own 1 (call 0) ∷ equation_at 0 Own 2 (call 3) ∷ equation_at 0 Own 3 (call 2) ∷ equation_at 0 Own 4 (Not (call 4)) ∷ [])
 
@@ -168,9 +168,9 @@ ring = record {
   rules = record {
     superclasses = superclasses_of two_classes;
     attributes =
-        record { name = codes "next"; declared = record { class = record { 0 = 1 }; sort = Inh; kind = kinds.Node (record { 0 = 1 }); params = no_params; circular = false; start = Plain } } ∷
-        record { name = codes "reach"; declared = record { class = record { 0 = 1 }; sort = Syn; kind = kinds.Nodes (record { 0 = 1 }); params = no_params; circular = true; start = Empty } } ∷
-        record { name = codes "all"; declared = record { class = record { 0 = 1 }; sort = Syn; kind = kinds.Nodes (record { 0 = 1 }); params = no_params; circular = true; start = Empty } } ∷
+        record { name = codes "next"; declared = record { class = record { 0 = 1 }; sort = Inh; kind = kinds.Node (record { 0 = 1 }); params = no_params; circular = false; start = Plain }; collecting = None } ∷
+        record { name = codes "reach"; declared = record { class = record { 0 = 1 }; sort = Syn; kind = kinds.Nodes (record { 0 = 1 }); params = no_params; circular = true; start = Empty }; collecting = None } ∷
+        record { name = codes "all"; declared = record { class = record { 0 = 1 }; sort = Syn; kind = kinds.Nodes (record { 0 = 1 }); params = no_params; circular = true; start = Empty }; collecting = None } ∷
         [];
     equations =
         equation_at 0 (Component 0) 0 (Child 1 This) ∷
@@ -178,6 +178,7 @@ ring = record {
         equation_at 1 Own 1 (Sets Union (kinds.Nodes (record { 0 = 1 })) (Single (call 0)) (Call 1 (record { line = 1; column = 1 }) (call 0) no_more)) ∷
         equation_at 1 Own 2 (Sets Union (kinds.Nodes (record { 0 = 1 })) (Single (call 0)) (EachOfSet (kinds.Nodes (record { 0 = 1 })) (call 2) next_of_element)) ∷
         [];
+    contributions = [];
   };
   tree =
       record { class = record { 0 = 0 }; parent = 0; component = 0; tokens = 0 ∷ 0 ∷ [] } ∷

@@ -27,12 +27,12 @@ call a = Call a (record { line = 1; column = 1 }) This no_more
 
 abbrev attributes : List Declared
 attributes =
-    record { name = codes "x"; declared = plain_attribute (record { 0 = 0 }) kinds.Truth } ∷
-    record { name = codes "y"; declared = plain_attribute (record { 0 = 0 }) kinds.Truth } ∷
-    record { name = codes "z"; declared = plain_attribute (record { 0 = 0 }) kinds.Int } ∷
-    record { name = codes "w"; declared = plain_attribute (record { 0 = 0 }) kinds.Truth } ∷
-    record { name = codes "a"; declared = plain_attribute (record { 0 = 0 }) kinds.Truth } ∷
-    record { name = codes "b"; declared = plain_attribute (record { 0 = 0 }) kinds.Truth } ∷
+    record { name = codes "x"; declared = plain_attribute (record { 0 = 0 }) kinds.Truth; collecting = None } ∷
+    record { name = codes "y"; declared = plain_attribute (record { 0 = 0 }) kinds.Truth; collecting = None } ∷
+    record { name = codes "z"; declared = plain_attribute (record { 0 = 0 }) kinds.Int; collecting = None } ∷
+    record { name = codes "w"; declared = plain_attribute (record { 0 = 0 }) kinds.Truth; collecting = None } ∷
+    record { name = codes "a"; declared = plain_attribute (record { 0 = 0 }) kinds.Truth; collecting = None } ∷
+    record { name = codes "b"; declared = plain_attribute (record { 0 = 0 }) kinds.Truth; collecting = None } ∷
     []
 
 -- the equation of an attribute at N
@@ -51,7 +51,7 @@ one_class = record { name = codes "N"; abstract = false; superclass = None; comp
 abbrev pub at_one_node : List Declared → List Equation → Program
 at_one_node attributes equations = record {
   grammar = one_class;
-  rules = record { superclasses = superclasses_of one_class; attributes = attributes; equations = equations };
+  rules = record { superclasses = superclasses_of one_class; attributes = attributes; equations = equations; contributions = [] };
   tree = record { class = record { 0 = 0 }; parent = 0; component = 0; tokens = [] } ∷ [];
   texts = [] ∷ [];
   queries = [];

@@ -13,7 +13,7 @@ use Rattle.attr_rules.specs.declared.kinds.Sort.TheVariants.{Inh}
 use Rattle.attr_rules.specs.declared.kinds.Start.TheVariants.{Plain}
 use Rattle.attr_rules.specs.Expression.{Binary, Expression, Int as IntLiteral, Variable}
 use Rattle.attr_rules.specs.Rules.{Attribute, Equation, Uncovered, below, no_params, root}
-use Rattle.equation_law.specs.Equations.{Site, equation_of}
+use Rattle.equation_law.specs.Equations.{InstanceEquation, OfSite, equation_of}
 use Rattle.equation_law.specs.Names.{At, Source}
 use Rattle.equation_law.specs.Program.{Program, at_source}
 use Rattle.equation_law.specs.Values.{Int, Value}
@@ -35,7 +35,7 @@ tree =
 
 -- `inh int C.depth()` for a class
 abbrev depth : ℕ → Attribute
-depth c = record { name = codes "depth"; declared = record { class = record { 0 = c }; sort = Inh; kind = kinds.Int; params = no_params; circular = false; start = Plain } }
+depth c = record { name = codes "depth"; declared = record { class = record { 0 = c }; sort = Inh; kind = kinds.Int; params = no_params; circular = false; start = Plain }; collecting = None }
 
 -- an equation of a class for the first attribute
 abbrev at_children : ℕ → Reach → Expression → Equation
@@ -54,15 +54,15 @@ of_block = at_children 1 Children (IntLiteral (pos 2))
 abbrev program : List Equation → Program
 program equations = record {
   grammar = classes;
-  rules = record { superclasses = superclasses_of classes; attributes = depth 2 ∷ depth 1 ∷ []; equations = equations };
+  rules = record { superclasses = superclasses_of classes; attributes = depth 2 ∷ depth 1 ∷ []; equations = equations; contributions = [] };
   tree = tree;
   texts = [] ∷ [];
   queries = [];
 }
 
 -- an expression that is read at a source node, with these names
-abbrev read : Expression → ℕ → List Value → Option Site
-read e k names = Some (record { body = e; kind = kinds.Int; place = record { this = At (Source k); names = names } })
+abbrev read : Expression → ℕ → List Value → Option InstanceEquation
+read e k names = Some (OfSite (record { body = e; kind = kinds.Int; place = record { this = At (Source k); names = names } }))
 
 -- the closest ancestor decides, and the path binds the place in its list
 closest : equation_of (program (of_program ∷ of_statements ∷ [])) (at_source 0 3) ≡ read (Binary Add (Variable 0) (IntLiteral (pos 10))) 1 (Int (pos 1) ∷ [])
@@ -98,6 +98,6 @@ at_root : equation_of (program (of_program ∷ [])) (at_source 0 0) ≡ None
 at_root = refl
 
 -- and then the class is uncovered
-block_uncovered : Uncovered classes (record { superclasses = superclasses_of classes; attributes = depth 2 ∷ depth 1 ∷ []; equations = of_statements ∷ [] }) 1 1
+block_uncovered : Uncovered classes (record { superclasses = superclasses_of classes; attributes = depth 2 ∷ depth 1 ∷ []; equations = of_statements ∷ []; contributions = [] }) 1 1
 unfolding superclasses_of line_of
 block_uncovered = below {p = 0} 0 (record { name = codes "Block"; number = 0; shape = shapes.Child; class = record { 0 = 1 } }) (root refl refl) refl refl refl refl refl

@@ -1,5 +1,5 @@
 -- Programs that break no rule, their instances, and the values of each type.
-use Rattle.std.specs.Prelude.{◌≡◌, ℕ, ℤ, true, Bool, List, [], ◌∷◌, Option, Some, All, length, slice_get}
+use Rattle.std.specs.Prelude.{◌≡◌, ◌<◌, ℕ, ℤ, true, Bool, List, [], ◌∷◌, Option, Some, All, length, slice_get}
 use Rattle.std.specs.Int.{int_wrap}
 use Rattle.std.specs.List.{Contains}
 use mir.Syntax.{w32}
@@ -17,7 +17,8 @@ use Rattle.attr_rules.specs.Typing.{HasType}
 use Rattle.tree_arena.specs.Terms.{IsTreeOf}
 use Rattle.equation_law.specs.Names.{NodeName, Source, Reference, Null, At, Argument, Instance, Attribute, Query, node_cmp, text_cmp}
 use Rattle.equation_law.specs.Program.{Program, class_of, declared_of, names_in}
-use Rattle.equation_law.specs.Equations.{kind_in}
+use Rattle.equation_law.specs.Collections.{Offer}
+use Rattle.equation_law.specs.Equations.{kind_in, upwards_from}
 use Rattle.equation_law.specs.Sets.{SetBy, has}
 use Rattle.equation_law.specs.Values.{Value, Truth, Int, Text, Node, Texts, Nodes, argument_value}
 
@@ -41,6 +42,15 @@ pub record IsAt (p : Program) (k : ℕ) (c : ClassId) : Type 0 where
   pub class : ClassId
   pub of : class_of p k ≡ Some class
   pub below : is_sub p.grammar class.0 c.0 ≡ true
+
+-- An offer to an attribute in the subtree of a node: a contribution of the rules to it, at a node of its class or of a subclass whose way upwards meets
+-- the other.
+pub record IsOfferBelow (p : Program) (a r : ℕ) (o : Offer) : Type 0 where
+  pub contribution : Contains p.rules.contributions o.contribution
+  pub target : o.contribution.target.0 ≡ a
+  pub stands : IsAt p o.node o.contribution.class
+  pub within : o.node < length p.tree
+  pub under : Contains (upwards_from o.node p.tree o.node) r
 
 -- null, or a source node of the class or of a subclass
 pub data IsNodeOf (p : Program) (c : ClassId) : Reference → Type 0 where

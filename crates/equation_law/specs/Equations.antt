@@ -1,6 +1,7 @@
 -- The equations of the instances of a program, and the solution.
-use Rattle.std.specs.Prelude.{ℕ, zero, suc, ℤ, pos, negsuc, List, [], ◌∷◌, Bool, true, false, ◌&&◌, cond, Option, Some, None, slice_get, ◌++◌, map}
+use Rattle.std.specs.Prelude.{ℕ, zero, suc, ℤ, pos, negsuc, List, [], ◌∷◌, Bool, true, false, ◌&&◌, cond, Option, Some, None, slice_get, ◌++◌, map, ◌-◌, ◌==◌}
 use Rattle.std.specs.Int.{int_wrap}
+use Rattle.std.specs.List.{filter, find, flat_map, range_with_len}
 use Rattle.std.specs.Option.{option_and_then, option_map, option_or}
 use mir.Syntax.{w32}
 use Rattle.ast_grammar.specs.declared.grammar.ClassId.{ClassId}
@@ -9,15 +10,17 @@ use Rattle.attr_rules.specs.declared.dispatch.Reach.TheVariants.{Own, Component,
 use Rattle.attr_rules.specs.declared.kinds.Attr.{Attr}
 use Rattle.attr_rules.specs.declared.kinds.Kind.{Kind}
 use Rattle.attr_rules.specs.declared.kinds.Kind.TheVariants as kinds
+use Rattle.attr_rules.specs.declared.kinds.Collecting.{Collecting}
 use Rattle.attr_rules.specs.Expression.{Expression}
 use Rattle.attr_rules.specs.Queries.{Query as Asked}
 use Rattle.attr_rules.specs.Rising.{rises}
-use Rattle.attr_rules.specs.Rules.{Equation, circular_at, covering_number, equation_number, is_inherited}
+use Rattle.attr_rules.specs.Rules.{Contribution, Equation, circular_at, collecting_at, covering_number, equation_number, is_inherited}
 use Rattle.attr_rules.specs.Types.{is_below}
 use Rattle.solutions.specs.Asking.{Demands, Gives, next}
 use Rattle.solutions.specs.Rounds.{Equations, HasValue as HasValueOf}
-use Rattle.tree_arena.specs.Nodes.{Node as TreeNode, child_in, component_in, count_in, index_in, parent_in, token_in}
+use Rattle.tree_arena.specs.Nodes.{Node as TreeNode, child_in, component_in, count_in, end_in, index_in, parent_in, token_in}
 use Rattle.equation_law.specs.Codes.{value_at}
+use Rattle.equation_law.specs.Collections.{Collection, Offer, collection_demands}
 use Rattle.equation_law.specs.Names.{NodeName, Source, Reference, Null, At, Argument, Instance, Attribute, Query, same_instance}
 use Rattle.equation_law.specs.Values.{Int, Node, Value, argument_value, as_kind, default_of}
 use Rattle.equation_law.specs.Program.{Program, attribute_parameters, declared_of, class_of, text_of}
@@ -146,17 +149,64 @@ abbrev pub inherits : Option Attr → Bool
 inherits None = false
 inherits (Some d) = is_inherited d.sort
 
--- The equation of an instance. That of a synthesized attribute at a node is the one of the node's class, that of an inherited one is found
--- above the node, and that of a query is the query's expression, read at the root.
-abbrev pub equation_of : Program → Instance → Option Site
-equation_of p (Attribute a Null xs) = None
-equation_of p (Attribute a (At (Source k)) xs) = cond (inherits (declared_of p a)) (inherited_site p a xs k) (synthesized_site p a k xs)
-equation_of p (Query q) = option_map (λ e. record { body = e.body; kind = e.kind; place = place_at 0 }) (slice_get p.queries q)
+-- The expression that gives an instance its value, and where it is read. That of a synthesized attribute at a node is the one of the node's class,
+-- that of an inherited one is found above the node, and that of a query is the query's expression, read at the root.
+abbrev pub site_of : Program → Instance → Option Site
+site_of p (Attribute a Null xs) = None
+site_of p (Attribute a (At (Source k)) xs) = cond (inherits (declared_of p a)) (inherited_site p a xs k) (synthesized_site p a k xs)
+site_of p (Query q) = option_map (λ e. record { body = e.body; kind = e.kind; place = place_at 0 }) (slice_get p.queries q)
 
--- what an equation demands; an instance that the program doesn't have counts as null
+-- The root of a collection at a node: the closest node upwards, the node itself included, that is of the root class or of a subclass. Where no root
+-- class is given it is the root of the tree.
+abbrev pub collection_root : Program → Option ClassId → ℕ → Option ℕ
+collection_root p None k = Some 0
+collection_root p (Some c) k = find (λ n. is_of_class p c (Source n)) (upwards_from k p.tree k)
+
+-- the nodes of a subtree, in preorder
+abbrev pub subtree : List TreeNode → ℕ → List ℕ
+subtree tree n = range_with_len n (end_in tree n - n)
+
+-- a contribution to an attribute stands in the nodes of its class and of subclasses
+abbrev pub is_offered : Program → ℕ → ℕ → Contribution → Bool
+is_offered p a k c = (c.target.0 == a) && is_of_class p c.class (Source k)
+
+-- what is offered to an attribute at a node, in the order of the file
+abbrev pub offers_at : Program → ℕ → ℕ → List Offer
+offers_at p a k = map (λ c. record { contribution = c; node = k }) (filter (is_offered p a k) p.rules.contributions)
+
+-- what is offered in the subtree of a root, node by node; without a root nothing is
+abbrev pub offers_below : Program → ℕ → Option ℕ → List Offer
+offers_below p a None = []
+offers_below p a (Some r) = flat_map (offers_at p a) (subtree p.tree r)
+
+abbrev pub collection_at : Program → ℕ → ℕ → Collecting → Collection
+collection_at p a k c = record { method = c.method; kind = attribute_kind p a; node = Source k; offers = offers_below p a (collection_root p c.root k) }
+
+-- the collection that an instance is, if it is one
+abbrev pub collection_of : Program → Instance → Option Collection
+collection_of p (Attribute a Null xs) = None
+collection_of p (Attribute a (At (Source k)) xs) = option_map (collection_at p a k) (collecting_at p.rules.attributes a)
+collection_of p (Query q) = None
+
+-- what gives an instance its value
+pub data InstanceEquation : Type 0 where
+  OfSite : Site → InstanceEquation
+  OfCollection : Collection → InstanceEquation
+
+-- The equation of an instance: that of a collection is what is offered to it, any other is an expression that is read at a place.
+abbrev pub equation_of : Program → Instance → Option InstanceEquation
+equation_of p i = option_or (option_map OfCollection (collection_of p i)) (option_map OfSite (site_of p i))
+
+-- what an expression demands where it is read; where there is none, it counts as null
 abbrev pub site_demands : World → Option Site → Demands Instance Value
 site_demands W None = Gives (Node Null)
 site_demands W (Some s) = next (meaning_of W s.body s.place) (λ v. Gives (as_kind s.kind v))
+
+-- what an equation demands; an instance that the program doesn't have counts as null
+abbrev pub equation_demands : World → Option InstanceEquation → Demands Instance Value
+equation_demands W None = Gives (Node Null)
+equation_demands W (Some (OfSite s)) = site_demands W (Some s)
+equation_demands W (Some (OfCollection c)) = collection_demands W c
 
 -- the types of which circular attributes are: booleans, of which false is below true, and sets, ordered by inclusion
 abbrev pub is_ordered : Kind → Bool
@@ -167,10 +217,16 @@ is_ordered (kinds.Node c) = false
 is_ordered kinds.Texts = true
 is_ordered (kinds.Nodes c) = true
 
--- there is an equation, and it rises
+-- there is an expression, and it rises
 abbrev pub site_rises : (ℕ → Bool) → Option Site → Bool
 site_rises circular None = false
 site_rises circular (Some s) = rises circular s.body
+
+-- there is an equation, and it is an expression that rises; what is offered to a collection doesn't count as rising
+abbrev pub equation_rises : (ℕ → Bool) → Option InstanceEquation → Bool
+equation_rises circular None = false
+equation_rises circular (Some (OfSite s)) = site_rises circular (Some s)
+equation_rises circular (Some (OfCollection c)) = false
 
 -- the instance is of an attribute that is declared circular; a query is of none
 abbrev pub is_declared : Program → Instance → Bool
@@ -180,7 +236,7 @@ is_declared p (Query q) = false
 -- An instance is circular where its attribute is declared so, is of such a type, and its equation rises. In a program that was read and checked
 -- the declaration alone decides.
 abbrev pub is_circular : Program → Instance → Bool
-is_circular p i = is_declared p i && (is_ordered (kind_in p i) && site_rises (circular_at p.rules.attributes) (equation_of p i))
+is_circular p i = is_declared p i && (is_ordered (kind_in p i) && equation_rises (circular_at p.rules.attributes) (equation_of p i))
 
 -- where the rounds of a circular instance start: the least value of its type, whatever a call on null gives
 abbrev pub bottom_of : Program → Instance → Value
@@ -190,7 +246,7 @@ bottom_of p i = default_of (kind_in p i)
 unfoldable pub equations_of : Program → Equations Instance Value
 equations_of p = record {
   same = same_instance;
-  equation = λ i. site_demands (world_of p) (equation_of p i);
+  equation = λ i. equation_demands (world_of p) (equation_of p i);
   circular = is_circular p;
   bottom = bottom_of p;
 }

@@ -1,5 +1,6 @@
 pub mod Checked
 pub mod Codes
+pub mod Collections
 pub mod Equations
 pub mod Keys
 pub mod Loops

@@ -1,6 +1,6 @@
 -- The program that a system keeps.
 use Rattle.std.specs.Prelude.{List, map}
-use Rattle.attr_rules.specs.Kept.{rules_in}
+use Rattle.attr_equations.specs.Kept.{rules_in}
 use Rattle.attr_rules.specs.Queries.{Query, query_of}
 use Rattle.equation_law.specs.declared.system.Queries.{Queries}
 use Rattle.equation_law.specs.declared.system.System.{System}

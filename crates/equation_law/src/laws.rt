@@ -1,7 +1,9 @@
 // The laws of the solution and of the instances of a program, over the definitions alone.
-ghost use Rattle.std.specs.Prelude.{◌≡◌, ◌↔◌, ◌⊎◌, ◌<◌, ℕ, ℤ, Bool, List, Option, IsSome, length, true};
+ghost use Rattle.std.specs.Prelude.{◌≡◌, ◌↔◌, ◌⊎◌, ◌<◌, ◌≤◌, ℕ, ℤ, Bool, List, Option, Some, None, IsSome, length, true, false};
+ghost use Rattle.std.specs.List.{Contains};
 ghost use Rattle.std.specs.Cmp.Lexicographic.{slice_cmp};
 ghost use Rattle.std.specs.Ordering.{bool_cmp, int_cmp, nat_cmp, ordering_then};
+ghost use Rattle.ast_grammar.specs.declared.grammar.ClassId.{ClassId};
 ghost use Rattle.attr_rules.specs.Expression.{Expression};
 ghost use Rattle.attr_rules.specs.Rising.{IsRising};
 ghost use Rattle.attr_rules.specs.Rules.{circular_at};
@@ -9,12 +11,14 @@ ghost use Rattle.solutions.specs.Asking.{Ends, Halts, Meets};
 ghost use Rattle.solutions.specs.Rounds.{Ended, Graph, HasFinalValue, is_in};
 ghost use Rattle.solutions.specs.Rising.{AgreeBelow, LiesBelow, Under};
 ghost use Rattle.solutions.specs.Leading.{Demanded, Mixed};
-ghost use Rattle.equation_law.specs.Checked.{Fits, HasNoArguments, IsInstance, IsProgram, IsValue};
+ghost use Rattle.tree_arena.specs.Nodes.{end_in};
+ghost use Rattle.equation_law.specs.Checked.{Fits, HasNoArguments, IsInstance, IsOfferBelow, IsProgram, IsValue};
+ghost use Rattle.equation_law.specs.Collections.{Offer};
 ghost use Rattle.equation_law.specs.Keys.{IsAsked, IsJust, IsKey, IsPrefix, Part, Prefix};
-ghost use Rattle.equation_law.specs.Names.{Instance, Query, int_code, same_instance, text_cmp, text_code, truth_code};
+ghost use Rattle.equation_law.specs.Names.{Instance, Query, Source, int_code, same_instance, text_cmp, text_code, truth_code};
 ghost use Rattle.equation_law.specs.Values.{Value};
 ghost use Rattle.equation_law.specs.Program.{Program, source_instances};
-ghost use Rattle.equation_law.specs.Equations.{HasValue, equation_of, equations_of, is_circular, is_declared, kind_in, world_of};
+ghost use Rattle.equation_law.specs.Equations.{HasValue, collection_root, equation_of, equations_of, is_circular, is_declared, is_of_class, kind_in, offers_below, subtree, upwards_from, world_of};
 ghost use Rattle.equation_law.specs.Loops.{Chain, HasLoop, fits_in, order_in};
 ghost use Rattle.equation_law.specs.Meaning.{Place, meaning_of};
 ghost use Rattle.equation_law.specs.Orders.{IsAtMost};
@@ -89,6 +93,26 @@ pub fn values_have_types()
 /// class has it stands an ancestor with an equation that covers the way to the node.
 pub fn instances_have_equations()
     ensures { (p : Program) → IsProgram p → (i : Instance) → IsInstance p i → IsSome (equation_of p i) }
+{}
+
+/// The subtree of a node: the numbers from the node's to where the subtree ends are exactly those of the nodes whose way upwards meets it.
+pub fn nodes_of_subtrees()
+    ensures numbers { (p : Program) → IsProgram p → (k j : ℕ) → k < length p.tree → ((k ≤ j) × (j < end_in p.tree k)) ↔ ((j < length p.tree) × Contains (upwards_from j p.tree j) k) }
+    ensures nodes { (p : Program) → IsProgram p → (k j : ℕ) → k < length p.tree → Contains (subtree p.tree k) j ↔ ((j < length p.tree) × Contains (upwards_from j p.tree j) k) }
+{}
+
+/// The root of a collection at a node is a node of the root class or of a subclass on the way upwards, the closest one: each other of them is above
+/// it. Where there is no root, none is on the way.
+pub fn roots_of_collections()
+    ensures there { (p : Program) → IsProgram p → (c : ClassId) (k r : ℕ) → collection_root p (Some c) k ≡ Some r → Contains (upwards_from k p.tree k) r × (is_of_class p c (Source r) ≡ true) }
+    ensures closest { (p : Program) → IsProgram p → (c : ClassId) (k r n : ℕ) → collection_root p (Some c) k ≡ Some r → Contains (upwards_from k p.tree k) n → is_of_class p c (Source n) ≡ true → Contains (upwards_from r p.tree r) n }
+    ensures none { (p : Program) → IsProgram p → (c : ClassId) (k : ℕ) → collection_root p (Some c) k ≡ None → (n : ℕ) → Contains (upwards_from k p.tree k) n → is_of_class p c (Source n) ≡ false }
+{}
+
+/// What is offered to a collection below its root is exactly the contributions to its attribute at the nodes of the root's subtree that are of
+/// their classes or of subclasses.
+pub fn offers_of_collections()
+    ensures { (p : Program) → IsProgram p → (a : ℕ) (c : Option ClassId) (k r : ℕ) → collection_root p c k ≡ Some r → (o : Offer) → Contains (offers_below p a (collection_root p c k)) o ↔ IsOfferBelow p a r o }
 {}
 
 /// The instances that are listed are those of the program without arguments.

@@ -17,9 +17,9 @@ pub use laws::{
     assigned_demands, assigned_values, circular_as_declared, closed_set, demands_instances,
     ended_has_value, finished_rounds, growing_demands, growing_values, instances_have_equations,
     keys_of_queries, listed_instances, loop_has_no_value, lower_below, lower_joined, lower_raised,
-    one_solution, order_of_ints, order_of_texts, order_of_truths, reach_is_demanded,
-    rising_demands, rounds_end, stuck_has_none, value_or_loop, values_have_types,
-    well_typed_values,
+    nodes_of_subtrees, offers_of_collections, one_solution, order_of_ints, order_of_texts,
+    order_of_truths, reach_is_demanded, rising_demands, roots_of_collections, rounds_end,
+    stuck_has_none, value_or_loop, values_have_types, well_typed_values,
 };
 pub use reader::Reader;
 pub use spans::Span;

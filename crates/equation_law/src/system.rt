@@ -1,6 +1,6 @@
 // A program as the code keeps it.
 ghost use Rattle.std.specs.Prelude.{◌≡◌, ◌<◌, ◌≤◌, ℕ, IfOk, Some, length, map, slice_get};
-ghost use Rattle.attr_rules.specs.Kept.{rules_in};
+ghost use Rattle.attr_equations.specs.Kept.{rules_in};
 ghost use Rattle.attr_rules.specs.Queries.{query_of};
 ghost use Rattle.rag_io.specs.Pool.{ArePooled};
 ghost use Rattle.equation_law.specs.Program.{most_replies};
@@ -8,7 +8,8 @@ ghost use Rattle.equation_law.specs.Spans.{AreFrom, AreSpans, IsBelow};
 
 use crate::spans::{Span, Spans, spans_of};
 use ast_grammar::{ClassId, Grammar};
-use attr_rules::{QueryEq, Rules};
+use attr_equations::Rules;
+use attr_rules::QueryEq;
 use rag_io::{Memory, Pool};
 use std::alloc::Global;
 use tree_arena::Tree;

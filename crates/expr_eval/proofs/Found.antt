@@ -14,7 +14,7 @@ use Rattle.equation_law.specs.declared.coding.Single.{Single as CodedSingle}
 use Rattle.equation_law.specs.declared.coding.Value.{Value as CodedValue}
 use Rattle.equation_law.specs.declared.system.System.{System}
 use Rattle.equation_law.specs.Codes.{reference_of, single_of, value_of}
-use Rattle.equation_law.specs.Equations.{Site, attribute_kind, equation_for, equation_of, equations_of, inherited_site, inherits, place_at, site_at, site_demands, synthesized_site, world_of}
+use Rattle.equation_law.specs.Equations.{Site, attribute_kind, collection_of, equation_for, equations_of, inherited_site, inherits, place_at, site_at, site_demands, site_of, synthesized_site, world_of}
 use Rattle.equation_law.specs.Meaning.{Place, meaning_of}
 use Rattle.equation_law.specs.Names.{Argument, At, Attribute, Instance, Null, Query, Reference, Source}
 use Rattle.equation_law.specs.Program.{Program, class_of, declared_of, text_of}
@@ -22,6 +22,7 @@ use Rattle.equation_law.specs.Reading.{IsSound, Told}
 use Rattle.equation_law.specs.Values.{Node, Value, as_kind}
 use Rattle.equation_law.proofs.Above.{inherited_above}
 use Rattle.equation_law.proofs.Lists.{some_of}
+use Rattle.equation_law.proofs.Sites.{demanded_at_site}
 use Rattle.inherited_walk.specs.Sites.{IsSite, site_place}
 use Rattle.expr_eval.specs.declared.evaluation.Halt.{Halt}
 use Rattle.expr_eval.specs.declared.evaluation.Halt.TheVariants.{Need, Memory}
@@ -36,7 +37,7 @@ use Rattle.expr_eval.proofs.Forms.{ends_next, gives_value, advances_self, halts_
 use Rattle.expr_eval.proofs.Plain.{plain_coded}
 
 -- the type of its value is that of the attribute
-pub attribute_site_kind : (p : Program) (a : ℕ) (r : Reference) (xs : List Argument) (x : Site) → equation_of p (Attribute a r xs) ≡ Some x → attribute_kind p a ≡ x.kind
+pub attribute_site_kind : (p : Program) (a : ℕ) (r : Reference) (xs : List Argument) (x : Site) → site_of p (Attribute a r xs) ≡ Some x → attribute_kind p a ≡ x.kind
 attribute_site_kind p a Null xs x e = cc
 attribute_site_kind p a (At (Source k)) xs x e =
     elim (inherits (declared_of p a)) as (λ b. cond b (inherited_site p a xs k) (synthesized_site p a k xs) ≡ Some x → attribute_kind p a ≡ x.kind) [
@@ -81,48 +82,46 @@ module _ {S : Type 0} (p : Program) (r s : State S) where
       subst (λ (y : Expression). Resumes p r s (read_at p (place_at 0) y) res) (body ∙ ap (λ (y : Asked). y.body) same) (turned_reads (place_at 0) e came res h is)
 
   -- the demands of an instance, from those of its equation
-  pub instance_evaluated : (i : Instance) (site : Site) (t u : Turn) → text_of p 0 ≡ [] → equation_of p i ≡ Some site → Resumes p r s (meaning_of (world_of p) site.body site.place) (Ok t) → TurnAs site.kind t u
+  pub instance_evaluated : (i : Instance) (site : Site) (t u : Turn) → text_of p 0 ≡ [] → collection_of p i ≡ None → site_of p i ≡ Some site → Resumes p r s (meaning_of (world_of p) site.body site.place) (Ok t) → TurnAs site.kind t u
       → Resumes p r s ((equations_of p).equation i) (Ok u)
-  unfolding equations_of
-  instance_evaluated i site (turns.Done v) u first is h read =
+  instance_evaluated i site (turns.Done v) u first none is h read =
       let ends = ends_next (λ x. Gives (as_kind site.kind x)) h.answer.ends (subst (λ x. Ends s.told.has (Gives (as_kind site.kind (value_of (text_of p) v))) x []) (sym (read.2 (text_of p) first)) gives) in
       let done : AnswersTurn p s.told (site_demands (world_of p) (Some site)) (Ok (turns.Done read.0)) = record { demands = h.answer.demands ++ []; ends = ends; coded = read.3 p h.answer.coded } in
       record {
         kept = h.kept;
-        answer = subst (λ o. AnswersTurn p s.told (site_demands (world_of p) o) (Ok u)) (sym is) (subst (λ x. AnswersTurn p s.told (site_demands (world_of p) (Some site)) (Ok x)) (sym read.1) done);
+        answer = subst (λ d. AnswersTurn p s.told d (Ok u)) (sym (demanded_at_site p i none)) (subst (λ o. AnswersTurn p s.told (site_demands (world_of p) o) (Ok u)) (sym is) (subst (λ x. AnswersTurn p s.told (site_demands (world_of p) (Some site)) (Ok x)) (sym read.1) done));
       }
-  instance_evaluated i site (turns.Need n) u first is h read =
+  instance_evaluated i site (turns.Need n) u first none is h read =
       let needs : AnswersTurn p s.told (site_demands (world_of p) (Some site)) (Ok (turns.Need n)) = record { demands = h.answer.demands; halts = halts_first (λ x. Gives (as_kind site.kind x)) h.answer.halts; coded = h.answer.coded } in
       record {
         kept = h.kept;
-        answer = subst (λ o. AnswersTurn p s.told (site_demands (world_of p) o) (Ok u)) (sym is) (subst (λ x. AnswersTurn p s.told (site_demands (world_of p) (Some site)) (Ok x)) (sym read) needs);
+        answer = subst (λ d. AnswersTurn p s.told d (Ok u)) (sym (demanded_at_site p i none)) (subst (λ o. AnswersTurn p s.told (site_demands (world_of p) o) (Ok u)) (sym is) (subst (λ x. AnswersTurn p s.told (site_demands (world_of p) (Some site)) (Ok x)) (sym read) needs));
       }
 
 -- an attribute's equation that is found, read at the attribute's type
-pub attribute_evaluated : {S : Type 0} (p : Program) (r s : State S) (a n : ℕ) (xs : List Argument) (k : Kind) (site : EqSite) (t u : Turn) → text_of p 0 ≡ [] → k ≡ attribute_kind p a
-    → (x : Site) × (equation_of p (Attribute a (reference_of n) xs) ≡ Some x) × IsSite p a site x → Resumes p r s (site_reads p a site) (Ok t) → TurnAs k t u → Resumes p r s ((equations_of p).equation (Attribute a (reference_of n) xs)) (Ok u)
-attribute_evaluated p r s a n xs k site t u first kind found h read =
+pub attribute_evaluated : {S : Type 0} (p : Program) (r s : State S) (a n : ℕ) (xs : List Argument) (k : Kind) (site : EqSite) (t u : Turn) → text_of p 0 ≡ [] → k ≡ attribute_kind p a → collection_of p (Attribute a (reference_of n) xs) ≡ None
+    → (x : Site) × (site_of p (Attribute a (reference_of n) xs) ≡ Some x) × IsSite p a site x → Resumes p r s (site_reads p a site) (Ok t) → TurnAs k t u → Resumes p r s ((equations_of p).equation (Attribute a (reference_of n) xs)) (Ok u)
+attribute_evaluated p r s a n xs k site t u first kind none found h read =
     let x = found.0 in
     let body : expression_or_null (body_at p.rules site.equation.0) ≡ x.body = ap expression_or_null found.2.body in
     let at : Resumes p r s (meaning_of (world_of p) x.body (site_place p a site)) (Ok t) = subst (λ (e : Expression). Resumes p r s (read_at p (site_place p a site) e) (Ok t)) body h in
     let here : Resumes p r s (meaning_of (world_of p) x.body x.place) (Ok t) = subst (λ (o : Place). Resumes p r s (meaning_of (world_of p) x.body o) (Ok t)) (sym found.2.place) at in
-    instance_evaluated p r s (Attribute a (reference_of n) xs) x t u first found.1 here (subst (λ (j : Kind). TurnAs j t u) (kind ∙ attribute_site_kind p a (reference_of n) xs x found.1) read)
+    instance_evaluated p r s (Attribute a (reference_of n) xs) x t u first none found.1 here (subst (λ (j : Kind). TurnAs j t u) (kind ∙ attribute_site_kind p a (reference_of n) xs x found.1) read)
 
 -- a query's, read at the query's type
 pub asked_evaluated : {S : Type 0} (p : Program) (r s : State S) (q : ℕ) (e : Asked) (k : Kind) (t u : Turn) → text_of p 0 ≡ [] → slice_get p.queries q ≡ Some e → k ≡ e.kind → Resumes p r s (query_reads p e) (Ok t) → TurnAs k t u
     → Resumes p r s ((equations_of p).equation (Query q)) (Ok u)
 asked_evaluated p r s q e k t u first at kind h read =
     let site : Site = record { body = e.body; kind = e.kind; place = place_at 0 } in
-    let is : equation_of p (Query q) ≡ Some site = ap (λ (o : Option Asked). option_map (λ x. record { body = x.body; kind = x.kind; place = place_at 0 }) o) at in
-    instance_evaluated p r s (Query q) site t u first is h (subst (λ (j : Kind). TurnAs j t u) kind read)
+    let is : site_of p (Query q) ≡ Some site = ap (λ (o : Option Asked). option_map (λ x. record { body = x.body; kind = x.kind; place = place_at 0 }) o) at in
+    instance_evaluated p r s (Query q) site t u first refl is h (subst (λ (j : Kind). TurnAs j t u) kind read)
 
 -- what has no equation counts as null
-pub none_evaluated : {S : Type 0} (p : Program) (r : State S) (i : Instance) (x : CodedValue) → IsReady p r → equation_of p i ≡ None → value_of (text_of p) x ≡ Node Null → Resumes p r r ((equations_of p).equation i) (Ok (turns.Done x))
-unfolding equations_of
-none_evaluated p r i x sound none e = record { kept = advances_self sound; answer = subst (λ o. AnswersTurn p r.told (site_demands (world_of p) o) (Ok (turns.Done x))) (sym none) (gives_value e (plain_coded p x _ e refl)) }
+pub none_evaluated : {S : Type 0} (p : Program) (r : State S) (i : Instance) (x : CodedValue) → IsReady p r → collection_of p i ≡ None → site_of p i ≡ None → value_of (text_of p) x ≡ Node Null → Resumes p r r ((equations_of p).equation i) (Ok (turns.Done x))
+none_evaluated p r i x sound single none e = record { kept = advances_self sound; answer = subst (λ d. AnswersTurn p r.told d (Ok (turns.Done x))) (sym (demanded_at_site p i single)) (subst (λ o. AnswersTurn p r.told (site_demands (world_of p) o) (Ok (turns.Done x))) (sym none) (gives_value e (plain_coded p x _ e refl))) }
 
 -- as a query that isn't there
-pub past_query : (p : Program) (q : ℕ) → length p.queries ≤ q → equation_of p (Query q) ≡ None
+pub past_query : (p : Program) (q : ℕ) → length p.queries ≤ q → site_of p (Query q) ≡ None
 past_query p q past = ap (λ (o : Option Asked). option_map (λ x. record { body = x.body; kind = x.kind; place = place_at 0 }) o) (slice_get_past p.queries q past)
 
 -- going on is an evaluation

@@ -12,5 +12,5 @@ mod sites;
 pub use saved::Saved;
 pub use sites::{
     Turn, evaluate, evaluate_instance, evaluate_query, is_declared, kind_of, resume_at,
-    resume_instance,
+    resume_body, resume_instance,
 };

@@ -1,15 +1,17 @@
 // Equations that are evaluated: where they are found, and what they come to.
-ghost use Rattle.std.specs.Prelude.{◌≡◌, ◌<◌, Some, length, slice_get, IfSome};
+ghost use Rattle.std.specs.Prelude.{◌≡◌, ◌<◌, [], None, Some, length, slice_get, IfSome};
 ghost use Rattle.attr_rules.specs.Queries.{Query as Asked};
-ghost use Rattle.attr_rules.specs.Rules.{Equation};
+ghost use Rattle.attr_rules.specs.Expression.{Expression};
+ghost use Rattle.attr_rules.specs.Rules.{Equation, bodies, body_at};
+ghost use Rattle.equation_law.specs.Program.{text_of};
 ghost use Rattle.equation_law.specs.declared.coding.Instance.TheVariants.{Attr as attribute_at};
 ghost use Rattle.equation_law.specs.Codes.{IsCoded, IsRow, instance_of};
-ghost use Rattle.equation_law.specs.Equations.{equation_of, equations_of, is_declared, kind_in};
+ghost use Rattle.equation_law.specs.Equations.{collection_of, equations_of, is_declared, kind_in, site_of};
 ghost use Rattle.equation_law.specs.Names.{Query};
 ghost use Rattle.equation_law.specs.Reading.{IsSound};
 ghost use Rattle.equation_law.specs.Systems.{program_of};
 ghost use Rattle.inherited_walk.specs.Sites.{IsFound};
-ghost use Rattle.expr_eval.specs.Evaluating.{Evaluates};
+ghost use Rattle.expr_eval.specs.Evaluating.{Evaluates, place_kept, read_at};
 ghost use Rattle.expr_eval.specs.Reads.{IsReady, Resumes, state};
 ghost use Rattle.expr_eval.specs.Saved.{AreSaved};
 ghost use Rattle.expr_eval.specs.Sites.{IsTurned, TurnAs, query_reads, site_reads};
@@ -17,7 +19,7 @@ ghost use Rattle.expr_eval.specs.Sites.{IsTurned, TurnAs, query_reads, site_read
 use crate::binding::names_of;
 use crate::evaluation::{Context, Halt, attribute_kind, meaning};
 use crate::saved::Saved;
-use attr_rules::{AttrId, Kind};
+use attr_rules::{AttrId, EqId, Kind};
 use equation_law::{Args, EqSite, Instance, NodeRef, Reader, System, Value};
 use inherited_walk::find_equation;
 use rag_io::Memory;
@@ -96,7 +98,7 @@ fn evaluate_for<'a, R: Reader>(
     reader: &mut R,
     saved: &mut Saved<'a>,
 ) -> Result<Turn, Memory>
-    requires equation { site.now.equation.0 < length (program_of system.now).rules.equations }
+    requires equation { site.now.equation.0 < length (bodies (program_of system.now).rules) }
     requires inner { IsRow site.now.inner }
     requires outer { IsRow site.now.outer }
     requires ready { IsReady (program_of system.now) (state system.now (R.tells reader.old) saved.old) }
@@ -169,6 +171,30 @@ pub fn evaluate_query<R: Reader>(
     asked(alloc, system, query, reader, &mut saved)
 }
 
+/// Goes on with the evaluation of an expression of the rules, which is read at a node without names.
+pub fn resume_body<'a, R: Reader>(
+    alloc: Global,
+    system: &'a System,
+    expression: EqId,
+    node: NodeRef,
+    reader: &mut R,
+    saved: &mut Saved<'a>,
+) -> Result<Turn, Memory>
+    requires known { expression.0 < length (bodies (program_of system.now).rules) }
+    requires sound { IsSound (program_of system.now) (R.tells reader.old) }
+    requires saved { AreSaved system.now (R.tells reader.old).has saved.old }
+    ensures evaluates { (e : Expression) → body_at (program_of system.now).rules expression.0 ≡ Some e → Evaluates (program_of system.now) (R.tells reader.old) (R.tells reader.new) (read_at (program_of system.now) (place_kept (text_of (program_of system.now)) node.0 []) e) result }
+    ensures saved { AreSaved system.now (R.tells reader.new).has saved.new }
+{
+    let context = Context {
+        alloc,
+        system,
+        this: node,
+        names: &[],
+    };
+    turned(meaning(&context, system.rules().body(expression), reader, saved))
+}
+
 /// What the equation of an attribute at a node comes to, where it is found.
 fn at_site<'a, R: Reader>(
     alloc: Global,
@@ -181,7 +207,8 @@ fn at_site<'a, R: Reader>(
     saved: &mut Saved<'a>,
 ) -> Result<Turn, Memory>
     requires ready { IsReady (program_of system.now) (state system.now (R.tells reader.old) saved.old) }
-    requires found { IsFound (program_of system.now) attr.0 (equation_of (program_of system.now) (instance_of (program_of system.now) (attribute_at attr node args))) site }
+    requires single { collection_of (program_of system.now) (instance_of (program_of system.now) (attribute_at attr node args)) ≡ None }
+    requires found { IsFound (program_of system.now) attr.0 (site_of (program_of system.now) (instance_of (program_of system.now) (attribute_at attr node args))) site }
     requires rows { IfSome site (λ s. IsRow s.outer × IsRow s.inner) }
     ensures { Resumes (program_of system.now) (state system.now (R.tells reader.old) saved.old) (state system.now (R.tells reader.new) saved.new) ((equations_of (program_of system.now)).equation (instance_of (program_of system.now) (attribute_at attr node args))) result }
 {
@@ -206,6 +233,7 @@ fn evaluate_attribute<'a, R: Reader>(
 ) -> Result<Turn, Memory>
     requires ready { IsReady (program_of system.now) (state system.now (R.tells reader.old) saved.old) }
     requires row { IsRow args }
+    requires single { collection_of (program_of system.now) (instance_of (program_of system.now) (attribute_at attr node args)) ≡ None }
     ensures { Resumes (program_of system.now) (state system.now (R.tells reader.old) saved.old) (state system.now (R.tells reader.new) saved.new) ((equations_of (program_of system.now)).equation (instance_of (program_of system.now) (attribute_at attr node args))) result }
 {
     let site = find_equation(system, attr, node, args);
@@ -232,7 +260,8 @@ fn evaluate_asked<'a, R: Reader>(
 
 /// Goes on with the evaluation of what the equation of an instance comes to: the value is that of its expression, read at the instance's type,
 /// under what the reader has at the end of the call. What an earlier evaluation left behind is taken up, and what this one leaves behind is
-/// saved: no form over elements goes over one of them again that it has done with. What is no instance of the system counts as null.
+/// saved: no form over elements goes over one of them again that it has done with. What is no instance of the system counts as null. It needs an
+/// instance that is no collection.
 pub fn resume_instance<'a, R: Reader>(
     alloc: Global,
     system: &'a System,
@@ -243,6 +272,7 @@ pub fn resume_instance<'a, R: Reader>(
     requires sound { IsSound (program_of system.now) (R.tells reader.old) }
     requires saved { AreSaved system.now (R.tells reader.old).has saved.old }
     requires coded { IsCoded (program_of system.now) i.now }
+    requires single { collection_of (program_of system.now) (instance_of (program_of system.now) i.now) ≡ None }
     ensures evaluates { Evaluates (program_of system.now) (R.tells reader.old) (R.tells reader.new) ((equations_of (program_of system.now)).equation (instance_of (program_of system.now) i.now)) result }
     ensures saved { AreSaved system.now (R.tells reader.new).has saved.new }
 {
@@ -267,7 +297,8 @@ pub fn resume_at<'a, R: Reader>(
 ) -> Result<Turn, Memory>
     requires sound { IsSound (program_of system.now) (R.tells reader.old) }
     requires saved { AreSaved system.now (R.tells reader.old).has saved.old }
-    requires found { IsFound (program_of system.now) attr.0 (equation_of (program_of system.now) (instance_of (program_of system.now) (attribute_at attr node args))) site }
+    requires single { collection_of (program_of system.now) (instance_of (program_of system.now) (attribute_at attr node args)) ≡ None }
+    requires found { IsFound (program_of system.now) attr.0 (site_of (program_of system.now) (instance_of (program_of system.now) (attribute_at attr node args))) site }
     requires rows { IfSome site (λ s. IsRow s.outer × IsRow s.inner) }
     ensures evaluates { Evaluates (program_of system.now) (R.tells reader.old) (R.tells reader.new) ((equations_of (program_of system.now)).equation (instance_of (program_of system.now) (attribute_at attr node args))) result }
     ensures saved { AreSaved system.now (R.tells reader.new).has saved.new }
@@ -275,8 +306,8 @@ pub fn resume_at<'a, R: Reader>(
     at_site(alloc, system, attr, node, args, site, reader, saved)
 }
 
-/// What the equation of an instance comes to: the value is that of its expression, read at the instance's type. What is no instance of the
-/// system counts as null.
+/// What the equation of an instance that is no collection comes to: the value is that of its expression, read at the instance's type. What is no
+/// instance of the system counts as null.
 pub fn evaluate_instance<R: Reader>(
     alloc: Global,
     system: &System,
@@ -285,6 +316,7 @@ pub fn evaluate_instance<R: Reader>(
 ) -> Result<Turn, Memory>
     requires sound { IsSound (program_of system.now) (R.tells reader.old) }
     requires coded { IsCoded (program_of system.now) i.now }
+    requires single { collection_of (program_of system.now) (instance_of (program_of system.now) i.now) ≡ None }
     ensures { Evaluates (program_of system.now) (R.tells reader.old) (R.tells reader.new) ((equations_of (program_of system.now)).equation (instance_of (program_of system.now) i.now)) result }
 {
     let mut saved = Saved::new(alloc);

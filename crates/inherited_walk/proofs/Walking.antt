@@ -5,7 +5,8 @@ use mir.Syntax.{w32}
 use Rattle.std.specs.Option.{option_and_then, option_map, option_or}
 use Rattle.ast_grammar.specs.declared.grammar.ClassId.{ClassId}
 use Rattle.attr_rules.specs.declared.dispatch.Target.{Target}
-use Rattle.attr_rules.specs.Rules.{RuleSet, covering_number, equation_number, expression_in, target_in}
+use Rattle.attr_rules.specs.Rules.{RuleSet, covering_number, equation_number, target_in}
+use Rattle.attr_equations.proofs.BodiesFound.{body_is}
 use Rattle.attr_rules.proofs.RowLists.{there}
 use Rattle.tree_arena.specs.Nodes.{component_in, index_in, parent_in}
 use Rattle.equation_law.specs.declared.coding.EqSite.{EqSite}
@@ -33,7 +34,7 @@ module _ (p : Program) (a : ℕ) (xs : Args) (n : ℕ) where
       let whole : synthesized_site p a n given ≡ Some (site_at p a n given found.0) =
       ap (λ (o : Option ClassId). option_map (site_at p a n given) (option_and_then (equation_for p a) o)) (sym of) ∙ ap (λ (o : Option ℕ). option_map (site_at p a n given) (option_and_then (slice_get p.rules.equations) o)) (sym is) ∙ ap (option_map (site_at p a n given)) found.1
       in
-      (site_at p a n given found.0, whole, record { body = ap (option_map expression_in) found.1; place = λ j. record { this = sym at j; names = (sym (append-nil (map argument_value given)) ∙ ap (λ (cs : List ℕ). map argument_value given ++ map (λ c. Int (int_wrap w32 (pos c))) cs) (sym empty)) j } })
+      (site_at p a n given found.0, whole, record { body = body_is p.rules e found.0 found.1; place = λ j. record { this = sym at j; names = (sym (append-nil (map argument_value given)) ∙ ap (λ (cs : List ℕ). map argument_value given ++ map (λ c. Int (int_wrap w32 (pos c))) cs) (sym empty)) j } })
 
   module _ (u k : ℕ) (up : parent_in p.tree n ≡ Some u) (at : component_in p.tree n ≡ Some k) where
     -- what covers the node at its parent
@@ -59,7 +60,7 @@ module _ (p : Program) (a : ℕ) (xs : Args) (n : ℕ) where
         let whole : covering_site p a given n ≡ Some (site_above p a given n u q) =
         covering_is of ∙ ap (λ (x : Option ℕ). option_map (site_above p a given n u) (option_and_then (slice_get p.rules.equations) x)) is ∙ ap (option_map (site_above p a given n u)) found.1
         in
-        (site_above p a given n u q, whole, record { body = ap (option_map expression_in) found.1; place = λ j. record { this = sym node j; names = map argument_value given ++ names j } })
+        (site_above p a given n u q, whole, record { body = body_is p.rules e found.0 found.1; place = λ j. record { this = sym node j; names = map argument_value given ++ names j } })
 
 -- what covers a node at its parent gives the attribute its value there, and else it is found at the parent
 module _ (p : Program) (a : ℕ) (zs : List Argument) (n u : ℕ) where

@@ -1,9 +1,9 @@
 // The equation of an attribute at a node.
-ghost use Rattle.std.specs.Prelude.{◌≡◌, ◌<◌, IfSome, length, Some};
+ghost use Rattle.std.specs.Prelude.{◌≡◌, ◌<◌, IfSome, length, None, Some};
 ghost use Rattle.tree_arena.specs.Nodes.{most_nodes, parent_in};
 ghost use Rattle.equation_law.specs.Checked.{IsInstance, IsProgram};
 ghost use Rattle.equation_law.specs.Codes.{IsRow, arguments_of, instance_of};
-ghost use Rattle.equation_law.specs.Equations.{bound_values, covering_site, equation_of, inherited_site, inherits, synthesized_site};
+ghost use Rattle.equation_law.specs.Equations.{bound_values, collection_of, covering_site, inherited_site, inherits, site_of, synthesized_site};
 ghost use Rattle.equation_law.specs.declared.coding.Instance.TheVariants.{Attr as attribute_at};
 ghost use Rattle.equation_law.specs.Program.{declared_of};
 ghost use Rattle.equation_law.specs.Systems.{program_of};
@@ -100,7 +100,7 @@ pub(crate) fn inherited(system: &System, attr: AttrId, args: Args, node: u32) ->
 /// The equation of an attribute at a node with arguments, if it has one: none at null, where the node's class doesn't have the attribute, or
 /// where it lacks an equation for it. It takes no memory, and time in proportion to the way upwards.
 pub fn find_equation(system: &System, attr: AttrId, node: NodeRef, args: Args) -> Option<EqSite>
-    ensures found { IsFound (program_of system.now) attr.0 (equation_of (program_of system.now) (instance_of (program_of system.now) (attribute_at attr node args))) result }
+    ensures found { IsFound (program_of system.now) attr.0 (site_of (program_of system.now) (instance_of (program_of system.now) (attribute_at attr node args))) result }
     ensures rows { IsRow args → IfSome result (λ s. IsRow s.outer × IsRow s.inner) }
 {
     let source = node.source()?;
@@ -111,11 +111,12 @@ pub fn find_equation(system: &System, attr: AttrId, node: NodeRef, args: Args) -
     }
 }
 
-/// The equation of an instance of a program that breaks no rule. It takes no memory, and time in proportion to the way upwards.
+/// The equation of an instance of a program that breaks no rule, if it is no collection. It takes no memory, and time in proportion to the way upwards.
 pub fn equation_of(system: &System, attr: AttrId, node: NodeRef, args: Args) -> EqSite
     requires program { IsProgram (program_of system.now) }
     requires instance { IsInstance (program_of system.now) (instance_of (program_of system.now) (attribute_at attr node args)) }
-    ensures { IsFound (program_of system.now) attr.0 (equation_of (program_of system.now) (instance_of (program_of system.now) (attribute_at attr node args))) (Some result) }
+    requires single { collection_of (program_of system.now) (instance_of (program_of system.now) (attribute_at attr node args)) ≡ None }
+    ensures { IsFound (program_of system.now) attr.0 (site_of (program_of system.now) (instance_of (program_of system.now) (attribute_at attr node args))) (Some result) }
 {
     match find_equation(system, attr, node, args) {
         Some(site) => site,

@@ -1,6 +1,6 @@
 // Which instances have truth values.
 ghost use Rattle.std.specs.Prelude.{◌≡◌, ◌<◌, ◌++◌, ◌∷◌, [], IfOk, OnOk, map, slice_index_or, true};
-ghost use Rattle.attr_rules.specs.Kept.{rules_in};
+ghost use Rattle.attr_equations.specs.Kept.{rules_in};
 ghost use Rattle.attr_rules.specs.Types.{truth_kind};
 ghost use Rattle.equation_law.specs.Equations.{kind_in};
 ghost use Rattle.equation_law.specs.Names.{Instance};
@@ -11,7 +11,8 @@ ghost use Rattle.memo_cells.specs.Views.{IsAtLeast};
 
 use crate::cells::{Cells, Pass};
 use crate::keys::Slot;
-use attr_rules::{AttrId, Kind, Rules};
+use attr_equations::Rules;
+use attr_rules::{AttrId, Kind};
 use equation_law::System;
 use rag_io::Memory;
 use std::alloc::Global;

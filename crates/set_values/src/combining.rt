@@ -14,14 +14,10 @@ use equation_law::Value;
 use rag_io::Memory;
 use std::alloc::Global;
 
-/// The codes of either. Those of the smaller set are added to the others.
-fn united(mut left: Codes, mut right: Codes) -> Result<Codes, Memory>
+/// The codes of either. Nobody counts them: a set that has the other is taken as it is.
+fn united(mut left: Codes, right: Codes) -> Result<Codes, Memory>
     ensures { IfOk result (AreMade (λ a b. a || b) left right) }
 {
-    if left.len() < right.len() {
-        right.add(&left)?;
-        return Ok(right);
-    }
     left.add(&right)?;
     Ok(left)
 }

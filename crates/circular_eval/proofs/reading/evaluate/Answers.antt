@@ -19,6 +19,9 @@ resume_instance-turn-requires-clause-sound g c = here_sound (g.W.Words.held c.ar
 pub resume_instance-turn-requires-clause-coded : goal.resume_instance-turn-requires-clause-coded
 resume_instance-turn-requires-clause-coded g c = c.requires.coded
 
+pub resume_instance-turn-requires-clause-single : goal.resume_instance-turn-requires-clause-single
+resume_instance-turn-requires-clause-single g c = c.requires.single
+
 pub resume_instance-turn-requires-clause-saved : goal.resume_instance-turn-requires-clause-saved
 resume_instance-turn-requires-clause-saved g c =
     let d = g.W.Words.held c.args.work.now in

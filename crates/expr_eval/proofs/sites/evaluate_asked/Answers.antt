@@ -8,7 +8,7 @@ use Rattle.expr_eval.proofs.Found.{asked_evaluated, failed, none_evaluated, past
 use Rattle.expr_eval.proofs.sites.evaluate_asked.Goals as goal
 
 pub returns-then-query-replies : goal.returns-then-query-replies
-returns-then-query-replies g c = let p = program_of c.args.system.now in none_evaluated p _ (Query c.args.query) _ c.requires (past_query p c.args.query (omega (arith, c.replies.ensures.number, c.if-query-replies.true))) refl
+returns-then-query-replies g c = let p = program_of c.args.system.now in none_evaluated p _ (Query c.args.query) _ c.requires refl (past_query p c.args.query (omega (arith, c.replies.ensures.number, c.if-query-replies.true))) refl
 
 pub returns : goal.returns
 returns g c =

@@ -1,6 +1,6 @@
 use Rattle.std.proofs.Common.{arith}
 use Rattle.attr_rules.specs.declared.kinds.Attr.{Attr}
-use Rattle.attr_rules.specs.Kept.{rules_in}
+use Rattle.attr_equations.specs.Kept.{rules_in}
 use Rattle.attr_rules.specs.Rules.{Attribute}
 use Rattle.attr_rules.specs.Types.{truth_kind}
 use Rattle.memo_cells.proofs.Gathered.{taken_part, whole}

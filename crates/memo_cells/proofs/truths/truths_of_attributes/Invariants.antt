@@ -1,6 +1,6 @@
 -- The attributes so far.
 use Rattle.std.proofs.Common.{◌≡◌, map, take}
-use Rattle.attr_rules.specs.Kept.{rules_in}
+use Rattle.attr_equations.specs.Kept.{rules_in}
 use Rattle.attr_rules.specs.Types.{truth_kind}
 use Rattle.memo_cells.proofs.truths.truths_of_attributes.Given as goal
 
