@@ -1,0 +1,17 @@
+pub mod Alike
+pub mod Before
+pub mod Chained
+pub mod Chains
+pub mod Found
+pub mod Going
+pub mod Grown
+pub mod Hung
+pub mod Noting
+pub mod Outcomes
+pub mod Placed
+pub mod Rooted
+pub mod Sought
+pub mod Spots
+pub mod Stepping
+pub mod Surveying
+pub mod Walked

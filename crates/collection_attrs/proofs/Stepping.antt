@@ -1,0 +1,94 @@
+-- A walk passes the next offer, or stands before one that is stuck.
+use Rattle.std.proofs.Common.{◌≡◌, ℕ, ◌+◌, ◌^◌, ◌<◌, ◌≤◌, true, false, List, [], ◌∷◌, ◌++◌, Option, Some, None, IfSome, length, slice_get, refl, sym, ap, subst, arith, ◌∙◌}
+use Rattle.std.proofs.lemmas.List.{length-append}
+use Rattle.std.proofs.lemmas.Option.{slice_get_within}
+use Rattle.attr_equations.specs.declared.contributions.Contribution as kept
+use Rattle.attr_equations.specs.KeptContributions.{IsContributionAt}
+use Rattle.attr_rules.specs.declared.kinds.EqId.{EqId}
+use Rattle.attr_rules.specs.Expression.{Expression, Truth}
+use Rattle.attr_rules.specs.Rules.{Contribution, RuleSet, bodies, body_at}
+use Rattle.tree_arena.specs.Nodes.{end_in}
+use Rattle.equation_law.specs.Collections.{Offer}
+use Rattle.equation_law.specs.Names.{Instance, Reference}
+use Rattle.equation_law.specs.Program.{Program}
+use Rattle.equation_law.specs.Values.{Value}
+use Rattle.collection_attrs.specs.Passed.{IsPassed}
+use Rattle.collection_attrs.specs.declared.weighing.Weighed.{Weighed}
+use Rattle.collection_attrs.specs.Surveys.{IsCondition, IsWeighed}
+use Rattle.collection_attrs.specs.Walks.{IsOfferStuck, IsOfferedAt, IsStanding, IsStuck, IsWalk, Walk, passed_by}
+use Rattle.collection_attrs.proofs.Before.{before_offered}
+use Rattle.collection_attrs.proofs.Walked.{behind, walk_passes, walk_same, with_note}
+
+-- ---- the condition of a contribution as it is kept
+
+condition_from : (p : Program) (e : Expression) (g : Option EqId) → ((n : EqId) → g ≡ Some n → body_at p.rules n.0 ≡ Some e) → (g ≡ None → e ≡ Truth true) → IsCondition p g e
+condition_from p e None some none = none refl
+condition_from p e (Some n) some none = some n refl
+
+known_from : (p : Program) (e : Expression) (g : Option EqId) → ((n : EqId) → g ≡ Some n → body_at p.rules n.0 ≡ Some e) → IfSome g (λ n. n.0 < length (bodies p.rules))
+known_from p e None some = tt
+known_from p e (Some n) some = slice_get_within (bodies p.rules) n.0 e (some n refl)
+
+module _ (p : Program) {rules : RuleSet} (same : rules ≡ p.rules) {k : ℕ} {c : kept.Contribution} (is : IsContributionAt rules k c) where
+  pub at_rules : IsContributionAt p.rules k c
+  at_rules = subst (λ (r : RuleSet). IsContributionAt r k c) same is
+
+  pub condition_is : IsCondition p c.guard at_rules.contribution.condition
+  condition_is = condition_from p at_rules.contribution.condition c.guard at_rules.guard at_rules.left_out
+
+  pub condition_known : IfSome c.guard (λ n. n.0 < length (bodies p.rules))
+  condition_known = known_from p at_rules.contribution.condition c.guard at_rules.guard
+
+  pub receiver_known : c.receiver.0 < length (bodies p.rules)
+  receiver_known = slice_get_within (bodies p.rules) c.receiver.0 at_rules.contribution.receiver at_rules.receiver
+
+  pub value_known : c.value.0 < length (bodies p.rules)
+  value_known = slice_get_within (bodies p.rules) c.value.0 at_rules.contribution.value at_rules.value
+
+-- ---- a step
+
+module _ (p : Program) (A : Instance → Value → Type 0) (v w : Walk) (h : IsWalk p A v) (notes : w.notes ≡ v.notes) (stands : IsStanding p w) (same : passed_by p w ≡ passed_by p v) where
+  -- where it has come to by seeking it has passed no more
+  pub sought : IsWalk p A w
+  sought = walk_same p A v w h stands notes same
+
+  notes_stay : (r : Option Reference) → length v.notes ≤ length (with_note p A w r)
+  notes_stay None = let e = ap length notes in omega (arith, e)
+  notes_stay (Some r) = let e = ap length notes in omega (arith, e, length-append w.notes (record { node = w.node; contribution = w.contribution; receiver = r } ∷ []))
+
+  -- what a walk is that has passed one more
+  pub record HasPassed (u : Walk) : Type 0 where
+    pub walk : IsWalk p A u
+    pub more : length (passed_by p v) < length (passed_by p u)
+    pub longer : length v.notes ≤ length u.notes
+
+  module _ (code : w.node + 1 < 2 ^ 32) (before : w.node < end_in p.tree w.root) (at : IsOfferedAt p w) where
+    abbrev offer : Offer
+    offer = record { contribution = at.contribution; node = w.node }
+
+    -- past an offer that was weighed, which is noted where it has a receiver
+    pub passes : (u : Walk) (r : Option Reference) → u ≡ behind p A w r → IsPassed p A offer r → HasPassed u
+    passes u r is q =
+        let one : passed_by p (behind p A w r) ≡ passed_by p w ++ offer ∷ [] = before_offered p w.attribute w.root w.node w.contribution at.contribution at.is at.offered in
+        let long = ap length same in
+        let one_longer = ap length one in
+        subst HasPassed (sym is) (record {
+          walk = walk_passes p A w at.contribution r sought code before at.is (slice_get_within p.rules.contributions w.contribution at.contribution at.is) at.offered q;
+          more = omega (arith, long, one_longer, length-append (passed_by p w) (offer ∷ []));
+          longer = notes_stay r;
+        })
+
+    -- or before one that is stuck
+    pub stands_before : (j : Instance) → IsOfferStuck p A offer j → IsStuck p A w j
+    stands_before j s = record { before = before; is = at; stuck = s }
+
+-- what was weighed of the offer at which a walk stands
+pub weighed_at : (p : Program) (A : Instance → Value → Type 0) (w : Walk) (n k : ℕ) → n ≡ w.node → k ≡ w.contribution → (at : IsOfferedAt p w) → {x y : Weighed} → x ≡ y → ((c : Contribution) → slice_get p.rules.contributions k ≡ Some c → IsWeighed p A (record { contribution = c; node = n }) x)
+    → IsWeighed p A (record { contribution = at.contribution; node = w.node }) y
+weighed_at p A w n k node number at {x} is weighed =
+    subst (IsWeighed p A (record { contribution = at.contribution; node = w.node })) is
+    (subst (λ (m : ℕ). IsWeighed p A (record { contribution = at.contribution; node = m }) x) node (weighed at.contribution (ap (slice_get p.rules.contributions) number ∙ at.is)))
+
+-- a node that has a code
+pub code_of : {n m : ℕ} → n ≡ m → n + 1 < 2 ^ 32 → m + 1 < 2 ^ 32
+code_of is few = omega (arith, is, few)

@@ -1,0 +1,5 @@
+use Rattle.collection_attrs.proofs.Walked.{walk_more}
+use Rattle.collection_attrs.proofs.laws.walks_stay.Goals as goal
+
+pub returns : goal.returns
+returns c = λ p A B w g h. walk_more g h

@@ -1,0 +1,81 @@
+use Rattle.std.proofs.Common.{◌≡◌, ◌+◌, ◌^◌, ◌<◌, ◌∙◌, ℕ, Some, None, arith, ap, slice_get, subst, sym}
+use Rattle.std.proofs.lemmas.Option.{slice_get_within}
+use Rattle.equation_law.specs.Codes.{instance_of, reference_of}
+use Rattle.equation_law.specs.Systems.{program_of}
+use Rattle.collection_attrs.specs.Walks.{IsWalk, Walk}
+use Rattle.collection_attrs.proofs.Grown.{walk_grows}
+use Rattle.collection_attrs.proofs.Stepping.{code_of, passes, sought, stands_before, weighed_at}
+use Rattle.collection_attrs.proofs.passing.pass_next.Goals as goal
+
+pub weigh-requires-clause-known : goal.weigh-requires-clause-known
+weigh-requires-clause-known g c =
+    let p = program_of c.args.system.now in
+    let some = c.in-Some.ensures.some in
+    let at = some.3 in
+    slice_get_within p.rules.contributions c.in-Some.number at.contribution (ap (slice_get p.rules.contributions) some.1 ∙ at.is)
+
+pub returns-in_err-weigh-clause-walk : goal.returns-in_err-weigh-clause-walk
+returns-in_err-weigh-clause-walk g c =
+    let p = program_of c.args.system.now in
+    sought p (g.R.Reader.tells c.weigh.new.reader).has c.args.offers.now c.seek.new.self (walk_grows c.in_err-weigh.ensures.kept c.requires.walk) c.seek.ensures.same.2 c.seek.ensures.stands c.seek.ensures.passed
+
+pub returns-in-Stuck-clause-walk : goal.returns-in-Stuck-clause-walk
+returns-in-Stuck-clause-walk g c =
+    let p = program_of c.args.system.now in
+    sought p (g.R.Reader.tells c.weigh.new.reader).has c.args.offers.now c.seek.new.self (walk_grows c.in_ok-weigh.ensures.kept c.requires.walk) c.seek.ensures.same.2 c.seek.ensures.stands c.seek.ensures.passed
+
+pub returns-in-Stuck-clause-passage : goal.returns-in-Stuck-clause-passage
+returns-in-Stuck-clause-passage g c =
+    let p = program_of c.args.system.now in
+    let v = c.args.offers.now in
+    let w = c.seek.new.self in
+    let grown = walk_grows c.in_ok-weigh.ensures.kept c.requires.walk in
+    let some = c.in-Some.ensures.some in
+    let weighed = weighed_at p (g.R.Reader.tells c.weigh.new.reader).has w c.in-Some.node c.in-Some.number some.0 some.1 some.3 c.in-Stuck.is c.in_ok-weigh.ensures.weighed in
+    (c.seek.ensures.same.2, weighed.0, stands_before p (g.R.Reader.tells c.weigh.new.reader).has v w grown c.seek.ensures.same.2 c.seek.ensures.stands c.seek.ensures.passed (code_of some.0 c.in-Some.ensures.few.0) some.2 some.3 (instance_of p c.in-Stuck.instance) weighed.1)
+
+pub returns-in-Unmet-clause-walk : goal.returns-in-Unmet-clause-walk
+returns-in-Unmet-clause-walk g c =
+    let p = program_of c.args.system.now in
+    let v = c.args.offers.now in
+    let w = c.seek.new.self in
+    let grown = walk_grows c.in_ok-weigh.ensures.kept c.requires.walk in
+    let some = c.in-Some.ensures.some in
+    let weighed = weighed_at p (g.R.Reader.tells c.weigh.new.reader).has w c.in-Some.node c.in-Some.number some.0 some.1 some.3 c.in-Unmet.is c.in_ok-weigh.ensures.weighed in
+    (passes p (g.R.Reader.tells c.weigh.new.reader).has v w grown c.seek.ensures.same.2 c.seek.ensures.stands c.seek.ensures.passed (code_of some.0 c.in-Some.ensures.few.0) some.2 some.3 c.pass.new.self None c.pass.ensures weighed).walk
+
+pub returns-in-Unmet-clause-passage : goal.returns-in-Unmet-clause-passage
+returns-in-Unmet-clause-passage g c =
+    let p = program_of c.args.system.now in
+    let v = c.args.offers.now in
+    let w = c.seek.new.self in
+    let grown = walk_grows c.in_ok-weigh.ensures.kept c.requires.walk in
+    let some = c.in-Some.ensures.some in
+    let weighed = weighed_at p (g.R.Reader.tells c.weigh.new.reader).has w c.in-Some.node c.in-Some.number some.0 some.1 some.3 c.in-Unmet.is c.in_ok-weigh.ensures.weighed in
+    (passes p (g.R.Reader.tells c.weigh.new.reader).has v w grown c.seek.ensures.same.2 c.seek.ensures.stands c.seek.ensures.passed (code_of some.0 c.in-Some.ensures.few.0) some.2 some.3 c.pass.new.self None c.pass.ensures weighed).more
+
+pub returns-in_ok-keep-in-Met-clause-walk : goal.returns-in_ok-keep-in-Met-clause-walk
+returns-in_ok-keep-in-Met-clause-walk g c =
+    let p = program_of c.args.system.now in
+    let v = c.args.offers.now in
+    let w = c.seek.new.self in
+    let grown = walk_grows c.in_ok-weigh.ensures.kept c.requires.walk in
+    let some = c.in-Some.ensures.some in
+    let weighed = weighed_at p (g.R.Reader.tells c.weigh.new.reader).has w c.in-Some.node c.in-Some.number some.0 some.1 some.3 c.in-Met.is c.in_ok-weigh.ensures.weighed in
+    (passes p (g.R.Reader.tells c.weigh.new.reader).has v w grown c.seek.ensures.same.2 c.seek.ensures.stands c.seek.ensures.passed (code_of some.0 c.in-Some.ensures.few.0) some.2 some.3 c.keep.new.self (Some (reference_of c.in-Met.receiver.0)) c.in_ok-keep-in-Met.ensures.kept weighed).walk
+
+pub returns-in_ok-keep-in-Met-clause-passage : goal.returns-in_ok-keep-in-Met-clause-passage
+returns-in_ok-keep-in-Met-clause-passage g c =
+    let p = program_of c.args.system.now in
+    let v = c.args.offers.now in
+    let w = c.seek.new.self in
+    let grown = walk_grows c.in_ok-weigh.ensures.kept c.requires.walk in
+    let some = c.in-Some.ensures.some in
+    let weighed = weighed_at p (g.R.Reader.tells c.weigh.new.reader).has w c.in-Some.node c.in-Some.number some.0 some.1 some.3 c.in-Met.is c.in_ok-weigh.ensures.weighed in
+    (passes p (g.R.Reader.tells c.weigh.new.reader).has v w grown c.seek.ensures.same.2 c.seek.ensures.stands c.seek.ensures.passed (code_of some.0 c.in-Some.ensures.few.0) some.2 some.3 c.keep.new.self (Some (reference_of c.in-Met.receiver.0)) c.in_ok-keep-in-Met.ensures.kept weighed).more
+
+pub returns-in_err-keep-in-Met-clause-walk : goal.returns-in_err-keep-in-Met-clause-walk
+returns-in_err-keep-in-Met-clause-walk g c =
+    let p = program_of c.args.system.now in
+    let grown = walk_grows c.in_ok-weigh.ensures.kept c.requires.walk in
+    subst (λ (u : Walk). IsWalk p (g.R.Reader.tells c.weigh.new.reader).has u) (sym c.in_err-keep-in-Met.ensures.stays) (sought p (g.R.Reader.tells c.weigh.new.reader).has c.args.offers.now c.seek.new.self grown c.seek.ensures.same.2 c.seek.ensures.stands c.seek.ensures.passed)

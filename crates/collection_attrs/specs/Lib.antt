@@ -1,0 +1,5 @@
+pub mod Passed
+pub mod Roots
+pub mod Spots
+pub mod Surveys
+pub mod Walks

@@ -1,0 +1,17 @@
+-- Roots of collections that are noted.
+use Rattle.std.specs.Prelude.{◌≡◌, ◌<◌, ℕ, Option, IfSome, Some, length}
+use Rattle.std.specs.HashMap.{HashMap, get}
+use Rattle.ast_grammar.specs.declared.grammar.ClassId.{ClassId}
+use Rattle.equation_law.specs.Equations.{collection_root}
+use Rattle.equation_law.specs.Program.{Program}
+use Rattle.collection_attrs.specs.contracts.noted_roots.UpwardsPartialEq.TheImpl as beginnings
+use Rattle.collection_attrs.specs.declared.noted_roots.Upwards.{Upwards}
+
+-- the closest node of the class c from node n upwards, or that there is none; it is a node of the tree
+pub record IsRoot (p : Program) (c : ClassId) (n : ℕ) (r : Option ℕ) : Type 0 where
+  pub is : r ≡ collection_root p (Some c) n
+  pub within : IfSome r (λ k. k < length p.tree)
+
+-- each note tells the root of its node
+abbrev pub AreRoots : {S : Type 0} → Program → HashMap Upwards (Option ℕ) S → Type 0
+AreRoots p notes = (u : Upwards) (r : Option ℕ) → get beginnings.ghosts.eq notes u ≡ Some r → IsRoot p (record { 0 = u.class }) u.node r

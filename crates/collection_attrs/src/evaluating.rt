@@ -1,0 +1,71 @@
+// What collections come to, and the equation of any instance.
+ghost use Rattle.std.specs.Prelude.{◌≡◌, Some};
+ghost use Rattle.equation_law.specs.Codes.{IsCoded, instance_of};
+ghost use Rattle.equation_law.specs.Collections.{Collection, collection_demands};
+ghost use Rattle.equation_law.specs.Equations.{collection_of, equations_of, world_of};
+ghost use Rattle.equation_law.specs.Reading.{IsSound};
+ghost use Rattle.equation_law.specs.Systems.{program_of};
+ghost use Rattle.expr_eval.specs.Evaluating.{Evaluates};
+ghost use Rattle.collection_attrs.specs.Surveys.{IsCollectorOf};
+
+use crate::collectors::{Collector, collector_of, is_collection, root_of};
+use crate::offers::Offers;
+use crate::surveys::Survey;
+use equation_law::{Instance, Reader, System};
+use expr_eval::{Saved, Turn, evaluate_instance};
+use rag_io::Memory;
+use std::alloc::Global;
+
+/// What a collection comes to.
+fn collect<R: Reader>(
+    alloc: Global,
+    system: &System,
+    of: Collector,
+    reader: &mut R,
+) -> Result<Turn, Memory>
+    requires collection { (c : Collection) × IsCollectorOf (program_of system.now) of c }
+    requires sound { IsSound (program_of system.now) (R.tells reader.old) }
+    ensures { (c : Collection) → IsCollectorOf (program_of system.now) of c → Evaluates (program_of system.now) (R.tells reader.old) (R.tells reader.new) (collection_demands (world_of (program_of system.now)) c) result }
+{
+    let mut survey = Survey::new(alloc, system, of);
+    let Some(root) = root_of(system, of) else {
+        return Ok(Turn::Done(survey.into_value()));
+    };
+    let mut offers = Offers::new(alloc, of.attr, root);
+    let mut saved = Saved::new(alloc);
+    survey.go_on(alloc, system, of, &mut offers, reader, &mut saved)
+}
+
+/// What a collection comes to: the combination of what is offered to it, in the order of the offers.
+pub fn survey<R: Reader>(
+    alloc: Global,
+    system: &System,
+    i: &Instance,
+    reader: &mut R,
+) -> Result<Turn, Memory>
+    requires collection { (c : Collection) × (collection_of (program_of system.now) (instance_of (program_of system.now) i.now) ≡ Some c) }
+    requires sound { IsSound (program_of system.now) (R.tells reader.old) }
+    ensures { Evaluates (program_of system.now) (R.tells reader.old) (R.tells reader.new) ((equations_of (program_of system.now)).equation (instance_of (program_of system.now) i.now)) result }
+{
+    match collector_of(system, i) {
+        Some(of) => collect(alloc, system, of, reader),
+        None => unreachable!(),
+    }
+}
+
+/// What the equation of any instance comes to: an expression where it is read, or a collection. What is no instance of the system counts as null.
+pub fn evaluate_any<R: Reader>(
+    alloc: Global,
+    system: &System,
+    i: &Instance,
+    reader: &mut R,
+) -> Result<Turn, Memory>
+    requires sound { IsSound (program_of system.now) (R.tells reader.old) }
+    requires coded { IsCoded (program_of system.now) i.now }
+    ensures { Evaluates (program_of system.now) (R.tells reader.old) (R.tells reader.new) ((equations_of (program_of system.now)).equation (instance_of (program_of system.now) i.now)) result }
+{
+    if is_collection(system, i) {
+        return survey(alloc, system, i, reader);
+    }
+    evaluate_instance(alloc, system, i, reader)
+}

@@ -1,0 +1,156 @@
+// How far one collection has gone over its offers, and how it goes on.
+ghost use Rattle.std.specs.Prelude.{◌≡◌, ◌⊎◌, ◌<◌, ◌≤◌, ◌+◌, ◌^◌, IfNone, IfOk, IfSome, List, OnErr, OnOk, length};
+ghost use Rattle.solutions.specs.Asking.{Halts};
+ghost use Rattle.equation_law.specs.Codes.{AreElements, IsCoded, instance_of, value_of};
+ghost use Rattle.equation_law.specs.Collections.{Collection, collection_demands, combine};
+ghost use Rattle.equation_law.specs.Equations.{world_of};
+ghost use Rattle.equation_law.specs.Names.{Instance as Asked};
+ghost use Rattle.equation_law.specs.Program.{text_of};
+ghost use Rattle.equation_law.specs.Reading.{Grows, IsSound};
+ghost use Rattle.equation_law.specs.Systems.{program_of};
+ghost use Rattle.expr_eval.specs.Evaluating.{Evaluates};
+ghost use Rattle.expr_eval.specs.Saved.{AreSaved};
+ghost use Rattle.collection_attrs.specs.Surveys.{IsCollectorOf, IsCounted, IsNew, IsSurveyed};
+ghost use Rattle.collection_attrs.specs.Walks.{IsFor, IsWalk};
+
+use crate::collectors::Collector;
+use crate::combining::{combine, fresh};
+use crate::offers::Offers;
+use crate::passing::{Passage, pass_next};
+use crate::weighing::evaluate_part;
+use equation_law::{Instance, Reader, System, Value};
+use expr_eval::{Saved, Turn};
+use rag_io::Memory;
+use std::alloc::Global;
+use std::mem::replace;
+
+/// How far one collection has gone over what is offered to it: behind the last of the offers kept by a walk that is for its node and was counted, told
+/// by one more than its place among these, and the value that comes of those.
+#[derive(Drop)]
+pub struct Survey {
+    taken: u32,
+    so_far: Value,
+}
+
+impl Survey {
+    /// A collection that has gone over nothing yet. It takes no memory.
+    pub fn new(alloc: Global, system: &System, of: Collector) -> Survey
+        ensures { IsNew (program_of system.now) of result }
+    {
+        Survey {
+            taken: 0,
+            so_far: fresh(alloc, system, of.method, of.kind),
+        }
+    }
+
+    /// The value of what was counted so far; of a new one, that of a collection to which nothing is offered. It takes no memory.
+    pub fn into_value(self) -> Value
+        ensures { result ≡ self.so_far }
+    {
+        self.so_far
+    }
+
+    // Begins anew along a walk that keeps fewer offers than were gone over. It takes no memory.
+    fn fit(&mut self, alloc: Global, system: &System, of: Collector, offers: &Offers)
+        ensures { ((self.new ≡ self.old) × (self.old.taken ≤ length offers.now.notes)) ⊎ IsNew (program_of system.now) of self.new }
+    {
+        if self.taken as usize <= offers.len() {
+            return;
+        }
+        *self = Survey::new(alloc, system, of);
+    }
+
+    // Counts a value that is contributed at this place. A set takes it in where it stands, without a copy; without memory for that the collection
+    // begins anew.
+    fn count(
+        &mut self,
+        alloc: Global,
+        system: &System,
+        of: Collector,
+        place: u32,
+        value: Value,
+    ) -> Result<(), Memory>
+        requires few { place + 1 < 2 ^ 32 }
+        requires so_far { AreElements (program_of system.now) self.old.so_far }
+        requires value { AreElements (program_of system.now) value }
+        ensures counted { OnOk result ((self.new.taken ≡ place + 1) × AreElements (program_of system.now) self.new.so_far × (value_of (text_of (program_of system.now)) self.new.so_far ≡ combine of.method of.kind (value_of (text_of (program_of system.now)) self.old.so_far) (value_of (text_of (program_of system.now)) value))) }
+        ensures anew { OnErr result (IsNew (program_of system.now) of self.new) }
+    {
+        let gone = replace(self, Survey::new(alloc, system, of));
+        let so_far = combine(alloc, system, of.method, of.kind, gone.so_far, value)?;
+        let taken = place + 1;
+        *self = Survey { taken, so_far };
+        Ok(())
+    }
+
+    // Counts the offers for the node that the walk has kept, in their order, up to the first whose value demands an instance for which the reader
+    // has no value. The instance is told.
+    fn count_kept<'a, R: Reader>(
+        &mut self,
+        alloc: Global,
+        system: &'a System,
+        of: Collector,
+        offers: &Offers,
+        reader: &mut R,
+        saved: &mut Saved<'a>,
+    ) -> Result<Option<Instance>, Memory>
+        requires sound { IsSound (program_of system.now) (R.tells reader.old) }
+        requires walk { IsWalk (program_of system.now) (R.tells reader.old).has offers.now }
+        requires collection { (c : Collection) × IsCollectorOf (program_of system.now) of c × IsFor (program_of system.now) offers.now c × IsSurveyed (program_of system.now) (R.tells reader.old).has c self.old }
+        requires within { self.old.taken ≤ length offers.now.notes }
+        requires saved { AreSaved system.now (R.tells reader.old).has saved.old }
+        ensures kept { Grows (program_of system.now) (R.tells reader.old) (R.tells reader.new) }
+        ensures survey { (c : Collection) → IsCollectorOf (program_of system.now) of c → IsSurveyed (program_of system.now) (R.tells reader.new).has c self.new }
+        ensures within { self.new.taken ≤ length offers.now.notes }
+        ensures counted { IfOk result (λ found. IfNone found ((c : Collection) → IsCollectorOf (program_of system.now) of c → IsCounted (program_of system.now) (R.tells reader.new).has offers.now c self.new)) }
+        ensures stuck { IfOk result (λ found. IfSome found (λ j. IsCoded (program_of system.now) j × ((c : Collection) → IsCollectorOf (program_of system.now) of c → (demands : List Asked) × Halts (R.tells reader.new).has (collection_demands (world_of (program_of system.now)) c) (instance_of (program_of system.now) j) demands))) }
+        ensures saved { AreSaved system.now (R.tells reader.new).has saved.new }
+    {
+        let rules = system.rules();
+        'kept: while let Some(place) = offers.next_for(of.node, self.taken) {
+            let entry = offers.entry(place);
+            let value = rules.contribution(entry.contribution).value;
+            match evaluate_part(alloc, system, value, entry.node, reader, saved)? {
+                Turn::Done(value) => self.count(alloc, system, of, place, value)?,
+                Turn::Need(instance) => return Ok(Some(instance)),
+            }
+        }
+        Ok(None)
+    }
+
+    /// Goes on: counts the offers for its node that the walk has kept, extends the walk where they end, and evaluates each value at its place in the
+    /// order. `Done` is the value of the collection under what the reader has at the end of the call, and `Need` the first demand, in the order of
+    /// the offers, for which it has no value. The walk and the survey stand by what the reader has then, after a fault too. The walk needn't be the one
+    /// that was gone along before: along one that keeps fewer offers than were gone over the survey begins anew.
+    pub fn go_on<'a, R: Reader>(
+        &mut self,
+        alloc: Global,
+        system: &'a System,
+        of: Collector,
+        offers: &mut Offers,
+        reader: &mut R,
+        saved: &mut Saved<'a>,
+    ) -> Result<Turn, Memory>
+        requires sound { IsSound (program_of system.now) (R.tells reader.old) }
+        requires walk { IsWalk (program_of system.now) (R.tells reader.old).has offers.old }
+        requires collection { (c : Collection) × IsCollectorOf (program_of system.now) of c × IsFor (program_of system.now) offers.old c × IsSurveyed (program_of system.now) (R.tells reader.old).has c self.old }
+        requires saved { AreSaved system.now (R.tells reader.old).has saved.old }
+        ensures evaluates { (c : Collection) → IsCollectorOf (program_of system.now) of c → Evaluates (program_of system.now) (R.tells reader.old) (R.tells reader.new) (collection_demands (world_of (program_of system.now)) c) result }
+        ensures same { (offers.new.attribute ≡ offers.old.attribute) × (offers.new.root ≡ offers.old.root) }
+        ensures walk { IsWalk (program_of system.now) (R.tells reader.new).has offers.new }
+        ensures survey { (c : Collection) → IsCollectorOf (program_of system.now) of c → IsSurveyed (program_of system.now) (R.tells reader.new).has c self.new }
+        ensures saved { AreSaved system.now (R.tells reader.new).has saved.new }
+    {
+        self.fit(alloc, system, of, offers);
+        'offers: loop {
+            if let Some(instance) = self.count_kept(alloc, system, of, offers, reader, saved)? {
+                return Ok(Turn::Need(instance));
+            }
+            match pass_next(alloc, system, offers, reader, saved)? {
+                Passage::Passed => {}
+                Passage::Stuck(instance) => return Ok(Turn::Need(instance)),
+                Passage::Ended => return Ok(Turn::Done(self.so_far.copy()?)),
+            }
+        }
+    }
+}
