@@ -1,55 +1,32 @@
 -- The stack of those that wait, known later, one more on it, and one fewer.
-use Rattle.std.proofs.Common.{◌≡◌, ℕ, ⊎_elim, true, false, is_some, List, [], ◌∷◌, ◌++◌, Option, Some, None, IfSome, IfNone, refl, sym, ap, subst, ◌∙◌}
+use Rattle.std.proofs.Common.{◌≡◌, ℕ, ⊎_elim, true, false, is_some, List, [], ◌∷◌, ◌++◌, Option, Some, None, refl, sym, ap, subst, ◌∙◌}
 use Rattle.equation_law.specs.declared.coding.Instance.{Instance as CodedInstance}
 use Rattle.equation_law.specs.Codes.{IsCoded, instance_of}
 use Rattle.equation_law.specs.Names.{Instance}
 use Rattle.equation_law.specs.Program.{Program}
-use Rattle.equation_law.specs.Values.{Value}
 use Rattle.memo_cells.specs.declared.keys.Slot.{Slot}
 use Rattle.memo_cells.specs.declared.view.Frame.{Frame}
 use Rattle.memo_cells.specs.declared.view.View.{View}
 use Rattle.memo_cells.specs.Naming.{IsCellOf}
 use Rattle.memo_cells.specs.Standing.{Knows}
 use Rattle.memo_cells.specs.Views.{Has, IsAtLeast}
-use Rattle.expr_eval.specs.declared.saved.Saved.{Saved}
-use Rattle.expr_eval.specs.Saved.{AreSaved, SavesNothing}
-use Rattle.expr_eval.proofs.Found.{none_saved}
-use Rattle.expr_eval.proofs.Growing.{saved_more}
 use Rattle.memo_cells.specs.Working.{IsKnown}
-use Rattle.equation_law.specs.declared.system.System.{System}
-use Rattle.memo_cells.proofs.Naming.{cell_later, knows_later}
+use Rattle.memo_cells.proofs.Naming.{cell_later}
 use Rattle.circular_eval.specs.declared.local.Local.{Local}
 use Rattle.circular_eval.proofs.Later.{local_later}
+use Rattle.caller_pass.specs.declared.left.Left.{Left}
 use Rattle.caller_pass.specs.declared.waiting.Waiter.{Waiter}
 use Rattle.caller_pass.specs.Knowing.{FindsCode}
-use Rattle.caller_pass.specs.Waiting.{AreWaiting, IsFrame, IsLeft, IsPlaced, IsStack, IsWay, IsWayOf, LooksAgain, WaitsBy, WayStays, waits, way_of}
+use Rattle.caller_pass.specs.Leaving.{IsLeft}
+use Rattle.caller_pass.specs.Waiting.{AreWaiting, IsFrame, IsPlaced, IsStack, IsWay, IsWayOf, LooksAgain, WaitsBy, WayStays, waits, way_of}
 use Rattle.caller_pass.proofs.Knowing.{found_knows}
+use Rattle.caller_pass.proofs.Leaving.{left_known}
 use Rattle.memo_cells.proofs.Bits.{has_left}
 use Rattle.caller_pass.proofs.Lines.{has_last, has_snoc}
 
--- what was left behind stays so where more is known
-pub left_known : (p : Program) (v w : View) → IsAtLeast v w → (s : System) (m : Option Saved) → IsLeft s (IsKnown p v) m → IsLeft s (IsKnown p w) m
-left_known p v w kept s None h = tt
-left_known p v w kept s (Some x) h = saved_more (λ i c k. (knows_later v w kept p i k.0, k.1)) x h
-
--- nothing was left behind
-pub none_left : (s : System) (A : Instance → Value → Type 0) (m : Option Saved) → m ≡ None → IsLeft s A m
-none_left s A None none = tt
-none_left s A (Some x) none = cc
-
--- what goes on is so, whether anything was left behind or not
-pub taken_left : {s : System} {A : Instance → Value → Type 0} (m : Option Saved) (x : Saved) → IfSome m (λ y. x ≡ y) → IfNone m (SavesNothing x) → IsLeft s A m → AreSaved s A x
-taken_left None x own nothing h = none_saved x nothing
-taken_left {s} {A} (Some y) x own nothing h = subst (λ (z : Saved). AreSaved s A z) (sym own) h
-
--- what is left behind of it then
-pub kept_left : {s : System} {A : Instance → Value → Type 0} (m : Option Saved) (x : Saved) → IfSome m (λ y. y ≡ x) → AreSaved s A x → IsLeft s A m
-kept_left None x own h = tt
-kept_left {s} {A} (Some y) x own h = subst (λ (z : Saved). AreSaved s A z) (sym own) h
-
 module _ (p : Program) (f : Frame) (v w : View) (kept : IsAtLeast v w) where
   pub placed_later : (e : CodedInstance × Waiter) → IsPlaced p f v e → IsPlaced p f w e
-  placed_later e h = record { instance = h.instance; coded = h.coded; undeclared = h.undeclared; slot = cell_later v w kept p f (instance_of p e.0) e.1.slot.0 h.slot; saved = left_known p v w kept f.system.value e.1.saved h.saved }
+  placed_later e h = record { instance = h.instance; coded = h.coded; undeclared = h.undeclared; slot = cell_later v w kept p f (instance_of p e.0) e.1.slot.0 h.slot; left = left_known p v w kept f.system.value (instance_of p e.0) e.1.left h.left }
 
   pub waits_later : (i : Instance) (way : Option Local) (n : Instance) → WaitsBy p f v i way n → WaitsBy p f w i way n
   waits_later i None n h = h
@@ -86,14 +63,14 @@ last_starts [] t x y first rest e = let same : (t, x) ≡ first = cc in ((t, y),
 last_starts (z ∷ es) t x y first rest e = let same : z ≡ first = cc in (z, es ++ (t, y) ∷ [], refl, ap (λ z. z.0) same)
 
 module _ (p : Program) (f : Frame) (v w : View) (kept : IsAtLeast v w) (i : Instance) (es : List (CodedInstance × Waiter)) (t : CodedInstance) (x : Waiter) (stack : IsStack p f v i es (t, x)) where
-  placed_now : (y : Waiter) → y.slot ≡ x.slot → IsLeft f.system.value (IsKnown p w) y.saved → IsPlaced p f w (t, y)
-  placed_now y same saved =
+  placed_now : (y : Waiter) → y.slot ≡ x.slot → IsLeft f.system.value (IsKnown p w) (instance_of p t) y.left → IsPlaced p f w (t, y)
+  placed_now y same left =
       let h = placed_later p f v w kept (t, x) stack.frame.placed in
-      record { instance = h.instance; coded = h.coded; undeclared = h.undeclared; slot = subst (λ (s : Slot). IsCellOf p f w (instance_of p t) s.0) (sym same) h.slot; saved = saved }
+      record { instance = h.instance; coded = h.coded; undeclared = h.undeclared; slot = subst (λ (s : Slot). IsCellOf p f w (instance_of p t) s.0) (sym same) h.slot; left = left }
 
   -- it goes on in another state
-  pub stack_on : (y : Waiter) → y.slot ≡ x.slot → IsLeft f.system.value (IsKnown p w) y.saved → IsWayOf p f w (instance_of p t) (way_of y) → IsStack p f w i es (t, y)
-  stack_on y same saved way =
+  pub stack_on : (y : Waiter) → y.slot ≡ x.slot → IsLeft f.system.value (IsKnown p w) (instance_of p t) y.left → IsWayOf p f w (instance_of p t) (way_of y) → IsStack p f w i es (t, y)
+  stack_on y same left way =
       let begun = last_starts es t x y stack.first stack.rest stack.starts in
       record {
         first = begun.0;
@@ -102,13 +79,13 @@ module _ (p : Program) (f : Frame) (v w : View) (kept : IsAtLeast v w) (i : Inst
         is = ap (instance_of p) begun.3 ∙ stack.is;
         placed = λ e h. placed_later p f v w kept e (stack.placed e h);
         waiting = waiting_later p f v w kept es (instance_of p t) stack.waiting;
-        frame = record { placed = placed_now y same saved; way = way };
+        frame = record { placed = placed_now y same left; way = way };
         other = stack.other;
       }
 
   -- it waits, and another one is on top
-  pub stack_more : (u : View) → IsAtLeast w u → (y : Waiter) → y.slot ≡ x.slot → IsLeft f.system.value (IsKnown p w) y.saved → (next : CodedInstance) (z : Waiter) → WaitsBy p f w (instance_of p t) (way_of y) (instance_of p next) → IsFrame p f u (next, z) → waits (es ++ (t, y) ∷ []) next ≡ false → IsStack p f u i (es ++ (t, y) ∷ []) (next, z)
-  stack_more u later y same saved next z w' frame other =
+  pub stack_more : (u : View) → IsAtLeast w u → (y : Waiter) → y.slot ≡ x.slot → IsLeft f.system.value (IsKnown p w) (instance_of p t) y.left → (next : CodedInstance) (z : Waiter) → WaitsBy p f w (instance_of p t) (way_of y) (instance_of p next) → IsFrame p f u (next, z) → waits (es ++ (t, y) ∷ []) next ≡ false → IsStack p f u i (es ++ (t, y) ∷ []) (next, z)
+  stack_more u later y same left next z w' frame other =
       let begun = last_starts es t x y stack.first stack.rest stack.starts in
       let more = snoc_starts es (t, y) begun.0 begun.1 (next, z) begun.2 in
       record {
@@ -116,7 +93,7 @@ module _ (p : Program) (f : Frame) (v w : View) (kept : IsAtLeast v w) (i : Inst
         rest = more.0;
         starts = more.1;
         is = ap (instance_of p) begun.3 ∙ stack.is;
-        placed = λ e h. placed_later p f w u later e (⊎_elim (λ before. placed_later p f v w kept e (stack.placed e before)) (λ now. subst (λ (d : CodedInstance × Waiter). IsPlaced p f w d) (sym now) (placed_now y same saved)) (has_snoc es (t, y) e h));
+        placed = λ e h. placed_later p f w u later e (⊎_elim (λ before. placed_later p f v w kept e (stack.placed e before)) (λ now. subst (λ (d : CodedInstance × Waiter). IsPlaced p f w d) (sym now) (placed_now y same left)) (has_snoc es (t, y) e h));
         waiting = waiting_later p f w u later (es ++ (t, y) ∷ []) (instance_of p next) (waiting_more p f w es (t, y) (instance_of p next) (waiting_later p f v w kept es (instance_of p t) stack.waiting) w');
         frame = frame;
         other = other;
@@ -138,7 +115,7 @@ module _ (p : Program) (f : Frame) (v w : View) (kept : IsAtLeast v w) (i : Inst
         placed = λ e h. placed_later p f v w kept e (stack.placed e (subst (λ l. Has l e) (sym is) (has_left ds (last ∷ []) e h)));
         waiting = front.0;
         frame = record {
-          placed = record { instance = its.instance; coded = its.coded; undeclared = its.undeclared; slot = subst (λ (s : Slot). IsCellOf p f w (instance_of p last.0) s.0) (sym looks.slot) its.slot; saved = subst (λ (o : Option Saved). IsLeft f.system.value (IsKnown p w) o) (sym looks.saved) its.saved };
+          placed = record { instance = its.instance; coded = its.coded; undeclared = its.undeclared; slot = subst (λ (s : Slot). IsCellOf p f w (instance_of p last.0) s.0) (sym looks.slot) its.slot; left = subst (λ (o : Option Left). IsLeft f.system.value (IsKnown p w) (instance_of p last.0) o) (sym looks.left) its.left };
           way = way_on (way_of last.1) (way_of y) looks.way front.1;
         };
         other = other;
@@ -163,10 +140,10 @@ stack_one p f v i x placed none = record {
 }
 
 -- a local set whose start is seen sealed isn't waited for any more
-pub looked_known : (p : Program) (f : Frame) (w u : View) → u ≡ w → (x : Waiter) (l : Local) → way_of x ≡ Some l → (i : CodedInstance) → i ≡ l.start → (r : Option (Slot × ℕ)) → is_some r ≡ true → (IsCoded p i → FindsCode p f w (instance_of p i) r) → LooksAgain p u x (record { slot = x.slot; way = None; saved = x.saved })
+pub looked_known : (p : Program) (f : Frame) (w u : View) → u ≡ w → (x : Waiter) (l : Local) → way_of x ≡ Some l → (i : CodedInstance) → i ≡ l.start → (r : Option (Slot × ℕ)) → is_some r ≡ true → (IsCoded p i → FindsCode p f w (instance_of p i) r) → LooksAgain p u x (record { slot = x.slot; way = None; left = x.left })
 looked_known p f w u is x l way i start r there finds = record {
   slot = refl;
-  saved = refl;
+  left = refl;
   way = subst (λ (o : Option Local). WayStays p u o None) (sym way) (λ coded. subst (λ (v : View). Knows p v (instance_of p l.start)) (sym is) (subst (λ (j : CodedInstance). IsCoded p j → Knows p w (instance_of p j)) start (λ good. known r there (finds good)) coded));
 }
   where

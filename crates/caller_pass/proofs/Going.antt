@@ -28,9 +28,11 @@ use Rattle.caller_pass.specs.declared.faults.AskFault.TheVariants.{CellsFull, Ci
 use Rattle.caller_pass.specs.declared.solving.Went.{Went}
 use Rattle.caller_pass.specs.declared.waiting.Waiter.{Waiter}
 use Rattle.caller_pass.specs.Answering.{AnswersStep, EndsAtLoop, GoesThrough, IsNext, LeavesOne, SameWay, Solves, StopsAt, WayChanges, unsettled}
-use Rattle.caller_pass.specs.Waiting.{AnswersWait, AreWaiting, IsLeft, IsLineTo, IsPlaced, IsStack, IsWayOf, LooksAgain, waits, way_of}
+use Rattle.caller_pass.specs.Leaving.{IsLeft}
+use Rattle.caller_pass.specs.Waiting.{AnswersWait, AreWaiting, IsLineTo, IsPlaced, IsStack, IsWayOf, LooksAgain, waits, way_of}
 use Rattle.caller_pass.proofs.Falling.{measure}
-use Rattle.caller_pass.proofs.Frames.{none_left, stack_fewer, stack_more, stack_on, stack_one, waiting_later, waiting_more}
+use Rattle.caller_pass.proofs.Frames.{stack_fewer, stack_more, stack_on, stack_one, waiting_later, waiting_more}
+use Rattle.caller_pass.proofs.Leaving.{none_left}
 use Rattle.caller_pass.proofs.Knowing.{has_value}
 use Rattle.caller_pass.proofs.Lines.{met_loop, waits_chain}
 use Rattle.caller_pass.proofs.Paid.{pays_all, pays_back, pays_first, pays_further, pays_more, top_reached}
@@ -59,7 +61,7 @@ pub record WentThrough (p : Program) (f : Frame) (w u : View) (t : CodedInstance
   pub kept : IsAtLeast w u
   pub claims : ClaimsKeys p (instance_of p t) w u
   pub slot : y.slot ≡ x.slot
-  pub saved : IsLeft f.system.value (IsKnown p u) y.saved
+  pub left : IsLeft f.system.value (IsKnown p u) (instance_of p t) y.left
   pub answer : AnswersStep p f u (instance_of p t) (way_of x) (way_of y) r
   pub evals : after ≡ before + 1
 
@@ -71,7 +73,7 @@ through d e f t x y before after r is h =
       kept = g.on.kept;
       claims = g.claims;
       slot = g.slot;
-      saved = g.saved;
+      left = g.left;
       answer = g.answer;
       evals = g.evals;
     }
@@ -91,9 +93,9 @@ waited_loop p f g v u i (e ∷ es) t x y on line stack waiting lines why plain =
     subst (λ (j : Instance). EndsAtLoop p j (instance_of p on) line) (ap (λ (d : CodedInstance × Waiter). instance_of p d.0) first ∙ stack.is) (met_loop p e (es ++ (t, y) ∷ []) on line (lines g u waiting) why plain)
 
 -- before the first turn
-pub begun : (p : Program) (f : Frame) (v w : View) → p ≡ program_of f.system.value → IsPassOf f v → IsPassOf f w → IsAtLeast v w → (i : CodedInstance) (x : Waiter) → IsInstance p (instance_of p i) → IsCoded p i → (equations_of p).circular (instance_of p i) ≡ false → ¬ Knows p v (instance_of p i) → IsCellOf p f w (instance_of p i) x.slot.0 → way_of x ≡ None → x.saved ≡ None → ClaimsKeysTo p v w (instance_of p i) → (evals : ℕ) → IsSolving p f v w (instance_of p i) [] (i, x) evals evals
+pub begun : (p : Program) (f : Frame) (v w : View) → p ≡ program_of f.system.value → IsPassOf f v → IsPassOf f w → IsAtLeast v w → (i : CodedInstance) (x : Waiter) → IsInstance p (instance_of p i) → IsCoded p i → (equations_of p).circular (instance_of p i) ≡ false → ¬ Knows p v (instance_of p i) → IsCellOf p f w (instance_of p i) x.slot.0 → way_of x ≡ None → x.left ≡ None → ClaimsKeysTo p v w (instance_of p i) → (evals : ℕ) → IsSolving p f v w (instance_of p i) [] (i, x) evals evals
 begun p f v w same own then kept i x instance coded plain unknown cell way fresh claims evals =
-    let placed : IsPlaced p f w (i, x) = record { instance = instance; coded = coded; undeclared = plain; slot = cell; saved = none_left _ _ x.saved fresh } in
+    let placed : IsPlaced p f w (i, x) = record { instance = instance; coded = coded; undeclared = plain; slot = cell; left = none_left _ _ _ x.left fresh } in
     record {
       own = then;
       kept = kept;
@@ -127,7 +129,7 @@ module _ {p : Program} {f : Frame} {v w u : View} {i : Instance} {es : List (Cod
     way_then (Some l) (Some m) h = absurd h
 
     stack_further : IsStack p f u i es (t, y)
-    stack_further = stack_on p f w u g.kept i es t x s.stack y g.slot g.saved (way_then (way_of x) (way_of y) changes)
+    stack_further = stack_on p f w u g.kept i es t x s.stack y g.slot g.left (way_then (way_of x) (way_of y) changes)
 
     pub went_further : IsSolving p f v u i es (t, y) before after
     went_further = record {
@@ -162,15 +164,15 @@ module _ {p : Program} {f : Frame} {v w u : View} {i : Instance} {es : List (Cod
       wait_fault new Memory a = tt
 
       -- the next one is on top
-      module _ (z : Waiter) (cell : IsCellOf p f o (instance_of p n) z.slot.0) (way : way_of z ≡ None) (free : waits (es ++ (t, y) ∷ []) n ≡ false) (fresh : z.saved ≡ None) where
+      module _ (z : Waiter) (cell : IsCellOf p f o (instance_of p n) z.slot.0) (way : way_of z ≡ None) (free : waits (es ++ (t, y) ∷ []) n ≡ false) (fresh : z.left ≡ None) where
         placed : IsPlaced p f o (n, z)
-        placed = record { instance = next.instance; coded = next.coded; undeclared = next.undeclared; slot = cell; saved = none_left _ _ z.saved fresh }
+        placed = record { instance = next.instance; coded = next.coded; undeclared = next.undeclared; slot = cell; left = none_left _ _ _ z.left fresh }
 
         unknown : ¬ Knows p w (instance_of p n)
         unknown k = next.unknown (knows_later w u g.kept p (instance_of p n) k)
 
         stack_next : IsStack p f o i (es ++ (t, y) ∷ []) (n, z)
-        stack_next = stack_more p f w u g.kept i es t x s.stack o later y g.slot g.saved n z next.waits (record { placed = placed; way = subst (λ (q : Option Local). IsWayOf p f o (instance_of p n) q) (sym way) tt }) free
+        stack_next = stack_more p f w u g.kept i es t x s.stack o later y g.slot g.left n z next.waits (record { placed = placed; way = subst (λ (q : Option Local). IsWayOf p f o (instance_of p n) q) (sym way) tt }) free
 
         went_next : IsSolving p f v o i (es ++ (t, y) ∷ []) (n, z) before after
         went_next = record {

@@ -1,12 +1,15 @@
 pub mod Asked
 pub mod Closing
+pub mod Collecting
 pub mod Desks
 pub mod Elements
 pub mod Falling
 pub mod Finishing
 pub mod Frames
 pub mod Going
+pub mod Keeping
 pub mod Knowing
+pub mod Leaving
 pub mod Lines
 pub mod Listing
 pub mod Members

@@ -37,14 +37,14 @@ no_cell {o} {d} i {before} {r} on lacks claims h =
     solve_fault p o.0 o.1 d.1 (instance_of p i) before before CellsFull r h (claims_to p (instance_of p i) o.1 d.1 claims) (fills_to p (instance_of p i) o.0 d.1 lacks)
 
 -- the first turn
-pub first_turn : {o d : Held} {i : CodedInstance} {s : Slot} (before : ℕ) → IsOwn o → GoesOn o d → IsInstance (program_at o) (instance_of (program_at o) i) → IsCoded (program_at o) i → (equations_of (program_at o)).circular (instance_of (program_at o) i) ≡ false → ¬ Knows (program_at o) o.1 (instance_of (program_at o) i) → IsCellOf (program_at o) o.0 d.1 (instance_of (program_at o) i) s.0 → ClaimsKeysTo (program_at o) o.1 d.1 (instance_of (program_at o) i) → (es : List (CodedInstance × Waiter)) → es ≡ [] → IsTurn o d i es i (record { slot = s; way = None; saved = None }) before before
+pub first_turn : {o d : Held} {i : CodedInstance} {s : Slot} (before : ℕ) → IsOwn o → GoesOn o d → IsInstance (program_at o) (instance_of (program_at o) i) → IsCoded (program_at o) i → (equations_of (program_at o)).circular (instance_of (program_at o) i) ≡ false → ¬ Knows (program_at o) o.1 (instance_of (program_at o) i) → IsCellOf (program_at o) o.0 d.1 (instance_of (program_at o) i) s.0 → ClaimsKeysTo (program_at o) o.1 d.1 (instance_of (program_at o) i) → (es : List (CodedInstance × Waiter)) → es ≡ [] → IsTurn o d i es i (record { slot = s; way = None; left = None }) before before
 first_turn {o} {d} {i} {s} before own on instance coded plain unknown cell claims es empty =
     let p = program_at o in
     record {
       cells = on.cells;
       lender = on.lender;
-      solving = subst (λ (l : List (CodedInstance × Waiter)). IsSolving p o.0 o.1 d.1 (instance_of p i) l (i, record { slot = s; way = None; saved = None }) before before) (sym empty)
-          (begun p o.0 o.1 d.1 refl own (own_then o d on) on.kept i (record { slot = s; way = None; saved = None }) instance coded plain unknown cell refl refl claims before);
+      solving = subst (λ (l : List (CodedInstance × Waiter)). IsSolving p o.0 o.1 d.1 (instance_of p i) l (i, record { slot = s; way = None; left = None }) before before) (sym empty)
+          (begun p o.0 o.1 d.1 refl own (own_then o d on) on.kept i (record { slot = s; way = None; left = None }) instance coded plain unknown cell refl refl claims before);
     }
 
 module _ {o d : Held} {i : CodedInstance} {es : List (CodedInstance × Waiter)} {top : CodedInstance} {x : Waiter} {before now : ℕ} (t : IsTurn o d i es top x before now) where

@@ -25,7 +25,8 @@ use Rattle.caller_pass.specs.declared.faults.AskFault.TheVariants.{CellsFull, Ci
 use Rattle.caller_pass.specs.declared.solving.Went.{Went}
 use Rattle.caller_pass.specs.declared.solving.Went.TheVariants.{Further, Need, Settled}
 use Rattle.caller_pass.specs.declared.waiting.Waiter.{Waiter}
-use Rattle.caller_pass.specs.Waiting.{IsLeft, IsWay, WaitsBy, way_of}
+use Rattle.caller_pass.specs.Leaving.{IsLeft}
+use Rattle.caller_pass.specs.Waiting.{IsWay, WaitsBy, way_of}
 
 -- the chain begins with i, each later member is led to by the one before, and `on`, which isn't circular, stands there twice
 pub record IsLoop (p : Program) (i on : Instance) (chain : List Instance) : Type 0 where
@@ -121,7 +122,7 @@ pub record GoesThrough (p : Program) (d e : Held) (i : CodedInstance) (old new :
   pub on : GoesOn d e
   pub claims : ClaimsKeys p (instance_of p i) d.1 e.1
   pub slot : new.slot ≡ old.slot
-  pub saved : IsLeft d.0.system.value (IsKnown (program_at d) e.1) new.saved
+  pub left : IsLeft d.0.system.value (IsKnown (program_at d) e.1) (instance_of p i) new.left
   pub answer : AnswersStep p d.0 e.1 (instance_of p i) (way_of old) (way_of new) result
   pub evals : after ≡ before + 1
 

@@ -7,8 +7,8 @@ use Rattle.caller_pass.specs.declared.waiting.Waiter.{Waiter}
 
 -- the one that was packed: a bare one has no local set, and nothing was left behind
 abbrev pub unpacked : Packed → Waiter
-unpacked (Bare s) = record { slot = s; way = None; saved = None }
-unpacked (Laden s b) = record { slot = s; way = b.value.way; saved = b.value.saved }
+unpacked (Bare s) = record { slot = s; way = None; left = None }
+unpacked (Laden s b) = record { slot = s; way = b.value.way; left = b.value.left }
 
 abbrev pub unpacked_entry : CodedInstance × Packed → CodedInstance × Waiter
 unpacked_entry e = (e.0, unpacked e.1)

@@ -11,10 +11,6 @@ use Rattle.equation_law.specs.Equations.{equations_of}
 use Rattle.equation_law.specs.Loops.{Chain, HasLoop, Leads}
 use Rattle.equation_law.specs.Names.{Instance}
 use Rattle.equation_law.specs.Program.{Program}
-use Rattle.equation_law.specs.declared.system.System.{System}
-use Rattle.equation_law.specs.Values.{Value}
-use Rattle.expr_eval.specs.declared.saved.Saved.{Saved}
-use Rattle.expr_eval.specs.Saved.{AreSaved}
 use Rattle.memo_cells.specs.declared.view.Frame.{Frame}
 use Rattle.memo_cells.specs.declared.view.View.{View}
 use Rattle.memo_cells.specs.Naming.{IsCellOf, LacksCell}
@@ -27,6 +23,7 @@ use Rattle.circular_eval.specs.Local.{IsLocal}
 use Rattle.caller_pass.specs.declared.faults.AskFault.{AskFault}
 use Rattle.caller_pass.specs.declared.faults.AskFault.TheVariants.{CellsFull, Circular, Memory}
 use Rattle.caller_pass.specs.declared.waiting.Waiter.{Waiter}
+use Rattle.caller_pass.specs.Leaving.{IsLeft}
 
 abbrev pub unboxed : Option (Box Local) → Option Local
 unboxed None = None
@@ -50,18 +47,13 @@ abbrev pub IsWayOf : Program → Frame → View → Instance → Option Local �
 IsWayOf p f v i None = Unit {0}
 IsWayOf p f v i (Some l) = IsWay p f v i l
 
--- what an evaluation left behind is so, if that is anything
-abbrev pub IsLeft : System → (Instance → Value → Type 0) → Option Saved → Type 0
-IsLeft s A None = Unit {0}
-IsLeft s A (Some m) = AreSaved s A m
-
--- an instance of the program that isn't circular, well coded, whose cell is seen claimed at its slot; what is saved of its evaluation is so
+-- an instance of the program that isn't circular, well coded, whose cell is seen claimed at its slot; what its evaluation left behind is so
 pub record IsPlaced (p : Program) (f : Frame) (v : View) (e : CodedInstance × Waiter) : Type 0 where
   pub instance : IsInstance p (instance_of p e.0)
   pub coded : IsCoded p e.0
   pub undeclared : (equations_of p).circular (instance_of p e.0) ≡ false
   pub slot : IsCellOf p f v (instance_of p e.0) e.1.slot.0
-  pub saved : IsLeft f.system.value (IsKnown p v) e.1.saved
+  pub left : IsLeft f.system.value (IsKnown p v) (instance_of p e.0) e.1.left
 
 -- it is to be evaluated next, or the local set that it waits for is to go on
 pub record IsFrame (p : Program) (f : Frame) (v : View) (e : CodedInstance × Waiter) : Type 0 where
@@ -120,7 +112,7 @@ pub record IsBehind (l : Local) (chain whole : List CodedInstance) : Type 0 wher
 -- the answer where the last of `es` is to wait for `next`: how that one stands, which is new among them, or the line to it, which holds it already
 -- where it isn't known to have a loop
 abbrev pub AnswersWait : Program → Frame → View → List (CodedInstance × Waiter) → CodedInstance → List (CodedInstance × Waiter) → Result Waiter AskFault → Type 0
-AnswersWait p f v es next new (Ok x) = (new ≡ es) × IsCellOf p f v (instance_of p next) x.slot.0 × (way_of x ≡ None) × (waits es next ≡ false) × (x.saved ≡ None)
+AnswersWait p f v es next new (Ok x) = (new ≡ es) × IsCellOf p f v (instance_of p next) x.slot.0 × (way_of x ≡ None) × (waits es next ≡ false) × (x.left ≡ None)
 AnswersWait p f v es next new (Err (Circular on chain)) = (on ≡ next) × ((waits es next ≡ true) ⊎ HasLoop p (instance_of p next)) × ((g : Frame) (u : View) → AreWaiting p g u es (instance_of p next) → IsLineTo p es (instance_of p next) (map (instance_of p) chain))
 AnswersWait p f v es next new (Err CellsFull) = LacksCell p f v (instance_of p next)
 AnswersWait p f v es next new (Err Memory) = Unit {0}
@@ -133,5 +125,5 @@ WayStays p v (Some l) (Some m) = (m ≡ l) × (IsCoded p l.start → ¬ Knows p 
 
 pub record LooksAgain (p : Program) (v : View) (old new : Waiter) : Type 0 where
   pub slot : new.slot ≡ old.slot
-  pub saved : new.saved ≡ old.saved
+  pub left : new.left ≡ old.left
   pub way : WayStays p v (way_of old) (way_of new)

@@ -12,6 +12,7 @@ ghost use Rattle.memo_cells.specs.Standing.{IsPassOf, Knows};
 ghost use Rattle.memo_cells.specs.Views.{Has, IsAtLeast};
 ghost use Rattle.memo_cells.specs.Working.{GoesOn, IsOwn, program_at};
 ghost use Rattle.caller_pass.specs.Answering.{AnswersFault, Asks, AsksNoted, EndsAtLoop, Solves};
+ghost use Rattle.caller_pass.specs.Keeping.{IsNotebookOf};
 ghost use Rattle.caller_pass.specs.Noting.{MayNote};
 
 use crate::desk::Desk;
@@ -83,12 +84,12 @@ fn ask_at<L: Ledger>(
     requires program { IsProgram (program_of system.now) }
     requires same { cells.now.system.value ≡ system.now }
     requires own { IsPassOf cells.now pass.old }
-    requires notes { notes ≡ system.now }
+    requires notes { IsNotebookOf system.now pass.old notes }
     requires instance { IsInstance (program_of system.now) (instance_of (program_of system.now) i.now) }
     requires coded { IsCoded (program_of system.now) i.now }
     ensures own { IsPassOf cells.now pass.new }
     ensures kept { IsAtLeast pass.old pass.new }
-    ensures notes { result.1 ≡ system.now }
+    ensures notes { IsNotebookOf system.now pass.new result.1 }
     ensures asked { AsksNoted (program_of system.now) cells.now pass.old pass.new (instance_of (program_of system.now) i.now) evals.old evals.new result.0 }
 {
     let mut desk = Desk {
@@ -152,7 +153,7 @@ fn round(on: Instance, chain: Chain) -> AskFault
 
 /// Notes the loops that an answer tells of.
 fn note_loops(notes: &mut Notebook, came: &Result<Value, AskFault>)
-    requires { MayNote (program_of notes.old) came.now }
+    requires { MayNote (program_of notes.old.system) came.now }
     ensures { notes.new ≡ notes.old }
 {
     if let Err(AskFault::Circular { chain, .. }) = came {
@@ -205,12 +206,12 @@ pub fn ask_noted<L: Ledger>(
     requires program { IsProgram (program_of system.now) }
     requires same { cells.now.system.value ≡ system.now }
     requires own { IsPassOf cells.now pass.old }
-    requires notes { notes.old ≡ system.now }
+    requires notes { IsNotebookOf system.now pass.old notes.old }
     requires instance { IsInstance (program_of system.now) (instance_of (program_of system.now) i.now) }
     requires coded { IsCoded (program_of system.now) i.now }
     ensures own { IsPassOf cells.now pass.new }
     ensures kept { IsAtLeast pass.old pass.new }
-    ensures notes { notes.new ≡ system.now }
+    ensures notes { IsNotebookOf system.now pass.new notes.new }
     ensures asked { AsksNoted (program_of system.now) cells.now pass.old pass.new (instance_of (program_of system.now) i.now) evals.old evals.new result }
 {
     let kept = replace(notes, Notebook::new(alloc, system));

@@ -4,6 +4,7 @@ ghost use Rattle.std.specs.Prelude.{◌≡◌};
 use crate::notebook::Notebook;
 use crate::turns::is_set;
 use attr_rules::{AttrId, Kind};
+use collection_attrs::{Collector, Offers};
 use equation_law::{Args, Code, EqSite, Instance, NodeRef, Reader, System, Value};
 use expr_eval::kind_of;
 use memo_cells::{Cells, CellsFull, Key, Pass, Slot, Words, Work, seek_instance, value_shown};
@@ -27,6 +28,7 @@ impl<'a> Model for Desk<'a> {
     ghost use Rattle.memo_cells.specs.declared.view.Frame.{Frame};
     ghost use Rattle.memo_cells.specs.declared.view.View.{View};
     ghost use Rattle.memo_cells.specs.Standing.{IsPassOf};
+    ghost use Rattle.caller_pass.specs.Keeping.{IsNotebookOf};
 
     ghost Value = { Frame × View × ℕ };
 
@@ -34,7 +36,7 @@ impl<'a> Model for Desk<'a> {
 
     ghost view = { λ d. (d.cells.now, d.pass.now, d.pass.ghost_name) };
 
-    ghost invariant = { λ d. (IsPassOf d.cells.now d.pass.now × (d.notes ≡ d.system.now)) × (d.cells.now.system.value ≡ d.system.now) };
+    ghost invariant = { λ d. (IsPassOf d.cells.now d.pass.now × IsNotebookOf d.system.now d.pass.now d.notes) × (d.cells.now.system.value ≡ d.system.now) };
 }
 
 impl Reader for Desk<'_> {
@@ -78,17 +80,20 @@ impl Work for Desk<'_> {
 }
 
 impl<'a> Desk<'a> {
-    ghost use Rattle.std.specs.Prelude.{◌<◌, IfOk, IfSome, false, true};
+    ghost use Rattle.std.specs.Prelude.{◌<◌, [], IfNone, IfOk, IfSome, Some, false, length, true};
     ghost use Rattle.attr_rules.specs.Rules.{is_single};
     ghost use Rattle.equation_law.specs.declared.coding.Instance.TheVariants.{Attr as attribute_at};
-    ghost use Rattle.equation_law.specs.Equations.{equation_of, kind_in};
+    ghost use Rattle.equation_law.specs.Collections.{Collection};
+    ghost use Rattle.equation_law.specs.Equations.{kind_in, offers_below, site_of};
     ghost use Rattle.inherited_walk.specs.Sites.{IsFound};
     ghost use Rattle.equation_law.specs.Codes.{IsCoded, IsRow, instance_of};
     ghost use Rattle.equation_law.specs.Loops.{HasLoop};
     ghost use Rattle.equation_law.specs.Names.{Instance as StandingInstance};
     ghost use Rattle.memo_cells.specs.Naming.{IsCellOf};
     ghost use Rattle.memo_cells.specs.Standing.{IsPassOf, Knows, MaySettle};
-    ghost use Rattle.memo_cells.specs.Working.{IsOwn, ReadsOn, program_at};
+    ghost use Rattle.memo_cells.specs.Working.{IsKnown, IsOwn, ReadsOn, program_at};
+    ghost use Rattle.collection_attrs.specs.Surveys.{IsCollectorOf};
+    ghost use Rattle.collection_attrs.specs.Walks.{IsWalk};
     ghost use Rattle.caller_pass.specs.Knowing.{FindsCode, FindsValue, IsKnownValue};
     ghost use Rattle.caller_pass.specs.Noting.{IsNoted};
 
@@ -165,11 +170,41 @@ impl<'a> Desk<'a> {
     /// The equation of an attribute at a node with arguments. The way to it is noted.
     pub(crate) fn site(&mut self, attr: AttrId, node: NodeRef, args: Args) -> Option<EqSite>
         ensures same { self.new ≡ self.old }
-        ensures found { IsFound (program_at self.old) attr.0 (equation_of (program_at self.old) (instance_of (program_at self.old) (attribute_at attr node args))) result }
+        ensures found { IsFound (program_at self.old) attr.0 (site_of (program_at self.old) (instance_of (program_at self.old) (attribute_at attr node args))) result }
         ensures rows { IsRow args → IfSome result (λ s. IsRow s.outer × IsRow s.inner) }
     {
         let system = self.system;
         self.notes.site(system, attr, node, args)
+    }
+
+    /// The root in whose subtree what is offered to a collection stands. Where there is none, nothing is offered. The way to it is noted.
+    pub(crate) fn root_for(&mut self, of: Collector) -> Option<u32>
+        requires { (c : Collection) × IsCollectorOf (program_at self.old) of c }
+        ensures same { self.new ≡ self.old }
+        ensures within { IfSome result (λ r. r < length (program_at self.old).tree) }
+        ensures some { IfSome result (λ r. (c : Collection) → IsCollectorOf (program_at self.old) of c → c.offers ≡ offers_below (program_at self.old) of.attr.0 (Some r)) }
+        ensures none { IfNone result ((c : Collection) → IsCollectorOf (program_at self.old) of c → c.offers ≡ []) }
+    {
+        let system = self.system;
+        self.notes.root_for(system, of)
+    }
+
+    /// Takes the walk over what is offered to a collection attribute in the subtree of a root out of the notes, or begins one.
+    pub(crate) fn take_walk(&mut self, alloc: Global, attr: AttrId, root: u32) -> Offers
+        requires { root < length (program_at self.old).tree }
+        ensures same { self.new ≡ self.old }
+        ensures of { (result.attribute ≡ attr.0) × (result.root ≡ root) }
+        ensures walk { IsWalk (program_at self.old) (IsKnown (program_at self.old) self.old.1) result }
+    {
+        self.notes.take_walk(alloc, attr, root)
+    }
+
+    /// Notes a walk.
+    pub(crate) fn put_walk(&mut self, offers: Offers)
+        requires { IsWalk (program_at self.old) (IsKnown (program_at self.old) self.old.1) offers }
+        ensures { self.new ≡ self.old }
+    {
+        self.notes.put_walk(offers);
     }
 
     /// Whether it is noted that an instance has a loop.

@@ -5,11 +5,14 @@ mod asking;
 mod desk;
 mod evals;
 mod faults;
+mod left;
 mod notebook;
+mod resuming;
 mod sealed;
 mod solving;
 mod turns;
 mod waiting;
+mod walks;
 
 pub use asking::{ask, ask_noted};
 pub use desk::Desk;

@@ -1,5 +1,5 @@
 // What a caller notes of a program.
-ghost use Rattle.std.specs.Prelude.{◌≡◌, ◌⊎◌, IfSome, Some, true};
+ghost use Rattle.std.specs.Prelude.{◌≡◌, ◌⊎◌, ◌<◌, [], IfNone, IfSome, Some, length, true};
 ghost use Rattle.std.specs.HashMap.{get};
 ghost use Rattle.std.specs.HashSet.{contains};
 ghost use Rattle.equation_law.specs.contracts.coding.InstancePartialEq.TheImpl as equality;
@@ -7,14 +7,22 @@ ghost use Rattle.equation_law.specs.declared.coding.Instance.{Instance as CodedI
 ghost use Rattle.equation_law.specs.declared.coding.Value.{Value as CodedValue};
 ghost use Rattle.equation_law.specs.declared.coding.Instance.TheVariants.{Attr as attribute_at};
 ghost use Rattle.equation_law.specs.Codes.{IsRow, instance_of};
-ghost use Rattle.equation_law.specs.Equations.{equation_of};
+ghost use Rattle.equation_law.specs.Collections.{Collection};
+ghost use Rattle.equation_law.specs.Equations.{offers_below, site_of};
 ghost use Rattle.inherited_walk.specs.Sites.{IsFound};
 ghost use Rattle.equation_law.specs.Loops.{HasLoop};
 ghost use Rattle.equation_law.specs.Systems.{program_of};
+ghost use Rattle.memo_cells.specs.declared.view.View.{View};
 ghost use Rattle.memo_cells.specs.Views.{Has};
+ghost use Rattle.collection_attrs.specs.Surveys.{IsCollectorOf};
+ghost use Rattle.collection_attrs.specs.Walks.{Walk, new_walk};
+ghost use Rattle.caller_pass.specs.declared.walks.Walked.{Walked};
+ghost use Rattle.caller_pass.specs.Keeping.{IsNotebookOf, walk_at};
 ghost use Rattle.caller_pass.specs.Noting.{IsNoted};
 
+use crate::walks::Walks;
 use attr_rules::AttrId;
+use collection_attrs::{Collector, Offers, Roots};
 use equation_law::{Args, EqSite, Instance, NodeRef, System, Value};
 use inherited_walk::{Ways, find_noted};
 use std::alloc::Global;
@@ -22,7 +30,8 @@ use std::collections::{HashMap, HashSet};
 use std::marker::Model;
 use std::snapshot::Snapshot;
 
-/// What one caller has found out of a system's program. A note is a fact of the program alone, so it holds whatever the caller does later.
+/// What one caller has found out of a system's program. A note is a fact of the program alone, so it holds whatever the caller does later. What is
+/// kept of walks is a fact of the cells that the caller's pass has seen settled, so it holds as long as the pass goes on.
 #[derive(Drop)]
 pub struct Notebook {
     system: Snapshot<System>,
@@ -32,6 +41,10 @@ pub struct Notebook {
     loops: HashSet<Instance>,
     // Ways upwards, for inherited attributes.
     ways: Ways,
+    // Roots of collections.
+    roots: Roots,
+    // Walks over what is offered to collections, which outlive what is asked: else each query for a collection would begin its walk anew.
+    walks: Walks,
 }
 
 // Keeps the value of an instance, if there is memory for that.
@@ -61,35 +74,37 @@ impl Model for Notebook {
     ghost use Rattle.std.specs.Prelude.{◌≡◌};
     ghost use Rattle.std.specs.Coded.{codes};
     ghost use Rattle.attr_rules.specs.contracts.expression.TExpr as expressions;
-    ghost use Rattle.equation_law.specs.declared.system.System.{System as StandingSystem};
     ghost use Rattle.equation_law.specs.Systems.{program_of};
+    ghost use Rattle.caller_pass.specs.Keeping.{Notes};
     ghost use Rattle.caller_pass.specs.Noting.{AreLooping, AreNoted};
 
-    ghost Value = { StandingSystem };
+    ghost Value = { Notes };
 
     ghost coded = { Prim.hlevel (codes, expressions.the_row.coded) };
 
-    ghost view = { λ n. n.system.value };
+    ghost view = { λ n. record { system = n.system.value; walks = n.walks } };
 
-    ghost invariant = { λ n. AreNoted (program_of n.system.value) n.sets × AreLooping (program_of n.system.value) n.loops × (n.ways ≡ n.system.value) };
+    ghost invariant = { λ n. AreNoted (program_of n.system.value) n.sets × AreLooping (program_of n.system.value) n.loops × (n.ways ≡ n.system.value) × (n.roots ≡ n.system.value) };
 }
 
 impl Notebook {
     /// Nothing is noted yet of the program of a system. It takes no memory.
     pub fn new(alloc: Global, system: &System) -> Notebook
-        ensures { result ≡ system.now }
+        ensures { (v : View) → IsNotebookOf system.now v result }
     {
         Notebook {
             system: Snapshot::of(system),
             sets: HashMap::new(alloc),
             loops: HashSet::new(alloc),
             ways: Ways::new(alloc, system),
+            roots: Roots::new(alloc, system),
+            walks: Walks::new(alloc),
         }
     }
 
     /// The value that is noted of an instance.
     pub(crate) fn set(&self, i: &Instance) -> Option<Value>
-        ensures { IfSome result (λ x. IsNoted (program_of self.now) i.now x) }
+        ensures { IfSome result (λ x. IsNoted (program_of self.now.system) i.now x) }
     {
         let value = self.sets.get(i)?;
         value.copy().ok()
@@ -97,7 +112,7 @@ impl Notebook {
 
     /// Notes the value of an instance, if there is memory for that.
     pub(crate) fn note_set(&mut self, i: Instance, value: Value)
-        requires { IsNoted (program_of self.old) i value }
+        requires { IsNoted (program_of self.old.system) i value }
         ensures { self.new ≡ self.old }
     {
         keep(&mut self.sets, i, value);
@@ -105,14 +120,14 @@ impl Notebook {
 
     /// Whether it is noted that an instance has a loop.
     pub(crate) fn has_loop(&self, i: &Instance) -> bool
-        ensures { result ≡ true → HasLoop (program_of self.now) (instance_of (program_of self.now) i.now) }
+        ensures { result ≡ true → HasLoop (program_of self.now.system) (instance_of (program_of self.now.system) i.now) }
     {
         self.loops.contains(i)
     }
 
     /// Notes that each of these instances has a loop, if there is memory for that.
     pub(crate) fn note_loops(&mut self, chain: &[Instance])
-        requires { (i : CodedInstance) → Has chain.now i → HasLoop (program_of self.old) (instance_of (program_of self.old) i) }
+        requires { (i : CodedInstance) → Has chain.now i → HasLoop (program_of self.old.system) (instance_of (program_of self.old.system) i) }
         ensures { self.new ≡ self.old }
     {
         put_all(&mut self.loops, chain);
@@ -126,11 +141,41 @@ impl Notebook {
         node: NodeRef,
         args: Args,
     ) -> Option<EqSite>
-        requires { self.old ≡ system.now }
+        requires { self.old.system ≡ system.now }
         ensures same { self.new ≡ self.old }
-        ensures found { IsFound (program_of system.now) attr.0 (equation_of (program_of system.now) (instance_of (program_of system.now) (attribute_at attr node args))) result }
+        ensures found { IsFound (program_of system.now) attr.0 (site_of (program_of system.now) (instance_of (program_of system.now) (attribute_at attr node args))) result }
         ensures rows { IsRow args → IfSome result (λ s. IsRow s.outer × IsRow s.inner) }
     {
         find_noted(system, &mut self.ways, attr, node, args)
+    }
+
+    /// The root in whose subtree what is offered to a collection stands. Where there is none, nothing is offered. The way to it is noted.
+    pub(crate) fn root_for(&mut self, system: &System, of: Collector) -> Option<u32>
+        requires same { self.old.system ≡ system.now }
+        requires collection { (c : Collection) × IsCollectorOf (program_of system.now) of c }
+        ensures same { self.new ≡ self.old }
+        ensures within { IfSome result (λ r. r < length (program_of system.now).tree) }
+        ensures some { IfSome result (λ r. (c : Collection) → IsCollectorOf (program_of system.now) of c → c.offers ≡ offers_below (program_of system.now) of.attr.0 (Some r)) }
+        ensures none { IfNone result ((c : Collection) → IsCollectorOf (program_of system.now) of c → c.offers ≡ []) }
+    {
+        self.roots.find_root(system, of)
+    }
+
+    /// Takes away the walk over what is offered to a collection attribute in the subtree of a root, or begins one.
+    pub(crate) fn take_walk(&mut self, alloc: Global, attr: AttrId, root: u32) -> Offers
+        ensures system { self.new.system ≡ self.old.system }
+        ensures of { (result.attribute ≡ attr.0) × (result.root ≡ root) }
+        ensures walk { (result ≡ new_walk attr.0 root) ⊎ ((k : Walked) × (walk_at self.old.walks k ≡ Some result)) }
+        ensures others { (k : Walked) (w : Walk) → walk_at self.new.walks k ≡ Some w → walk_at self.old.walks k ≡ Some w }
+    {
+        self.walks.take(alloc, attr, root)
+    }
+
+    /// Keeps a walk, if there is memory for that.
+    pub(crate) fn put_walk(&mut self, offers: Offers)
+        ensures system { self.new.system ≡ self.old.system }
+        ensures walks { (k : Walked) (w : Walk) → walk_at self.new.walks k ≡ Some w → (walk_at self.old.walks k ≡ Some w) ⊎ (w ≡ offers) }
+    {
+        self.walks.put(offers);
     }
 }

@@ -18,8 +18,9 @@ ghost use Rattle.caller_pass.specs.Waiting.{AnswersWait, IsBehind, IsFrame, Look
 use crate::desk::Desk;
 use crate::evals::Steps;
 use crate::faults::AskFault;
+use crate::left::{take_left, unless_empty};
 use crate::turns::{finish, go_on, turn};
-use crate::waiting::{Waiter, Waiting, alone, push_all, push_path, take_saved, unless_empty};
+use crate::waiting::{Waiter, Waiting, alone, push_all, push_path};
 use circular_eval::{CircTurn, Local};
 use equation_law::{Chain, Instance};
 use expr_eval::{Turn, is_declared};
@@ -72,14 +73,14 @@ fn step<'a, L: Ledger>(
             }
         };
     }
-    let mut saved = take_saved(alloc, &mut waiter.saved);
-    match turn(alloc, desk, i, &mut saved, evals)? {
+    let mut left = take_left(alloc, &mut waiter.left);
+    match turn(alloc, desk, i, &mut left, evals)? {
         Turn::Done(value) => {
             finish(alloc, desk, i, waiter.slot, &value)?;
             Ok(Went::Settled)
         }
         Turn::Need(next) => {
-            waiter.saved = unless_empty(saved);
+            waiter.left = unless_empty(left);
             if !is_declared(desk.system, &next) {
                 return Ok(Went::Need(next));
             }
@@ -124,7 +125,7 @@ fn wait_for<'a>(
     Ok(Waiter {
         slot,
         way: None,
-        saved: None,
+        left: None,
     })
 }
 
@@ -166,7 +167,7 @@ fn solve<L: Ledger>(
     let mut waiter = Waiter {
         slot: claim_instance(desk, i)?,
         way: None,
-        saved: None,
+        left: None,
     };
     'turns: loop {
         match step(alloc, desk, top, &mut waiter, evals)? {

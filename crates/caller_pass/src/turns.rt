@@ -8,22 +8,21 @@ ghost use Rattle.equation_law.specs.Codes.{IsCoded, instance_of};
 ghost use Rattle.equation_law.specs.Equations.{equations_of};
 ghost use Rattle.equation_law.specs.Checked.{IsInstance, IsProgram};
 ghost use Rattle.memo_cells.specs.Naming.{IsCellOf};
-ghost use Rattle.equation_law.specs.Reading.{IsSound};
-ghost use Rattle.equation_law.specs.Systems.{program_of};
-ghost use Rattle.expr_eval.specs.Evaluating.{Evaluates};
-ghost use Rattle.expr_eval.specs.Saved.{AreSaved};
-ghost use Rattle.memo_cells.specs.Working.{GoesOn, IsKnown, IsOwn, ReadsOn, program_at, told_by};
+ghost use Rattle.memo_cells.specs.Working.{GoesOn, IsKnown, IsOwn, ReadsOn, program_at};
 ghost use Rattle.caller_pass.specs.Answering.{AnswersFinish, AnswersShow};
 ghost use Rattle.caller_pass.specs.Knowing.{HasEnded, TurnsTo};
+ghost use Rattle.caller_pass.specs.Leaving.{AreLeft};
 
 use crate::desk::Desk;
 use crate::evals::Steps;
 use crate::faults::AskFault;
+use crate::left::Left;
+use crate::resuming::resume;
 use crate::sealed::note_sealed;
 use attr_rules::Kind;
 use circular_eval::{CircFault, CircTurn, Local, advance};
-use equation_law::{Instance, System, Value};
-use expr_eval::{Saved, Turn, kind_of, resume_at, resume_instance};
+use equation_law::{Instance, Value};
+use expr_eval::{Turn, kind_of};
 use memo_cells::{Slot, codes_of, raise_codes};
 use rag_io::Memory;
 use std::alloc::Global;
@@ -36,48 +35,24 @@ pub(crate) fn is_set(kind: Kind) -> bool
     matches!(kind, Kind::Texts | Kind::Nodes(_))
 }
 
-/// Goes on with an evaluation. The way upwards to the equation is noted.
-fn resume<'a>(
-    alloc: Global,
-    system: &'a System,
-    i: Instance,
-    desk: &mut Desk<'a>,
-    saved: &mut Saved<'a>,
-) -> Result<Turn, Memory>
-    requires same { desk.old.0.system.value ≡ system.now }
-    requires sound { IsSound (program_of system.now) (told_by desk.old) }
-    requires saved { AreSaved system.now (told_by desk.old).has saved.old }
-    requires coded { IsCoded (program_of system.now) i }
-    ensures evaluates { Evaluates (program_of system.now) (told_by desk.old) (told_by desk.new) ((equations_of (program_of system.now)).equation (instance_of (program_of system.now) i)) result }
-    ensures saved { AreSaved system.now (told_by desk.new).has saved.new }
-{
-    match i {
-        Instance::Attr { attr, node, args } => {
-            let site = desk.site(attr, node, args);
-            resume_at(alloc, system, attr, node, args, site, desk, saved)
-        }
-        Instance::Query(_) => resume_instance(alloc, system, &i, desk, saved),
-    }
-}
-
 /// Goes on with the evaluation of the equation of an instance under what the pass knows, where it stopped.
 pub(crate) fn turn<'a, L: Ledger>(
     alloc: Global,
     desk: &mut Desk<'a>,
     i: Instance,
-    saved: &mut Saved<'a>,
+    left: &mut Left<'a>,
     evals: &mut Steps<L>,
 ) -> Result<Turn, Memory>
     requires coded { IsCoded (program_at desk.old) i }
-    requires saved { AreSaved desk.old.0.system.value (IsKnown (program_at desk.old) desk.old.1) saved.old }
+    requires left { AreLeft desk.old.0.system.value (IsKnown (program_at desk.old) desk.old.1) (instance_of (program_at desk.old) i) left.old }
     ensures on { ReadsOn desk.old desk.new }
     ensures turned { TurnsTo (program_at desk.old) desk.new.1 (instance_of (program_at desk.old) i) result }
-    ensures saved { AreSaved desk.old.0.system.value (IsKnown (program_at desk.old) desk.new.1) saved.new }
+    ensures left { AreLeft desk.old.0.system.value (IsKnown (program_at desk.old) desk.new.1) (instance_of (program_at desk.old) i) left.new }
     ensures evals { evals.new ≡ evals.old + 1 }
 {
     evals.tick();
     let system = desk.system;
-    resume(alloc, system, i, desk, saved)
+    resume(alloc, system, i, desk, left)
 }
 
 /// Goes on with a local set under what the pass knows. Once it is sealed, the sets among its values are noted.

@@ -2,15 +2,14 @@
 ghost use Rattle.std.specs.Prelude.{◌≡◌, ◌++◌, ◌∷◌, [], false, IfNone, IfOk, IfSome, None, OnOk, map, option_map, option_to_list};
 ghost use Rattle.equation_law.specs.Codes.{instance_of};
 ghost use Rattle.equation_law.specs.Program.{Program};
-ghost use Rattle.expr_eval.specs.Saved.{SavesNothing};
 ghost use Rattle.memo_cells.specs.declared.view.Frame.{Frame as CellsFrame};
 ghost use Rattle.memo_cells.specs.declared.view.View.{View};
 ghost use Rattle.caller_pass.specs.Packing.{IsBare, unpacked};
 ghost use Rattle.caller_pass.specs.Waiting.{AreWaiting, HasPart, IsLineTo, waits, way_of};
 
+use crate::left::Left;
 use circular_eval::Local;
 use equation_law::{Chain, Instance};
-use expr_eval::Saved;
 use indexmap::IndexMap;
 use memo_cells::Slot;
 use rag_io::Memory;
@@ -23,14 +22,14 @@ use std::marker::Model;
 pub(crate) struct Waiter<'a> {
     pub slot: Slot,
     pub way: Option<Box<Local<'a>>>,
-    pub saved: Option<Saved<'a>>,
+    pub left: Option<Left<'a>>,
 }
 
 /// What few of those that wait have: a local set, or something that their evaluation left behind.
 #[derive(Drop)]
 pub(crate) struct Rest<'a> {
     pub way: Option<Box<Local<'a>>>,
-    pub saved: Option<Saved<'a>>,
+    pub left: Option<Left<'a>>,
 }
 
 /// One that waits, in few bytes: its slot, and a box only where it has more.
@@ -65,29 +64,6 @@ impl<'a> Model for Waiting<'a> {
     ghost view = { λ waiting. all_unpacked waiting.waiters.entries };
 }
 
-/// Takes what an evaluation left behind, or begins with nothing.
-pub(crate) fn take_saved<'a>(alloc: Global, saved: &mut Option<Saved<'a>>) -> Saved<'a>
-    ensures gone { saved.new ≡ None }
-    ensures own { IfSome saved.old (λ s. result ≡ s) }
-    ensures nothing { IfNone saved.old (SavesNothing result) }
-{
-    match saved.take() {
-        Some(saved) => saved,
-        None => Saved::new(alloc),
-    }
-}
-
-/// What an evaluation left behind, if that is anything.
-pub(crate) fn unless_empty(saved: Saved<'_>) -> Option<Saved<'_>>
-    ensures own { IfSome result (λ s. s ≡ saved.entry) }
-    ensures nothing { IfNone result (SavesNothing saved.entry) }
-{
-    if saved.is_empty() {
-        return None;
-    }
-    Some(saved)
-}
-
 /// A local set and what was left behind, put into a box.
 fn boxed<'a>(alloc: Global, rest: Rest<'a>) -> Result<Box<Rest<'a>>, Memory>
     ensures { IfOk result (λ boxed. boxed.value ≡ rest.entry) }
@@ -101,12 +77,12 @@ fn boxed<'a>(alloc: Global, rest: Rest<'a>) -> Result<Box<Rest<'a>>, Memory>
 /// Packs one that is to wait. Nothing is put on the heap where it has no local set, and nothing was left behind.
 fn pack<'a>(alloc: Global, waiter: Waiter<'a>) -> Result<Packed<'a>, Memory>
     ensures same { IfOk result (λ packed. unpacked packed ≡ waiter.entry) }
-    ensures small { waiter.entry.way ≡ None → waiter.entry.saved ≡ None → IfOk result IsBare }
+    ensures small { waiter.entry.way ≡ None → waiter.entry.left ≡ None → IfOk result IsBare }
 {
-    let Waiter { slot, way, saved } = waiter;
-    match (way, saved) {
+    let Waiter { slot, way, left } = waiter;
+    match (way, left) {
         (None, None) => Ok(Packed::Bare(slot)),
-        (way, saved) => Ok(Packed::Laden(slot, boxed(alloc, Rest { way, saved })?)),
+        (way, left) => Ok(Packed::Laden(slot, boxed(alloc, Rest { way, left })?)),
     }
 }
 
@@ -118,11 +94,11 @@ fn unpack<'a>(packed: Packed<'a>) -> Waiter<'a>
         Packed::Bare(slot) => Waiter {
             slot,
             way: None,
-            saved: None,
+            left: None,
         },
         Packed::Laden(slot, rest) => {
-            let Rest { way, saved } = Box::into_inner(rest);
-            Waiter { slot, way, saved }
+            let Rest { way, left } = Box::into_inner(rest);
+            Waiter { slot, way, left }
         }
     }
 }

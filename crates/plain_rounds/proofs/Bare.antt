@@ -4,9 +4,9 @@ use Rattle.std.proofs.lemmas.Bool.{eqb-true}
 use Rattle.std.proofs.lemmas.Option.{none-some}
 use Rattle.attr_rules.specs.declared.kinds.Kind.{Kind}
 use Rattle.equation_law.specs.declared.coding.Args.{Args}
-use Rattle.equation_law.specs.Codes.{AreCodes, IsRow, arguments_at, codes_in}
+use Rattle.equation_law.specs.Codes.{AreCodes, IsRow, codes_in}
 use Rattle.equation_law.specs.Names.{Argument}
-use Rattle.equation_law.specs.Program.{Program, text_of}
+use Rattle.equation_law.specs.Program.{Program}
 use Rattle.plain_rounds.specs.Coding.{CodesArguments}
 use Rattle.plain_rounds.specs.declared.naming.NamedArg.{NamedArg}
 

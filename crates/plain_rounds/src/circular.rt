@@ -3,7 +3,7 @@ ghost use Rattle.std.specs.Prelude.{◌≡◌};
 ghost use Rattle.attr_rules.specs.Rules.{circular_at};
 ghost use Rattle.equation_law.specs.declared.coding.Instance.TheVariants.{Attr as attribute_at};
 ghost use Rattle.equation_law.specs.Codes.{instance_of};
-ghost use Rattle.equation_law.specs.Equations.{equation_of, equations_of, site_rises};
+ghost use Rattle.equation_law.specs.Equations.{equation_of, equation_rises, equations_of};
 ghost use Rattle.equation_law.specs.Equations as spec;
 ghost use Rattle.equation_law.specs.Systems.{program_of};
 ghost use Rattle.plain_rounds.specs.Places.{IsHeld};
@@ -12,6 +12,7 @@ ghost use Rattle.plain_rounds.specs.Steps.{known, start_of};
 use crate::rising::rises;
 use crate::values::NamedValue;
 use attr_rules::{AttrId, Kind};
+use collection_attrs::is_collection;
 use equation_law::{Args, Instance, NodeRef, System, Value};
 use expr_eval::kind_of;
 use inherited_walk::find_equation;
@@ -27,13 +28,19 @@ fn is_ordered(kind: Kind) -> bool
     }
 }
 
-/// Whether an attribute has an equation at a node, and it is rising.
+/// Whether an attribute has an equation at a node, and it is an expression that rises.
 fn equation_rises(system: &System, attr: AttrId, node: NodeRef, args: Args) -> bool
-    ensures { result ≡ site_rises (circular_at (program_of system.now).rules.attributes) (equation_of (program_of system.now) (instance_of (program_of system.now) (attribute_at attr node args))) }
+    ensures { result ≡ equation_rises (circular_at (program_of system.now).rules.attributes) (equation_of (program_of system.now) (instance_of (program_of system.now) (attribute_at attr node args))) }
 {
+    if is_collection(system, &Instance::Attr { attr, node, args }) {
+        return false;
+    }
     match find_equation(system, attr, node, args) {
         None => false,
-        Some(site) => rises(system.rules(), system.rules().body(site.equation)),
+        Some(site) => {
+            let rules = system.rules();
+            rises(rules, rules.body(site.equation))
+        }
     }
 }
 

@@ -1,11 +1,12 @@
 // Which expressions are rising, by the positions of the calls of circular attributes.
 ghost use Rattle.std.specs.Prelude.{◌≡◌, ◌&&◌, ◌||◌, not};
 ghost use Rattle.attr_rules.specs.Expression.{arguments_of, expression_of};
-ghost use Rattle.attr_rules.specs.Kept.{rules_in};
+ghost use Rattle.attr_equations.specs.Kept.{rules_in};
 ghost use Rattle.attr_rules.specs.Rising as spec;
 ghost use Rattle.attr_rules.specs.Rules.{circular_at};
 
-use attr_rules::{Quantifier, Rules, SetOperator, TArgs, TExpr};
+use attr_equations::Rules;
+use attr_rules::{Quantifier, SetOperator, TArgs, TExpr};
 
 /// Whether one of two expressions calls a circular attribute.
 #[cycle(calls)]

@@ -13,8 +13,9 @@ ghost use Rattle.plain_rounds.specs.Steps.{standing};
 
 use crate::places::Places;
 use crate::values::NamedValue;
+use collection_attrs::evaluate_any;
 use equation_law::{Instance, Reader, System, Value};
-use expr_eval::{Turn, evaluate_instance, kind_of};
+use expr_eval::{Turn, kind_of};
 use rag_io::Memory;
 use std::alloc::Global;
 
@@ -72,7 +73,7 @@ pub(crate) fn equation_value(
         places,
         values,
     };
-    let turn = evaluate_instance(alloc, system, &name, &mut standing)?;
+    let turn = evaluate_any(alloc, system, &name, &mut standing)?;
     match turn {
         Turn::Done(value) => Ok(Some(NamedValue { value })),
         Turn::Need(_) => Ok(None),

@@ -6,6 +6,7 @@ ghost use Rattle.equation_law.specs.Names.{Query};
 ghost use Rattle.memo_cells.specs.Claiming.{ClaimsKeys, FillsCells};
 ghost use Rattle.memo_cells.specs.Standing.{AreNew, IsPassOf};
 ghost use Rattle.memo_cells.specs.Views.{IsAtLeast};
+ghost use Rattle.caller_pass.specs.Keeping.{IsNotebookOf};
 ghost use Rattle.caller_pass.specs.Overfull.{IsOverfull};
 ghost use Rattle.query_replies.specs.Replies.{AreReplies};
 ghost use Rattle.query_replies.specs.Replies.{AddsAnswer};
@@ -61,11 +62,11 @@ fn add_answer<L: Ledger>(
     requires program { IsProgram (program_of system.now) }
     requires same { cells.now.system.value ≡ system.now }
     requires own { IsPassOf cells.now pass.old }
-    requires notes { notes.old ≡ system.now }
+    requires notes { IsNotebookOf system.now pass.old notes.old }
     requires query { query < length (program_of system.now).queries }
     ensures own { IsPassOf cells.now pass.new }
     ensures kept { IsAtLeast pass.old pass.new }
-    ensures notes { notes.new ≡ system.now }
+    ensures notes { IsNotebookOf system.now pass.new notes.new }
     ensures claims { ClaimsKeys (program_of system.now) (Query query) pass.old pass.new }
     ensures line { OnOk result (AddsAnswer (program_of system.now) query text.old.items text.new.items) }
     ensures full { result ≡ Err ReplyFault.Cells → FillsCells (program_of system.now) (Query query) cells.now pass.new }

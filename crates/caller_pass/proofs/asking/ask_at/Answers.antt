@@ -3,11 +3,13 @@ use Rattle.equation_law.specs.declared.system.System.{System}
 use Rattle.equation_law.specs.Checked.{IsInstance, IsProgram}
 use Rattle.equation_law.specs.Codes.{IsCoded, instance_of}
 use Rattle.equation_law.specs.Systems.{program_of}
+use Rattle.memo_cells.specs.declared.view.Frame.{Frame}
 use Rattle.memo_cells.specs.declared.view.View.{View}
 use Rattle.memo_cells.specs.Standing.{IsPassOf}
 use Rattle.memo_cells.specs.Views.{IsAtLeast}
 use Rattle.memo_cells.specs.Working.{Held}
 use Rattle.caller_pass.specs.Answering.{AsksNoted}
+use Rattle.caller_pass.specs.Keeping.{IsNotebookOf}
 use Rattle.memo_cells.proofs.Holding.{own_then}
 use Rattle.caller_pass.proofs.asking.ask_at.Goals as goal
 
@@ -28,6 +30,12 @@ returns-clause-own g c = subst (λ (v : View). IsPassOf c.args.cells.now v) (sym
 
 pub returns-clause-kept : goal.returns-clause-kept
 returns-clause-kept g c = subst (λ (v : View). IsAtLeast c.args.pass.now v) (sym ((c.pass-1.given.1 (sym (ap (λ (h : Held). h.2) c.desk.view_is ∙ c.answer-came.ensures.on.lender))) ∙ ap (λ (h : Held). h.1) c.desk.view_is)) c.answer-came.ensures.on.kept
+
+pub returns-clause-notes : goal.returns-clause-notes
+returns-clause-notes g c =
+    let same = sym c.desk.invariant.1 ∙ ap (λ (h : Held). h.0.system.value) c.desk.view_is ∙ ap (λ (f : Frame). f.system.value) c.answer-came.ensures.on.cells ∙ c.requires.same in
+    subst (λ (v : View). IsNotebookOf c.args.system.now v c.desk.inside.notes) (sym (c.pass-1.given.1 (sym (ap (λ (h : Held). h.2) c.desk.view_is ∙ c.answer-came.ensures.on.lender))))
+    (subst (λ (s : System). IsNotebookOf s c.desk.inside.pass.now c.desk.inside.notes) same c.desk.invariant.0.1)
 
 pub returns-clause-asked : goal.returns-clause-asked
 returns-clause-asked g c = subst (λ (s : System). AsksNoted (program_of s) c.args.cells.now c.args.pass.now c.pass-1.given.0 (instance_of (program_of s) c.args.i.now) c.args.evals.now c.answer-came.new.evals c.answer-came.result) c.requires.same (subst (λ (v : View). AsksNoted (program_of c.args.cells.now.system.value) c.args.cells.now c.args.pass.now v (instance_of (program_of c.args.cells.now.system.value) c.args.i.now) c.args.evals.now c.answer-came.new.evals c.answer-came.result) (sym ((c.pass-1.given.1 (sym (ap (λ (h : Held). h.2) c.desk.view_is ∙ c.answer-came.ensures.on.lender))) ∙ ap (λ (h : Held). h.1) c.desk.view_is)) c.answer-came.ensures.asked)

@@ -3,9 +3,9 @@ use Rattle.equation_law.specs.declared.system.System.{System}
 use Rattle.equation_law.specs.Codes.{instance_of}
 use Rattle.equation_law.specs.Program.{Program}
 use Rattle.equation_law.specs.Systems.{program_of}
-use Rattle.expr_eval.specs.Saved.{AreSaved}
 use Rattle.memo_cells.specs.Working.{Held, IsKnown, IsOwn, program_at}
 use Rattle.caller_pass.specs.Knowing.{TurnsTo}
+use Rattle.caller_pass.specs.Leaving.{AreLeft}
 use Rattle.memo_cells.proofs.Holding.{reads_itself}
 use Rattle.caller_pass.proofs.Desks.{sound_for, turned}
 use Rattle.caller_pass.proofs.turns.turn.Goals as goal
@@ -13,11 +13,11 @@ use Rattle.caller_pass.proofs.turns.turn.Goals as goal
 pub resume-requires-clause-sound : goal.resume-requires-clause-sound
 resume-requires-clause-sound g c = sound_for (program_of c.desk.inside.system.now) c.args.desk.now (ap (λ (d : Held). program_of d.0.system.value) (sym c.desk.view_is) ∙ ap program_of c.desk.invariant.1)
 
-pub resume-requires-clause-saved : goal.resume-requires-clause-saved
-resume-requires-clause-saved g c =
+pub resume-requires-clause-left : goal.resume-requires-clause-left
+resume-requires-clause-left g c =
     let d = c.args.desk.now in
     let same = ap (λ (x : Held). x.0.system.value) (sym c.desk.view_is) ∙ c.desk.invariant.1 in
-    subst (λ (s : System). AreSaved s (IsKnown (program_at d) d.1) c.args.saved.now) same c.requires.saved
+    subst (λ (s : System). AreLeft s (IsKnown (program_at d) d.1) (instance_of (program_of s) c.args.i) c.args.left.now) same c.requires.left
 
 pub returns-clause-on : goal.returns-clause-on
 returns-clause-on g c = c.resume.ensures.evaluates.kept.kept c.args.desk.now (reads_itself c.args.desk.now (subst (λ (d : Held). IsOwn d) c.desk.view_is c.desk.invariant.0.0))
@@ -30,10 +30,11 @@ returns-clause-turned g c =
     subst (λ (q : Program). TurnsTo q d.1 (instance_of q c.args.i) c.resume.result) (sym same)
     (turned p d (instance_of p c.args.i) c.resume.result c.resume.ensures.evaluates.kept.sound.for c.resume.ensures.evaluates.answer)
 
-pub returns-clause-saved : goal.returns-clause-saved
-returns-clause-saved g c =
+pub returns-clause-left : goal.returns-clause-left
+returns-clause-left g c =
+    let d = c.args.desk.now in
     let e = c.resume.new.desk in
     let same = ap (λ (x : Held). x.0.system.value) (sym c.desk.view_is) ∙ c.desk.invariant.1 in
-    let program : program_at e ≡ program_at c.args.desk.now = sym c.resume.ensures.evaluates.kept.sound.for ∙ ap program_of (sym same) in
-    let here = subst (λ (s : System). AreSaved s (IsKnown (program_at e) e.1) c.resume.new.saved) (sym same) c.resume.ensures.saved in
-    subst (λ (q : Program). AreSaved c.args.desk.now.0.system.value (IsKnown q e.1) c.resume.new.saved) program here
+    let program : program_at e ≡ program_at d = sym c.resume.ensures.evaluates.kept.sound.for ∙ ap program_of (sym same) in
+    let here = subst (λ (s : System). AreLeft s (IsKnown (program_at e) e.1) (instance_of (program_of s) c.args.i) c.resume.new.left) (sym same) c.resume.ensures.left in
+    subst (λ (q : Program). AreLeft d.0.system.value (IsKnown q e.1) (instance_of (program_at d) c.args.i) c.resume.new.left) program here

@@ -1,12 +1,23 @@
 -- Each query has its line; or more keys are demanded than there are cells.
-use Rattle.std.proofs.Common.{◌≤◌, ◌<◌, Err, ap, arith, length}
+use Rattle.std.proofs.Common.{◌≤◌, ◌<◌, ℕ, List, ◌++◌, Err, inl, refl, sym, ap, subst, arith, length}
 use Rattle.std.proofs.Math.ListN.{drop_of_length-le}
 use Rattle.equation_law.specs.Systems.{program_of}
 use Rattle.equation_law.proofs.Pooled.{texts_pooled}
-use Rattle.memo_cells.proofs.More.{at_least_then}
+use Rattle.memo_cells.proofs.More.{at_least_itself, at_least_then}
 use Rattle.caller_pass.proofs.Overfull.{asked_key, asked_more, overfull}
+use Rattle.query_replies.specs.Replies.{AreReplies}
 use Rattle.query_replies.proofs.ReplyLines.{all_replies, fault_was, next_reply}
 use Rattle.query_replies.proofs.replies.add_answers.Goals as goal
+
+pub replies-init : goal.replies-init
+replies-init g c =
+    let p = program_of c.args.system.now in (
+      c.requires.new.own,
+      at_least_itself c.args.pass.now,
+      λ s. inl refl,
+      λ rest h. subst (λ (items : List ℕ). AreReplies p 0 p.queries (items ++ rest)) (sym c.new-text.ensures.items) h,
+      c.new-notes.ensures c.args.pass.now,
+    )
 
 pub returns-in_err-add_answer-clause-full : goal.returns-in_err-add_answer-clause-full
 returns-in_err-add_answer-clause-full g c = λ is.

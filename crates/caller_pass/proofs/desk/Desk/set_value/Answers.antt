@@ -14,7 +14,7 @@ pub returns-in-Some-clause-value : goal.returns-in-Some-clause-value
 returns-in-Some-clause-value c = λ good.
     let d = c.args.self.now in
     let p = program_at d in
-    let same = c.self.invariant.0.1 ∙ sym c.self.invariant.1 ∙ ap (λ (h : Held). h.0.system.value) c.self.view_is in
+    let same = c.self.invariant.0.1.system ∙ sym c.self.invariant.1 ∙ ap (λ (h : Held). h.0.system.value) c.self.view_is in
     let note = subst (λ (s : System). IsNoted (program_of s) c.args.i c.in-Some.value) same c.in-Some.ensures in
     noted_known p d.1 (instance_of p c.args.i) c.in-Some.value (note good) (c.requires.known good).1
 

@@ -1,5 +1,5 @@
-use Rattle.std.proofs.Common.{ℕ, ◌<◌, Option, Some, sym, ap, subst, ◌∙◌}
-use Rattle.equation_law.specs.Codes.{IsCoded, instance_of}
+use Rattle.std.proofs.Common.{ℕ, ◌<◌, Option, sym, ap, subst, ◌∙◌}
+use Rattle.equation_law.specs.Codes.{instance_of}
 use Rattle.memo_cells.specs.declared.keys.Slot.{Slot}
 use Rattle.memo_cells.specs.declared.view.Frame.{Frame}
 use Rattle.memo_cells.specs.Naming.{IsCellOf}
@@ -9,7 +9,14 @@ use Rattle.memo_cells.proofs.Holding.{own_then}
 use Rattle.caller_pass.specs.Knowing.{FindsCode}
 use Rattle.caller_pass.proofs.Knowing.{unknown_nowhere}
 use Rattle.caller_pass.proofs.Seeking.{finds_code, finds_none, found_cell, looked_on}
+use Rattle.caller_pass.proofs.Keeping.{notes_later}
 use Rattle.caller_pass.proofs.desk.Desk.settled_code.Goals as goal
+
+pub invariant_of-self : goal.invariant_of-self
+invariant_of-self c = ((c.settled.ensures.own, notes_later c.self.inside.system.now c.self.inside.pass.now c.settled.new.pass c.self.inside.notes c.settled.ensures.kept c.self.invariant.0.1), c.self.invariant.1)
+
+pub invariant_of-self-2 : goal.invariant_of-self-2
+invariant_of-self-2 c = ((c.settled.ensures.own, notes_later c.self.inside.system.now c.self.inside.pass.now c.settled.new.pass c.self.inside.notes c.settled.ensures.kept c.self.invariant.0.1), c.self.invariant.1)
 
 pub returns-in_err-slot-clause-known : goal.returns-in_err-slot-clause-known
 returns-in_err-slot-clause-known c = λ good.

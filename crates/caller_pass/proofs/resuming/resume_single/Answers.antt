@@ -1,16 +1,16 @@
-use Rattle.std.proofs.Common.{sym, subst}
+use Rattle.std.proofs.Common.{◌≡◌, None, sym, subst}
 use Rattle.equation_law.specs.declared.system.System.{System}
 use Rattle.equation_law.specs.declared.coding.Instance.{Instance as CodedInstance}
 use Rattle.equation_law.specs.declared.coding.Instance.TheVariants.{Attr as attribute_at}
 use Rattle.equation_law.specs.Codes.{instance_of}
-use Rattle.equation_law.specs.Equations.{equation_of, equations_of}
+use Rattle.equation_law.specs.Equations.{collection_of, equations_of, site_of}
 use Rattle.equation_law.specs.Reading.{IsSound}
 use Rattle.equation_law.specs.Systems.{program_of}
 use Rattle.expr_eval.specs.Evaluating.{Evaluates}
 use Rattle.expr_eval.specs.Saved.{AreSaved}
 use Rattle.inherited_walk.specs.Sites.{IsFound}
 use Rattle.memo_cells.specs.Working.{Held, told_by}
-use Rattle.caller_pass.proofs.turns.resume.Goals as goal
+use Rattle.caller_pass.proofs.resuming.resume_single.Goals as goal
 
 pub resume_at-requires-clause-sound : goal.resume_at-requires-clause-sound
 resume_at-requires-clause-sound c = subst (λ (d : Held). IsSound (program_of c.args.system.now) (told_by d)) (sym c.site-site.ensures.same) c.requires.sound
@@ -19,10 +19,18 @@ pub resume_at-requires-clause-saved : goal.resume_at-requires-clause-saved
 resume_at-requires-clause-saved c = subst (λ (d : Held). AreSaved c.args.system.now (told_by d).has c.args.saved.now) (sym c.site-site.ensures.same) c.requires.saved
 
 pub resume_at-requires-clause-found : goal.resume_at-requires-clause-found
-resume_at-requires-clause-found c = subst (λ (s : System). IsFound (program_of s) c.in-Attr.attr.0 (equation_of (program_of s) (instance_of (program_of s) (attribute_at c.in-Attr.attr c.in-Attr.node c.in-Attr.args))) c.site-site.result) c.requires.same c.site-site.ensures.found
+resume_at-requires-clause-found c = subst (λ (s : System). IsFound (program_of s) c.in-Attr.attr.0 (site_of (program_of s) (instance_of (program_of s) (attribute_at c.in-Attr.attr c.in-Attr.node c.in-Attr.args))) c.site-site.result) c.requires.same c.site-site.ensures.found
+
+pub resume_at-requires-clause-single : goal.resume_at-requires-clause-single
+resume_at-requires-clause-single c =
+    let p = program_of c.args.system.now in
+    subst (λ (i : CodedInstance). collection_of p (instance_of p i) ≡ None) c.in-Attr.is c.requires.single
 
 pub returns-in-Attr-clause-evaluates : goal.returns-in-Attr-clause-evaluates
 returns-in-Attr-clause-evaluates c =
     let p = program_of c.args.system.now in
     subst (λ (d : Held). Evaluates p (told_by d) (told_by c.resume_at.new.reader) ((equations_of p).equation (instance_of p c.args.i)) c.resume_at.result) c.site-site.ensures.same
     (subst (λ (i : CodedInstance). Evaluates p (told_by c.site-site.new.self) (told_by c.resume_at.new.reader) ((equations_of p).equation (instance_of p i)) c.resume_at.result) (sym c.in-Attr.is) c.resume_at.ensures.evaluates)
+
+pub resume_instance-requires-clause-single : goal.resume_instance-requires-clause-single
+resume_instance-requires-clause-single c = c.requires.single

@@ -1,0 +1,48 @@
+-- What an evaluation left behind: taken up, kept, and known later.
+use Rattle.std.proofs.Common.{◌≡◌, Option, Some, None, IfSome, IfNone, sym, subst}
+use Rattle.equation_law.specs.declared.system.System.{System}
+use Rattle.equation_law.specs.Names.{Instance}
+use Rattle.equation_law.specs.Program.{Program}
+use Rattle.equation_law.specs.Systems.{program_of}
+use Rattle.equation_law.specs.Values.{Value}
+use Rattle.expr_eval.proofs.Found.{none_saved}
+use Rattle.expr_eval.proofs.Growing.{saved_more}
+use Rattle.memo_cells.specs.declared.view.View.{View}
+use Rattle.memo_cells.specs.Views.{IsAtLeast}
+use Rattle.memo_cells.specs.Working.{IsKnown}
+use Rattle.memo_cells.proofs.Naming.{knows_later}
+use Rattle.collection_attrs.specs.declared.surveys.Survey.{Survey}
+use Rattle.collection_attrs.proofs.Grown.{surveyed_more}
+use Rattle.caller_pass.specs.declared.left.Left.{Left}
+use Rattle.caller_pass.specs.Leaving.{AreLeft, IsLeft, IsSurveyOf, LeavesNothing}
+
+-- what was left behind stays so where more has values
+pub survey_later : (p : Program) {A B : Instance → Value → Type 0} → ((j : Instance) (c : Value) → A j c → B j c) → (i : Instance) (o : Option Survey) → IsSurveyOf p A i o → IsSurveyOf p B i o
+survey_later p more i None h = tt
+survey_later p more i (Some x) h = λ c is. surveyed_more more (h c is)
+
+pub left_later : {s : System} {A B : Instance → Value → Type 0} → ((j : Instance) (c : Value) → A j c → B j c) → (i : Instance) (x : Left) → AreLeft s A i x → AreLeft s B i x
+left_later {s} more i x h = record { saved = saved_more more x.saved h.saved; survey = survey_later (program_of s) more i x.survey h.survey }
+
+-- and so where more is known
+pub left_known : (p : Program) (v w : View) → IsAtLeast v w → (s : System) (i : Instance) (m : Option Left) → IsLeft s (IsKnown p v) i m → IsLeft s (IsKnown p w) i m
+left_known p v w kept s i None h = tt
+left_known p v w kept s i (Some x) h = left_later (λ j c k. (knows_later v w kept p j k.0, k.1)) i x h
+
+-- nothing was left behind
+pub none_left : (s : System) (A : Instance → Value → Type 0) (i : Instance) (m : Option Left) → m ≡ None → IsLeft s A i m
+none_left s A i None none = tt
+none_left s A i (Some x) none = cc
+
+nothing_left : {s : System} {A : Instance → Value → Type 0} (i : Instance) (x : Left) → LeavesNothing x → AreLeft s A i x
+nothing_left {s} {A} i x nothing = record { saved = none_saved x.saved nothing.saved; survey = subst (λ (o : Option Survey). IsSurveyOf (program_of s) A i o) (sym nothing.survey) tt }
+
+-- what goes on is so, whether anything was left behind or not
+pub taken_left : {s : System} {A : Instance → Value → Type 0} (i : Instance) (m : Option Left) (x : Left) → IfSome m (λ y. x ≡ y) → IfNone m (LeavesNothing x) → IsLeft s A i m → AreLeft s A i x
+taken_left i None x own nothing h = nothing_left i x nothing
+taken_left {s} {A} i (Some y) x own nothing h = subst (λ (z : Left). AreLeft s A i z) (sym own) h
+
+-- what is left behind of it then
+pub kept_left : {s : System} {A : Instance → Value → Type 0} (i : Instance) (m : Option Left) (x : Left) → IfSome m (λ y. y ≡ x) → AreLeft s A i x → IsLeft s A i m
+kept_left i None x own h = tt
+kept_left {s} {A} i (Some y) x own h = subst (λ (z : Left). AreLeft s A i z) (sym own) h

@@ -1,0 +1,5 @@
+use Rattle.caller_pass.proofs.Keeping.{notes_later}
+use Rattle.caller_pass.proofs.desk.DeskWords.seek.Goals as goal
+
+pub invariant_of-self : goal.invariant_of-self
+invariant_of-self c = ((c.seek.ensures.own, notes_later c.self.inside.system.now c.self.inside.pass.now c.seek.new.pass c.self.inside.notes c.seek.ensures.kept c.self.invariant.0.1), c.self.invariant.1)

@@ -1,0 +1,16 @@
+use Rattle.equation_law.specs.Codes.{instance_of}
+use Rattle.equation_law.specs.Systems.{program_of}
+use Rattle.caller_pass.proofs.Leaving.{survey_later}
+use Rattle.caller_pass.proofs.resuming.resume.Goals as goal
+
+pub resume_collection-requires-clause-collection : goal.resume_collection-requires-clause-collection
+resume_collection-requires-clause-collection c = c.in-Some.ensures.some
+
+pub resume_single-requires-clause-single : goal.resume_single-requires-clause-single
+resume_single-requires-clause-single c = c.in-None.ensures.none
+
+pub resume_single-requires-clause-saved : goal.resume_single-requires-clause-saved
+resume_single-requires-clause-saved c = c.requires.left.saved
+
+pub returns-in-None-clause-left : goal.returns-in-None-clause-left
+returns-in-None-clause-left c = record { saved = c.resume_single.ensures.saved; survey = survey_later (program_of c.args.system.now) c.resume_single.ensures.evaluates.kept.values (instance_of (program_of c.args.system.now) c.args.i) c.args.left.now.survey c.requires.left.survey }
