@@ -1,8 +1,7 @@
--- Which items and expressions are built so far: those that synthesized and inherited attributes need, circular or not, whose values are no trees of
--- their own.
+-- Which items and expressions are built so far: those that attributes need whose values are no trees of their own.
 use Rattle.std.specs.Prelude.{List, [], ◌∷◌, Bool, true, false, not, ◌&&◌, Option, Some, None}
 use Rattle.aspect_items.specs.Expressions.{Expr, Arguments, no_more, argument, Truth, Null, Empty, This, Int, Text, Source, Variable, Call, Member, New, Quantified, Group, Cast, Not, Negate, Binary, InstanceOf, If}
-use Rattle.aspect_items.specs.Items.{Synthesized, Item, Declared, Inherits, Equates, Collects, Contributes}
+use Rattle.aspect_items.specs.Items.{Contribution, Synthesized, Item, Declared, Inherits, Equates, Collects, Contributes}
 
 abbrev mutual
   -- an expression without `new`
@@ -39,12 +38,16 @@ is_built_body (Some e) = is_built e
 abbrev pub is_built_declaration : Synthesized → Bool
 is_built_declaration s = not s.higher_order && is_built_body s.body
 
+-- a contribution without `new`
+abbrev pub is_built_contribution : Contribution → Bool
+is_built_contribution c = is_built c.value && (is_built_body c.condition && is_built c.receiver)
+
 abbrev pub is_built_item : Item → Bool
 is_built_item (Declared s) = is_built_declaration s
 is_built_item (Inherits i) = true
 is_built_item (Equates e) = is_built e.body
-is_built_item (Collects c) = false
-is_built_item (Contributes c) = false
+is_built_item (Collects c) = true
+is_built_item (Contributes c) = is_built_contribution c
 
 -- all items are built
 abbrev pub all_built : List Item → Bool

@@ -1,10 +1,10 @@
 // Which items are built so far: those that synthesized and inherited attributes need, circular or not, whose values are no trees of their own.
 ghost use Rattle.std.specs.Prelude.{◌≡◌, map};
-ghost use Rattle.built_forms.specs.Built.{all_built, are_built, is_built, is_built_declaration, is_built_item};
+ghost use Rattle.built_forms.specs.Built.{all_built, are_built, is_built, is_built_contribution, is_built_declaration, is_built_item};
 ghost use Rattle.aspect_items.specs.Expressions.{arguments_of, seen_expr};
-ghost use Rattle.aspect_items.specs.Items.{seen_aspects, seen_item, seen_synthesized};
+ghost use Rattle.aspect_items.specs.Items.{seen_aspects, seen_contribution, seen_item, seen_synthesized};
 
-use aspect_items::{Aspects, Expr, Item, Synthesized};
+use aspect_items::{Aspects, Contribution, Expr, Item, Synthesized};
 
 // It goes down the expression, which has at most 400 tokens.
 #[cycle(built)]
@@ -60,18 +60,29 @@ fn is_built_declaration(declared: &Synthesized) -> bool
         }
 }
 
+fn is_built_contribution(contribution: &Contribution) -> bool
+    ensures { result ≡ is_built_contribution (seen_contribution contribution.now) }
+{
+    is_built_expr(&contribution.value)
+        && match &contribution.condition {
+            Some(condition) => is_built_expr(condition),
+            None => true,
+        }
+        && is_built_expr(&contribution.receiver)
+}
+
 fn is_built_item(item: &Item) -> bool
     ensures { result ≡ is_built_item (seen_item item.now) }
 {
     match item {
         Item::Synthesized(declared) => is_built_declaration(declared),
-        Item::Inherited(_) => true,
+        Item::Inherited(_) | Item::Collection(_) => true,
         Item::Equation(equation) => is_built_expr(&equation.body),
-        Item::Collection(_) | Item::Contribution(_) => false,
+        Item::Contribution(contribution) => is_built_contribution(contribution),
     }
 }
 
-/// Whether every form is built so far: items `syn` without `nta`, `inh` and `eq`, and expressions without `new`.
+/// Whether every form is built so far: items other than `syn nta`, and expressions without `new`.
 pub fn built(aspects: &Aspects) -> bool
     ensures { result ≡ all_built (seen_aspects aspects.now) }
 {

@@ -2,7 +2,7 @@
 use Rattle.std.proofs.Common.{◌≡◌, List, [], ◌∷◌, ◌++◌, true, Option, Some, None, Result, Ok, Err, refl, sym, ap, subst, ◌∙◌}
 use Rattle.std.specs.Result.{IsErr, IsErrAnd}
 use Rattle.ast_grammar.specs.Grammar.{Class}
-use Rattle.attr_rules.specs.declared.rules.Rules.{Rules}
+use Rattle.attr_equations.specs.declared.rules.Rules.{Rules}
 use Rattle.attr_rules.specs.Rules.{RuleSet}
 use Rattle.attr_types.specs.Phases.{phases_of, rules_of}
 use Rattle.broken_rules.specs.declared.broken.Broken.{Broken}

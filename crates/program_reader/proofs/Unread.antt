@@ -11,7 +11,7 @@ use Rattle.broken_rules.specs.declared.broken.ReadFault.TheVariants as faults
 use Rattle.ast_grammar.specs.Grammar.{Class}
 use Rattle.ast_grammar.specs.FromBytes.{AnswersGrammar, ReadsGrammar}
 use Rattle.attr_rules.specs.Queries.{Query}
-use Rattle.attr_rules.specs.declared.rules.Rules.{Rules}
+use Rattle.attr_equations.specs.declared.rules.Rules.{Rules}
 use Rattle.attr_rules.specs.Rules.{RuleSet}
 use Rattle.attr_types.specs.Phases.{rules_of}
 use Rattle.aspect_items.specs.declared.aspects.Aspects.{Aspects}

@@ -4,8 +4,8 @@ use Rattle.rag_io.specs.declared.Memory.{Memory as OutOfMemory}
 use Rattle.broken_rules.specs.declared.broken.ReadFault.{ReadFault}
 use Rattle.broken_rules.specs.declared.broken.ReadFault.TheVariants as faults
 use Rattle.ast_grammar.specs.Grammar.{Class}
-use Rattle.attr_rules.specs.declared.rules.Rules.{Rules}
-use Rattle.attr_rules.specs.Kept.{rules_in}
+use Rattle.attr_equations.specs.declared.rules.Rules.{Rules}
+use Rattle.attr_equations.specs.Kept.{rules_in}
 use Rattle.attr_rules.specs.Queries.{Query}
 use Rattle.attr_rules.specs.Rules.{RuleSet}
 use Rattle.attr_types.specs.Phases.{rules_of}

@@ -2,8 +2,8 @@
 use Rattle.std.specs.Prelude.{◌≡◌, ℕ, List, false, Result, Ok, Err}
 use Rattle.broken_rules.specs.declared.broken.Broken.{Broken}
 use Rattle.ast_grammar.specs.Grammar.{Class}
-use Rattle.attr_rules.specs.declared.rules.Rules as kept
-use Rattle.attr_rules.specs.Kept.{rules_in}
+use Rattle.attr_equations.specs.declared.rules.Rules as kept
+use Rattle.attr_equations.specs.Kept.{rules_in}
 use Rattle.attr_rules.specs.Queries.{Query}
 use Rattle.attr_rules.specs.Rules.{RuleSet}
 use Rattle.built_forms.specs.Built.{all_built}

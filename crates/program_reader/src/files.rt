@@ -3,7 +3,7 @@ ghost use Rattle.std.specs.Prelude.{◌≡◌, ◌≤◌, length, Ok, IfOk, IfEr
 ghost use Rattle.std.specs.List.{count_by};
 ghost use Rattle.ast_grammar.specs.Grammar.{superclasses_of};
 ghost use Rattle.rag_io.specs.Outside.{longest_file};
-ghost use Rattle.attr_rules.specs.Kept.{rules_in};
+ghost use Rattle.attr_equations.specs.Kept.{rules_in};
 ghost use Rattle.equation_law.specs.Systems.{program_of, queries_in};
 ghost use Rattle.aspect_items.specs.Items.{seen_aspects};
 ghost use Rattle.program_reader.specs.declared.files.Refusal.TheVariants.{Memory as NoMemory};
@@ -16,7 +16,7 @@ ghost use Rattle.program_reader.specs.Files.{SaysCounts, SaysProgram, SaysText, 
 use crate::queries::read_queries;
 use aspect_items::{Aspects, Item};
 use ast_grammar::{Grammar, read_ast_bytes};
-use attr_rules::Rules;
+use attr_equations::Rules;
 use attr_types::check;
 use broken_rules::{Broken, ReadFault};
 use built_forms::built;

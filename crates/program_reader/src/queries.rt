@@ -5,7 +5,7 @@ ghost use Rattle.rag_io.specs.Lexemes.{is_white};
 ghost use Rattle.rag_io.specs.Outside.{longest_file};
 ghost use Rattle.rag_io.specs.Tokens.{AreTokens, seen_tokens};
 ghost use Rattle.ast_grammar.specs.Grammar.{superclasses_of};
-ghost use Rattle.attr_rules.specs.Kept.{rules_in};
+ghost use Rattle.attr_equations.specs.Kept.{rules_in};
 ghost use Rattle.attr_rules.specs.Queries.{query_of};
 ghost use Rattle.program_reader.specs.Queries.{is_inside, is_silent, AnswersQueries};
 ghost use Rattle.program_reader.specs.QuerySteps.{FindsNode, AnswersCall, AnswersQuery, AnswersLine, IsFirstLine, ReadsLine};
@@ -13,7 +13,8 @@ ghost use Rattle.program_reader.specs.Tokens.{place_at as lexed_place, text_at a
 
 use crate::query_language::QueryLanguage;
 use ast_grammar::Grammar;
-use attr_rules::{QueryEq, Rules};
+use attr_equations::Rules;
+use attr_rules::QueryEq;
 use attr_types::query_of_call;
 use rag_io::{Memory, Place, ScanFault, Token, capped, scan};
 use sentences::sentence;

@@ -1,5 +1,5 @@
 use Rattle.std.proofs.Common.{rules}
-use Rattle.attr_rules.specs.Kept.{rules_in}
+use Rattle.attr_equations.specs.Kept.{rules_in}
 use Rattle.aspect_items.specs.Items.{seen_aspects}
 use Rattle.program_reader.proofs.Tested.{accepted_last, refused_before, refused_last}
 use Rattle.program_reader.proofs.files.read_rules.Goals as goal

@@ -1,5 +1,5 @@
 use Rattle.std.proofs.Common.{List, ℕ, sym, subst, Err, Ok}
-use Rattle.attr_rules.specs.Kept.{rules_in}
+use Rattle.attr_equations.specs.Kept.{rules_in}
 use Rattle.ast_grammar.specs.FromBytes.{AnswersGrammar, ReadsGrammar}
 use Rattle.program_reader.specs.Built.{IsRefusal}
 use Rattle.program_reader.specs.Files.{SaysProgram}

@@ -1,5 +1,5 @@
 use Rattle.std.proofs.Common.{List, ℕ, Option, Some, None, refl, subst, Err, Ok}
-use Rattle.attr_rules.specs.Kept.{rules_in}
+use Rattle.attr_equations.specs.Kept.{rules_in}
 use Rattle.equation_law.specs.declared.system.Queries.{Queries}
 use Rattle.program_reader.specs.Built.{AnswersAsked}
 use Rattle.program_reader.proofs.Unread.{queries_refused, source_there, tree_refused}

@@ -1,7 +1,7 @@
 use Rattle.std.proofs.Common.{List, subst}
 use Rattle.rag_io.specs.declared.token.Token.{Token}
 use Rattle.rag_io.specs.Tokens.{seen_tokens}
-use Rattle.attr_rules.specs.Kept.{rules_in}
+use Rattle.attr_equations.specs.Kept.{rules_in}
 use Rattle.program_reader.specs.QuerySteps.{AnswersQuery}
 use Rattle.program_reader.proofs.SayingQueries.{line_by, no_line}
 use Rattle.program_reader.proofs.queries.query_of_line.Goals as goal

@@ -1,6 +1,6 @@
 use Rattle.std.proofs.Common.{sym, subst}
 use Rattle.rag_io.specs.Tokens.{seen_tokens}
-use Rattle.attr_rules.specs.Kept.{rules_in}
+use Rattle.attr_equations.specs.Kept.{rules_in}
 use Rattle.program_reader.specs.QuerySteps.{AnswersQuery}
 use Rattle.program_reader.proofs.SayingQueries.{query_by}
 use Rattle.program_reader.proofs.queries.query_of_tokens.Goals as goal

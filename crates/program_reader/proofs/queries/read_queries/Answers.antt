@@ -1,6 +1,6 @@
 use Rattle.std.proofs.Common.{◌≡◌, ℕ, ◌<◌, ◌≤◌, Bool, false, true, List, [], ◌∷◌, eqb, length, refl, sym, ◌∙◌, arith}
 use Rattle.std.proofs.lemmas.Bool.Decides.{nat_tests}
-use Rattle.attr_rules.specs.Kept.{rules_in}
+use Rattle.attr_equations.specs.Kept.{rules_in}
 use Rattle.program_reader.specs.Queries.{most_lines}
 use Rattle.program_reader.proofs.SayingQueries.{sofar_ends, sofar_many, sofar_goes, sofar_wrong}
 use Rattle.program_reader.proofs.queries.read_queries.Goals as goal

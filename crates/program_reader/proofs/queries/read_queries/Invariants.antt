@@ -1,5 +1,5 @@
 use Rattle.std.proofs.Common.{◌≤◌, length, map}
-use Rattle.attr_rules.specs.Kept.{rules_in}
+use Rattle.attr_equations.specs.Kept.{rules_in}
 use Rattle.attr_rules.specs.Queries.{query_of}
 use Rattle.program_reader.specs.Queries.{most_lines}
 use Rattle.program_reader.specs.QuerySteps.{IsSofar}
