@@ -1,18 +1,19 @@
 #!/usr/bin/env python3
 """Times the program on large files.
 
-    python3 tools/measure.py
+    python3 tools/measure.py [WORD]
 
-prints a line for each case: seconds, the most memory that was in use, and how the answer begins. The program must have
-been built (`rt ci`).
+prints a line for each case, or for each whose name has the word: seconds, the most memory that was in use, and how the answer
+begins. The program must have been built (`rt ci`); where `RAG` names another one, that is timed.
 """
 import os
 import subprocess
+import sys
 import tempfile
 import time
 
 TOP = os.path.dirname(os.path.dirname(os.path.abspath(__file__)))
-PROGRAM = os.path.join(TOP, "crates", "rag", "out", "rag")
+PROGRAM = os.environ.get("RAG", os.path.join(TOP, "crates", "rag", "out", "rag"))
 LONGEST = 16777216
 FIRST = {"g.ast": b"N;", "a.jrag": b"aspect A { syn int N.v() = 5; }", "t.tree": b"N()", "q.txt": b"@0.v()"}
 
@@ -230,6 +231,101 @@ def over_list(count, items):
     aspects = [b"aspect A { ", items.replace(b"%(last)d", b"%d" % (count - 1)), b" }"]
     return {"g.ast": [b"R ::= N*; N ::= <V:int>;"], "a.jrag": aspects, "t.tree": flat(count + 1)}
 
+SAMPLE = b"""Grammar ::= Rule*;
+Rule ::= <Name> Prod*;
+Prod ::= Sym*;
+abstract Sym ::= <Name>;
+Nonterm : Sym;
+Term : Sym;
+"""
+
+SAMPLE_NAMES = b"""aspect Names {
+  inh Grammar Rule.grammar();
+  inh boolean Rule.isStart();
+  inh Rule Prod.owner();
+  inh Rule Sym.lookup(String n);
+  inh Prod Sym.prod();
+  inh int Sym.index();
+  eq Grammar.getRule().grammar() = this;
+  eq Grammar.getRule(int i).isStart() = i == 0;
+  eq Grammar.getRule().lookup(String n) = first(r : getRuleList() | r.getName() == n);
+  eq Rule.getProd().owner() = this;
+  eq Prod.getSym().prod() = this;
+  eq Prod.getSym(int i).index() = i;
+  syn Rule Sym.rule() = null;
+  eq Nonterm.rule() = lookup(getName());
+  coll Set<Nonterm> Rule.uses() [empty] with add root Grammar;
+  Nonterm contributes this to Rule.uses() for rule();
+}
+"""
+
+SAMPLE_SETS = b"""aspect Sets {
+  syn boolean Rule.nullable() circular [false] = any(p : getProdList() | p.nullable());
+  syn boolean Prod.nullable() circular [false] = all(s : getSymList() | s.nullable());
+  syn boolean Sym.nullable() circular [false] = false;
+  eq Nonterm.nullable() = rule().nullable();
+  syn Set<String> Rule.first() circular [empty] = each(p : getProdList() | p.first(0));
+  syn Set<String> Prod.first(int i) circular [empty] = i < getNumSym()
+    ? union(getSym(i).first(), getSym(i).nullable() ? first(i + 1) : empty) : empty;
+  syn Set<String> Sym.first() circular [empty] = single(getName());
+  eq Nonterm.first() = rule().first();
+  syn boolean Prod.rest(int i) circular [false] = i < getNumSym()
+    ? getSym(i).nullable() && rest(i + 1) : true;
+  syn Set<String> Prod.after(int i) circular [empty] =
+    union(first(i), rest(i) ? owner().follow() : empty);
+  syn Set<String> Rule.follow() circular [empty] = union(isStart() ? single("$") : empty,
+    each(s : uses() | s.prod().after(s.index() + 1)));
+}
+aspect Totals {
+  coll int Grammar.nullables() [0] with sum root Grammar;
+  coll int Grammar.firsts() [0] with sum root Grammar;
+  coll int Grammar.follows() [0] with sum root Grammar;
+  Rule contributes 1 when nullable() to Grammar.nullables() for grammar();
+  Rule contributes size(first()) to Grammar.firsts() for grammar();
+  Rule contributes size(follow()) to Grammar.follows() for grammar();
+}
+"""
+
+# Whether each name of a rule has been looked up, which takes as many steps as there are rules in front of it.
+LOOKED_UP = b"""aspect LookedUp {
+  syn boolean Grammar.looked() = all(r : getRuleList() | all(p : r.getProdList() | all(s : p.getSymList() | s.rule() == null || true)));
+}
+"""
+
+
+def sample(count, aspects, queries):
+    """A grammar of so many generated rules, with these aspects of the sample and queries for these attributes of the root, or for those of each rule."""
+    def rules():
+        yield b"Grammar(["
+        for k in range(count):
+            ends = b", Prod([])" if k % 3 == 0 else b""
+            calls = b'Nonterm("n%d"), Nonterm("n%d")' % ((k + 1) % count, (2 * k + 1) % count)
+            yield b'%sRule("n%d", [Prod([%s]), Prod([Term("t%d")])%s])' % (b", " if k else b"", k, calls, k % 7, ends)
+        yield b"])"
+    def asked():
+        yield from (b"@0.%s()\n" % name for name in queries if name != b"uses")
+        node = 1
+        for k in range(count if b"uses" in queries else 0):
+            yield b"@%d.uses()\n" % node
+            node += 7 if k % 3 == 0 else 6
+    return {"g.ast": [SAMPLE], "a.jrag": aspects, "t.tree": rules(), "q.txt": asked()}
+
+
+TOTALS = [b"nullables", b"firsts", b"follows"]
+
+# Collections over a list: of the root, and at each node.
+COLLECTED = [
+    ("one", b"inh R N.root(); eq R.getN().root() = this; coll int R.c() [0] with sum; N contributes getV() to R.c() for root(); syn int R.v() = c();"),
+    ("one set of all nodes", b"inh R N.root(); eq R.getN().root() = this; coll Set<N> R.c() [empty]; N contributes this to R.c() for root(); syn int R.v() = size(c());"),
+    ("one at each node, all asked for", b"coll int N.c() [0] with sum; N contributes getV() to N.c() for this; syn boolean R.v() = all(x : getNList() | x.c() >= 0);"),
+]
+
+
+def rooted(count, root):
+    """A collection at each of so many nested nodes, of which each is asked for what lies below its root."""
+    items = b"syn int L.sum() = c() + (hasL() ? getL().sum() : 0); coll int L.c() [0] with sum%s; L contributes 1 to L.c() for this;" % root
+    return {"g.ast": [b"R ::= L; L ::= [L];"], "a.jrag": [b"aspect A { syn int R.v() = getL().sum(); ", items, b" }"], "t.tree": enclosing(count)}
+
 
 def climbed(count):
     """An inherited attribute at each of so many nested nodes."""
@@ -325,6 +421,14 @@ CASES = [
     *[(f"circular: reachability over a ring of {count:,}", reached(count, count)) for count in [250, 500, 1000]],
     *[(f"circular: reachability over {count:,} rings of 16", reached(16 * count, 16)) for count in [62, 125, 250, 1000]],
     *[(f"circular: first sets of {count:,} rules", ruled(count)) for count in [250, 500, 1000]],
+    *[(f"sample: totals of {count:,} rules", sample(count, [SAMPLE_NAMES, SAMPLE_SETS], TOTALS)) for count in [256, 512, 1024]],
+    *[(f"sample: look-up by name alone, {count:,} rules", sample(count, [SAMPLE_NAMES, LOOKED_UP], [b"looked"])) for count in [256, 512, 1024]],
+    *[(f"sample: uses of each of {count:,} rules", sample(count, [SAMPLE_NAMES], [b"uses"])) for count in [256, 512, 1024]],
+    *[(f"sample: uses, each name looked up before, {count:,} rules", sample(count, [SAMPLE_NAMES, LOOKED_UP], [b"looked", b"uses"])) for count in [256, 512, 1024]],
+    *[(f"collections over {count:,} nodes: {name}", over_list(count, items)) for name, items in COLLECTED for count in [4000, 16000, 60000]],
+    *[(f"collections at {count:,} nested nodes, without a root class", rooted(count, b"")) for count in [4000, 16000, 60000]],
+    *[(f"collections at {count:,} nested nodes, the root above them", rooted(count, b" root R")) for count in [4000, 16000, 60000]],
+    *[(f"collections at {count:,} nested nodes, each its own root", rooted(count, b" root L")) for count in [500, 1000, 2000]],
     ("queries: line feeds", {"q.txt": filled(b"\n")}),
     ("queries: 65,536", {"q.txt": repeated(b"@0.v()\n", 65536)}),
     ("1,024 attributes, 65,536 queries for the last", {"a.jrag": attributes(1024), "q.txt": repeated(b"@0.v1023()\n", 65536)}),
@@ -374,15 +478,14 @@ def measure(folder, name, files, words):
     print(f"{name:48} {seconds:7.2f} s {usage.ru_maxrss // 1024:6} MB  {child.returncode} {first}")
 
 
-def main():
+def main(word):
+    words = [(CASES, ["run", *FIRST]), (TREES, ["tree", "g.ast", "t.tree"]), (CHECKS, ["check", "g.ast", "a.jrag"])]
     with tempfile.TemporaryDirectory() as folder:
-        for name, files in CASES:
-            measure(folder, name, files, ["run", *FIRST])
-        for name, files in TREES:
-            measure(folder, name, files, ["tree", "g.ast", "t.tree"])
-        for name, files in CHECKS:
-            measure(folder, name, files, ["check", "g.ast", "a.jrag"])
+        for cases, command in words:
+            for name, files in cases:
+                if word in name:
+                    measure(folder, name, files, command)
 
 
 if __name__ == "__main__":
-    main()
+    main(sys.argv[1] if len(sys.argv) > 1 else "")

@@ -4,7 +4,8 @@ ghost use Rattle.equation_law.specs.Program.{most_replies};
 
 use crate::programs::{grammar_of, tree_of};
 use ast_grammar::{ClassId, Grammar};
-use attr_rules::{Attributes, Dispatch, Kind, Operator, QueryEq, Rules, SetOperator, TExpr};
+use attr_equations::Rules;
+use attr_rules::{Attributes, Dispatch, Kind, Operator, QueryEq, SetOperator, TExpr};
 use broken_rules::ReadFault;
 use code_sets::Codes;
 use equation_law::{Instance, NodeRef, Queries, Reader, Single, System, Value};
@@ -160,7 +161,13 @@ fn queries_of_forms(alloc: Global) -> Result<Vec<QueryEq>, ReadFault> {
 fn no_rules(alloc: Global, grammar: &Grammar) -> Result<Rules, Memory> {
     let attributes = Attributes::of_list(alloc, grammar, &[])?;
     let dispatch = Dispatch::of_targets(alloc, grammar, 0, &[])?;
-    Ok(Rules::of_parts(attributes, dispatch, Vec::new(alloc)))
+    Rules::of_parts(
+        alloc,
+        attributes,
+        dispatch,
+        Vec::new(alloc),
+        Vec::new(alloc),
+    )
 }
 
 fn system_of(alloc: Global, queries: Vec<QueryEq>) -> Result<System, ReadFault>

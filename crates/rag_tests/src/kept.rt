@@ -2,14 +2,15 @@
 ghost use Rattle.std.specs.Prelude.{◌≡◌, ◌<◌, ◌↔◌, All, IfOk, IsTrue, length, map};
 ghost use Rattle.ast_grammar.specs.Grammar.{superclasses_of};
 ghost use Rattle.attr_rules.specs.Dispatching.{IsTarget};
-ghost use Rattle.attr_rules.specs.KeptEquations.{kept_target};
-ghost use Rattle.attr_rules.specs.Kept.{rules_in};
+ghost use Rattle.attr_equations.specs.KeptEquations.{kept_target};
+ghost use Rattle.attr_equations.specs.Kept.{rules_in};
 
 use crate::programs::grammar_of;
 use ast_grammar::{ClassId, Grammar};
+use attr_equations::{KeptEquation, Rules};
 use attr_rules::{
-    Attr, AttrId, Attributes, Dispatch, EqId, KeptEquation, Kind, NamedAttr, Params, Reach, Rules,
-    Sort, Start, TExpr, Target, ValueType, accessor_of, is_spelled,
+    Attr, AttrId, Attributes, Dispatch, EqId, Kind, NamedAttr, Params, Reach, Sort, Start, TExpr,
+    Target, ValueType, accessor_of, is_spelled,
 };
 use broken_rules::ReadFault;
 use std::alloc::{AllocError, Global};
@@ -49,26 +50,32 @@ const DECLARED: [NamedAttr<'static>; 6] = [
     NamedAttr {
         name: b"v",
         declared: INT,
+        collecting: None,
     },
     NamedAttr {
         name: b"v",
         declared: AT_X,
+        collecting: None,
     },
     NamedAttr {
         name: b"v",
         declared: AT_Y,
+        collecting: None,
     },
     NamedAttr {
         name: b"w",
         declared: AT_X,
+        collecting: None,
     },
     NamedAttr {
         name: b"w",
         declared: INT,
+        collecting: None,
     },
     NamedAttr {
         name: b"u",
         declared: INT,
+        collecting: None,
     },
 ];
 
@@ -157,7 +164,8 @@ fn rules_of(alloc: Global, grammar: &Grammar, targets: &[Target]) -> Result<Rule
     }
     let dispatch = Dispatch::of_targets(alloc, grammar, attributes.len(), targets)?;
     let equations = equations_for(alloc, targets)?;
-    Ok(Rules::of_parts(attributes, dispatch, equations))
+    let rules = Rules::of_parts(alloc, attributes, dispatch, equations, Vec::new(alloc))?;
+    Ok(rules)
 }
 
 // What there is for a class and a name: the class of that name, the superclass of the class, its component of that name, whether there is an accessor

@@ -32,3 +32,5 @@ mod sweeps;
 mod texts;
 #[cfg(test)]
 mod trees;
+#[cfg(test)]
+mod walks;

@@ -7,7 +7,8 @@ use crate::forms::Nothing;
 use crate::programs::{Texts, system_said};
 use attr_rules::{AttrId, EqId};
 use broken_rules::ReadFault;
-use equation_law::{Args, EqSite, NodeRef, System, Value};
+use collection_attrs::is_collection;
+use equation_law::{Args, EqSite, Instance, NodeRef, System, Value};
 use expr_eval::{Turn, evaluate};
 use inherited_walk::equation_of;
 use plain_rounds::{NameList, NamedArg, NamedArgs, NamedInstance, NodeName, plain_rounds};
@@ -150,7 +151,7 @@ fn named_instances_have_values(rt: HostRuntime) {
     assert_eq!(rt; found_by_names(rt.alloc()), Ok((Ok(None), Ok(None))));
 }
 
-// The equation of an attribute without arguments at a node, where they are an instance.
+// The equation of an attribute without arguments at a node, where they are an instance and no collection.
 fn site_of(
     alloc: Global,
     system: &System,
@@ -170,8 +171,12 @@ fn site_of(
     if !names.are_of(system) {
         return Ok(None);
     }
-    let at = NodeRef::of_source(Some(node));
-    Ok(Some(equation_of(system, attr, at, Args::none())))
+    let (at, args) = (NodeRef::of_source(Some(node)), Args::none());
+    let node = at;
+    if is_collection(system, &Instance::Attr { attr, node, args }) {
+        return Ok(None);
+    }
+    Ok(Some(equation_of(system, attr, at, args)))
 }
 
 // The place of the second statement is what the path binds.

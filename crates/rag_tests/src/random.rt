@@ -1,4 +1,4 @@
-// Random programs, whose replies by rounds and by demand are the same.
+// Random programs, and some with collections, whose replies by rounds and by demand are the same.
 ghost use Rattle.equation_law.specs.Checked.{IsProgram};
 ghost use Rattle.equation_law.specs.Systems.{program_of};
 
@@ -59,6 +59,20 @@ const COUNTS: Family = Family {
     below: [3, 4, 4, 4],
 };
 
+// Collections over integers and sets of the node, of those below it, of the one above it, and over one another. Each node has them, and what is
+// offered stands below the node itself, below the root of the tree, or anywhere.
+const COLLECTIONS: Family = Family {
+    forms: &[
+        "coll int L.c#() [0] with sum; L contributes nA() to L.c#() for this; ",
+        "coll int L.c#() [0] with sum root L; L contributes nA() when nB() > I to L.c#() for up(); L contributes 1 to L.c#() for this; ",
+        "coll int L.c#() [0] with sum root P; L contributes size(sA()) when contains(sB(), this) to L.c#() for up(); ",
+        "coll int L.c#() [0] with sum; L contributes cA() to L.c#() for up(); L contributes nB() to L.c#() for this; ",
+        "coll int L.c#() [0] with sum root L; L contributes cA() + I to L.c#() for first(x : getlList() | x.nB() == I); ",
+        "coll int L.c#() [0] with sum; L contributes 1 when cA() == I to L.c#() for hasUp() ? up() : this; ",
+    ],
+    below: [3, 4, 4, 4],
+};
+
 // Drawn programs: the seed and how many are drawn, their texts, and how many equations each family gives.
 struct Drawn {
     seed: u64,
@@ -71,7 +85,7 @@ struct Drawn {
     queries: Long<'static>,
 }
 
-const DRAWN: [Drawn; 2] = [
+const DRAWN: [Drawn; 3] = [
     // Over a chain of four nodes, asked for all attributes.
     Drawn {
         seed: 8,
@@ -114,6 +128,52 @@ const DRAWN: [Drawn; 2] = [
             times: 49,
             ..NOTHING
         },
+    },
+    // The same with collections, over fewer nodes.
+    Drawn {
+        seed: 31,
+        times: 12,
+        ast: "P ::= L; L ::= l:L*;",
+        aspect: "aspect A { inh L L.up(); eq P.getL().up() = null; eq L.getl(int i).up() = this; syn boolean L.hasUp() = up() != null; ",
+        families: &[SETS, COUNTS, COLLECTIONS],
+        equations: 4,
+        tree: Long {
+            head: "P(L([L([])",
+            part: ", L([L([])]), L([L([]), L([])]), L([])",
+            middle: "]))",
+            end: "",
+            times: 2,
+        },
+        queries: Long {
+            part: "@#.c0()\n@#.c1()\n@#.c2()\n@#.c3()\n@#.n0()\n",
+            times: 14,
+            ..NOTHING
+        },
+    },
+];
+
+// Programs with collections: of subtrees and of the whole tree, and of values, conditions and receivers that are demanded or not.
+const COLLECTED: [Texts<'static>; 2] = [
+    Texts {
+        ast: "Top ::= Box; Box ::= Item* Box*; Deep : Box; Item ::= <V:int>;",
+        jrag: "aspect A { inh Box Item.box(); eq Box.getItem().box() = this; \
+               inh Box Box.above(); eq Top.getBox().above() = null; eq Box.getBox().above() = this; \
+               coll int Box.own() [0] with sum root Box; coll int Box.deep() [0] with sum root Deep; coll int Box.whole() [0] with sum; \
+               Item contributes getV() to Box.own() for box(); Item contributes getV() to Box.deep() for box(); \
+               Item contributes getV() to Box.whole() for box(); Item contributes getV() to Box.deep() for box().above(); }",
+        tree: "Top(Box([Item(1)], [Deep([Item(2)], [Box([Item(4), Item(8)], [])])]))",
+        queries: "@1.own()\n@1.deep()\n@1.whole()\n@3.own()\n@3.deep()\n@3.whole()\n@5.own()\n@5.deep()\n@5.whole()\n",
+    },
+    Texts {
+        ast: "T ::= M*; M ::= <K:int>;",
+        jrag: "aspect A { syn int M.loop() = loop(); coll int M.a() [0] with sum; coll int M.b() [0] with sum; \
+               coll int M.c() [0] with sum; coll boolean M.e() [false] with or; \
+               M contributes loop() when getK() == 9 to M.a() for this; M contributes getK() to M.a() for this; \
+               M contributes loop() when getK() == 2 to M.b() for this; M contributes loop() to M.c() for getK() == 2 ? this : null; \
+               M contributes true to M.e() for this; M contributes loop() == 0 when getK() == 2 to M.e() for this; \
+               syn int M.sign() = e() ? 1 : 0; }",
+        tree: "T([M(1), M(2)])",
+        queries: "@1.a()\n@2.a()\n@1.b()\n@2.b()\n@1.c()\n@2.c()\n@1.sign()\n@2.sign()\n",
     },
 ];
 
@@ -210,9 +270,29 @@ fn other_drawn(alloc: Global, row: &Drawn) -> Result<Option<u32>, ReadFault> {
     Ok(None)
 }
 
+// The first of the programs with collections that has other replies by rounds than by demand.
+fn other_collected(alloc: Global) -> Result<Option<usize>, ReadFault> {
+    for (k, texts) in COLLECTED.iter().enumerate() {
+        if !texts_agree(alloc, texts)? {
+            return Ok(Some(k));
+        }
+    }
+    Ok(None)
+}
+
+#[test]
+fn rounds_and_demand_agree_on_collections(rt: HostRuntime) {
+    let [_, _, collections] = &DRAWN;
+    let other = (
+        other_collected(rt.alloc()),
+        other_drawn(rt.alloc(), collections),
+    );
+    assert_eq!(rt; other, (Ok(None), Ok(None)));
+}
+
 #[test]
 fn rounds_and_demand_agree(rt: HostRuntime) {
-    let [integers, sets] = &DRAWN;
+    let [integers, sets, _] = &DRAWN;
     let other = (
         other_drawn(rt.alloc(), integers),
         other_drawn(rt.alloc(), sets),

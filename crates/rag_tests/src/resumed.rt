@@ -5,6 +5,7 @@ ghost use Rattle.equation_law.specs.Systems.{program_of};
 
 use crate::programs::{Long, Texts, long_text, system_said};
 use attr_rules::AttrId;
+use collection_attrs::is_collection;
 use equation_law::{Args, Instance, NodeRef, Reader, System, Value};
 use expr_eval::{Saved, Turn, kind_of, resume_instance};
 use program_reader::Refusal;
@@ -85,13 +86,16 @@ const DEMANDS: [(u16, u32); 7] = [
     (10, 200),
 ];
 
-// How many demands the evaluation of an attribute of the root takes, which goes on after each that has no value.
+// How many demands the evaluation of an attribute of the root takes, which goes on after each that has no value. The attribute is no collection.
 fn demands_of(alloc: Global, system: &System, attr: u16) -> Result<u32, Memory> {
     let i = Instance::Attr {
         attr: AttrId(attr),
         node: NodeRef(1),
         args: Args::none(),
     };
+    if is_collection(system, &i) {
+        return Err(Memory);
+    }
     let mut reader = Late {
         system,
         known: 0,

@@ -11,6 +11,7 @@ use crate::programs::{Texts, system_said};
 use attr_rules::AttrId;
 use caller_pass::{Desk, Steps, ask};
 use circular_eval::{CircTurn, Local, advance};
+use collection_attrs::is_collection;
 use equation_law::{Args, Instance, NodeRef, Reader, System, Value};
 use expr_eval::{Saved, Turn, is_declared, resume_instance};
 use memo_cells::{Cells, CellsFull, Key, Slot, Words, Work};
@@ -25,8 +26,8 @@ use std::test::Fail;
 /// A pass at its cells that counts how often it is asked for the value of an instance.
 #[derive(Drop)]
 pub(crate) struct Counting<'a> {
-    desk: Desk<'a>,
-    demands: u32,
+    pub(crate) desk: Desk<'a>,
+    pub(crate) demands: u32,
 }
 
 impl<'a> Model for Counting<'a> {
@@ -82,7 +83,7 @@ impl Work for Counting<'_> {
     ghost tells_pass = { told_pass };
 }
 
-// The first circular instance that one leads to, from each to what it demands first.
+// The first circular instance that one leads to, from each to what it demands first, over no collection.
 fn first_circular(
     alloc: Global,
     system: &System,
@@ -99,6 +100,9 @@ fn first_circular(
 {
     let mut at = i;
     for _ in 0..3 {
+        if is_collection(system, &at) {
+            return Ok(None);
+        }
         let mut saved = Saved::new(alloc);
         match resume_instance(alloc, system, &at, work, &mut saved)? {
             Turn::Done(_) => return Ok(None),

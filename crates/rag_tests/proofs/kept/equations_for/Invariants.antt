@@ -1,6 +1,6 @@
 -- The targets so far.
 use Rattle.std.proofs.Common.{◌≡◌, map, take}
-use Rattle.attr_rules.specs.KeptEquations.{kept_target}
+use Rattle.attr_equations.specs.KeptEquations.{kept_target}
 use Rattle.rag_tests.proofs.kept.equations_for.Given as goal
 
 abbrev pub invariant-loop-target : goal.invariant-loop-target

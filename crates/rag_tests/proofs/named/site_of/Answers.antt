@@ -5,6 +5,7 @@ use Rattle.equation_law.specs.Checked.{IsInstance}
 use Rattle.equation_law.specs.Systems.{program_of}
 use Rattle.plain_rounds.specs.Named.{instances_in}
 use Rattle.rag_tests.proofs.Bare.{bare, coded}
+use Rattle.rag_tests.proofs.Singles.{none_is}
 use Rattle.rag_tests.proofs.named.site_of.Goals as goal
 
 pub equation_of-requires-clause-instance : goal.equation_of-requires-clause-instance
@@ -13,4 +14,7 @@ equation_of-requires-clause-instance c =
     let yes : c.are_of.result ≡ true = cc in
     let all : All (IsInstance p) (instances_in p c.add.new.self) = c.are_of.ensures.0 yes in
     let last = (All-pop (IsInstance p) _ _ (Some _) (c.in_ok-add.ensures.added p) all).1 in
-    coded p _ _ _ _ _ c.of_source-at.ensures c.none.ensures.codes (bare p _ _ _ (c.of-args.ensures ∙ c.new.ensures.items) last)
+    coded p _ _ _ _ _ c.of_source-at.ensures c.none-args.ensures.codes (bare p _ _ _ (c.of-args.ensures ∙ c.new.ensures.items) last)
+
+pub equation_of-requires-clause-single : goal.equation_of-requires-clause-single
+equation_of-requires-clause-single c = none_is _ c.is_collection.result c.is_collection.ensures c.if-is_collection.false

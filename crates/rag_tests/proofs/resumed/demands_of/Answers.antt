@@ -4,6 +4,7 @@ use Rattle.equation_law.specs.Program.{attribute_parameters}
 use Rattle.equation_law.specs.Systems.{program_of}
 use Rattle.expr_eval.proofs.Found.{none_saved}
 use Rattle.rag_tests.proofs.Lately.{late_sound, no_codes}
+use Rattle.rag_tests.proofs.Singles.{none_is}
 use Rattle.rag_tests.proofs.resumed.demands_of.Goals as goal
 
 pub loop-init : goal.loop-init
@@ -20,6 +21,9 @@ resume_instance-requires-clause-coded c =
     let p = program_of c.args.system.now in
     let kinds = attribute_parameters p c.args.attr in
     (c.none.ensures.row, subst (AreCodes p kinds) (sym c.none.ensures.codes) (no_codes p kinds))
+
+pub resume_instance-requires-clause-single : goal.resume_instance-requires-clause-single
+resume_instance-requires-clause-single c = none_is _ c.is_collection.result c.is_collection.ensures c.if-is_collection.false
 
 pub loop-preserved : goal.loop-preserved
 loop-preserved c = (c.in_ok-turn.ensures.evaluates.kept.sound, c.in_ok-turn.ensures.saved)

@@ -7,6 +7,7 @@ use Rattle.expr_eval.specs.Evaluating.{AnswersTurn}
 use Rattle.memo_cells.specs.Working.{told_by}
 use Rattle.memo_cells.proofs.Holding.{reads_itself}
 use Rattle.caller_pass.proofs.Desks.{sound_for}
+use Rattle.rag_tests.proofs.Singles.{none_is}
 use Rattle.rag_tests.proofs.Sweeping.{need_circular, need_is, program_here}
 use Rattle.rag_tests.proofs.sweeps.first_circular.Goals as goal
 
@@ -15,6 +16,9 @@ loop-init c = record { on = reads_itself c.args.work.now c.requires.own; instanc
 
 pub resume_instance-requires-clause-sound : goal.resume_instance-requires-clause-sound
 resume_instance-requires-clause-sound c = sound_for (program_of c.args.system.now) c.loop.work (program_here c.args.system.now c.args.work.now c.loop.work c.requires.same c.loop.invariant.on)
+
+pub resume_instance-requires-clause-single : goal.resume_instance-requires-clause-single
+resume_instance-requires-clause-single c = none_is _ c.is_collection.result c.is_collection.ensures c.if-is_collection.false
 
 pub returns-in_err-resume_instance-clause-on : goal.returns-in_err-resume_instance-clause-on
 returns-in_err-resume_instance-clause-on c = c.resume_instance.ensures.evaluates.kept.kept c.args.work.now c.loop.invariant.on
