@@ -11,7 +11,7 @@ use Rattle.equation_law.specs.Meaning.{call_at, demand}
 use Rattle.equation_law.specs.Names.{Argument, Attribute, Instance, Reference}
 use Rattle.equation_law.specs.Program.{Program, text_of}
 use Rattle.equation_law.specs.Reading.{Grows, IsSound, Settles, Told}
-use Rattle.equation_law.specs.Values.{as_kind, default_of, node}
+use Rattle.equation_law.specs.Values.{as_kind, default_of}
 use Rattle.expr_eval.specs.declared.evaluation.Halt.{Halt}
 use Rattle.expr_eval.specs.declared.evaluation.Halt.TheVariants.{Need}
 use Rattle.expr_eval.specs.Evaluating.{Answers, CallReads, DemandReads}
@@ -19,19 +19,18 @@ use Rattle.expr_eval.proofs.Forms.{gives_value, grows_self}
 
 module _ {S : Type 0} (p : Program) (r : Told S) (a : ℕ) (xs : Args) where
   -- on null it is the default of the type
-  pub call_null : (v : CodedValue) (n : ℕ) (x : CodedValue) (k : Kind) → reference_of n ≡ node (value_of (text_of p) v) → IsSound p r → n ≡ 0 → k ≡ attribute_kind p a → value_of (text_of p) x ≡ default_of k → AreElements p x → CallReads p r r a v xs (Ok x)
-  call_null v n x k same sound null kind e good = record {
+  pub call_null : (n : ℕ) (x : CodedValue) (k : Kind) → IsSound p r → n ≡ 0 → k ≡ attribute_kind p a → value_of (text_of p) x ≡ default_of k → AreElements p x → CallReads p r r a n xs (Ok x)
+  call_null n x k sound null kind e good = record {
     kept = grows_self sound;
-    is = λ vs are. subst (λ (o : Reference). Answers p r (call_at (world_of p) a o vs) (Ok x)) (ap reference_of (sym null) ∙ same) (gives_value (e ∙ ap default_of kind) good);
+    is = λ vs are. subst (λ (o : Reference). Answers p r (call_at (world_of p) a o vs) (Ok x)) (ap reference_of (sym null)) (gives_value (e ∙ ap default_of kind) good);
   }
 
   -- at a node it is the value of the attribute there
-  pub call_there : (s : Told S) (v : CodedValue) (n : ℕ) (res : Result CodedValue Halt) → reference_of n ≡ node (value_of (text_of p) v) → (n ≡ 0 → ⊥) → DemandReads p r s (Attribute a (reference_of n) (arguments_of p a xs)) res → CallReads p r s a v xs res
-  call_there s v zero res same there h = absurd (there refl)
-  call_there s v (suc n) res same there h = record {
+  pub call_there : (s : Told S) (n : ℕ) (res : Result CodedValue Halt) → (n ≡ 0 → ⊥) → DemandReads p r s (Attribute a (reference_of n) (arguments_of p a xs)) res → CallReads p r s a n xs res
+  call_there s zero res there h = absurd (there refl)
+  call_there s (suc n) res there h = record {
     kept = h.kept;
-    is = λ vs are. subst (λ (o : Reference). Answers p s (call_at (world_of p) a o vs) res) same
-        (subst (λ (zs : List Argument). Answers p s (demand (attribute_kind p a) (Attribute a (reference_of (suc n)) zs)) res) are h.is);
+    is = λ vs are. subst (λ (zs : List Argument). Answers p s (demand (attribute_kind p a) (Attribute a (reference_of (suc n)) zs)) res) are h.is;
   }
 
 module _ {S : Type 0} (p : Program) (r s : Told S) (grows : Grows p r s) (i : Instance) where

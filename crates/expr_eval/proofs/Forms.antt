@@ -1,37 +1,30 @@
 -- The answers to an expression from those to its parts, form by form.
-use Rattle.std.proofs.Common.{◌≡◌, ℕ, pos, List, Option, [], ◌∷◌, ◌++◌, Bool, true, false, ◌||◌, cond, not, neg_ℤ, Result, Ok, Err, refl, sym, ap, arith, subst, ◌∙◌}
-use Rattle.std.specs.Int.{int_wrap}
+use Rattle.std.proofs.Common.{◌≡◌, ℕ, List, Option, None, Some, [], ◌∷◌, ◌++◌, Bool, true, false, cond, Result, Ok, Err, IfOk, refl, sym, ap, subst, ◌∙◌}
 use Rattle.std.specs.Result.{IsErr, IsErrAnd}
 use Rattle.std.proofs.lemmas.Result.{err_from_is_err_and}
-use mir.Syntax.{w32}
 use Rattle.rag_io.specs.declared.Place.{Place as TextPlace}
-use Rattle.ast_grammar.specs.declared.grammar.ClassId.{ClassId}
-use Rattle.attr_rules.specs.declared.expression.Operator.{Operator}
-use Rattle.attr_rules.specs.declared.expression.SetOperator.{SetOperator}
 use Rattle.attr_rules.specs.declared.expression.TExpr.{TExpr}
+use Rattle.attr_rules.specs.declared.expression.TExpr.TheVariants as kept
 use Rattle.attr_rules.specs.declared.kinds.Kind.{Kind}
-use Rattle.attr_rules.specs.Expression.{Arguments, Expression, Child, Element, Count, Has, Token, Call, Cast, InstanceOf, Empty, Sets, Single, Contains, Size, Not, Negate, Binary, And, Or, OrBoth, If, expression_of}
+use Rattle.attr_rules.specs.Expression.{Arguments, Expression, Truth as TruthLiteral, Int as IntLiteral, Text as TextLiteral, Null as NullLiteral, Empty, This, Variable, Source as SourceNode, Call, And, Or, If, expression_of}
 use Rattle.solutions.specs.Asking.{Demands, Gives, Ends, Halts, after, asks, at, gives, next}
 use Rattle.solutions.proofs.Runs.{ends_more}
 use Rattle.equation_law.specs.declared.coding.Args.{Args}
 use Rattle.equation_law.specs.declared.coding.Value.{Value as CodedValue}
 use Rattle.equation_law.specs.declared.coding.Value.TheVariants as coded
-use Rattle.equation_law.specs.declared.system.System.{System}
-use Rattle.equation_law.specs.Codes.{AreElements, value_of}
+use Rattle.equation_law.specs.Codes.{AreElements, reference_of, value_of}
 use Rattle.equation_law.specs.Equations.{world_of}
-use Rattle.equation_law.specs.Meaning.{Place, World, call_at, meaning_of, with_arguments, cast_to, child_at, count_at, element_at, is_instance, is_there, operate, token_at}
-use Rattle.equation_law.specs.Names.{Instance}
+use Rattle.equation_law.specs.Meaning.{Place, World, call_at, meaning_of, with_arguments}
+use Rattle.equation_law.specs.Names.{Instance, Reference}
 use Rattle.equation_law.specs.Program.{Program, attribute_parameters, text_of}
-use Rattle.equation_law.specs.Sets.{no_elements}
 use Rattle.equation_law.specs.Reading.{Grows, IsSound, Told}
-use Rattle.equation_law.specs.Systems.{program_of}
-use Rattle.equation_law.specs.Values.{Value, Int, Node, Nodes, Truth, contains, int, node, set_operate, single, size_of, truth}
+use Rattle.equation_law.specs.Values.{Value, Truth, node, truth}
 use Rattle.expr_eval.specs.declared.evaluation.Halt.{Halt}
 use Rattle.expr_eval.specs.declared.evaluation.Halt.TheVariants.{Need, Memory}
-use Rattle.expr_eval.specs.Evaluating.{Answers, CallReads, Collects, Given, Makes, MakesRoom, end, more, read_at}
+use Rattle.expr_eval.specs.Evaluating.{Answers, CallReads, Collects, Given, end, more, read_at}
+use Rattle.expr_eval.specs.Parts.{IsMade, IsRounded, IsSaid, OneMakes, TwoMake, is_leaf, leaf_value, made_of_one, made_of_two, part_of, parts_of}
 use Rattle.expr_eval.specs.Reads.{Advances, ArgumentsRead, IsReady, Reads, State, state}
 use Rattle.expr_eval.proofs.Growing.{saved_more}
-use Rattle.expr_eval.proofs.Plain.{operate_plain, plain_coded}
 
 -- what it has it keeps
 pub grows_self : {S : Type 0} {p : Program} {r : Told S} → IsSound p r → Grows p r r
@@ -85,6 +78,10 @@ gives_value {p = p} {s = s} {x = x} e h = subst (λ v. Given p s (Gives v) x) e 
 abbrev pub ReadsTruth : Bool → CodedValue → Type 0
 ReadsTruth t v = (texts : ℕ → List ℕ) → t ≡ truth (value_of texts v)
 
+-- the node, by its code, whatever the texts are
+abbrev pub ReadsNode : ℕ → CodedValue → Type 0
+ReadsNode o v = (texts : ℕ → List ℕ) → reference_of o ≡ node (value_of texts v)
+
 -- a test that was evaluated
 tested : {S : Type 0} (p : Program) (s : Told S) (b t : Bool) (x y : Demands Instance Value) (res : Result CodedValue Halt) → t ≡ b → Answers p s (cond b x y) res → Answers p s (cond t x y) res
 tested p s b t x y res e a = subst (λ z. Answers p s (cond z x y) res) (sym e) a
@@ -111,6 +108,65 @@ pub collects_more : {A B : Instance → Value → Type 0} {W : World} {place : P
 collects_more f end = end
 collects_more f (more ends rest) = more (ends_more f ends) (collects_more f rest)
 
+no_value : {h : Halt} {v : CodedValue} → Err h ≡ Ok v → ⊥
+no_value {h} {v} there = cc
+
+-- the truth value that came is that of a value
+pub said_is : (came : Result CodedValue Halt) {t : Bool} → IsSaid came (Some t) → (v : CodedValue) × (came ≡ Ok v) × ReadsTruth t v
+said_is (Ok v) {t = t} h = let answer : Some t ≡ Some h.0 = h.2 in let same : t ≡ h.0 = cc in (v, refl, λ texts. same ∙ h.1 texts)
+said_is (Err k) {t = t} h = absurd (let none : Some t ≡ None = h in cc)
+
+pub none_said : (came : Result CodedValue Halt) → IsSaid came None → (k : Halt) × (came ≡ Err k)
+none_said (Ok v) h = absurd (let none : None ≡ Some h.0 = h.2 in cc)
+none_said (Err k) h = (k, refl)
+
+-- what a form without parts demands
+leaf_gives : (p : Program) (place : Place) (e : Expression) → is_leaf e ≡ true → read_at p place e ≡ Gives (leaf_value (world_of p) place e)
+leaf_gives p place (TruthLiteral b) h = refl
+leaf_gives p place (IntLiteral z) h = refl
+leaf_gives p place (TextLiteral n) h = refl
+leaf_gives p place NullLiteral h = refl
+leaf_gives p place Empty h = refl
+leaf_gives p place This h = refl
+leaf_gives p place (Variable k) h = refl
+leaf_gives p place (SourceNode k) h = refl
+leaf_gives p place _ h = cc
+
+-- a form demands what its part does, and makes its value of that of the part
+abbrev MadeOfOne : Program → Place → TExpr → TExpr → Type 0
+MadeOfOne p place e a = read_at p place (expression_of e) ≡ next (read_at p place (expression_of a)) (λ v. Gives (made_of_one (world_of p) (expression_of e) v))
+
+of_part : (p : Program) (place : Place) (e : TExpr) {b a : TExpr} → Some b ≡ Some a → MadeOfOne p place e b → MadeOfOne p place e a
+of_part p place e {b} {a} h made = let same : b ≡ a = cc in subst (MadeOfOne p place e) same made
+
+one_part : (p : Program) (place : Place) (e a : TExpr) → part_of e ≡ Some a → MadeOfOne p place e a
+one_part p place (kept.Child' k o e) a h = of_part p place (kept.Child' k o e) h refl
+one_part p place (kept.Count' k o e) a h = of_part p place (kept.Count' k o e) h refl
+one_part p place (kept.Has' k o e) a h = of_part p place (kept.Has' k o e) h refl
+one_part p place (kept.Token' t k o e) a h = of_part p place (kept.Token' t k o e) h refl
+one_part p place (kept.Cast' c o e) a h = of_part p place (kept.Cast' c o e) h refl
+one_part p place (kept.InstanceOf' c o e) a h = of_part p place (kept.InstanceOf' c o e) h refl
+one_part p place (kept.Single' o e) a h = of_part p place (kept.Single' o e) h refl
+one_part p place (kept.Size' o e) a h = of_part p place (kept.Size' o e) h refl
+one_part p place (kept.Not' o e) a h = of_part p place (kept.Not' o e) h refl
+one_part p place (kept.Negate' o e) a h = of_part p place (kept.Negate' o e) h refl
+one_part p place _ a h = cc
+
+-- the same of two parts
+abbrev MadeOfTwo : Program → Place → TExpr → TExpr × TExpr → Type 0
+MadeOfTwo p place e x = read_at p place (expression_of e) ≡ next (read_at p place (expression_of x.0)) (λ v. next (read_at p place (expression_of x.1)) (λ w. Gives (made_of_two (world_of p) (expression_of e) v w)))
+
+of_parts : (p : Program) (place : Place) (e : TExpr) {y x : TExpr × TExpr} → Some y ≡ Some x → MadeOfTwo p place e y → MadeOfTwo p place e x
+of_parts p place e {y} {x} h made = let same : y ≡ x = cc in subst (MadeOfTwo p place e) same made
+
+two_parts : (p : Program) (place : Place) (e a b : TExpr) → parts_of e ≡ Some (a, b) → MadeOfTwo p place e (a, b)
+two_parts p place (kept.Element' k m x n y) a b h = of_parts p place (kept.Element' k m x n y) h refl
+two_parts p place (kept.Sets' o t m x n y) a b h = of_parts p place (kept.Sets' o t m x n y) h refl
+two_parts p place (kept.Contains' m x n y) a b h = of_parts p place (kept.Contains' m x n y) h refl
+two_parts p place (kept.Binary' o m x n y) a b h = of_parts p place (kept.Binary' o m x n y) h refl
+two_parts p place (kept.OrBoth' m x n y) a b h = of_parts p place (kept.OrBoth' m x n y) h refl
+two_parts p place _ a b h = cc
+
 module _ {p : Program} {place : Place} where
   -- an expression that is kept in this form
   pub said : {S : Type 0} {r s : State S} {e f : TExpr} {res : Result CodedValue Halt} → e ≡ f → Reads p r s place (expression_of f) res → Reads p r s place (expression_of e) res
@@ -125,8 +181,9 @@ module _ {p : Program} {place : Place} where
   thrown {r = r} {s = s} {e = e} {res = res} f a = let g = err_from_is_err_and res f.1 in subst (Reads p r s place e) (sym (g.1 ∙ ap Err g.2)) a
 
   -- a form without parts
-  pub leaf : {S : Type 0} {r : State S} {e : Expression} {x : CodedValue} (w : Value) → IsReady p r → read_at p place e ≡ Gives w → value_of (text_of p) x ≡ w → AreElements p x → Reads p r r place e (Ok x)
-  leaf {r = r} {e = e} {x = x} w h is v good = record { kept = advances_self h; is = subst (λ c. Given p r.told c x) (sym is) (gives_value v good) }
+  pub leaf_reads : {S : Type 0} {r : State S} {e : Expression} {res : Result CodedValue Halt} → IsReady p r → is_leaf e ≡ true → IsMade p (leaf_value (world_of p) place e) res → Reads p r r place e res
+  leaf_reads {r = r} {e = e} {res = Ok x} h is made = record { kept = advances_self h; is = subst (λ c. Given p r.told c x) (sym (leaf_gives p place e is)) (gives_value made.0 made.1) }
+  leaf_reads {r = r} {e = e} {res = Err k} h is none = subst (λ j. Reads p r r place e (Err j)) (sym none) (record { kept = advances_self h; is = tt })
 
   -- a whole that begins with the part
   stops : {S : Type 0} {r s : State S} (whole part : Expression) (h : Halt) (k : Value → Demands Instance Value) → read_at p place whole ≡ next (read_at p place part) k → Reads p r s place part (Err h) → Reads p r s place whole (Err h)
@@ -162,148 +219,49 @@ module _ {p : Program} {place : Place} where
       goes (Call t here a es) a v (Err (Need i)) (behind_receiver p place t es) refl x y.kept (record { demands = stopped.0; halts = stopped.1; coded = y.is.coded })
   call_stops_at {a = a} {es = es} {v = v} {h = Memory} {t = t} {here = here} x y = goes (Call t here a es) a v (Err Memory) (behind_receiver p place t es) refl x y.kept tt
 
-  pub call_goes : {S : Type 0} {r m n : State S} {u : Told S} {a : Expression} {es : Arguments} {xs : Args} {v : CodedValue} {t : ℕ} {here : TextPlace} {res : Result CodedValue Halt} → Reads p r m place a (Ok v) → ArgumentsRead p m n place (attribute_parameters p t) es (Ok xs) → CallReads p n.told u t v xs res
+  pub call_goes : {S : Type 0} {r m n : State S} {u : Told S} {a : Expression} {es : Arguments} {xs : Args} {v : CodedValue} {t o : ℕ} {here : TextPlace} {res : Result CodedValue Halt} → Reads p r m place a (Ok v) → ReadsNode o v → ArgumentsRead p m n place (attribute_parameters p t) es (Ok xs) → CallReads p n.told u t o xs res
       → Reads p r (state n.system u n.saved) place (Call t here a es) res
-  call_goes {u = u} {a = a} {es = es} {v = v} {t = t} {here = here} {res = res} x y c =
+  call_goes {u = u} {a = a} {es = es} {xs = xs} {v = v} {t = t} {here = here} {res = res} x is y c =
+      let vs = y.is.values in
+      let said = subst (λ (o : Reference). Answers p u (call_at (world_of p) t o vs) res) (is (text_of p)) (c.is vs y.is.are) in
       goes (Call t here a es) a v res (behind_receiver p place t es) refl x (advances_then y.kept (advances_read y.kept.sound c.kept))
-      (collected p u place (λ vs. call_at (world_of p) t (node (value_of (text_of p) v)) vs) res (collects_more c.kept.values y.is.collects) (c.is y.is.values y.is.are))
+      (collected p u place (λ vs. call_at (world_of p) t (node (value_of (text_of p) v)) vs) res (collects_more c.kept.values y.is.collects) said)
 
-  -- the child of a receiver
-  child_stops : {S : Type 0} {r s : State S} {a : Expression} {h : Halt} {k : ℕ} → Reads p r s place a (Err h) → Reads p r s place (Child k a) (Err h)
-  child_stops {a = a} {h = h} {k = k} x = stops (Child k a) a h _ refl x
+  -- an answer that is another one
+  pub came_as : {S : Type 0} {r s : State S} {e : Expression} {res other : Result CodedValue Halt} → res ≡ other → Reads p r s place e res → Reads p r s place e other
+  came_as {r = r} {s = s} {e = e} same a = subst (Reads p r s place e) same a
 
-  child_goes : {S : Type 0} {r s : State S} {a : Expression} {v x : CodedValue} {k : ℕ} → Reads p r s place a (Ok v) → value_of (text_of p) x ≡ Node (child_at (world_of p) k (node (value_of (text_of p) v))) → Reads p r s place (Child k a) (Ok x)
-  child_goes {a = a} {v = v} {x = x} {k = k} y e = ends (Child k a) a v x _ refl y _ refl e (plain_coded p x _ e refl)
+  -- an expression that is another one
+  pub read_as : {S : Type 0} {r s : State S} {e f : Expression} {res : Result CodedValue Halt} → e ≡ f → Reads p r s place e res → Reads p r s place f res
+  read_as {r = r} {s = s} {res = res} same a = subst (λ x. Reads p r s place x res) same a
 
-  pub child_made : {S : Type 0} {r s : State S} {a : Expression} {k : ℕ} {v x : Result CodedValue Halt} → Reads p r s place a v → Makes (λ w y. value_of (text_of p) y ≡ Node (child_at (world_of p) k (node (value_of (text_of p) w)))) v x → Reads p r s place (Child k a) x
-  child_made {v = Ok v} {x = Ok x} y e = child_goes y e
-  child_made {r = r} {s = s} {a = a} {k = k} {v = Err h} {x = Err i} y e = subst (λ j. Reads p r s place (Child k a) (Err j)) (sym e) (child_stops y)
-  child_made {v = Ok v} {x = Err h} y e = absurd e
-  child_made {v = Err h} {x = Ok x} y e = absurd e
+  -- the elements of a set that an answer gives are coded well
+  pub reads_coded : {S : Type 0} {r s : State S} {e : Expression} {res : Result CodedValue Halt} → Reads p r s place e res → IfOk res (AreElements p)
+  reads_coded {res = Ok v} a = a.is.coded
+  reads_coded {res = Err h} a = tt
 
-  -- a cast, and a test of a class
-  cast_stops : {S : Type 0} {r s : State S} {a : Expression} {h : Halt} {k : ClassId} → Reads p r s place a (Err h) → Reads p r s place (Cast k a) (Err h)
-  cast_stops {a = a} {h = h} {k = k} x = stops (Cast k a) a h _ refl x
+  -- a form of one part
+  one_stops : {S : Type 0} {r s : State S} (e : TExpr) {a : TExpr} {h : Halt} → part_of e ≡ Some a → Reads p r s place (expression_of a) (Err h) → Reads p r s place (expression_of e) (Err h)
+  one_stops e {a = a} {h = h} is x = stops (expression_of e) (expression_of a) h _ (one_part p place e a is) x
 
-  cast_goes : {S : Type 0} {r s : State S} {a : Expression} {v x : CodedValue} {k : ClassId} → Reads p r s place a (Ok v) → value_of (text_of p) x ≡ Node (cast_to (world_of p) k (node (value_of (text_of p) v))) → Reads p r s place (Cast k a) (Ok x)
-  cast_goes {a = a} {v = v} {x = x} {k = k} y e = ends (Cast k a) a v x _ refl y _ refl e (plain_coded p x _ e refl)
+  pub one_makes : {S : Type 0} {r s : State S} (e : TExpr) {a : TExpr} {before after : Result CodedValue Halt} → part_of e ≡ Some a → Reads p r s place (expression_of a) before → OneMakes p (made_of_one (world_of p) (expression_of e)) before after → Reads p r s place (expression_of e) after
+  one_makes e {a = a} {before = Ok v} {after = Ok x} is y made = ends (expression_of e) (expression_of a) v x _ (one_part p place e a is) y _ refl made.0 made.1
+  one_makes {r = r} {s = s} e {before = Ok v} {after = Err k} is y none = subst (λ j. Reads p r s place (expression_of e) (Err j)) (sym none) (record { kept = y.kept; is = tt })
+  one_makes {r = r} {s = s} e {before = Err h} is y same = subst (Reads p r s place (expression_of e)) (sym same) (one_stops e is y)
 
-  pub cast_made : {S : Type 0} {r s : State S} {a : Expression} {k : ClassId} {v x : Result CodedValue Halt} → Reads p r s place a v → Makes (λ w y. value_of (text_of p) y ≡ Node (cast_to (world_of p) k (node (value_of (text_of p) w)))) v x → Reads p r s place (Cast k a) x
-  cast_made {v = Ok v} {x = Ok x} y e = cast_goes y e
-  cast_made {r = r} {s = s} {a = a} {k = k} {v = Err h} {x = Err i} y e = subst (λ j. Reads p r s place (Cast k a) (Err j)) (sym e) (cast_stops y)
-  cast_made {v = Ok v} {x = Err h} y e = absurd e
-  cast_made {v = Err h} {x = Ok x} y e = absurd e
+  -- a form of two parts
+  pub two_stop : {S : Type 0} {r s : State S} (e : TExpr) {a b : TExpr} {h : Halt} {first : Result CodedValue Halt} → parts_of e ≡ Some (a, b) → first ≡ Err h → Reads p r s place (expression_of a) first → Reads p r s place (expression_of e) first
+  two_stop e {a = a} {b = b} {h = h} are stopped x = came_as (sym stopped) (stops (expression_of e) (expression_of a) h _ (two_parts p place e a b are) (came_as stopped x))
 
-  instance_stops : {S : Type 0} {r s : State S} {a : Expression} {h : Halt} {k : ClassId} → Reads p r s place a (Err h) → Reads p r s place (InstanceOf k a) (Err h)
-  instance_stops {a = a} {h = h} {k = k} x = stops (InstanceOf k a) a h _ refl x
+  two_stop_at : {S : Type 0} {r m s : State S} (e : TExpr) {a b : TExpr} {v : CodedValue} {h : Halt} → parts_of e ≡ Some (a, b) → Reads p r m place (expression_of a) (Ok v) → Reads p m s place (expression_of b) (Err h) → Reads p r s place (expression_of e) (Err h)
+  two_stop_at e {a = a} {b = b} {v = v} {h = h} are x y = goes (expression_of e) (expression_of a) v (Err h) _ (two_parts p place e a b are) x y.kept (second_stops (expression_of b) h _ y)
 
-  instance_goes : {S : Type 0} {r s : State S} {a : Expression} {v x : CodedValue} {k : ClassId} → Reads p r s place a (Ok v) → value_of (text_of p) x ≡ Truth (is_instance (world_of p) k (node (value_of (text_of p) v))) → Reads p r s place (InstanceOf k a) (Ok x)
-  instance_goes {a = a} {v = v} {x = x} {k = k} y e = ends (InstanceOf k a) a v x _ refl y _ refl e (plain_coded p x _ e refl)
-
-  pub instance_made : {S : Type 0} {r s : State S} {a : Expression} {k : ClassId} {v x : Result CodedValue Halt} → Reads p r s place a v → Makes (λ w y. value_of (text_of p) y ≡ Truth (is_instance (world_of p) k (node (value_of (text_of p) w)))) v x → Reads p r s place (InstanceOf k a) x
-  instance_made {v = Ok v} {x = Ok x} y e = instance_goes y e
-  instance_made {r = r} {s = s} {a = a} {k = k} {v = Err h} {x = Err i} y e = subst (λ j. Reads p r s place (InstanceOf k a) (Err j)) (sym e) (instance_stops y)
-  instance_made {v = Ok v} {x = Err h} y e = absurd e
-  instance_made {v = Err h} {x = Ok x} y e = absurd e
-
-  -- an element of the list of a receiver
-  pub element_stops : {S : Type 0} {r s : State S} {a b : Expression} {h : Halt} {k : ℕ} → Reads p r s place a (Err h) → Reads p r s place (Element k a b) (Err h)
-  element_stops {a = a} {b = b} {h = h} {k = k} x = stops (Element k a b) a h _ refl x
-
-  element_stops_at : {S : Type 0} {r m s : State S} {a b : Expression} {v : CodedValue} {h : Halt} {k : ℕ} → Reads p r m place a (Ok v) → Reads p m s place b (Err h) → Reads p r s place (Element k a b) (Err h)
-  element_stops_at {a = a} {b = b} {v = v} {h = h} {k = k} x y = goes (Element k a b) a v (Err h) _ refl x y.kept (second_stops b h _ y)
-
-  element_goes : {S : Type 0} {r m s : State S} {a b : Expression} {v w x : CodedValue} {k : ℕ} → Reads p r m place a (Ok v) → Reads p m s place b (Ok w) → value_of (text_of p) x ≡ Node (element_at (world_of p) k (node (value_of (text_of p) v)) (int (value_of (text_of p) w)))
-      → Reads p r s place (Element k a b) (Ok x)
-  element_goes {a = a} {b = b} {v = v} {w = w} {x = x} {k = k} y z e = goes (Element k a b) a v (Ok x) _ refl y z.kept (second_goes b w x _ z _ refl e (plain_coded p x _ e refl))
-
-  pub element_made : {S : Type 0} {r m s : State S} {a b : Expression} {k : ℕ} {v : CodedValue} {w x : Result CodedValue Halt} → Reads p r m place a (Ok v) → Reads p m s place b w → Makes (λ u y. value_of (text_of p) y ≡ Node (element_at (world_of p) k (node (value_of (text_of p) v)) (int (value_of (text_of p) u)))) w x → Reads p r s place (Element k a b) x
-  element_made {w = Ok w} {x = Ok x} y z e = element_goes y z e
-  element_made {r = r} {s = s} {a = a} {b = b} {k = k} {w = Err h} {x = Err i} y z e = subst (λ j. Reads p r s place (Element k a b) (Err j)) (sym e) (element_stops_at y z)
-  element_made {w = Ok w} {x = Err i} y z e = absurd e
-  element_made {w = Err h} {x = Ok x} y z e = absurd e
-
-  -- how many elements a list has
-  count_stops : {S : Type 0} {r s : State S} {a : Expression} {h : Halt} {k : ℕ} → Reads p r s place a (Err h) → Reads p r s place (Count k a) (Err h)
-  count_stops {a = a} {h = h} {k = k} x = stops (Count k a) a h _ refl x
-
-  count_goes : {S : Type 0} {r s : State S} {a : Expression} {v x : CodedValue} {k : ℕ} → Reads p r s place a (Ok v) → value_of (text_of p) x ≡ Int (count_at (world_of p) k (node (value_of (text_of p) v))) → Reads p r s place (Count k a) (Ok x)
-  count_goes {a = a} {v = v} {x = x} {k = k} y e = ends (Count k a) a v x _ refl y _ refl e (plain_coded p x _ e refl)
-
-  pub count_made : {S : Type 0} {r s : State S} {a : Expression} {k : ℕ} {v x : Result CodedValue Halt} → Reads p r s place a v → Makes (λ w y. value_of (text_of p) y ≡ Int (count_at (world_of p) k (node (value_of (text_of p) w)))) v x → Reads p r s place (Count k a) x
-  count_made {v = Ok v} {x = Ok x} y e = count_goes y e
-  count_made {r = r} {s = s} {a = a} {k = k} {v = Err h} {x = Err i} y e = subst (λ j. Reads p r s place (Count k a) (Err j)) (sym e) (count_stops y)
-  count_made {v = Ok v} {x = Err h} y e = absurd e
-  count_made {v = Err h} {x = Ok x} y e = absurd e
-
-  -- whether there is a child
-  has_stops : {S : Type 0} {r s : State S} {a : Expression} {h : Halt} {k : ℕ} → Reads p r s place a (Err h) → Reads p r s place (Has k a) (Err h)
-  has_stops {a = a} {h = h} {k = k} x = stops (Has k a) a h _ refl x
-
-  has_goes : {S : Type 0} {r s : State S} {a : Expression} {v x : CodedValue} {k : ℕ} → Reads p r s place a (Ok v) → value_of (text_of p) x ≡ Truth (is_there (child_at (world_of p) k (node (value_of (text_of p) v)))) → Reads p r s place (Has k a) (Ok x)
-  has_goes {a = a} {v = v} {x = x} {k = k} y e = ends (Has k a) a v x _ refl y _ refl e (plain_coded p x _ e refl)
-
-  pub has_made : {S : Type 0} {r s : State S} {a : Expression} {k : ℕ} {v x : Result CodedValue Halt} → Reads p r s place a v → Makes (λ w y. value_of (text_of p) y ≡ Truth (is_there (child_at (world_of p) k (node (value_of (text_of p) w))))) v x → Reads p r s place (Has k a) x
-  has_made {v = Ok v} {x = Ok x} y e = has_goes y e
-  has_made {r = r} {s = s} {a = a} {k = k} {v = Err h} {x = Err i} y e = subst (λ j. Reads p r s place (Has k a) (Err j)) (sym e) (has_stops y)
-  has_made {v = Ok v} {x = Err h} y e = absurd e
-  has_made {v = Err h} {x = Ok x} y e = absurd e
-
-  -- the token of a receiver
-  token_stops : {S : Type 0} {r s : State S} {a : Expression} {h : Halt} {t : Kind} {k : ℕ} → Reads p r s place a (Err h) → Reads p r s place (Token t k a) (Err h)
-  token_stops {a = a} {h = h} {t = t} {k = k} x = stops (Token t k a) a h _ refl x
-
-  token_goes : {S : Type 0} {r s : State S} {a : Expression} {v x : CodedValue} {t : Kind} {k : ℕ} → Reads p r s place a (Ok v) → value_of (text_of p) x ≡ token_at (world_of p) t k (node (value_of (text_of p) v)) → AreElements p x → Reads p r s place (Token t k a) (Ok x)
-  token_goes {a = a} {v = v} {x = x} {t = t} {k = k} y e good = ends (Token t k a) a v x _ refl y _ refl e good
-
-  pub token_made : {S : Type 0} {r s : State S} {a : Expression} {t : Kind} {k : ℕ} {v x : Result CodedValue Halt} → Reads p r s place a v → Makes (λ w y. (value_of (text_of p) y ≡ token_at (world_of p) t k (node (value_of (text_of p) w))) × ((q : Program) → AreElements q y)) v x → Reads p r s place (Token t k a) x
-  token_made {v = Ok v} {x = Ok x} y e = token_goes y e.0 (e.1 p)
-  token_made {r = r} {s = s} {a = a} {t = t} {k = k} {v = Err h} {x = Err i} y e = subst (λ j. Reads p r s place (Token t k a) (Err j)) (sym e) (token_stops y)
-  token_made {v = Ok v} {x = Err i} y e = absurd e
-  token_made {v = Err h} {x = Ok x} y e = absurd e
-
-  -- a denial
-  not_stops : {S : Type 0} {r s : State S} {a : Expression} {h : Halt} → Reads p r s place a (Err h) → Reads p r s place (Not a) (Err h)
-  not_stops {a = a} {h = h} x = stops (Not a) a h _ refl x
-
-  not_goes : {S : Type 0} {r s : State S} {a : Expression} {v x : CodedValue} → Reads p r s place a (Ok v) → ((texts : ℕ → List ℕ) → value_of texts x ≡ Truth (not (truth (value_of texts v)))) → Reads p r s place (Not a) (Ok x)
-  not_goes {a = a} {v = v} {x = x} y e = ends (Not a) a v x _ refl y _ refl (e (text_of p)) (plain_coded p x _ (e (text_of p)) refl)
-
-  pub not_made : {S : Type 0} {r s : State S} {a : Expression} {v x : Result CodedValue Halt} → Reads p r s place a v → Makes (λ w y. (texts : ℕ → List ℕ) → value_of texts y ≡ Truth (not (truth (value_of texts w)))) v x → Reads p r s place (Not a) x
-  not_made {v = Ok v} {x = Ok x} y e = not_goes y e
-  not_made {r = r} {s = s} {a = a} {v = Err h} {x = Err i} y e = subst (λ j. Reads p r s place (Not a) (Err j)) (sym e) (not_stops y)
-  not_made {v = Ok v} {x = Err h} y e = absurd e
-  not_made {v = Err h} {x = Ok x} y e = absurd e
-
-  -- a change of sign
-  negate_stops : {S : Type 0} {r s : State S} {a : Expression} {h : Halt} → Reads p r s place a (Err h) → Reads p r s place (Negate a) (Err h)
-  negate_stops {a = a} {h = h} x = stops (Negate a) a h _ refl x
-
-  negate_goes : {S : Type 0} {r s : State S} {a : Expression} {v x : CodedValue} → Reads p r s place a (Ok v) → ((texts : ℕ → List ℕ) → value_of texts x ≡ Int (int_wrap w32 (neg_ℤ (int (value_of texts v))))) → Reads p r s place (Negate a) (Ok x)
-  negate_goes {a = a} {v = v} {x = x} y e = ends (Negate a) a v x _ refl y _ refl (e (text_of p)) (plain_coded p x _ (e (text_of p)) refl)
-
-  pub negate_made : {S : Type 0} {r s : State S} {a : Expression} {v x : Result CodedValue Halt} → Reads p r s place a v → Makes (λ w y. (texts : ℕ → List ℕ) → value_of texts y ≡ Int (int_wrap w32 (neg_ℤ (int (value_of texts w))))) v x → Reads p r s place (Negate a) x
-  negate_made {v = Ok v} {x = Ok x} y e = negate_goes y e
-  negate_made {r = r} {s = s} {a = a} {v = Err h} {x = Err i} y e = subst (λ j. Reads p r s place (Negate a) (Err j)) (sym e) (negate_stops y)
-  negate_made {v = Ok v} {x = Err h} y e = absurd e
-  negate_made {v = Err h} {x = Ok x} y e = absurd e
-
-  -- a binary operator
-  pub binary_stops : {S : Type 0} {r s : State S} {a b : Expression} {h : Halt} {o : Operator} → Reads p r s place a (Err h) → Reads p r s place (Binary o a b) (Err h)
-  binary_stops {a = a} {b = b} {h = h} {o = o} x = stops (Binary o a b) a h _ refl x
-
-  binary_stops_right : {S : Type 0} {r m s : State S} {a b : Expression} {v : CodedValue} {h : Halt} {o : Operator} → Reads p r m place a (Ok v) → Reads p m s place b (Err h) → Reads p r s place (Binary o a b) (Err h)
-  binary_stops_right {a = a} {b = b} {v = v} {h = h} {o = o} x y = goes (Binary o a b) a v (Err h) _ refl x y.kept (second_stops b h _ y)
-
-  binary_goes : {S : Type 0} {r m s : State S} {a b : Expression} {v w x : CodedValue} {o : Operator} → Reads p r m place a (Ok v) → Reads p m s place b (Ok w) → value_of (text_of p) x ≡ operate o (value_of (text_of p) v) (value_of (text_of p) w)
-      → Reads p r s place (Binary o a b) (Ok x)
-  binary_goes {a = a} {b = b} {v = v} {w = w} {x = x} {o = o} y z e = goes (Binary o a b) a v (Ok x) _ refl y z.kept (second_goes b w x _ z _ refl e (plain_coded p x _ e (operate_plain o _ _)))
-
-  pub binary_made : {S : Type 0} {r m s : State S} {a b : Expression} {o : Operator} {v : CodedValue} {w x : Result CodedValue Halt} → Reads p r m place a (Ok v) → Reads p m s place b w → Makes (λ u y. value_of (text_of p) y ≡ operate o (value_of (text_of p) v) (value_of (text_of p) u)) w x → Reads p r s place (Binary o a b) x
-  binary_made {w = Ok w} {x = Ok x} y z e = binary_goes y z e
-  binary_made {r = r} {s = s} {a = a} {b = b} {o = o} {w = Err h} {x = Err i} y z e = subst (λ j. Reads p r s place (Binary o a b) (Err j)) (sym e) (binary_stops_right y z)
-  binary_made {w = Ok w} {x = Err i} y z e = absurd e
-  binary_made {w = Err h} {x = Ok x} y z e = absurd e
+  pub two_make : {S : Type 0} {r m s : State S} (e : TExpr) {a b : TExpr} {v : CodedValue} {first second after : Result CodedValue Halt} → parts_of e ≡ Some (a, b) → first ≡ Ok v → Reads p r m place (expression_of a) first → Reads p m s place (expression_of b) second
+      → TwoMake p (made_of_two (world_of p) (expression_of e)) first second after → Reads p r s place (expression_of e) after
+  two_make e {a = a} {b = b} {first = Ok v} {second = Ok w} {after = Ok x} are there y z made = goes (expression_of e) (expression_of a) v (Ok x) _ (two_parts p place e a b are) y z.kept (second_goes (expression_of b) w x _ z _ refl made.0 made.1)
+  two_make {r = r} {s = s} e {first = Ok v} {second = Ok w} {after = Err k} are there y z none = subst (λ j. Reads p r s place (expression_of e) (Err j)) (sym none) (record { kept = advances_then y.kept z.kept; is = tt })
+  two_make e {first = Ok v} {second = Err h} are there y z same = came_as (sym same) (two_stop_at e are y z)
+  two_make e {v = v} {first = Err h} are there y z made = absurd (no_value there)
 
   -- `&&`
   pub and_stops : {S : Type 0} {r s : State S} {a b : Expression} {h : Halt} → Reads p r s place a (Err h) → Reads p r s place (And a b) (Err h)
@@ -319,15 +277,13 @@ module _ {p : Program} {place : Place} where
   and_stops_right {s = s} {a = a} {b = b} {v = v} {h = h} {d = d} x e f y =
       goes (And a b) a v (Err h) _ refl x y.kept (tested p s.told true (truth (value_of (text_of p) v)) _ _ (Err h) (sym (e (text_of p)) ∙ f) (second_stops b h _ y))
 
-  -- `&&` that ends on the right
-  pub and_made : {S : Type 0} {r m s : State S} {a b : Expression} {v : CodedValue} {w x : Result CodedValue Halt} {d : Bool} → Reads p r m place a (Ok v) → ReadsTruth d v → d ≡ true → Reads p m s place b w → Makes (λ u y. (texts : ℕ → List ℕ) → value_of texts y ≡ Truth (truth (value_of texts u))) w x
-      → Reads p r s place (And a b) x
-  and_made {s = s} {a = a} {b = b} {v = v} {w = Ok w} {x = Ok x} y e f z g =
-      goes (And a b) a v (Ok x) _ refl y z.kept
-      (tested p s.told true (truth (value_of (text_of p) v)) _ _ (Ok x) (sym (e (text_of p)) ∙ f) (second_goes b w x _ z _ refl (g (text_of p)) (plain_coded p x _ (g (text_of p)) refl)))
-  and_made {r = r} {s = s} {a = a} {b = b} {w = Err h} {x = Err i} y e f z g = subst (λ j. Reads p r s place (And a b) (Err j)) (sym g) (and_stops_right y e f z)
-  and_made {w = Ok w} {x = Err h} y e f z g = absurd g
-  and_made {w = Err h} {x = Ok x} y e f z g = absurd g
+  -- `&&` that is evaluated on the right
+  pub and_goes : {S : Type 0} {r m s : State S} {a b : Expression} {v : CodedValue} {d : Bool} {before after : Result CodedValue Halt} → Reads p r m place a (Ok v) → ReadsTruth d v → d ≡ true → Reads p m s place b before → IsRounded before after → Reads p r s place (And a b) after
+  and_goes {r = r} {s = s} {a = a} {b = b} {v = v} {before = Ok w} y e f z g =
+      subst (Reads p r s place (And a b)) (sym g.2)
+      (goes (And a b) a v (Ok (coded.Truth g.0)) _ refl y z.kept
+      (tested p s.told true (truth (value_of (text_of p) v)) _ _ (Ok (coded.Truth g.0)) (sym (e (text_of p)) ∙ f) (second_goes b w (coded.Truth g.0) _ z _ refl (ap Truth (g.1 (text_of p))) tt)))
+  and_goes {r = r} {s = s} {a = a} {b = b} {before = Err h} y e f z same = subst (Reads p r s place (And a b)) (sym same) (and_stops_right y e f z)
 
   -- `||`
   pub or_stops : {S : Type 0} {r s : State S} {a b : Expression} {h : Halt} → Reads p r s place a (Err h) → Reads p r s place (Or a b) (Err h)
@@ -343,31 +299,13 @@ module _ {p : Program} {place : Place} where
   or_stops_right {s = s} {a = a} {b = b} {v = v} {h = h} {d = d} x e f y =
       goes (Or a b) a v (Err h) _ refl x y.kept (tested p s.told false (truth (value_of (text_of p) v)) _ _ (Err h) (sym (e (text_of p)) ∙ f) (second_stops b h _ y))
 
-  -- `||` that ends on the right
-  pub or_made : {S : Type 0} {r m s : State S} {a b : Expression} {v : CodedValue} {w x : Result CodedValue Halt} {d : Bool} → Reads p r m place a (Ok v) → ReadsTruth d v → d ≡ false → Reads p m s place b w → Makes (λ u y. (texts : ℕ → List ℕ) → value_of texts y ≡ Truth (truth (value_of texts u))) w x
-      → Reads p r s place (Or a b) x
-  or_made {s = s} {a = a} {b = b} {v = v} {w = Ok w} {x = Ok x} y e f z g =
-      goes (Or a b) a v (Ok x) _ refl y z.kept
-      (tested p s.told false (truth (value_of (text_of p) v)) _ _ (Ok x) (sym (e (text_of p)) ∙ f) (second_goes b w x _ z _ refl (g (text_of p)) (plain_coded p x _ (g (text_of p)) refl)))
-  or_made {r = r} {s = s} {a = a} {b = b} {w = Err h} {x = Err i} y e f z g = subst (λ j. Reads p r s place (Or a b) (Err j)) (sym g) (or_stops_right y e f z)
-  or_made {w = Ok w} {x = Err h} y e f z g = absurd g
-  or_made {w = Err h} {x = Ok x} y e f z g = absurd g
-
-  -- `||` of which both sides are evaluated
-  pub or_both_stops : {S : Type 0} {r s : State S} {a b : Expression} {h : Halt} → Reads p r s place a (Err h) → Reads p r s place (OrBoth a b) (Err h)
-  or_both_stops {a = a} {b = b} {h = h} x = stops (OrBoth a b) a h _ refl x
-
-  or_both_stops_right : {S : Type 0} {r m s : State S} {a b : Expression} {v : CodedValue} {h : Halt} → Reads p r m place a (Ok v) → Reads p m s place b (Err h) → Reads p r s place (OrBoth a b) (Err h)
-  or_both_stops_right {a = a} {b = b} {v = v} {h = h} x y = goes (OrBoth a b) a v (Err h) _ refl x y.kept (second_stops b h _ y)
-
-  pub or_both_made : {S : Type 0} {r m s : State S} {a b : Expression} {v : CodedValue} {w x : Result CodedValue Halt} {d : Bool} → Reads p r m place a (Ok v) → ReadsTruth d v → Reads p m s place b w → Makes (λ u y. (texts : ℕ → List ℕ) → value_of texts y ≡ Truth (d || truth (value_of texts u))) w x
-      → Reads p r s place (OrBoth a b) x
-  or_both_made {a = a} {b = b} {v = v} {w = Ok w} {x = Ok x} y e z g =
-      let is : value_of (text_of p) x ≡ Truth (truth (value_of (text_of p) v) || truth (value_of (text_of p) w)) = g (text_of p) ∙ ap (λ t. Truth (t || truth (value_of (text_of p) w))) (e (text_of p)) in
-      goes (OrBoth a b) a v (Ok x) _ refl y z.kept (second_goes b w x _ z _ refl is (plain_coded p x _ is refl))
-  or_both_made {r = r} {s = s} {a = a} {b = b} {w = Err h} {x = Err i} y e z g = subst (λ j. Reads p r s place (OrBoth a b) (Err j)) (sym g) (or_both_stops_right y z)
-  or_both_made {w = Ok w} {x = Err h} y e z g = absurd g
-  or_both_made {w = Err h} {x = Ok x} y e z g = absurd g
+  -- `||` that is evaluated on the right
+  pub or_goes : {S : Type 0} {r m s : State S} {a b : Expression} {v : CodedValue} {d : Bool} {before after : Result CodedValue Halt} → Reads p r m place a (Ok v) → ReadsTruth d v → d ≡ false → Reads p m s place b before → IsRounded before after → Reads p r s place (Or a b) after
+  or_goes {r = r} {s = s} {a = a} {b = b} {v = v} {before = Ok w} y e f z g =
+      subst (Reads p r s place (Or a b)) (sym g.2)
+      (goes (Or a b) a v (Ok (coded.Truth g.0)) _ refl y z.kept
+      (tested p s.told false (truth (value_of (text_of p) v)) _ _ (Ok (coded.Truth g.0)) (sym (e (text_of p)) ∙ f) (second_goes b w (coded.Truth g.0) _ z _ refl (ap Truth (g.1 (text_of p))) tt)))
+  or_goes {r = r} {s = s} {a = a} {b = b} {before = Err h} y e f z same = subst (Reads p r s place (Or a b)) (sym same) (or_stops_right y e f z)
 
   -- a choice
   pub if_stops : {S : Type 0} {r s : State S} {c a b : Expression} {here : Option TextPlace} {h : Halt} → Reads p r s place c (Err h) → Reads p r s place (If c a here b) (Err h)
@@ -384,68 +322,3 @@ module _ {p : Program} {place : Place} where
   -- there is not enough memory for what follows
   pub out_of_memory : {S : Type 0} {r s : State S} {e : Expression} {res : Result CodedValue Halt} → Advances p r s → IsErr res × IsErrAnd res (λ m. m ≡ Memory) → Reads p r s place e res
   out_of_memory {r = r} {s = s} {e = e} {res = res} g f = thrown f (record { kept = g; is = tt })
-
-  -- what is made of two sets
-  pub sets_stops : {S : Type 0} {r s : State S} {a b : Expression} {h : Halt} {o : SetOperator} {t : Kind} → Reads p r s place a (Err h) → Reads p r s place (Sets o t a b) (Err h)
-  sets_stops {a = a} {b = b} {h = h} {o = o} {t = t} x = stops (Sets o t a b) a h _ refl x
-
-  sets_stops_right : {S : Type 0} {r m s : State S} {a b : Expression} {v : CodedValue} {h : Halt} {o : SetOperator} {t : Kind} → Reads p r m place a (Ok v) → Reads p m s place b (Err h) → Reads p r s place (Sets o t a b) (Err h)
-  sets_stops_right {a = a} {b = b} {v = v} {h = h} {o = o} {t = t} x y = goes (Sets o t a b) a v (Err h) _ refl x y.kept (second_stops b h _ y)
-
-  sets_goes : {S : Type 0} {r m s : State S} {a b : Expression} {v w x : CodedValue} {o : SetOperator} {t : Kind} → Reads p r m place a (Ok v) → Reads p m s place b (Ok w) → value_of (text_of p) x ≡ set_operate o t (value_of (text_of p) v) (value_of (text_of p) w) → AreElements p x
-      → Reads p r s place (Sets o t a b) (Ok x)
-  sets_goes {a = a} {b = b} {v = v} {w = w} {x = x} {o = o} {t = t} y z e good = goes (Sets o t a b) a v (Ok x) _ refl y z.kept (second_goes b w x _ z _ refl e good)
-
-  pub sets_made : {S : Type 0} {r m s : State S} {a b : Expression} {o : SetOperator} {t : Kind} {v : CodedValue} {w x : Result CodedValue Halt} → Reads p r m place a (Ok v) → Reads p m s place b w → MakesRoom (λ u y. (value_of (text_of p) y ≡ set_operate o t (value_of (text_of p) v) (value_of (text_of p) u)) × AreElements p y) w x → Reads p r s place (Sets o t a b) x
-  sets_made {w = Ok w} {x = Ok x} y z e = sets_goes y z e.0 e.1
-  sets_made {r = r} {s = s} {a = a} {b = b} {o = o} {t = t} {w = Err h} {x = Err i} y z e = subst (λ j. Reads p r s place (Sets o t a b) (Err j)) (sym e) (sets_stops_right y z)
-  sets_made {r = r} {s = s} {a = a} {b = b} {o = o} {t = t} {w = Ok w} {x = Err i} y z e = subst (λ j. Reads p r s place (Sets o t a b) (Err j)) (sym e) (record { kept = advances_then y.kept z.kept; is = tt })
-  sets_made {w = Err h} {x = Ok x} y z e = absurd e
-
-  -- the set of one element
-  single_stops : {S : Type 0} {r s : State S} {a : Expression} {h : Halt} → Reads p r s place a (Err h) → Reads p r s place (Single a) (Err h)
-  single_stops {a = a} {h = h} x = stops (Single a) a h _ refl x
-
-  single_goes : {S : Type 0} {r s : State S} {a : Expression} {v x : CodedValue} → Reads p r s place a (Ok v) → value_of (text_of p) x ≡ single (value_of (text_of p) v) → AreElements p x → Reads p r s place (Single a) (Ok x)
-  single_goes {a = a} {v = v} {x = x} y e good = ends (Single a) a v x _ refl y _ refl e good
-
-  pub single_made : {S : Type 0} {r s : State S} {a : Expression} {v x : Result CodedValue Halt} → Reads p r s place a v → MakesRoom (λ w y. (value_of (text_of p) y ≡ single (value_of (text_of p) w)) × AreElements p y) v x → Reads p r s place (Single a) x
-  single_made {v = Ok v} {x = Ok x} y e = single_goes y e.0 e.1
-  single_made {r = r} {s = s} {a = a} {v = Err h} {x = Err i} y e = subst (λ j. Reads p r s place (Single a) (Err j)) (sym e) (single_stops y)
-  single_made {r = r} {s = s} {a = a} {v = Ok v} {x = Err i} y e = subst (λ j. Reads p r s place (Single a) (Err j)) (sym e) (record { kept = y.kept; is = tt })
-  single_made {v = Err h} {x = Ok x} y e = absurd e
-
-  -- whether a set has an element
-  pub contains_stops : {S : Type 0} {r s : State S} {a b : Expression} {h : Halt} → Reads p r s place a (Err h) → Reads p r s place (Contains a b) (Err h)
-  contains_stops {a = a} {b = b} {h = h} x = stops (Contains a b) a h _ refl x
-
-  contains_stops_right : {S : Type 0} {r m s : State S} {a b : Expression} {v : CodedValue} {h : Halt} → Reads p r m place a (Ok v) → Reads p m s place b (Err h) → Reads p r s place (Contains a b) (Err h)
-  contains_stops_right {a = a} {b = b} {v = v} {h = h} x y = goes (Contains a b) a v (Err h) _ refl x y.kept (second_stops b h _ y)
-
-  contains_goes : {S : Type 0} {r m s : State S} {a b : Expression} {v w x : CodedValue} → Reads p r m place a (Ok v) → Reads p m s place b (Ok w) → value_of (text_of p) x ≡ Truth (contains (value_of (text_of p) v) (value_of (text_of p) w)) → Reads p r s place (Contains a b) (Ok x)
-  contains_goes {a = a} {b = b} {v = v} {w = w} {x = x} y z e = goes (Contains a b) a v (Ok x) _ refl y z.kept (second_goes b w x _ z _ refl e (plain_coded p x _ e refl))
-
-  pub contains_made : {S : Type 0} {r m s : State S} {a b : Expression} {v : CodedValue} {w x : Result CodedValue Halt} → Reads p r m place a (Ok v) → Reads p m s place b w → Makes (λ u y. value_of (text_of p) y ≡ Truth (contains (value_of (text_of p) v) (value_of (text_of p) u))) w x → Reads p r s place (Contains a b) x
-  contains_made {w = Ok w} {x = Ok x} y z e = contains_goes y z e
-  contains_made {r = r} {s = s} {a = a} {b = b} {w = Err h} {x = Err i} y z e = subst (λ j. Reads p r s place (Contains a b) (Err j)) (sym e) (contains_stops_right y z)
-  contains_made {w = Ok w} {x = Err i} y z e = absurd e
-  contains_made {w = Err h} {x = Ok x} y z e = absurd e
-
-  -- how many elements a set has
-  size_stops : {S : Type 0} {r s : State S} {a : Expression} {h : Halt} → Reads p r s place a (Err h) → Reads p r s place (Size a) (Err h)
-  size_stops {a = a} {h = h} x = stops (Size a) a h _ refl x
-
-  size_goes : {S : Type 0} {r s : State S} {a : Expression} {v x : CodedValue} → Reads p r s place a (Ok v) → value_of (text_of p) x ≡ Int (int_wrap w32 (pos (size_of (value_of (text_of p) v)))) → Reads p r s place (Size a) (Ok x)
-  size_goes {a = a} {v = v} {x = x} y e = ends (Size a) a v x _ refl y _ refl e (plain_coded p x _ e refl)
-
-  -- the set without elements
-  pub empty_goes : {S : Type 0} {r : State S} {cs : List ℕ} → IsReady p r → cs ≡ [] → Reads p r r place Empty (Ok (coded.Nodes cs))
-  empty_goes {r = r} sound none = subst (λ ds. Reads p r r place Empty (Ok (coded.Nodes ds))) (sym none) (leaf (Nodes no_elements) sound refl refl (λ k d h. absurd (omega (arith, h))))
-
--- how many elements a set has, which is said for every system
-pub size_made : {S : Type 0} (system : System) {place : Place} {r s : State S} {a : Expression} {v x : Result CodedValue Halt} → Reads (program_of system) r s place a v
-    → Makes (λ w y. (k : System) → AreElements (program_of k) w → value_of (text_of (program_of k)) y ≡ Int (int_wrap w32 (pos (size_of (value_of (text_of (program_of k)) w))))) v x → Reads (program_of system) r s place (Size a) x
-size_made system {v = Ok v} {x = Ok x} y e = size_goes y (e system y.is.coded)
-size_made system {place = place} {r = r} {s = s} {a = a} {v = Err h} {x = Err i} y e = subst (λ j. Reads (program_of system) r s place (Size a) (Err j)) (sym e) (size_stops y)
-size_made system {v = Ok v} {x = Err i} y e = absurd e
-size_made system {v = Err h} {x = Ok x} y e = absurd e

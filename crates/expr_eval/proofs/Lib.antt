@@ -6,6 +6,7 @@ pub mod Given
 pub mod Going
 pub mod Growing
 pub mod Kept
+pub mod Lighter
 pub mod Names
 pub mod Over
 pub mod Plain

@@ -28,8 +28,8 @@ use Rattle.expr_eval.specs.declared.saved.Making.{Making}
 use Rattle.expr_eval.specs.declared.saved.Saved.{Saved}
 use Rattle.expr_eval.specs.declared.saved.Stand.{Stand}
 use Rattle.expr_eval.specs.Elements.{Rooms, element_in, elements_in, read_with}
-use Rattle.expr_eval.specs.Evaluating.{Answers, Given, Makes, MakesRoom, Stopped, is_over_form, place_in, place_kept, read_at, texts_in}
-use Rattle.expr_eval.specs.Reads.{Advances, GoesOver, IsStood, Reads, ReadsRange, ReadsStand, State, state}
+use Rattle.expr_eval.specs.Evaluating.{Answers, Given, Stopped, is_over_form, place_in, place_kept, read_at, texts_in, world_in}
+use Rattle.expr_eval.specs.Reads.{Advances, GoesOver, IsStood, Reads, ReadsStand, State, state}
 use Rattle.expr_eval.specs.Saved.{AreSaved, HasGone, IsFirst, IsGoing, IsRanged, IsTaken, Loses, Stands, begun, body_of, done, made, making_of, over, range_of, ranged}
 use Rattle.expr_eval.proofs.Forms.{advances_then, behind_value, part_err}
 use Rattle.expr_eval.proofs.Growing.{stands_more}
@@ -52,28 +52,6 @@ abbrev said_over : System → Place → Expression → Value → Demands Instanc
 said_over s place e v = over (making_of e) (ranged (world_of (program_of s)) e v) (read_with (program_of s) place (body_of e))
 
 module _ {S : Type 0} (s : System) {r t : State S} (place : Place) (e : Expression) (form : is_over_form e ≡ true) where
-  -- what its elements come from has no value
-  range_stops : {h : Halt} → Reads (program_of s) r t place (range_of e) (Err h) → ReadsRange s r t place e (Err h)
-  range_stops {h} a = record { kept = a.kept; is = subst (λ c. Answers (program_of s) t.told c (Err h)) (sym (over_part (program_of s) place e form)) (part_err (program_of s) t.told (read_at (program_of s) place (range_of e)) (said_over s place e) h a.is) }
-
-  -- it has one
-  range_goes : {v : CodedValue} {list : Elements} → Reads (program_of s) r t place (range_of e) (Ok v) → elements_in s list ≡ ranged (world_of (program_of s)) e (value_of (text_of (program_of s)) v) → ReadsRange s r t place e (Ok list)
-  range_goes {v} a are = record { kept = a.kept; is = record { value = value_of (text_of (program_of s)) v; demands = a.is.demands; ends = a.is.ends; are = are } }
-
-  -- by the answer to it
-  pub range_made : {v : Result CodedValue Halt} {list : Result Elements Halt} → Reads (program_of s) r t place (range_of e) v → Makes (λ w all. elements_in s all ≡ ranged (world_of (program_of s)) e (value_of (text_of (program_of s)) w)) v list → ReadsRange s r t place e list
-  range_made {v = Ok v} {list = Ok list} a are = range_goes a are
-  range_made {v = Ok v} {list = Err k} a are = absurd are
-  range_made {v = Err h} {list = Ok list} a are = absurd are
-  range_made {v = Err h} {list = Err k} a same = subst (λ j. ReadsRange s r t place e (Err j)) (sym same) (range_stops a)
-
-  -- or there is not enough memory
-  pub range_collected : {v : Result CodedValue Halt} {list : Result Elements Halt} → Reads (program_of s) r t place (range_of e) v → MakesRoom (λ w all. elements_in s all ≡ ranged (world_of (program_of s)) e (value_of (text_of (program_of s)) w)) v list → ReadsRange s r t place e list
-  range_collected {v = Ok v} {list = Ok list} a are = range_goes a are
-  range_collected {v = Ok v} {list = Err k} a none = subst (λ j. ReadsRange s r t place e (Err j)) (sym none) (record { kept = a.kept; is = tt })
-  range_collected {v = Err h} {list = Ok list} a are = absurd are
-  range_collected {v = Err h} {list = Err k} a same = subst (λ j. ReadsRange s r t place e (Err j)) (sym same) (range_stops a)
-
   -- all elements are done with
   pub over_ends : (x : CodedValue) {list : Elements} {stand : Stand} → Advances (program_of s) r t → IsRanged s t.told.has place e list → Stands s t.told.has place (making_of e) (body_of e) list stand → stand.next ≡ list.count → value_of (text_of (program_of s)) x ≡ value_of (text_of (program_of s)) stand.so_far → AreElements (program_of s) x → Reads (program_of s) r t place e (Ok x)
   over_ends x {list} {stand} kept range stands all same coded =
@@ -96,10 +74,6 @@ module _ {S : Type 0} (s : System) {r t : State S} (place : Place) (e : Expressi
         kept = kept;
         is = subst (λ c. Answers (program_of s) t.told c (Err (Need i))) (sym (over_part (program_of s) place e form)) (behind_value (program_of s) t.told (read_at (program_of s) place (range_of e)) range.value (said_over s place e) (Err (Need i)) range.ends (record { demands = whole.0; halts = halts; coded = stopped.coded }));
       }
-
--- a form that is kept so
-pub said_range : {S : Type 0} {s : System} {r t : State S} {place : Place} {a b : TExpr} {res : Result Elements Halt} → a ≡ b → ReadsRange s r t place (expression_of b) res → ReadsRange s r t place (expression_of a) res
-said_range {s = s} {r = r} {t = t} {place = place} {res = res} h a = subst (λ x. ReadsRange s r t place (expression_of x) res) (sym h) a
 
 -- what a form that is kept so makes, and what it says
 pub makes_by : {m : Making} {a b : TExpr} → m ≡ making_of (expression_of a) → a ≡ b → making_of (expression_of b) ≡ m
@@ -137,23 +111,24 @@ stands_begun {s} {A} {place} {m} {b} {list} stand none value coded =
       coded = coded;
     }
 
-pub first_stood : (c : Context) (e : Expression) (list : Result Elements Halt) (all : Elements) (stand : Stand) → list ≡ Ok all → IsFirst c e stand → MakesRoom (λ (x : Elements) (stood : Elements × Stand). (stood.0 ≡ x) × IsFirst c e stood.1) list (Ok (all, stand))
-first_stood c e list all stand same first = subst (λ (l : Result Elements Halt). MakesRoom (λ (x : Elements) (stood : Elements × Stand). (stood.0 ≡ x) × IsFirst c e stood.1) l (Ok (all, stand))) (sym same) (refl, first)
+-- what its elements come from has no value
+pub range_stops : {S : Type 0} (s : System) {r t : State S} (place : Place) (names : List CodedSingle) (e : Expression) {h : Halt} → is_over_form e ≡ true → Reads (program_of s) r t place (range_of e) (Err h) → ReadsStand s r t place names (making_of e) e (body_of e) (Err h)
+range_stops s {t = t} place names e {h = h} form a = record {
+  kept = a.kept;
+  is = subst (λ c. Answers (program_of s) t.told c (Err h)) (sym (over_part (program_of s) place e form)) (part_err (program_of s) t.told (read_at (program_of s) place (range_of e)) (said_over s place e) h a.is);
+}
 
 -- its elements are known, and it stands before the first of them
-pub stood_first : {S : Type 0} (c : Context) (e : Expression) {r t : State S} {list : Result Elements Halt} {res : Result (Elements × Stand) Halt} → ReadsRange c.system.now r t (place_in c) e list → MakesRoom (λ all stood. (stood.0 ≡ all) × IsFirst c e stood.1) list res
-    → ReadsStand c.system.now r t (place_in c) c.names.now (making_of e) e (body_of e) res
-stood_first c e {t = t} {list = Ok all} {res = Ok (l, stand)} a h = record {
+pub stood_first : {S : Type 0} (c : Context) (e : Expression) {r t : State S} {v : CodedValue} {stood : Elements × Stand} → Reads (program_of c.system.now) r t (place_in c) (range_of e) (Ok v) → elements_in c.system.now stood.0 ≡ ranged (world_in c.system.now) e (value_of (texts_in c.system.now) v)
+    → IsFirst c e stood.1 → ReadsStand c.system.now r t (place_in c) c.names.now (making_of e) e (body_of e) (Ok stood)
+stood_first c e {v = v} {stood = stood} a are first = record {
   kept = a.kept;
   is = record {
-    room = h.1.room;
-    ranged = subst (λ x. IsRanged c.system.now t.told.has (place_in c) e x) (sym h.0) a.is;
-    stands = stands_begun stand h.1.next h.1.so_far h.1.coded;
+    room = first.room;
+    ranged = record { value = value_of (texts_in c.system.now) v; demands = a.is.demands; ends = a.is.ends; are = are };
+    stands = stands_begun stood.1 first.next first.so_far first.coded;
   };
 }
-stood_first c e {r = r} {t = t} {list = Ok all} {res = Err k} a none = subst (λ j. ReadsStand c.system.now r t (place_in c) c.names.now (making_of e) e (body_of e) (Err j)) (sym none) (record { kept = a.kept; is = tt })
-stood_first c e {list = Err h} {res = Ok stood} a none = absurd none
-stood_first c e {r = r} {t = t} {list = Err h} {res = Err k} a same = subst (λ j. ReadsStand c.system.now r t (place_in c) c.names.now (making_of e) e (body_of e) (Err j)) (sym same) (record { kept = a.kept; is = a.is })
 
 -- the same names stand behind the first
 one_room : {names more all : List CodedSingle} → Rooms names all → Rooms more all → names ≡ more

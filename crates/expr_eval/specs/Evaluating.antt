@@ -2,7 +2,7 @@
 use Rattle.std.specs.Prelude.{◌≡◌, ℕ, Bool, true, false, List, [], ◌∷◌, Result, Ok, Err, map}
 use Rattle.rag_io.specs.declared.Memory.{Memory as NoMemory}
 use Rattle.attr_rules.specs.declared.kinds.Kind.{Kind}
-use Rattle.attr_rules.specs.Expression.{Arguments, Expression, argument, no_more, Empty, Quantified, QuantifiedSet, Each, EachOfSet, Sets, Single, Contains, Size, Not, Negate, Binary, And, Or, OrBoth, If, Child, Element, Count, Has, Token, Cast, InstanceOf}
+use Rattle.attr_rules.specs.Expression.{Arguments, Expression, argument, no_more, Quantified, QuantifiedSet, Each, EachOfSet}
 use Rattle.solutions.specs.Asking.{Demands, Ends, Halts}
 use Rattle.equation_law.specs.declared.coding.Args.{Args}
 use Rattle.equation_law.specs.declared.coding.Instance.{Instance as CodedInstance}
@@ -16,7 +16,7 @@ use Rattle.equation_law.specs.Names.{Instance}
 use Rattle.equation_law.specs.Program.{Program, attribute_parameters, text_of}
 use Rattle.equation_law.specs.Reading.{Grows, Told}
 use Rattle.equation_law.specs.Systems.{program_of}
-use Rattle.equation_law.specs.Values.{Value, as_arguments, node}
+use Rattle.equation_law.specs.Values.{Value, as_arguments}
 use Rattle.expr_eval.specs.declared.evaluation.Context.{Context}
 use Rattle.expr_eval.specs.declared.evaluation.Halt.{Halt}
 use Rattle.expr_eval.specs.declared.evaluation.Halt.TheVariants.{Need, Memory}
@@ -47,20 +47,6 @@ Answers p s c (Ok v) = Given p s c v
 Answers p s c (Err (Need i)) = Stopped p s c i
 Answers p s c (Err Memory) = Unit {0}
 
--- What is made of a value, if there is one; why there is none is handed on.
-abbrev pub Makes : {A T : Type 0} → (A → T → Type 0) → Result A Halt → Result T Halt → Type 0
-Makes P (Ok v) (Ok x) = P v x
-Makes P (Ok v) (Err k) = ⊥
-Makes P (Err h) (Ok x) = ⊥
-Makes P (Err h) (Err k) = k ≡ h
-
--- the same, where there may not be enough memory for it
-abbrev pub MakesRoom : {A T : Type 0} → (A → T → Type 0) → Result A Halt → Result T Halt → Type 0
-MakesRoom P (Ok v) (Ok x) = P v x
-MakesRoom P (Ok v) (Err k) = k ≡ Memory
-MakesRoom P (Err h) (Ok x) = ⊥
-MakesRoom P (Err h) (Err k) = k ≡ h
-
 -- what is demanded of an expression that is read at a place
 abbrev pub read_at : Program → Place → Expression → Demands Instance Value
 read_at p place e = meaning_of (world_of p) e place
@@ -77,10 +63,10 @@ pub record DemandReads {S : Type 0} (p : Program) (r s : Told S) (i : Instance) 
   pub kept : Grows p r s
   pub is : Answers p s (demand (kind_in p i) i) result
 
--- the answer to a call on a receiver with arguments, whatever values these have
-pub record CallReads {S : Type 0} (p : Program) (r s : Told S) (a : ℕ) (receiver : CodedValue) (xs : Args) (result : Result CodedValue Halt) : Type 0 where
+-- the answer to a call at a node, by its code, with arguments, whatever values these have
+pub record CallReads {S : Type 0} (p : Program) (r s : Told S) (a n : ℕ) (xs : Args) (result : Result CodedValue Halt) : Type 0 where
   pub kept : Grows p r s
-  pub is : (vs : List Value) → arguments_of p a xs ≡ as_arguments (attribute_parameters p a) vs → Answers p s (call_at (world_of p) a (node (value_of (text_of p) receiver)) vs) result
+  pub is : (vs : List Value) → arguments_of p a xs ≡ as_arguments (attribute_parameters p a) vs → Answers p s (call_at (world_of p) a (reference_of n) vs) result
 
 -- the arguments of a call come to these values, each of them in its turn
 pub data Collects (A : Instance → Value → Type 0) (W : World) (place : Place) : Arguments → List Value → Type 0 where
@@ -123,60 +109,3 @@ is_over_form (QuantifiedSet q e b) = true
 is_over_form (Each t k e b) = true
 is_over_form (EachOfSet t e b) = true
 is_over_form _ = false
-
--- a form of sets
-abbrev pub is_set_form : Expression → Bool
-is_set_form Empty = true
-is_set_form (Sets o t a b) = true
-is_set_form (Single e) = true
-is_set_form (Contains a b) = true
-is_set_form (Size e) = true
-is_set_form (QuantifiedSet q e b) = true
-is_set_form (Each t k e b) = true
-is_set_form (EachOfSet t e b) = true
-is_set_form _ = false
-
--- an operator with its operands, or a form of sets
-abbrev pub is_operation : Expression → Bool
-is_operation (Not e) = true
-is_operation (Negate e) = true
-is_operation (Binary o a b) = true
-is_operation (And a b) = true
-is_operation (Or a b) = true
-is_operation (OrBoth a b) = true
-is_operation (If c a at b) = true
-is_operation Empty = true
-is_operation (Sets o t a b) = true
-is_operation (Single e) = true
-is_operation (Contains a b) = true
-is_operation (Size e) = true
-is_operation (QuantifiedSet q e b) = true
-is_operation (Each t k e b) = true
-is_operation (EachOfSet t e b) = true
-is_operation _ = false
-
--- an accessor, a test of a class, an operator with its operands, or a form of sets
-abbrev pub is_accessor : Expression → Bool
-is_accessor (Child k e) = true
-is_accessor (Element k e place) = true
-is_accessor (Count k e) = true
-is_accessor (Has k e) = true
-is_accessor (Token t k e) = true
-is_accessor (Cast c e) = true
-is_accessor (InstanceOf c e) = true
-is_accessor (Not e) = true
-is_accessor (Negate e) = true
-is_accessor (Binary o a b) = true
-is_accessor (And a b) = true
-is_accessor (Or a b) = true
-is_accessor (OrBoth a b) = true
-is_accessor (If c a at b) = true
-is_accessor Empty = true
-is_accessor (Sets o t a b) = true
-is_accessor (Single e) = true
-is_accessor (Contains a b) = true
-is_accessor (Size e) = true
-is_accessor (QuantifiedSet q e b) = true
-is_accessor (Each t k e b) = true
-is_accessor (EachOfSet t e b) = true
-is_accessor _ = false

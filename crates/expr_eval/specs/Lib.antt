@@ -1,6 +1,7 @@
 pub mod Elements
 pub mod Evaluating
 pub mod Going
+pub mod Parts
 pub mod Reads
 pub mod Saved
 pub mod Sites

@@ -56,15 +56,6 @@ pub record ArgumentsRead {S : Type 0} (p : Program) (r s : State S) (place : Pla
   pub kept : Advances p r s
   pub is : AnswersArguments p s.told place ks es result
 
--- the elements of a form, or the first demand of what they come from that has no value
-abbrev pub AnswersRange : {S : Type 0} → System → Told S → Place → Expression → Result Elements Halt → Type 0
-AnswersRange s t place e (Ok list) = IsRanged s t.has place e list
-AnswersRange s t place e (Err h) = Answers (program_of s) t (read_at (program_of s) place e) (Err h)
-
-pub record ReadsRange {S : Type 0} (s : System) (r t : State S) (place : Place) (e : Expression) (result : Result Elements Halt) : Type 0 where
-  pub kept : Advances (program_of s) r t
-  pub is : AnswersRange s t.told place e result
-
 -- the elements of a form, and where it stands; there is room for one name more
 pub record IsStood (s : System) (A : Instance → Value → Type 0) (place : Place) (names : List CodedSingle) (m : Making) (e b : Expression) (list : Elements) (stand : Stand) : Type 0 where
   pub room : Rooms names stand.names.items

@@ -8,10 +8,9 @@ ghost use Rattle.equation_law.specs.Meaning.{cast_to, child_at as child_on, coun
 ghost use Rattle.equation_law.specs.Systems.{program_of};
 ghost use Rattle.equation_law.specs.Codes.{AreElements};
 ghost use Rattle.equation_law.specs.Program.{Program};
-ghost use Rattle.equation_law.specs.Values.{Int, Node, Truth, int, node};
-ghost use Rattle.expr_eval.specs.Evaluating.{Makes, texts_in, world_in};
+ghost use Rattle.equation_law.specs.Values.{Node};
+ghost use Rattle.expr_eval.specs.Evaluating.{texts_in, world_in};
 
-use crate::evaluation::Halt;
 use ast_grammar::ClassId;
 use attr_rules::Kind;
 use equation_law::{NodeRef, Single, System, Value};
@@ -65,57 +64,30 @@ fn code_at(tree: &Tree, node: u32, k: u32) -> Option<u32>
     Some(tree.token(node, k))
 }
 
-fn child_of(system: &System, k: u32, receiver: Value) -> NodeRef
-    ensures { reference_of result.0 ≡ child_on (world_in system.now) k (node (value_of (texts_in system.now) receiver)) }
+/// The child, or the optional child, of a receiver at a component, or null.
+pub(crate) fn child(system: &System, k: u32, receiver: NodeRef) -> NodeRef
+    ensures { reference_of result.0 ≡ child_on (world_in system.now) k (reference_of receiver.0) }
 {
-    match receiver.node().source() {
+    match receiver.source() {
         Some(node) => child_at(system.tree(), node, k, 0),
         None => NodeRef(0),
     }
 }
 
-/// The child, or the optional child, of a receiver at a component, or null.
-pub(crate) fn child(system: &System, k: u32, receiver: Result<Value, Halt>) -> Result<Value, Halt>
-    ensures { Makes (λ v x. value_of (texts_in system.now) x ≡ Node (child_on (world_in system.now) k (node (value_of (texts_in system.now) v)))) receiver result }
-{
-    match receiver {
-        Ok(receiver) => Ok(Value::Node(child_of(system, k, receiver))),
-        Err(halt) => Err(halt),
-    }
-}
-
 /// Whether a receiver has a child at a component; null has none.
-pub(crate) fn has(system: &System, k: u32, receiver: Result<Value, Halt>) -> Result<Value, Halt>
-    ensures { Makes (λ v x. value_of (texts_in system.now) x ≡ Truth (is_there (child_on (world_in system.now) k (node (value_of (texts_in system.now) v))))) receiver result }
+pub(crate) fn has(system: &System, k: u32, receiver: NodeRef) -> bool
+    ensures { result ≡ is_there (child_on (world_in system.now) k (reference_of receiver.0)) }
 {
-    match receiver {
-        Ok(receiver) => Ok(Value::Truth(child_of(system, k, receiver).source().is_some())),
-        Err(halt) => Err(halt),
-    }
+    child(system, k, receiver).source().is_some()
 }
 
 /// The element of a receiver's list at a place, or null where the list doesn't have that place.
-fn element_of(system: &System, k: u32, receiver: Value, place: Value) -> Value
-    ensures { value_of (texts_in system.now) result ≡ Node (element_on (world_in system.now) k (node (value_of (texts_in system.now) receiver)) (int (value_of (texts_in system.now) place))) }
+pub(crate) fn element(system: &System, k: u32, receiver: NodeRef, place: i32) -> NodeRef
+    ensures { reference_of result.0 ≡ element_on (world_in system.now) k (reference_of receiver.0) place }
 {
-    match (receiver.node().source(), u32::try_from(place.int())) {
-        (Some(node), Ok(place)) => Value::Node(child_at(system.tree(), node, k, place)),
-        _ => Value::Node(NodeRef(0)),
-    }
-}
-
-/// The same, where the place may have no value.
-pub(crate) fn element(
-    system: &System,
-    k: u32,
-    receiver: Value,
-    place: Result<Value, Halt>,
-) -> Result<Value, Halt>
-    ensures { Makes (λ v x. value_of (texts_in system.now) x ≡ Node (element_on (world_in system.now) k (node (value_of (texts_in system.now) receiver)) (int (value_of (texts_in system.now) v)))) place result }
-{
-    match place {
-        Ok(place) => Ok(element_of(system, k, receiver, place)),
-        Err(halt) => Err(halt),
+    match (receiver.source(), u32::try_from(place)) {
+        (Some(node), Ok(place)) => child_at(system.tree(), node, k, place),
+        _ => NodeRef(0),
     }
 }
 
@@ -185,11 +157,10 @@ impl Elements {
     ghost use Rattle.equation_law.specs.Values.{elements_of};
     ghost use Rattle.expr_eval.specs.Elements.{element_in, elements_in};
 
-    /// The list of a receiver at a component. Null has no elements.
-    pub(crate) fn of(system: &System, component: u32, receiver: Value) -> Elements
-        ensures { elements_in system.now result ≡ elements_on (world_in system.now) component (node (value_of (texts_in system.now) receiver)) }
+    /// The list of a node at a component. Null has no elements.
+    pub(crate) fn of(system: &System, component: u32, owner: NodeRef) -> Elements
+        ensures { elements_in system.now result ≡ elements_on (world_in system.now) component (reference_of owner.0) }
     {
-        let owner = receiver.node();
         let count = match owner.source() {
             Some(node) => count_at(system.tree(), node, component),
             None => 0,
@@ -201,11 +172,11 @@ impl Elements {
     }
 
     /// The elements of a set. What is no set has none.
-    pub(crate) fn of_set(alloc: Global, system: &System, set: Value) -> Result<Elements, Memory>
-        requires { AreElements (program_of system.now) set }
-        ensures { IfOk result (λ all. elements_in system.now all ≡ elements_of (value_of (texts_in system.now) set)) }
+    pub(crate) fn of_set(alloc: Global, system: &System, set: &Value) -> Result<Elements, Memory>
+        requires { AreElements (program_of system.now) set.now }
+        ensures { IfOk result (λ all. elements_in system.now all ≡ elements_of (value_of (texts_in system.now) set.now)) }
     {
-        let values = elements(alloc, system, &set)?;
+        let values = elements(alloc, system, set)?;
         let count = values.len();
         Ok(Elements {
             origin: Origin::Set(Singles { values }),
@@ -227,7 +198,7 @@ impl Elements {
 }
 
 /// Whether a node is of a class or below.
-fn is_of(system: &System, class: ClassId, node: NodeRef) -> bool
+pub(crate) fn is_of(system: &System, class: ClassId, node: NodeRef) -> bool
     ensures { result ≡ is_instance (world_in system.now) class (reference_of node.0) }
 {
     let tree = system.tree();
@@ -238,7 +209,7 @@ fn is_of(system: &System, class: ClassId, node: NodeRef) -> bool
 }
 
 /// The node where it is of a class or below, or null.
-fn cast_of(system: &System, class: ClassId, node: NodeRef) -> NodeRef
+pub(crate) fn cast(system: &System, class: ClassId, node: NodeRef) -> NodeRef
     ensures { reference_of result.0 ≡ cast_to (world_in system.now) class (reference_of node.0) }
 {
     if is_of(system, class, node) {
@@ -248,51 +219,13 @@ fn cast_of(system: &System, class: ClassId, node: NodeRef) -> NodeRef
     }
 }
 
-/// The receiver where it is of a class or below, or null.
-pub(crate) fn cast(
-    system: &System,
-    class: ClassId,
-    receiver: Result<Value, Halt>,
-) -> Result<Value, Halt>
-    ensures { Makes (λ v x. value_of (texts_in system.now) x ≡ Node (cast_to (world_in system.now) class (node (value_of (texts_in system.now) v)))) receiver result }
-{
-    match receiver {
-        Ok(receiver) => Ok(Value::Node(cast_of(system, class, receiver.node()))),
-        Err(halt) => Err(halt),
-    }
-}
-
-/// Whether a receiver is a node of a class or below.
-pub(crate) fn is_instance(
-    system: &System,
-    class: ClassId,
-    receiver: Result<Value, Halt>,
-) -> Result<Value, Halt>
-    ensures { Makes (λ v x. value_of (texts_in system.now) x ≡ Truth (is_instance (world_in system.now) class (node (value_of (texts_in system.now) v)))) receiver result }
-{
-    match receiver {
-        Ok(receiver) => Ok(Value::Truth(is_of(system, class, receiver.node()))),
-        Err(halt) => Err(halt),
-    }
-}
-
 /// How many elements a receiver's list has; on null there are none.
-fn count_of(system: &System, k: u32, receiver: Value) -> i32
-    ensures { result ≡ count_on (world_in system.now) k (node (value_of (texts_in system.now) receiver)) }
+pub(crate) fn count(system: &System, k: u32, receiver: NodeRef) -> i32
+    ensures { result ≡ count_on (world_in system.now) k (reference_of receiver.0) }
 {
-    match receiver.node().source() {
+    match receiver.source() {
         Some(node) => count_at(system.tree(), node, k).cast_signed(),
         None => 0,
-    }
-}
-
-/// How many elements a receiver's list has, as a value.
-pub(crate) fn count(system: &System, k: u32, receiver: Result<Value, Halt>) -> Result<Value, Halt>
-    ensures { Makes (λ v x. value_of (texts_in system.now) x ≡ Int (count_on (world_in system.now) k (node (value_of (texts_in system.now) v)))) receiver result }
-{
-    match receiver {
-        Ok(receiver) => Ok(Value::Int(count_of(system, k, receiver))),
-        Err(halt) => Err(halt),
     }
 }
 
@@ -308,28 +241,12 @@ fn decoded(alloc: Global, kind: Kind, code: Option<u32>) -> Value
 }
 
 /// The token of a receiver at a component, read at a type; on null it is the type's default.
-fn token_of(alloc: Global, system: &System, kind: Kind, k: u32, receiver: Value) -> Value
-    ensures value { value_of (texts_in system.now) result ≡ token_on (world_in system.now) kind k (node (value_of (texts_in system.now) receiver)) }
+pub(crate) fn token(alloc: Global, system: &System, kind: Kind, k: u32, receiver: NodeRef) -> Value
+    ensures value { value_of (texts_in system.now) result ≡ token_on (world_in system.now) kind k (reference_of receiver.0) }
     ensures coded { (p : Program) → AreElements p result }
 {
-    match receiver.node().source() {
+    match receiver.source() {
         None => Value::default_of(alloc, kind),
         Some(node) => decoded(alloc, kind, code_at(system.tree(), node, k)),
-    }
-}
-
-/// The same, where the receiver may have no value.
-pub(crate) fn token(
-    alloc: Global,
-    system: &System,
-    kind: Kind,
-    k: u32,
-    receiver: Result<Value, Halt>,
-) -> Result<Value, Halt>
-    ensures { Makes (λ v x. (value_of (texts_in system.now) x ≡ token_on (world_in system.now) kind k (node (value_of (texts_in system.now) v))) × ((p : Program) → AreElements p x)) receiver result }
-{
-    match receiver {
-        Ok(receiver) => Ok(token_of(alloc, system, kind, k, receiver)),
-        Err(halt) => Err(halt),
     }
 }

@@ -4,27 +4,24 @@ ghost use Rattle.attr_rules.specs.Expression.{arguments_of, expression_of};
 ghost use Rattle.attr_rules.specs.Types.{parameter_kinds, text_kind};
 ghost use Rattle.equation_law.specs.Codes.{AreCodes, AreElements, IsCode, IsCoded, IsRow, codes_in, instance_of, single_of, value_at, value_of};
 ghost use Rattle.equation_law.specs.Equations.{attribute_kind as kind_of};
-ghost use Rattle.equation_law.specs.Meaning.{elements_at, named, with_name};
+ghost use Rattle.equation_law.specs.Meaning.{with_name};
 ghost use Rattle.equation_law.specs.Program.{Program, attribute_parameters};
 ghost use Rattle.equation_law.specs.Reading.{IsSound};
-ghost use Rattle.equation_law.specs.Values.{Int, Truth, as_argument, contains as is_in, elements_of, node, set_operate as set_operated, single as set_of, size_of, truth};
-ghost use Rattle.equation_law.specs.declared.system.System.{System as KeptSystem};
-ghost use Rattle.std.specs.Int.{int_wrap};
-ghost use mir.Syntax.{w32};
+ghost use Rattle.equation_law.specs.Values.{as_argument, set_operate as set_operated, truth};
 ghost use Rattle.equation_law.specs.Systems.{program_of};
 ghost use Rattle.expr_eval.specs.Elements.{Rooms, elements_in};
-ghost use Rattle.expr_eval.specs.Evaluating.{CallReads, DemandReads, Makes, MakesRoom, is_accessor, is_operation, is_over_form, is_set_form, place_in, texts_in, world_in};
-ghost use Rattle.expr_eval.specs.Reads.{ArgumentsRead, GoesOver, IsReady, Reads, ReadsRange, ReadsStand, state};
-ghost use Rattle.expr_eval.specs.Saved.{IsFirst, Stands, begun as begun_with, body_of, done as done_with, made as made_of, making_of as makes};
+ghost use Rattle.expr_eval.specs.Evaluating.{CallReads, DemandReads, is_over_form, place_in, texts_in, world_in};
+ghost use Rattle.expr_eval.specs.Parts.{IsRounded, IsSaid, is_further};
+ghost use Rattle.expr_eval.specs.Reads.{ArgumentsRead, GoesOver, IsReady, Reads, ReadsStand, state};
+ghost use Rattle.expr_eval.specs.Saved.{IsFirst, Stands, begun as begun_with, body_of, done as done_with, made as made_of, making_of as makes, range_of, ranged};
 
-use crate::accessors::{Elements, cast, child, count, element, has, is_instance, source, token};
-use crate::operators::{deny, either, is_true, negate, operate, truth_of};
+use crate::accessors::Elements;
+use crate::parts::{Parts, make_both, make_whole, parts_of, put_leaf};
 use crate::saved::{Making, Saved, Stand, making_of};
 use attr_rules::{AttrId, Kind, Params, Quantifier, SetOperator, TArgs, TExpr};
-use code_sets::Codes;
 use equation_law::{Args, Code, Instance, NodeRef, Reader, Single, System, Value};
 use rag_io::Memory;
-use set_values::{contains, set_operate, single_set, size};
+use set_values::set_operate;
 use std::alloc::Global;
 use std::mem;
 
@@ -70,20 +67,21 @@ pub(crate) fn attribute_kind(system: &System, attribute: AttrId) -> Kind
     }
 }
 
-/// An instance's value, read at its type.
+/// Puts an instance's value, read at its type, in place.
 fn demand<R: Reader>(
     context: &Context<'_>,
     instance: Instance,
     reader: &mut R,
-) -> Result<Value, Halt>
+    came: &mut Result<Value, Halt>,
+)
     requires sound { IsSound (program_of context.now.system.now) (R.tells reader.old) }
     requires coded { IsCoded (program_of context.now.system.now) instance }
-    ensures { DemandReads (program_of context.now.system.now) (R.tells reader.old) (R.tells reader.new) (instance_of (program_of context.now.system.now) instance) result }
+    ensures { DemandReads (program_of context.now.system.now) (R.tells reader.old) (R.tells reader.new) (instance_of (program_of context.now.system.now) instance) came.new }
 {
     match reader.settled(context.alloc, &instance) {
-        Ok(Some(value)) => Ok(value),
-        Ok(None) => Err(Halt::Need(instance)),
-        Err(_) => Err(Halt::Memory),
+        Ok(Some(value)) => *came = Ok(value),
+        Ok(None) => *came = Err(Halt::Need(instance)),
+        Err(_) => *came = Err(Halt::Memory),
     }
 }
 
@@ -152,7 +150,9 @@ fn given<'a, R: Reader>(
     match arguments {
         TArgs::End => Ok(Args::none()),
         TArgs::More(first, rest) => {
-            let value = meaning(context, first, reader, saved)?;
+            let mut came = Err(Halt::Memory);
+            meaning(context, first, reader, saved, &mut came);
+            let value = came?;
             let behind = given(context, parameters.rest(), rest, reader, saved)?;
             Ok(match parameters.first_kind() {
                 Some(kind) => behind.behind(argument_code(context.system, kind, value)),
@@ -162,35 +162,26 @@ fn given<'a, R: Reader>(
     }
 }
 
-/// A call on a receiver with arguments: the instance's value, and on null the default of the attribute's type.
+/// A call at a node with arguments: the instance's value, and on null the default of the attribute's type.
 fn call<R: Reader>(
     context: &Context<'_>,
     attr: AttrId,
-    receiver: Value,
+    node: NodeRef,
     args: Args,
     reader: &mut R,
-) -> Result<Value, Halt>
+    came: &mut Result<Value, Halt>,
+)
     requires sound { IsSound (program_of context.now.system.now) (R.tells reader.old) }
     requires row { IsRow args }
     requires codes { AreCodes (program_of context.now.system.now) (attribute_parameters (program_of context.now.system.now) attr.0) (codes_in args) }
-    ensures { CallReads (program_of context.now.system.now) (R.tells reader.old) (R.tells reader.new) attr.0 receiver args result }
+    ensures { CallReads (program_of context.now.system.now) (R.tells reader.old) (R.tells reader.new) attr.0 node.0 args came.new }
 {
-    let node = receiver.node();
     if node == NodeRef(0) {
         let kind = attribute_kind(context.system, attr);
-        return Ok(Value::default_of(context.alloc, kind));
+        *came = Ok(Value::default_of(context.alloc, kind));
+        return;
     }
-    demand(context, Instance::Attr { attr, node, args }, reader)
-}
-
-/// The value of a name by its number.
-fn variable(context: &Context<'_>, number: usize) -> Value
-    ensures { value_of (texts_in context.now.system.now) result ≡ named (place_in context.now).names number }
-{
-    match context.names.get(number) {
-        Some(value) => Value::from(*value),
-        None => Value::Node(NodeRef(0)),
-    }
+    demand(context, Instance::Attr { attr, node, args }, reader, came);
 }
 
 /// The names with room for one more in front.
@@ -232,36 +223,48 @@ fn combined(
     set_operate(context.alloc, operator, kind, left, right)
 }
 
-/// The element where the condition is true, or the value before it.
-fn chosen(element: Single, so_far: Value, said: &Value) -> Value
-    ensures value { (texts : ℕ → List ℕ) → value_of texts result ≡ cond (truth (value_of texts said.now)) (single_of texts element) (value_of texts so_far) }
-    ensures coded { (p : Program) → AreElements p so_far → AreElements p result }
+/// Puts an element in the place of a value.
+fn put_element(place: &mut Value, element: Single)
+    ensures value { (texts : ℕ → List ℕ) → value_of texts place.new ≡ single_of texts element }
+    ensures coded { (p : Program) → AreElements p place.new }
 {
-    if said.truth() {
-        Value::from(element)
-    } else {
-        so_far
-    }
+    *place = Value::from(element);
 }
 
-/// The value behind an element, from the one before it and what is said there.
-fn made(
+/// Puts the value behind an element in the place of the one before it, by what is said there.
+fn put_in(
     context: &Context<'_>,
     making: Making,
     element: Single,
-    so_far: Value,
+    so_far: &mut Value,
     said: Value,
-) -> Result<Value, Memory>
-    requires so_far { AreElements (program_of context.now.system.now) so_far }
+) -> Result<(), Memory>
+    requires so_far { AreElements (program_of context.now.system.now) so_far.old }
     requires said { AreElements (program_of context.now.system.now) said }
-    ensures value { IfOk result (λ value. value_of (texts_in context.now.system.now) value ≡ made_of making (single_of (texts_in context.now.system.now) element) (value_of (texts_in context.now.system.now) so_far) (value_of (texts_in context.now.system.now) said)) }
-    ensures coded { IfOk result (AreElements (program_of context.now.system.now)) }
+    ensures value { OnOk result (value_of (texts_in context.now.system.now) so_far.new ≡ made_of making (single_of (texts_in context.now.system.now) element) (value_of (texts_in context.now.system.now) so_far.old) (value_of (texts_in context.now.system.now) said)) }
+    ensures coded { OnOk result (AreElements (program_of context.now.system.now) so_far.new) }
 {
     match making {
-        Making::Tests(Quantifier::Any) => Ok(Value::Truth(so_far.truth() || said.truth())),
-        Making::Tests(Quantifier::All) => Ok(Value::Truth(so_far.truth() && said.truth())),
-        Making::Tests(Quantifier::First) => Ok(chosen(element, so_far, &said)),
-        Making::Joins(kind) => combined(context, SetOperator::Union, kind, so_far, said),
+        Making::Tests(Quantifier::Any) => {
+            *so_far = Value::Truth(so_far.truth() || said.truth());
+            Ok(())
+        }
+        Making::Tests(Quantifier::All) => {
+            *so_far = Value::Truth(so_far.truth() && said.truth());
+            Ok(())
+        }
+        Making::Tests(Quantifier::First) => {
+            if said.truth() {
+                put_element(so_far, element);
+                return Ok(());
+            }
+            Ok(())
+        }
+        Making::Joins(kind) => {
+            let before = mem::replace(so_far, Value::Truth(false));
+            *so_far = combined(context, SetOperator::Union, kind, before, said)?;
+            Ok(())
+        }
     }
 }
 
@@ -294,9 +297,7 @@ fn take_in(
     ensures coded { OnOk result (AreElements (program_of context.now.system.now) stand.new.so_far) }
 {
     stand.next = done(making, list.count, stand.next, &said);
-    let so_far = mem::replace(&mut stand.so_far, Value::Truth(false));
-    stand.so_far = made(context, making, element, so_far, said)?;
-    Ok(())
+    put_in(context, making, element, &mut stand.so_far, said)
 }
 
 /// What an expression says at an element, which stands in front of the names.
@@ -308,11 +309,12 @@ fn with_element<'a, R: Reader>(
     body: &'a TExpr,
     reader: &mut R,
     saved: &mut Saved<'a>,
-) -> Result<Value, Halt>
+    came: &mut Result<Value, Halt>,
+)
     requires ready { IsReady (program_of context.now.system.now) (state context.now.system.now (R.tells reader.old) saved.old) }
     requires room { Rooms context.now.names.now names.old.items }
     ensures room { Rooms context.now.names.now names.new.items }
-    ensures reads { Reads (program_of context.now.system.now) (state context.now.system.now (R.tells reader.old) saved.old) (state context.now.system.now (R.tells reader.new) saved.new) (with_name (place_in context.now) (single_of (texts_in context.now.system.now) element)) (expression_of body.now) result }
+    ensures reads { Reads (program_of context.now.system.now) (state context.now.system.now (R.tells reader.old) saved.old) (state context.now.system.now (R.tells reader.new) saved.new) (with_name (place_in context.now) (single_of (texts_in context.now.system.now) element)) (expression_of body.now) came.new }
 {
     names[0] = element;
     let inner = Context {
@@ -321,7 +323,7 @@ fn with_element<'a, R: Reader>(
         this: context.this,
         names,
     };
-    meaning(&inner, body, reader, saved)
+    meaning(&inner, body, reader, saved, came);
 }
 
 /// Goes over the elements that are left. What is saved of forms in the body is let go of behind each of them.
@@ -343,125 +345,57 @@ fn at_elements<'a, R: Reader>(
 {
     'elements: while stand.next < list.count {
         let element = list.get(context.system, stand.next);
-        let said = with_element(context, &mut stand.names, element, body, reader, saved)?;
+        let mut came = Err(Halt::Memory);
+        with_element(
+            context,
+            &mut stand.names,
+            element,
+            body,
+            reader,
+            saved,
+            &mut came,
+        );
+        let said = came?;
         take_in(context, making, list, element, said, stand)?;
         saved.leave(context.names.len());
     }
     Ok(())
 }
 
-/// Goes over the elements of a form that are left.
-#[cycle(meaning)]
-fn go_over<'a, R: Reader>(
-    context: &Context<'_>,
-    form: &'a TExpr,
-    list: &Elements,
-    stand: &mut Stand,
-    reader: &mut R,
-    saved: &mut Saved<'a>,
-) -> Result<(), Halt>
-    requires ready { IsReady (program_of context.now.system.now) (state context.now.system.now (R.tells reader.old) saved.old) }
+/// The elements of a form, from the value that they come from.
+fn elements_of(context: &Context<'_>, form: &TExpr, from: &Value) -> Result<Elements, Memory>
     requires form { is_over_form (expression_of form.now) ≡ true }
-    requires room { Rooms context.now.names.now stand.old.names.items }
-    requires stands { Stands context.now.system.now (R.tells reader.old).has (place_in context.now) (makes (expression_of form.now)) (body_of (expression_of form.now)) list.now stand.old }
-    ensures room { Rooms context.now.names.now stand.new.names.items }
-    ensures over { GoesOver context.now.system.now (state context.now.system.now (R.tells reader.old) saved.old) (state context.now.system.now (R.tells reader.new) saved.new) (place_in context.now) (makes (expression_of form.now)) (body_of (expression_of form.now)) list.now stand.new result }
+    requires from { AreElements (program_of context.now.system.now) from.now }
+    ensures { IfOk result (λ list. elements_in context.now.system.now list ≡ ranged (world_in context.now.system.now) (expression_of form.now) (value_of (texts_in context.now.system.now) from.now)) }
 {
-    let making = making_of(form);
     match form {
-        TExpr::Quantified(_, _, _, body) => {
-            at_elements(context, making, list, stand, body, reader, saved)
+        TExpr::Quantified(_, k, _, _) => Ok(Elements::of(context.system, *k, from.node())),
+        TExpr::Each(_, k, _, _) => Ok(Elements::of(context.system, *k, from.node())),
+        TExpr::QuantifiedSet(_, _, _) | TExpr::EachOfSet(_, _, _) => {
+            Elements::of_set(context.alloc, context.system, from)
         }
-        TExpr::QuantifiedSet(_, _, body) => {
-            at_elements(context, making, list, stand, body, reader, saved)
-        }
-        TExpr::Each(_, _, _, body) => {
-            at_elements(context, making, list, stand, body, reader, saved)
-        }
-        TExpr::EachOfSet(_, _, body) => {
-            at_elements(context, making, list, stand, body, reader, saved)
-        }
-        _ => unreachable!(),
-    }
-}
-
-/// The list of a receiver at a component.
-fn listed(system: &System, component: u32, receiver: Result<Value, Halt>) -> Result<Elements, Halt>
-    ensures { Makes (λ v all. elements_in system.now all ≡ elements_at (world_in system.now) component (node (value_of (texts_in system.now) v))) receiver result }
-{
-    match receiver {
-        Ok(receiver) => Ok(Elements::of(system, component, receiver)),
-        Err(halt) => Err(halt),
-    }
-}
-
-/// The elements of a set.
-fn collected(context: &Context<'_>, set: Result<Value, Halt>) -> Result<Elements, Halt>
-    requires { IfOk set (AreElements (program_of context.now.system.now)) }
-    ensures { MakesRoom (λ v all. elements_in context.now.system.now all ≡ elements_of (value_of (texts_in context.now.system.now) v)) set result }
-{
-    match set {
-        Ok(set) => match Elements::of_set(context.alloc, context.system, set) {
-            Ok(list) => Ok(list),
-            Err(_) => Err(Halt::Memory),
-        },
-        Err(halt) => Err(halt),
-    }
-}
-
-/// The elements that a form goes over.
-#[cycle(meaning)]
-fn ranged<'a, R: Reader>(
-    context: &Context<'_>,
-    form: &'a TExpr,
-    reader: &mut R,
-    saved: &mut Saved<'a>,
-) -> Result<Elements, Halt>
-    requires ready { IsReady (program_of context.now.system.now) (state context.now.system.now (R.tells reader.old) saved.old) }
-    requires form { is_over_form (expression_of form.now) ≡ true }
-    ensures { ReadsRange context.now.system.now (state context.now.system.now (R.tells reader.old) saved.old) (state context.now.system.now (R.tells reader.new) saved.new) (place_in context.now) (expression_of form.now) result }
-{
-    let system = context.system;
-    match form {
-        TExpr::Quantified(_, k, receiver, _) => {
-            listed(system, *k, meaning(context, receiver, reader, saved))
-        }
-        TExpr::Each(_, k, receiver, _) => {
-            listed(system, *k, meaning(context, receiver, reader, saved))
-        }
-        TExpr::QuantifiedSet(_, set, _) => {
-            collected(context, meaning(context, set, reader, saved))
-        }
-        TExpr::EachOfSet(_, set, _) => { collected(context, meaning(context, set, reader, saved)) }
         _ => unreachable!(),
     }
 }
 
 /// The elements of a form, which stands before the first.
-fn at_first(
-    context: &Context<'_>,
-    form: &TExpr,
-    list: Result<Elements, Halt>,
-) -> Result<(Elements, Stand), Halt>
-    ensures { MakesRoom (λ all stood. (stood.0 ≡ all) × IsFirst context.now (expression_of form.now) stood.1) list result }
+fn at_first(context: &Context<'_>, form: &TExpr, from: &Value) -> Result<(Elements, Stand), Memory>
+    requires form { is_over_form (expression_of form.now) ≡ true }
+    requires from { AreElements (program_of context.now.system.now) from.now }
+    ensures elements { IfOk result (λ stood. elements_in context.now.system.now stood.0 ≡ ranged (world_in context.now.system.now) (expression_of form.now) (value_of (texts_in context.now.system.now) from.now)) }
+    ensures first { IfOk result (λ stood. IsFirst context.now (expression_of form.now) stood.1) }
 {
-    match list {
-        Ok(list) => match with_room(context) {
-            Ok(names) => {
-                let so_far = begun(context.alloc, making_of(form));
-                Ok((
-                    list,
-                    Stand {
-                        names,
-                        next: 0,
-                        so_far,
-                    },
-                ))
-            }
-            Err(_) => Err(Halt::Memory),
+    let list = elements_of(context, form, from)?;
+    let names = with_room(context)?;
+    let so_far = begun(context.alloc, making_of(form));
+    Ok((
+        list,
+        Stand {
+            names,
+            next: 0,
+            so_far,
         },
-        Err(halt) => Err(halt),
-    }
+    ))
 }
 
 /// The elements of a form, and where it stands: where that is saved, or before the first.
@@ -469,33 +403,53 @@ fn at_first(
 fn standing<'a, R: Reader>(
     context: &Context<'_>,
     form: &'a TExpr,
+    range: &'a TExpr,
     reader: &mut R,
     saved: &mut Saved<'a>,
 ) -> Result<(Elements, Stand), Halt>
     requires ready { IsReady (program_of context.now.system.now) (state context.now.system.now (R.tells reader.old) saved.old) }
     requires form { is_over_form (expression_of form.now) ≡ true }
+    requires range { range_of (expression_of form.now) ≡ expression_of range.now }
     ensures { ReadsStand context.now.system.now (state context.now.system.now (R.tells reader.old) saved.old) (state context.now.system.now (R.tells reader.new) saved.new) (place_in context.now) context.now.names.now (makes (expression_of form.now)) (expression_of form.now) (body_of (expression_of form.now)) result }
 {
     match saved.take(context, form) {
         Some(found) => Ok(found),
-        None => at_first(context, form, ranged(context, form, reader, saved)),
+        None => {
+            let mut came = Err(Halt::Memory);
+            meaning(context, range, reader, saved, &mut came);
+            let from = came?;
+            Ok(at_first(context, form, &from)?)
+        }
     }
 }
 
 /// The value of a form over elements, which goes on where it stood. Where it stands then is saved.
 #[cycle(meaning)]
+#[inline(never)]
 fn over_form<'a, R: Reader>(
     context: &Context<'_>,
     form: &'a TExpr,
+    range: &'a TExpr,
+    body: &'a TExpr,
     reader: &mut R,
     saved: &mut Saved<'a>,
 ) -> Result<Value, Halt>
     requires ready { IsReady (program_of context.now.system.now) (state context.now.system.now (R.tells reader.old) saved.old) }
     requires form { is_over_form (expression_of form.now) ≡ true }
+    requires range { range_of (expression_of form.now) ≡ expression_of range.now }
+    requires body { body_of (expression_of form.now) ≡ expression_of body.now }
     ensures { Reads (program_of context.now.system.now) (state context.now.system.now (R.tells reader.old) saved.old) (state context.now.system.now (R.tells reader.new) saved.new) (place_in context.now) (expression_of form.now) result }
 {
-    let (list, mut stand) = standing(context, form, reader, saved)?;
-    match go_over(context, form, &list, &mut stand, reader, saved) {
+    let (list, mut stand) = standing(context, form, range, reader, saved)?;
+    match at_elements(
+        context,
+        making_of(form),
+        &list,
+        &mut stand,
+        body,
+        reader,
+        saved,
+    ) {
         Ok(()) => {
             let value = stand.so_far.copy()?;
             saved.put(form, context.this, list, stand)?;
@@ -509,211 +463,122 @@ fn over_form<'a, R: Reader>(
     }
 }
 
-/// The value of an operator's form.
+/// The truth value of what came, if a value did.
+fn round(came: &mut Result<Value, Halt>)
+    ensures { IsRounded came.old came.new }
+{
+    match came {
+        Ok(value) => *value = Value::Truth(value.truth()),
+        Err(_) => {}
+    }
+}
+
+/// The truth value that came, if a value did.
+fn said(came: &Result<Value, Halt>) -> Option<bool>
+    ensures { IsSaid came.now result }
+{
+    match came {
+        Ok(value) => Some(value.truth()),
+        Err(_) => None,
+    }
+}
+
+/// Puts the value of a call, or of a form in which a condition chooses what is evaluated, in place.
 #[cycle(meaning)]
-fn operation<'a, R: Reader>(
+#[inline(never)]
+fn further<'a, R: Reader>(
     context: &Context<'_>,
-    expression: &'a TExpr,
+    form: &'a TExpr,
     reader: &mut R,
     saved: &mut Saved<'a>,
-) -> Result<Value, Halt>
+    came: &mut Result<Value, Halt>,
+)
     requires ready { IsReady (program_of context.now.system.now) (state context.now.system.now (R.tells reader.old) saved.old) }
-    requires operation { is_operation (expression_of expression.now) ≡ true }
-    ensures { Reads (program_of context.now.system.now) (state context.now.system.now (R.tells reader.old) saved.old) (state context.now.system.now (R.tells reader.new) saved.new) (place_in context.now) (expression_of expression.now) result }
+    requires further { is_further (expression_of form.now) ≡ true }
+    ensures { Reads (program_of context.now.system.now) (state context.now.system.now (R.tells reader.old) saved.old) (state context.now.system.now (R.tells reader.new) saved.new) (place_in context.now) (expression_of form.now) came.new }
 {
-    let system = context.system;
-    match expression {
-        TExpr::Not(operand) => deny(meaning(context, operand, reader, saved)),
-        TExpr::Negate(operand) => negate(meaning(context, operand, reader, saved)),
-        TExpr::Binary(operator, left, right) => {
-            let left = meaning(context, left, reader, saved)?;
-            let right = meaning(context, right, reader, saved);
-            operate(system, *operator, left, right)
+    match form {
+        TExpr::Call(called, _, receiver, arguments) => {
+            meaning(context, receiver, reader, saved, came);
+            match came {
+                Ok(receiver) => {
+                    let node = receiver.node();
+                    let wanted = parameters(context.system, *called);
+                    match given(context, wanted, arguments, reader, saved) {
+                        Ok(args) => call(context, *called, node, args, reader, came),
+                        Err(halt) => *came = Err(halt),
+                    }
+                }
+                Err(_) => {}
+            }
         }
         TExpr::And(left, right) => {
-            if is_true(meaning(context, left, reader, saved)?) {
-                truth_of(meaning(context, right, reader, saved))
-            } else {
-                Ok(Value::Truth(false))
+            meaning(context, left, reader, saved, came);
+            match said(came) {
+                Some(true) => {
+                    meaning(context, right, reader, saved, came);
+                    round(came);
+                }
+                Some(false) => *came = Ok(Value::Truth(false)),
+                None => {}
             }
         }
         TExpr::Or(left, right) => {
-            if is_true(meaning(context, left, reader, saved)?) {
-                Ok(Value::Truth(true))
-            } else {
-                truth_of(meaning(context, right, reader, saved))
+            meaning(context, left, reader, saved, came);
+            match said(came) {
+                Some(true) => *came = Ok(Value::Truth(true)),
+                Some(false) => {
+                    meaning(context, right, reader, saved, came);
+                    round(came);
+                }
+                None => {}
             }
         }
-        TExpr::OrBoth(left, right) => {
-            let left = is_true(meaning(context, left, reader, saved)?);
-            either(left, meaning(context, right, reader, saved))
-        }
         TExpr::If(condition, then, _, otherwise) => {
-            let holds = is_true(meaning(context, condition, reader, saved)?);
-            meaning(context, if holds { then } else { otherwise }, reader, saved)
+            meaning(context, condition, reader, saved, came);
+            match said(came) {
+                Some(true) => meaning(context, then, reader, saved, came),
+                Some(false) => meaning(context, otherwise, reader, saved, came),
+                None => {}
+            }
         }
-        _ => set_form(context, expression, reader, saved),
+        _ => unreachable!(),
     }
 }
 
-/// What is made of two sets, of which the right one may have no value.
-fn joined(
-    context: &Context<'_>,
-    operator: SetOperator,
-    kind: Kind,
-    left: Value,
-    right: Result<Value, Halt>,
-) -> Result<Value, Halt>
-    requires left { AreElements (program_of context.now.system.now) left }
-    requires right { IfOk right (AreElements (program_of context.now.system.now)) }
-    ensures { MakesRoom (λ v x. (value_of (texts_in context.now.system.now) x ≡ set_operated operator kind (value_of (texts_in context.now.system.now) left) (value_of (texts_in context.now.system.now) v)) × AreElements (program_of context.now.system.now) x) right result }
-{
-    match right {
-        Ok(right) => match combined(context, operator, kind, left, right) {
-            Ok(made) => Ok(made),
-            Err(_) => Err(Halt::Memory),
-        },
-        Err(halt) => Err(halt),
-    }
-}
-
-/// The set of one element.
-fn single(context: &Context<'_>, element: Result<Value, Halt>) -> Result<Value, Halt>
-    ensures { MakesRoom (λ v x. (value_of (texts_in context.now.system.now) x ≡ set_of (value_of (texts_in context.now.system.now) v)) × AreElements (program_of context.now.system.now) x) element result }
-{
-    match element {
-        Ok(element) => match single_set(context.alloc, context.system, &element) {
-            Ok(made) => Ok(made),
-            Err(_) => Err(Halt::Memory),
-        },
-        Err(halt) => Err(halt),
-    }
-}
-
-/// Whether a set has an element.
-fn contained(system: &System, set: &Value, element: Result<Value, Halt>) -> Result<Value, Halt>
-    requires { AreElements (program_of system.now) set.now }
-    ensures { Makes (λ v x. value_of (texts_in system.now) x ≡ Truth (is_in (value_of (texts_in system.now) set.now) (value_of (texts_in system.now) v))) element result }
-{
-    match element {
-        Ok(element) => Ok(Value::Truth(contains(system, set, &element))),
-        Err(halt) => Err(halt),
-    }
-}
-
-/// How many elements a set has.
-fn counted(set: Result<Value, Halt>) -> Result<Value, Halt>
-    ensures { Makes (λ v x. (system : KeptSystem) → AreElements (program_of system) v → value_of (texts_in system) x ≡ Int (int_wrap w32 (pos (size_of (value_of (texts_in system) v))))) set result }
-{
-    match set {
-        Ok(set) => Ok(Value::Int(size(&set))),
-        Err(halt) => Err(halt),
-    }
-}
-
-/// The value of a form that makes a set, or asks one.
-#[cycle(meaning)]
-fn set_form<'a, R: Reader>(
-    context: &Context<'_>,
-    expression: &'a TExpr,
-    reader: &mut R,
-    saved: &mut Saved<'a>,
-) -> Result<Value, Halt>
-    requires ready { IsReady (program_of context.now.system.now) (state context.now.system.now (R.tells reader.old) saved.old) }
-    requires form { is_set_form (expression_of expression.now) ≡ true }
-    ensures { Reads (program_of context.now.system.now) (state context.now.system.now (R.tells reader.old) saved.old) (state context.now.system.now (R.tells reader.new) saved.new) (place_in context.now) (expression_of expression.now) result }
-{
-    let system = context.system;
-    match expression {
-        TExpr::Empty => Ok(Value::Nodes(Codes::none(context.alloc))),
-        TExpr::Sets(operator, kind, left, right) => {
-            let left = meaning(context, left, reader, saved)?;
-            let right = meaning(context, right, reader, saved);
-            joined(context, *operator, *kind, left, right)
-        }
-        TExpr::Single(element) => single(context, meaning(context, element, reader, saved)),
-        TExpr::Contains(set, element) => {
-            let set = meaning(context, set, reader, saved)?;
-            contained(system, &set, meaning(context, element, reader, saved))
-        }
-        TExpr::Size(set) => counted(meaning(context, set, reader, saved)),
-        _ => over_form(context, expression, reader, saved),
-    }
-}
-
-/// The value of an accessor or of a test of a class.
-#[cycle(meaning)]
-fn accessor<'a, R: Reader>(
-    context: &Context<'_>,
-    expression: &'a TExpr,
-    reader: &mut R,
-    saved: &mut Saved<'a>,
-) -> Result<Value, Halt>
-    requires ready { IsReady (program_of context.now.system.now) (state context.now.system.now (R.tells reader.old) saved.old) }
-    requires accessor { is_accessor (expression_of expression.now) ≡ true }
-    ensures { Reads (program_of context.now.system.now) (state context.now.system.now (R.tells reader.old) saved.old) (state context.now.system.now (R.tells reader.new) saved.new) (place_in context.now) (expression_of expression.now) result }
-{
-    let system = context.system;
-    match expression {
-        TExpr::Child(k, receiver) => {
-            child(system, *k, meaning(context, receiver, reader, saved))
-        }
-        TExpr::Element(k, receiver, place) => {
-            let receiver = meaning(context, receiver, reader, saved)?;
-            let place = meaning(context, place, reader, saved);
-            element(system, *k, receiver, place)
-        }
-        TExpr::Count(k, receiver) => {
-            count(system, *k, meaning(context, receiver, reader, saved))
-        }
-        TExpr::Has(k, receiver) => has(system, *k, meaning(context, receiver, reader, saved)),
-        TExpr::Token(of, k, node) => {
-            let node = meaning(context, node, reader, saved);
-            token(context.alloc, system, *of, *k, node)
-        }
-        TExpr::Cast(class, operand) => {
-            cast(system, *class, meaning(context, operand, reader, saved))
-        }
-        TExpr::InstanceOf(class, operand) => {
-            is_instance(system, *class, meaning(context, operand, reader, saved))
-        }
-        _ => operation(context, expression, reader, saved),
-    }
-}
-
-/// The value of an expression, or the first demand for which the reader has none. It walks down the expression, which has at most 400
-/// tokens.
+/// Puts the value of an expression in place, or the first demand for which the reader has none. It walks down the expression, which has at
+/// most 400 tokens: what is always evaluated of a form comes first, and then what the form makes of it, which needs no reader.
 #[cycle(meaning)]
 pub(crate) fn meaning<'a, R: Reader>(
     context: &Context<'_>,
     expression: &'a TExpr,
     reader: &mut R,
     saved: &mut Saved<'a>,
-) -> Result<Value, Halt>
+    came: &mut Result<Value, Halt>,
+)
     requires { IsReady (program_of context.now.system.now) (state context.now.system.now (R.tells reader.old) saved.old) }
-    ensures { Reads (program_of context.now.system.now) (state context.now.system.now (R.tells reader.old) saved.old) (state context.now.system.now (R.tells reader.new) saved.new) (place_in context.now) (expression_of expression.now) result }
+    ensures { Reads (program_of context.now.system.now) (state context.now.system.now (R.tells reader.old) saved.old) (state context.now.system.now (R.tells reader.new) saved.new) (place_in context.now) (expression_of expression.now) came.new }
 {
-    let system = context.system;
-    match expression {
-        TExpr::Truth(b) => Ok(Value::Truth(*b)),
-        TExpr::Int(z) => Ok(Value::Int(*z)),
-        TExpr::Text(number) => Ok(Value::Text(*number)),
-        TExpr::Null => Ok(Value::Node(NodeRef(0))),
-        TExpr::This => Ok(Value::Node(context.this)),
-        TExpr::Variable(number) => Ok(variable(context, *number)),
-        TExpr::Source(number) => Ok(source(system, *number)),
-        TExpr::Call(called, _, receiver, arguments) => {
-            let receiver = meaning(context, receiver, reader, saved)?;
-            let args = given(
-                context,
-                parameters(system, *called),
-                arguments,
-                reader,
-                saved,
-            )?;
-            call(context, *called, receiver, args, reader)
+    match parts_of(expression) {
+        Parts::Leaf => put_leaf(context, expression, came),
+        Parts::One(part) => {
+            meaning(context, part, reader, saved, came);
+            make_whole(context, expression, came);
         }
-        TExpr::Quantified(_, _, _, _) => over_form(context, expression, reader, saved),
-        _ => accessor(context, expression, reader, saved),
+        Parts::Two(first, second) => {
+            meaning(context, first, reader, saved, came);
+            match came {
+                Ok(_) => {
+                    let mut other = Err(Halt::Memory);
+                    meaning(context, second, reader, saved, &mut other);
+                    make_both(context, expression, came, &mut other);
+                }
+                Err(_) => {}
+            }
+        }
+        Parts::Over(range, body) => {
+            *came = over_form(context, expression, range, body, reader, saved);
+        }
+        Parts::Further => further(context, expression, reader, saved, came),
     }
 }

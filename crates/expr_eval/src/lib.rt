@@ -6,6 +6,7 @@ mod accessors;
 mod binding;
 mod evaluation;
 mod operators;
+mod parts;
 mod saved;
 mod sites;
 

@@ -8,9 +8,8 @@ ghost use Rattle.equation_law.specs.Codes.{reference_of, value_of};
 ghost use Rattle.equation_law.specs.Meaning.{equal as same_value, operate as operated_by};
 ghost use Rattle.equation_law.specs.Names.{same_reference};
 ghost use Rattle.equation_law.specs.Values.{Int, Truth, int, truth};
-ghost use Rattle.expr_eval.specs.Evaluating.{Makes, texts_in};
+ghost use Rattle.expr_eval.specs.Evaluating.{texts_in};
 
-use crate::evaluation::Halt;
 use attr_rules::Operator;
 use equation_law::{NodeRef, System, Value};
 use rag_io::Pool;
@@ -39,68 +38,21 @@ fn same_node(left: NodeRef, right: NodeRef) -> bool
 }
 
 /// Whether two truth values, integers, texts or nodes are equal.
-fn equal(system: &System, left: Value, right: Value) -> bool
-    ensures { result ≡ same_value (value_of (texts_in system.now) left) (value_of (texts_in system.now) right) }
+fn equal(system: &System, left: &Value, right: &Value) -> bool
+    ensures { result ≡ same_value (value_of (texts_in system.now) left.now) (value_of (texts_in system.now) right.now) }
 {
     match left {
-        Value::Truth(b) => b == right.truth(),
-        Value::Int(z) => z == right.int(),
-        Value::Text(number) => same_text(system.pool(), number, right.text()),
-        Value::Node(node) => same_node(node, right.node()),
+        Value::Truth(b) => *b == right.truth(),
+        Value::Int(z) => *z == right.int(),
+        Value::Text(number) => same_text(system.pool(), *number, right.text()),
+        Value::Node(node) => same_node(*node, right.node()),
         Value::Texts(_) | Value::Nodes(_) => false,
     }
 }
 
-/// Whether a value is true.
-pub(crate) fn is_true(value: Value) -> bool
-    ensures { (texts : ℕ → List ℕ) → result ≡ truth (value_of texts value) }
-{
-    value.truth()
-}
-
-/// The other truth value.
-pub(crate) fn deny(operand: Result<Value, Halt>) -> Result<Value, Halt>
-    ensures { Makes (λ v x. (texts : ℕ → List ℕ) → value_of texts x ≡ Truth (not (truth (value_of texts v)))) operand result }
-{
-    match operand {
-        Ok(operand) => Ok(Value::Truth(!is_true(operand))),
-        Err(halt) => Err(halt),
-    }
-}
-
-/// The truth value.
-pub(crate) fn truth_of(operand: Result<Value, Halt>) -> Result<Value, Halt>
-    ensures { Makes (λ v x. (texts : ℕ → List ℕ) → value_of texts x ≡ Truth (truth (value_of texts v))) operand result }
-{
-    match operand {
-        Ok(operand) => Ok(Value::Truth(is_true(operand))),
-        Err(halt) => Err(halt),
-    }
-}
-
-/// Whether one of two truth values is true.
-pub(crate) fn either(left: bool, right: Result<Value, Halt>) -> Result<Value, Halt>
-    ensures { Makes (λ v x. (texts : ℕ → List ℕ) → value_of texts x ≡ Truth (left || truth (value_of texts v))) right result }
-{
-    match right {
-        Ok(right) => Ok(Value::Truth(left || is_true(right))),
-        Err(halt) => Err(halt),
-    }
-}
-
-/// The integer with the other sign; the least one stays.
-pub(crate) fn negate(operand: Result<Value, Halt>) -> Result<Value, Halt>
-    ensures { Makes (λ v x. (texts : ℕ → List ℕ) → value_of texts x ≡ Int (int_wrap w32 (neg_ℤ (int (value_of texts v))))) operand result }
-{
-    match operand {
-        Ok(operand) => Ok(Value::Int(operand.int().wrapping_neg())),
-        Err(halt) => Err(halt),
-    }
-}
-
 /// A binary operator on two values; sums, differences and products wrap.
-fn operate_on(system: &System, operator: Operator, left: Value, right: Value) -> Value
-    ensures { value_of (texts_in system.now) result ≡ operated_by operator (value_of (texts_in system.now) left) (value_of (texts_in system.now) right) }
+pub(crate) fn operate(system: &System, operator: Operator, left: &Value, right: &Value) -> Value
+    ensures { value_of (texts_in system.now) result ≡ operated_by operator (value_of (texts_in system.now) left.now) (value_of (texts_in system.now) right.now) }
 {
     match operator {
         Operator::Add => Value::Int(left.int().wrapping_add(right.int())),
@@ -111,20 +63,5 @@ fn operate_on(system: &System, operator: Operator, left: Value, right: Value) ->
         Operator::Greater => Value::Truth(left.int() > right.int()),
         Operator::AtLeast => Value::Truth(left.int() >= right.int()),
         Operator::Equal => Value::Truth(equal(system, left, right)),
-    }
-}
-
-/// The same, where the right one may have no value.
-pub(crate) fn operate(
-    system: &System,
-    operator: Operator,
-    left: Value,
-    right: Result<Value, Halt>,
-) -> Result<Value, Halt>
-    ensures { Makes (λ v x. value_of (texts_in system.now) x ≡ operated_by operator (value_of (texts_in system.now) left) (value_of (texts_in system.now) v)) right result }
-{
-    match right {
-        Ok(right) => Ok(operate_on(system, operator, left, right)),
-        Err(halt) => Err(halt),
     }
 }

@@ -113,7 +113,15 @@ fn evaluate_for<'a, R: Reader>(
         this: site.node,
         names: &names,
     };
-    turned(meaning(&context, system.rules().body(site.equation), reader, saved))
+    let mut came = Err(Halt::Memory);
+    meaning(
+        &context,
+        system.rules().body(site.equation),
+        reader,
+        saved,
+        &mut came,
+    );
+    turned(came)
 }
 
 /// The meaning of the equation of a site under what a reader has at the end of the call, or the first demand that it has no value for.
@@ -152,7 +160,15 @@ fn asked<'a, R: Reader>(
         this: NodeRef(1),
         names: &[],
     };
-    turned(meaning(&context, system.query(query).expression(), reader, saved))
+    let mut came = Err(Halt::Memory);
+    meaning(
+        &context,
+        system.query(query).expression(),
+        reader,
+        saved,
+        &mut came,
+    );
+    turned(came)
 }
 
 /// The meaning of a query's expression, which is read at the root, under what a reader has at the end of the call, or the first demand that it
@@ -192,7 +208,15 @@ pub fn resume_body<'a, R: Reader>(
         this: node,
         names: &[],
     };
-    turned(meaning(&context, system.rules().body(expression), reader, saved))
+    let mut came = Err(Halt::Memory);
+    meaning(
+        &context,
+        system.rules().body(expression),
+        reader,
+        saved,
+        &mut came,
+    );
+    turned(came)
 }
 
 /// What the equation of an attribute at a node comes to, where it is found.

@@ -1,7 +1,6 @@
 -- The calls go down the expression; how far a form over elements has gone.
-use Rattle.std.proofs.Common.{◌+◌, ◌-◌, ◌*◌}
-use Rattle.attr_rules.proofs.expression.TArgs.TheLaws.{the_size as arguments_size}
-use Rattle.attr_rules.proofs.expression.TExpr.TheLaws.{the_size}
+use Rattle.std.proofs.Common.{◌+◌, ◌-◌, ◌*◌, max}
+use Rattle.expr_eval.proofs.Lighter.{arguments_weight, weight}
 use Rattle.attr_rules.specs.Expression.{expression_of}
 use Rattle.equation_law.specs.Systems.{program_of}
 use Rattle.expr_eval.specs.Elements.{Rooms}
@@ -11,37 +10,25 @@ use Rattle.expr_eval.specs.Saved.{Stands}
 use Rattle.expr_eval.proofs.evaluation.+meaning.Given as goal
 
 abbrev pub decreases-meaning : goal.decreases-meaning
-decreases-meaning g a = 9 * the_size a.expression.now + 6
-
-abbrev pub decreases-accessor : goal.decreases-accessor
-decreases-accessor g a = 9 * the_size a.expression.now + 5
+decreases-meaning g a = 9 * weight a.expression.now + 6
 
 abbrev pub decreases-given : goal.decreases-given
-decreases-given g a = 9 * arguments_size a.arguments.now + 6
+decreases-given g a = 9 * arguments_weight a.arguments.now + 6
 
-abbrev pub decreases-operation : goal.decreases-operation
-decreases-operation g a = 9 * the_size a.expression.now + 4
-
-abbrev pub decreases-set_form : goal.decreases-set_form
-decreases-set_form g a = 9 * the_size a.expression.now + 3
+abbrev pub decreases-further : goal.decreases-further
+decreases-further g a = 9 * weight a.form.now + 5
 
 abbrev pub decreases-over_form : goal.decreases-over_form
-decreases-over_form g a = 9 * the_size a.form.now + 2
+decreases-over_form g a = 9 * max (weight a.range.now) (weight a.body.now) + 9
 
 abbrev pub decreases-standing : goal.decreases-standing
-decreases-standing g a = 9 * the_size a.form.now + 1
-
-abbrev pub decreases-go_over : goal.decreases-go_over
-decreases-go_over g a = 9 * the_size a.form.now + 1
-
-abbrev pub decreases-ranged : goal.decreases-ranged
-decreases-ranged g a = 9 * the_size a.form.now
+decreases-standing g a = 9 * weight a.range.now + 7
 
 abbrev pub decreases-at_elements : goal.decreases-at_elements
-decreases-at_elements g a = 9 * the_size a.body.now + 8
+decreases-at_elements g a = 9 * weight a.body.now + 8
 
 abbrev pub decreases-with_element : goal.decreases-with_element
-decreases-with_element g a = 9 * the_size a.body.now + 7
+decreases-with_element g a = 9 * weight a.body.now + 7
 
 abbrev pub invariant-at_elements-elements : goal.invariant-at_elements-elements
 invariant-at_elements-elements g l =

@@ -8,9 +8,9 @@ use Rattle.expr_eval.proofs.evaluation.call.Goals as goal
 pub returns-then-eq : goal.returns-then-eq
 returns-then-eq g c =
     let system = c.args.context.now.system.now in
-    call_null (program_of system) _ c.args.attr.0 c.args.args c.args.receiver c.node-node.result.0 c.default_of.result c.attribute_kind-kind.result (c.node-node.ensures (text_of (program_of system))) c.requires.sound (search rules) c.attribute_kind-kind.ensures (c.default_of.ensures.value (text_of (program_of system)) (first_text system)) (c.default_of.ensures.elements (program_of system))
+    call_null (program_of system) _ c.args.attr.0 c.args.args c.args.node.0 c.default_of.result c.attribute_kind-kind.result c.requires.sound (search rules) c.attribute_kind-kind.ensures (c.default_of.ensures.value (text_of (program_of system)) (first_text system)) (c.default_of.ensures.elements (program_of system))
 
 pub returns : goal.returns
 returns g c =
     let p = program_of c.args.context.now.system.now in
-    call_there p _ c.args.attr.0 c.args.args _ c.args.receiver c.node-node.result.0 _ (c.node-node.ensures (text_of p)) (λ e. search rules) c.demand.ensures
+    call_there p _ c.args.attr.0 c.args.args _ c.args.node.0 _ (λ e. search rules) c.demand.ensures

@@ -1,9 +1,10 @@
-use Rattle.std.proofs.Common.{◌≡◌, Some, ap, option_map, slice_get, subst, sym}
+use Rattle.std.proofs.Common.{◌≡◌, Option, Some, slice_get, ap, subst, sym, ◌∙◌}
+use Rattle.std.specs.Prelude.{option_map}
 use Rattle.attr_equations.proofs.BodiesFound.{equation_within}
-use Rattle.attr_rules.specs.Rules.{RuleSet, target_in}
 use Rattle.attr_rules.specs.declared.dispatch.Target.{Target}
+use Rattle.attr_rules.specs.Rules.{Equation, RuleSet, target_in}
 use Rattle.equation_law.specs.Systems.{program_of}
-use Rattle.expr_eval.specs.Reads.{Resumes, state}
+use Rattle.expr_eval.specs.Evaluating.{Evaluates}
 use Rattle.expr_eval.specs.Sites.{site_reads}
 use Rattle.expr_eval.proofs.Found.{evaluated}
 use Rattle.expr_eval.proofs.sites.evaluate.Goals as goal
@@ -11,14 +12,12 @@ use Rattle.expr_eval.proofs.sites.evaluate.Goals as goal
 pub evaluate_for-requires-clause-equation : goal.evaluate_for-requires-clause-equation
 evaluate_for-requires-clause-equation g c = equation_within (program_of c.args.system.now).rules c.args.site.now.equation.0 c.requires.equation
 
+-- the equation is read for the attribute of its target
 pub returns : goal.returns
-returns g c = λ q is.
+returns g c q there =
     let p = program_of c.args.system.now in
-    let n = c.args.site.now.equation.0 in
-    let before = state c.args.system.now (g.R.Reader.tells c.args.reader.now) c.new-saved.result in
-    let after = state c.args.system.now (g.R.Reader.tells c.evaluate_for.new.reader) c.evaluate_for.new.saved in
-    let found : option_map target_in (slice_get p.rules.equations n) ≡ Some c.target.result =
-    subst (λ (r : RuleSet). option_map target_in (slice_get r.equations n) ≡ Some c.target.result) c.rules.ensures c.target.ensures in
-    let given : option_map target_in (slice_get p.rules.equations n) ≡ Some q.target = ap (option_map target_in) is in
-    let same : c.target.result ≡ q.target = cc in
-    evaluated (subst (λ (t : Target). Resumes p before after (site_reads p t.attribute.0 c.args.site.now) c.evaluate_for.result) same c.evaluate_for.ensures)
+    let at = c.args.site.now.equation.0 in
+    let kept : option_map target_in (slice_get p.rules.equations at) ≡ Some c.target.result = ap (λ (rules : RuleSet). option_map target_in (slice_get rules.equations at)) (sym c.rules.ensures) ∙ c.target.ensures in
+    let one : Some q.target ≡ Some c.target.result = ap (λ (o : Option Equation). option_map target_in o) (sym there) ∙ kept in
+    let same : q.target ≡ c.target.result = cc in
+    subst (λ (target : Target). Evaluates p (g.R.Reader.tells c.args.reader.now) (g.R.Reader.tells c.evaluate_for.new.reader) (site_reads p target.attribute.0 c.args.site.now) c.evaluate_for.result) (sym same) (evaluated c.evaluate_for.ensures)

@@ -1,6 +1,6 @@
 use Rattle.std.proofs.Common.{rules}
 use Rattle.std.proofs.lemmas.Int.{wraps}
-use Rattle.expr_eval.proofs.operators.operate_on.Goals as goal
+use Rattle.expr_eval.proofs.operators.operate.Goals as goal
 
 pub returns-in-Add : goal.returns-in-Add
 returns-in-Add c = search (rules, wraps)

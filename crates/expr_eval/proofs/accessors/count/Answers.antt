@@ -4,9 +4,9 @@ use Rattle.std.proofs.lemmas.Int.{of_z-to_z}
 use mir.Syntax.{w32}
 use Rattle.tree_arena.specs.Nodes.{Node, count_in}
 use Rattle.equation_law.specs.Meaning.{count_at}
-use Rattle.expr_eval.specs.Evaluating.{texts_in, world_in}
+use Rattle.expr_eval.specs.Evaluating.{world_in}
 use Rattle.equation_law.proofs.Codes.{signed}
-use Rattle.expr_eval.proofs.accessors.count_of.Goals as goal
+use Rattle.expr_eval.proofs.accessors.count.Goals as goal
 
 pub returns-in-Some : goal.returns-in-Some
 returns-in-Some c =
@@ -14,4 +14,4 @@ returns-in-Some c =
     let n = c.count_at.result in
     ap (λ (z : ℤ). to_z w32 (of_z w32 z)) c.cast_signed.ensures ∙ ap (to_z w32) (of_z-to_z w32 n c.count_at.type_inv) ∙ signed n c.count_at.type_inv
     ∙ ap (λ (m : ℕ). int_wrap w32 (pos m)) (c.count_at.ensures ∙ ap (λ (nodes : List Node). count_in nodes c.in-Some.node c.args.k) c.tree.ensures)
-    ∙ ap (count_at (world_in system) c.args.k) (c.in-Some.ensures ∙ c.node.ensures (texts_in system))
+    ∙ ap (count_at (world_in system) c.args.k) c.in-Some.ensures

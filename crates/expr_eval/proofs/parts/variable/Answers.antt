@@ -4,7 +4,7 @@ use Rattle.std.proofs.lemmas.Bool.{ltb-false, ltb-true}
 use Rattle.std.proofs.lemmas.Option.{slice_get_past, slice_get_read}
 use Rattle.expr_eval.specs.Evaluating.{texts_in}
 use Rattle.expr_eval.proofs.Names.{named_nowhere, named_there}
-use Rattle.expr_eval.proofs.evaluation.variable.Goals as goal
+use Rattle.expr_eval.proofs.parts.variable.Goals as goal
 
 pub returns-in-Some : goal.returns-in-Some
 returns-in-Some c =
