@@ -23,7 +23,7 @@ use Rattle.equation_law.specs.Sets.{SetBy, IsPart, elements, has, inter, minus, 
 use Rattle.equation_law.specs.Values.{Value, Truth, Int, Text, Node, Texts, Nodes, as_arguments, as_kind, contains, default_of, elements_of, has_node, node, nodes, of_node, set_operate, text, texts, truth}
 use Rattle.equation_law.proofs.Names.{code_anti, node_anti}
 use Rattle.equation_law.proofs.Orders.{at_most_itself, default_least, node_total}
-use Rattle.equation_law.proofs.Quiet.{quiet_plain}
+use Rattle.equation_law.proofs.Quiet.{AreTokensPlain, quiet_plain}
 use Rattle.equation_law.proofs.Sets.{has-inter, has-minus, none_has, or_least, part_elements, part_nil, part_union, part_union_right, union_least}
 use Rattle.equation_law.proofs.SetsOrder.{elements_none}
 
@@ -178,7 +178,7 @@ elements_part (Nodes s) w l = nodes_part s w l.in_nodes
 abbrev pub order : Instance → Value → Value → Type 0
 order i v w = IsAtMost v w
 
-module _ (W : World) (circular : Instance → Bool) (declared : ℕ → Bool) (free : (a : ℕ) (r : Reference) (xs : List Argument) → declared a ≡ false → circular (Attribute a r xs) ≡ false) where
+module _ (W : World) (circular : Instance → Bool) (declared : ℕ → Bool) (free : (a : ℕ) (r : Reference) (xs : List Argument) → declared a ≡ false → circular (Attribute a r xs) ≡ false) (tokens : AreTokensPlain W circular) where
   abbrev Up : Demands Instance Value → Demands Instance Value → Type 0
   Up c d = Rise circular order IsAtMost c d
 
@@ -261,7 +261,7 @@ module _ (W : World) (circular : Instance → Bool) (declared : ℕ → Bool) (f
   up_arguments no_more q p go g = g []
   up_arguments (argument e es) q p go g =
       let n = neither (has_call declared e) (have_call declared es) q in
-      up_same (meaning_of W e p) _ _ (quiet_plain W circular declared free e n.0 p) (λ v. up_arguments es n.1 p (λ vs. go (v ∷ vs)) (λ vs. g (v ∷ vs)))
+      up_same (meaning_of W e p) _ _ (quiet_plain W circular declared free tokens e n.0 p) (λ v. up_arguments es n.1 p (λ vs. go (v ∷ vs)) (λ vs. g (v ∷ vs)))
 
   -- the truth value of a side
   up_truth : (c : Demands Instance Value) → Up c c → Up (next c (λ w. Gives (Truth (truth w)))) (next c (λ w. Gives (Truth (truth w))))
@@ -321,7 +321,7 @@ module _ (W : World) (circular : Instance → Bool) (declared : ℕ → Bool) (f
   Meaning e p = meaning_of W e p
 
   quiet : (e : Expression) → has_call declared e ≡ false → (p : Place) → IsPlain circular (Meaning e p)
-  quiet e q p = quiet_plain W circular declared free e q p
+  quiet e q p = quiet_plain W circular declared free tokens e q p
 
   -- each rising expression
   pub rises : {e : Expression} → IsRising declared e → (p : Place) → Up (Meaning e p) (Meaning e p)

@@ -9,11 +9,15 @@ use Rattle.attr_rules.specs.Rising.{has_call, have_call}
 use Rattle.attr_rules.proofs.Permitted.{neither}
 use Rattle.solutions.specs.Asking.{Demands, next}
 use Rattle.solutions.proofs.Composing.{IsPlain, plain_next}
-use Rattle.equation_law.specs.Meaning.{World, Place, at_each, call_at, elements_at, first_with, meaning_of, over_elements, united, with_arguments, with_name}
-use Rattle.equation_law.specs.Names.{Argument, At, Attribute, Instance, Null, Reference}
+use Rattle.equation_law.specs.Meaning.{World, Place, at_each, call_at, elements_at, first_with, meaning_of, over_elements, token_at, united, with_arguments, with_name}
+use Rattle.equation_law.specs.Names.{Argument, At, Attribute, Instance, NodeName, Null, Reference}
 use Rattle.equation_law.specs.Values.{Value, default_of, elements_of, node, set_operate, truth}
 
-module _ (W : World) (circular : Instance → Bool) (declared : ℕ → Bool) (free : (a : ℕ) (r : Reference) (xs : List Argument) → declared a ≡ false → circular (Attribute a r xs) ≡ false) where
+-- tokens demand instances alone that aren't circular
+abbrev pub AreTokensPlain : World → (Instance → Bool) → Type 0
+AreTokensPlain W circular = (t : Kind) (n : NodeName) (k : ℕ) → IsPlain circular (W.token t n k)
+
+module _ (W : World) (circular : Instance → Bool) (declared : ℕ → Bool) (free : (a : ℕ) (r : Reference) (xs : List Argument) → declared a ≡ false → circular (Attribute a r xs) ≡ false) (tokens : AreTokensPlain W circular) where
   abbrev Plain : Demands Instance Value → Type 0
   Plain c = IsPlain circular c
 
@@ -27,6 +31,10 @@ module _ (W : World) (circular : Instance → Bool) (declared : ℕ → Bool) (f
   plain_call : (a : ℕ) → declared a ≡ false → (r : Reference) (vs : List Value) → Plain (call_at W a r vs)
   plain_call a d Null vs = tt
   plain_call a d (At n) vs = (free a (At n) _ d, λ v. tt)
+
+  plain_token : (t : Kind) (k : ℕ) (r : Reference) → Plain (token_at W t k r)
+  plain_token t k Null = tt
+  plain_token t k (At n) = tokens t n k
 
   plain_each : (o : Bool → Bool → Bool) (so_far : Bool) (xs : List Value) (condition : Value → Demands Instance Value) → ((x : Value) → Plain (condition x)) → Plain (at_each o so_far xs condition)
   plain_each o so_far [] condition p = tt
@@ -61,7 +69,7 @@ module _ (W : World) (circular : Instance → Bool) (declared : ℕ → Bool) (f
         then (meaning_of W e p) _ (quiet_plain e n.0 p) (λ r. then (meaning_of W i p) _ (quiet_plain i n.1 p) (λ z. tt))
     quiet_plain (Count k e) q p = then (meaning_of W e p) _ (quiet_plain e q p) (λ r. tt)
     quiet_plain (Has k e) q p = then (meaning_of W e p) _ (quiet_plain e q p) (λ r. tt)
-    quiet_plain (Token t k e) q p = then (meaning_of W e p) _ (quiet_plain e q p) (λ r. tt)
+    quiet_plain (Token t k e) q p = then (meaning_of W e p) _ (quiet_plain e q p) (λ r. plain_token t k (node r))
     quiet_plain (Call a at e es) q p =
         let n = neither (declared a) (has_call declared e || have_call declared es) q in
         let m = neither (has_call declared e) (have_call declared es) n.1 in

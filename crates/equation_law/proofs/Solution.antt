@@ -35,12 +35,17 @@ use Rattle.equation_law.proofs.Growing.{kind_below, rises as rising_meaning}
 use Rattle.equation_law.proofs.Heights.{height_of, height_grows, height_strict}
 use Rattle.equation_law.proofs.Lists.{some_of}
 use Rattle.equation_law.proofs.Names.{same_instance_is, same_instance_self}
+use Rattle.equation_law.proofs.Quiet.{AreTokensPlain}
 use Rattle.equation_law.proofs.Sites.{collection_equation}
 use Rattle.equation_law.proofs.Orders.{at_most_both, at_most_itself, at_most_through, default_least, join_fits, join_least, join_left, join_right}
 
 -- what isn't declared circular isn't
 pub not_circular : (p : Program) (a : ℕ) (r : Reference) (xs : List Argument) → circular_at p.rules.attributes a ≡ false → is_circular p (Attribute a r xs) ≡ false
 not_circular p a r xs e = ap (λ b. b && (is_ordered (attribute_kind p a) && equation_rises (circular_at p.rules.attributes) (equation_of p (Attribute a r xs)))) e
+
+-- tokens of source nodes demand nothing
+tokens_plain : (p : Program) → AreTokensPlain (world_of p) (is_circular p)
+tokens_plain p t (Source n) k = tt
 
 -- where no attribute is declared so, no instance is
 pub none_circular : (p : Program) → ((a : ℕ) → circular_at p.rules.attributes a ≡ false) → (i : Instance) → (equations_of p).circular i ≡ false
@@ -137,7 +142,7 @@ circular_fits p i c =
 circular_rises : (p : Program) (i : Instance) → is_circular p i ≡ true → Rise (is_circular p) (order_in p) (order_in p i) (equation_demands (world_of p) (equation_of p i)) (equation_demands (world_of p) (equation_of p i))
 circular_rises p i c =
     let s = circular_site p i c in
-    let up = rising_meaning (world_of p) (is_circular p) (circular_at p.rules.attributes) (not_circular p) s.rising s.site.place in
+    let up = rising_meaning (world_of p) (is_circular p) (circular_at p.rules.attributes) (not_circular p) (tokens_plain p) s.rising s.site.place in
     subst (λ (o : Option InstanceEquation). Rise (is_circular p) (order_in p) (order_in p i) (equation_demands (world_of p) o) (equation_demands (world_of p) o)) (sym s.is)
     (rise_next (λ v. Gives (as_kind s.site.kind v)) (λ v. Gives (as_kind s.site.kind v)) up (λ v w l. leaves (kind_below s.site.kind v w l)))
 
@@ -219,7 +224,7 @@ values_under p T U low i c v w first second d e = values_assigned (equations_of 
 
 -- and of each rising expression, wherever it is read
 pub expression_grows : (p : Program) (e : Expression) (q : Place) → IsRising (circular_at p.rules.attributes) e → (A B : Instance → Value → Type 0) → LiesBelow (is_circular p) (order_in p) A B → (w : Value) (demands : List Instance) → Ends B (meaning_of (world_of p) e q) w demands → Under IsAtMost A (meaning_of (world_of p) e q) w demands
-expression_grows p e q r A B l w demands h = growing l (rising_meaning (world_of p) (is_circular p) (circular_at p.rules.attributes) (not_circular p) r q) h
+expression_grows p e q r A B l w demands h = growing l (rising_meaning (world_of p) (is_circular p) (circular_at p.rules.attributes) (not_circular p) (tokens_plain p) r q) h
 
 -- lower assignments
 pub below : (p : Program) (T : Instance → Value) → IsLower p T → (i : Instance) (v : Value) → (equations_of p).circular i ≡ true → HasValue p i v → order_in p i (T i) v

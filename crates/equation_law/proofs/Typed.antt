@@ -151,7 +151,7 @@ module _ (p : Program) (I : ℤ → Type 0) (T : List ℕ → Type 0) (M : Insta
   decoded_keeps kinds.Texts (Some v) e = cc
   decoded_keeps (kinds.Nodes c) (Some v) e = cc
 
-  token_keeps : (t : Kind) (k : ℕ) (r : Reference) → is_plain t ≡ true → IsOf p I T (types.Of t) (token_at (world_of p) t k r)
+  token_keeps : (t : Kind) (k : ℕ) (r : Reference) → is_plain t ≡ true → Keeps p I T M (types.Of t) (token_at (world_of p) t k r)
   token_keeps t k Null e = default_keeps t
   token_keeps t k (At (Source n)) e = decoded_keeps t (token_in p.tree n k) e
 
@@ -302,7 +302,7 @@ module _ (p : Program) (I : ℤ → Type 0) (T : List ℕ → Type 0) (M : Insta
           (λ r o. behind p I T M (types.Of kinds.Int) (of_class x.class) (Meaning pl i) (λ z. Gives (Node (element_at (world_of p) k r (int z)))) (typed_keeps j pl ns) (λ z q. of_node x.class _ (element_keeps c k x (of_grammar _ ns.grammar c k x s) r (int z) o)))
       typed_keeps (typed.count {e = e} c k x h s g) pl ns = on_receiver c (types.Of kinds.Int) (Meaning pl e) (λ r. Gives (Int (count_at (world_of p) k r))) (typed_keeps h pl ns) (λ r o. count_keeps k r)
       typed_keeps (typed.has {e = e} c k x h s g) pl ns = on_receiver c (types.Of kinds.Truth) (Meaning pl e) (λ r. Gives (Truth (is_there (child_at (world_of p) k r)))) (typed_keeps h pl ns) (λ r o. of_truth _)
-      typed_keeps (typed.token {e = e} c k x t h s g) pl ns = on_receiver c (types.Of t) (Meaning pl e) (λ r. Gives (token_at (world_of p) t k r)) (typed_keeps h pl ns) (λ r o. token_keeps t k r (token_plain x.shape t g))
+      typed_keeps (typed.token {e = e} c k x t h s g) pl ns = on_receiver c (types.Of t) (Meaning pl e) (λ r. token_at (world_of p) t k r) (typed_keeps h pl ns) (λ r o. token_keeps t k r (token_plain x.shape t g))
       typed_keeps (typed.call {e = e} {es = es} c a place d h s b fit) pl ns =
           on_receiver c (types.Of d.kind) (Meaning pl e) (λ r. with_arguments (world_of p) es pl (λ vs. call_at (world_of p) a r vs)) (typed_keeps h pl ns)
           (λ r o.

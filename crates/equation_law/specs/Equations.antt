@@ -72,8 +72,9 @@ abbrev pub decoded : (ℕ → List ℕ) → Kind → Option ℕ → Value
 decoded texts t None = default_of t
 decoded texts t (Some c) = value_at texts t c
 
-abbrev pub token_of : Program → Kind → NodeName → ℕ → Value
-token_of p t (Source n) k = decoded (text_of p) t (token_in p.tree n k)
+-- a token of a source node stands in the tree, and demands nothing
+abbrev pub token_of : Program → Kind → NodeName → ℕ → Demands Instance Value
+token_of p t (Source n) k = Gives (decoded (text_of p) t (token_in p.tree n k))
 
 abbrev pub world_of : Program → World
 world_of p = record { kind = attribute_kind p; parameters = attribute_parameters p; text = text_of p; source = source_of p; child = child_of p; element = element_of p; count = count_of p; is_of = is_of_class p; token = token_of p }

@@ -35,8 +35,8 @@ pub record World : Type 0 where
   pub count : NodeName → ℕ → ℕ
   -- whether a node is of the class or below
   pub is_of : ClassId → NodeName → Bool
-  -- the token of a node at a component, read at a type
-  pub token : Kind → NodeName → ℕ → Value
+  -- what the token of a node at a component, read at a type, demands, and its value
+  pub token : Kind → NodeName → ℕ → Demands Instance Value
 
 -- where an expression is read: the node of the equation, and the values of the names, by their numbers
 pub record Place : Type 0 where
@@ -111,9 +111,9 @@ abbrev pub is_there : Reference → Bool
 is_there Null = false
 is_there (At n) = true
 
--- the accessor of a token; on null it is the default of the type
-abbrev pub token_at : World → Kind → ℕ → Reference → Value
-token_at W t k Null = default_of t
+-- the accessor of a token; on null it is the default of the type and demands nothing
+abbrev pub token_at : World → Kind → ℕ → Reference → Demands Instance Value
+token_at W t k Null = Gives (default_of t)
 token_at W t k (At n) = W.token t n k
 
 abbrev pub is_instance : World → ClassId → Reference → Bool
@@ -155,7 +155,7 @@ abbrev mutual
   meaning_of W (Element k e i) p = next (meaning_of W e p) (λ r. next (meaning_of W i p) (λ z. Gives (Node (element_at W k (node r) (int z)))))
   meaning_of W (Count k e) p = next (meaning_of W e p) (λ r. Gives (Int (count_at W k (node r))))
   meaning_of W (Has k e) p = next (meaning_of W e p) (λ r. Gives (Truth (is_there (child_at W k (node r)))))
-  meaning_of W (Token t k e) p = next (meaning_of W e p) (λ r. Gives (token_at W t k (node r)))
+  meaning_of W (Token t k e) p = next (meaning_of W e p) (λ r. token_at W t k (node r))
   meaning_of W (Call a at e es) p = next (meaning_of W e p) (λ r. with_arguments W es p (λ vs. call_at W a (node r) vs))
   meaning_of W (Cast c e) p = next (meaning_of W e p) (λ r. Gives (Node (cast_to W c (node r))))
   meaning_of W (InstanceOf c e) p = next (meaning_of W e p) (λ r. Gives (Truth (is_instance W c (node r))))
