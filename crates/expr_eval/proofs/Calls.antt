@@ -1,4 +1,4 @@
--- What a call on a receiver comes to.
+-- What a call on a receiver comes to, and the token of one.
 use Rattle.std.proofs.Common.{◌≡◌, ℕ, zero, suc, List, [], ◌∷◌, Option, Some, None, Result, Ok, Err, refl, sym, ap, subst, ◌∙◌}
 use Rattle.attr_rules.specs.declared.kinds.Kind.{Kind}
 use Rattle.solutions.specs.Asking.{Ends, Gives, Halts, asks, at, gives}
@@ -7,14 +7,14 @@ use Rattle.equation_law.specs.declared.coding.Instance.{Instance as CodedInstanc
 use Rattle.equation_law.specs.declared.coding.Value.{Value as CodedValue}
 use Rattle.equation_law.specs.Codes.{AreElements, IsCoded, arguments_of, instance_of, reference_of, value_of}
 use Rattle.equation_law.specs.Equations.{attribute_kind, kind_in, world_of}
-use Rattle.equation_law.specs.Meaning.{call_at, demand}
+use Rattle.equation_law.specs.Meaning.{call_at, demand, token_at}
 use Rattle.equation_law.specs.Names.{Argument, Attribute, Instance, Reference}
 use Rattle.equation_law.specs.Program.{Program, text_of}
 use Rattle.equation_law.specs.Reading.{Grows, IsSound, Settles, Told}
 use Rattle.equation_law.specs.Values.{as_kind, default_of}
 use Rattle.expr_eval.specs.declared.evaluation.Halt.{Halt}
 use Rattle.expr_eval.specs.declared.evaluation.Halt.TheVariants.{Need}
-use Rattle.expr_eval.specs.Evaluating.{Answers, CallReads, DemandReads}
+use Rattle.expr_eval.specs.Evaluating.{Answers, CallReads, DemandReads, Given, TokenReads}
 use Rattle.expr_eval.proofs.Forms.{gives_value, grows_self}
 
 module _ {S : Type 0} (p : Program) (r : Told S) (a : ℕ) (xs : Args) where
@@ -32,6 +32,10 @@ module _ {S : Type 0} (p : Program) (r : Told S) (a : ℕ) (xs : Args) where
     kept = h.kept;
     is = λ vs are. subst (λ (zs : List Argument). Answers p s (demand (attribute_kind p a) (Attribute a (reference_of (suc n)) zs)) res) are h.is;
   }
+
+-- a token that demands nothing
+pub token_given : {S : Type 0} {p : Program} {r : Told S} {t : Kind} {k n : ℕ} {x : CodedValue} → IsSound p r → Gives (value_of (text_of p) x) ≡ token_at (world_of p) t k (reference_of n) → AreElements p x → TokenReads p r r t k n (Ok x)
+token_given {p = p} {r = r} {x = x} sound is good = record { kept = grows_self sound; is = subst (λ c. Given p r c x) is (gives_value refl good) }
 
 module _ {S : Type 0} (p : Program) (r s : Told S) (grows : Grows p r s) (i : Instance) where
   -- the value that the reader has

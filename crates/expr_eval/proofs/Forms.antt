@@ -14,15 +14,15 @@ use Rattle.equation_law.specs.declared.coding.Value.{Value as CodedValue}
 use Rattle.equation_law.specs.declared.coding.Value.TheVariants as coded
 use Rattle.equation_law.specs.Codes.{AreElements, reference_of, value_of}
 use Rattle.equation_law.specs.Equations.{world_of}
-use Rattle.equation_law.specs.Meaning.{Place, World, call_at, meaning_of, with_arguments}
+use Rattle.equation_law.specs.Meaning.{Place, World, call_at, meaning_of, token_at, with_arguments}
 use Rattle.equation_law.specs.Names.{Instance, Reference}
 use Rattle.equation_law.specs.Program.{Program, attribute_parameters, text_of}
 use Rattle.equation_law.specs.Reading.{Grows, IsSound, Told}
 use Rattle.equation_law.specs.Values.{Value, Truth, node, truth}
 use Rattle.expr_eval.specs.declared.evaluation.Halt.{Halt}
 use Rattle.expr_eval.specs.declared.evaluation.Halt.TheVariants.{Need, Memory}
-use Rattle.expr_eval.specs.Evaluating.{Answers, CallReads, Collects, Given, end, more, read_at}
-use Rattle.expr_eval.specs.Parts.{IsMade, IsRounded, IsSaid, OneMakes, TwoMake, is_leaf, leaf_value, made_of_one, made_of_two, part_of, parts_of}
+use Rattle.expr_eval.specs.Evaluating.{Answers, CallReads, Collects, Given, TokenReads, end, more, read_at}
+use Rattle.expr_eval.specs.Parts.{IsMade, IsRounded, IsSaid, OneMakes, TwoMake, is_leaf, leaf_value, made_of_one, made_of_two, part_of, parts_of, token_read}
 use Rattle.expr_eval.specs.Reads.{Advances, ArgumentsRead, IsReady, Reads, State, state}
 use Rattle.expr_eval.proofs.Growing.{saved_more}
 
@@ -143,7 +143,6 @@ one_part : (p : Program) (place : Place) (e a : TExpr) → part_of e ≡ Some a 
 one_part p place (kept.Child' k o e) a h = of_part p place (kept.Child' k o e) h refl
 one_part p place (kept.Count' k o e) a h = of_part p place (kept.Count' k o e) h refl
 one_part p place (kept.Has' k o e) a h = of_part p place (kept.Has' k o e) h refl
-one_part p place (kept.Token' t k o e) a h = of_part p place (kept.Token' t k o e) h refl
 one_part p place (kept.Cast' c o e) a h = of_part p place (kept.Cast' c o e) h refl
 one_part p place (kept.InstanceOf' c o e) a h = of_part p place (kept.InstanceOf' c o e) h refl
 one_part p place (kept.Single' o e) a h = of_part p place (kept.Single' o e) h refl
@@ -151,6 +150,17 @@ one_part p place (kept.Size' o e) a h = of_part p place (kept.Size' o e) h refl
 one_part p place (kept.Not' o e) a h = of_part p place (kept.Not' o e) h refl
 one_part p place (kept.Negate' o e) a h = of_part p place (kept.Negate' o e) h refl
 one_part p place _ a h = cc
+
+-- a form that reads a token demands what its part does, and then what the token of the node demands
+abbrev ReadsToken : Program → Place → TExpr → Kind × ℕ × TExpr → Type 0
+ReadsToken p place e x = read_at p place (expression_of e) ≡ next (read_at p place (expression_of x.2)) (λ v. token_at (world_of p) x.0 x.1 (node v))
+
+of_token : (p : Program) (place : Place) (e : TExpr) {y x : Kind × ℕ × TExpr} → Some y ≡ Some x → ReadsToken p place e y → ReadsToken p place e x
+of_token p place e {y} {x} h reads = let same : y ≡ x = cc in subst (ReadsToken p place e) same reads
+
+token_part : (p : Program) (place : Place) (e : TExpr) (t : Kind) (k : ℕ) (a : TExpr) → token_read e ≡ Some (t, k, a) → ReadsToken p place e (t, k, a)
+token_part p place (kept.Token' u m o e) t k a h = of_token p place (kept.Token' u m o e) h refl
+token_part p place _ t k a h = cc
 
 -- the same of two parts
 abbrev MadeOfTwo : Program → Place → TExpr → TExpr × TExpr → Type 0
@@ -248,6 +258,15 @@ module _ {p : Program} {place : Place} where
   one_makes e {a = a} {before = Ok v} {after = Ok x} is y made = ends (expression_of e) (expression_of a) v x _ (one_part p place e a is) y _ refl made.0 made.1
   one_makes {r = r} {s = s} e {before = Ok v} {after = Err k} is y none = subst (λ j. Reads p r s place (expression_of e) (Err j)) (sym none) (record { kept = y.kept; is = tt })
   one_makes {r = r} {s = s} e {before = Err h} is y same = subst (Reads p r s place (expression_of e)) (sym same) (one_stops e is y)
+
+  -- a form that reads a token
+  pub token_stops : {S : Type 0} {r s : State S} (e : TExpr) {t : Kind} {k : ℕ} {a : TExpr} {h : Halt} {came : Result CodedValue Halt} → token_read e ≡ Some (t, k, a) → came ≡ Err h → Reads p r s place (expression_of a) came → Reads p r s place (expression_of e) came
+  token_stops e {t = t} {k = k} {a = a} {h = h} is stopped x = came_as (sym stopped) (stops (expression_of e) (expression_of a) h _ (token_part p place e t k a is) (came_as stopped x))
+
+  pub token_goes : {S : Type 0} {r m : State S} {u : Told S} (e : TExpr) {t : Kind} {k o : ℕ} {a : TExpr} {v : CodedValue} {came res : Result CodedValue Halt} → token_read e ≡ Some (t, k, a) → came ≡ Ok v → Reads p r m place (expression_of a) came → ReadsNode o v → TokenReads p m.told u t k o res
+      → Reads p r (state m.system u m.saved) place (expression_of e) res
+  token_goes {u = u} e {t = t} {k = k} {a = a} {v = v} {res = res} is there x named c =
+      goes (expression_of e) (expression_of a) v res _ (token_part p place e t k a is) (came_as there x) (advances_read x.kept.sound c.kept) (subst (λ (n : Reference). Answers p u (token_at (world_of p) t k n) res) (named (text_of p)) c.is)
 
   -- a form of two parts
   pub two_stop : {S : Type 0} {r s : State S} (e : TExpr) {a b : TExpr} {h : Halt} {first : Result CodedValue Halt} → parts_of e ≡ Some (a, b) → first ≡ Err h → Reads p r s place (expression_of a) first → Reads p r s place (expression_of e) first

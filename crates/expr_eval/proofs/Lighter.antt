@@ -1,12 +1,13 @@
 -- The parts of a form are lighter, which is why going down one ends.
 use Rattle.std.proofs.Common.{◌≡◌, ◌<◌, ◌+◌, ℕ, true, None, Some, arith, refl, subst}
+use Rattle.attr_rules.specs.declared.kinds.Kind.{Kind}
 use Rattle.attr_rules.specs.declared.expression.TArgs.{TArgs}
 use Rattle.attr_rules.specs.declared.expression.TArgs.TheVariants as kept_arguments
 use Rattle.attr_rules.specs.declared.expression.TExpr.{TExpr}
 use Rattle.attr_rules.specs.declared.expression.TExpr.TheVariants as kept
 use Rattle.attr_rules.specs.Expression.{expression_of}
 use Rattle.expr_eval.specs.Evaluating.{is_over_form}
-use Rattle.expr_eval.specs.Parts.{part_of, parts_of, range_and_body}
+use Rattle.expr_eval.specs.Parts.{part_of, parts_of, range_and_body, token_read}
 use Rattle.expr_eval.specs.Saved.{body_of, range_of}
 
 -- how many forms an expression has
@@ -59,7 +60,6 @@ pub one_lighter : (e a : TExpr) → part_of e ≡ Some a → weight a < weight e
 one_lighter (kept.Child' k o e) a h = lighter (weight e + 1) h (omega arith)
 one_lighter (kept.Count' k o e) a h = lighter (weight e + 1) h (omega arith)
 one_lighter (kept.Has' k o e) a h = lighter (weight e + 1) h (omega arith)
-one_lighter (kept.Token' t k o e) a h = lighter (weight e + 1) h (omega arith)
 one_lighter (kept.Cast' c o e) a h = lighter (weight e + 1) h (omega arith)
 one_lighter (kept.InstanceOf' c o e) a h = lighter (weight e + 1) h (omega arith)
 one_lighter (kept.Single' o e) a h = lighter (weight e + 1) h (omega arith)
@@ -67,6 +67,14 @@ one_lighter (kept.Size' o e) a h = lighter (weight e + 1) h (omega arith)
 one_lighter (kept.Not' o e) a h = lighter (weight e + 1) h (omega arith)
 one_lighter (kept.Negate' o e) a h = lighter (weight e + 1) h (omega arith)
 one_lighter _ a h = absurd (no_some h)
+
+node_lighter : {x y : Kind × ℕ × TExpr} (n : ℕ) → Some x ≡ Some y → weight x.2 < n → weight y.2 < n
+node_lighter {x} {y} n h light = let same : x ≡ y = cc in subst (λ z. weight z.2 < n) same light
+
+-- the part that gives the node of a token
+pub token_lighter : (e : TExpr) (t : Kind) (k : ℕ) (a : TExpr) → token_read e ≡ Some (t, k, a) → weight a < weight e
+token_lighter (kept.Token' u m o e) t k a h = node_lighter (weight e + 1) h (omega arith)
+token_lighter _ t k a h = absurd (no_some h)
 
 both_lighter : {x y : TExpr × TExpr} (n : ℕ) → Some x ≡ Some y → (weight x.0 < n) × (weight x.1 < n) → (weight y.0 < n) × (weight y.1 < n)
 both_lighter {x} {y} n h light = let same : x ≡ y = cc in subst (λ z. (weight z.0 < n) × (weight z.1 < n)) same light

@@ -11,7 +11,7 @@ use Rattle.equation_law.specs.declared.coding.Value.{Value as CodedValue}
 use Rattle.equation_law.specs.declared.system.System.{System}
 use Rattle.equation_law.specs.Codes.{AreCodes, AreElements, IsCoded, IsRow, arguments_at, arguments_of, codes_in, instance_of, reference_of, single_of, value_of}
 use Rattle.equation_law.specs.Equations.{kind_in, world_of}
-use Rattle.equation_law.specs.Meaning.{Place, World, call_at, demand, meaning_of, with_arguments}
+use Rattle.equation_law.specs.Meaning.{Place, World, call_at, demand, meaning_of, token_at, with_arguments}
 use Rattle.equation_law.specs.Names.{Instance}
 use Rattle.equation_law.specs.Program.{Program, attribute_parameters, text_of}
 use Rattle.equation_law.specs.Reading.{Grows, Told}
@@ -67,6 +67,11 @@ pub record DemandReads {S : Type 0} (p : Program) (r s : Told S) (i : Instance) 
 pub record CallReads {S : Type 0} (p : Program) (r s : Told S) (a n : ℕ) (xs : Args) (result : Result CodedValue Halt) : Type 0 where
   pub kept : Grows p r s
   pub is : (vs : List Value) → arguments_of p a xs ≡ as_arguments (attribute_parameters p a) vs → Answers p s (call_at (world_of p) a (reference_of n) vs) result
+
+-- the answer to the read of a token at a node, by its code, at a type
+pub record TokenReads {S : Type 0} (p : Program) (r s : Told S) (t : Kind) (k n : ℕ) (result : Result CodedValue Halt) : Type 0 where
+  pub kept : Grows p r s
+  pub is : Answers p s (token_at (world_of p) t k (reference_of n)) result
 
 -- the arguments of a call come to these values, each of them in its turn
 pub data Collects (A : Instance → Value → Type 0) (W : World) (place : Place) : Arguments → List Value → Type 0 where

@@ -2,13 +2,14 @@
 use Rattle.std.specs.Prelude.{◌≡◌, ◌||◌, ℕ, List, pos, neg_ℤ, not, Bool, true, false, Option, Some, None, Result, Ok, Err}
 use Rattle.std.specs.Int.{int_wrap}
 use mir.Syntax.{w32}
-use Rattle.attr_rules.specs.Expression.{Expression, Truth as TruthLiteral, Int as IntLiteral, Text as TextLiteral, Null as NullLiteral, Empty, This, Variable, Source as SourceNode, Child, Element, Count, Has, Token, Call, Cast, InstanceOf, Sets, Single, Contains, Size, Not, Negate, Binary, And, Or, OrBoth, If, expression_of}
+use Rattle.attr_rules.specs.Expression.{Expression, Truth as TruthLiteral, Int as IntLiteral, Text as TextLiteral, Null as NullLiteral, Empty, This, Variable, Source as SourceNode, Child, Element, Count, Has, Call, Cast, InstanceOf, Sets, Single, Contains, Size, Not, Negate, Binary, And, Or, OrBoth, If, expression_of}
+use Rattle.attr_rules.specs.declared.kinds.Kind.{Kind}
 use Rattle.attr_rules.specs.declared.expression.TExpr.{TExpr}
 use Rattle.attr_rules.specs.declared.expression.TExpr.TheVariants as kept
 use Rattle.equation_law.specs.declared.coding.Value.{Value as CodedValue}
 use Rattle.equation_law.specs.declared.coding.Value.TheVariants as coded
 use Rattle.equation_law.specs.Codes.{AreElements, value_of}
-use Rattle.equation_law.specs.Meaning.{Place, World, cast_to, child_at, count_at, element_at, is_instance, is_there, named, operate, token_at}
+use Rattle.equation_law.specs.Meaning.{Place, World, cast_to, child_at, count_at, element_at, is_instance, is_there, named, operate}
 use Rattle.equation_law.specs.Names.{Null as NoNode}
 use Rattle.equation_law.specs.Program.{Program, text_of}
 use Rattle.equation_law.specs.Sets.{no_elements}
@@ -46,7 +47,6 @@ abbrev pub part_of : TExpr → Option TExpr
 part_of (kept.Child' k p a) = Some a
 part_of (kept.Count' k p a) = Some a
 part_of (kept.Has' k p a) = Some a
-part_of (kept.Token' t k p a) = Some a
 part_of (kept.Cast' c p a) = Some a
 part_of (kept.InstanceOf' c p a) = Some a
 part_of (kept.Single' p a) = Some a
@@ -60,7 +60,6 @@ abbrev pub made_of_one : World → Expression → Value → Value
 made_of_one W (Child k e) v = Node (child_at W k (node v))
 made_of_one W (Count k e) v = Int (count_at W k (node v))
 made_of_one W (Has k e) v = Truth (is_there (child_at W k (node v)))
-made_of_one W (Token t k e) v = token_at W t k (node v)
 made_of_one W (Cast c e) v = Node (cast_to W c (node v))
 made_of_one W (InstanceOf c e) v = Truth (is_instance W c (node v))
 made_of_one W (Single e) v = single v
@@ -68,6 +67,11 @@ made_of_one W (Size e) v = Int (int_wrap w32 (pos (size_of v)))
 made_of_one W (Not e) v = Truth (not (truth v))
 made_of_one W (Negate e) v = Int (int_wrap w32 (neg_ℤ (int v)))
 made_of_one W _ v = v
+
+-- the type at which a form reads a token, the token's component, and the part that gives the node
+abbrev pub token_read : TExpr → Option (Kind × ℕ × TExpr)
+token_read (kept.Token' t k p a) = Some (t, k, a)
+token_read _ = None
 
 -- the parts of a form that makes its value of those of two
 abbrev pub parts_of : TExpr → Option (TExpr × TExpr)
@@ -107,6 +111,7 @@ is_further _ = false
 abbrev pub AreParts : TExpr → Parts → Type 0
 AreParts e parts.Leaf = is_leaf (expression_of e) ≡ true
 AreParts e (parts.One a) = part_of e ≡ Some a.now
+AreParts e (parts.Token t k a) = token_read e ≡ Some (t.now, k.now, a.now)
 AreParts e (parts.Two a b) = parts_of e ≡ Some (a.now, b.now)
 AreParts e (parts.Over a b) = range_and_body e ≡ Some (a.now, b.now)
 AreParts e parts.Further = is_further (expression_of e) ≡ true

@@ -1,5 +1,6 @@
 // Accessors of the components of a node.
 ghost use Rattle.std.specs.Prelude.{◌≡◌, ℕ, pos, List, []};
+ghost use Rattle.solutions.specs.Asking.{Gives};
 ghost use Rattle.tree_arena.specs.Nodes.{child_in, count_in, token_in};
 ghost use Rattle.equation_law.specs.Codes.{reference_of, value_of};
 ghost use Rattle.equation_law.specs.Equations.{source_or_null, source_of};
@@ -240,9 +241,9 @@ fn decoded(alloc: Global, kind: Kind, code: Option<u32>) -> Value
     }
 }
 
-/// The token of a receiver at a component, read at a type; on null it is the type's default.
+/// The token of a receiver at a component, read at a type; on null it is the type's default. Neither demands anything.
 pub(crate) fn token(alloc: Global, system: &System, kind: Kind, k: u32, receiver: NodeRef) -> Value
-    ensures value { value_of (texts_in system.now) result ≡ token_on (world_in system.now) kind k (reference_of receiver.0) }
+    ensures value { Gives (value_of (texts_in system.now) result) ≡ token_on (world_in system.now) kind k (reference_of receiver.0) }
     ensures coded { (p : Program) → AreElements p result }
 {
     match receiver.source() {

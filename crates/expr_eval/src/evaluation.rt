@@ -10,12 +10,12 @@ ghost use Rattle.equation_law.specs.Reading.{IsSound};
 ghost use Rattle.equation_law.specs.Values.{as_argument, set_operate as set_operated, truth};
 ghost use Rattle.equation_law.specs.Systems.{program_of};
 ghost use Rattle.expr_eval.specs.Elements.{Rooms, elements_in};
-ghost use Rattle.expr_eval.specs.Evaluating.{CallReads, DemandReads, is_over_form, place_in, texts_in, world_in};
+ghost use Rattle.expr_eval.specs.Evaluating.{CallReads, DemandReads, TokenReads, is_over_form, place_in, texts_in, world_in};
 ghost use Rattle.expr_eval.specs.Parts.{IsRounded, IsSaid, is_further};
 ghost use Rattle.expr_eval.specs.Reads.{ArgumentsRead, GoesOver, IsReady, Reads, ReadsStand, state};
 ghost use Rattle.expr_eval.specs.Saved.{IsFirst, Stands, begun as begun_with, body_of, done as done_with, made as made_of, making_of as makes, range_of, ranged};
 
-use crate::accessors::Elements;
+use crate::accessors::{Elements, token};
 use crate::parts::{Parts, make_both, make_whole, parts_of, put_leaf};
 use crate::saved::{Making, Saved, Stand, making_of};
 use attr_rules::{AttrId, Kind, Params, Quantifier, SetOperator, TArgs, TExpr};
@@ -182,6 +182,27 @@ fn call<R: Reader>(
         return;
     }
     demand(context, Instance::Attr { attr, node, args }, reader, came);
+}
+
+/// Puts the token of a node, or of null, at a component in place, read at a type.
+fn put_token<R: Reader>(
+    context: &Context<'_>,
+    kind: Kind,
+    component: u32,
+    node: NodeRef,
+    reader: &mut R,
+    came: &mut Result<Value, Halt>,
+)
+    requires { IsSound (program_of context.now.system.now) (R.tells reader.old) }
+    ensures { TokenReads (program_of context.now.system.now) (R.tells reader.old) (R.tells reader.new) kind component node.0 came.new }
+{
+    *came = Ok(token(
+        context.alloc,
+        context.system,
+        kind,
+        component,
+        node,
+    ));
 }
 
 /// The names with room for one more in front.
@@ -564,6 +585,16 @@ pub(crate) fn meaning<'a, R: Reader>(
         Parts::One(part) => {
             meaning(context, part, reader, saved, came);
             make_whole(context, expression, came);
+        }
+        Parts::Token(kind, component, receiver) => {
+            meaning(context, receiver, reader, saved, came);
+            match came {
+                Ok(receiver) => {
+                    let node = receiver.node();
+                    put_token(context, *kind, *component, node, reader, came);
+                }
+                Err(_) => {}
+            }
         }
         Parts::Two(first, second) => {
             meaning(context, first, reader, saved, came);

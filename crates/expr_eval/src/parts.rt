@@ -7,10 +7,10 @@ ghost use Rattle.equation_law.specs.Systems.{program_of};
 ghost use Rattle.expr_eval.specs.Evaluating.{place_in, texts_in, world_in};
 ghost use Rattle.expr_eval.specs.Parts.{AreParts, IsMade, OneMakes, TwoMake, leaf_value, made_of_one, made_of_two};
 
-use crate::accessors::{cast, child, count, element, has, is_of, source, token};
+use crate::accessors::{cast, child, count, element, has, is_of, source};
 use crate::evaluation::{Context, Halt};
 use crate::operators::operate;
-use attr_rules::TExpr;
+use attr_rules::{Kind, TExpr};
 use code_sets::Codes;
 use equation_law::{NodeRef, Value};
 use rag_io::Memory;
@@ -23,6 +23,8 @@ pub(crate) enum Parts<'a> {
     Leaf,
     /// One part.
     One(&'a TExpr),
+    /// The token of a node that one part gives: the type at which it is read, and its component. It may demand something itself.
+    Token(&'a Kind, &'a u32, &'a TExpr),
     /// Two parts, of which the first is evaluated first.
     Two(&'a TExpr, &'a TExpr),
     /// What its elements come from, and what it says at each of them.
@@ -40,7 +42,7 @@ pub(crate) fn parts_of(form: &TExpr) -> Parts<'_>
         TExpr::Truth(_) | TExpr::Int(_) | TExpr::Text(_) | TExpr::Null => Parts::Leaf,
         TExpr::Empty | TExpr::This | TExpr::Variable(_) | TExpr::Source(_) => Parts::Leaf,
         TExpr::Child(_, part) | TExpr::Count(_, part) | TExpr::Has(_, part) => Parts::One(part),
-        TExpr::Token(_, _, part) => Parts::One(part),
+        TExpr::Token(kind, component, part) => Parts::Token(kind, component, part),
         TExpr::Cast(_, part) | TExpr::InstanceOf(_, part) => Parts::One(part),
         TExpr::Single(part) | TExpr::Size(part) => Parts::One(part),
         TExpr::Not(part) | TExpr::Negate(part) => Parts::One(part),
@@ -102,10 +104,6 @@ fn make_of_one(context: &Context<'_>, form: &TExpr, part: &mut Value) -> Result<
         }
         TExpr::Has(k, _) => {
             *part = Value::Truth(has(system, *k, part.node()));
-            Ok(())
-        }
-        TExpr::Token(kind, k, _) => {
-            *part = token(context.alloc, system, *kind, *k, part.node());
             Ok(())
         }
         TExpr::Cast(class, _) => {

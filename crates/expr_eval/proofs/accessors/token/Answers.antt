@@ -1,4 +1,5 @@
 use Rattle.std.proofs.Common.{List, ap, ◌∙◌}
+use Rattle.solutions.specs.Asking.{Gives}
 use Rattle.tree_arena.specs.Nodes.{Node, token_in}
 use Rattle.equation_law.specs.Equations.{decoded}
 use Rattle.equation_law.specs.Meaning.{token_at}
@@ -9,13 +10,12 @@ use Rattle.expr_eval.proofs.accessors.token.Goals as goal
 pub returns-in-None-clause-value : goal.returns-in-None-clause-value
 returns-in-None-clause-value c =
     let system = c.args.system.now in
-    c.default_of.ensures.value (texts_in system) (first_text system) ∙ ap (token_at (world_in system) c.args.kind c.args.k) c.in-None.ensures
+    ap Gives (c.default_of.ensures.value (texts_in system) (first_text system)) ∙ ap (token_at (world_in system) c.args.kind c.args.k) c.in-None.ensures
 
 pub returns-in-Some-clause-value : goal.returns-in-Some-clause-value
 returns-in-Some-clause-value c =
     let system = c.args.system.now in
-    c.decoded.ensures.value (texts_in system) (first_text system)
-    ∙ ap (decoded (texts_in system) c.args.kind) (c.code_at.ensures ∙ ap (λ (nodes : List Node). token_in nodes c.in-Some.node c.args.k) c.tree.ensures)
+    ap Gives (c.decoded.ensures.value (texts_in system) (first_text system) ∙ ap (decoded (texts_in system) c.args.kind) (c.code_at.ensures ∙ ap (λ (nodes : List Node). token_in nodes c.in-Some.node c.args.k) c.tree.ensures))
     ∙ ap (token_at (world_in system) c.args.kind c.args.k) c.in-Some.ensures
 
 pub returns-in-None-clause-coded : goal.returns-in-None-clause-coded

@@ -2,7 +2,7 @@
 use Rattle.std.proofs.Common.{◌<◌, refl, arith, subst, sym}
 use Rattle.attr_rules.specs.Expression.{expression_of}
 use Rattle.equation_law.specs.Systems.{program_of}
-use Rattle.expr_eval.proofs.Forms.{advances_self, advances_then, and_ends, and_goes, and_stops, boxed, call_goes, call_stops, call_stops_at, came_as, if_otherwise, if_stops, if_then, leaf_reads, none_said, one_makes, or_ends, or_goes, or_stops, out_of_memory, read_as, said, said_is, two_make, two_stop}
+use Rattle.expr_eval.proofs.Forms.{advances_self, advances_then, and_ends, and_goes, and_stops, boxed, call_goes, call_stops, call_stops_at, came_as, if_otherwise, if_stops, if_then, leaf_reads, none_said, one_makes, or_ends, or_goes, or_stops, out_of_memory, read_as, said, said_is, token_goes, token_stops, two_make, two_stop}
 use Rattle.std.specs.Prelude.{Vec}
 use Rattle.std.specs.declared.alloc.Global.{Global}
 use Rattle.equation_law.specs.declared.coding.Single.{Single}
@@ -122,10 +122,16 @@ pub meaning-returns-in-One : goal.meaning-returns-in-One
 meaning-returns-in-One g t c = one_makes c.args.expression.now c.in-One.ensures c.meaning.ensures c.make_whole.ensures
 
 pub meaning-returns-in-Ok : goal.meaning-returns-in-Ok
-meaning-returns-in-Ok g t c = two_make c.args.expression.now c.in-Two.ensures c.in-Ok.is c.meaning-in-Two.ensures c.meaning-in-Ok.ensures c.make_both.ensures
+meaning-returns-in-Ok g t c = token_goes c.args.expression.now c.in-Token.ensures c.in-Ok.is c.meaning-in-Token.ensures c.node-node.ensures c.put_token.ensures
 
 pub meaning-returns-in-Err : goal.meaning-returns-in-Err
-meaning-returns-in-Err g t c = two_stop c.args.expression.now c.in-Two.ensures c.in-Err.is c.meaning-in-Two.ensures
+meaning-returns-in-Err g t c = token_stops c.args.expression.now c.in-Token.ensures c.in-Err.is c.meaning-in-Token.ensures
+
+pub meaning-returns-in-Ok-2 : goal.meaning-returns-in-Ok-2
+meaning-returns-in-Ok-2 g t c = two_make c.args.expression.now c.in-Two.ensures c.in-Ok-2.is c.meaning-in-Two.ensures c.meaning-in-Ok-2.ensures c.make_both.ensures
+
+pub meaning-returns-in-Err-2 : goal.meaning-returns-in-Err-2
+meaning-returns-in-Err-2 g t c = two_stop c.args.expression.now c.in-Two.ensures c.in-Err-2.is c.meaning-in-Two.ensures
 
 pub further-returns-in-Ok-given : goal.further-returns-in-Ok-given
 further-returns-in-Ok-given g t c =

@@ -1,0 +1,6 @@
+use Rattle.equation_law.specs.Systems.{program_of}
+use Rattle.expr_eval.proofs.Calls.{token_given}
+use Rattle.expr_eval.proofs.evaluation.put_token.Goals as goal
+
+pub returns : goal.returns
+returns g c = token_given c.requires c.token.ensures.value (c.token.ensures.coded (program_of c.args.context.now.system.now))
