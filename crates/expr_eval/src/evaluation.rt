@@ -196,13 +196,7 @@ fn put_token<R: Reader>(
     requires { IsSound (program_of context.now.system.now) (R.tells reader.old) }
     ensures { TokenReads (program_of context.now.system.now) (R.tells reader.old) (R.tells reader.new) kind component node.0 came.new }
 {
-    *came = Ok(token(
-        context.alloc,
-        context.system,
-        kind,
-        component,
-        node,
-    ));
+    *came = Ok(token(context.alloc, context.system, kind, component, node));
 }
 
 /// The names with room for one more in front.

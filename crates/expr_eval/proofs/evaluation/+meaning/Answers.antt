@@ -127,11 +127,11 @@ meaning-returns-in-Ok g t c = token_goes c.args.expression.now c.in-Token.ensure
 pub meaning-returns-in-Err : goal.meaning-returns-in-Err
 meaning-returns-in-Err g t c = token_stops c.args.expression.now c.in-Token.ensures c.in-Err.is c.meaning-in-Token.ensures
 
-pub meaning-returns-in-Ok-2 : goal.meaning-returns-in-Ok-2
-meaning-returns-in-Ok-2 g t c = two_make c.args.expression.now c.in-Two.ensures c.in-Ok-2.is c.meaning-in-Two.ensures c.meaning-in-Ok-2.ensures c.make_both.ensures
+pub meaning-returns-in-Ok-came : goal.meaning-returns-in-Ok-came
+meaning-returns-in-Ok-came g t c = two_make c.args.expression.now c.in-Two.ensures c.in-Ok-came.is c.meaning-in-Two.ensures c.meaning-in-Ok-came.ensures c.make_both.ensures
 
-pub meaning-returns-in-Err-2 : goal.meaning-returns-in-Err-2
-meaning-returns-in-Err-2 g t c = two_stop c.args.expression.now c.in-Two.ensures c.in-Err-2.is c.meaning-in-Two.ensures
+pub meaning-returns-in-Err-came : goal.meaning-returns-in-Err-came
+meaning-returns-in-Err-came g t c = two_stop c.args.expression.now c.in-Two.ensures c.in-Err-came.is c.meaning-in-Two.ensures
 
 pub further-returns-in-Ok-given : goal.further-returns-in-Ok-given
 further-returns-in-Ok-given g t c =
