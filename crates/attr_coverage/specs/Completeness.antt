@@ -1,14 +1,17 @@
 -- The rules that each concrete class has an equation for each of its attributes, and that no inherited one can be met uncovered: J7 and J8.
 use Rattle.std.specs.Prelude.{ℕ, List, [], Bool, ◌&&◌, Option, Some, None, is_none, map, if◌then◌else◌}
 use Rattle.std.specs.List.{list_any}
+use Rattle.std.specs.Option.{option_map}
 use Rattle.rag_io.specs.declared.token.Place.{Place}
 use Rattle.broken_rules.specs.declared.broken.Broken.{Broken}
 use Rattle.broken_rules.specs.declared.rule.Rule.TheVariants.{J7, J8}
 use Rattle.broken_rules.specs.Notes.{at, broken_if, each_from}
+use Rattle.ast_grammar.specs.declared.grammar.ClassId.{ClassId}
 use Rattle.ast_grammar.specs.Grammar.{Class, is_sub, superclasses_of}
 use Rattle.attr_rules.specs.declared.dispatch.Target.{Target}
 use Rattle.attr_rules.specs.declared.kinds.Attr.{Attr}
-use Rattle.attr_rules.specs.Rules.{Attribute, declared_at, first_of_name, has_own_equations, is_inherited, nearest_equation}
+use Rattle.attr_rules.specs.declared.kinds.AttrId.{AttrId}
+use Rattle.attr_rules.specs.Rules.{Attribute, declared_at, first_of_name, has_own_equations, is_inherited, nearest_equation, number_of_attribute}
 use Rattle.attr_coverage.specs.Covering.{is_concrete, is_covered, is_uncovered}
 use Rattle.attr_scope.specs.Classes.{class_numbers}
 use Rattle.attr_scope.specs.Written.{Head}
@@ -20,6 +23,10 @@ is_missing g targets a d c = is_concrete g c && (is_sub g c d && is_none (neares
 -- nodes of class c have the inherited attribute of number a, which is declared for class d, and it can be met uncovered there
 abbrev pub is_open : List Class → List Target → Option ℕ → ℕ → ℕ → Bool
 is_open g targets first d c = is_sub g c d && is_uncovered g (is_covered (superclasses_of g) targets first) c
+
+-- the inherited attribute, which is declared for class d, can be met uncovered at nodes of some class, by the first one of its name
+abbrev pub can_be_open : List Class → List Target → Option AttrId → ClassId → Bool
+can_be_open g targets first d = list_any (is_open g targets (option_map number_of_attribute first) d.0) (class_numbers g)
 
 -- J7 at the name of an attribute of class d
 abbrev pub missing_broken : List Class → List Target → ℕ → ℕ → Place → List Broken

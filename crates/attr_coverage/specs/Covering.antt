@@ -2,9 +2,12 @@
 use Rattle.std.specs.Prelude.{ℕ, zero, suc, List, Bool, false, not, ◌&&◌, ◌||◌, Option, Some, None, length, map, slice_get}
 use Rattle.std.specs.List.{list_any, range_with_len}
 use Rattle.std.specs.Option.{is_some, option_and_then, option_map}
-use Rattle.ast_grammar.specs.Grammar.{Class, Component, abstract_in, component_at, components_of, is_sub}
+use Rattle.ast_grammar.specs.declared.grammar.ClassId.{ClassId}
+use Rattle.ast_grammar.specs.declared.grammar.Shape.{Shape}
+use Rattle.ast_grammar.specs.Grammar.{Class, Component, abstract_in, component_at, components_of, is_sub, superclasses_of}
 use Rattle.attr_rules.specs.declared.dispatch.Target.{Target}
-use Rattle.attr_rules.specs.Rules.{RuleSet, covering_equation, first_of_name, is_for_nodes, target_in}
+use Rattle.attr_rules.specs.declared.kinds.AttrId.{AttrId}
+use Rattle.attr_rules.specs.Rules.{RuleSet, covering_equation, first_of_name, is_for_nodes, number_of_attribute, target_in}
 use Rattle.attr_scope.specs.Classes.{class_numbers}
 
 abbrev pub is_concrete_of : Option Bool → Bool
@@ -22,6 +25,14 @@ is_concrete_below g d c = is_concrete g c && is_sub g c d
 -- an equation covers, for the attribute, what hangs at component k of nodes of class p; the first inherited attribute of the name tells which
 abbrev pub is_covered : List (Option ℕ) → List Target → Option ℕ → ℕ → ℕ → Bool
 is_covered superclasses targets first p k = is_some (option_and_then (covering_equation superclasses targets p k) first)
+
+-- the same by the number of the first inherited attribute, where there is one
+abbrev pub is_covered_for : List Class → List Target → Option AttrId → ℕ → ℕ → Bool
+is_covered_for g targets first p k = is_covered (superclasses_of g) targets (option_map number_of_attribute first) p k
+
+-- nodes hang at component k of nodes of class p, which is of this shape, and no equation covers them
+abbrev pub is_open_at : List Class → List Target → Option AttrId → ClassId → ℕ → Shape → Bool
+is_open_at g targets first p k shape = is_for_nodes shape && not (is_covered_for g targets first p.0 k)
 
 -- the same among the equations of some rules
 abbrev pub covers : RuleSet → ℕ → ℕ → ℕ → Bool

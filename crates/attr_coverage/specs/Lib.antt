@@ -1,3 +1,4 @@
 pub mod Completeness
 pub mod Covering
 pub mod CoveringKept
+pub mod Dispatched

@@ -1,17 +1,11 @@
 // The rules that each concrete class has an equation for each of its attributes, and that no inherited one can be met uncovered: J7 and J8.
-ghost use Rattle.std.specs.Prelude.{◌≡◌, ◌&&◌, ◌<◌, List, IfOk, OnOk, is_none, length, map};
+ghost use Rattle.std.specs.Prelude.{◌≡◌, ◌&&◌, ◌<◌, IfOk, OnOk, length, map};
 ghost use Rattle.std.specs.List.{list_any};
-ghost use Rattle.std.specs.Option.{option_map};
-ghost use Rattle.ast_grammar.specs.Grammar.{is_sub, superclasses_of};
-ghost use Rattle.broken_rules.specs.Answers.{Ends};
-ghost use Rattle.broken_rules.specs.Notes.{Notes};
-ghost use Rattle.attr_rules.specs.declared.dispatch.Target.{Target};
-ghost use Rattle.attr_rules.specs.Dispatching.{Dispatches};
-ghost use Rattle.attr_rules.specs.RowsKept.{at_row};
-ghost use Rattle.attr_rules.specs.Rules.{has_own_equations, number_of_attribute};
-ghost use Rattle.attr_coverage.specs.Completeness.{complete_broken, is_open, lacking, place_of, places_of};
-ghost use Rattle.attr_coverage.specs.Covering.{is_concrete};
+ghost use Rattle.ast_grammar.specs.Grammar.{is_sub};
+ghost use Rattle.attr_rules.specs.Rules.{has_own_equations};
+ghost use Rattle.attr_coverage.specs.Completeness.{can_be_open, place_of, places_of};
 ghost use Rattle.attr_coverage.specs.CoveringKept.{mark_at};
+ghost use Rattle.attr_coverage.specs.Dispatched.{EndsComplete, ForTargets, NotesLacking, lacks_equation};
 ghost use Rattle.attr_scope.specs.Classes.{class_numbers};
 ghost use Rattle.attr_scope.specs.Seen.{seen_head};
 
@@ -30,7 +24,7 @@ fn lacks_equation(
     attribute: AttrId,
     declared: ClassId,
 ) -> bool
-    ensures { result ≡ list_any (λ c. is_concrete grammar.now c && (is_sub grammar.now c declared.0 && is_none (at_row dispatch.now.rows.items c attribute.0))) (class_numbers grammar.now) }
+    ensures { result ≡ lacks_equation grammar.now dispatch.now attribute declared }
 {
     (0..grammar.classes()).any(|number| {
         let class = ClassId(number as u16);
@@ -42,7 +36,7 @@ fn lacks_equation(
 
 // An attribute that has equations of its own lacks one.
 fn is_missing(grammar: &Grammar, dispatch: &Dispatch, attribute: AttrId, declared: &Attr) -> bool
-    ensures { result ≡ (has_own_equations declared.now.sort && list_any (λ c. is_concrete grammar.now c && (is_sub grammar.now c declared.now.class.0 && is_none (at_row dispatch.now.rows.items c attribute.0))) (class_numbers grammar.now)) }
+    ensures { result ≡ (has_own_equations declared.now.sort && lacks_equation grammar.now dispatch.now attribute declared.now.class) }
 {
     declared.sort.has_own_equations()
         && lacks_equation(grammar, dispatch, attribute, declared.class)
@@ -66,7 +60,7 @@ fn is_open(
     first: Option<AttrId>,
     declared: ClassId,
 ) -> Result<bool, Memory>
-    ensures { (targets : List Target) → Dispatches (superclasses_of grammar.now) targets dispatch.now → IfOk result (λ b. b ≡ list_any (is_open grammar.now targets (option_map number_of_attribute first) declared.0) (class_numbers grammar.now)) }
+    ensures { ForTargets grammar.now dispatch.now (λ targets. IfOk result (λ b. b ≡ can_be_open grammar.now targets first declared)) }
 {
     let marks = uncovered_classes(alloc, grammar, dispatch, first)?;
     Ok(is_marked_below(grammar, &marks, declared))
@@ -83,7 +77,7 @@ fn check_attribute(
     faults: &mut Earliest,
 ) -> Result<(), Memory>
     requires { attribute.0 < length attributes.now.attributes }
-    ensures { (targets : List Target) → Dispatches (superclasses_of grammar.now) targets dispatch.now → OnOk result (Notes (lacking grammar.now attributes.now.attributes targets attribute.0 place) faults.old faults.new) }
+    ensures { OnOk result (NotesLacking grammar.now attributes.now dispatch.now attribute place faults.old faults.new) }
 {
     let declared = attributes.attr(attribute);
     if declared.sort.is_inherited() {
@@ -124,7 +118,7 @@ fn check_attributes(
     places: &[Place],
 ) -> Result<(), ReadFault>
     requires { length places.now ≡ length attributes.now.attributes }
-    ensures { (targets : List Target) → Dispatches (superclasses_of grammar.now) targets dispatch.now → Ends (complete_broken grammar.now attributes.now.attributes targets places.now) result }
+    ensures { EndsComplete grammar.now attributes.now dispatch.now places.now result }
 {
     let mut faults = Earliest::new();
     for i in 0..attributes.len() {
@@ -152,7 +146,7 @@ pub fn check_completeness(
     dispatch: &Dispatch,
 ) -> Result<(), ReadFault>
     requires { length heads.now ≡ length attributes.now.attributes }
-    ensures { (targets : List Target) → Dispatches (superclasses_of grammar.now) targets dispatch.now → Ends (complete_broken grammar.now attributes.now.attributes targets (places_of (map seen_head heads.now))) result }
+    ensures { EndsComplete grammar.now attributes.now dispatch.now (places_of (map seen_head heads.now)) result }
 {
     let places = places_of(alloc, heads)?;
     check_attributes(alloc, grammar, attributes, dispatch, &places)

@@ -1,12 +1,9 @@
 // The classes of which there can be a node at which no equation gives a value to an inherited attribute.
-ghost use Rattle.std.specs.Prelude.{◌≡◌, ◌<◌, ◌==◌, ◌&&◌, ℕ, List, IfOk, OnOk, false, length, not, replicate};
-ghost use Rattle.std.specs.Option.{option_map};
-ghost use Rattle.ast_grammar.specs.Grammar.{superclasses_of};
-ghost use Rattle.attr_rules.specs.declared.dispatch.Target.{Target};
-ghost use Rattle.attr_rules.specs.Dispatching.{Dispatches};
-ghost use Rattle.attr_rules.specs.Rules.{is_for_nodes, number_of_attribute};
-ghost use Rattle.attr_coverage.specs.Covering.{is_concrete, is_concrete_below, is_covered, is_uncovered, may_hang};
+ghost use Rattle.std.specs.Prelude.{◌≡◌, ◌<◌, ◌==◌, ◌&&◌, IfOk, OnOk, false, length, replicate};
+ghost use Rattle.attr_rules.specs.Rules.{is_for_nodes};
+ghost use Rattle.attr_coverage.specs.Covering.{is_concrete, is_concrete_below, is_covered_for, is_open_at};
 ghost use Rattle.attr_coverage.specs.CoveringKept.{Adds, AreListed, Grows, mark_at};
+ghost use Rattle.attr_coverage.specs.Dispatched.{AddsHanging, ForTargets, MarksUncovered};
 
 use ast_grammar::{ClassId, Component, Grammar, Shape};
 use attr_rules::{AttrId, Dispatch};
@@ -59,7 +56,7 @@ fn is_covered(
     class: ClassId,
     component: u32,
 ) -> bool
-    ensures { (targets : List Target) → Dispatches (superclasses_of grammar.now) targets dispatch.now → result ≡ is_covered (superclasses_of grammar.now) targets (option_map number_of_attribute first) class.0 component }
+    ensures { ForTargets grammar.now dispatch.now (λ targets. result ≡ is_covered_for grammar.now targets first class.0 component) }
 {
     match first {
         None => false,
@@ -78,7 +75,7 @@ fn is_open(
     k: u32,
     component: &Component,
 ) -> bool
-    ensures { (targets : List Target) → Dispatches (superclasses_of grammar.now) targets dispatch.now → result ≡ (is_for_nodes component.now.shape && not (is_covered (superclasses_of grammar.now) targets (option_map number_of_attribute first) class.0 k)) }
+    ensures { ForTargets grammar.now dispatch.now (λ targets. result ≡ is_open_at grammar.now targets first class k component.now.shape) }
 {
     is_for_nodes(component.shape) && !is_covered(grammar, dispatch, first, class, k)
 }
@@ -133,7 +130,7 @@ impl Found {
         requires class { class.0 < length grammar.now }
         requires long { length self.old.marks.items ≡ length grammar.now }
         ensures grown { OnOk result (Grows self.old self.new) }
-        ensures added { (targets : List Target) → Dispatches (superclasses_of grammar.now) targets dispatch.now → OnOk result (Adds (may_hang grammar.now (is_covered (superclasses_of grammar.now) targets (option_map number_of_attribute first)) class.0) self.old self.new) }
+        ensures added { OnOk result (AddsHanging grammar.now dispatch.now first class self.old self.new) }
     {
         for k in 0..grammar.arity(class) {
             let component = grammar.component(class, k);
@@ -154,7 +151,7 @@ pub(crate) fn uncovered_classes(
     dispatch: &Dispatch,
     first: Option<AttrId>,
 ) -> Result<Vec<bool>, Memory>
-    ensures { (targets : List Target) → Dispatches (superclasses_of grammar.now) targets dispatch.now → IfOk result (λ marks. (c : ℕ) → mark_at marks.items c ≡ is_uncovered grammar.now (is_covered (superclasses_of grammar.now) targets (option_map number_of_attribute first)) c) }
+    ensures { IfOk result (MarksUncovered grammar.now dispatch.now first) }
 {
     let mut found = Found::new(alloc, grammar.classes())?;
     found.add_below(grammar, grammar.first_class())?;

@@ -1,13 +1,16 @@
 -- What is kept of the names that are declared: for each the classes that declare it.
-use Rattle.std.specs.Prelude.{◌≡◌, ℕ, List, [], Bool, ◌||◌, ◌&&◌, Option, Some, None, Vec, length, position, slice_get}
+use Rattle.std.specs.Prelude.{◌≡◌, ℕ, List, [], ◌∷◌, ◌++◌, Bool, ◌||◌, ◌&&◌, Option, Some, None, Vec, length, position, slice_get}
 use Rattle.std.specs.List.{list_any}
 use Rattle.std.specs.Option.{option_and_then}
 use Rattle.std.specs.Str.{bytes_eq}
 use Rattle.std.specs.declared.alloc.Global.{Global}
+use Rattle.broken_rules.specs.declared.broken.Broken.{Broken}
+use Rattle.broken_rules.specs.Notes.{Notes}
 use Rattle.ast_grammar.specs.declared.grammar.ClassId.{ClassId}
 use Rattle.ast_grammar.specs.Grammar.{Class, is_sub}
+use Rattle.aspect_items.specs.Expressions.{Name}
 use Rattle.attr_heads.specs.declared.declared.Declared.{Declared}
-use Rattle.attr_heads.specs.Heads.{has_declaration}
+use Rattle.attr_heads.specs.Heads.{again_for, has_declaration, named_broken}
 use Rattle.attr_scope.specs.Written.{Head}
 
 -- one of the two classes is the other or below it
@@ -41,3 +44,19 @@ pub record Adds (old : Declared) (class : ClassId) (name : List ℕ) (new : Decl
 pub record Tells (g : List Class) (list : List Head) (d : Declared) : Type 0 where
   pub even : IsEven d
   pub tells : (c : ℕ) (name : List ℕ) → list_any (relates g c) (declaring d name) ≡ has_declaration g c name list
+
+-- J3 of a declaration of a name for a class was noted, whatever was declared before
+abbrev pub NotesAgain : List Class → Declared → ClassId → Name → Option Broken → Option Broken → Type 0
+NotesAgain g kept class n old new = (before : List Head) → Tells g before kept → Notes (again_for g before n (Some class.0)) old new
+
+-- the class was added to those that declare the name, whatever was declared before
+abbrev pub KeepsClass : List Class → Declared → ClassId → List ℕ → Declared → Type 0
+KeepsClass g old class name new = (before : List Head) → Tells g before old → IsEven new × Adds old class name new
+
+-- J2, J3, J4 and J17 of a declaration were noted, whatever so many declarations are before it
+abbrev pub NotesNamed : List Class → Declared → ℕ → Head → Option Broken → Option Broken → Type 0
+NotesNamed g kept count h old new = (before : List Head) → Tells g before kept → count ≡ length before → Notes (named_broken g before h) old new
+
+-- what is kept tells of this declaration too, whatever was declared before
+abbrev pub TellsMore : List Class → Declared → Head → Declared → Type 0
+TellsMore g old h new = (before : List Head) → Tells g before old → Tells g (before ++ h ∷ []) new

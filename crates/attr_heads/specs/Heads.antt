@@ -6,13 +6,13 @@ use Rattle.broken_rules.specs.declared.broken.Broken.{Broken}
 use Rattle.broken_rules.specs.declared.rule.Rule.TheVariants.{J3, J4, J15, J17}
 use Rattle.broken_rules.specs.Notes.{at, broken_if, each_after}
 use Rattle.ast_grammar.specs.declared.grammar.ClassId.{ClassId}
-use Rattle.ast_grammar.specs.Grammar.{Class, class_named, is_sub}
+use Rattle.ast_grammar.specs.Grammar.{Class, class_named, is_sub, superclasses_of}
 use Rattle.attr_rules.specs.declared.kinds.Attr.{Attr}
 use Rattle.attr_rules.specs.declared.kinds.Kind.{Kind}
 use Rattle.attr_rules.specs.declared.kinds.Params.{Params}
 use Rattle.attr_rules.specs.declared.kinds.Sort.{Sort}
 use Rattle.attr_rules.specs.Accessors.{is_spelled}
-use Rattle.attr_rules.specs.Rules.{Attribute, is_inherited, most_attributes}
+use Rattle.attr_rules.specs.Rules.{Attribute, AttributeSet, is_inherited, most_attributes}
 use Rattle.aspect_items.specs.Expressions.{Name}
 use Rattle.aspect_items.specs.Items.{Circular, WrittenType}
 use Rattle.attr_scope.specs.Classes.{class_broken, class_numbers, class_or_first}
@@ -96,3 +96,7 @@ attribute_of g h = record {
 
 abbrev pub attributes_of : List Class → List Head → List Attribute
 attributes_of g list = map (attribute_of g) list
+
+-- what the declarations declare, among the classes of the grammar
+abbrev pub attributes_declared : List Class → List Head → AttributeSet
+attributes_declared g list = record { superclasses = superclasses_of g; attributes = attributes_of g list }

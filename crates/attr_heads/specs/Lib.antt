@@ -4,6 +4,7 @@ pub mod DeclaredNames
 pub mod FirstInherited
 pub mod Heads
 pub mod Parameters
+pub mod ParametersKept
 pub mod Paths
 pub mod Starts
 pub mod Targets

@@ -1,5 +1,7 @@
 -- Parameters, and the rules on them in heads: J3, J4, J15 and J17.
 use Rattle.std.specs.Prelude.{ℕ, ◌==◌, List, [], ◌∷◌, ◌++◌, Bool, true, false, not, ◌||◌, Option, Some, None, is_none, length, map}
+use Rattle.std.specs.Borrow.{Bor}
+use Rattle.std.specs.Option.{option_map}
 use Rattle.broken_rules.specs.declared.broken.Broken.{Broken}
 use Rattle.broken_rules.specs.declared.rule.Rule.TheVariants.{J3, J4, J17}
 use Rattle.broken_rules.specs.Notes.{at, broken_if, each_after}
@@ -9,7 +11,8 @@ use Rattle.attr_rules.specs.declared.kinds.Kind.TheVariants as kinds
 use Rattle.attr_rules.specs.declared.kinds.Params.{Params}
 use Rattle.attr_rules.specs.Rules.{most_parameters, no_params}
 use Rattle.names.specs.Among.{is_among}
-use Rattle.aspect_items.specs.Items.{Parameter, Signature, WrittenType}
+use Rattle.aspect_items.specs.declared.items.Signature as kept_signature
+use Rattle.aspect_items.specs.Items.{Parameter, Signature, WrittenType, seen_signature}
 use Rattle.attr_scope.specs.WrittenTypes.{kind_written, same_kind, type_written}
 
 abbrev pub parameter_name : Parameter → List ℕ
@@ -32,6 +35,10 @@ parameter_broken g names before p =
 -- what the parameters of a parenthesis break, before which a head has these names
 abbrev pub parameters_broken : List Class → List (List ℕ) → List Parameter → List Broken
 parameters_broken g names ps = each_after (parameter_broken g names) [] ps
+
+-- the path of an equation, if it has one, without where it lies
+abbrev pub seen_path : Option (Bor kept_signature.Signature) → Option Signature
+seen_path p = option_map (λ s. seen_signature s.now) p
 
 -- the parameters of a path, if there is one
 abbrev pub path_parameters : Option Signature → List Parameter

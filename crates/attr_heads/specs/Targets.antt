@@ -1,17 +1,19 @@
 -- The rules on what equations are for: J2, J5, J6 and J15, beside those on paths and on parameters.
-use Rattle.std.specs.Prelude.{ℕ, List, [], ◌++◌, Bool, false, Option, Some, None, is_none, map, if◌then◌else◌}
+use Rattle.std.specs.Prelude.{◌≡◌, ℕ, List, [], ◌++◌, Bool, false, Option, Some, None, is_none, map, if◌then◌else◌}
 use Rattle.std.specs.List.{list_any}
-use Rattle.std.specs.Option.{option_and_then}
+use Rattle.std.specs.Option.{option_and_then, option_map}
 use Rattle.broken_rules.specs.declared.broken.Broken.{Broken}
 use Rattle.broken_rules.specs.declared.rule.Rule.TheVariants.{J5, J6, J15}
 use Rattle.broken_rules.specs.Notes.{at, broken_if, each_after}
-use Rattle.ast_grammar.specs.Grammar.{Class, class_named, superclasses_of}
+use Rattle.ast_grammar.specs.declared.grammar.ClassId.{ClassId}
+use Rattle.ast_grammar.specs.Grammar.{Class, class_named, number_of, superclasses_of}
 use Rattle.attr_rules.specs.declared.dispatch.Reach.{Reach}
 use Rattle.attr_rules.specs.declared.dispatch.Reach.TheVariants.{Own}
 use Rattle.attr_rules.specs.declared.dispatch.Target.{Target}
 use Rattle.attr_rules.specs.declared.kinds.Attr.{Attr}
+use Rattle.attr_rules.specs.declared.kinds.AttrId.{AttrId}
 use Rattle.attr_rules.specs.declared.kinds.Kind.{Kind}
-use Rattle.attr_rules.specs.Rules.{Attribute, attribute_named, declared_at, first_inherited, has_own_equations, is_target}
+use Rattle.attr_rules.specs.Rules.{Attribute, AttributeSet, attribute_named, declared_at, first_inherited, has_own_equations, is_target, number_of_attribute}
 use Rattle.attr_rules.specs.Types.{parameter_kinds}
 use Rattle.attr_scope.specs.Classes.{class_broken}
 use Rattle.attr_heads.specs.Parameters.{all_parameters_broken, differ}
@@ -28,6 +30,10 @@ is_own (Some d) = has_own_equations d.sort
 abbrev pub if_own : List Attribute → ℕ → Option ℕ
 if_own attributes a = if is_own (declared_at attributes a) then Some a else None
 
+-- it holds of whatever grammar the attributes are declared for
+abbrev pub OfGrammar : AttributeSet → (List Class → Type 0) → Type 0
+OfGrammar known holds = (g : List Class) → known.superclasses ≡ superclasses_of g → holds g
+
 -- the attribute that a class has by a name, where equations without a path give it values
 abbrev pub own_attribute : List Class → List Attribute → List ℕ → ℕ → Option ℕ
 own_attribute g attributes name c = option_and_then (if_own attributes) (attribute_named (superclasses_of g) attributes (record { 0 = c }) name)
@@ -36,6 +42,10 @@ own_attribute g attributes name c = option_and_then (if_own attributes) (attribu
 abbrev pub attribute_for : List Class → List Attribute → Option ℕ → Option Signature → List ℕ → Option ℕ
 attribute_for g attributes c None name = option_and_then (own_attribute g attributes name) c
 attribute_for g attributes c (Some p) name = first_inherited attributes name
+
+-- the attribute of an equation without a path, where its class is known, which has it
+abbrev pub own_attribute_of : List Class → AttributeSet → Option ClassId → Name → Option ℕ
+own_attribute_of g known class n = attribute_for g known.attributes (option_map number_of class) None n.text
 
 abbrev pub target : ℕ → Reach → ℕ → Target
 target c r a = record { class = record { 0 = c }; reach = r; attribute = record { 0 = a } }
@@ -58,11 +68,15 @@ attribute_given g attributes e = attribute_for g attributes (class_of g e) e.pat
 abbrev pub target_of : List Class → List Attribute → Given → Option Target
 target_of g attributes e = target_by (class_of g e) (reach_of g (class_of g e) e.path) (attribute_given g attributes e)
 
+-- J5: no attribute of the name is inherited
+abbrev pub uninherited_broken : List Attribute → Name → List Broken
+uninherited_broken attributes n = broken_if (is_none (first_inherited attributes n.text)) (at n.place J5)
+
 -- J5: the class has no such attribute, or with a path none is inherited
 abbrev pub lacking_broken : List Class → List Attribute → Option Signature → Option ℕ → Name → List Broken
 lacking_broken g attributes None None n = []
 lacking_broken g attributes None (Some c) n = broken_if (is_none (own_attribute g attributes n.text c)) (at n.place J5)
-lacking_broken g attributes (Some p) c n = broken_if (is_none (first_inherited attributes n.text)) (at n.place J5)
+lacking_broken g attributes (Some p) c n = uninherited_broken attributes n
 
 -- the types of the parameters of an attribute, which are known
 abbrev pub types_declared : Attr → List (Option Kind)
@@ -76,6 +90,10 @@ differing_from g s (Some d) = broken_if (differ g (types_declared d) s.parameter
 -- the same of the attribute of this number, where there is one
 abbrev pub differing_broken : List Class → List Attribute → Signature → Option ℕ → List Broken
 differing_broken g attributes s a = differing_from g s (option_and_then (declared_at attributes) a)
+
+-- J15 of an equation for an attribute, where that is known
+abbrev pub other_parameters_broken : List Class → AttributeSet → Option AttrId → Signature → List Broken
+other_parameters_broken g known attribute s = differing_broken g known.attributes s (option_map number_of_attribute attribute)
 
 -- J2, J5, J15, what the path breaks, and what the parameters break
 abbrev pub unknown_broken : List Class → List Attribute → Given → List Broken

@@ -1,10 +1,11 @@
 // What contributions are for, and the rules on their heads: J2 and J14.
-ghost use Rattle.std.specs.Prelude.{◌≡◌, ◌<◌, List, IfSome, length, map};
+ghost use Rattle.std.specs.Prelude.{◌≡◌, ◌<◌, IfSome, length, map};
 ghost use Rattle.std.specs.Option.{option_map};
-ghost use Rattle.ast_grammar.specs.Grammar.{Class, number_of, superclasses_of};
+ghost use Rattle.ast_grammar.specs.Grammar.{number_of, superclasses_of};
 ghost use Rattle.attr_rules.specs.Rules.{number_of_attribute};
 ghost use Rattle.broken_rules.specs.Notes.{Notes};
 ghost use Rattle.attr_heads.specs.Contributions.{aim_of, collection_named, collection_of, contribution_broken, contributions_broken, no_collection_broken};
+ghost use Rattle.attr_heads.specs.Targets.{OfGrammar};
 ghost use Rattle.attr_scope.specs.Classes.{class_or_first};
 ghost use Rattle.attr_scope.specs.Seen.{seen_offer};
 ghost use Rattle.ast_grammar.specs.Grammar.{class_named};
@@ -28,7 +29,7 @@ pub struct Aim {
 // The collection that a class has by a name.
 fn collection_named(attributes: &Attributes, class: ClassId, name: &[u8]) -> Option<AttrId>
     requires { class.0 < length attributes.now.superclasses }
-    ensures { (g : List Class) → attributes.now.superclasses ≡ superclasses_of g → option_map number_of_attribute result ≡ collection_named g attributes.now.attributes name.now class.0 }
+    ensures { OfGrammar attributes.now (λ g. option_map number_of_attribute result ≡ collection_named g attributes.now.attributes name.now class.0) }
 {
     let attribute = attributes.find(class, name)?;
     if attributes.collecting(attribute).is_some() {

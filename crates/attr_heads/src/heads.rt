@@ -1,15 +1,13 @@
 // The rules on declarations: J2, J3, J4, J13, J15 and J17.
-ghost use Rattle.std.specs.Prelude.{◌≡◌, ◌<◌, ◌++◌, ◌∷◌, [], List, Some, IfOk, OnOk, length, map};
+ghost use Rattle.std.specs.Prelude.{◌≡◌, ◌<◌, Some, IfOk, OnOk, map};
 ghost use Rattle.std.specs.Option.{option_map};
-ghost use Rattle.ast_grammar.specs.Grammar.{superclasses_of};
 ghost use Rattle.broken_rules.specs.Answers.{Ends};
 ghost use Rattle.broken_rules.specs.Notes.{Notes};
 ghost use Rattle.attr_rules.specs.KeptAttributes.{seen_attribute};
-ghost use Rattle.attr_heads.specs.DeclaredNames.{Adds, IsEven, Tells};
-ghost use Rattle.attr_heads.specs.FirstInherited.{TellsFirst};
-ghost use Rattle.attr_heads.specs.Heads.{again_for, attribute_of, attributes_of, heads_broken, is_other, is_taken, named_broken, other_broken, type_broken};
+ghost use Rattle.attr_heads.specs.DeclaredNames.{KeepsClass, NotesAgain, NotesNamed, TellsMore};
+ghost use Rattle.attr_heads.specs.FirstInherited.{NotesOther, TellsFirstMore};
+ghost use Rattle.attr_heads.specs.Heads.{attribute_of, attributes_declared, attributes_of, heads_broken, is_other, is_taken, type_broken};
 ghost use Rattle.attr_scope.specs.Seen.{seen_head};
-ghost use Rattle.attr_scope.specs.Written as written;
 ghost use Rattle.aspect_items.specs.Expressions.{seen_name};
 ghost use Rattle.aspect_items.specs.Items.{seen_type};
 
@@ -48,8 +46,8 @@ fn check_again<'a>(
     name: &'a Name,
     faults: &mut Earliest,
 ) -> Result<(), Memory>
-    ensures noted { (before : List written.Head) → Tells grammar.now before declared.old → OnOk result (Notes (again_for grammar.now before (seen_name name.now) (Some class.0)) faults.old faults.new) }
-    ensures kept { (before : List written.Head) → Tells grammar.now before declared.old → OnOk result (IsEven declared.new × Adds declared.old class (seen_name name.now).text declared.new) }
+    ensures noted { OnOk result (NotesAgain grammar.now declared.old class (seen_name name.now) faults.old faults.new) }
+    ensures kept { OnOk result (KeepsClass grammar.now declared.old class (seen_name name.now).text declared.new) }
 {
     let is_again = declared.contains(grammar, class, &name.text);
     faults.note_if(
@@ -76,8 +74,8 @@ fn check_named<'a>(
     head: &Head<'a>,
     faults: &mut Earliest,
 ) -> Result<(), Memory>
-    ensures noted { (before : List written.Head) → Tells grammar.now before declared.old → count ≡ length before → OnOk result (Notes (named_broken grammar.now before (seen_head head.now)) faults.old faults.new) }
-    ensures told { (before : List written.Head) → Tells grammar.now before declared.old → OnOk result (Tells grammar.now (before ++ seen_head head.now ∷ []) declared.new) }
+    ensures noted { OnOk result (NotesNamed grammar.now declared.old count (seen_head head.now) faults.old faults.new) }
+    ensures told { OnOk result (TellsMore grammar.now declared.old (seen_head head.now) declared.new) }
 {
     let name = head.name;
     check_type(grammar, head.of, faults);
@@ -106,8 +104,8 @@ fn check_other<'a>(
     head: &Head<'a>,
     faults: &mut Earliest,
 ) -> Result<(), Memory>
-    ensures noted { (before : List written.Head) → TellsFirst before inheriting.old.heads → OnOk result (Notes (other_broken grammar.now before (seen_head head.now)) faults.old faults.new) }
-    ensures told { (before : List written.Head) → TellsFirst before inheriting.old.heads → OnOk result (TellsFirst (before ++ seen_head head.now ∷ []) inheriting.new.heads) }
+    ensures noted { OnOk result (NotesOther grammar.now inheriting.old.heads (seen_head head.now) faults.old faults.new) }
+    ensures told { OnOk result (TellsFirstMore inheriting.old.heads (seen_head head.now) inheriting.new.heads) }
 {
     if !head.sort.is_inherited() {
         return Ok(());
@@ -181,7 +179,7 @@ pub fn check_heads(
     heads: &[Head<'_>],
 ) -> Result<Attributes, ReadFault>
     ensures phase { Ends (heads_broken grammar.now (map seen_head heads.now)) result }
-    ensures attributes { IfOk result (λ a. a ≡ record { superclasses = superclasses_of grammar.now; attributes = attributes_of grammar.now (map seen_head heads.now) }) }
+    ensures attributes { IfOk result (λ a. a ≡ attributes_declared grammar.now (map seen_head heads.now)) }
 {
     let mut faults = Earliest::new();
     note_heads(alloc, grammar, heads, &mut faults)?;

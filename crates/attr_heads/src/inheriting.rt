@@ -1,8 +1,6 @@
 // The first declarations of inherited attributes.
-ghost use Rattle.std.specs.Prelude.{◌≡◌, ℕ, List, None, OnOk, Some, cond};
-ghost use Rattle.std.specs.Option.{option_or};
-ghost use Rattle.std.specs.Str.{bytes_eq};
-ghost use Rattle.attr_heads.specs.FirstInherited.{head_kept};
+ghost use Rattle.std.specs.Prelude.{◌≡◌, ℕ, List, None, OnOk};
+ghost use Rattle.attr_heads.specs.FirstInherited.{KeepsFirst, head_kept};
 
 use attr_scope::Head;
 use rag_io::Memory;
@@ -34,7 +32,7 @@ impl<'a> Inheriting<'a> {
 
     /// Keeps the declaration of an inherited attribute, where it is the first of its name.
     pub(crate) fn insert(&mut self, name: &'a [u8], head: Head<'a>) -> Result<(), Memory>
-        ensures { OnOk result ((q : List ℕ) → head_kept self.new.heads q ≡ option_or (head_kept self.old.heads q) (cond (bytes_eq q name.now) (Some head.entry) None)) }
+        ensures { OnOk result (KeepsFirst self.old.heads name.now head.entry self.new.heads) }
     {
         if self.heads.contains_key(name) {
             return Ok(());

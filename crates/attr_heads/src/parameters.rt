@@ -1,12 +1,11 @@
 // Parameters, and the rules on them in heads: J3, J4 and J17.
-ghost use Rattle.std.specs.Prelude.{◌≡◌, ◌++◌, [], ℕ, Some, List, OnOk, length, map};
-ghost use Rattle.std.specs.Option.{option_map};
+ghost use Rattle.std.specs.Prelude.{◌≡◌, ◌++◌, [], Some, OnOk, map};
 ghost use Rattle.broken_rules.specs.Notes.{Notes};
 ghost use Rattle.attr_rules.specs.Types.{parameter_kinds};
-ghost use Rattle.attr_heads.specs.Parameters.{all_parameters_broken, differ, is_no_parameter, is_other_type, parameter_broken, parameter_kind, parameter_names, parameter_types, parameters_broken, params_written, path_parameters};
+ghost use Rattle.attr_heads.specs.Parameters.{all_parameters_broken, differ, is_no_parameter, is_other_type, parameter_kind, parameter_names, parameter_types, parameters_broken, params_written, path_parameters, seen_path};
+ghost use Rattle.attr_heads.specs.ParametersKept.{NotesParameter};
 ghost use Rattle.names.specs.Among.{is_among, with_name};
 ghost use Rattle.names.specs.Known.{Knows};
-ghost use Rattle.aspect_items.specs.Items as read;
 ghost use Rattle.aspect_items.specs.Items.{seen_parameter, seen_signature, seen_type};
 
 use aspect_items::{Parameter, Signature, Type};
@@ -36,7 +35,7 @@ fn check_parameter<'a>(
     parameter: &'a Parameter,
     faults: &mut Earliest,
 ) -> Result<(), Memory>
-    ensures noted { (outer : List (List ℕ)) (before : List read.Parameter) → Knows names.old (is_among (outer ++ parameter_names before)) → count ≡ length before → OnOk result (Notes (parameter_broken grammar.now outer before (seen_parameter parameter.now)) faults.old faults.new) }
+    ensures noted { OnOk result (NotesParameter grammar.now names.old count (seen_parameter parameter.now) faults.old faults.new) }
     ensures names { OnOk result (names.new ≡ with_name names.old (seen_parameter parameter.now).name.text) }
 {
     let is_other = is_no_parameter(grammar, &parameter.of);
@@ -66,7 +65,7 @@ fn check_parameters<'a>(
 
 // The parameters of a path, if there is one.
 fn path_parameters(path: Option<&Signature>) -> &[Parameter]
-    ensures { map seen_parameter result.now ≡ path_parameters (option_map (λ s. seen_signature s.now) path.entry) }
+    ensures { map seen_parameter result.now ≡ path_parameters (seen_path path.entry) }
 {
     match path {
         Some(path) => &path.parameters,
@@ -82,7 +81,7 @@ pub(crate) fn check_all_parameters(
     attribute: &Signature,
     faults: &mut Earliest,
 ) -> Result<(), Memory>
-    ensures { OnOk result (Notes (all_parameters_broken grammar.now (option_map (λ s. seen_signature s.now) path.entry) (seen_signature attribute.now)) faults.old faults.new) }
+    ensures { OnOk result (Notes (all_parameters_broken grammar.now (seen_path path.entry) (seen_signature attribute.now)) faults.old faults.new) }
 {
     let mut names = Names::new(alloc);
     check_parameters(grammar, &mut names, path_parameters(path), faults)?;

@@ -1,10 +1,11 @@
 // Where the path of an equation leads, what an equation may name, and the rules on paths: J9 and J15.
-ghost use Rattle.std.specs.Prelude.{◌≡◌, ◌<◌, IfOk, IfSome, length, map};
+ghost use Rattle.std.specs.Prelude.{◌≡◌, ◌<◌, IfOk, IfSome, length, map, Some};
 ghost use Rattle.std.specs.Option.{option_map};
 ghost use Rattle.ast_grammar.specs.Grammar.{component_at, number_of};
 ghost use Rattle.attr_rules.specs.Rules as rules;
 ghost use Rattle.broken_rules.specs.Notes.{Notes};
-ghost use Rattle.attr_heads.specs.Paths.{are_other, equation_names, has_index, index_name, index_named, is_list_component, node_component_named, parameter_named, path_broken, reach_broken, reach_named, reach_of};
+ghost use Rattle.attr_heads.specs.Parameters.{seen_path};
+ghost use Rattle.attr_heads.specs.Paths.{are_other, equation_names, has_index, index_name, index_named, is_list_component, node_component_named, parameter_named, path_broken, reach_named, reach_of, way_broken};
 ghost use Rattle.attr_scope.specs.Seen.{seen_variable};
 ghost use Rattle.aspect_items.specs.Items.{seen_parameter, seen_signature};
 
@@ -74,7 +75,7 @@ fn has_index(grammar: &Grammar, class: ClassId, reach: Reach) -> bool
 
 // The index of a path, under the name of its parameter; where there is none, under the empty name, which is no name in an expression.
 fn index_of<'a>(path: Option<&'a Signature>) -> Variable<'a>
-    ensures { seen_variable result ≡ index_named (index_name (option_map (λ s. seen_signature s.now) path.entry)) }
+    ensures { seen_variable result ≡ index_named (index_name (seen_path path.entry)) }
 {
     let name: &[u8] = match path {
         Some(Signature { parameters, .. }) => match parameters.first() {
@@ -124,7 +125,7 @@ pub fn equation_names<'a>(
     path: Option<&'a Signature>,
     reach: Reach,
 ) -> Result<Vec<Variable<'a>>, Memory>
-    ensures { IfOk result (λ list. map seen_variable list.items ≡ equation_names grammar.now (seen_signature attribute.now) (option_map (λ s. seen_signature s.now) path.entry) reach) }
+    ensures { IfOk result (λ list. map seen_variable list.items ≡ equation_names grammar.now (seen_signature attribute.now) (seen_path path.entry) reach) }
 {
     let mut list = parameters_named(alloc, grammar, &attribute.parameters)?;
     match reach {
@@ -154,7 +155,7 @@ fn check_way(
 ) -> Option<Reach>
     requires { class.0 < length grammar.now }
     ensures reach { result ≡ reach_named grammar.now class.0 (seen_signature path.now).name.text }
-    ensures noted { Notes (reach_broken grammar.now class.0 (seen_signature path.now) (reach_named grammar.now class.0 (seen_signature path.now).name.text)) faults.old faults.new }
+    ensures noted { Notes (way_broken grammar.now (Some class.0) (seen_signature path.now)) faults.old faults.new }
 {
     let Some(reach) = reach_named(grammar, class, &path.name.text) else {
         faults.note(Rule::J9, path.name.place);
@@ -174,8 +175,8 @@ pub(crate) fn check_path(
     faults: &mut Earliest,
 ) -> Option<Reach>
     requires { IfSome class (λ c. c.0 < length grammar.now) }
-    ensures reach { result ≡ reach_of grammar.now (option_map number_of class) (option_map (λ s. seen_signature s.now) path.entry) }
-    ensures noted { Notes (path_broken grammar.now (option_map number_of class) (option_map (λ s. seen_signature s.now) path.entry)) faults.old faults.new }
+    ensures reach { result ≡ reach_of grammar.now (option_map number_of class) (seen_path path.entry) }
+    ensures noted { Notes (path_broken grammar.now (option_map number_of class) (seen_path path.entry)) faults.old faults.new }
 {
     let Some(path) = path else {
         return Some(Reach::Own);

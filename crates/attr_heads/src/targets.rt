@@ -1,15 +1,14 @@
 // The rules on what equations are for: J2, J5, J6 and J15, beside those on paths, on parameters and on contributions.
-ghost use Rattle.std.specs.Prelude.{◌≡◌, ◌<◌, ◌++◌, ◌∷◌, [], List, IfOk, IfSome, None, OnOk, is_none, length, map};
+ghost use Rattle.std.specs.Prelude.{◌≡◌, ◌<◌, IfOk, IfSome, None, OnOk, length, map};
 ghost use Rattle.std.specs.Option.{option_map};
-ghost use Rattle.ast_grammar.specs.Grammar.{Class, number_of, superclasses_of};
-ghost use Rattle.attr_rules.specs.Rules.{Attribute, first_inherited, number_of_attribute};
+ghost use Rattle.ast_grammar.specs.Grammar.{number_of, superclasses_of};
+ghost use Rattle.attr_rules.specs.Rules.{first_inherited, number_of_attribute};
 ghost use Rattle.broken_rules.specs.Answers.{Ends};
-ghost use Rattle.broken_rules.specs.Notes.{Notes, at, broken_if};
-ghost use Rattle.broken_rules.specs.declared.rule.Rule.TheVariants.{J5};
+ghost use Rattle.broken_rules.specs.Notes.{Notes};
 ghost use Rattle.attr_heads.specs.Contributions.{uses_broken};
 ghost use Rattle.attr_scope.specs.Seen.{seen_given, seen_offer};
-ghost use Rattle.attr_heads.specs.Targets.{attribute_for, differing_broken, lacking_broken, own_attribute, second_broken, target_by, target_of, target_or_first, targets_broken, targets_of, unknown_broken};
-ghost use Rattle.attr_heads.specs.TargetsKept.{Holds};
+ghost use Rattle.attr_heads.specs.Targets.{OfGrammar, lacking_broken, other_parameters_broken, own_attribute, own_attribute_of, target_by, target_of, target_or_first, targets_broken, targets_of, uninherited_broken, unknown_broken};
+ghost use Rattle.attr_heads.specs.TargetsKept.{HoldsMore, NotesSecond};
 ghost use Rattle.attr_scope.specs.Written as written;
 ghost use Rattle.aspect_items.specs.Expressions.{seen_name};
 ghost use Rattle.aspect_items.specs.Items.{seen_signature};
@@ -44,7 +43,7 @@ struct Key {
 // The attribute that a class has by a name, where equations without a path give it values.
 fn own_attribute(attributes: &Attributes, class: ClassId, name: &[u8]) -> Option<AttrId>
     requires { class.0 < length attributes.now.superclasses }
-    ensures { (g : List Class) → attributes.now.superclasses ≡ superclasses_of g → option_map number_of_attribute result ≡ own_attribute g attributes.now.attributes name.now class.0 }
+    ensures { OfGrammar attributes.now (λ g. option_map number_of_attribute result ≡ own_attribute g attributes.now.attributes name.now class.0) }
 {
     let attribute = attributes.find(class, name)?;
     if attributes.attr(attribute).sort.has_own_equations() {
@@ -64,7 +63,7 @@ fn check_own(
 ) -> Option<AttrId>
     requires within { IfSome class (λ c. c.0 < length grammar.now) }
     requires superclasses { attributes.now.superclasses ≡ superclasses_of grammar.now }
-    ensures attribute { option_map number_of_attribute result ≡ attribute_for grammar.now attributes.now.attributes (option_map number_of class) None (seen_name name.now).text }
+    ensures attribute { option_map number_of_attribute result ≡ own_attribute_of grammar.now attributes.now class (seen_name name.now) }
     ensures noted { Notes (lacking_broken grammar.now attributes.now.attributes None (option_map number_of class) (seen_name name.now)) faults.old faults.new }
 {
     let attribute = own_attribute(attributes, class?, &name.text);
@@ -75,7 +74,7 @@ fn check_own(
 // The inherited attribute of an equation with a path. Notes J5 where there is none.
 fn check_inherited(attributes: &Attributes, name: &Name, faults: &mut Earliest) -> Option<AttrId>
     ensures attribute { option_map number_of_attribute result ≡ first_inherited attributes.now.attributes (seen_name name.now).text }
-    ensures noted { Notes (broken_if (is_none (first_inherited attributes.now.attributes (seen_name name.now).text)) (at (seen_name name.now).place J5)) faults.old faults.new }
+    ensures noted { Notes (uninherited_broken attributes.now.attributes (seen_name name.now)) faults.old faults.new }
 {
     let attribute = attributes.find_inherited(&name.text);
     faults.note_if(attribute.is_none(), Rule::J5, name.place);
@@ -90,7 +89,7 @@ fn check_differing(
     signature: &Signature,
     faults: &mut Earliest,
 )
-    ensures { Notes (differing_broken grammar.now attributes.now.attributes (seen_signature signature.now) (option_map number_of_attribute attribute)) faults.old faults.new }
+    ensures { Notes (other_parameters_broken grammar.now attributes.now attribute (seen_signature signature.now)) faults.old faults.new }
 {
     let Some(attribute) = attribute else { return };
     if u32::from(attribute.0) >= attributes.len() {
@@ -155,8 +154,8 @@ fn check_second(
     name: &Name,
     faults: &mut Earliest,
 ) -> Result<(), Memory>
-    ensures noted { (g : List Class) (attributes : List Attribute) (before : List written.Given) → Holds g attributes before given.old → OnOk result (Notes (second_broken g attributes before (seen_name name.now) target) faults.old faults.new) }
-    ensures held { (g : List Class) (attributes : List Attribute) (before : List written.Given) (e : written.Given) → Holds g attributes before given.old → target ≡ target_of g attributes e → OnOk result (Holds g attributes (before ++ e ∷ []) given.new) }
+    ensures noted { OnOk result (NotesSecond given.old target (seen_name name.now) faults.old faults.new) }
+    ensures held { OnOk result (HoldsMore given.old target given.new) }
 {
     let Some(target) = target else { return Ok(()) };
     let key = Key {
