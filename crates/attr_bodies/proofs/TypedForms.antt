@@ -17,21 +17,19 @@ use Rattle.expr_typing.specs.declared.standing.Stands.{Stands}
 use Rattle.expr_typing.specs.declared.standing.Stands.TheVariants.{Anywhere}
 use Rattle.expr_typing.specs.declared.set_forms.SetForm.{SetForm}
 use Rattle.expr_typing.specs.declared.sides.Part.{Part}
-use Rattle.attr_bodies.specs.Bodies.{arguments_broken, body_broken, calls_break, expr_broken, form_broken, inner_broken, node_broken, quantified_broken, range_broken}
+use Rattle.attr_bodies.specs.Bodies.{arguments_broken, body_broken, calls_break, cast_broken, expr_broken, form_broken, inner_broken, quantified_broken, range_broken}
 use Rattle.expr_typing.specs.Calls.{call_broken}
 use Rattle.expr_typing.specs.Fitting.{choice_broken, sides_broken}
 use Rattle.expr_typing.specs.Standing.{is_range}
-use Rattle.attr_scope.specs.Classes.{class_broken, class_or_first}
-use Rattle.ast_grammar.specs.Grammar.{class_named}
 use Rattle.attr_rules.specs.Expression as said
 use Rattle.attr_rules.specs.Expression.{arguments_of as said_arguments, expression_of}
 use Rattle.attr_rules.specs.declared.expression.TArgs.{TArgs}
 use Rattle.attr_rules.specs.declared.expression.TExpr.{TExpr}
 use Rattle.attr_scope.specs.Scope.{Scope, Variable, list_called, member_on, type_called, wanted_for}
 use Rattle.expr_typing.specs.Places.{place_of}
-use Rattle.attr_bodies.specs.Says.{call_says, form_says, quantified_says, said_as, said_by, seen_typed}
-use Rattle.expr_typing.specs.SetForms.{count_broken, one_broken, pair_broken, settled, truth}
-use Rattle.expr_typing.specs.Typed.{arguments_said, body_of, call_said, class_type, count, element_named, element_type, inside, known, over_said, quantified_type, range_of}
+use Rattle.attr_bodies.specs.Says.{call_says, cast_says, form_says, quantified_says, said_as, said_by, seen_typed, test_says}
+use Rattle.expr_typing.specs.SetForms.{count_broken, one_broken, pair_broken, settled}
+use Rattle.expr_typing.specs.Typed.{arguments_said, body_of, call_said, count, element_named, element_type, inside, known, over_said, quantified_type, range_of}
 use Rattle.aspect_items.specs.declared.expression.Expr as kept_expr
 use Rattle.aspect_items.specs.declared.expression.Expr.TheFolds.{fold-roll-Expr}
 use Rattle.aspect_items.specs.declared.expression.Expr.TheOpen.{Expr-F}
@@ -109,20 +107,20 @@ module _ (s : Scope) where
 
   -- a cast, and a test of a class
   pub cast_noted : (at_place : Stands) {e : kept_expr.Expr} {q : Place} {n : kept_name.Name} {r : Box kept_expr.Expr Global} (x : kept_expr.Expr) {a b : Option Broken}
-      → e ≡ kept.Cast q n r → x ≡ r.value → Notes (class_broken s.grammar (seen_name n) ++ node_broken s (seen_expr x)) a b → Notes (expr_broken s at_place (seen_expr e)) a b
+      → e ≡ kept.Cast q n r → x ≡ r.value → Notes (cast_broken s (seen_name n) (seen_expr x)) a b → Notes (expr_broken s at_place (seen_expr e)) a b
   cast_noted at_place x is i h = rw is (rw seen-Cast (rw (← i) h))
 
-  pub cast_says : {e : kept_expr.Expr} {q : Place} {n : kept_name.Name} {r : Box kept_expr.Expr Global} (x : kept_expr.Expr) (t : kept_typed.Typed)
-      → e ≡ kept.Cast q n r → x ≡ r.value → seen_typed t ≡ said_as (class_type s.grammar (seen_name n).text) (said.Cast (class_or_first (class_named s.grammar (seen_name n).text)) (body_of s (seen_expr x))) → seen_typed t ≡ said_by s (seen_expr e)
-  cast_says x t is i h = rw is (rw seen-Cast (rw (← i) h))
+  pub cast_tells : {e : kept_expr.Expr} {q : Place} {n : kept_name.Name} {r : Box kept_expr.Expr Global} (x : kept_expr.Expr) (t : kept_typed.Typed)
+      → e ≡ kept.Cast q n r → x ≡ r.value → seen_typed t ≡ cast_says s (seen_name n) (seen_expr x) → seen_typed t ≡ said_by s (seen_expr e)
+  cast_tells x t is i h = rw is (rw seen-Cast (rw (← i) h))
 
   pub test_noted : (at_place : Stands) {e : kept_expr.Expr} {n : kept_name.Name} {r : Box kept_expr.Expr Global} (x : kept_expr.Expr) {a b : Option Broken}
-      → e ≡ kept.InstanceOf r n → x ≡ r.value → Notes (class_broken s.grammar (seen_name n) ++ node_broken s (seen_expr x)) a b → Notes (expr_broken s at_place (seen_expr e)) a b
+      → e ≡ kept.InstanceOf r n → x ≡ r.value → Notes (cast_broken s (seen_name n) (seen_expr x)) a b → Notes (expr_broken s at_place (seen_expr e)) a b
   test_noted at_place x is i h = rw is (rw seen-InstanceOf (rw (← i) h))
 
-  pub test_says : {e : kept_expr.Expr} {n : kept_name.Name} {r : Box kept_expr.Expr Global} (x : kept_expr.Expr) (t : kept_typed.Typed)
-      → e ≡ kept.InstanceOf r n → x ≡ r.value → seen_typed t ≡ said_as truth (said.InstanceOf (class_or_first (class_named s.grammar (seen_name n).text)) (body_of s (seen_expr x))) → seen_typed t ≡ said_by s (seen_expr e)
-  test_says x t is i h = rw is (rw seen-InstanceOf (rw (← i) h))
+  pub test_tells : {e : kept_expr.Expr} {n : kept_name.Name} {r : Box kept_expr.Expr Global} (x : kept_expr.Expr) (t : kept_typed.Typed)
+      → e ≡ kept.InstanceOf r n → x ≡ r.value → seen_typed t ≡ test_says s (seen_name n) (seen_expr x) → seen_typed t ≡ said_by s (seen_expr e)
+  test_tells x t is i h = rw is (rw seen-InstanceOf (rw (← i) h))
 
   -- the scope of the body
   pub scope_inside : (q : Quantifier) (n : Name) (range : Expr) {o : Option Elements} {text : List ℕ} {t : Option ValueType} {vs ws : List Variable}

@@ -11,16 +11,21 @@ use Rattle.attr_rules.specs.Types.{of_class}
 use Rattle.aspect_items.specs.declared.expression.Quantifier.{Quantifier}
 use Rattle.aspect_items.specs.Expressions.{Expr, Arguments, Name, no_more, argument, Truth, Null, Empty, This, Int, Text, Source, Variable, Call, Member, New, Quantified, Group, Cast, Not, Negate, Binary, InstanceOf, If}
 use Rattle.expr_typing.specs.declared.set_forms.SetForm.{SetForm}
+use Rattle.expr_typing.specs.declared.standing.Prefix.{Prefix}
 use Rattle.expr_typing.specs.declared.standing.Stands.{Stands}
 use Rattle.expr_typing.specs.declared.standing.Stands.TheVariants as stands
 use Rattle.attr_scope.specs.Classes.{class_broken}
 use Rattle.expr_typing.specs.Places.{place_of}
 use Rattle.expr_typing.specs.Calls.{call_broken}
 use Rattle.expr_typing.specs.Fitting.{body_misfit, choice_broken, misfit, no_node, no_range, sides_broken}
-use Rattle.expr_typing.specs.Standing.{greatest, is_range}
+use Rattle.expr_typing.specs.Standing.{behind, greatest, is_range, kind_behind}
 use Rattle.attr_scope.specs.Scope.{Scope, member_on, variable_named, wanted_for}
 use Rattle.expr_typing.specs.SetForms.{count_broken, form_named, one_broken, pair_broken}
 use Rattle.expr_typing.specs.Typed.{count, inside, known}
+
+-- J9: a name that stands for no value
+abbrev pub variable_broken : Scope → Name → List Broken
+variable_broken s n = broken_if (is_none (variable_named s n.text)) (at n.place J9)
 
 -- what one of the forms of sets breaks with some arguments, beside what these break
 abbrev pub form_broken : Scope → SetForm → Name → Arguments → List Broken
@@ -49,7 +54,7 @@ abbrev mutual
   expr_broken s w (Int p n) = broken_if (nat_lt (greatest w) n) (at p J17)
   expr_broken s w (Text p n) = []
   expr_broken s w (Source p n) = at p J9 ∷ []
-  expr_broken s w (Variable n) = broken_if (is_none (variable_named s n.text)) (at n.place J9)
+  expr_broken s w (Variable n) = variable_broken s n
   expr_broken s w (Call n es) = alone_broken s (is_range w) n es (arguments_broken s (wanted_alone s n (count es) (form_named n.text)) es) (form_named n.text)
   expr_broken s w (Member e n es) = expr_broken s stands.Anywhere e ++ (call_broken s (is_range w) n (count es) (place_of e) (known s e)
       ++ arguments_broken s (wanted_for s (member_on s (known s e) n.text (count es)) (count es)) es)
@@ -78,6 +83,10 @@ inner_broken s f n es = arguments_broken s [] es ++ form_broken s f n es
 abbrev pub operand_broken : Scope → Stands → Kind → Expr → List Broken
 operand_broken s w wanted e = expr_broken s w e ++ misfit s.grammar wanted (known s e) e
 
+-- an operand behind `!` or `-`
+abbrev pub prefixed_broken : Scope → Prefix → Expr → List Broken
+prefixed_broken s prefix e = operand_broken s (behind prefix) (kind_behind prefix) e
+
 -- an argument of a call, of which a type may be wanted
 abbrev pub argument_broken : Scope → Option Kind → Expr → List Broken
 argument_broken s None e = expr_broken s stands.Anywhere e
@@ -102,3 +111,7 @@ quantified_broken s q n range e = range_broken s q range ++ body_broken (inside 
 -- the operand of a cast or of `instanceof`
 abbrev pub node_broken : Scope → Expr → List Broken
 node_broken s e = expr_broken s stands.Anywhere e ++ no_node (known s e) e
+
+-- a cast, and a test of a class: the name of the class, and the operand
+abbrev pub cast_broken : Scope → Name → Expr → List Broken
+cast_broken s n e = class_broken s.grammar n ++ node_broken s e

@@ -1,26 +1,21 @@
 // The rules on expressions: J9, J10, J11 and J17.
-ghost use Rattle.std.specs.Prelude.{◌≡◌, ◌++◌, ◌∷◌, [], None, Some, IfOk, OnOk, map, length, nat_lt, pos, is_none};
+ghost use Rattle.std.specs.Prelude.{◌≡◌, ◌++◌, ◌∷◌, [], None, Some, IfOk, OnOk, map, length, nat_lt, pos};
 ghost use Rattle.std.specs.Int.{int_wrap, w32};
-ghost use Rattle.ast_grammar.specs.Grammar.{class_named};
 ghost use Rattle.broken_rules.specs.Notes.{Notes, at, broken_if};
 ghost use Rattle.broken_rules.specs.declared.rule.Rule.TheVariants.{J9, J17};
-ghost use Rattle.attr_rules.specs.Expression.{Cast, If, InstanceOf, Int, Null, This, arguments_of as said_arguments, expression_of};
-ghost use Rattle.attr_rules.specs.declared.types.ValueType.TheVariants as types;
-ghost use Rattle.attr_rules.specs.Types.{of_class, parameter_kinds};
-ghost use Rattle.attr_bodies.specs.Bodies.{argument_broken, arguments_broken, body_broken, calls_break, expr_broken, inner_broken, node_broken, operand_broken, quantified_broken, range_broken};
-ghost use Rattle.expr_typing.specs.Standing.{behind, greatest, is_range, kind_behind};
-ghost use Rattle.expr_typing.specs.Fitting.{choice_broken, sides_broken};
+ghost use Rattle.attr_rules.specs.Expression.{Int, Null, This, arguments_of as said_arguments, expression_of};
+ghost use Rattle.attr_rules.specs.Types.{of_class};
+ghost use Rattle.attr_bodies.specs.Bodies.{argument_broken, body_broken, cast_broken, expr_broken, node_broken, operand_broken, prefixed_broken, range_broken, variable_broken};
+ghost use Rattle.attr_bodies.specs.Says.{called_says, cast_says, chosen_says, form_says, group_says, joined_says, over_says, prefixed_says, said_as, said_by, seen_typed, test_says};
+ghost use Rattle.attr_bodies.specs.Seen.{broken_behind, broken_with, chosen_broken, given_broken, joined_broken, over_broken, part_of, seen_arguments, seen_call, set_form_broken};
+ghost use Rattle.expr_typing.specs.Calls.{meant};
+ghost use Rattle.expr_typing.specs.SetForms.{count_broken, int, settled};
+ghost use Rattle.expr_typing.specs.Standing.{greatest};
+ghost use Rattle.expr_typing.specs.Typed.{arguments_in, arguments_said, body_of, range_of};
 ghost use Rattle.expr_typing.specs.declared.standing.Stands.TheVariants.{Anywhere};
-ghost use Rattle.attr_scope.specs.Classes.{class_broken, class_or_first};
-ghost use Rattle.attr_scope.specs.Scope.{member_on, variable_named};
-ghost use Rattle.expr_typing.specs.Calls.{first_place};
-ghost use Rattle.expr_typing.specs.Places.{else_place, place_of};
 ghost use Rattle.attr_scope.specs.ScopeKept.{IsScope};
-ghost use Rattle.attr_bodies.specs.Says.{call_says, form_says, quantified_says, said_as, said_by, seen_typed};
 ghost use Rattle.attr_scope.specs.Seen.{seen_scope, seen_variable};
-ghost use Rattle.expr_typing.specs.SetForms.{common_of, count_broken, int, settled, truth};
-ghost use Rattle.expr_typing.specs.Typed.{arguments_in, arguments_said, body_of, class_type, joined, known, prefixed, range_of, result_of};
-ghost use Rattle.aspect_items.specs.Expressions.{Call, Variable as Named, argument, arguments_of, no_more, seen_expr, seen_name};
+ghost use Rattle.aspect_items.specs.Expressions.{Variable as Named, seen_expr, seen_name};
 
 use aspect_items::{Expr, Name, Operator, Quantifier};
 use ast_grammar::{ClassId, Grammar};
@@ -98,7 +93,7 @@ struct TypedPart<'a> {
 
 impl TypedPart<'_> {
     fn part(&self) -> Part<'_>
-        ensures { result ≡ record { written = self.now.written; value_type = self.now.typed.value_type } }
+        ensures { result ≡ part_of self.now }
     {
         Part {
             written: self.written,
@@ -116,8 +111,8 @@ fn combined(
     right: TypedPart<'_>,
     faults: &mut Earliest,
 ) -> Result<Typed, Memory>
-    ensures noted { OnOk result (Notes (sides_broken grammar.now operator left.entry.typed.value_type (seen_expr left.entry.written.now) right.entry.typed.value_type (seen_expr right.entry.written.now)) faults.old faults.new) }
-    ensures says { IfOk result (λ t. seen_typed t ≡ said_as (result_of operator) (joined operator (expression_of left.entry.typed.body) (expression_of right.entry.typed.body))) }
+    ensures noted { OnOk result (Notes (joined_broken grammar.now operator left.entry right.entry) faults.old faults.new) }
+    ensures says { IfOk result (λ t. seen_typed t ≡ joined_says operator left.entry right.entry) }
 {
     check_sides(grammar, operator, left.part(), right.part(), faults);
     let body = joined(alloc, operator, left.typed.body, right.typed.body)?;
@@ -133,8 +128,8 @@ fn choice(
     otherwise: TypedPart<'_>,
     faults: &mut Earliest,
 ) -> Result<Typed, Memory>
-    ensures noted { OnOk result (Notes (choice_broken grammar.now condition.entry.typed.value_type (seen_expr condition.entry.written.now) then.entry.typed.value_type otherwise.entry.typed.value_type (seen_expr otherwise.entry.written.now)) faults.old faults.new) }
-    ensures says { IfOk result (λ t. seen_typed t ≡ said_as (common_of grammar.now then.entry.typed.value_type otherwise.entry.typed.value_type) (If (expression_of condition.entry.typed.body) (expression_of then.entry.typed.body) (else_place (seen_expr otherwise.entry.written.now)) (expression_of otherwise.entry.typed.body))) }
+    ensures noted { OnOk result (Notes (chosen_broken grammar.now condition.entry then.entry otherwise.entry) faults.old faults.new) }
+    ensures says { IfOk result (λ t. seen_typed t ≡ chosen_says grammar.now condition.entry then.entry otherwise.entry) }
 {
     check_choice(
         grammar,
@@ -207,8 +202,8 @@ fn type_arguments(
     faults: &mut Earliest,
 ) -> Result<Vec<TExpr>, Memory>
     requires { IsScope (seen_scope scope.now) }
-    ensures noted { OnOk result (Notes (arguments_broken (seen_scope scope.now) (parameter_kinds wanted) (arguments_of (map seen_expr arguments.now))) faults.old faults.new) }
-    ensures says { IfOk result (λ list. arguments_in (map expression_of list.items) ≡ arguments_said (seen_scope scope.now) (arguments_of (map seen_expr arguments.now))) }
+    ensures noted { OnOk result (Notes (given_broken (seen_scope scope.now) wanted arguments.now) faults.old faults.new) }
+    ensures says { IfOk result (λ list. arguments_in (map expression_of list.items) ≡ arguments_said (seen_scope scope.now) (seen_arguments arguments.now)) }
 {
     let mut list = Vec::new(alloc);
     let mut kinds = wanted;
@@ -232,9 +227,9 @@ fn type_called(
 ) -> Result<(Option<Member>, TArgs), Memory>
     requires scope { IsScope (seen_scope scope.now) }
     requires count { call.count ≡ length arguments.now }
-    ensures noted { OnOk result (Notes (calls_break (seen_scope scope.now) call.entry.range receiver (seen_name call.entry.name.now) (first_place call.entry) (arguments_of (map seen_expr arguments.now))) faults.old faults.new) }
-    ensures member { IfOk result (λ r. r.0 ≡ member_on (seen_scope scope.now) receiver (seen_name call.entry.name.now).text call.entry.count) }
-    ensures says { IfOk result (λ r. said_arguments r.1 ≡ arguments_said (seen_scope scope.now) (arguments_of (map seen_expr arguments.now))) }
+    ensures noted { OnOk result (Notes (broken_with (seen_scope scope.now) receiver call.entry arguments.now) faults.old faults.new) }
+    ensures member { IfOk result (λ r. r.0 ≡ meant (seen_scope scope.now) receiver call.entry) }
+    ensures says { IfOk result (λ r. said_arguments r.1 ≡ arguments_said (seen_scope scope.now) (seen_arguments arguments.now)) }
 {
     let member = scope.member_on(receiver, &call.name.text, call.count);
     check_call(scope, call, receiver, member, faults);
@@ -255,8 +250,8 @@ fn type_call(
 ) -> Result<Typed, Memory>
     requires scope { IsScope (seen_scope scope.now) }
     requires count { call.count ≡ length arguments.now }
-    ensures noted { OnOk result (Notes (calls_break (seen_scope scope.now) call.entry.range receiver.value_type (seen_name call.entry.name.now) (first_place call.entry) (arguments_of (map seen_expr arguments.now))) faults.old faults.new) }
-    ensures says { IfOk result (λ t. seen_typed t ≡ call_says (seen_scope scope.now) (seen_typed receiver) (seen_name call.entry.name.now) (arguments_of (map seen_expr arguments.now))) }
+    ensures noted { OnOk result (Notes (broken_with (seen_scope scope.now) receiver.value_type call.entry arguments.now) faults.old faults.new) }
+    ensures says { IfOk result (λ t. seen_typed t ≡ called_says (seen_scope scope.now) receiver call.entry.name.now arguments.now) }
 {
     let (member, arguments) = type_called(
         alloc,
@@ -309,7 +304,7 @@ fn type_group(
 ) -> Result<Typed, Memory>
     requires { IsScope (seen_scope scope.now) }
     ensures noted { OnOk result (Notes (expr_broken (seen_scope scope.now) Anywhere (seen_expr inner.now)) faults.old faults.new) }
-    ensures says { IfOk result (λ t. seen_typed t ≡ said_as (known (seen_scope scope.now) (seen_expr inner.now)) (body_of (seen_scope scope.now) (seen_expr inner.now))) }
+    ensures says { IfOk result (λ t. seen_typed t ≡ group_says (seen_scope scope.now) (seen_expr inner.now)) }
 {
     let inner = type_expr(alloc, scope, inner, Stands::Anywhere, faults)?;
     Ok(typed(inner.value_type, inner.body))
@@ -325,8 +320,8 @@ fn type_prefixed(
     faults: &mut Earliest,
 ) -> Result<Typed, Memory>
     requires { IsScope (seen_scope scope.now) }
-    ensures noted { OnOk result (Notes (operand_broken (seen_scope scope.now) (behind prefix) (kind_behind prefix) (seen_expr operand.now)) faults.old faults.new) }
-    ensures says { IfOk result (λ t. seen_typed t ≡ said_as (Some (types.Of (kind_behind prefix))) (prefixed prefix (body_of (seen_scope scope.now) (seen_expr operand.now)))) }
+    ensures noted { OnOk result (Notes (prefixed_broken (seen_scope scope.now) prefix (seen_expr operand.now)) faults.old faults.new) }
+    ensures says { IfOk result (λ t. seen_typed t ≡ prefixed_says (seen_scope scope.now) prefix (seen_expr operand.now)) }
 {
     let kind = prefix.kind();
     let operand = type_operand(alloc, scope, operand, prefix.stands(), kind, faults)?;
@@ -354,8 +349,8 @@ fn type_one(
     faults: &mut Earliest,
 ) -> Result<Typed, Memory>
     requires { IsScope (seen_scope scope.now) }
-    ensures noted { OnOk result (Notes (inner_broken (seen_scope scope.now) form (seen_name name.now) (argument (seen_expr only.now) no_more)) faults.old faults.new) }
-    ensures says { IfOk result (λ t. seen_typed t ≡ form_says (seen_scope scope.now) form (argument (seen_expr only.now) no_more)) }
+    ensures noted { OnOk result (Notes (set_form_broken (seen_scope scope.now) form name.now (only.now ∷ [])) faults.old faults.new) }
+    ensures says { IfOk result (λ t. seen_typed t ≡ form_says (seen_scope scope.now) form (seen_arguments (only.now ∷ []))) }
 {
     let only = type_part(alloc, scope, only, faults)?;
     check_one(form, name, only.part(), faults);
@@ -376,8 +371,8 @@ fn type_pair(
     faults: &mut Earliest,
 ) -> Result<Typed, Memory>
     requires { IsScope (seen_scope scope.now) }
-    ensures noted { OnOk result (Notes (inner_broken (seen_scope scope.now) form (seen_name name.now) (argument (seen_expr first.now) (argument (seen_expr second.now) no_more))) faults.old faults.new) }
-    ensures says { IfOk result (λ t. seen_typed t ≡ form_says (seen_scope scope.now) form (argument (seen_expr first.now) (argument (seen_expr second.now) no_more))) }
+    ensures noted { OnOk result (Notes (set_form_broken (seen_scope scope.now) form name.now (first.now ∷ second.now ∷ [])) faults.old faults.new) }
+    ensures says { IfOk result (λ t. seen_typed t ≡ form_says (seen_scope scope.now) form (seen_arguments (first.now ∷ second.now ∷ []))) }
 {
     let first = type_part(alloc, scope, first, faults)?;
     let second = type_part(alloc, scope, second, faults)?;
@@ -406,8 +401,8 @@ fn type_form(
     faults: &mut Earliest,
 ) -> Result<Typed, Memory>
     requires { IsScope (seen_scope scope.now) }
-    ensures noted { OnOk result (Notes (inner_broken (seen_scope scope.now) form (seen_name name.now) (arguments_of (map seen_expr arguments.now))) faults.old faults.new) }
-    ensures says { IfOk result (λ t. seen_typed t ≡ form_says (seen_scope scope.now) form (arguments_of (map seen_expr arguments.now))) }
+    ensures noted { OnOk result (Notes (set_form_broken (seen_scope scope.now) form name.now arguments.now) faults.old faults.new) }
+    ensures says { IfOk result (λ t. seen_typed t ≡ form_says (seen_scope scope.now) form (seen_arguments arguments.now)) }
 {
     match arguments {
         [] => Ok(form_alone(form, name, faults)),
@@ -431,8 +426,8 @@ fn type_call_alone(
     faults: &mut Earliest,
 ) -> Result<Typed, Memory>
     requires { IsScope (seen_scope scope.now) }
-    ensures noted { OnOk result (Notes (expr_broken (seen_scope scope.now) stands (Call (seen_name name.now) (arguments_of (map seen_expr arguments.now)))) faults.old faults.new) }
-    ensures says { IfOk result (λ t. seen_typed t ≡ said_by (seen_scope scope.now) (Call (seen_name name.now) (arguments_of (map seen_expr arguments.now)))) }
+    ensures noted { OnOk result (Notes (expr_broken (seen_scope scope.now) stands (seen_call name.now arguments.now)) faults.old faults.new) }
+    ensures says { IfOk result (λ t. seen_typed t ≡ said_by (seen_scope scope.now) (seen_call name.now arguments.now)) }
 {
     if let Some(form) = form_named(&name.text) {
         return type_form(alloc, scope, form, name, arguments, faults);
@@ -458,8 +453,8 @@ fn type_member(
     faults: &mut Earliest,
 ) -> Result<Typed, Memory>
     requires { IsScope (seen_scope scope.now) }
-    ensures noted { OnOk result (Notes (calls_break (seen_scope scope.now) (is_range stands) receiver.entry.typed.value_type (seen_name name.now) (place_of (seen_expr receiver.entry.written.now)) (arguments_of (map seen_expr arguments.now))) faults.old faults.new) }
-    ensures says { IfOk result (λ t. seen_typed t ≡ call_says (seen_scope scope.now) (seen_typed receiver.entry.typed) (seen_name name.now) (arguments_of (map seen_expr arguments.now))) }
+    ensures noted { OnOk result (Notes (broken_behind (seen_scope scope.now) stands receiver.entry name.now arguments.now) faults.old faults.new) }
+    ensures says { IfOk result (λ t. seen_typed t ≡ called_says (seen_scope scope.now) receiver.entry.typed name.now arguments.now) }
 {
     let call = Called {
         receiver: Some(receiver.written),
@@ -538,8 +533,8 @@ fn type_quantified(
     faults: &mut Earliest,
 ) -> Result<Typed, Memory>
     requires { IsScope (seen_scope scope.now) }
-    ensures noted { OnOk result (Notes (quantified_broken (seen_scope scope.now) form (seen_name name.now) (seen_expr range.now) (seen_expr body.now)) faults.old faults.new) }
-    ensures says { IfOk result (λ t. seen_typed t ≡ quantified_says (seen_scope scope.now) form (seen_name name.now) (seen_expr range.now) (seen_expr body.now)) }
+    ensures noted { OnOk result (Notes (over_broken (seen_scope scope.now) form name.now range.now body.now) faults.old faults.new) }
+    ensures says { IfOk result (λ t. seen_typed t ≡ over_says (seen_scope scope.now) form name.now range.now body.now) }
 {
     let (elements, range) = type_range(alloc, scope, form, range, faults)?;
     let value_type = element_type(elements);
@@ -591,8 +586,8 @@ fn type_cast(
     faults: &mut Earliest,
 ) -> Result<Typed, Memory>
     requires { IsScope (seen_scope scope.now) }
-    ensures noted { OnOk result (Notes (class_broken (seen_scope scope.now).grammar (seen_name name.now) ++ node_broken (seen_scope scope.now) (seen_expr operand.now)) faults.old faults.new) }
-    ensures says { IfOk result (λ t. seen_typed t ≡ said_as (class_type (seen_scope scope.now).grammar (seen_name name.now).text) (Cast (class_or_first (class_named (seen_scope scope.now).grammar (seen_name name.now).text)) (body_of (seen_scope scope.now) (seen_expr operand.now)))) }
+    ensures noted { OnOk result (Notes (cast_broken (seen_scope scope.now) (seen_name name.now) (seen_expr operand.now)) faults.old faults.new) }
+    ensures says { IfOk result (λ t. seen_typed t ≡ cast_says (seen_scope scope.now) (seen_name name.now) (seen_expr operand.now)) }
 {
     let class = check_class(scope.grammar, name, faults);
     let operand = type_node(alloc, scope, operand, faults)?;
@@ -610,8 +605,8 @@ fn type_test(
     faults: &mut Earliest,
 ) -> Result<Typed, Memory>
     requires { IsScope (seen_scope scope.now) }
-    ensures noted { OnOk result (Notes (class_broken (seen_scope scope.now).grammar (seen_name name.now) ++ node_broken (seen_scope scope.now) (seen_expr operand.now)) faults.old faults.new) }
-    ensures says { IfOk result (λ t. seen_typed t ≡ said_as truth (InstanceOf (class_or_first (class_named (seen_scope scope.now).grammar (seen_name name.now).text)) (body_of (seen_scope scope.now) (seen_expr operand.now)))) }
+    ensures noted { OnOk result (Notes (cast_broken (seen_scope scope.now) (seen_name name.now) (seen_expr operand.now)) faults.old faults.new) }
+    ensures says { IfOk result (λ t. seen_typed t ≡ test_says (seen_scope scope.now) (seen_name name.now) (seen_expr operand.now)) }
 {
     let class = check_class(scope.grammar, name, faults);
     let operand = type_node(alloc, scope, operand, faults)?;
@@ -621,7 +616,7 @@ fn type_test(
 
 // A name that stands for a value.
 fn type_variable(scope: &Scope<'_>, name: &Name, faults: &mut Earliest) -> Typed
-    ensures noted { Notes (broken_if (is_none (variable_named (seen_scope scope.now) (seen_name name.now).text)) (at (seen_name name.now).place J9)) faults.old faults.new }
+    ensures noted { Notes (variable_broken (seen_scope scope.now) (seen_name name.now)) faults.old faults.new }
     ensures says { seen_typed result ≡ said_by (seen_scope scope.now) (Named (seen_name name.now)) }
 {
     match scope.variable(&name.text) {

@@ -1,7 +1,9 @@
 -- What `||` says in the equations of circular attributes.
-use Rattle.std.specs.Prelude.{ℕ, Bool, true, false, if◌then◌else◌}
-use Rattle.attr_rules.specs.Expression.{Expression, Arguments, no_more, argument, Truth, Int, Text, Null, Empty, This, Variable, Source, Child, Element, Count, Has, Token, Call, Cast, InstanceOf, Quantified, QuantifiedSet, Each, EachOfSet, Sets, Single, Contains, Size, Not, Negate, Binary, And, Or, OrBoth, If}
+use Rattle.std.specs.Prelude.{ℕ, List, Bool, true, false, if◌then◌else◌}
+use Rattle.attr_rules.specs.declared.expression.TExpr.{TExpr}
+use Rattle.attr_rules.specs.Expression.{Expression, Arguments, no_more, argument, Truth, Int, Text, Null, Empty, This, Variable, Source, Child, Element, Count, Has, Token, Call, Cast, InstanceOf, Quantified, QuantifiedSet, Each, EachOfSet, Sets, Single, Contains, Size, Not, Negate, Binary, And, Or, OrBoth, If, expression_of}
 use Rattle.attr_rules.specs.Rising.{has_call}
+use Rattle.attr_rules.specs.Rules.{Attribute, AttributeSet, circular_at}
 
 -- `||`, both of whose sides are always evaluated, or the right one only where the left one is false
 abbrev pub either : Bool → Expression → Expression → Expression
@@ -50,3 +52,11 @@ abbrev mutual
 -- an expression in the equation of an attribute that is circular or not
 abbrev pub said_where : Bool → (ℕ → Bool) → Expression → Expression
 said_where b circular e = if b then with_both circular e else e
+
+-- the right side of an equation of the attribute of this number, where an expression is written
+abbrev pub right_side : List Attribute → ℕ → Expression → Expression
+right_side attributes a e = said_where (circular_at attributes a) (circular_at attributes) e
+
+-- an expression calls a circular attribute
+abbrev pub has_circular : AttributeSet → TExpr → Bool
+has_circular a e = has_call (circular_at a.attributes) (expression_of e)

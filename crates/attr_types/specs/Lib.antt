@@ -1,3 +1,4 @@
 pub mod Asked
 pub mod BothSides
 pub mod Phases
+pub mod Written

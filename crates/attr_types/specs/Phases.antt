@@ -9,10 +9,10 @@ use Rattle.attr_rules.specs.declared.kinds.Attr.{Attr}
 use Rattle.attr_rules.specs.declared.kinds.Collecting.{Collecting}
 use Rattle.attr_rules.specs.declared.kinds.Kind.{Kind}
 use Rattle.attr_rules.specs.declared.kinds.Kind.TheVariants as kinds
-use Rattle.attr_rules.specs.Rules.{Attribute, Contribution, Equation, RuleSet, circular_at, collecting_at, contributed, declared_at}
+use Rattle.attr_rules.specs.Rules.{Attribute, Contribution, Equation, RuleSet, collecting_at, contributed, declared_at}
 use Rattle.attr_rules.specs.Expression.{Expression, Truth}
 use Rattle.attr_bodies.specs.Bodies.{operand_broken}
-use Rattle.attr_types.specs.BothSides.{said_where}
+use Rattle.attr_types.specs.BothSides.{right_side}
 use Rattle.expr_typing.specs.declared.standing.Stands.TheVariants.{Anywhere}
 use Rattle.attr_coverage.specs.Completeness.{complete_broken, places_of}
 use Rattle.attr_heads.specs.Contributions.{aim_of, uses_broken}
@@ -64,9 +64,15 @@ expressions_broken g attributes c =
     ++ (operand_broken (scope_at g attributes (aim_of g attributes c).contributor) Anywhere (kinds.Node (aim_of g attributes c).receiver) c.receiver
     ++ operand_broken (scope_at g attributes (aim_of g attributes c).contributor) Anywhere (wanted_from attributes (aim_of g attributes c).collection.0) c.value)
 
+abbrev pub equations_broken : List Class → List Attribute → List Given → List Broken
+equations_broken g attributes list = flat_map (equation_broken g attributes) list
+
+abbrev pub offers_broken : List Class → List Attribute → List WrittenContribution → List Broken
+offers_broken g attributes offered = flat_map (expressions_broken g attributes) offered
+
 -- what expressions break: the right sides of equations, and those of contributions
 abbrev pub bodies_broken : List Class → List Attribute → List Given → List WrittenContribution → List Broken
-bodies_broken g attributes list offered = flat_map (equation_broken g attributes) list ++ flat_map (expressions_broken g attributes) offered
+bodies_broken g attributes list offered = equations_broken g attributes list ++ offers_broken g attributes offered
 
 -- the phases over some declarations, equations and contributions: declarations; what equations and contributions are for; completeness; expressions
 abbrev pub phases_over : List Class → List Head → List Given → List WrittenContribution → List (List Broken)
@@ -83,7 +89,7 @@ phases_of g items = phases_over g (declarations items) (givens items) (contribut
 
 -- what the right side of an equation says, which is for this
 abbrev pub said_for : List Attribute → Target → Expression → Expression
-said_for attributes t e = said_where (circular_at attributes t.attribute.0) (circular_at attributes) e
+said_for attributes t e = right_side attributes t.attribute.0 e
 
 abbrev pub equation_of : List Class → List Attribute → Given → Equation
 equation_of g attributes e = record { target = target_given g attributes e; body = said_for attributes (target_given g attributes e) (body_of (scope_of g attributes e (target_given g attributes e)) e.body) }
@@ -102,13 +108,19 @@ contribution_of g attributes c = record {
   value = body_of (scope_at g attributes (aim_of g attributes c).contributor) c.value;
 }
 
+abbrev pub equations_of : List Class → List Attribute → List Given → List Equation
+equations_of g attributes list = map (equation_of g attributes) list
+
+abbrev pub contributions_of : List Class → List Attribute → List WrittenContribution → List Contribution
+contributions_of g attributes offered = map (contribution_of g attributes) offered
+
 -- attributes, equations and contributions are numbered in the order of the declarations, of the items with an equation, and of the contributions
 abbrev pub rules_over : List Class → List Head → List Given → List WrittenContribution → RuleSet
 rules_over g heads list offered = record {
   superclasses = superclasses_of g;
   attributes = attributes_of g heads;
-  equations = map (equation_of g (attributes_of g heads)) list;
-  contributions = map (contribution_of g (attributes_of g heads)) offered;
+  equations = equations_of g (attributes_of g heads) list;
+  contributions = contributions_of g (attributes_of g heads) offered;
 }
 
 unfoldable pub rules_of : List Class → List Item → RuleSet

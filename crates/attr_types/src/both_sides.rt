@@ -1,9 +1,9 @@
 // What `||` says in the equations of circular attributes.
 ghost use Rattle.std.specs.Prelude.{◌≡◌, ◌||◌};
 ghost use Rattle.attr_rules.specs.Expression.{Expression, Or, arguments_of, expression_of};
-ghost use Rattle.attr_rules.specs.Rising.{has_call, have_call};
+ghost use Rattle.attr_rules.specs.Rising.{have_call};
 ghost use Rattle.attr_rules.specs.Rules.{circular_at};
-ghost use Rattle.attr_types.specs.BothSides.{all_with_both, either, said_where, with_both};
+ghost use Rattle.attr_types.specs.BothSides.{all_with_both, either, has_circular, right_side, with_both};
 
 use attr_rules::{AttrId, Attributes, TArgs, TExpr};
 use std::mem;
@@ -30,7 +30,7 @@ fn set_either(calls: bool, whole: &mut TExpr)
 // at most 400 tokens.
 #[cycle(sides)]
 fn set_sides(attributes: &Attributes, expr: &mut TExpr) -> bool
-    ensures calls { result ≡ has_call (circular_at attributes.now.attributes) (expression_of expr.old) }
+    ensures calls { result ≡ has_circular attributes.now expr.old }
     ensures says { expression_of expr.new ≡ with_both (circular_at attributes.now.attributes) (expression_of expr.old) }
 {
     match expr {
@@ -77,7 +77,7 @@ fn set_sides(attributes: &Attributes, expr: &mut TExpr) -> bool
 // The same of two parts: whether one of them calls a circular attribute.
 #[cycle(sides)]
 fn set_pair(attributes: &Attributes, first: &mut TExpr, second: &mut TExpr) -> bool
-    ensures calls { result ≡ (has_call (circular_at attributes.now.attributes) (expression_of first.old) || has_call (circular_at attributes.now.attributes) (expression_of second.old)) }
+    ensures calls { result ≡ (has_circular attributes.now first.old || has_circular attributes.now second.old) }
     ensures first { expression_of first.new ≡ with_both (circular_at attributes.now.attributes) (expression_of first.old) }
     ensures second { expression_of second.new ≡ with_both (circular_at attributes.now.attributes) (expression_of second.old) }
 {
@@ -104,7 +104,7 @@ fn set_arguments(attributes: &Attributes, arguments: &mut TArgs) -> bool
 
 /// The right side of an equation of an attribute: where that is circular, each `||` evaluates both sides whose left one calls a circular attribute.
 pub(crate) fn said_for(attributes: &Attributes, attribute: AttrId, body: TExpr) -> TExpr
-    ensures { expression_of result ≡ said_where (circular_at attributes.now.attributes attribute.0) (circular_at attributes.now.attributes) (expression_of body) }
+    ensures { expression_of result ≡ right_side attributes.now.attributes attribute.0 (expression_of body) }
 {
     let mut said = body;
     if attributes.is_circular(attribute) {

@@ -1,9 +1,9 @@
 // Aspects over a grammar, checked.
-ghost use Rattle.std.specs.Prelude.{◌≡◌, IfOk, map, true};
+ghost use Rattle.std.specs.Prelude.{◌≡◌, IfOk, true};
 ghost use Rattle.broken_rules.specs.Answers.{Says};
 ghost use Rattle.attr_equations.specs.Kept.{rules_in};
-ghost use Rattle.attr_scope.specs.Seen.{seen_given, seen_head, seen_offer};
-ghost use Rattle.attr_types.specs.Phases.{phases_of, phases_over, rules_of, rules_over};
+ghost use Rattle.attr_types.specs.Phases.{phases_of, rules_of};
+ghost use Rattle.attr_types.specs.Written as written;
 ghost use Rattle.built_forms.specs.Built.{all_built};
 ghost use Rattle.aspect_items.specs.Items.{seen_aspects};
 
@@ -26,8 +26,8 @@ fn check_written(
     equations: &[Given<'_>],
     offered: &[&Contribution],
 ) -> Result<Rules, ReadFault>
-    ensures phases { Says (phases_over grammar.now (map seen_head heads.now) (map seen_given equations.now) (map seen_offer offered.now)) result }
-    ensures rules { IfOk result (λ rules. rules_in rules ≡ rules_over grammar.now (map seen_head heads.now) (map seen_given equations.now) (map seen_offer offered.now)) }
+    ensures phases { Says (written.phases grammar.now heads.now equations.now offered.now) result }
+    ensures rules { IfOk result (λ rules. rules_in rules ≡ written.rule_set grammar.now heads.now equations.now offered.now) }
 {
     let attributes = check_heads(alloc, grammar, heads)?;
     let targets = check_targets(alloc, grammar, &attributes, equations, offered)?;

@@ -1,13 +1,13 @@
 // The expressions of contributions: what they break, and what they say.
 ghost use Rattle.std.specs.Prelude.{◌≡◌, ◌++◌, ◌∷◌, [], IfOk, OnOk, map};
-ghost use Rattle.std.specs.List.{flat_map};
 ghost use Rattle.std.specs.Option.{option_map};
 ghost use Rattle.ast_grammar.specs.Grammar.{superclasses_of};
 ghost use Rattle.broken_rules.specs.Notes.{Notes};
 ghost use Rattle.attr_equations.specs.KeptContributions.{AreNumbered, condition_typed, contribution_in, contribution_typed};
 ghost use Rattle.attr_types.specs.Phases.{condition_broken, condition_said, contribution_of, expressions_broken, wanted_from};
+ghost use Rattle.attr_types.specs.Written as written;
 ghost use Rattle.attr_scope.specs.ScopeKept.{IsScope};
-ghost use Rattle.attr_scope.specs.Seen.{seen_offer, seen_scope};
+ghost use Rattle.attr_scope.specs.Seen.{seen_scope};
 ghost use Rattle.aspect_items.specs.Expressions.{seen_expr};
 ghost use Rattle.aspect_items.specs.Items.{seen_contribution};
 
@@ -101,9 +101,9 @@ pub(crate) fn type_contributions(
     faults: &mut Earliest,
 ) -> Result<Vec<KeptContribution>, Memory>
     requires { attributes.now.superclasses ≡ superclasses_of grammar.now }
-    ensures noted { OnOk result (Notes (flat_map (expressions_broken grammar.now attributes.now.attributes) (map seen_offer contributions.now)) faults.old faults.new) }
+    ensures noted { OnOk result (Notes (written.offers_broken grammar.now attributes.now contributions.now) faults.old faults.new) }
     ensures numbered { IfOk result (λ list. AreNumbered equations list.items) }
-    ensures says { IfOk result (λ list. map contribution_in list.items ≡ map (contribution_of grammar.now attributes.now.attributes) (map seen_offer contributions.now)) }
+    ensures says { IfOk result (λ list. map contribution_in list.items ≡ written.offers grammar.now attributes.now contributions.now) }
 {
     let mut list = Vec::new(alloc);
     for contribution in contributions {

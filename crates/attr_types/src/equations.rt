@@ -1,14 +1,14 @@
 // The right sides of equations, and the expressions of contributions: what they break, and what they say.
 ghost use Rattle.std.specs.Prelude.{◌≡◌, ◌++◌, ◌∷◌, [], IfOk, OnOk, length, map};
-ghost use Rattle.std.specs.List.{flat_map};
 ghost use Rattle.ast_grammar.specs.Grammar.{superclasses_of};
 ghost use Rattle.broken_rules.specs.Answers.{Ends};
 ghost use Rattle.broken_rules.specs.Notes.{Notes};
 ghost use Rattle.attr_equations.specs.KeptContributions.{AreNumbered, contribution_in};
 ghost use Rattle.attr_equations.specs.KeptEquations.{equation_in};
 ghost use Rattle.expr_typing.specs.declared.standing.Stands.TheVariants.{Anywhere};
-ghost use Rattle.attr_types.specs.Phases.{bodies_broken, contribution_of, equation_broken, equation_of, wanted_by};
-ghost use Rattle.attr_scope.specs.Seen.{seen_given, seen_offer};
+ghost use Rattle.attr_types.specs.Phases.{equation_broken, equation_of, wanted_by};
+ghost use Rattle.attr_types.specs.Written as written;
+ghost use Rattle.attr_scope.specs.Seen.{seen_given};
 ghost use Rattle.attr_heads.specs.Targets.{target_given, targets_of};
 
 use crate::both_sides::said_for;
@@ -93,8 +93,8 @@ fn type_equations(
 ) -> Result<Vec<KeptEquation>, Memory>
     requires attributes { attributes.now.superclasses ≡ superclasses_of grammar.now }
     requires targets { targets.now ≡ targets_of grammar.now attributes.now.attributes (map seen_given equations.now) }
-    ensures noted { OnOk result (Notes (flat_map (equation_broken grammar.now attributes.now.attributes) (map seen_given equations.now)) faults.old faults.new) }
-    ensures says { IfOk result (λ list. map equation_in list.items ≡ map (equation_of grammar.now attributes.now.attributes) (map seen_given equations.now)) }
+    ensures noted { OnOk result (Notes (written.equations_broken grammar.now attributes.now equations.now) faults.old faults.new) }
+    ensures says { IfOk result (λ list. map equation_in list.items ≡ written.equations grammar.now attributes.now equations.now) }
 {
     let mut list = Vec::new(alloc);
     for (equation, target) in equations.iter().zip(targets) {
@@ -132,10 +132,10 @@ pub(crate) fn check_bodies(
 ) -> Result<Bodies, ReadFault>
     requires attributes { attributes.now.superclasses ≡ superclasses_of grammar.now }
     requires targets { targets.now ≡ targets_of grammar.now attributes.now.attributes (map seen_given equations.now) }
-    ensures phase { Ends (bodies_broken grammar.now attributes.now.attributes (map seen_given equations.now) (map seen_offer contributions.now)) result }
-    ensures says { IfOk result (λ bodies. map equation_in bodies.equations.items ≡ map (equation_of grammar.now attributes.now.attributes) (map seen_given equations.now)) }
+    ensures phase { Ends (written.bodies_broken grammar.now attributes.now equations.now contributions.now) result }
+    ensures says { IfOk result (λ bodies. map equation_in bodies.equations.items ≡ written.equations grammar.now attributes.now equations.now) }
     ensures numbered { IfOk result (λ bodies. AreNumbered (length bodies.equations.items) bodies.contributions.items) }
-    ensures offered { IfOk result (λ bodies. map contribution_in bodies.contributions.items ≡ map (contribution_of grammar.now attributes.now.attributes) (map seen_offer contributions.now)) }
+    ensures offered { IfOk result (λ bodies. map contribution_in bodies.contributions.items ≡ written.offers grammar.now attributes.now contributions.now) }
 {
     let mut faults = Earliest::new();
     let list = type_equations(alloc, grammar, attributes, equations, targets, &mut faults)?;

@@ -1,5 +1,6 @@
 pub mod Calls
 pub mod Fitting
+pub mod Parts
 pub mod Places
 pub mod SetForms
 pub mod Standing

@@ -1,5 +1,5 @@
 -- The types of expressions as they are written, and what they say.
-use Rattle.std.specs.Prelude.{ℕ, suc, pos, List, [], ◌∷◌, Option, Some, None}
+use Rattle.std.specs.Prelude.{◌≡◌, ◌≢◌, ℕ, suc, pos, List, [], ◌∷◌, Option, Some, None}
 use Rattle.std.specs.Int.{int_wrap}
 use Rattle.std.specs.Option.{option_and_then, option_map}
 use mir.Syntax.{w32}
@@ -152,6 +152,13 @@ read access.Count k e i = said.Count k e
 read access.Elements k e i = e
 read access.Element k e i = said.Element k e i
 
+abbrev pub read_by : Accessor → Expression → Expression → Expression
+read_by x e i = read x.access x.component e i
+
+-- what it says that takes no argument: the same, whatever stood in place of one
+abbrev pub SaysAlone : Accessor → Expression → Expression → Type 0
+SaysAlone x receiver e = (i : Expression) → x.access ≢ access.Element → e ≡ read_by x receiver i
+
 -- the arguments that are these
 abbrev pub arguments_in : List Expression → said.Arguments
 arguments_in [] = said.no_more
@@ -165,7 +172,7 @@ first_in (said.argument e es) = e
 -- what a call says behind a receiver, whose name stands at a place; a name that means nothing says `null`
 abbrev pub call_said : Option member.Member → Place → Expression → said.Arguments → Expression
 call_said None at e es = said.Null
-call_said (Some (members.Reads x)) at e es = read x.access x.component e (first_in es)
+call_said (Some (members.Reads x)) at e es = read_by x e (first_in es)
 call_said (Some (members.Calls a)) at e es = said.Call a.0 at e es
 
 -- what a call without receiver says

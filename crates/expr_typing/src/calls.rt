@@ -1,10 +1,7 @@
 // The rules on calls: J9, J10 and J11.
-ghost use Rattle.std.specs.Prelude.{◌≡◌, ◌==◌, ◌&&◌, length, not};
-ghost use Rattle.broken_rules.specs.Notes.{Notes, at, broken_if};
-ghost use Rattle.broken_rules.specs.declared.rule.Rule.TheVariants.{J10, J11};
-ghost use Rattle.expr_typing.specs.Calls.{call_broken, member_broken};
-ghost use Rattle.expr_typing.specs.Calls.{first_place};
-ghost use Rattle.attr_scope.specs.Scope.{arguments_wanted, is_list, member_on};
+ghost use Rattle.std.specs.Prelude.{◌≡◌};
+ghost use Rattle.broken_rules.specs.Notes.{Notes};
+ghost use Rattle.expr_typing.specs.Calls.{broken_as, broken_by, first_place, meant, other_count, stray_list};
 ghost use Rattle.attr_scope.specs.Seen.{seen_scope};
 ghost use Rattle.aspect_items.specs.Expressions.{seen_name};
 
@@ -39,7 +36,7 @@ impl Called<'_> {
 
 // J11 at a name that takes another number of arguments.
 fn check_count(scope: &Scope<'_>, call: Called<'_>, member: Member, faults: &mut Earliest)
-    ensures { Notes (broken_if (not (length (arguments_wanted (seen_scope scope.now) member) == call.entry.count)) (at (seen_name call.entry.name.now).place J11)) faults.old faults.new }
+    ensures { Notes (other_count (seen_scope scope.now) member (seen_name call.entry.name.now) call.entry.count) faults.old faults.new }
 {
     let is_other = !scope.takes(member, call.count);
     faults.note_if(is_other, Rule::J11, call.name.place);
@@ -47,7 +44,7 @@ fn check_count(scope: &Scope<'_>, call: Called<'_>, member: Member, faults: &mut
 
 // J10 at a whole list, where none is wanted.
 fn check_list(call: Called<'_>, member: Member, faults: &mut Earliest)
-    ensures { Notes (broken_if (not call.entry.range && is_list member) (at (first_place call.entry) J10)) faults.old faults.new }
+    ensures { Notes (stray_list call.entry.range member (first_place call.entry)) faults.old faults.new }
 {
     if !call.range && member.is_list() {
         faults.note(Rule::J10, call.place());
@@ -56,7 +53,7 @@ fn check_list(call: Called<'_>, member: Member, faults: &mut Earliest)
 
 // J9 at a name that means nothing, and J10 and J11 at one that means something.
 fn check_member(scope: &Scope<'_>, call: Called<'_>, member: Option<Member>, faults: &mut Earliest)
-    ensures { Notes (member_broken (seen_scope scope.now) call.entry.range member (seen_name call.entry.name.now) call.entry.count (first_place call.entry)) faults.old faults.new }
+    ensures { Notes (broken_as (seen_scope scope.now) member call.entry) faults.old faults.new }
 {
     match member {
         None => faults.note(Rule::J9, call.name.place),
@@ -75,7 +72,7 @@ pub fn check_call(
     member: Option<Member>,
     faults: &mut Earliest,
 )
-    ensures { member ≡ member_on (seen_scope scope.now) receiver (seen_name call.entry.name.now).text call.entry.count → Notes (call_broken (seen_scope scope.now) call.entry.range (seen_name call.entry.name.now) call.entry.count (first_place call.entry) receiver) faults.old faults.new }
+    ensures { member ≡ meant (seen_scope scope.now) receiver call.entry → Notes (broken_by (seen_scope scope.now) receiver call.entry) faults.old faults.new }
 {
     let Some(receiver) = receiver else { return };
     if receiver.class().is_none() {

@@ -2,11 +2,10 @@
 ghost use Rattle.std.specs.Prelude.{◌≡◌, IfOk};
 ghost use Rattle.attr_rules.specs.Expression as said;
 ghost use Rattle.attr_rules.specs.Expression.{expression_of};
-ghost use Rattle.broken_rules.specs.Notes.{Notes, at, broken_if};
-ghost use Rattle.broken_rules.specs.declared.rule.Rule.TheVariants.{J10};
-ghost use Rattle.expr_typing.specs.Places.{place_of as first_place_of};
-ghost use Rattle.expr_typing.specs.SetForms.{common_of, contains_broken, count_broken, form_named, has_no_sets, have_no_common, is_foreign, is_no_set, made_said, no_element, no_set, one_broken, one_said, one_type, operator_named, other_named, pair_broken, pair_said, pair_type, set_known, sets_broken, settled};
-ghost use Rattle.aspect_items.specs.Expressions.{seen_expr, seen_name};
+ghost use Rattle.broken_rules.specs.Notes.{Notes};
+ghost use Rattle.expr_typing.specs.Parts as parts;
+ghost use Rattle.expr_typing.specs.SetForms.{count_broken, form_named, has_no_sets, is_foreign, is_no_set, made_said, one_said, one_type, operator_named, other_named, pair_said, pair_type, set_known, settled};
+ghost use Rattle.aspect_items.specs.Expressions.{seen_name};
 
 use crate::sides::{Part, have_no_common, place_of};
 use crate::typed::{both_boxed, boxed, common_of};
@@ -196,7 +195,7 @@ fn is_foreign(grammar: &Grammar, set: Option<ValueType>, of: Option<ValueType>) 
 
 /// J10 at a part that is known to be no set.
 pub(crate) fn check_set(part: Part<'_>, faults: &mut Earliest)
-    ensures { Notes (no_set part.entry.value_type (seen_expr part.entry.written.now)) faults.old faults.new }
+    ensures { Notes (parts.no_set part.entry) faults.old faults.new }
 {
     if is_no_set(part.value_type) {
         faults.note(Rule::J10, place_of(part.written));
@@ -205,7 +204,7 @@ pub(crate) fn check_set(part: Part<'_>, faults: &mut Earliest)
 
 // J10 at a part that no set has.
 fn check_element(part: Part<'_>, faults: &mut Earliest)
-    ensures { Notes (no_element part.entry.value_type (seen_expr part.entry.written.now)) faults.old faults.new }
+    ensures { Notes (parts.no_element part.entry) faults.old faults.new }
 {
     if has_no_sets(part.value_type) {
         faults.note(Rule::J10, place_of(part.written));
@@ -221,7 +220,7 @@ pub fn check_count(name: &Name, faults: &mut Earliest)
 
 /// J10 and J11 of a form with one argument.
 pub fn check_one(form: SetForm, name: &Name, part: Part<'_>, faults: &mut Earliest)
-    ensures { Notes (one_broken form (seen_name name.now) part.entry.value_type (seen_expr part.entry.written.now)) faults.old faults.new }
+    ensures { Notes (parts.one_broken form (seen_name name.now) part.entry) faults.old faults.new }
 {
     match form {
         SetForm::Makes(_) | SetForm::Contains => check_count(name, faults),
@@ -232,7 +231,7 @@ pub fn check_one(form: SetForm, name: &Name, part: Part<'_>, faults: &mut Earlie
 
 // J10 at the second one of two sets that have no common type.
 fn check_common_sets(grammar: &Grammar, first: Part<'_>, second: Part<'_>, faults: &mut Earliest)
-    ensures { Notes (broken_if (have_no_common grammar.now (set_known first.entry.value_type) (set_known second.entry.value_type)) (at (first_place_of (seen_expr second.entry.written.now)) J10)) faults.old faults.new }
+    ensures { Notes (parts.no_common_set grammar.now first.entry second.entry) faults.old faults.new }
 {
     let first = set_known(first.value_type);
     if have_no_common(grammar, first, set_known(second.value_type)) {
@@ -242,7 +241,7 @@ fn check_common_sets(grammar: &Grammar, first: Part<'_>, second: Part<'_>, fault
 
 // J10 at parts that are no sets, and at the second one of two sets that have no common type.
 fn check_sets(grammar: &Grammar, first: Part<'_>, second: Part<'_>, faults: &mut Earliest)
-    ensures { Notes (sets_broken grammar.now first.entry.value_type (seen_expr first.entry.written.now) second.entry.value_type (seen_expr second.entry.written.now)) faults.old faults.new }
+    ensures { Notes (parts.sets_broken grammar.now first.entry second.entry) faults.old faults.new }
 {
     check_set(first, faults);
     check_set(second, faults);
@@ -251,7 +250,7 @@ fn check_sets(grammar: &Grammar, first: Part<'_>, second: Part<'_>, faults: &mut
 
 // J10 at a part that is known to be no element of a set.
 fn check_fits_set(grammar: &Grammar, set: Part<'_>, element: Part<'_>, faults: &mut Earliest)
-    ensures { Notes (broken_if (is_foreign grammar.now (set_known set.entry.value_type) element.entry.value_type) (at (first_place_of (seen_expr element.entry.written.now)) J10)) faults.old faults.new }
+    ensures { Notes (parts.foreign grammar.now set.entry element.entry) faults.old faults.new }
 {
     if is_foreign(grammar, set_known(set.value_type), element.value_type) {
         faults.note(Rule::J10, place_of(element.written));
@@ -260,7 +259,7 @@ fn check_fits_set(grammar: &Grammar, set: Part<'_>, element: Part<'_>, faults: &
 
 // J10 at what is no set, and at what is none of its elements.
 fn check_contains(grammar: &Grammar, set: Part<'_>, element: Part<'_>, faults: &mut Earliest)
-    ensures { Notes (contains_broken grammar.now set.entry.value_type (seen_expr set.entry.written.now) element.entry.value_type (seen_expr element.entry.written.now)) faults.old faults.new }
+    ensures { Notes (parts.contains_broken grammar.now set.entry element.entry) faults.old faults.new }
 {
     check_set(set, faults);
     check_fits_set(grammar, set, element, faults);
@@ -275,7 +274,7 @@ pub fn check_pair(
     second: Part<'_>,
     faults: &mut Earliest,
 )
-    ensures { Notes (pair_broken grammar.now form (seen_name name.now) first.entry.value_type (seen_expr first.entry.written.now) second.entry.value_type (seen_expr second.entry.written.now)) faults.old faults.new }
+    ensures { Notes (parts.pair_broken grammar.now form (seen_name name.now) first.entry second.entry) faults.old faults.new }
 {
     match form {
         SetForm::Makes(_) => check_sets(grammar, first, second, faults),

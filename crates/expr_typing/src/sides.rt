@@ -1,8 +1,8 @@
 // The rule that types fit, J10, at the parts of an expression.
 ghost use Rattle.std.specs.Prelude.{◌≡◌};
-ghost use Rattle.broken_rules.specs.Notes.{Notes, at, broken_if};
-ghost use Rattle.broken_rules.specs.declared.rule.Rule.TheVariants.{J10};
-ghost use Rattle.expr_typing.specs.Fitting.{are_apart, both_misfit, choice_broken, equal_broken, is_no_node, is_unfit, misfit, no_node, sides_broken};
+ghost use Rattle.broken_rules.specs.Notes.{Notes};
+ghost use Rattle.expr_typing.specs.Fitting.{are_apart, is_no_node, is_unfit};
+ghost use Rattle.expr_typing.specs.Parts as parts;
 ghost use Rattle.expr_typing.specs.Places.{else_place, place_of};
 ghost use Rattle.expr_typing.specs.SetForms.{have_no_common};
 ghost use Rattle.aspect_items.specs.Expressions.{seen_expr};
@@ -99,7 +99,7 @@ pub struct Part<'a> {
 
 /// J10 at a part of which another type is wanted.
 pub fn check_fit(grammar: &Grammar, part: Part<'_>, wanted: Kind, faults: &mut Earliest)
-    ensures { Notes (misfit grammar.now wanted part.entry.value_type (seen_expr part.entry.written.now)) faults.old faults.new }
+    ensures { Notes (parts.misfit grammar.now wanted part.entry) faults.old faults.new }
 {
     if is_unfit(grammar, part.value_type, wanted) {
         faults.note(Rule::J10, place_of(part.written));
@@ -108,7 +108,7 @@ pub fn check_fit(grammar: &Grammar, part: Part<'_>, wanted: Kind, faults: &mut E
 
 /// J10 at a part that is known to be no node.
 pub fn check_node(part: Part<'_>, faults: &mut Earliest)
-    ensures { Notes (no_node part.entry.value_type (seen_expr part.entry.written.now)) faults.old faults.new }
+    ensures { Notes (parts.no_node part.entry) faults.old faults.new }
 {
     if is_no_node(part.value_type) {
         faults.note(Rule::J10, place_of(part.written));
@@ -117,7 +117,7 @@ pub fn check_node(part: Part<'_>, faults: &mut Earliest)
 
 // J10 at the right one of two sides that can't be compared.
 fn check_equal(left: Part<'_>, right: Part<'_>, faults: &mut Earliest)
-    ensures { Notes (equal_broken left.entry.value_type right.entry.value_type (seen_expr right.entry.written.now)) faults.old faults.new }
+    ensures { Notes (parts.equal_broken left.entry right.entry) faults.old faults.new }
 {
     if are_apart(left.value_type, right.value_type) {
         faults.note(Rule::J10, place_of(right.written));
@@ -131,7 +131,7 @@ fn check_both(
     wanted: Kind,
     faults: &mut Earliest,
 )
-    ensures { Notes (both_misfit grammar.now wanted left.entry.value_type (seen_expr left.entry.written.now) right.entry.value_type (seen_expr right.entry.written.now)) faults.old faults.new }
+    ensures { Notes (parts.both_misfit grammar.now wanted left.entry right.entry) faults.old faults.new }
 {
     check_fit(grammar, left, wanted, faults);
     check_fit(grammar, right, wanted, faults);
@@ -145,7 +145,7 @@ pub fn check_sides(
     right: Part<'_>,
     faults: &mut Earliest,
 )
-    ensures { Notes (sides_broken grammar.now operator left.entry.value_type (seen_expr left.entry.written.now) right.entry.value_type (seen_expr right.entry.written.now)) faults.old faults.new }
+    ensures { Notes (parts.sides_broken grammar.now operator left.entry right.entry) faults.old faults.new }
 {
     match operator {
         Operator::Multiply
@@ -162,7 +162,7 @@ pub fn check_sides(
 
 // J10 at the last one of two parts that have no common type.
 fn check_common(grammar: &Grammar, then: Part<'_>, otherwise: Part<'_>, faults: &mut Earliest)
-    ensures { Notes (broken_if (have_no_common grammar.now then.entry.value_type otherwise.entry.value_type) (at (place_of (seen_expr otherwise.entry.written.now)) J10)) faults.old faults.new }
+    ensures { Notes (parts.no_common grammar.now then.entry otherwise.entry) faults.old faults.new }
 {
     if have_no_common(grammar, then.value_type, otherwise.value_type) {
         faults.note(Rule::J10, place_of(otherwise.written));
@@ -177,7 +177,7 @@ pub fn check_choice(
     otherwise: Part<'_>,
     faults: &mut Earliest,
 )
-    ensures { Notes (choice_broken grammar.now condition.entry.value_type (seen_expr condition.entry.written.now) then.entry.value_type otherwise.entry.value_type (seen_expr otherwise.entry.written.now)) faults.old faults.new }
+    ensures { Notes (parts.choice_broken grammar.now condition.entry then.entry otherwise.entry) faults.old faults.new }
 {
     check_fit(grammar, condition, Kind::Truth, faults);
     check_common(grammar, then, otherwise, faults);

@@ -1,11 +1,11 @@
 // What written expressions say, made of what their parts say.
-ghost use Rattle.std.specs.Prelude.{◌≡◌, ◌≢◌, IfOk, map};
+ghost use Rattle.std.specs.Prelude.{◌≡◌, IfOk, map};
 ghost use Rattle.attr_rules.specs.Expression as said;
 ghost use Rattle.attr_rules.specs.Expression.{arguments_of, expression_of};
 ghost use Rattle.std.specs.Option.{option_map};
 ghost use Rattle.attr_rules.specs.Types.{of_class};
 ghost use Rattle.expr_typing.specs.SetForms.{common_of};
-ghost use Rattle.expr_typing.specs.Typed.{arguments_in, call_said, first_in, joined, prefixed, read, result_of};
+ghost use Rattle.expr_typing.specs.Typed.{SaysAlone, arguments_in, call_said, first_in, joined, prefixed, read_by, result_of};
 
 use crate::standing::Prefix;
 use aspect_items::Operator as Sign;
@@ -177,7 +177,7 @@ fn element(alloc: Global, k: u32, receiver: TExpr, place: TExpr) -> Result<TExpr
 
 // What an accessor without an argument says behind a receiver. A whole list says what has it.
 fn read_alone(alloc: Global, accessor: Accessor, receiver: TExpr) -> Result<TExpr, Memory>
-    ensures { IfOk result (λ e. (argument : said.Expression) → accessor.access ≢ Access.Element → expression_of e ≡ read accessor.access accessor.component (expression_of receiver) argument) }
+    ensures { IfOk result (λ e. SaysAlone accessor (expression_of receiver) (expression_of e)) }
 {
     let k = accessor.component;
     let receiver = boxed(alloc, receiver)?;
@@ -197,7 +197,7 @@ fn read(
     receiver: TExpr,
     argument: TExpr,
 ) -> Result<TExpr, Memory>
-    ensures { IfOk result (λ e. expression_of e ≡ read accessor.access accessor.component (expression_of receiver) (expression_of argument)) }
+    ensures { IfOk result (λ e. expression_of e ≡ read_by accessor (expression_of receiver) (expression_of argument)) }
 {
     if accessor.access == Access::Element {
         return element(alloc, accessor.component, receiver, argument);

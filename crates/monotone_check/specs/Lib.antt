@@ -1,4 +1,5 @@
 pub mod Equations
+pub mod Kept
 pub mod Parts
 pub mod Permitted
 pub mod Positions

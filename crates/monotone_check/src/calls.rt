@@ -1,11 +1,12 @@
 // The positions of calls in an expression.
 ghost use Rattle.std.specs.Prelude.{◌≡◌, ◌++◌, ◌||◌};
-ghost use Rattle.attr_rules.specs.Expression.{arguments_of, expression_of};
+ghost use Rattle.attr_rules.specs.Expression.{arguments_of};
 ghost use Rattle.attr_equations.specs.Kept.{rules_in};
-ghost use Rattle.attr_rules.specs.Rising.{has_call, have_call};
+ghost use Rattle.attr_rules.specs.Rising.{have_call};
 ghost use Rattle.broken_rules.specs.Notes.{Notes};
 ghost use Rattle.monotone_check.specs.Equations.{is_circular};
-ghost use Rattle.monotone_check.specs.Positions.{broken_arguments, broken_in, call_broken, choice_broken, in_body, in_range, in_second};
+ghost use Rattle.monotone_check.specs.Kept.{broken_at, has_circular};
+ghost use Rattle.monotone_check.specs.Positions.{broken_arguments, call_broken, choice_broken, in_body, in_range, in_second};
 
 use attr_equations::Rules;
 use attr_rules::{AttrId, Quantifier, SetOperator, TArgs, TExpr};
@@ -88,8 +89,8 @@ fn check_two(
     second_refused: Option<Rule>,
     faults: &mut Earliest,
 ) -> bool
-    ensures noted { Notes (broken_in (is_circular (rules_in rules.now)) first_refused (expression_of first.now) ++ broken_in (is_circular (rules_in rules.now)) second_refused (expression_of second.now)) faults.old faults.new }
-    ensures calls { result ≡ (has_call (is_circular (rules_in rules.now)) (expression_of first.now) || has_call (is_circular (rules_in rules.now)) (expression_of second.now)) }
+    ensures noted { Notes (broken_at rules.now first_refused first.now ++ broken_at rules.now second_refused second.now) faults.old faults.new }
+    ensures calls { result ≡ (has_circular rules.now first.now || has_circular rules.now second.now) }
 {
     let in_first = check_calls(rules, first, first_refused, faults);
     let in_second = check_calls(rules, second, second_refused, faults);
@@ -106,8 +107,8 @@ fn check_over(
     refused: Option<Rule>,
     faults: &mut Earliest,
 ) -> bool
-    ensures noted { Notes (broken_in (is_circular (rules_in rules.now)) (in_range form refused) (expression_of set.now) ++ broken_in (is_circular (rules_in rules.now)) (in_body form refused) (expression_of body.now)) faults.old faults.new }
-    ensures calls { result ≡ (has_call (is_circular (rules_in rules.now)) (expression_of set.now) || has_call (is_circular (rules_in rules.now)) (expression_of body.now)) }
+    ensures noted { Notes (broken_at rules.now (in_range form refused) set.now ++ broken_at rules.now (in_body form refused) body.now) faults.old faults.new }
+    ensures calls { result ≡ (has_circular rules.now set.now || has_circular rules.now body.now) }
 {
     let range_refused = in_range(form, refused);
     let body_refused = in_body(form, refused);
@@ -139,8 +140,8 @@ pub(crate) fn check_calls(
     refused: Option<Rule>,
     faults: &mut Earliest,
 ) -> bool
-    ensures noted { Notes (broken_in (is_circular (rules_in rules.now)) refused (expression_of expression.now)) faults.old faults.new }
-    ensures calls { result ≡ has_call (is_circular (rules_in rules.now)) (expression_of expression.now) }
+    ensures noted { Notes (broken_at rules.now refused expression.now) faults.old faults.new }
+    ensures calls { result ≡ has_circular rules.now expression.now }
 {
     match expression {
         TExpr::Truth(_) | TExpr::Int(_) | TExpr::Text(_) | TExpr::Variable(_) => false,

@@ -1,26 +1,20 @@
 -- Contributions whose expressions are well typed.
-use Rattle.std.specs.Prelude.{◌≡◌, true, List, Option, Some, None}
+use Rattle.std.specs.Prelude.{◌≡◌, ◌↔◌, All, true, List, [], Option, Some, None}
 use Rattle.ast_grammar.specs.Grammar.{Class}
 use Rattle.attr_rules.specs.declared.kinds.Kind.{Kind}
 use Rattle.attr_rules.specs.declared.kinds.Kind.TheVariants as kinds
-use Rattle.attr_rules.specs.declared.types.ValueType.{ValueType}
 use Rattle.attr_rules.specs.Rules.{Attribute}
-use Rattle.attr_rules.specs.Types.{fits}
 use Rattle.aspect_items.specs.Expressions.{Expr}
 use Rattle.aspect_items.specs.Items.{Contribution}
 use Rattle.built_forms.specs.Built.{is_built_contribution}
 use Rattle.attr_scope.specs.Scope.{Scope}
 use Rattle.attr_heads.specs.Contributions.{aim_of}
-use Rattle.attr_types.specs.Phases.{scope_at, wanted_from}
-use Rattle.typing_rules.specs.TypeRules.{IsTyped}
+use Rattle.attr_types.specs.Phases.{offers_broken, scope_at, wanted_from}
+use Rattle.typing_rules.specs.TypeRules.{IsOf}
 
 -- the expressions of a contribution are evaluated so far
 abbrev pub IsBuilt : Contribution → Type 0
 IsBuilt c = is_built_contribution c ≡ true
-
--- an expression is of a type by the rules, which fits this one
-abbrev pub IsOf : Scope → Kind → Expr → Type 0
-IsOf s wanted e = (t : ValueType) × IsTyped s e t × (fits s.grammar t wanted ≡ true)
 
 -- a condition is a truth value, where one is written
 abbrev pub IsCondition : Scope → Option Expr → Type 0
@@ -37,3 +31,7 @@ pub record AreWellTyped (g : List Class) (attributes : List Attribute) (c : Cont
   pub condition : IsCondition (scope_in g attributes c) c.condition
   pub receiver : IsOf (scope_in g attributes c) (kinds.Node (aim_of g attributes c).receiver) c.receiver
   pub value : IsOf (scope_in g attributes c) (wanted_from attributes (aim_of g attributes c).collection.0) c.value
+
+-- contributions break no rule on expressions exactly where all of them are well typed
+abbrev pub OffersExactly : List Class → List Attribute → List Contribution → Type 0
+OffersExactly g attributes offered = (offers_broken g attributes offered ≡ []) ↔ All (AreWellTyped g attributes) offered

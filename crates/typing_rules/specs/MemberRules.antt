@@ -3,14 +3,17 @@ use Rattle.std.specs.Prelude.{◌≡◌, ℕ, ◌<◌, ◌≤◌, ◌++◌, true
 use Rattle.ast_grammar.specs.declared.grammar.ClassId.{ClassId}
 use Rattle.ast_grammar.specs.declared.grammar.Shape.{Shape}
 use Rattle.ast_grammar.specs.declared.grammar.Shape.TheVariants as shapes
-use Rattle.ast_grammar.specs.Grammar.{Class, Component, component_at, is_sub}
+use Rattle.ast_grammar.specs.Grammar.{Class, Component, IsGrammar, component_at, is_sub}
 use Rattle.attr_rules.specs.declared.accessors.Access.{Access}
 use Rattle.attr_rules.specs.declared.accessors.Access.TheVariants as access
 use Rattle.attr_rules.specs.declared.accessors.Accessor.{Accessor}
+use Rattle.attr_rules.specs.declared.kinds.AttrId.{AttrId}
 use Rattle.attr_rules.specs.declared.kinds.Kind.TheVariants as kinds
 use Rattle.attr_rules.specs.Accessors.{arguments_of, reading}
 use Rattle.attr_rules.specs.Rules.{Attribute}
-use Rattle.attr_scope.specs.Scope.{Scope}
+use Rattle.attr_scope.specs.declared.scope.Member.TheVariants as members
+use Rattle.attr_scope.specs.Scope.{Scope, member_of}
+use Rattle.attr_scope.specs.ScopeKept.{IsScope}
 
 -- what `getX()` reads of a component X of some shape
 pub data IsGot : Shape → Access → Type 0 where
@@ -52,3 +55,23 @@ pub record IsNamed (s : Scope) (c : ClassId) (name : List ℕ) (a : ℕ) : Type 
   pub named : attribute.name ≡ name
   pub has : is_sub s.grammar c.0 attribute.declared.class.0 ≡ true
   pub first : (b : ℕ) (y : Attribute) → slice_get s.known.attributes b ≡ Some y → y.name ≡ name → is_sub s.grammar c.0 y.declared.class.0 ≡ true → a ≤ b
+
+-- a scope over a grammar
+abbrev pub IsOverGrammar : Scope → Type 0
+IsOverGrammar s = IsGrammar s.grammar × IsScope s
+
+-- behind a receiver of a class, and with so many arguments, a name means this accessor, which takes so many
+abbrev pub Reads : Scope → ClassId → List ℕ → ℕ → Accessor → Type 0
+Reads s c name n x = (member_of s name n c ≡ Some (members.Reads x)) × (length (arguments_of x.access) ≡ n)
+
+-- the accessor is the first of those that the name spells there
+abbrev pub IsSpelled : Scope → ClassId → List ℕ → ℕ → Accessor → Type 0
+IsSpelled s c name n x = IsMeant s.grammar c.0 name n x
+
+-- or the name means this attribute
+abbrev pub Calls : Scope → ClassId → List ℕ → ℕ → AttrId → Type 0
+Calls s c name n a = member_of s name n c ≡ Some (members.Calls a)
+
+-- which is that of the name, and the name spells no accessor of the class
+abbrev pub IsNamedAlone : Scope → ClassId → List ℕ → AttrId → Type 0
+IsNamedAlone s c name a = ((x : Accessor) → Spells s.grammar c.0 name x → ⊥) × IsNamed s c name a.0

@@ -132,3 +132,7 @@ mutual
   pub data GoesOver : Scope → Expr → Kind → Type 0 where
     list : {s : Scope} {e : Expr} (c : ClassId) → IsList s e c → GoesOver s e (kinds.Node c)
     set : {s : Scope} {e : Expr} (t : ValueType) (k : Kind) → IsTyped s e t → elements_of t ≡ Some k → GoesOver s e k
+
+-- an expression is of a type by the rules, which fits this one
+abbrev pub IsOf : Scope → Kind → Expr → Type 0
+IsOf s wanted e = (t : ValueType) × IsTyped s e t × (fits s.grammar t wanted ≡ true)

@@ -1,6 +1,5 @@
 // That exactly the expressions that have no type by the rules break one.
-ghost use Rattle.std.specs.Prelude.{◌≡◌, ◌↔◌, ℕ, All, List, [], None, Some, length, true};
-ghost use Rattle.std.specs.List.{flat_map};
+ghost use Rattle.std.specs.Prelude.{◌≡◌, ◌↔◌, ℕ, All, List, [], None, Some, true};
 ghost use Rattle.broken_rules.specs.Answers.{Answers};
 ghost use Rattle.ast_grammar.specs.declared.grammar.ClassId.{ClassId};
 ghost use Rattle.ast_grammar.specs.Grammar.{Class, IsGrammar};
@@ -8,32 +7,27 @@ ghost use Rattle.attr_rules.specs.declared.accessors.Accessor.{Accessor};
 ghost use Rattle.attr_rules.specs.declared.kinds.AttrId.{AttrId};
 ghost use Rattle.attr_rules.specs.declared.kinds.Kind.{Kind};
 ghost use Rattle.attr_rules.specs.declared.types.ValueType.{ValueType};
-ghost use Rattle.attr_rules.specs.Accessors.{arguments_of};
 ghost use Rattle.attr_rules.specs.Rules.{Attribute};
 ghost use Rattle.attr_rules.specs.Types.{common, fits};
 ghost use Rattle.aspect_items.specs.Expressions.{Expr};
 ghost use Rattle.aspect_items.specs.Items.{Contribution, Item};
 ghost use Rattle.built_forms.specs.Built.{all_built, is_built};
-ghost use Rattle.attr_scope.specs.declared.scope.Member.TheVariants as members;
-ghost use Rattle.attr_scope.specs.Scope.{Scope, member_of};
-ghost use Rattle.attr_scope.specs.ScopeKept.{IsScope};
-ghost use Rattle.attr_scope.specs.Written.{givens};
-ghost use Rattle.attr_heads.specs.Targets.{targets_broken};
+ghost use Rattle.attr_scope.specs.Scope.{Scope};
 ghost use Rattle.expr_typing.specs.declared.standing.Stands.{Stands};
 ghost use Rattle.expr_typing.specs.declared.standing.Stands.TheVariants.{Anywhere};
 ghost use Rattle.expr_typing.specs.Typed.{known};
 ghost use Rattle.attr_bodies.specs.Bodies.{expr_broken, operand_broken};
-ghost use Rattle.attr_types.specs.Phases.{equation_broken, expressions_broken, phases_of};
-ghost use Rattle.typing_rules.specs.ContributionTypes.{AreWellTyped, IsBuilt};
-ghost use Rattle.typing_rules.specs.EquationTypes.{IsAccepted, IsWellTyped};
-ghost use Rattle.typing_rules.specs.FittingRules.{Fits};
-ghost use Rattle.typing_rules.specs.MemberRules.{IsMeant, IsNamed, Spells};
-ghost use Rattle.typing_rules.specs.TypeRules.{IsTyped, NamesAreKnown};
+ghost use Rattle.attr_types.specs.Phases.{phases_of};
+ghost use Rattle.typing_rules.specs.ContributionTypes.{IsBuilt, OffersExactly};
+ghost use Rattle.typing_rules.specs.EquationTypes.{EquationsExactly, HaveTargets, IsAccepted};
+ghost use Rattle.typing_rules.specs.FittingRules.{BothFit, Fits};
+ghost use Rattle.typing_rules.specs.MemberRules.{Calls, IsNamedAlone, IsOverGrammar, IsSpelled, Reads};
+ghost use Rattle.typing_rules.specs.TypeRules.{IsOf, IsTyped, NamesAreKnown};
 
 /// Where the types of all names are known, an expression of which a type is wanted breaks no rule exactly where it has a type by the rules that
 /// fits: nothing that is well typed is refused, and nothing else is let through.
 pub fn well_typed_exactly()
-    ensures { (s : Scope) (e : Expr) (wanted : Kind) → NamesAreKnown s → is_built e ≡ true → (operand_broken s Anywhere wanted e ≡ []) ↔ ((t : ValueType) × IsTyped s e t × (fits s.grammar t wanted ≡ true)) }
+    ensures { (s : Scope) (e : Expr) (wanted : Kind) → NamesAreKnown s → is_built e ≡ true → (operand_broken s Anywhere wanted e ≡ []) ↔ IsOf s wanted e }
 {}
 
 /// What has a type breaks nothing wherever it stands, behind a minus and as a range too.
@@ -50,8 +44,8 @@ pub fn expressions_have_one_type()
 /// Behind a receiver of a class a name means an accessor, called with as many arguments as it takes, exactly where it is the first of those that the
 /// name spells and that take so many; and an attribute exactly where the name spells no accessor of the class, and is that of the attribute.
 pub fn members_are_spelled_or_named()
-    ensures reads { (s : Scope) (c : ClassId) (name : List ℕ) (n : ℕ) (x : Accessor) → IsGrammar s.grammar → ((member_of s name n c ≡ Some (members.Reads x)) × (length (arguments_of x.access) ≡ n)) ↔ IsMeant s.grammar c.0 name n x }
-    ensures calls { (s : Scope) (c : ClassId) (name : List ℕ) (n : ℕ) (a : AttrId) → IsGrammar s.grammar → IsScope s → (member_of s name n c ≡ Some (members.Calls a)) ↔ (((x : Accessor) → Spells s.grammar c.0 name x → ⊥) × IsNamed s c name a.0) }
+    ensures reads { (s : Scope) (c : ClassId) (name : List ℕ) (n : ℕ) (x : Accessor) → IsGrammar s.grammar → Reads s c name n x ↔ IsSpelled s c name n x }
+    ensures calls { (s : Scope) (c : ClassId) (name : List ℕ) (n : ℕ) (a : AttrId) → IsOverGrammar s → Calls s c name n a ↔ IsNamedAlone s c name a }
 {}
 
 /// A type fits another exactly where they are equal, where a class is the other or stands below it, where both are sets whose elements fit, where it is
@@ -62,19 +56,19 @@ pub fn types_fit_in_words()
 
 /// The common type of two is the least that both fit: it fits exactly what both do. Where there is none, there is no type that both fit.
 pub fn common_types_are_least()
-    ensures least { (g : List Class) (t u v : ValueType) (k : Kind) → IsGrammar g → common g t u ≡ Some v → (fits g v k ≡ true) ↔ ((fits g t k ≡ true) × (fits g u k ≡ true)) }
-    ensures none { (g : List Class) (t u : ValueType) (k : Kind) → IsGrammar g → common g t u ≡ None → fits g t k ≡ true → fits g u k ≡ true → ⊥ }
+    ensures least { (g : List Class) (t u v : ValueType) (k : Kind) → IsGrammar g → common g t u ≡ Some v → (fits g v k ≡ true) ↔ BothFit g t u k }
+    ensures none { (g : List Class) (t u : ValueType) (k : Kind) → IsGrammar g → common g t u ≡ None → BothFit g t u k → ⊥ }
 {}
 
 /// Equations whose targets break nothing break no rule on expressions exactly where each right side has a type by the rules that fits its attribute.
 pub fn equations_well_typed_exactly()
-    ensures { (g : List Class) (attributes : List Attribute) (items : List Item) → all_built items ≡ true → targets_broken g attributes (givens items) ≡ [] → (flat_map (equation_broken g attributes) (givens items) ≡ []) ↔ All (IsWellTyped g attributes) (givens items) }
+    ensures { (g : List Class) (attributes : List Attribute) (items : List Item) → HaveTargets g attributes items → EquationsExactly g attributes items }
 {}
 
 /// Contributions break no rule on expressions exactly where each condition is a truth value by the rules, each receiver has a type that fits the class
 /// behind `to`, and each value one that fits what is contributed to the collection.
 pub fn contributions_well_typed_exactly()
-    ensures { (g : List Class) (attributes : List Attribute) (offered : List Contribution) → All IsBuilt offered → (flat_map (expressions_broken g attributes) offered ≡ []) ↔ All (AreWellTyped g attributes) offered }
+    ensures { (g : List Class) (attributes : List Attribute) (offered : List Contribution) → All IsBuilt offered → OffersExactly g attributes offered }
 {}
 
 /// Aspects break no rule exactly where their declarations, what their equations and contributions are for, and completeness break none, each right side

@@ -10,7 +10,7 @@ use Rattle.expr_typing.specs.Calls.{first_place}
 use Rattle.attr_scope.specs.Seen.{seen_scope, seen_variable}
 use Rattle.attr_bodies.proofs.ArgumentSteps.{all_said, kinds_left, next_kind, one_noted, one_said}
 use Rattle.attr_bodies.proofs.Sizes.{arguments_smaller, parts_smaller}
-use Rattle.attr_bodies.proofs.TypedForms.{binary_noted, call_noted, call_tells, cast_noted, cast_says, choice_noted, form_noted, known_type, member_noted, more_noted, more_says, over_noted, pair_noted, quantified_noted, quantified_tells, scope_inside, test_noted, test_says}
+use Rattle.attr_bodies.proofs.TypedForms.{binary_noted, call_noted, call_tells, cast_noted, cast_tells, choice_noted, form_noted, known_type, member_noted, more_noted, more_says, over_noted, pair_noted, quantified_noted, quantified_tells, scope_inside, test_noted, test_tells}
 use Rattle.attr_bodies.proofs.bodies.+types.Goals as goal
 
 pub type_arguments-loop-argument-preserved : goal.type_arguments-loop-argument-preserved
@@ -93,11 +93,11 @@ type_arguments-returns-clause-says t c =
 
 pub type_expr-returns-in-Cast-clause-says : goal.type_expr-returns-in-Cast-clause-says
 type_expr-returns-in-Cast-clause-says t c =
-    IfOk-weaker c.type_cast.result _ _ (λ said. cast_says (seen_scope c.args.scope.now) c.deref-in-Cast.result.now said c.in-Cast.is c.deref-in-Cast.ensures) c.type_cast.ensures.says
+    IfOk-weaker c.type_cast.result _ _ (λ said. cast_tells (seen_scope c.args.scope.now) c.deref-in-Cast.result.now said c.in-Cast.is c.deref-in-Cast.ensures) c.type_cast.ensures.says
 
 pub type_expr-returns-in-InstanceOf-clause-says : goal.type_expr-returns-in-InstanceOf-clause-says
 type_expr-returns-in-InstanceOf-clause-says t c =
-    IfOk-weaker c.type_test.result _ _ (λ said. test_says (seen_scope c.args.scope.now) c.deref-in-InstanceOf.result.now said c.in-InstanceOf.is c.deref-in-InstanceOf.ensures) c.type_test.ensures.says
+    IfOk-weaker c.type_test.result _ _ (λ said. test_tells (seen_scope c.args.scope.now) c.deref-in-InstanceOf.result.now said c.in-InstanceOf.is c.deref-in-InstanceOf.ensures) c.type_test.ensures.says
 
 pub type_quantified-type_body-requires : goal.type_quantified-type_body-requires
 type_quantified-type_body-requires t c =
