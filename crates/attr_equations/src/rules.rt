@@ -7,7 +7,7 @@ ghost use Rattle.attr_rules.specs.Expression.{expression_of};
 ghost use Rattle.attr_equations.specs.KeptContributions.{AreNumbered, IsContributionAt, contribution_in};
 ghost use Rattle.attr_equations.specs.KeptEquations.{equation_in, kept_target};
 ghost use Rattle.attr_equations.specs.Offered.{AreGrouped, IsNextFor, NoneFor};
-ghost use Rattle.attr_rules.specs.Rules.{attribute_at, attribute_named, bodies, body_at, covering_number, equation_number, expressions_in, method_at, most_attributes, number_of_attribute, number_of_equation, root_at, target_in};
+ghost use Rattle.attr_rules.specs.Rules.{attribute_at, bodies, body_at, covering_number, equation_number, expressions_in, method_at, most_attributes, number_of_attribute, number_of_equation, root_at, target_in};
 
 use crate::contributions::{Contribution, KeptContribution};
 use crate::offered::{first_from, grouped};
@@ -52,7 +52,7 @@ fn offered(contributions: &[KeptContribution], place: usize) -> &TExpr
 }
 
 impl Rules {
-    ghost use Rattle.attr_equations.specs.Kept.{rules_in};
+    ghost use Rattle.attr_equations.specs.Kept.{attribute_found, rules_in, rules_of};
 
     /// The rules of these attributes, equations and contributions, with where each equation holds.
     pub fn of_parts(
@@ -64,7 +64,7 @@ impl Rules {
     ) -> Result<Rules, Memory>
         requires dispatched { Dispatches attributes.superclasses (map kept_target equations.items) dispatch }
         requires numbered { AreNumbered (length equations.items) contributions.items }
-        ensures { IfOk result (λ rules. rules_in rules ≡ record { superclasses = attributes.superclasses; attributes = attributes.attributes; equations = map equation_in equations.items; contributions = map contribution_in contributions.items }) }
+        ensures { IfOk result (λ rules. rules_in rules ≡ rules_of attributes equations.items contributions.items) }
     {
         let offered = grouped(alloc, &contributions)?;
         Ok(Rules {
@@ -102,7 +102,7 @@ impl Rules {
     /// The attribute of this name that is declared for the class or a superclass, or None where none is. It takes the time of one look-up.
     pub fn find(&self, _grammar: &Grammar, class: ClassId, name: &[u8]) -> Option<AttrId>
         requires { class.0 < length (rules_in self.now).superclasses }
-        ensures number { option_map number_of_attribute result ≡ attribute_named (rules_in self.now).superclasses (rules_in self.now).attributes class name.now }
+        ensures number { option_map number_of_attribute result ≡ attribute_found (rules_in self.now) class name.now }
         ensures within { IfSome result (λ a. a.0 < length (rules_in self.now).attributes) }
     {
         self.attributes.find(class, name)

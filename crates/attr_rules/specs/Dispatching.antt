@@ -11,6 +11,8 @@ use Rattle.attr_rules.specs.declared.dispatch.Reach.TheVariants.{Own, Component 
 use Rattle.attr_rules.specs.declared.covering.Covering.{Covering}
 use Rattle.attr_rules.specs.declared.covering.Key.{Key}
 use Rattle.attr_rules.specs.declared.dispatch.Target.{Target}
+use Rattle.ast_grammar.specs.declared.grammar.ClassId.{ClassId}
+use Rattle.attr_rules.specs.declared.kinds.AttrId.{AttrId}
 use Rattle.attr_rules.specs.declared.kinds.EqId.{EqId}
 use Rattle.attr_rules.specs.RowsKept.{at_place, at_row, with_first}
 use Rattle.attr_rules.specs.Rules.{covering_equation, equation_at, first_of_line, is_target, nearest_equation, number_of_equation, own_equation, same_reach}
@@ -108,6 +110,10 @@ pub record AddsClass (paths : List (Target × EqId)) (before after : Covering) :
   pub long : length after.children.items ≡ length before.children.items
   pub each : (k a : ℕ) → covered_by after k a ≡ option_or (covered_by before k a) (option_or (number_for paths (AtComponent k) a) (number_for paths Children a))
 
+-- those of the paths for every child are put at the places where nothing stands yet
+abbrev pub PutsChildren : List (Target × EqId) → List (Option EqId) → List (Option EqId) → Type 0
+PutsChildren paths before after = (a : ℕ) → number_of_place after a ≡ option_or (number_of_place before a) (number_for paths Children a)
+
 -- the equation of exactly this class that covers, by those of each class
 abbrev pub covering_in : List (Vec (Target × EqId) Global) → ℕ → ℕ → ℕ → Option ℕ
 covering_in own k a class = option_or (number_in own class (AtComponent k) a) (number_in own class Children a)
@@ -131,3 +137,7 @@ pub record Dispatches (superclasses : List (Option ℕ)) (targets : List Target)
   pub classes : length d.rows.items ≡ length superclasses
   pub each : (class a : ℕ) → number_at d.rows.items class a ≡ nearest_equation superclasses targets class a
   pub covered : AreCovered superclasses targets d.coverings.items
+
+-- the number of the equation that covers what hangs at the component of nodes of the class, of whatever classes and targets it dispatches
+abbrev pub FindsCovering : Dispatch → ClassId → ℕ → AttrId → Option ℕ → Type 0
+FindsCovering d class k a number = (superclasses : List (Option ℕ)) (targets : List Target) → Dispatches superclasses targets d → number ≡ covering_equation superclasses targets class.0 k a.0

@@ -3,7 +3,7 @@ ghost use Rattle.std.specs.Prelude.{◌≡◌, ◌<◌, ◌≤◌, ℕ, IfOk, No
 ghost use Rattle.std.specs.Option.{option_map, option_or};
 ghost use Rattle.ast_grammar.specs.Grammar.{superclasses_of};
 ghost use Rattle.attr_rules.specs.declared.dispatch.Reach.TheVariants.{Children};
-ghost use Rattle.attr_rules.specs.Dispatching.{AddsClass, CoversUpwards, KeepsFirst, KeepsNamed, covered_by, number_for, number_in};
+ghost use Rattle.attr_rules.specs.Dispatching.{AddsClass, CoversUpwards, KeepsFirst, KeepsNamed, PutsChildren, covered_by, number_for, number_in};
 ghost use Rattle.attr_rules.specs.RowsKept.{at_place};
 ghost use Rattle.attr_rules.specs.Rules.{number_of_equation};
 
@@ -86,7 +86,7 @@ fn keep_named(
 fn put_children(children: &mut [Option<EqId>], paths: &[(Target, EqId)])
     requires { (a : ℕ) → length children.now ≤ a → number_for paths.now Children a ≡ None }
     ensures long { length children.new ≡ length children.old }
-    ensures each { (a : ℕ) → option_map number_of_equation (at_place children.new a) ≡ option_or (option_map number_of_equation (at_place children.old a)) (number_for paths.now Children a) }
+    ensures each { PutsChildren paths.now children.old children.new }
 {
     for path in paths {
         let (target, equation) = *path;

@@ -2,8 +2,8 @@
 ghost use Rattle.std.specs.Prelude.{◌≡◌, ◌<◌, ◌^◌, ℕ, List, Option, All, IfOk, length};
 ghost use Rattle.std.specs.Option.{option_map};
 ghost use Rattle.ast_grammar.specs.Grammar.{superclasses_of};
-ghost use Rattle.attr_rules.specs.Dispatching.{AreCovered, AreEmptyRows, AreOwnRows, Dispatches, IsNearestRow, IsTarget, PutsFirst, filled};
-ghost use Rattle.attr_rules.specs.Rules.{covering_equation, number_of_equation};
+ghost use Rattle.attr_rules.specs.Dispatching.{AreCovered, AreEmptyRows, AreOwnRows, Dispatches, FindsCovering, IsNearestRow, IsTarget, PutsFirst, filled};
+ghost use Rattle.attr_rules.specs.Rules.{number_of_equation};
 ghost use Rattle.attr_rules.specs.RowsKept.{at_row};
 
 use crate::covering::Covering;
@@ -218,7 +218,7 @@ impl Dispatch {
     /// None where there is none: that of the nearest class, from this one upwards, and in a class one for the component before one for
     /// every child. It takes constant time.
     pub fn find_covering(&self, class: ClassId, component: u32, attribute: AttrId) -> Option<EqId>
-        ensures { (superclasses : List (Option ℕ)) (targets : List Target) → Dispatches superclasses targets self.now → option_map number_of_equation result ≡ covering_equation superclasses targets class.0 component attribute.0 }
+        ensures { FindsCovering self.now class component attribute (option_map number_of_equation result) }
     {
         let covering = self.coverings.get(class.0 as usize)?;
         covering.find(component, attribute)

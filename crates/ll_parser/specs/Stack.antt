@@ -80,6 +80,10 @@ rows_of t = listed t.starts.now t.bodies.now 0 t.of.now
 abbrev pub choice_of : List ℕ → ℕ → ℕ → ℕ
 choice_of choice n t = slice_index_or choice (n * 64 + t) 255
 
+-- a step by a table
+abbrev pub MovesBy : kept_table.Table → ℕ → List Symbol → List ℕ → Result Step Memory → List Symbol → List ℕ → Type 0
+MovesBy table t s es result s' es' = Moves (rows_of table) (choice_of table.choice.now) t s es result s' es'
+
 -- A table fits the grammar, with some facts.
 pub record Works (P : List Production) (n : ℕ) (choice : ℕ → ℕ → ℕ) (F : Claims) : Type 0 where
   pub fits : fits P n F ≡ true

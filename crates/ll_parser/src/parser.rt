@@ -2,7 +2,7 @@
 ghost use Rattle.std.specs.Prelude.{◌≡◌, ℕ, ◌+◌, ◌-◌, ◌*◌, ◌<◌, ◌≤◌, List, [], ◌∷◌, reverse, length, slice_index_or, MatchOption};
 ghost use Rattle.ll_parser.specs.Grammar.{nth};
 ghost use Rattle.ll_parser.specs.Table.{Claims};
-ghost use Rattle.ll_parser.specs.Stack.{rows_of, body_at, choice_of, Chosen, Moves, Ready, Works, Advances, Parses, Seen};
+ghost use Rattle.ll_parser.specs.Stack.{rows_of, body_at, choice_of, Chosen, MovesBy, Ready, Works, Advances, Parses, Seen};
 
 use crate::symbols::{Memory, ParseFault, Step, Symbol, Table};
 use std::alloc::{AllocError, Global};
@@ -66,7 +66,7 @@ fn step(
     top: Symbol,
     t: u8,
 ) -> Result<Step, Memory>
-    ensures { Moves (rows_of table.now) (choice_of table.now.choice.now) t (top ∷ reverse stack.old.items) events.old.items result (reverse stack.new.items) events.new.items }
+    ensures { MovesBy table.now t (top ∷ reverse stack.old.items) events.old.items result (reverse stack.new.items) events.new.items }
 {
     match top {
         Symbol::Terminal(c) => {

@@ -1,5 +1,5 @@
 -- What a pool of texts holds.
-use Rattle.std.specs.Prelude.{◌≡◌, ℕ, ◌≤◌, List, [], ◌∷◌, ◌++◌, length, map, position, slice_get, if◌then◌else◌, is_some, IsTrue, Option, Some, Vec}
+use Rattle.std.specs.Prelude.{◌≡◌, ◌↔◌, ℕ, ◌≤◌, List, [], ◌∷◌, ◌++◌, length, map, position, slice_get, if◌then◌else◌, is_some, IsTrue, Option, Some, Vec}
 use Rattle.std.specs.Str.{bytes_eq}
 use Rattle.std.specs.declared.alloc.Global.{Global}
 use Rattle.std.specs.declared.hash.FoldHasher.{FoldHasher}
@@ -24,6 +24,10 @@ pub record ArePooled (texts : List (List ℕ)) : Type 0 where
   pub distinct : IsTrue (are_distinct bytes_eq texts)
   pub few : length texts ≤ most_texts
   pub empty_first : slice_get texts 0 ≡ Some []
+
+-- the texts of two numbers are equal exactly where the numbers are
+abbrev pub HaveOneNumber : List (List ℕ) → Type 0
+HaveOneNumber texts = (m n : ℕ) (a b : List ℕ) → slice_get texts m ≡ Some a → slice_get texts n ≡ Some b → ((a ≡ b) ↔ (m ≡ n))
 
 -- the number of a text: its index, if it is there
 abbrev pub number_of : List (List ℕ) → List ℕ → Option ℕ

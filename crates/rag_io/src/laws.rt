@@ -1,8 +1,8 @@
 // Laws over the definitions.
-ghost use Rattle.std.specs.Prelude.{◌≡◌, ◌↔◌, ℕ, List, Some, slice_get};
+ghost use Rattle.std.specs.Prelude.{◌≡◌, ℕ, List, Some, slice_get};
 ghost use Rattle.rag_io.specs.declared.token.Place.{Place as At};
 ghost use Rattle.rag_io.specs.declared.token.TokenKind.TheVariants.{Text};
-ghost use Rattle.rag_io.specs.Pool.{ArePooled};
+ghost use Rattle.rag_io.specs.Pool.{ArePooled, HaveOneNumber};
 ghost use Rattle.rag_io.specs.Tokens.{Lexed, IsTokens, IsFirstBad, AreTokens};
 ghost use Rattle.rag_io.specs.Unquoted.{IsQuoted, StandsFor};
 
@@ -23,5 +23,5 @@ pub fn one_unquoting()
 
 /// Two texts of a pool are equal exactly where their numbers are.
 pub fn one_number()
-    ensures { (texts : List (List ℕ)) (m n : ℕ) (a b : List ℕ) → ArePooled texts → slice_get texts m ≡ Some a → slice_get texts n ≡ Some b → ((a ≡ b) ↔ (m ≡ n)) }
+    ensures { (texts : List (List ℕ)) → ArePooled texts → HaveOneNumber texts }
 {}

@@ -50,7 +50,11 @@ abbrev pub pooled_texts : List (List ℕ) → List Lexed → List (List ℕ)
 pooled_texts pool [] = pool
 pooled_texts pool (t ∷ ts) = pooled_texts (pooled_by_kind pool t.kind t.text) ts
 
--- the rule is broken where a token writes a text that would be the 65,537th
+-- the rule is broken where the text that this token writes would be the 65,537th
+abbrev pub past_broken : Rule → List (List ℕ) → Lexed → List Broken
+past_broken rule pool t = broken_if (is_past pool (meant t.text)) (at t.place rule)
+
+-- so it is of a text token, and of no other
 abbrev pub text_broken : Rule → List (List ℕ) → TokenKind → List ℕ → Place → List Broken
 text_broken rule pool kinds.Name text p = []
 text_broken rule pool kinds.Int text p = []

@@ -1,11 +1,11 @@
 // The texts of tokens go into a pool.
 ghost use Rattle.std.specs.Prelude.{◌≡◌, IfOk, map};
-ghost use Rattle.broken_rules.specs.Notes.{Notes, at, broken_if};
+ghost use Rattle.broken_rules.specs.Notes.{Notes};
 ghost use Rattle.rag_io.specs.declared.token.TokenKind.TheVariants.{Text as WrittenText};
 ghost use Rattle.rag_io.specs.Pool.{number_of};
 ghost use Rattle.rag_io.specs.Tokens.{seen_token, seen_tokens};
 ghost use Rattle.rag_io.specs.Unquoted.{IsQuoted, StandsFor, meant};
-ghost use Rattle.token_texts.specs.Texts.{AllQuoted, Extends, is_past, or_zero, pooled, pooled_by_kind, pooled_texts, text_broken, text_code, texts_broken};
+ghost use Rattle.token_texts.specs.Texts.{AllQuoted, Extends, or_zero, past_broken, pooled, pooled_by_kind, pooled_texts, text_broken, text_code, texts_broken};
 
 use broken_rules::{Earliest, Rule};
 use rag_io::{Memory, Place, Pool, PoolFault, Token, TokenKind, unescaped_text, unquote};
@@ -33,7 +33,7 @@ fn pool_meant(
     requires { StandsFor token.now.text.now text.now }
     ensures code { IfOk result (λ code. code ≡ or_zero (number_of pool.new (meant token.now.text.now))) }
     ensures pooled { IfOk result (λ _. pool.new ≡ pooled pool.old (meant token.now.text.now)) }
-    ensures noted { IfOk result (λ _. Notes (broken_if (is_past pool.old (meant token.now.text.now)) (at (seen_token token.now).place rule)) broken.old broken.new) }
+    ensures noted { IfOk result (λ _. Notes (past_broken rule pool.old (seen_token token.now)) broken.old broken.new) }
     ensures extends { Extends pool.old pool.new }
 {
     match pool.add(text) {
@@ -57,7 +57,7 @@ fn pool_text(
     requires { IsQuoted token.now.text.now }
     ensures code { IfOk result (λ code. code ≡ or_zero (number_of pool.new (meant token.now.text.now))) }
     ensures pooled { IfOk result (λ _. pool.new ≡ pooled pool.old (meant token.now.text.now)) }
-    ensures noted { IfOk result (λ _. Notes (broken_if (is_past pool.old (meant token.now.text.now)) (at (seen_token token.now).place rule)) broken.old broken.new) }
+    ensures noted { IfOk result (λ _. Notes (past_broken rule pool.old (seen_token token.now)) broken.old broken.new) }
     ensures extends { Extends pool.old pool.new }
 {
     if let Some(text) = unescaped_text(token.text) {
