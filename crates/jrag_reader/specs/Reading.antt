@@ -50,3 +50,7 @@ pub data IsFirstBroken (start : Start) (pool : List (List ℕ)) (ts : List Lexed
   stopped : {fault : Broken} {events : List ℕ} (stops : StopsWith start ts fault events)
       → Answers ((fault ∷ limits_broken pool (take stops.fault.number ts) events) ∷ []) (Some b) → IsFirstBroken start pool ts b
   too_many : {events : List ℕ} → SaysEvents start ts events → Answers (limits_broken pool ts events ∷ []) (Some b) → IsFirstBroken start pool ts b
+
+-- two first broken rules of some tokens are one
+abbrev pub BreakOneFirst : Start → List (List ℕ) → List Lexed → Type 0
+BreakOneFirst start pool ts = (b c : Broken) → IsFirstBroken start pool ts b → IsFirstBroken start pool ts c → b ≡ c

@@ -19,6 +19,7 @@ use Rattle.tree_reader.specs.FromBytes.{BreaksTree, ReadsTree}
 use Rattle.tree_writer.specs.Canonical.{canonical}
 use Rattle.equation_law.specs.Program.{Program}
 use Rattle.run_io.specs.Files.{Contents, PairContents, File, Ast, Jrag, Tree, Queries}
+use Rattle.program_reader.specs.declared.files.Counts.{Counts}
 use Rattle.program_reader.specs.Queries.{SaysQueries}
 
 -- the texts before the first file is read: the empty one alone
@@ -84,6 +85,10 @@ abbrev pub counts_line : ℕ → ℕ → ℕ → ℕ → List ℕ
 counts_line classes attributes equations contributed =
     codes "ok: " ++ decimal classes ++ codes " classes, " ++ decimal attributes ++ codes " attributes, "
     ++ decimal equations ++ codes " equations, " ++ decimal contributed ++ codes " contributions\n"
+
+-- the line of some counts
+abbrev pub line_of : Counts → List ℕ
+line_of c = counts_line c.classes c.attributes c.equations c.contributions
 
 -- those of some rules over a grammar, and of the aspects that they come from
 abbrev pub counts_of : List Class → RuleSet → List AspectItem → List ℕ

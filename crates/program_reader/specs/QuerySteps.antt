@@ -11,6 +11,7 @@ use Rattle.attr_rules.specs.Queries.{Query, query_of}
 use Rattle.attr_rules.specs.Rules.{RuleSet}
 use Rattle.attr_types.specs.Asked.{query_named}
 use Rattle.tree_arena.specs.Nodes.{Node}
+use Rattle.program_reader.specs.Tokens.{place_at, text_at}
 use Rattle.program_reader.specs.Queries.{SaysQuery, SaysLines, SaysQueries, AreLines, is_inside, is_silent, most_lines}
 use Rattle.rag_io.specs.Decimal.{decimal}
 use Rattle.rag_io.specs.declared.token.Place.{Place}
@@ -31,6 +32,10 @@ abbrev pub AnswersCall : List Class → RuleSet → List Node → List ℕ → L
 AnswersCall g rules tree digits name place (Ok (Some q)) = IsCall g rules tree digits name place (query_of q)
 AnswersCall g rules tree digits name place (Ok None) = (e : Query) → IsCall g rules tree digits name place e → ⊥
 AnswersCall g rules tree digits name place (Err m) = Unit {0}
+
+-- the same of the tokens of a call: its digits stand second, and its name fourth
+abbrev pub AnswersCallOf : List Class → RuleSet → List Node → List Lexed → Result (Option QueryEq) Memory → Type 0
+AnswersCallOf g rules tree ts result = AnswersCall g rules tree (text_at ts 1) (text_at ts 3) (place_at ts 3) result
 
 -- what reading the tokens of a line answers
 abbrev pub AnswersQuery : List Class → RuleSet → List Node → List Lexed → Result (Option QueryEq) Memory → Type 0

@@ -7,6 +7,8 @@ use Rattle.attr_equations.specs.Kept.{rules_in}
 use Rattle.attr_rules.specs.Queries.{Query}
 use Rattle.attr_rules.specs.Rules.{RuleSet}
 use Rattle.built_forms.specs.Built.{all_built}
+use Rattle.equation_law.specs.declared.system.Queries.{Queries as KeptQueries}
+use Rattle.equation_law.specs.Systems.{queries_in}
 use Rattle.aspect_items.specs.Items.{Item as AspectItem}
 use Rattle.jrag_reader.specs.FromBytes.{BreaksAspects, ReadsAspects}
 use Rattle.tree_arena.specs.Nodes.{Node}
@@ -51,6 +53,10 @@ AnswersAspectRules g before bytes texts (Err Memory) = Unit {0}
 pub record SaysTreeAndQueries (g : List Class) (rules : RuleSet) (before : List (List ℕ)) (held : Contents) (texts : List (List ℕ)) (tree : List Node) (asked : List Query) : Type 0 where
   pub nodes : ReadsTree g before held.tree tree texts
   pub queries : SaysQueries g rules tree held.queries asked
+
+-- the same of a tree and queries that were read
+abbrev pub SaysRead : List Class → RuleSet → List (List ℕ) → Contents → List (List ℕ) → List Node × KeptQueries → Type 0
+SaysRead g rules before held texts read = SaysTreeAndQueries g rules before held texts read.0 (queries_in read.1)
 
 -- Of the two the tree breaks a rule, and this is the first one.
 pub record BreaksNodes (g : List Class) (before : List (List ℕ)) (held : Contents) (file : File) (b : Broken) : Type 0 where

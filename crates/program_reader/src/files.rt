@@ -9,9 +9,9 @@ ghost use Rattle.aspect_items.specs.Items.{seen_aspects};
 ghost use Rattle.program_reader.specs.declared.files.Refusal.TheVariants.{Memory as NoMemory};
 ghost use Rattle.program_reader.specs.Unread.{unread_for};
 ghost use Rattle.program_reader.specs.Built.{AnswersRules, AnswersAsked, BreaksFile, Refuses, IsRefusal, IsCheckRefusal, IsTreeRefusal, is_contributed};
-ghost use Rattle.program_reader.specs.Steps.{AnswersAspectRules, RefusesTreeOrQueries, SaysTreeAndQueries};
+ghost use Rattle.program_reader.specs.Steps.{AnswersAspectRules, RefusesTreeOrQueries, SaysRead};
 ghost use Rattle.run_io.specs.Fetched.{seen_contents, seen_pair, AreShort, AreBothShort};
-ghost use Rattle.program_reader.specs.Files.{SaysCounts, SaysProgram, SaysText, counts_line, counts_of, no_texts};
+ghost use Rattle.program_reader.specs.Files.{SaysCounts, SaysProgram, SaysText, counts_of, line_of, no_texts};
 
 use crate::queries::read_queries;
 use aspect_items::{Aspects, Item};
@@ -153,7 +153,7 @@ fn read_tree_and_queries(
 ) -> Result<(Tree, Queries), Refusal>
     requires short { AreShort (seen_contents contents.now) }
     requires classes { (rules_in rules.now).superclasses ≡ superclasses_of grammar.now }
-    ensures said { IfOk result (λ read. SaysTreeAndQueries grammar.now (rules_in rules.now) pool.old (seen_contents contents.now) pool.new read.0 (queries_in read.1)) }
+    ensures said { IfOk result (SaysRead grammar.now (rules_in rules.now) pool.old (seen_contents contents.now) pool.new) }
     ensures refused { IfErr result (λ refusal. RefusesTreeOrQueries grammar.now (rules_in rules.now) pool.old (seen_contents contents.now) refusal) }
 {
     let tree = match read_tree_bytes(alloc, grammar, &contents.tree, pool) {
@@ -242,7 +242,7 @@ struct Counts {
 
 // The line of counts.
 fn line_of(alloc: Global, counts: Counts) -> Result<Vec<u8>, Memory>
-    ensures { IfOk result (λ text. text.items ≡ counts_line counts.classes counts.attributes counts.equations counts.contributions) }
+    ensures { IfOk result (λ text. text.items ≡ line_of counts) }
 {
     let Counts {
         classes,
@@ -259,7 +259,7 @@ fn line_of(alloc: Global, counts: Counts) -> Result<Vec<u8>, Memory>
 }
 
 fn counted(grammar: &Grammar, rules: &Rules, aspects: &Aspects) -> Counts
-    ensures { counts_line result.classes result.attributes result.equations result.contributions ≡ counts_of grammar.now (rules_in rules.now) (seen_aspects aspects.now) }
+    ensures { line_of result ≡ counts_of grammar.now (rules_in rules.now) (seen_aspects aspects.now) }
 {
     Counts {
         classes: grammar.classes(),

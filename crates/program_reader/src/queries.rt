@@ -8,7 +8,7 @@ ghost use Rattle.ast_grammar.specs.Grammar.{superclasses_of};
 ghost use Rattle.attr_equations.specs.Kept.{rules_in};
 ghost use Rattle.attr_rules.specs.Queries.{query_of};
 ghost use Rattle.program_reader.specs.Queries.{is_inside, is_silent, AnswersQueries};
-ghost use Rattle.program_reader.specs.QuerySteps.{FindsNode, AnswersCall, AnswersQuery, AnswersLine, IsFirstLine, ReadsLine};
+ghost use Rattle.program_reader.specs.QuerySteps.{FindsNode, AnswersCallOf, AnswersQuery, AnswersLine, IsFirstLine, ReadsLine};
 ghost use Rattle.program_reader.specs.Tokens.{place_at as lexed_place, text_at as lexed_text};
 
 use crate::query_language::QueryLanguage;
@@ -62,7 +62,7 @@ fn call(
     tokens: &[Token<'_>],
 ) -> Result<Option<QueryEq>, Memory>
     requires { (rules_in rules.now).superclasses ≡ superclasses_of grammar.now }
-    ensures { AnswersCall grammar.now (rules_in rules.now) tree.now (lexed_text (seen_tokens tokens.now) 1) (lexed_text (seen_tokens tokens.now) 3) (lexed_place (seen_tokens tokens.now) 3) result }
+    ensures { AnswersCallOf grammar.now (rules_in rules.now) tree.now (seen_tokens tokens.now) result }
 {
     let Some(node) = find_node(tree, text_at(tokens, 1)) else {
         return Ok(None);

@@ -5,7 +5,7 @@ use Rattle.run_io.specs.declared.fetching.Contents as kept
 use Rattle.run_io.specs.declared.fetching.PairContents as kept_pair
 use Rattle.run_io.specs.declared.fetching.Stop.{Stop}
 use Rattle.run_io.specs.declared.fetching.Stop.TheVariants as stops
-use Rattle.run_io.specs.Files.{Contents, PairContents}
+use Rattle.run_io.specs.Files.{Contents, PairContents, pair_in_order}
 use Rattle.run_io.specs.Holding.{HoldsAll, HoldsPair, HoldsShort, IsFirstLong}
 use Rattle.run_io.specs.Words.{FileNames, PairNames}
 
@@ -60,3 +60,7 @@ abbrev pub StopsAll : Option (List Named) → List (List ℕ) → ℕ → ℕ �
 StopsAll files names before now stops.Failed = Rose before now
 StopsAll files names before now (stops.TooLong found) = FirstLongWhereTold files names found.now
 StopsAll files names before now stops.Memory = Unit {0}
+
+-- why fetching the two files of `check` or of `tree` stops
+abbrev pub StopsPair : Option (List Named) → PairNames → ℕ → ℕ → Stop → Type 0
+StopsPair files names before now stop = StopsAll files (pair_in_order names) before now stop

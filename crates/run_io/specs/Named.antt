@@ -8,7 +8,7 @@ use Rattle.run_io.specs.declared.words.PairNames as kept_pair
 use Rattle.run_io.specs.Files.{File, Ast, Jrag, Tree, Queries}
 use Rattle.run_io.specs.Files as files
 use Rattle.run_io.specs.Words.{Check, Command, FileNames, PairNames, PrintTree, Run}
-use Rattle.std.specs.Prelude.{ℕ, List}
+use Rattle.std.specs.Prelude.{◌≡◌, ℕ, List, Option, Some, None}
 
 abbrev pub seen_names : kept.Names → FileNames
 seen_names n = record { ast = n.ast.now; jrag = n.jrag.now; tree = n.tree.now; queries = n.queries.now }
@@ -32,3 +32,13 @@ name_of names file = files.name_of names file
 
 abbrev pub pair_name_of : PairNames → File → List ℕ
 pair_name_of names file = files.pair_name_of names file
+
+-- the names are these two, or there are none
+abbrev pub IsSeenAsPair : Option kept_pair.PairNames → Option PairNames → Type 0
+IsSeenAsPair None names = names ≡ None
+IsSeenAsPair (Some n) names = names ≡ Some (seen_pair_names n)
+
+-- the command is this one, or there is none
+abbrev pub IsSeenAsCommand : Option kept_command.Command → Option Command → Type 0
+IsSeenAsCommand None command = command ≡ None
+IsSeenAsCommand (Some c) command = command ≡ Some (seen_command c)

@@ -1,9 +1,9 @@
 // Fetches the files of a command, in their order.
 ghost use Rattle.std.specs.Prelude.{◌≡◌, ◌≤◌, length, IfOk, IfErr};
 ghost use Rattle.rag_io.specs.Outside.{longest_file};
-ghost use Rattle.run_io.specs.Fetched.{seen_contents, seen_pair, AreShort, AreBothShort, StopsOne, StopsAll, Holds, HoldsFetched, HoldsPairFetched};
+ghost use Rattle.run_io.specs.Fetched.{seen_contents, seen_pair, AreShort, AreBothShort, StopsOne, StopsAll, StopsPair, Holds, HoldsFetched, HoldsPairFetched};
 ghost use Rattle.run_io.specs.Named.{seen_names, seen_pair_names};
-ghost use Rattle.run_io.specs.Files.{in_order, pair_in_order};
+ghost use Rattle.run_io.specs.Files.{in_order};
 
 use crate::words::{Names, PairNames};
 use rag_io::{FetchFault, Shelf};
@@ -83,7 +83,7 @@ pub fn fetch_pair<'a, S: Shelf>(
 ) -> Result<PairContents, Stop<'a>>
     ensures held { IfOk result (λ c. HoldsPairFetched (S.files shelf.old) (seen_pair_names names.entry) (seen_pair c)) }
     ensures fits { IfOk result (λ c. AreBothShort (seen_pair c)) }
-    ensures cause { IfErr result (λ stop. StopsAll (S.files shelf.old) (pair_in_order (seen_pair_names names.entry)) (S.faults shelf.old) (S.faults shelf.new) stop) }
+    ensures cause { IfErr result (λ stop. StopsPair (S.files shelf.old) (seen_pair_names names.entry) (S.faults shelf.old) (S.faults shelf.new) stop) }
     ensures later { S.faults shelf.old ≤ S.faults shelf.new }
 {
     let ast = fetch(alloc, shelf, names.ast)?;

@@ -1,7 +1,7 @@
 // The words of the command line.
 ghost use Rattle.std.specs.Prelude.{◌≡◌, map, MatchOption, None, Some};
 ghost use Rattle.run_io.specs.Words.{text_of_word, may_name_file, names_of, pair_names_of, command_of};
-ghost use Rattle.run_io.specs.Named.{seen_command, seen_names, seen_pair_names, seen_file, name_of, pair_name_of};
+ghost use Rattle.run_io.specs.Named.{IsSeenAsCommand, IsSeenAsPair, seen_names, seen_pair_names, seen_file, name_of, pair_name_of};
 
 /// One of the files of a command.
 #[derive(Clone, Copy, Debug, PartialEq, Eq)]
@@ -73,7 +73,7 @@ fn names_of(words: &[String]) -> Option<Names<'_>>
 
 // The names of the files, where the words are this command and two names.
 fn pair_names_of<'a>(words: &'a [String], wanted: &str) -> Option<PairNames<'a>>
-    ensures { MatchOption result (pair_names_of wanted.now (map text_of_word words.now) ≡ None) (λ names. pair_names_of wanted.now (map text_of_word words.now) ≡ Some (seen_pair_names names)) }
+    ensures { IsSeenAsPair result (pair_names_of wanted.now (map text_of_word words.now)) }
 {
     let [command, ast, other] = words else {
         return None;
@@ -91,7 +91,7 @@ fn pair_names_of<'a>(words: &'a [String], wanted: &str) -> Option<PairNames<'a>>
 
 /// What the words ask for, where they are `run` and four names of files, or `check` or `tree` and two.
 pub fn command_of(words: &[String]) -> Option<Command<'_>>
-    ensures { MatchOption result (command_of (map text_of_word words.now) ≡ None) (λ command. command_of (map text_of_word words.now) ≡ Some (seen_command command)) }
+    ensures { IsSeenAsCommand result (command_of (map text_of_word words.now)) }
 {
     if let Some(names) = names_of(words) {
         return Some(Command::Run(names));

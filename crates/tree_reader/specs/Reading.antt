@@ -31,3 +31,15 @@ abbrev pub ReadsTree : List Class → List (List ℕ) → List Lexed → Result 
 ReadsTree g pool ts (Ok nodes) = SaysTree g pool ts nodes
 ReadsTree g pool ts (Err (faults.Broken b)) = IsFirstBroken g pool ts b
 ReadsTree g pool ts (Err faults.Memory) = Unit {0}
+
+-- two trees that the tokens say are one
+abbrev pub SayOneTree : List Class → List (List ℕ) → List Lexed → Type 0
+SayOneTree g pool ts = (nodes others : List Node) → SaysTree g pool ts nodes → SaysTree g pool ts others → nodes ≡ others
+
+-- two first broken rules of theirs are one
+abbrev pub BreakOneFirst : List Class → List (List ℕ) → List Lexed → Type 0
+BreakOneFirst g pool ts = (b c : Broken) → IsFirstBroken g pool ts b → IsFirstBroken g pool ts c → b ≡ c
+
+-- where they say a tree they break no rule
+abbrev pub SayOrBreak : List Class → List (List ℕ) → List Lexed → Type 0
+SayOrBreak g pool ts = (nodes : List Node) (b : Broken) → SaysTree g pool ts nodes → IsFirstBroken g pool ts b → ⊥

@@ -206,6 +206,10 @@ abbrev pub int_added : Option Place → List ℕ → Place → State → State
 int_added None digits p s = value_added (WritesInt false digits) (small_code false (decimal digits)) p s
 int_added (Some q) digits p s = value_added (WritesInt true digits) (small_code true (decimal digits)) q s
 
+-- and behind them no `-` is left
+abbrev pub with_int : List ℕ → Place → State → State
+with_int digits p s = int_added s.minus digits p (with_minus None s)
+
 abbrev pub is_true : List ℕ → Bool
 is_true text = bytes_eq text (codes "true")
 
@@ -225,7 +229,7 @@ sign_taken text p s =
 -- a token does this, where `(` follows or not, and where a text has this code
 abbrev pub taken : List Class → TokenKind → List ℕ → Place → Bool → ℕ → State → State
 taken g kinds.Name text p opens code s = word_taken g opens text p s
-taken g kinds.Int text p opens code s = int_added s.minus text p (with_minus None s)
+taken g kinds.Int text p opens code s = with_int text p s
 taken g kinds.Text text p opens code s = value_added (WritesText text) code p s
 taken g kinds.Symbol text p opens code s = sign_taken text p s
 taken g kinds.End text p opens code s = s

@@ -6,7 +6,7 @@ ghost use Rattle.broken_rules.specs.Notes.{Notes};
 ghost use Rattle.tree_arena.specs.Nodes.{tokens_at};
 ghost use Rattle.tree_reader.specs.Breaking.{is_concrete, name_broken};
 ghost use Rattle.tree_reader.specs.Laying.{seen_laid};
-ghost use Rattle.tree_reader.specs.Steps.{brackets_opened, closed, coded, component_by, ended, entered, gone_behind, int_added, laid_last, left, node_opened, seen_frame, seen_leaf, seen_opened, seen_state, started, value_added, value_code, with_minus};
+ghost use Rattle.tree_reader.specs.Steps.{brackets_opened, closed, coded, component_by, ended, entered, gone_behind, laid_last, left, node_opened, seen_frame, seen_leaf, seen_opened, seen_state, started, value_added, value_code, with_int, with_minus};
 
 use crate::frames::{Frame, Opened};
 use crate::misplaced::{note_brackets, note_node, note_value};
@@ -224,7 +224,7 @@ impl Laying {
         digits: &[u8],
         place: Place,
     ) -> Result<(), Memory>
-        ensures { let old = seen_state grammar.now self.old in IfOk result (λ _. seen_state grammar.now self.new ≡ int_added old.minus digits.now place (with_minus None old)) }
+        ensures { IfOk result (λ _. seen_state grammar.now self.new ≡ with_int digits.now place (seen_state grammar.now self.old)) }
     {
         let minus = self.minus.take();
         let value = Value::Int {

@@ -2,8 +2,7 @@
 ghost use Rattle.std.specs.Prelude.{◌≡◌, ℕ, List, IfOk, codes, drop, map};
 ghost use Rattle.rag_io.specs.Tokens.{seen_token, seen_tokens};
 ghost use Rattle.token_texts.specs.Texts.{text_code};
-ghost use Rattle.tree_syntax.specs.Written.{Written, Writes};
-ghost use Rattle.tree_reader.specs.Laying.{IsLaid};
+ghost use Rattle.tree_reader.specs.Laying.{LaysWhatIsWritten};
 ghost use Rattle.tree_reader.specs.Steps.{is_sign_by, opens, run, seen_state, sign_taken, taken, word_taken};
 
 use crate::laying::Laying;
@@ -124,8 +123,7 @@ pub(crate) fn lay_tree(
     texts: &[u32],
     broken: Earliest,
 ) -> Result<Laying, Memory>
-    ensures { IfOk result (λ laying. (pool : List (List ℕ)) (w : Written) → texts.now ≡ map (text_code pool) (seen_tokens tokens.now) → Writes (seen_tokens tokens.now) w
-        → IsLaid grammar.now pool w broken laying.broken laying.nodes.items) }
+    ensures { IfOk result (LaysWhatIsWritten grammar.now (seen_tokens tokens.now) texts.now broken) }
 {
     let mut laying = Laying::new(alloc, broken);
     lay_all(alloc, grammar, tokens, texts, &mut laying)?;

@@ -1,5 +1,5 @@
 -- The canonical text of a tree.
-use Rattle.std.specs.Prelude.{ℕ, suc, List, [], ◌∷◌, ◌++◌, ◌==◌, Option, Some, None, codes, slice_get, if◌then◌else◌, pos}
+use Rattle.std.specs.Prelude.{◌≡◌, ℕ, suc, List, [], ◌∷◌, ◌++◌, ◌==◌, Option, Some, None, codes, length, slice_get, if◌then◌else◌, pos}
 use Rattle.std.specs.Fmt.{signed_decimal}
 use Rattle.std.specs.Int.{int_wrap}
 use mir.Syntax.{w32}
@@ -7,7 +7,8 @@ use Rattle.rag_io.specs.Quoting.{quoted}
 use Rattle.ast_grammar.specs.declared.grammar.Shape.{Shape}
 use Rattle.ast_grammar.specs.declared.grammar.Shape.TheVariants as shapes
 use Rattle.ast_grammar.specs.Grammar.{Class, Component, components_of}
-use Rattle.tree_arena.specs.Terms.{Forest, Empty, Tree}
+use Rattle.tree_arena.specs.Nodes.{Node}
+use Rattle.tree_arena.specs.Terms.{Forest, Empty, IsTerm, Tree, nodes_of}
 
 -- texts in their order, with a comma and a space between two
 abbrev pub further : List (List ℕ) → List ℕ
@@ -77,3 +78,7 @@ all_texts (p ∷ pieces) = p.text ∷ all_texts pieces
 -- the canonical text of a tree: no white space but one space behind each comma, and one line feed at its end
 abbrev pub canonical : List Class → List (List ℕ) → Forest → List ℕ
 canonical g pool term = joined (all_texts (pieces_of g pool term)) ++ 10 ∷ []
+
+-- the text is the canonical one of each tree of these nodes
+abbrev pub IsCanonicalOf : List Class → List (List ℕ) → List Node → List ℕ → Type 0
+IsCanonicalOf g pool nodes text = (term : Forest) → IsTerm g (length pool) term → nodes ≡ nodes_of term → text ≡ canonical g pool term

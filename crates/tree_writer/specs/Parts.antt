@@ -8,6 +8,7 @@ use Rattle.ast_grammar.specs.Grammar.{Class, Component, component_at}
 use Rattle.tree_arena.specs.Nodes as nodes
 use Rattle.tree_arena.specs.Nodes.{class_in, hanging, tokens_at}
 use Rattle.tree_writer.specs.declared.parts.Part.{Part}
+use Rattle.tree_writer.specs.declared.writing.Source.{Source}
 use Rattle.tree_writer.specs.declared.parts.Part.TheVariants.{Node, Argument, Comma, Close, CloseList}
 use Rattle.tree_writer.specs.Canonical.{int_text, name_in, truth_text, value_text}
 
@@ -82,6 +83,10 @@ written_of g pool tree (Argument n k) = front_of pool (shape_at g tree n k) (cod
 written_of g pool tree Comma = codes ", "
 written_of g pool tree Close = codes ")"
 written_of g pool tree CloseList = codes "]"
+
+-- the same by the grammar, the pool and the tree that are written
+abbrev pub written_from : Source → Part → List ℕ
+written_from source part = written_of source.grammar.now source.pool.now source.tree.now part
 
 -- the parts that follow
 abbrev pub left_of : List Class → List nodes.Node → Part → List Part

@@ -2,9 +2,9 @@
 ghost use Rattle.std.specs.Prelude.{◌≡◌, ◌<◌, ◌++◌, IfOk, OnOk, Some, length, reverse};
 ghost use Rattle.std.specs.Fmt.{signed_decimal};
 ghost use Rattle.tree_arena.specs.Nodes.{token_in, tokens_at};
-ghost use Rattle.tree_arena.specs.Terms.{Forest, IsTerm, IsTreeOf, nodes_of};
-ghost use Rattle.tree_writer.specs.Canonical.{canonical, int_text, truth_text};
-ghost use Rattle.tree_writer.specs.Parts.{IsPart, argument_front, code_at, left_of, shape_at, written_of};
+ghost use Rattle.tree_arena.specs.Terms.{IsTreeOf};
+ghost use Rattle.tree_writer.specs.Canonical.{IsCanonicalOf, int_text, truth_text};
+ghost use Rattle.tree_writer.specs.Parts.{IsPart, argument_front, code_at, left_of, shape_at, written_from};
 
 use crate::parts::{Part, push, push_argument, push_arguments};
 use ast_grammar::{Grammar, Shape};
@@ -94,7 +94,7 @@ fn write_node(
 ) -> Result<(), Memory>
     requires tree { IsTreeOf source.now.grammar.now (length source.now.pool.now) source.now.tree.now }
     requires part { IsPart source.now.tree.now (Part.Node n) }
-    ensures text { OnOk result (text.new.items ≡ text.old.items ++ written_of source.now.grammar.now source.now.pool.now source.now.tree.now (Part.Node n)) }
+    ensures text { OnOk result (text.new.items ≡ text.old.items ++ written_from source.now (Part.Node n)) }
     ensures left { OnOk result (reverse stack.new.items ≡ left_of source.now.grammar.now source.now.tree.now (Part.Node n) ++ reverse stack.old.items) }
 {
     let class = source.tree.class_of(n);
@@ -114,7 +114,7 @@ fn write_argument(
 ) -> Result<(), Memory>
     requires tree { IsTreeOf source.now.grammar.now (length source.now.pool.now) source.now.tree.now }
     requires part { IsPart source.now.tree.now (Part.Argument n k) }
-    ensures text { OnOk result (text.new.items ≡ text.old.items ++ written_of source.now.grammar.now source.now.pool.now source.now.tree.now (Part.Argument n k)) }
+    ensures text { OnOk result (text.new.items ≡ text.old.items ++ written_from source.now (Part.Argument n k)) }
     ensures left { OnOk result (reverse stack.new.items ≡ left_of source.now.grammar.now source.now.tree.now (Part.Argument n k) ++ reverse stack.old.items) }
 {
     let shape = shape_of(source, n, k);
@@ -132,7 +132,7 @@ fn write_part(
 ) -> Result<(), Memory>
     requires tree { IsTreeOf source.now.grammar.now (length source.now.pool.now) source.now.tree.now }
     requires part { IsPart source.now.tree.now part }
-    ensures text { OnOk result (text.new.items ≡ text.old.items ++ written_of source.now.grammar.now source.now.pool.now source.now.tree.now part) }
+    ensures text { OnOk result (text.new.items ≡ text.old.items ++ written_from source.now part) }
     ensures left { OnOk result (reverse stack.new.items ≡ left_of source.now.grammar.now source.now.tree.now part ++ reverse stack.old.items) }
 {
     match part {
@@ -153,7 +153,7 @@ pub fn write_tree(
     pool: &Pool,
 ) -> Result<Vec<u8>, Memory>
     requires { IsTreeOf grammar.now (length pool.now) tree.now }
-    ensures { IfOk result (λ text. (term : Forest) → IsTerm grammar.now (length pool.now) term → tree.now ≡ nodes_of term → text.items ≡ canonical grammar.now pool.now term) }
+    ensures { IfOk result (λ text. IsCanonicalOf grammar.now pool.now tree.now text.items) }
 {
     let source = Source {
         grammar,
