@@ -3,6 +3,7 @@ use Rattle.std.specs.Prelude.{◌≡◌, ℕ, List, ◌++◌, Option, Some, None
 use Rattle.rag_io.specs.Outside.{Named}
 use Rattle.run_io.specs.declared.fetching.Stop.{Stop}
 use Rattle.run_io.specs.declared.fetching.Stop.TheVariants as stops
+use Rattle.run_io.specs.Words.{Command, command_of}
 use Rattle.query_runner.specs.declared.running.Answer.{Answer}
 use Rattle.query_runner.specs.declared.running.Failure.{Failure}
 use Rattle.query_runner.specs.declared.running.Failure.TheVariants as failures
@@ -31,3 +32,7 @@ Stopped (stops.TooLong name) result = IfOk result (λ a. (status_of a ≡ 1) × 
 abbrev pub AnswersWhereTold : List (List ℕ) → Option (List Named) → Answer → Type 0
 AnswersWhereTold words None a = Unit {0}
 AnswersWhereTold words (Some files) a = Answers words files (status_of a) (text_of a)
+
+-- where the words ask for this command, the answer is theirs
+abbrev pub AnswersCommand : Command → Option (List Named) → Result Answer Failure → Type 0
+AnswersCommand command files result = (words : List (List ℕ)) → command_of words ≡ Some command → IfOk result (λ a. AnswersWhereTold words files a)

@@ -1,5 +1,5 @@
 -- What the program is to write.
-use Rattle.std.specs.Prelude.{◌≡◌, ℕ, List, ◌++◌, Some, None, codes}
+use Rattle.std.specs.Prelude.{◌≡◌, ◌≤◌, ℕ, List, ◌++◌, Some, None, codes}
 use Rattle.std.specs.Fmt.{decimal}
 use Rattle.rag_io.specs.Outside.{Named}
 use Rattle.broken_rules.specs.Codes.{code_of}
@@ -84,3 +84,7 @@ pub data Answers (words : List (List ℕ)) (files : List Named) : ℕ → List �
   refused : {line : List ℕ} → IsRefused words files line → Answers words files 1 line
   misused : command_of words ≡ None → Answers words files 2 usage
   full : Overfull words files → Answers words files 4 (codes "full: cells\n")
+
+-- there is at most one status of 0, 1 and 2 with its text
+abbrev pub HaveOneAnswer : List (List ℕ) → List Named → Type 0
+HaveOneAnswer words files = (s r : ℕ) (t u : List ℕ) → Answers words files s t → Answers words files r u → s ≤ 2 → r ≤ 2 → (s ≡ r) × (t ≡ u)

@@ -1,7 +1,7 @@
 // The top call.
 ghost use Rattle.std.specs.Prelude.{◌≡◌, ◌≢◌, ◌⊎◌, ◌≤◌, ◌++◌, ℕ, List, None, Some, Ok, Err, map, IfOk, IfErr};
 ghost use Rattle.rag_io.specs.Outside.{Rose};
-ghost use Rattle.query_runner.specs.Answered.{AnswersWhereTold, Stopped, status_of, text_of};
+ghost use Rattle.query_runner.specs.Answered.{AnswersCommand, AnswersWhereTold, Stopped, status_of, text_of};
 ghost use Rattle.run_io.specs.Taking.{Took, TookSome};
 ghost use Rattle.query_runner.specs.Run.{WritesAnswer, WritesPart};
 ghost use Rattle.query_runner.specs.Output.{broken_line, usage};
@@ -116,7 +116,7 @@ fn answer_run<S: Shelf, G: Gate>(
     shelf: &mut S,
     gate: &G,
 ) -> Result<Answer, Failure>
-    ensures answer { (words : List (List ℕ)) → command_of words ≡ Some (AsksRun (seen_names names.entry)) → IfOk result (λ a. AnswersWhereTold words (S.files shelf.old) a) }
+    ensures answer { AnswersCommand (AsksRun (seen_names names.entry)) (S.files shelf.old) result }
     ensures status { result ≢ Ok Answer.Usage }
     ensures fetch { result ≡ Err Failure.Fetch → Rose (S.faults shelf.old) (S.faults shelf.new) }
 {
@@ -142,7 +142,7 @@ fn answer_check<S: Shelf>(
     names: PairNames<'_>,
     shelf: &mut S,
 ) -> Result<Answer, Failure>
-    ensures answer { (words : List (List ℕ)) → command_of words ≡ Some (AsksCheck (seen_pair_names names.entry)) → IfOk result (λ a. AnswersWhereTold words (S.files shelf.old) a) }
+    ensures answer { AnswersCommand (AsksCheck (seen_pair_names names.entry)) (S.files shelf.old) result }
     ensures status { result ≢ Ok Answer.Usage }
     ensures fetch { result ≡ Err Failure.Fetch → Rose (S.faults shelf.old) (S.faults shelf.new) }
 {
@@ -166,7 +166,7 @@ fn answer_tree<S: Shelf>(
     names: PairNames<'_>,
     shelf: &mut S,
 ) -> Result<Answer, Failure>
-    ensures answer { (words : List (List ℕ)) → command_of words ≡ Some (PrintTree (seen_pair_names names.entry)) → IfOk result (λ a. AnswersWhereTold words (S.files shelf.old) a) }
+    ensures answer { AnswersCommand (PrintTree (seen_pair_names names.entry)) (S.files shelf.old) result }
     ensures status { result ≢ Ok Answer.Usage }
     ensures fetch { result ≡ Err Failure.Fetch → Rose (S.faults shelf.old) (S.faults shelf.new) }
 {
@@ -237,7 +237,8 @@ pub fn run<R: Threads + Sync, S: Shelf, K: Sink, G: Gate>(
     ensures usage { result ≡ 2 → (command_of (map text_of_word words.now) ≡ None) × Took (K.taken sink.old) usage (K.taken sink.new) }
     ensures memory { result ≡ 3 → K.taken sink.new ≡ K.taken sink.old }
     ensures fetch { result ≡ 5 → Rose (S.faults shelf.old) (S.faults shelf.new) × (K.taken sink.new ≡ K.taken sink.old) }
-    ensures put { result ≡ 6 → Rose (K.faults sink.old) (K.faults sink.new) × WritesPart (map text_of_word words.now) (S.files shelf.old) (K.taken sink.old) (K.taken sink.new) }
+    ensures faults { result ≡ 6 → Rose (K.faults sink.old) (K.faults sink.new) }
+    ensures put { result ≡ 6 → WritesPart (map text_of_word words.now) (S.files shelf.old) (K.taken sink.old) (K.taken sink.new) }
     ensures misused_put { command_of (map text_of_word words.now) ≡ None → result ≡ 6 → TookSome (K.taken sink.old) usage (K.taken sink.new) }
     ensures statuses { (result ≤ 2) ⊎ ((result ≡ 3) ⊎ ((result ≡ 4) ⊎ ((result ≡ 5) ⊎ (result ≡ 6)))) }
 {
