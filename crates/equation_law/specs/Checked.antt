@@ -1,5 +1,5 @@
 -- Programs that break no rule, their instances, and the values of each type.
-use Rattle.std.specs.Prelude.{◌≡◌, ◌<◌, ℕ, ℤ, true, Bool, List, [], ◌∷◌, Option, Some, All, length, slice_get}
+use Rattle.std.specs.Prelude.{◌≡◌, ◌↔◌, ◌<◌, ℕ, ℤ, true, Bool, List, [], ◌∷◌, Option, Some, All, length, slice_get}
 use Rattle.std.specs.Int.{int_wrap}
 use Rattle.std.specs.List.{Contains}
 use mir.Syntax.{w32}
@@ -14,11 +14,13 @@ use Rattle.attr_rules.specs.Queries.{Query as Asked}
 use Rattle.attr_rules.specs.Rules.{AreRules, EquationsRise}
 use Rattle.attr_rules.specs.Types.{kept_kind, parameter_kinds}
 use Rattle.attr_rules.specs.Typing.{HasType}
+use Rattle.solutions.specs.Asking.{Ends, Meets}
+use Rattle.solutions.specs.Rounds.{Graph, is_in}
 use Rattle.tree_arena.specs.Terms.{IsTreeOf}
-use Rattle.equation_law.specs.Names.{NodeName, Source, Reference, Null, At, Argument, Instance, Attribute, Query, node_cmp, text_cmp}
+use Rattle.equation_law.specs.Names.{NodeName, Source, Reference, Null, At, Argument, Instance, Attribute, Query, node_cmp, same_instance, text_cmp}
 use Rattle.equation_law.specs.Program.{Program, class_of, declared_of, names_in}
 use Rattle.equation_law.specs.Collections.{Offer}
-use Rattle.equation_law.specs.Equations.{kind_in, upwards_from}
+use Rattle.equation_law.specs.Equations.{demands_of, kind_in, upwards_from}
 use Rattle.equation_law.specs.Sets.{SetBy, has}
 use Rattle.equation_law.specs.Values.{Value, Truth, Int, Text, Node, Texts, Nodes, argument_value}
 
@@ -52,6 +54,10 @@ pub record IsOfferBelow (p : Program) (a r : ℕ) (o : Offer) : Type 0 where
   pub within : o.node < length p.tree
   pub under : Contains (upwards_from o.node p.tree o.node) r
 
+-- the list has exactly these offers
+abbrev pub AreOffersBelow : Program → ℕ → ℕ → List Offer → Type 0
+AreOffersBelow p a r list = (o : Offer) → Contains list o ↔ IsOfferBelow p a r o
+
 -- null, or a source node of the class or of a subclass
 pub data IsNodeOf (p : Program) (c : ClassId) : Reference → Type 0 where
   null : IsNodeOf p c Null
@@ -79,6 +85,10 @@ pub data IsInstance (p : Program) : Instance → Type 0 where
   of_attribute : {a k : ℕ} {xs : List Argument} (d : Attr) (c : ClassId) → declared_of p a ≡ Some d → class_of p k ≡ Some c → is_sub p.grammar c.0 d.class.0 ≡ true → AreArguments p (parameter_kinds d.params) xs → IsInstance p (Attribute a (At (Source k)) xs)
   of_query : {q : ℕ} (e : Asked) → slice_get p.queries q ≡ Some e → IsInstance p (Query q)
 
+-- each of a list is an instance of the program
+abbrev pub AreInstances : Program → List Instance → Type 0
+AreInstances p list = (i : Instance) → is_in same_instance list i ≡ true → IsInstance p i
+
 -- a query, or an attribute without arguments
 abbrev pub HasNoArguments : Instance → Type 0
 HasNoArguments (Attribute a n xs) = xs ≡ []
@@ -87,3 +97,11 @@ HasNoArguments (Query q) = Unit {0}
 -- an assignment whose values are of their instances' types
 pub record Fits (p : Program) (A : Instance → Option Value) : Type 0 where
   pub fits : (i : Instance) (v : Value) → A i ≡ Some v → IsValue p (kind_in p i) v
+
+-- under A the equation of i demands instances of the program alone
+abbrev pub MeetsInstances : Program → (Instance → Option Value) → Instance → Type 0
+MeetsInstances p A i = (j : Instance) → Meets (Graph A) (demands_of p i) j → IsInstance p j
+
+-- under A it ends with a value of the type of i, where it ends
+abbrev pub EndsWellTyped : Program → (Instance → Option Value) → Instance → Type 0
+EndsWellTyped p A i = (v : Value) (demands : List Instance) → Ends (Graph A) (demands_of p i) v demands → IsValue p (kind_in p i) v

@@ -43,6 +43,14 @@ value_of texts (coded.Node n) = Node (reference_of n.0)
 value_of texts (coded.Texts cs) = Texts (set_of (map texts cs))
 value_of texts (coded.Nodes cs) = Nodes (set_of (nodes_of cs))
 
+-- the value that a coded one stands for in a program
+abbrev pub stands_for : Program → CodedValue → Value
+stands_for p v = value_of (text_of p) v
+
+-- the values that coded ones stand for there, which are no sets
+abbrev pub stand_for : Program → List Single → List Value
+stand_for p vs = map (single_of (text_of p)) vs
+
 -- The elements of a set are coded well: each text is one of the program, and none is null. Then each element has one code.
 abbrev pub AreElements : Program → CodedValue → Type 0
 AreElements p (coded.Truth b) = Unit {0}

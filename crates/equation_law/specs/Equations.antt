@@ -1,7 +1,7 @@
 -- The equations of the instances of a program, and the solution.
-use Rattle.std.specs.Prelude.{ℕ, zero, suc, ℤ, pos, negsuc, List, [], ◌∷◌, Bool, true, false, ◌&&◌, cond, Option, Some, None, slice_get, ◌++◌, map, ◌-◌, ◌==◌}
+use Rattle.std.specs.Prelude.{◌≡◌, ◌<◌, ℕ, zero, suc, ℤ, pos, negsuc, List, [], ◌∷◌, Bool, true, false, ◌&&◌, cond, Option, Some, None, length, slice_get, ◌++◌, map, ◌-◌, ◌==◌}
 use Rattle.std.specs.Int.{int_wrap}
-use Rattle.std.specs.List.{filter, find, flat_map, range_with_len}
+use Rattle.std.specs.List.{Contains, filter, find, flat_map, range_with_len}
 use Rattle.std.specs.Option.{option_and_then, option_map, option_or}
 use mir.Syntax.{w32}
 use Rattle.ast_grammar.specs.declared.grammar.ClassId.{ClassId}
@@ -115,6 +115,14 @@ abbrev pub upwards_from : ℕ → List TreeNode → ℕ → List ℕ
 upwards_from zero tree n = n ∷ []
 upwards_from (suc most) tree n = n ∷ followed (parent_in tree n) (upwards_from most tree)
 
+-- node n stands on the way upwards from node k, which begins with k
+abbrev pub IsOnWay : List TreeNode → ℕ → ℕ → Type 0
+IsOnWay tree k n = Contains (upwards_from k tree k) n
+
+-- j is a node of the tree, and its way upwards meets node k
+abbrev pub StandsUnder : List TreeNode → ℕ → ℕ → Type 0
+StandsUnder tree k j = (j < length tree) × IsOnWay tree j k
+
 -- the place of a node among those that hang at the same component
 abbrev pub place_among : Program → ℕ → ℕ
 place_among p n = number_or_zero (index_in p.tree n)
@@ -163,6 +171,14 @@ abbrev pub collection_root : Program → Option ClassId → ℕ → Option ℕ
 collection_root p None k = Some 0
 collection_root p (Some c) k = find (λ n. is_of_class p c (Source n)) (upwards_from k p.tree k)
 
+-- with this root class node n may be the root of a collection at node k: it is of the class or of a subclass, and on the way upwards from k
+abbrev pub MayBeRoot : Program → ClassId → ℕ → ℕ → Type 0
+MayBeRoot p c k n = IsOnWay p.tree k n × (is_of_class p c (Source n) ≡ true)
+
+-- no node on the way may
+abbrev pub NoneMayBeRoot : Program → ClassId → ℕ → Type 0
+NoneMayBeRoot p c k = (n : ℕ) → IsOnWay p.tree k n → is_of_class p c (Source n) ≡ false
+
 -- the nodes of a subtree, in preorder
 abbrev pub subtree : List TreeNode → ℕ → List ℕ
 subtree tree n = range_with_len n (end_in tree n - n)
@@ -179,6 +195,10 @@ offers_at p a k = map (λ c. record { contribution = c; node = k }) (filter (is_
 abbrev pub offers_below : Program → ℕ → Option ℕ → List Offer
 offers_below p a None = []
 offers_below p a (Some r) = flat_map (offers_at p a) (subtree p.tree r)
+
+-- what is offered to an attribute at a node, by its root class
+abbrev pub offers_to : Program → ℕ → Option ClassId → ℕ → List Offer
+offers_to p a c k = offers_below p a (collection_root p c k)
 
 abbrev pub collection_at : Program → ℕ → ℕ → Collecting → Collection
 collection_at p a k c = record { method = c.method; kind = attribute_kind p a; node = Source k; offers = offers_below p a (collection_root p c.root k) }
@@ -251,6 +271,14 @@ equations_of p = record {
   circular = is_circular p;
   bottom = bottom_of p;
 }
+
+-- what the equation of an instance demands, and what comes of it
+abbrev pub demands_of : Program → Instance → Demands Instance Value
+demands_of p i = (equations_of p).equation i
+
+-- the instance is circular
+abbrev pub IsCircularIn : Program → Instance → Type 0
+IsCircularIn p i = (equations_of p).circular i ≡ true
 
 -- the solution: the value of an instance that the rounds over some list of instances give
 abbrev pub HasValue : Program → Instance → Value → Type 0

@@ -2,6 +2,7 @@ pub mod Checked
 pub mod Codes
 pub mod Collections
 pub mod Equations
+pub mod Growing
 pub mod Keys
 pub mod Loops
 pub mod Lower

@@ -27,6 +27,10 @@ pub record AreFrom (P : ℕ → Type 0) (first end : ℕ) : Type 0 where
   pub last : (n : ℕ) → end ≡ suc n → P n
   pub ordered : first ≤ end
 
+-- the span of the nodes of a class and of its subclasses
+abbrev pub IsSpan : List Class → List Node → ℕ → Span → Type 0
+IsSpan g tree c s = AreFrom (IsBelow g tree c) s.first s.end
+
 -- those of each class of so many, subclasses aside, by the first of each and the end of each
 pub record AreOfClasses (tree : List Node) (classes : ℕ) (firsts ends : List ℕ) : Type 0 where
   pub firsts_count : length firsts ≡ classes

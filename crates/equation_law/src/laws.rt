@@ -1,5 +1,5 @@
 // The laws of the solution and of the instances of a program, over the definitions alone.
-ghost use Rattle.std.specs.Prelude.{◌≡◌, ◌↔◌, ◌⊎◌, ◌<◌, ◌≤◌, ℕ, ℤ, Bool, List, Option, Some, None, IsSome, length, true, false};
+ghost use Rattle.std.specs.Prelude.{◌≡◌, ◌↔◌, ◌⊎◌, ◌<◌, ◌≤◌, ℕ, ℤ, Bool, List, Option, Some, None, IsSome, length, true};
 ghost use Rattle.std.specs.List.{Contains};
 ghost use Rattle.std.specs.Cmp.Lexicographic.{slice_cmp};
 ghost use Rattle.std.specs.Ordering.{bool_cmp, int_cmp, nat_cmp, ordering_then};
@@ -7,21 +7,20 @@ ghost use Rattle.ast_grammar.specs.declared.grammar.ClassId.{ClassId};
 ghost use Rattle.attr_rules.specs.Expression.{Expression};
 ghost use Rattle.attr_rules.specs.Rising.{IsRising};
 ghost use Rattle.attr_rules.specs.Rules.{circular_at};
-ghost use Rattle.solutions.specs.Asking.{Ends, Halts, Meets};
-ghost use Rattle.solutions.specs.Rounds.{Ended, Graph, HasFinalValue, is_in};
-ghost use Rattle.solutions.specs.Rising.{AgreeBelow, LiesBelow, Under};
-ghost use Rattle.solutions.specs.Leading.{Demanded, Mixed};
+ghost use Rattle.solutions.specs.Asking.{Ends, Halts};
+ghost use Rattle.solutions.specs.Rounds.{Ended, HasFinalValue, is_in};
+ghost use Rattle.solutions.specs.Leading.{Demanded};
 ghost use Rattle.tree_arena.specs.Nodes.{end_in};
-ghost use Rattle.equation_law.specs.Checked.{Fits, HasNoArguments, IsInstance, IsOfferBelow, IsProgram, IsValue};
-ghost use Rattle.equation_law.specs.Collections.{Offer};
+ghost use Rattle.equation_law.specs.Checked.{AreInstances, AreOffersBelow, EndsWellTyped, Fits, HasNoArguments, IsInstance, IsProgram, IsValue, MeetsInstances};
+ghost use Rattle.equation_law.specs.Growing.{AreAtMost, AsksNoMoreUnder, GivesNoMoreUnder, HasGrowingDemands, HasGrowingValues, MayRaise};
 ghost use Rattle.equation_law.specs.Keys.{IsAsked, IsJust, IsKey, IsPrefix, Part, Prefix};
-ghost use Rattle.equation_law.specs.Names.{Instance, Query, Source, int_code, same_instance, text_cmp, text_code, truth_code};
+ghost use Rattle.equation_law.specs.Names.{Instance, Query, int_code, same_instance, text_cmp, text_code, truth_code};
 ghost use Rattle.equation_law.specs.Values.{Value};
 ghost use Rattle.equation_law.specs.Program.{Program, source_instances};
-ghost use Rattle.equation_law.specs.Equations.{HasValue, collection_root, equation_of, equations_of, is_circular, is_declared, is_of_class, kind_in, offers_below, subtree, upwards_from, world_of};
-ghost use Rattle.equation_law.specs.Loops.{Chain, HasLoop, fits_in, order_in};
+ghost use Rattle.equation_law.specs.Equations.{HasValue, IsCircularIn, IsOnWay, MayBeRoot, NoneMayBeRoot, StandsUnder, collection_root, demands_of, equation_of};
+ghost use Rattle.equation_law.specs.Equations.{equations_of, is_declared, kind_in, offers_to, subtree, world_of};
+ghost use Rattle.equation_law.specs.Loops.{Chain, HasLoop, order_in};
 ghost use Rattle.equation_law.specs.Meaning.{Place, meaning_of};
-ghost use Rattle.equation_law.specs.Orders.{IsAtMost};
 ghost use Rattle.equation_law.specs.Lower.{IsClosed, IsLower, joined, raised_at};
 
 /// One solution: two lists of instances that give an instance a value give it the same one.
@@ -31,12 +30,12 @@ pub fn one_solution()
 
 /// An instance whose equation ends under the solution has the value that it ends with.
 pub fn ended_has_value()
-    ensures { (p : Program) (i : Instance) (v : Value) (demands : List Instance) → Ends (HasValue p) ((equations_of p).equation i) v demands → HasValue p i v }
+    ensures { (p : Program) (i : Instance) (v : Value) (demands : List Instance) → Ends (HasValue p) (demands_of p i) v demands → HasValue p i v }
 {}
 
 /// An instance whose equation is stuck under the solution has no value.
 pub fn stuck_has_none()
-    ensures { (p : Program) (i j : Instance) (demands : List Instance) → Halts (HasValue p) ((equations_of p).equation i) j demands → (v : Value) → ¬ HasValue p i v }
+    ensures { (p : Program) (i j : Instance) (demands : List Instance) → Halts (HasValue p) (demands_of p i) j demands → (v : Value) → ¬ HasValue p i v }
 {}
 
 /// The values that some rounds give are those that rounds give which run until nothing is added.
@@ -58,7 +57,7 @@ pub fn value_or_loop()
 /// Rounds end over any list of instances of a program, circular ones and all: some run until nothing is added. A set has texts of the program or
 /// nodes of its tree, so inner rounds make the values of circular instances grow finitely often.
 pub fn rounds_end()
-    ensures { (p : Program) → IsProgram p → (list : List Instance) → ((i : Instance) → is_in same_instance list i ≡ true → IsInstance p i) → Ended (equations_of p) list }
+    ensures { (p : Program) → IsProgram p → (list : List Instance) → AreInstances p list → Ended (equations_of p) list }
 {}
 
 /// What a chain leads to from an instance with a value is what is demanded from it under the solution.
@@ -75,13 +74,13 @@ pub fn keys_of_queries()
 
 /// An instance of a program demands only instances of it, as long as the values that it reads are of their types.
 pub fn demands_instances()
-    ensures { (p : Program) → IsProgram p → (i j : Instance) → IsInstance p i → (A : Instance → Option Value) → Fits p A → Meets (Graph A) ((equations_of p).equation i) j → IsInstance p j }
+    ensures { (p : Program) → IsProgram p → (i : Instance) → IsInstance p i → (A : Instance → Option Value) → Fits p A → MeetsInstances p A i }
 {}
 
 /// Well typed equations have values of their types: where the values of an assignment are of their instances' types, an instance of a
 /// program whose equation ends has a value of its own type. It is stuck otherwise, at an instance that has no value.
 pub fn well_typed_values()
-    ensures { (p : Program) → IsProgram p → (i : Instance) → IsInstance p i → (A : Instance → Option Value) → Fits p A → (v : Value) (demands : List Instance) → Ends (Graph A) ((equations_of p).equation i) v demands → IsValue p (kind_in p i) v }
+    ensures { (p : Program) → IsProgram p → (i : Instance) → IsInstance p i → (A : Instance → Option Value) → Fits p A → EndsWellTyped p A i }
 {}
 
 /// The value of an instance is one of its type.
@@ -97,22 +96,22 @@ pub fn instances_have_equations()
 
 /// The subtree of a node: the numbers from the node's to where the subtree ends are exactly those of the nodes whose way upwards meets it.
 pub fn nodes_of_subtrees()
-    ensures numbers { (p : Program) → IsProgram p → (k j : ℕ) → k < length p.tree → ((k ≤ j) × (j < end_in p.tree k)) ↔ ((j < length p.tree) × Contains (upwards_from j p.tree j) k) }
-    ensures nodes { (p : Program) → IsProgram p → (k j : ℕ) → k < length p.tree → Contains (subtree p.tree k) j ↔ ((j < length p.tree) × Contains (upwards_from j p.tree j) k) }
+    ensures numbers { (p : Program) → IsProgram p → (k j : ℕ) → k < length p.tree → ((k ≤ j) × (j < end_in p.tree k)) ↔ StandsUnder p.tree k j }
+    ensures nodes { (p : Program) → IsProgram p → (k j : ℕ) → k < length p.tree → Contains (subtree p.tree k) j ↔ StandsUnder p.tree k j }
 {}
 
 /// The root of a collection at a node is a node of the root class or of a subclass on the way upwards, the closest one: each other of them is above
 /// it. Where there is no root, none is on the way.
 pub fn roots_of_collections()
-    ensures there { (p : Program) → IsProgram p → (c : ClassId) (k r : ℕ) → collection_root p (Some c) k ≡ Some r → Contains (upwards_from k p.tree k) r × (is_of_class p c (Source r) ≡ true) }
-    ensures closest { (p : Program) → IsProgram p → (c : ClassId) (k r n : ℕ) → collection_root p (Some c) k ≡ Some r → Contains (upwards_from k p.tree k) n → is_of_class p c (Source n) ≡ true → Contains (upwards_from r p.tree r) n }
-    ensures none { (p : Program) → IsProgram p → (c : ClassId) (k : ℕ) → collection_root p (Some c) k ≡ None → (n : ℕ) → Contains (upwards_from k p.tree k) n → is_of_class p c (Source n) ≡ false }
+    ensures there { (p : Program) → IsProgram p → (c : ClassId) (k r : ℕ) → collection_root p (Some c) k ≡ Some r → MayBeRoot p c k r }
+    ensures closest { (p : Program) → IsProgram p → (c : ClassId) (k r n : ℕ) → collection_root p (Some c) k ≡ Some r → MayBeRoot p c k n → IsOnWay p.tree r n }
+    ensures none { (p : Program) → IsProgram p → (c : ClassId) (k : ℕ) → collection_root p (Some c) k ≡ None → NoneMayBeRoot p c k }
 {}
 
 /// What is offered to a collection below its root is exactly the contributions to its attribute at the nodes of the root's subtree that are of
 /// their classes or of subclasses.
 pub fn offers_of_collections()
-    ensures { (p : Program) → IsProgram p → (a : ℕ) (c : Option ClassId) (k r : ℕ) → collection_root p c k ≡ Some r → (o : Offer) → Contains (offers_below p a (collection_root p c k)) o ↔ IsOfferBelow p a r o }
+    ensures { (p : Program) → IsProgram p → (a : ℕ) (c : Option ClassId) (k r : ℕ) → collection_root p c k ≡ Some r → AreOffersBelow p a r (offers_to p a c k) }
 {}
 
 /// The instances that are listed are those of the program without arguments.
@@ -129,35 +128,35 @@ pub fn circular_as_declared()
 /// wherever those stand, the same for undeclared instances and at most those for circular ones. It demands no more, in the same order, and its
 /// value is at most the other one.
 pub fn growing_demands()
-    ensures { (p : Program) (i : Instance) → (equations_of p).circular i ≡ true → (A B : Instance → Option Value) → LiesBelow (equations_of p).circular (order_in p) (Graph A) (Graph B) → (w : Value) (demands : List Instance) → Ends (Graph B) ((equations_of p).equation i) w demands → Under (order_in p i) (Graph A) ((equations_of p).equation i) w demands }
+    ensures { (p : Program) (i : Instance) → IsCircularIn p i → HasGrowingDemands p (demands_of p i) }
 {}
 
 /// The same of each rising expression, wherever it is read: this is what makes the positions of calls in it permitted.
 pub fn rising_demands()
-    ensures { (p : Program) (e : Expression) (q : Place) → IsRising (circular_at p.rules.attributes) e → (A B : Instance → Option Value) → LiesBelow (is_circular p) (order_in p) (Graph A) (Graph B) → (w : Value) (demands : List Instance) → Ends (Graph B) (meaning_of (world_of p) e q) w demands → Under IsAtMost (Graph A) (meaning_of (world_of p) e q) w demands }
+    ensures { (p : Program) (e : Expression) (q : Place) → IsRising (circular_at p.rules.attributes) e → HasGrowingDemands p (meaning_of (world_of p) e q) }
 {}
 
 /// Growing values: where neither is stuck, under two assignments of which the first is at most the second where both have values, the value of
 /// the first is at most that of the second.
 pub fn growing_values()
-    ensures { (p : Program) (i : Instance) → (equations_of p).circular i ≡ true → (A B : Instance → Option Value) → AgreeBelow (equations_of p).circular (order_in p) (Graph A) (Graph B) → (v w : Value) (first second : List Instance) → Ends (Graph A) ((equations_of p).equation i) v first → Ends (Graph B) ((equations_of p).equation i) w second → order_in p i v w }
+    ensures { (p : Program) (i : Instance) → IsCircularIn p i → HasGrowingValues p (demands_of p i) }
 {}
 
 /// Growing demands under assignments that give each circular instance a value, where the others have the solution's: a lower assignment is one.
 /// Where the equation of a circular instance isn't stuck under some, it isn't stuck under values at most those. It demands no more, in the same
 /// order, and its value is at most the other one.
 pub fn assigned_demands()
-    ensures { (p : Program) (T U : Instance → Value) → ((j : Instance) → (equations_of p).circular j ≡ true → order_in p j (T j) (U j)) → (i : Instance) → (equations_of p).circular i ≡ true → (w : Value) (demands : List Instance) → Ends (Mixed (equations_of p) U) ((equations_of p).equation i) w demands → Under (order_in p i) (Mixed (equations_of p) T) ((equations_of p).equation i) w demands }
+    ensures { (p : Program) (T U : Instance → Value) → AreAtMost p T U → AsksNoMoreUnder p T U }
 {}
 
 /// Growing values under such assignments: where the equation is stuck under neither, its value under the lower one is at most that under the other.
 pub fn assigned_values()
-    ensures { (p : Program) (T U : Instance → Value) → ((j : Instance) → (equations_of p).circular j ≡ true → order_in p j (T j) (U j)) → (i : Instance) → (equations_of p).circular i ≡ true → (v w : Value) (first second : List Instance) → Ends (Mixed (equations_of p) T) ((equations_of p).equation i) v first → Ends (Mixed (equations_of p) U) ((equations_of p).equation i) w second → order_in p i v w }
+    ensures { (p : Program) (T U : Instance → Value) → AreAtMost p T U → GivesNoMoreUnder p T U }
 {}
 
 /// A lower assignment is at most the solution wherever a circular instance has a value.
 pub fn lower_below()
-    ensures { (p : Program) (T : Instance → Value) → IsLower p T → (i : Instance) (v : Value) → (equations_of p).circular i ≡ true → HasValue p i v → order_in p i (T i) v }
+    ensures { (p : Program) (T : Instance → Value) → IsLower p T → (i : Instance) (v : Value) → IsCircularIn p i → HasValue p i v → order_in p i (T i) v }
 {}
 
 /// Two lower assignments joined give a lower assignment.
@@ -168,7 +167,7 @@ pub fn lower_joined()
 /// A lower assignment stays one where its value of a circular instance is joined with a part of what the instance's equation comes to under
 /// values at most the assignment's.
 pub fn lower_raised()
-    ensures { (p : Program) (T B : Instance → Value) → IsLower p T → (i : Instance) → (equations_of p).circular i ≡ true → ((j : Instance) → (equations_of p).circular j ≡ true → order_in p j (B j) (T j)) → (v w : Value) (demands : List Instance) → Ends (Mixed (equations_of p) B) ((equations_of p).equation i) v demands → fits_in p i w → order_in p i w v → IsLower p (raised_at p T i w) }
+    ensures { (p : Program) (T : Instance → Value) → IsLower p T → (i : Instance) (w : Value) → MayRaise p T i w → IsLower p (raised_at p T i w) }
 {}
 
 /// Each instance of a closed set under a lower assignment has that assignment's value.

@@ -1,7 +1,7 @@
 // The nodes of each class and of its subclasses, from the first to the last.
 ghost use Rattle.std.specs.Prelude.{◌≡◌, ◌≤◌, ◌<◌, ◌⊎◌, List, IfOk, length, replicate};
 ghost use Rattle.tree_arena.specs.Nodes.{Node};
-ghost use Rattle.equation_law.specs.Spans.{AreFrom, AreOfClasses, AreSpans, IsBelow, Joins};
+ghost use Rattle.equation_law.specs.Spans.{AreOfClasses, AreSpans, IsSpan, Joins};
 
 use ast_grammar::{ClassId, Grammar};
 use rag_io::Memory;
@@ -89,7 +89,7 @@ fn span_below(grammar: &Grammar, own: &Spans, class: u32) -> Span
     requires firsts { length own.now.firsts.items ≡ length grammar.now }
     requires ends { length own.now.ends.items ≡ length grammar.now }
     requires class { class < length grammar.now }
-    ensures { (tree : List Node) → AreOfClasses tree (length grammar.now) own.now.firsts.items own.now.ends.items → AreFrom (IsBelow grammar.now tree class) result.first result.end }
+    ensures { (tree : List Node) → AreOfClasses tree (length grammar.now) own.now.firsts.items own.now.ends.items → IsSpan grammar.now tree class result }
 {
     let mut span = Span { first: 0, end: 0 };
     for number in 0..grammar.classes() {

@@ -4,7 +4,7 @@ ghost use Rattle.attr_equations.specs.Kept.{rules_in};
 ghost use Rattle.attr_rules.specs.Queries.{query_of};
 ghost use Rattle.rag_io.specs.Pool.{ArePooled};
 ghost use Rattle.equation_law.specs.Program.{most_replies};
-ghost use Rattle.equation_law.specs.Spans.{AreFrom, AreSpans, IsBelow};
+ghost use Rattle.equation_law.specs.Spans.{AreSpans, IsBelow, IsSpan};
 
 use crate::spans::{Span, Spans, spans_of};
 use ast_grammar::{ClassId, Grammar};
@@ -47,7 +47,7 @@ pub struct System {
 
 #[tactic(auto, unfolding(crate::specs::Systems::program_of))]
 impl System {
-    ghost use Rattle.equation_law.specs.Systems.{program_of, queries_in};
+    ghost use Rattle.equation_law.specs.Systems.{program_from, program_of, queries_in};
 
     /// The system of these parts, which were read and checked against each other. There are at most 262,144
     /// queries. It finds the nodes of each class, which takes linear time.
@@ -60,7 +60,7 @@ impl System {
         queries: Queries,
     ) -> Result<System, Memory>
         requires { length (queries_in queries) ≤ most_replies }
-        ensures { IfOk result (λ system. program_of system ≡ record { grammar = grammar; rules = rules_in rules; tree = tree; texts = pool; queries = queries_in queries }) }
+        ensures { IfOk result (λ system. program_of system ≡ program_from grammar rules tree pool queries) }
     {
         // Each pool has the empty text, as its first.
         prove!(pool.len() > 0);
@@ -100,7 +100,7 @@ impl System {
     /// that the grammar hasn't, it has all nodes. This takes constant time.
     pub fn span(&self, class: ClassId) -> Span
         ensures all { (n : ℕ) → IsBelow (program_of self.now).grammar (program_of self.now).tree class.0 n → (result.first ≤ n) × (n < result.end) }
-        ensures exact { class.0 < length (program_of self.now).grammar → AreFrom (IsBelow (program_of self.now).grammar (program_of self.now).tree class.0) result.first result.end }
+        ensures exact { class.0 < length (program_of self.now).grammar → IsSpan (program_of self.now).grammar (program_of self.now).tree class.0 result }
         ensures ordered { result.first ≤ result.end }
         ensures within { result.end ≤ length (program_of self.now).tree }
     {

@@ -5,7 +5,7 @@ pub returns-clause-there : goal.returns-clause-there
 returns-clause-there c = λ p good d. root_there p good d
 
 pub returns-clause-closest : goal.returns-clause-closest
-returns-clause-closest c = λ p good d. root_closest p good d
+returns-clause-closest c = λ p good d k r n root may. root_closest p good d k r n root may.0 may.1
 
 pub returns-clause-none : goal.returns-clause-none
 returns-clause-none c = λ p good d. rootless p good d
