@@ -2,11 +2,14 @@
 use Rattle.std.specs.Prelude.{◌≡◌, ℕ, pos, List, ◌++◌, map, Option, Some, None}
 use Rattle.std.specs.Int.{int_wrap}
 use mir.Syntax.{w32}
+use Rattle.attr_rules.specs.declared.kinds.AttrId.{AttrId}
 use Rattle.attr_rules.specs.Rules.{body_at}
 use Rattle.equation_law.specs.declared.coding.Args.{Args}
 use Rattle.equation_law.specs.declared.coding.EqSite.{EqSite}
-use Rattle.equation_law.specs.Codes.{arguments_of, codes_in, reference_of}
-use Rattle.equation_law.specs.Equations.{Site}
+use Rattle.equation_law.specs.declared.coding.Instance.TheVariants.{Attr as attribute_at}
+use Rattle.equation_law.specs.declared.coding.NodeRef.{NodeRef}
+use Rattle.equation_law.specs.Codes.{arguments_of, codes_in, instance_of, reference_of}
+use Rattle.equation_law.specs.Equations.{Site, site_of}
 use Rattle.equation_law.specs.Meaning.{Place}
 use Rattle.equation_law.specs.Program.{Program}
 use Rattle.equation_law.specs.Values.{Value, Int, argument_value}
@@ -28,3 +31,7 @@ pub record IsSite (p : Program) (a : ℕ) (s : EqSite) (site : Site) : Type 0 wh
 abbrev pub IsFound : Program → ℕ → Option Site → Option EqSite → Type 0
 IsFound p a o None = o ≡ None
 IsFound p a o (Some s) = (site : Site) × (o ≡ Some site) × IsSite p a s site
+
+-- what is found is the equation of an attribute at a node with arguments
+abbrev pub FindsEquation : Program → AttrId → NodeRef → Args → Option EqSite → Type 0
+FindsEquation p a n xs found = IsFound p a.0 (site_of p (instance_of p (attribute_at a n xs))) found

@@ -2,14 +2,13 @@
 ghost use Rattle.std.specs.Prelude.{◌≡◌, ◌<◌, ◌≤◌, ◌⊎◌, ℕ, List, IfSome, None, Some, length, false};
 ghost use Rattle.std.specs.HashMap.{get};
 ghost use Rattle.tree_arena.specs.Nodes.{most_nodes, parent_in};
-ghost use Rattle.equation_law.specs.Codes.{IsRow, instance_of};
-ghost use Rattle.equation_law.specs.Equations.{covering_site, site_of};
+ghost use Rattle.equation_law.specs.Codes.{IsRow};
+ghost use Rattle.equation_law.specs.Equations.{covering_site};
 ghost use Rattle.equation_law.specs.Names.{Argument};
-ghost use Rattle.equation_law.specs.declared.coding.Instance.TheVariants.{Attr as attribute_at};
 ghost use Rattle.equation_law.specs.Systems.{program_of};
 ghost use Rattle.inherited_walk.specs.contracts.ways.StartPartialEq.TheImpl as starts;
 ghost use Rattle.inherited_walk.specs.declared.ways.Start.{Start as WayStart};
-ghost use Rattle.inherited_walk.specs.Sites.{IsFound};
+ghost use Rattle.inherited_walk.specs.Sites.{FindsEquation};
 ghost use Rattle.inherited_walk.specs.Ways.{IsWay};
 
 use crate::walk::{covering, inherited, is_inherited, synthesized};
@@ -152,7 +151,7 @@ pub fn find_noted(
 ) -> Option<EqSite>
     requires { ways.old ≡ system.now }
     ensures same { ways.new ≡ ways.old }
-    ensures found { IsFound (program_of system.now) attr.0 (site_of (program_of system.now) (instance_of (program_of system.now) (attribute_at attr node args))) result }
+    ensures found { FindsEquation (program_of system.now) attr node args result }
     ensures rows { IsRow args → IfSome result (λ s. IsRow s.outer × IsRow s.inner) }
 {
     let source = node.source()?;

@@ -2,10 +2,15 @@
 use Rattle.std.specs.Prelude.{ℕ, Bool, ◌&&◌, ◌||◌, not, List, map}
 use Rattle.attr_rules.specs.declared.expression.SetOperator.{SetOperator}
 use Rattle.attr_rules.specs.declared.expression.SetOperator.TheVariants.{Union, Inter, Minus}
-use Rattle.equation_law.specs.Codes.{nodes_of}
+use Rattle.attr_rules.specs.declared.kinds.Kind.{Kind}
+use Rattle.equation_law.specs.declared.coding.Value.{Value as CodedValue}
+use Rattle.equation_law.specs.declared.system.System.{System as KeptSystem}
+use Rattle.equation_law.specs.Codes.{AreElements, nodes_of, stands_for}
 use Rattle.equation_law.specs.Names.{node_cmp, text_cmp}
 use Rattle.equation_law.specs.Program.{Program, text_of}
 use Rattle.equation_law.specs.Sets.{SetBy, set_of}
+use Rattle.equation_law.specs.Systems.{program_of}
+use Rattle.equation_law.specs.Values.{Value, set_operate}
 
 -- the set of the texts of some numbers
 abbrev pub text_set : Program → List ℕ → SetBy text_cmp
@@ -14,6 +19,18 @@ text_set p cs = set_of (map (text_of p) cs)
 -- the set of the nodes of some codes
 abbrev pub node_set : List ℕ → SetBy node_cmp
 node_set cs = set_of (nodes_of cs)
+
+-- it holds in the program of each system where the elements of the set are coded well
+abbrev pub WhereCoded : CodedValue → (Program → Type 0) → Type 0
+WhereCoded v holds = (system : KeptSystem) → AreElements (program_of system) v → holds (program_of system)
+
+-- where those of both sets are
+abbrev pub WhereBothCoded : CodedValue → CodedValue → (Program → Type 0) → Type 0
+WhereBothCoded v w holds = (system : KeptSystem) → AreElements (program_of system) v → AreElements (program_of system) w → holds (program_of system)
+
+-- what an operator makes of what two coded sets stand for, both read at a type
+abbrev pub made_of : Program → SetOperator → Kind → CodedValue → CodedValue → Value
+made_of p o k v w = set_operate o k (stands_for p v) (stands_for p w)
 
 -- whether what an operator makes of two sets has an element, by whether each of the two has it
 abbrev pub with_operator : SetOperator → Bool → Bool → Bool

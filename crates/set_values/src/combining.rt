@@ -1,12 +1,8 @@
 // What is made of two sets.
 ghost use Rattle.std.specs.Prelude.{◌≡◌, ◌||◌, IfOk};
 ghost use Rattle.code_sets.specs.Members.{AreMade};
-ghost use Rattle.equation_law.specs.declared.system.System.{System as KeptSystem};
-ghost use Rattle.equation_law.specs.Codes.{AreElements, value_of};
-ghost use Rattle.equation_law.specs.Program.{text_of};
-ghost use Rattle.equation_law.specs.Systems.{program_of};
-ghost use Rattle.equation_law.specs.Values as spec;
-ghost use Rattle.set_values.specs.CodedSets.{with_operator};
+ghost use Rattle.equation_law.specs.Codes.{AreElements, stands_for};
+ghost use Rattle.set_values.specs.CodedSets.{WhereBothCoded, made_of, with_operator};
 
 use attr_rules::{Kind, SetOperator};
 use code_sets::Codes;
@@ -46,8 +42,8 @@ pub fn set_operate(
     left: Value,
     right: Value,
 ) -> Result<Value, Memory>
-    ensures value { IfOk result (λ set. (system : KeptSystem) → AreElements (program_of system) left → AreElements (program_of system) right → value_of (text_of (program_of system)) set ≡ spec.set_operate operator kind (value_of (text_of (program_of system)) left) (value_of (text_of (program_of system)) right)) }
-    ensures elements { IfOk result (λ set. (system : KeptSystem) → AreElements (program_of system) left → AreElements (program_of system) right → AreElements (program_of system) set) }
+    ensures value { IfOk result (λ set. WhereBothCoded left right (λ p. stands_for p set ≡ made_of p operator kind left right)) }
+    ensures elements { IfOk result (λ set. WhereBothCoded left right (λ p. AreElements p set)) }
 {
     match kind {
         Kind::Texts => {
