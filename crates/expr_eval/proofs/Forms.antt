@@ -186,6 +186,16 @@ module _ {p : Program} {place : Place} where
   pub boxed : {S : Type 0} {r s : State S} {d a : TExpr} {res : Result CodedValue Halt} → d ≡ a → Reads p r s place (expression_of d) res → Reads p r s place (expression_of a) res
   boxed {r = r} {s = s} {res = res} h a = subst (λ x. Reads p r s place (expression_of x) res) h a
 
+  pub call_boxed : {S : Type 0} {r s : State S} {d a : TExpr} {es : Arguments} {t : ℕ} {here : TextPlace} {res : Result CodedValue Halt} → d ≡ a → Reads p r s place (Call t here (expression_of d) es) res → Reads p r s place (Call t here (expression_of a) es) res
+  call_boxed {r = r} {s = s} {es = es} {t = t} {here = here} {res = res} h x = subst (λ o. Reads p r s place (Call t here (expression_of o) es) res) h x
+
+  pub choice_boxed : {S : Type 0} {r s : State S} {c d a e b f : TExpr} {here : Option TextPlace} {res : Result CodedValue Halt} → c ≡ d → a ≡ e → b ≡ f
+      → Reads p r s place (If (expression_of c) (expression_of a) here (expression_of b)) res → Reads p r s place (If (expression_of d) (expression_of e) here (expression_of f)) res
+  choice_boxed {r = r} {s = s} {d = d} {a = a} {e = e} {b = b} {here = here} {res = res} h i j x =
+      let tested = subst (λ o. Reads p r s place (If (expression_of o) (expression_of a) here (expression_of b)) res) h x in
+      let first = subst (λ o. Reads p r s place (If (expression_of d) (expression_of o) here (expression_of b)) res) i tested in
+      subst (λ o. Reads p r s place (If (expression_of d) (expression_of e) here (expression_of o)) res) j first
+
   -- the answer of a part that is handed on
   pub thrown : {S : Type 0} {r s : State S} {e : Expression} {h : Halt} {res : Result CodedValue Halt} → IsErr res × IsErrAnd res (λ m. m ≡ h) → Reads p r s place e (Err h) → Reads p r s place e res
   thrown {r = r} {s = s} {e = e} {res = res} f a = let g = err_from_is_err_and res f.1 in subst (Reads p r s place e) (sym (g.1 ∙ ap Err g.2)) a

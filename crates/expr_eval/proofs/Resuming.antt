@@ -30,7 +30,7 @@ use Rattle.expr_eval.specs.declared.saved.Stand.{Stand}
 use Rattle.expr_eval.specs.Elements.{Rooms, element_in, elements_in, read_with}
 use Rattle.expr_eval.specs.Evaluating.{Answers, Given, Stopped, is_over_form, place_in, place_kept, read_at, texts_in, world_in}
 use Rattle.expr_eval.specs.Reads.{Advances, GoesOver, IsStood, Reads, ReadsStand, State, state}
-use Rattle.expr_eval.specs.Saved.{AreSaved, HasGone, IsFirst, IsGoing, IsRanged, IsTaken, Loses, Stands, begun, body_of, done, made, making_of, over, range_of, ranged}
+use Rattle.expr_eval.specs.Saved.{AddsOne, AreSaved, HasGone, IsFirst, IsGoing, IsRanged, IsTaken, Loses, Stands, begun, body_of, done, made, making_of, over, range_of, ranged}
 use Rattle.expr_eval.proofs.Forms.{advances_then, behind_value, part_err}
 use Rattle.expr_eval.proofs.Growing.{stands_more}
 use Rattle.expr_eval.proofs.Over.{done_within, gone_begun, gone_ends, gone_further, gone_halts}
@@ -162,7 +162,7 @@ module _ {S : Type 0} {p : Program} {q : State S} {s : System} {r : Told S} {x :
   loses y h less = record { sound = record { sound = h.sound.sound; saved = λ g kept. h.sound.saved g (less g kept) }; values = h.values; bound = h.bound; kept = h.kept }
 
   -- one more is saved
-  pub puts : (y : Saved) (one : Going) → Advances p q (state s r x) → ((g : Going) → Contains y.goings.items g → Contains x.goings.items g ⊎ (g ≡ one)) → IsGoing s r.has one → Advances p q (state s r y)
+  pub puts : (y : Saved) (one : Going) → Advances p q (state s r x) → AddsOne x y one → IsGoing s r.has one → Advances p q (state s r y)
   puts y one h more is = record { sound = record { sound = h.sound.sound; saved = λ g kept. of g (more g kept) }; values = h.values; bound = h.bound; kept = h.kept }
     where
       of : (g : Going) → Contains x.goings.items g ⊎ (g ≡ one) → IsGoing s r.has g

@@ -30,6 +30,13 @@ world_in s = world_of (program_of s)
 abbrev pub texts_in : System → ℕ → List ℕ
 texts_in s = text_of (program_of s)
 
+-- what a value that is kept stands for, and one that is no set
+abbrev pub value_in : System → CodedValue → Value
+value_in s = value_of (texts_in s)
+
+abbrev pub single_in : System → CodedSingle → Value
+single_in s = single_of (texts_in s)
+
 -- a value, which comes under what the reader has; the elements of a set are coded well
 pub record Given {S : Type 0} (p : Program) (s : Told S) (c : Demands Instance Value) (v : CodedValue) : Type 0 where
   pub demands : List Instance

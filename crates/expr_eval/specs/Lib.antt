@@ -1,3 +1,4 @@
+pub mod Bound
 pub mod Elements
 pub mod Evaluating
 pub mod Going

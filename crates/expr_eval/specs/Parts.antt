@@ -4,20 +4,24 @@ use Rattle.std.specs.Int.{int_wrap}
 use mir.Syntax.{w32}
 use Rattle.attr_rules.specs.Expression.{Expression, Truth as TruthLiteral, Int as IntLiteral, Text as TextLiteral, Null as NullLiteral, Empty, This, Variable, Source as SourceNode, Child, Element, Count, Has, Call, Cast, InstanceOf, Sets, Single, Contains, Size, Not, Negate, Binary, And, Or, OrBoth, If, expression_of}
 use Rattle.attr_rules.specs.declared.kinds.Kind.{Kind}
+use Rattle.attr_rules.specs.declared.expression.SetOperator.{SetOperator}
 use Rattle.attr_rules.specs.declared.expression.TExpr.{TExpr}
 use Rattle.attr_rules.specs.declared.expression.TExpr.TheVariants as kept
 use Rattle.equation_law.specs.declared.coding.Value.{Value as CodedValue}
 use Rattle.equation_law.specs.declared.coding.Value.TheVariants as coded
+use Rattle.equation_law.specs.declared.system.System.{System}
 use Rattle.equation_law.specs.Codes.{AreElements, value_of}
 use Rattle.equation_law.specs.Meaning.{Place, World, cast_to, child_at, count_at, element_at, is_instance, is_there, named, operate}
 use Rattle.equation_law.specs.Names.{Null as NoNode}
 use Rattle.equation_law.specs.Program.{Program, text_of}
 use Rattle.equation_law.specs.Sets.{no_elements}
 use Rattle.equation_law.specs.Values.{Value, Truth, Int, Text, Node, Nodes, contains, int, node, set_operate, single, size_of, truth}
+use Rattle.expr_eval.specs.declared.evaluation.Context.{Context}
 use Rattle.expr_eval.specs.declared.evaluation.Halt.{Halt}
 use Rattle.expr_eval.specs.declared.evaluation.Halt.TheVariants.{Memory}
 use Rattle.expr_eval.specs.declared.parts.Parts.{Parts}
 use Rattle.expr_eval.specs.declared.parts.Parts.TheVariants as parts
+use Rattle.expr_eval.specs.Evaluating.{place_in, value_in, world_in}
 
 -- a form without parts
 abbrev pub is_leaf : Expression → Bool
@@ -41,6 +45,10 @@ leaf_value W place This = Node place.this
 leaf_value W place (Variable k) = named place.names k
 leaf_value W place (SourceNode k) = Node (W.source k)
 leaf_value W place _ = Node NoNode
+
+-- its value in a context
+abbrev pub leaf_in : Context → Expression → Value
+leaf_in c e = leaf_value (world_in c.system.now) (place_in c) e
 
 -- the part of a form that makes its value of that of one part
 abbrev pub part_of : TExpr → Option TExpr
@@ -68,6 +76,10 @@ made_of_one W (Not e) v = Truth (not (truth v))
 made_of_one W (Negate e) v = Int (int_wrap w32 (neg_ℤ (int v)))
 made_of_one W _ v = v
 
+-- a form makes the second value of the first, which is that of its part
+abbrev pub IsMadeOfOne : System → Expression → CodedValue → CodedValue → Type 0
+IsMadeOfOne s e part whole = value_in s whole ≡ made_of_one (world_in s) e (value_in s part)
+
 -- the type at which a form reads a token, the token's component, and the part that gives the node
 abbrev pub token_read : TExpr → Option (Kind × ℕ × TExpr)
 token_read (kept.Token' t k p a) = Some (t, k, a)
@@ -90,6 +102,14 @@ made_of_two W (Contains a b) v w = Truth (contains v w)
 made_of_two W (Binary o a b) v w = operate o v w
 made_of_two W (OrBoth a b) v w = Truth (truth v || truth w)
 made_of_two W _ v w = v
+
+-- a form makes the third value of the first two, which are those of its parts
+abbrev pub IsMadeOfTwo : System → Expression → CodedValue → CodedValue → CodedValue → Type 0
+IsMadeOfTwo s e first second whole = value_in s whole ≡ made_of_two (world_in s) e (value_in s first) (value_in s second)
+
+-- the third set is what an operator on sets of a type makes of the first two
+abbrev pub IsCombined : System → SetOperator → Kind → CodedValue → CodedValue → CodedValue → Type 0
+IsCombined s o t left right both = value_in s both ≡ set_operate o t (value_in s left) (value_in s right)
 
 -- what the elements of a form over elements come from, and what it says at them
 abbrev pub range_and_body : TExpr → Option (TExpr × TExpr)

@@ -1,20 +1,27 @@
 -- What evaluations say that go on with what is saved.
-use Rattle.std.specs.Prelude.{◌≡◌, ◌<◌, List, Result, Ok, Err}
+use Rattle.std.specs.Prelude.{◌≡◌, ◌<◌, List, Option, Result, Ok, Err}
+use Rattle.attr_rules.specs.declared.expression.TArgs.{TArgs}
+use Rattle.attr_rules.specs.declared.expression.TExpr.{TExpr}
+use Rattle.attr_rules.specs.declared.kinds.AttrId.{AttrId}
 use Rattle.attr_rules.specs.declared.kinds.Kind.{Kind}
-use Rattle.attr_rules.specs.Expression.{Arguments, Expression}
+use Rattle.attr_rules.specs.declared.kinds.Params.{Params}
+use Rattle.attr_rules.specs.Expression.{Arguments, Call, Expression, If, arguments_of, expression_of}
+use Rattle.attr_rules.specs.Types.{parameter_kinds}
 use Rattle.rag_io.specs.declared.Memory.{Memory as NoMemory}
+use Rattle.rag_io.specs.declared.Place.{Place as TextPlace}
 use Rattle.solutions.specs.Asking.{Demands}
 use Rattle.equation_law.specs.declared.coding.Args.{Args}
 use Rattle.equation_law.specs.declared.coding.Single.{Single as CodedSingle}
 use Rattle.equation_law.specs.declared.coding.Value.{Value as CodedValue}
 use Rattle.equation_law.specs.declared.system.System.{System}
-use Rattle.equation_law.specs.Meaning.{Place}
+use Rattle.equation_law.specs.Meaning.{Place, with_name}
 use Rattle.equation_law.specs.Names.{Instance}
 use Rattle.equation_law.specs.Program.{Program}
 use Rattle.equation_law.specs.Reading.{IsSound, Told}
 use Rattle.equation_law.specs.Systems.{program_of}
 use Rattle.equation_law.specs.Values.{Value}
 use Rattle.expr_eval.specs.declared.accessors.Elements.{Elements}
+use Rattle.expr_eval.specs.declared.evaluation.Context.{Context}
 use Rattle.expr_eval.specs.declared.evaluation.Halt.{Halt}
 use Rattle.expr_eval.specs.declared.evaluation.Halt.TheVariants.{Need, Memory}
 use Rattle.expr_eval.specs.declared.saved.Making.{Making}
@@ -22,8 +29,8 @@ use Rattle.expr_eval.specs.declared.saved.Saved.{Saved}
 use Rattle.expr_eval.specs.declared.saved.Stand.{Stand}
 use Rattle.expr_eval.specs.declared.sites.Turn.{Turn}
 use Rattle.expr_eval.specs.Elements.{Rooms, element_in, read_with}
-use Rattle.expr_eval.specs.Evaluating.{Answers, AnswersArguments, AnswersTurn, Stopped, read_at}
-use Rattle.expr_eval.specs.Saved.{AreSaved, IsRanged, Stands}
+use Rattle.expr_eval.specs.Evaluating.{Answers, AnswersArguments, AnswersTurn, Stopped, place_in, read_at, single_in}
+use Rattle.expr_eval.specs.Saved.{AreSaved, IsRanged, Stands, body_of, making_of}
 
 -- what an evaluation goes by: what its reader tells, and what is saved
 pub record State (S : Type 0) : Type 1 where
@@ -84,3 +91,39 @@ pub record GoesOver {S : Type 0} (s : System) (r t : State S) (place : Place) (m
 pub record Resumes {S : Type 0} (p : Program) (r s : State S) (c : Demands Instance Value) (result : Result Turn NoMemory) : Type 0 where
   pub kept : Advances p r s
   pub answer : AnswersTurn p s.told c result
+
+-- The same in a context: r and x are what the reader tells and what is saved before the call, and s and y are these behind it.
+module _ {S : Type 0} (c : Context) (r : Told S) (x : Saved) (s : Told S) (y : Saved) where
+  -- a form is read
+  abbrev pub ReadsIn : TExpr → Result CodedValue Halt → Type 0
+  ReadsIn e result = Reads (program_of c.system.now) (state c.system.now r x) (state c.system.now s y) (place_in c) (expression_of e) result
+
+  -- a form is read at an element, which stands in front of the names
+  abbrev pub ReadsAt : CodedSingle → TExpr → Result CodedValue Halt → Type 0
+  ReadsAt element e result = Reads (program_of c.system.now) (state c.system.now r x) (state c.system.now s y) (with_name (place_in c) (single_in c.system.now element)) (expression_of e) result
+
+  -- a call is read, wherever it is written
+  abbrev pub ReadsCall : AttrId → TExpr → TArgs → Result CodedValue Halt → Type 0
+  ReadsCall called receiver arguments result = (here : TextPlace)
+      → Reads (program_of c.system.now) (state c.system.now r x) (state c.system.now s y) (place_in c) (Call called.0 here (expression_of receiver) (arguments_of arguments)) result
+
+  -- a choice is read, wherever its else part is written
+  abbrev pub ReadsChoice : TExpr → TExpr → TExpr → Result CodedValue Halt → Type 0
+  ReadsChoice condition first second result = (here : Option TextPlace)
+      → Reads (program_of c.system.now) (state c.system.now r x) (state c.system.now s y) (place_in c) (If (expression_of condition) (expression_of first) here (expression_of second)) result
+
+  -- the arguments of a call are read for its parameters
+  abbrev pub ArgumentsReadIn : Params → TArgs → Result Args Halt → Type 0
+  ArgumentsReadIn parameters arguments result = ArgumentsRead (program_of c.system.now) (state c.system.now r x) (state c.system.now s y) (place_in c) (parameter_kinds parameters) (arguments_of arguments) result
+
+  -- a form's elements are read, and where it stands
+  abbrev pub ReadsStandIn : TExpr → Result (Elements × Stand) Halt → Type 0
+  ReadsStandIn e result = ReadsStand c.system.now (state c.system.now r x) (state c.system.now s y) (place_in c) c.names.now (making_of (expression_of e)) (expression_of e) (body_of (expression_of e)) result
+
+  -- a form goes over the elements that are left
+  abbrev pub GoesOverIn : Making → TExpr → Elements → Stand → Result Unit Halt → Type 0
+  GoesOverIn m body list stand result = GoesOver c.system.now (state c.system.now r x) (state c.system.now s y) (place_in c) m (expression_of body) list stand result
+
+-- the same of a turn over a system, which goes on with what is saved
+abbrev pub ResumesIn : {S : Type 0} → System → Told S → Saved → Told S → Saved → Demands Instance Value → Result Turn NoMemory → Type 0
+ResumesIn system r x s y c result = Resumes (program_of system) (state system r x) (state system s y) c result

@@ -1,11 +1,12 @@
 -- How far forms over elements have gone, which an evaluation that stops leaves behind.
-use Rattle.std.specs.Prelude.{◌≡◌, ◌≤◌, ◌+◌, ℕ, Bool, true, false, cond, List, []}
+use Rattle.std.specs.Prelude.{◌≡◌, ◌<◌, ◌≤◌, ◌+◌, ◌⊎◌, ℕ, Bool, true, false, cond, List, [], length, slice_index_or}
 use Rattle.std.specs.List.{Contains}
 use Rattle.attr_rules.specs.declared.expression.Quantifier.TheVariants.{Any, All, First}
 use Rattle.attr_rules.specs.declared.expression.SetOperator.TheVariants.{Union}
 use Rattle.attr_rules.specs.Expression.{Expression, Quantified, QuantifiedSet, Each, EachOfSet, expression_of}
 use Rattle.solutions.specs.Asking.{Demands, Ends}
 use Rattle.equation_law.specs.declared.coding.Single.{Single as CodedSingle}
+use Rattle.equation_law.specs.declared.coding.Value.{Value as CodedValue}
 use Rattle.equation_law.specs.declared.system.System.{System}
 use Rattle.equation_law.specs.Codes.{AreElements, value_of}
 use Rattle.equation_law.specs.Meaning.{Place, World, elements_at, over_elements, united}
@@ -20,7 +21,7 @@ use Rattle.expr_eval.specs.declared.saved.Making.TheVariants.{Joins, Tests}
 use Rattle.expr_eval.specs.declared.saved.Saved.{Saved}
 use Rattle.expr_eval.specs.declared.saved.Stand.{Stand}
 use Rattle.expr_eval.specs.Elements.{Rooms, element_in, elements_in, put, read_with}
-use Rattle.expr_eval.specs.Evaluating.{place_kept, read_at, texts_in, world_in}
+use Rattle.expr_eval.specs.Evaluating.{place_kept, read_at, single_in, texts_in, value_in, world_in}
 use Rattle.expr_eval.specs.Going.{Joined, Sought, Went}
 
 -- what a form over elements makes of what is said at them
@@ -55,6 +56,10 @@ ranged W (Each t k e b) v = elements_at W k (node v)
 ranged W (EachOfSet t e b) v = elements_of v
 ranged W _ v = []
 
+-- these are its elements, which come from this value
+abbrev pub AreRanged : System → Expression → CodedValue → Elements → Type 0
+AreRanged s e from list = elements_in s list ≡ ranged (world_in s) e (value_in s from)
+
 -- what is demanded at the elements
 abbrev pub over : Making → List Value → (Value → Demands Instance Value) → Demands Instance Value
 over (Tests q) xs f = over_elements q xs f
@@ -73,6 +78,10 @@ made (Tests Any) x v w = Truth (put false (truth v) (truth w))
 made (Tests All) x v w = Truth (put true (truth v) (truth w))
 made (Tests First) x v w = cond (truth w) x v
 made (Joins t) x v w = set_operate Union t v w
+
+-- what is said at an element is taken in: from the value before it, it makes the one behind it
+abbrev pub TakesIn : System → Making → CodedSingle → CodedValue → CodedValue → CodedValue → Type 0
+TakesIn s m element said before behind = value_in s behind ≡ made m (single_in s element) (value_in s before) (value_in s said)
 
 -- how many of so many elements are done with behind the n-th: `first` has no need of those behind one at which the condition is true
 abbrev pub done : Making → ℕ → ℕ → Value → ℕ
@@ -126,6 +135,10 @@ pub record IsAt (c : Context) (e : Expression) (g : Going) : Type 0 where
   pub names : Rooms c.names.now g.stand.names.items
   pub form : expression_of g.form.now ≡ e
 
+-- what is saved of a form in this context has this number among all that is saved
+abbrev pub IsSavedAt : Context → Expression → Saved → ℕ → Type 0
+IsSavedAt c e saved k = (k < length saved.goings.items) × ((g : Going) → IsAt c e (slice_index_or saved.goings.items k g))
+
 -- what was saved of a form in this context
 abbrev pub IsTaken : Context → Expression → Saved → Elements × Stand → Type 0
 IsTaken c e saved (list, stand) = (g : Going) × Contains saved.goings.items g × IsAt c e g × (g.list ≡ list) × (g.stand ≡ stand)
@@ -133,3 +146,7 @@ IsTaken c e saved (list, stand) = (g : Going) × Contains saved.goings.items g �
 -- all that is saved was saved before
 abbrev pub Loses : Saved → Saved → Type 0
 Loses old new = (g : Going) → Contains new.goings.items g → Contains old.goings.items g
+
+-- all that is saved was saved before, or is this one
+abbrev pub AddsOne : Saved → Saved → Going → Type 0
+AddsOne old new one = (g : Going) → Contains new.goings.items g → Contains old.goings.items g ⊎ (g ≡ one)

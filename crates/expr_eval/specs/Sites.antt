@@ -1,25 +1,31 @@
 -- The equations that are evaluated.
-use Rattle.std.specs.Prelude.{◌≡◌, ℕ, List, [], Option, Some, None, Result, Ok, Err}
+use Rattle.std.specs.Prelude.{◌≡◌, ℕ, List, [], Option, Some, None, Result, Ok, Err, slice_get}
 use Rattle.std.specs.Result.{IsErr}
 use Rattle.rag_io.specs.declared.Memory.{Memory as NoMemory}
 use Rattle.attr_rules.specs.declared.kinds.Kind.{Kind}
 use Rattle.attr_rules.specs.Expression.{Expression, Null as NullLiteral}
 use Rattle.attr_rules.specs.Queries.{Query as Asked}
-use Rattle.attr_rules.specs.Rules.{body_at}
+use Rattle.attr_rules.specs.Rules.{Equation, body_at}
 use Rattle.solutions.specs.Asking.{Demands}
 use Rattle.equation_law.specs.declared.coding.EqSite.{EqSite}
+use Rattle.equation_law.specs.declared.coding.Instance.{Instance as CodedInstance}
 use Rattle.equation_law.specs.declared.coding.Value.{Value as CodedValue}
-use Rattle.equation_law.specs.Codes.{AreElements, value_of}
-use Rattle.equation_law.specs.Equations.{place_at}
+use Rattle.equation_law.specs.declared.system.System.{System}
+use Rattle.equation_law.specs.Codes.{AreElements, instance_of, value_of}
+use Rattle.equation_law.specs.Equations.{equations_of, place_at}
 use Rattle.inherited_walk.specs.Sites.{site_place}
 use Rattle.equation_law.specs.Names.{Instance}
-use Rattle.equation_law.specs.Program.{Program}
+use Rattle.equation_law.specs.Program.{Program, text_of}
+use Rattle.equation_law.specs.Reading.{Told}
+use Rattle.equation_law.specs.Systems.{program_of}
 use Rattle.equation_law.specs.Values.{Value, as_kind}
 use Rattle.expr_eval.specs.declared.evaluation.Halt.{Halt}
 use Rattle.expr_eval.specs.declared.evaluation.Halt.TheVariants.{Need, Memory}
+use Rattle.expr_eval.specs.declared.saved.Saved.{Saved}
 use Rattle.expr_eval.specs.declared.sites.Turn.{Turn}
 use Rattle.expr_eval.specs.declared.sites.Turn.TheVariants as turns
-use Rattle.expr_eval.specs.Evaluating.{read_at}
+use Rattle.expr_eval.specs.Evaluating.{Evaluates, place_kept, read_at}
+use Rattle.expr_eval.specs.Reads.{ResumesIn}
 
 abbrev pub expression_or_null : Option Expression → Expression
 expression_or_null None = NullLiteral
@@ -32,6 +38,35 @@ site_reads p a s = read_at p (site_place p a s) (expression_or_null (body_at p.r
 -- what a query demands, which is read at the root
 abbrev pub query_reads : Program → Asked → Demands Instance Value
 query_reads p q = read_at p (place_at 0) q.body
+
+-- what the equation of an instance demands
+abbrev pub instance_reads : Program → CodedInstance → Demands Instance Value
+instance_reads p i = (equations_of p).equation (instance_of p i)
+
+-- What a turn says, by what the reader tells before the call and behind it.
+module _ {S : Type 0} (p : Program) (r s : Told S) where
+  -- of the equation of a site, read for the attribute that it is for
+  abbrev pub EvaluatesSite : EqSite → Result Turn NoMemory → Type 0
+  EvaluatesSite site result = (e : Equation) → slice_get p.rules.equations site.equation.0 ≡ Some e → Evaluates p r s (site_reads p e.target.attribute.0 site) result
+
+  -- of a query by its number
+  abbrev pub EvaluatesQuery : ℕ → Result Turn NoMemory → Type 0
+  EvaluatesQuery k result = (q : Asked) → slice_get p.queries k ≡ Some q → Evaluates p r s (query_reads p q) result
+
+  -- of an expression of the rules by its number, read at a node without names
+  abbrev pub EvaluatesBody : ℕ → ℕ → Result Turn NoMemory → Type 0
+  EvaluatesBody k node result = (e : Expression) → body_at p.rules k ≡ Some e → Evaluates p r s (read_at p (place_kept (text_of p) node []) e) result
+
+  -- of an instance
+  abbrev pub EvaluatesInstance : CodedInstance → Result Turn NoMemory → Type 0
+  EvaluatesInstance i result = Evaluates p r s (instance_reads p i) result
+
+-- the same of a query and of an instance, by a turn that goes on with what is saved
+abbrev pub ResumesQuery : {S : Type 0} → System → Told S → Saved → Told S → Saved → ℕ → Result Turn NoMemory → Type 0
+ResumesQuery system r x s y k result = (q : Asked) → slice_get (program_of system).queries k ≡ Some q → ResumesIn system r x s y (query_reads (program_of system) q) result
+
+abbrev pub ResumesInstance : {S : Type 0} → System → Told S → Saved → Told S → Saved → CodedInstance → Result Turn NoMemory → Type 0
+ResumesInstance system r x s y i result = ResumesIn system r x s y (instance_reads (program_of system) i) result
 
 -- a turn whose value is read at a type
 abbrev pub TurnAs : Kind → Turn → Turn → Type 0

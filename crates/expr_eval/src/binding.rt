@@ -3,10 +3,11 @@ ghost use Rattle.std.specs.Prelude.{◌≡◌, ◌++◌, ◌∷◌, [], ℕ, pos
 ghost use Rattle.std.specs.Int.{int_wrap};
 ghost use mir.Syntax.{w32};
 ghost use Rattle.attr_rules.specs.Types.{parameter_kinds};
-ghost use Rattle.equation_law.specs.Codes.{IsRow, arguments_at, codes_in, single_of, value_at};
+ghost use Rattle.equation_law.specs.Codes.{IsRow, single_of, value_at};
 ghost use Rattle.equation_law.specs.Systems.{program_of};
 ghost use Rattle.equation_law.specs.Values.{Int, argument_value, as_argument};
 ghost use Rattle.inherited_walk.specs.Sites.{index_values, site_place};
+ghost use Rattle.expr_eval.specs.Bound.{AreArguments};
 ghost use Rattle.expr_eval.specs.Evaluating.{texts_in};
 
 use crate::evaluation::parameters;
@@ -44,7 +45,7 @@ fn push(names: &mut Vec<Single>, value: Single) -> Result<(), Memory>
 /// The values of some arguments for these parameters.
 fn arguments(alloc: Global, parameters: Params, args: Args) -> Result<Vec<Single>, Memory>
     requires { IsRow args }
-    ensures { IfOk result (λ names. (texts : ℕ → List ℕ) → map (single_of texts) names.items ≡ map argument_value (arguments_at texts (parameter_kinds parameters) (codes_in args))) }
+    ensures { IfOk result (λ names. AreArguments (parameter_kinds parameters) args names.items) }
 {
     let mut names = Vec::new(alloc);
     let mut wanted = parameters;

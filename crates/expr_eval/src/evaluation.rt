@@ -1,19 +1,18 @@
 // The meaning of an expression under what a reader has.
 ghost use Rattle.std.specs.Prelude.{◌≡◌, ◌<◌, pos, ℕ, List, [], IfOk, OnOk, cond, length, true};
-ghost use Rattle.attr_rules.specs.Expression.{arguments_of, expression_of};
+ghost use Rattle.attr_rules.specs.Expression.{expression_of};
 ghost use Rattle.attr_rules.specs.Types.{parameter_kinds, text_kind};
 ghost use Rattle.equation_law.specs.Codes.{AreCodes, AreElements, IsCode, IsCoded, IsRow, codes_in, instance_of, single_of, value_at, value_of};
 ghost use Rattle.equation_law.specs.Equations.{attribute_kind as kind_of};
-ghost use Rattle.equation_law.specs.Meaning.{with_name};
 ghost use Rattle.equation_law.specs.Program.{Program, attribute_parameters};
 ghost use Rattle.equation_law.specs.Reading.{IsSound};
-ghost use Rattle.equation_law.specs.Values.{as_argument, set_operate as set_operated, truth};
+ghost use Rattle.equation_law.specs.Values.{as_argument, truth};
 ghost use Rattle.equation_law.specs.Systems.{program_of};
-ghost use Rattle.expr_eval.specs.Elements.{Rooms, elements_in};
-ghost use Rattle.expr_eval.specs.Evaluating.{CallReads, DemandReads, TokenReads, is_over_form, place_in, texts_in, world_in};
-ghost use Rattle.expr_eval.specs.Parts.{IsRounded, IsSaid, is_further};
-ghost use Rattle.expr_eval.specs.Reads.{ArgumentsRead, GoesOver, IsReady, Reads, ReadsStand, state};
-ghost use Rattle.expr_eval.specs.Saved.{IsFirst, Stands, begun as begun_with, body_of, done as done_with, made as made_of, making_of as makes, range_of, ranged};
+ghost use Rattle.expr_eval.specs.Elements.{Rooms};
+ghost use Rattle.expr_eval.specs.Evaluating.{CallReads, DemandReads, TokenReads, is_over_form, place_in, texts_in, value_in};
+ghost use Rattle.expr_eval.specs.Parts.{IsCombined, IsRounded, IsSaid, is_further};
+ghost use Rattle.expr_eval.specs.Reads.{ArgumentsReadIn, GoesOverIn, IsReady, ReadsAt, ReadsCall, ReadsChoice, ReadsIn, ReadsStandIn, state};
+ghost use Rattle.expr_eval.specs.Saved.{AreRanged, IsFirst, Stands, TakesIn, begun as begun_with, body_of, done as done_with, range_of};
 
 use crate::accessors::{Elements, token};
 use crate::parts::{Parts, make_both, make_whole, parts_of, put_leaf};
@@ -76,7 +75,7 @@ fn demand<R: Reader>(
 )
     requires sound { IsSound (program_of context.now.system.now) (R.tells reader.old) }
     requires coded { IsCoded (program_of context.now.system.now) instance }
-    ensures { DemandReads (program_of context.now.system.now) (R.tells reader.old) (R.tells reader.new) (instance_of (program_of context.now.system.now) instance) came.new }
+    ensures { let p = program_of context.now.system.now in DemandReads p (R.tells reader.old) (R.tells reader.new) (instance_of p instance) came.new }
 {
     match reader.settled(context.alloc, &instance) {
         Ok(Some(value)) => *came = Ok(value),
@@ -145,7 +144,7 @@ fn given<'a, R: Reader>(
     saved: &mut Saved<'a>,
 ) -> Result<Args, Halt>
     requires { IsReady (program_of context.now.system.now) (state context.now.system.now (R.tells reader.old) saved.old) }
-    ensures { ArgumentsRead (program_of context.now.system.now) (state context.now.system.now (R.tells reader.old) saved.old) (state context.now.system.now (R.tells reader.new) saved.new) (place_in context.now) (parameter_kinds parameters) (arguments_of arguments.now) result }
+    ensures { ArgumentsReadIn context.now (R.tells reader.old) saved.old (R.tells reader.new) saved.new parameters arguments.now result }
 {
     match arguments {
         TArgs::End => Ok(Args::none()),
@@ -232,7 +231,7 @@ fn combined(
 ) -> Result<Value, Memory>
     requires left { AreElements (program_of context.now.system.now) left }
     requires right { AreElements (program_of context.now.system.now) right }
-    ensures value { IfOk result (λ value. value_of (texts_in context.now.system.now) value ≡ set_operated operator kind (value_of (texts_in context.now.system.now) left) (value_of (texts_in context.now.system.now) right)) }
+    ensures value { IfOk result (IsCombined context.now.system.now operator kind left right) }
     ensures coded { IfOk result (AreElements (program_of context.now.system.now)) }
 {
     set_operate(context.alloc, operator, kind, left, right)
@@ -256,7 +255,7 @@ fn put_in(
 ) -> Result<(), Memory>
     requires so_far { AreElements (program_of context.now.system.now) so_far.old }
     requires said { AreElements (program_of context.now.system.now) said }
-    ensures value { OnOk result (value_of (texts_in context.now.system.now) so_far.new ≡ made_of making (single_of (texts_in context.now.system.now) element) (value_of (texts_in context.now.system.now) so_far.old) (value_of (texts_in context.now.system.now) said)) }
+    ensures value { OnOk result (TakesIn context.now.system.now making element said so_far.old so_far.new) }
     ensures coded { OnOk result (AreElements (program_of context.now.system.now) so_far.new) }
 {
     match making {
@@ -307,8 +306,8 @@ fn take_in(
     requires so_far { AreElements (program_of context.now.system.now) stand.old.so_far }
     requires said { AreElements (program_of context.now.system.now) said }
     ensures names { stand.new.names ≡ stand.old.names }
-    ensures next { stand.new.next ≡ done_with making list.now.count stand.old.next (value_of (texts_in context.now.system.now) said) }
-    ensures so_far { OnOk result (value_of (texts_in context.now.system.now) stand.new.so_far ≡ made_of making (single_of (texts_in context.now.system.now) element) (value_of (texts_in context.now.system.now) stand.old.so_far) (value_of (texts_in context.now.system.now) said)) }
+    ensures next { stand.new.next ≡ done_with making list.now.count stand.old.next (value_in context.now.system.now said) }
+    ensures so_far { OnOk result (TakesIn context.now.system.now making element said stand.old.so_far stand.new.so_far) }
     ensures coded { OnOk result (AreElements (program_of context.now.system.now) stand.new.so_far) }
 {
     stand.next = done(making, list.count, stand.next, &said);
@@ -329,7 +328,7 @@ fn with_element<'a, R: Reader>(
     requires ready { IsReady (program_of context.now.system.now) (state context.now.system.now (R.tells reader.old) saved.old) }
     requires room { Rooms context.now.names.now names.old.items }
     ensures room { Rooms context.now.names.now names.new.items }
-    ensures reads { Reads (program_of context.now.system.now) (state context.now.system.now (R.tells reader.old) saved.old) (state context.now.system.now (R.tells reader.new) saved.new) (with_name (place_in context.now) (single_of (texts_in context.now.system.now) element)) (expression_of body.now) came.new }
+    ensures reads { ReadsAt context.now (R.tells reader.old) saved.old (R.tells reader.new) saved.new element body.now came.new }
 {
     names[0] = element;
     let inner = Context {
@@ -356,7 +355,7 @@ fn at_elements<'a, R: Reader>(
     requires room { Rooms context.now.names.now stand.old.names.items }
     requires stands { Stands context.now.system.now (R.tells reader.old).has (place_in context.now) making (expression_of body.now) list.now stand.old }
     ensures room { Rooms context.now.names.now stand.new.names.items }
-    ensures over { GoesOver context.now.system.now (state context.now.system.now (R.tells reader.old) saved.old) (state context.now.system.now (R.tells reader.new) saved.new) (place_in context.now) making (expression_of body.now) list.now stand.new result }
+    ensures over { GoesOverIn context.now (R.tells reader.old) saved.old (R.tells reader.new) saved.new making body.now list.now stand.new result }
 {
     'elements: while stand.next < list.count {
         let element = list.get(context.system, stand.next);
@@ -381,7 +380,7 @@ fn at_elements<'a, R: Reader>(
 fn elements_of(context: &Context<'_>, form: &TExpr, from: &Value) -> Result<Elements, Memory>
     requires form { is_over_form (expression_of form.now) ≡ true }
     requires from { AreElements (program_of context.now.system.now) from.now }
-    ensures { IfOk result (λ list. elements_in context.now.system.now list ≡ ranged (world_in context.now.system.now) (expression_of form.now) (value_of (texts_in context.now.system.now) from.now)) }
+    ensures { IfOk result (AreRanged context.now.system.now (expression_of form.now) from.now) }
 {
     match form {
         TExpr::Quantified(_, k, _, _) => Ok(Elements::of(context.system, *k, from.node())),
@@ -397,7 +396,7 @@ fn elements_of(context: &Context<'_>, form: &TExpr, from: &Value) -> Result<Elem
 fn at_first(context: &Context<'_>, form: &TExpr, from: &Value) -> Result<(Elements, Stand), Memory>
     requires form { is_over_form (expression_of form.now) ≡ true }
     requires from { AreElements (program_of context.now.system.now) from.now }
-    ensures elements { IfOk result (λ stood. elements_in context.now.system.now stood.0 ≡ ranged (world_in context.now.system.now) (expression_of form.now) (value_of (texts_in context.now.system.now) from.now)) }
+    ensures elements { IfOk result (λ stood. AreRanged context.now.system.now (expression_of form.now) from.now stood.0) }
     ensures first { IfOk result (λ stood. IsFirst context.now (expression_of form.now) stood.1) }
 {
     let list = elements_of(context, form, from)?;
@@ -425,7 +424,7 @@ fn standing<'a, R: Reader>(
     requires ready { IsReady (program_of context.now.system.now) (state context.now.system.now (R.tells reader.old) saved.old) }
     requires form { is_over_form (expression_of form.now) ≡ true }
     requires range { range_of (expression_of form.now) ≡ expression_of range.now }
-    ensures { ReadsStand context.now.system.now (state context.now.system.now (R.tells reader.old) saved.old) (state context.now.system.now (R.tells reader.new) saved.new) (place_in context.now) context.now.names.now (makes (expression_of form.now)) (expression_of form.now) (body_of (expression_of form.now)) result }
+    ensures { ReadsStandIn context.now (R.tells reader.old) saved.old (R.tells reader.new) saved.new form.now result }
 {
     match saved.take(context, form) {
         Some(found) => Ok(found),
@@ -453,7 +452,7 @@ fn over_form<'a, R: Reader>(
     requires form { is_over_form (expression_of form.now) ≡ true }
     requires range { range_of (expression_of form.now) ≡ expression_of range.now }
     requires body { body_of (expression_of form.now) ≡ expression_of body.now }
-    ensures { Reads (program_of context.now.system.now) (state context.now.system.now (R.tells reader.old) saved.old) (state context.now.system.now (R.tells reader.new) saved.new) (place_in context.now) (expression_of form.now) result }
+    ensures { ReadsIn context.now (R.tells reader.old) saved.old (R.tells reader.new) saved.new form.now result }
 {
     let (list, mut stand) = standing(context, form, range, reader, saved)?;
     match at_elements(
@@ -498,6 +497,56 @@ fn said(came: &Result<Value, Halt>) -> Option<bool>
     }
 }
 
+/// Puts the value of a call in place.
+#[cycle(meaning)]
+fn put_call<'a, R: Reader>(
+    context: &Context<'_>,
+    called: AttrId,
+    receiver: &'a TExpr,
+    arguments: &'a TArgs,
+    reader: &mut R,
+    saved: &mut Saved<'a>,
+    came: &mut Result<Value, Halt>,
+)
+    requires { IsReady (program_of context.now.system.now) (state context.now.system.now (R.tells reader.old) saved.old) }
+    ensures { ReadsCall context.now (R.tells reader.old) saved.old (R.tells reader.new) saved.new called receiver.now arguments.now came.new }
+{
+    meaning(context, receiver, reader, saved, came);
+    match came {
+        Ok(receiver) => {
+            let node = receiver.node();
+            let wanted = parameters(context.system, called);
+            match given(context, wanted, arguments, reader, saved) {
+                Ok(args) => call(context, called, node, args, reader, came),
+                Err(halt) => *came = Err(halt),
+            }
+        }
+        Err(_) => {}
+    }
+}
+
+/// Puts the value of a choice between two parts in place.
+#[cycle(meaning)]
+fn put_choice<'a, R: Reader>(
+    context: &Context<'_>,
+    condition: &'a TExpr,
+    then: &'a TExpr,
+    otherwise: &'a TExpr,
+    reader: &mut R,
+    saved: &mut Saved<'a>,
+    came: &mut Result<Value, Halt>,
+)
+    requires { IsReady (program_of context.now.system.now) (state context.now.system.now (R.tells reader.old) saved.old) }
+    ensures { ReadsChoice context.now (R.tells reader.old) saved.old (R.tells reader.new) saved.new condition.now then.now otherwise.now came.new }
+{
+    meaning(context, condition, reader, saved, came);
+    match said(came) {
+        Some(true) => meaning(context, then, reader, saved, came),
+        Some(false) => meaning(context, otherwise, reader, saved, came),
+        None => {}
+    }
+}
+
 /// Puts the value of a call, or of a form in which a condition chooses what is evaluated, in place.
 #[cycle(meaning)]
 #[inline(never)]
@@ -510,22 +559,11 @@ fn further<'a, R: Reader>(
 )
     requires ready { IsReady (program_of context.now.system.now) (state context.now.system.now (R.tells reader.old) saved.old) }
     requires further { is_further (expression_of form.now) ≡ true }
-    ensures { Reads (program_of context.now.system.now) (state context.now.system.now (R.tells reader.old) saved.old) (state context.now.system.now (R.tells reader.new) saved.new) (place_in context.now) (expression_of form.now) came.new }
+    ensures { ReadsIn context.now (R.tells reader.old) saved.old (R.tells reader.new) saved.new form.now came.new }
 {
     match form {
         TExpr::Call(called, _, receiver, arguments) => {
-            meaning(context, receiver, reader, saved, came);
-            match came {
-                Ok(receiver) => {
-                    let node = receiver.node();
-                    let wanted = parameters(context.system, *called);
-                    match given(context, wanted, arguments, reader, saved) {
-                        Ok(args) => call(context, *called, node, args, reader, came),
-                        Err(halt) => *came = Err(halt),
-                    }
-                }
-                Err(_) => {}
-            }
+            put_call(context, *called, receiver, arguments, reader, saved, came);
         }
         TExpr::And(left, right) => {
             meaning(context, left, reader, saved, came);
@@ -550,12 +588,7 @@ fn further<'a, R: Reader>(
             }
         }
         TExpr::If(condition, then, _, otherwise) => {
-            meaning(context, condition, reader, saved, came);
-            match said(came) {
-                Some(true) => meaning(context, then, reader, saved, came),
-                Some(false) => meaning(context, otherwise, reader, saved, came),
-                None => {}
-            }
+            put_choice(context, condition, then, otherwise, reader, saved, came);
         }
         _ => unreachable!(),
     }
@@ -572,7 +605,7 @@ pub(crate) fn meaning<'a, R: Reader>(
     came: &mut Result<Value, Halt>,
 )
     requires { IsReady (program_of context.now.system.now) (state context.now.system.now (R.tells reader.old) saved.old) }
-    ensures { Reads (program_of context.now.system.now) (state context.now.system.now (R.tells reader.old) saved.old) (state context.now.system.now (R.tells reader.new) saved.new) (place_in context.now) (expression_of expression.now) came.new }
+    ensures { ReadsIn context.now (R.tells reader.old) saved.old (R.tells reader.new) saved.new expression.now came.new }
 {
     match parts_of(expression) {
         Parts::Leaf => put_leaf(context, expression, came),

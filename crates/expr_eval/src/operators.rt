@@ -4,11 +4,11 @@ ghost use Rattle.std.specs.Int.{int_wrap};
 ghost use Rattle.std.specs.Str.{bytes_eq};
 ghost use mir.Syntax.{w32};
 ghost use Rattle.rag_io.specs.Pool.{ArePooled};
-ghost use Rattle.equation_law.specs.Codes.{reference_of, value_of};
+ghost use Rattle.equation_law.specs.Codes.{reference_of};
 ghost use Rattle.equation_law.specs.Meaning.{equal as same_value, operate as operated_by};
 ghost use Rattle.equation_law.specs.Names.{same_reference};
 ghost use Rattle.equation_law.specs.Values.{Int, Truth, int, truth};
-ghost use Rattle.expr_eval.specs.Evaluating.{texts_in};
+ghost use Rattle.expr_eval.specs.Evaluating.{value_in};
 
 use attr_rules::Operator;
 use equation_law::{NodeRef, System, Value};
@@ -39,7 +39,7 @@ fn same_node(left: NodeRef, right: NodeRef) -> bool
 
 /// Whether two truth values, integers, texts or nodes are equal.
 fn equal(system: &System, left: &Value, right: &Value) -> bool
-    ensures { result ≡ same_value (value_of (texts_in system.now) left.now) (value_of (texts_in system.now) right.now) }
+    ensures { result ≡ same_value (value_in system.now left.now) (value_in system.now right.now) }
 {
     match left {
         Value::Truth(b) => *b == right.truth(),
@@ -52,7 +52,7 @@ fn equal(system: &System, left: &Value, right: &Value) -> bool
 
 /// A binary operator on two values; sums, differences and products wrap.
 pub(crate) fn operate(system: &System, operator: Operator, left: &Value, right: &Value) -> Value
-    ensures { value_of (texts_in system.now) result ≡ operated_by operator (value_of (texts_in system.now) left.now) (value_of (texts_in system.now) right.now) }
+    ensures { value_in system.now result ≡ operated_by operator (value_in system.now left.now) (value_in system.now right.now) }
 {
     match operator {
         Operator::Add => Value::Int(left.int().wrapping_add(right.int())),

@@ -1,11 +1,11 @@
 // The parts of a form, and what is made of their values where all of them are evaluated.
 ghost use Rattle.std.specs.Prelude.{◌≡◌, IfOk, OnOk};
 ghost use Rattle.attr_rules.specs.Expression.{expression_of};
-ghost use Rattle.equation_law.specs.Codes.{AreElements, value_of};
+ghost use Rattle.equation_law.specs.Codes.{AreElements};
 ghost use Rattle.equation_law.specs.Meaning.{named};
 ghost use Rattle.equation_law.specs.Systems.{program_of};
-ghost use Rattle.expr_eval.specs.Evaluating.{place_in, texts_in, world_in};
-ghost use Rattle.expr_eval.specs.Parts.{AreParts, IsMade, OneMakes, TwoMake, leaf_value, made_of_one, made_of_two};
+ghost use Rattle.expr_eval.specs.Evaluating.{place_in, value_in, world_in};
+ghost use Rattle.expr_eval.specs.Parts.{AreParts, IsMade, IsMadeOfOne, IsMadeOfTwo, OneMakes, TwoMake, leaf_in, made_of_one, made_of_two};
 
 use crate::accessors::{cast, child, count, element, has, is_of, source};
 use crate::evaluation::{Context, Halt};
@@ -62,7 +62,7 @@ pub(crate) fn parts_of(form: &TExpr) -> Parts<'_>
 
 /// The value of a name by its number.
 fn variable(context: &Context<'_>, number: usize) -> Value
-    ensures { value_of (texts_in context.now.system.now) result ≡ named (place_in context.now).names number }
+    ensures { value_in context.now.system.now result ≡ named (place_in context.now).names number }
 {
     match context.names.get(number) {
         Some(value) => Value::from(*value),
@@ -72,7 +72,7 @@ fn variable(context: &Context<'_>, number: usize) -> Value
 
 /// Puts the value of a form without parts in place.
 pub(crate) fn put_leaf(context: &Context<'_>, form: &TExpr, came: &mut Result<Value, Halt>)
-    ensures { IsMade (program_of context.now.system.now) (leaf_value (world_in context.now.system.now) (place_in context.now) (expression_of form.now)) came.new }
+    ensures { IsMade (program_of context.now.system.now) (leaf_in context.now (expression_of form.now)) came.new }
 {
     match form {
         TExpr::Truth(b) => *came = Ok(Value::Truth(*b)),
@@ -89,55 +89,29 @@ pub(crate) fn put_leaf(context: &Context<'_>, form: &TExpr, came: &mut Result<Va
 /// What a form makes of the value of its one part, in the place of that.
 fn make_of_one(context: &Context<'_>, form: &TExpr, part: &mut Value) -> Result<(), Memory>
     requires { AreElements (program_of context.now.system.now) part.old }
-    ensures value { OnOk result (value_of (texts_in context.now.system.now) part.new ≡ made_of_one (world_in context.now.system.now) (expression_of form.now) (value_of (texts_in context.now.system.now) part.old)) }
+    ensures value { OnOk result (IsMadeOfOne context.now.system.now (expression_of form.now) part.old part.new) }
     ensures coded { OnOk result (AreElements (program_of context.now.system.now) part.new) }
 {
     let system = context.system;
     match form {
-        TExpr::Child(k, _) => {
-            *part = Value::Node(child(system, *k, part.node()));
-            Ok(())
-        }
-        TExpr::Count(k, _) => {
-            *part = Value::Int(count(system, *k, part.node()));
-            Ok(())
-        }
-        TExpr::Has(k, _) => {
-            *part = Value::Truth(has(system, *k, part.node()));
-            Ok(())
-        }
-        TExpr::Cast(class, _) => {
-            *part = Value::Node(cast(system, *class, part.node()));
-            Ok(())
-        }
-        TExpr::InstanceOf(class, _) => {
-            *part = Value::Truth(is_of(system, *class, part.node()));
-            Ok(())
-        }
-        TExpr::Single(_) => {
-            *part = single_set(context.alloc, system, part)?;
-            Ok(())
-        }
-        TExpr::Size(_) => {
-            *part = Value::Int(size(part));
-            Ok(())
-        }
-        TExpr::Not(_) => {
-            *part = Value::Truth(!part.truth());
-            Ok(())
-        }
-        TExpr::Negate(_) => {
-            *part = Value::Int(part.int().wrapping_neg());
-            Ok(())
-        }
-        _ => Ok(()),
+        TExpr::Child(k, _) => *part = Value::Node(child(system, *k, part.node())),
+        TExpr::Count(k, _) => *part = Value::Int(count(system, *k, part.node())),
+        TExpr::Has(k, _) => *part = Value::Truth(has(system, *k, part.node())),
+        TExpr::Cast(class, _) => *part = Value::Node(cast(system, *class, part.node())),
+        TExpr::InstanceOf(class, _) => *part = Value::Truth(is_of(system, *class, part.node())),
+        TExpr::Single(_) => *part = single_set(context.alloc, system, part)?,
+        TExpr::Size(_) => *part = Value::Int(size(part)),
+        TExpr::Not(_) => *part = Value::Truth(!part.truth()),
+        TExpr::Negate(_) => *part = Value::Int(part.int().wrapping_neg()),
+        _ => {}
     }
+    Ok(())
 }
 
 /// Makes the value of a form of that of its one part, if that has one.
 pub(crate) fn make_whole(context: &Context<'_>, form: &TExpr, came: &mut Result<Value, Halt>)
     requires { IfOk came.old (AreElements (program_of context.now.system.now)) }
-    ensures { OneMakes (program_of context.now.system.now) (made_of_one (world_in context.now.system.now) (expression_of form.now)) came.old came.new }
+    ensures { let s = context.now.system.now in OneMakes (program_of s) (made_of_one (world_in s) (expression_of form.now)) came.old came.new }
 {
     match came {
         Ok(part) => {
@@ -158,7 +132,7 @@ fn make_of_two(
 ) -> Result<(), Memory>
     requires first { AreElements (program_of context.now.system.now) first.old }
     requires second { AreElements (program_of context.now.system.now) second.old }
-    ensures value { OnOk result (value_of (texts_in context.now.system.now) first.new ≡ made_of_two (world_in context.now.system.now) (expression_of form.now) (value_of (texts_in context.now.system.now) first.old) (value_of (texts_in context.now.system.now) second.old)) }
+    ensures value { OnOk result (IsMadeOfTwo context.now.system.now (expression_of form.now) first.old second.old first.new) }
     ensures coded { OnOk result (AreElements (program_of context.now.system.now) first.new) }
 {
     let system = context.system;
@@ -198,7 +172,7 @@ pub(crate) fn make_both(
 )
     requires first { IfOk came.old (AreElements (program_of context.now.system.now)) }
     requires second { IfOk second.old (AreElements (program_of context.now.system.now)) }
-    ensures { TwoMake (program_of context.now.system.now) (made_of_two (world_in context.now.system.now) (expression_of form.now)) came.old second.old came.new }
+    ensures { let s = context.now.system.now in TwoMake (program_of s) (made_of_two (world_in s) (expression_of form.now)) came.old second.old came.new }
 {
     match second {
         Ok(second) => match came {

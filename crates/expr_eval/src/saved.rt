@@ -1,10 +1,8 @@
 // How far forms over elements have gone, which an evaluation that stops leaves behind.
-ghost use Rattle.std.specs.Prelude.{◌≡◌, ◌<◌, ◌==◌, ◌⊎◌, ℕ, [], true, IfSome, length, slice_index_or};
-ghost use Rattle.std.specs.List.{Contains};
+ghost use Rattle.std.specs.Prelude.{◌≡◌, true, IfSome};
 ghost use Rattle.attr_rules.specs.Expression.{expression_of};
-ghost use Rattle.expr_eval.specs.declared.saved.Going.{Going as Goes};
 ghost use Rattle.expr_eval.specs.Elements.{Rooms};
-ghost use Rattle.expr_eval.specs.Saved.{IsAt, IsTaken, Loses, SavesNothing, making_of as makes};
+ghost use Rattle.expr_eval.specs.Saved.{AddsOne, IsAt, IsSavedAt, IsTaken, Loses, SavesNothing, making_of as makes};
 
 use crate::accessors::Elements;
 use crate::evaluation::Context;
@@ -107,7 +105,7 @@ impl<'a> Saved<'a> {
 
     /// The place of what is saved of a form at a node with names.
     fn find(&self, context: &Context<'_>, form: &TExpr) -> Option<usize>
-        ensures { IfSome result (λ k. (k < length self.now.goings.items) × ((g : Goes) → IsAt context.now (expression_of form.now) (slice_index_or self.now.goings.items k g))) }
+        ensures { IfSome result (IsSavedAt context.now (expression_of form.now) self.now) }
     {
         for k in 0..self.goings.len() {
             if self.goings[k].is_at(context, form) {
@@ -135,7 +133,7 @@ impl<'a> Saved<'a> {
         list: Elements,
         stand: Stand,
     ) -> Result<(), Memory>
-        ensures { (g : Goes) → Contains self.new.goings.items g → Contains self.old.goings.items g ⊎ (g ≡ record { form = form.entry; this = this; list = list; stand = stand }) }
+        ensures { AddsOne self.old self.new (record { form = form.entry; this = this; list = list; stand = stand }) }
     {
         let going = Going {
             form,

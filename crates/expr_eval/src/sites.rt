@@ -1,20 +1,16 @@
 // Equations that are evaluated: where they are found, and what they come to.
-ghost use Rattle.std.specs.Prelude.{◌≡◌, ◌<◌, [], None, Some, length, slice_get, IfSome};
-ghost use Rattle.attr_rules.specs.Queries.{Query as Asked};
-ghost use Rattle.attr_rules.specs.Expression.{Expression};
-ghost use Rattle.attr_rules.specs.Rules.{Equation, bodies, body_at};
-ghost use Rattle.equation_law.specs.Program.{text_of};
-ghost use Rattle.equation_law.specs.declared.coding.Instance.TheVariants.{Attr as attribute_at};
+ghost use Rattle.std.specs.Prelude.{◌≡◌, ◌<◌, None, length, IfSome};
+ghost use Rattle.attr_rules.specs.Rules.{bodies};
+ghost use Rattle.equation_law.specs.declared.coding.Instance.TheVariants.{Attr as attribute_at, Query as query_at};
 ghost use Rattle.equation_law.specs.Codes.{IsCoded, IsRow, instance_of};
-ghost use Rattle.equation_law.specs.Equations.{collection_of, equations_of, is_declared, kind_in, site_of};
+ghost use Rattle.equation_law.specs.Equations.{collection_of, is_declared, kind_in};
 ghost use Rattle.equation_law.specs.Names.{Query};
 ghost use Rattle.equation_law.specs.Reading.{IsSound};
 ghost use Rattle.equation_law.specs.Systems.{program_of};
-ghost use Rattle.inherited_walk.specs.Sites.{IsFound};
-ghost use Rattle.expr_eval.specs.Evaluating.{Evaluates, place_kept, read_at};
-ghost use Rattle.expr_eval.specs.Reads.{IsReady, Resumes, state};
+ghost use Rattle.expr_eval.specs.Reads.{IsReady, ResumesIn, state};
 ghost use Rattle.expr_eval.specs.Saved.{AreSaved};
-ghost use Rattle.expr_eval.specs.Sites.{IsTurned, TurnAs, query_reads, site_reads};
+ghost use Rattle.inherited_walk.specs.Sites.{FindsEquation};
+ghost use Rattle.expr_eval.specs.Sites.{EvaluatesBody, EvaluatesInstance, EvaluatesQuery, EvaluatesSite, IsTurned, ResumesInstance, ResumesQuery, TurnAs, site_reads};
 
 use crate::binding::names_of;
 use crate::evaluation::{Context, Halt, attribute_kind, meaning};
@@ -102,7 +98,7 @@ fn evaluate_for<'a, R: Reader>(
     requires inner { IsRow site.now.inner }
     requires outer { IsRow site.now.outer }
     requires ready { IsReady (program_of system.now) (state system.now (R.tells reader.old) saved.old) }
-    ensures { Resumes (program_of system.now) (state system.now (R.tells reader.old) saved.old) (state system.now (R.tells reader.new) saved.new) (site_reads (program_of system.now) attr.0 site.now) result }
+    ensures { ResumesIn system.now (R.tells reader.old) saved.old (R.tells reader.new) saved.new (site_reads (program_of system.now) attr.0 site.now) result }
 {
     let Ok(names) = names_of(alloc, system, attr, site) else {
         return Err(Memory);
@@ -135,7 +131,7 @@ pub fn evaluate<R: Reader>(
     requires inner { IsRow site.now.inner }
     requires outer { IsRow site.now.outer }
     requires sound { IsSound (program_of system.now) (R.tells reader.old) }
-    ensures { (q : Equation) → slice_get (program_of system.now).rules.equations site.now.equation.0 ≡ Some q → Evaluates (program_of system.now) (R.tells reader.old) (R.tells reader.new) (site_reads (program_of system.now) q.target.attribute.0 site.now) result }
+    ensures { EvaluatesSite (program_of system.now) (R.tells reader.old) (R.tells reader.new) site.now result }
 {
     let attr = system.rules().target(site.equation).attribute;
     let mut saved = Saved::new(alloc);
@@ -152,7 +148,7 @@ fn asked<'a, R: Reader>(
 ) -> Result<Turn, Memory>
     requires query { query < length (program_of system.now).queries }
     requires ready { IsReady (program_of system.now) (state system.now (R.tells reader.old) saved.old) }
-    ensures { (q : Asked) → slice_get (program_of system.now).queries query ≡ Some q → Resumes (program_of system.now) (state system.now (R.tells reader.old) saved.old) (state system.now (R.tells reader.new) saved.new) (query_reads (program_of system.now) q) result }
+    ensures { ResumesQuery system.now (R.tells reader.old) saved.old (R.tells reader.new) saved.new query result }
 {
     let context = Context {
         alloc,
@@ -181,7 +177,7 @@ pub fn evaluate_query<R: Reader>(
 ) -> Result<Turn, Memory>
     requires query { query < length (program_of system.now).queries }
     requires sound { IsSound (program_of system.now) (R.tells reader.old) }
-    ensures { (q : Asked) → slice_get (program_of system.now).queries query ≡ Some q → Evaluates (program_of system.now) (R.tells reader.old) (R.tells reader.new) (query_reads (program_of system.now) q) result }
+    ensures { EvaluatesQuery (program_of system.now) (R.tells reader.old) (R.tells reader.new) query result }
 {
     let mut saved = Saved::new(alloc);
     asked(alloc, system, query, reader, &mut saved)
@@ -199,7 +195,7 @@ pub fn resume_body<'a, R: Reader>(
     requires known { expression.0 < length (bodies (program_of system.now).rules) }
     requires sound { IsSound (program_of system.now) (R.tells reader.old) }
     requires saved { AreSaved system.now (R.tells reader.old).has saved.old }
-    ensures evaluates { (e : Expression) → body_at (program_of system.now).rules expression.0 ≡ Some e → Evaluates (program_of system.now) (R.tells reader.old) (R.tells reader.new) (read_at (program_of system.now) (place_kept (text_of (program_of system.now)) node.0 []) e) result }
+    ensures evaluates { EvaluatesBody (program_of system.now) (R.tells reader.old) (R.tells reader.new) expression.0 node.0 result }
     ensures saved { AreSaved system.now (R.tells reader.new).has saved.new }
 {
     let context = Context {
@@ -232,9 +228,9 @@ fn at_site<'a, R: Reader>(
 ) -> Result<Turn, Memory>
     requires ready { IsReady (program_of system.now) (state system.now (R.tells reader.old) saved.old) }
     requires single { collection_of (program_of system.now) (instance_of (program_of system.now) (attribute_at attr node args)) ≡ None }
-    requires found { IsFound (program_of system.now) attr.0 (site_of (program_of system.now) (instance_of (program_of system.now) (attribute_at attr node args))) site }
+    requires found { FindsEquation (program_of system.now) attr node args site }
     requires rows { IfSome site (λ s. IsRow s.outer × IsRow s.inner) }
-    ensures { Resumes (program_of system.now) (state system.now (R.tells reader.old) saved.old) (state system.now (R.tells reader.new) saved.new) ((equations_of (program_of system.now)).equation (instance_of (program_of system.now) (attribute_at attr node args))) result }
+    ensures { ResumesInstance system.now (R.tells reader.old) saved.old (R.tells reader.new) saved.new (attribute_at attr node args) result }
 {
     match site {
         None => Ok(Turn::Done(Value::Node(NodeRef(0)))),
@@ -258,7 +254,7 @@ fn evaluate_attribute<'a, R: Reader>(
     requires ready { IsReady (program_of system.now) (state system.now (R.tells reader.old) saved.old) }
     requires row { IsRow args }
     requires single { collection_of (program_of system.now) (instance_of (program_of system.now) (attribute_at attr node args)) ≡ None }
-    ensures { Resumes (program_of system.now) (state system.now (R.tells reader.old) saved.old) (state system.now (R.tells reader.new) saved.new) ((equations_of (program_of system.now)).equation (instance_of (program_of system.now) (attribute_at attr node args))) result }
+    ensures { ResumesInstance system.now (R.tells reader.old) saved.old (R.tells reader.new) saved.new (attribute_at attr node args) result }
 {
     let site = find_equation(system, attr, node, args);
     at_site(alloc, system, attr, node, args, site, reader, saved)
@@ -273,7 +269,7 @@ fn evaluate_asked<'a, R: Reader>(
     saved: &mut Saved<'a>,
 ) -> Result<Turn, Memory>
     requires { IsReady (program_of system.now) (state system.now (R.tells reader.old) saved.old) }
-    ensures { Resumes (program_of system.now) (state system.now (R.tells reader.old) saved.old) (state system.now (R.tells reader.new) saved.new) ((equations_of (program_of system.now)).equation (Query query)) result }
+    ensures { ResumesInstance system.now (R.tells reader.old) saved.old (R.tells reader.new) saved.new (query_at query) result }
 {
     if query >= system.replies() {
         return Ok(Turn::Done(Value::Node(NodeRef(0))));
@@ -297,7 +293,7 @@ pub fn resume_instance<'a, R: Reader>(
     requires saved { AreSaved system.now (R.tells reader.old).has saved.old }
     requires coded { IsCoded (program_of system.now) i.now }
     requires single { collection_of (program_of system.now) (instance_of (program_of system.now) i.now) ≡ None }
-    ensures evaluates { Evaluates (program_of system.now) (R.tells reader.old) (R.tells reader.new) ((equations_of (program_of system.now)).equation (instance_of (program_of system.now) i.now)) result }
+    ensures evaluates { EvaluatesInstance (program_of system.now) (R.tells reader.old) (R.tells reader.new) i.now result }
     ensures saved { AreSaved system.now (R.tells reader.new).has saved.new }
 {
     match i {
@@ -322,9 +318,9 @@ pub fn resume_at<'a, R: Reader>(
     requires sound { IsSound (program_of system.now) (R.tells reader.old) }
     requires saved { AreSaved system.now (R.tells reader.old).has saved.old }
     requires single { collection_of (program_of system.now) (instance_of (program_of system.now) (attribute_at attr node args)) ≡ None }
-    requires found { IsFound (program_of system.now) attr.0 (site_of (program_of system.now) (instance_of (program_of system.now) (attribute_at attr node args))) site }
+    requires found { FindsEquation (program_of system.now) attr node args site }
     requires rows { IfSome site (λ s. IsRow s.outer × IsRow s.inner) }
-    ensures evaluates { Evaluates (program_of system.now) (R.tells reader.old) (R.tells reader.new) ((equations_of (program_of system.now)).equation (instance_of (program_of system.now) (attribute_at attr node args))) result }
+    ensures evaluates { EvaluatesInstance (program_of system.now) (R.tells reader.old) (R.tells reader.new) (attribute_at attr node args) result }
     ensures saved { AreSaved system.now (R.tells reader.new).has saved.new }
 {
     at_site(alloc, system, attr, node, args, site, reader, saved)
@@ -341,7 +337,7 @@ pub fn evaluate_instance<R: Reader>(
     requires sound { IsSound (program_of system.now) (R.tells reader.old) }
     requires coded { IsCoded (program_of system.now) i.now }
     requires single { collection_of (program_of system.now) (instance_of (program_of system.now) i.now) ≡ None }
-    ensures { Evaluates (program_of system.now) (R.tells reader.old) (R.tells reader.new) ((equations_of (program_of system.now)).equation (instance_of (program_of system.now) i.now)) result }
+    ensures { EvaluatesInstance (program_of system.now) (R.tells reader.old) (R.tells reader.new) i.now result }
 {
     let mut saved = Saved::new(alloc);
     resume_instance(alloc, system, i, reader, &mut saved)

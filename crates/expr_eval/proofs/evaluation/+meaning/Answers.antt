@@ -2,7 +2,7 @@
 use Rattle.std.proofs.Common.{◌<◌, refl, arith, subst, sym}
 use Rattle.attr_rules.specs.Expression.{expression_of}
 use Rattle.equation_law.specs.Systems.{program_of}
-use Rattle.expr_eval.proofs.Forms.{advances_self, advances_then, and_ends, and_goes, and_stops, boxed, call_goes, call_stops, call_stops_at, came_as, if_otherwise, if_stops, if_then, leaf_reads, none_said, one_makes, or_ends, or_goes, or_stops, out_of_memory, read_as, said, said_is, token_goes, token_stops, two_make, two_stop}
+use Rattle.expr_eval.proofs.Forms.{advances_self, advances_then, and_ends, and_goes, and_stops, boxed, call_boxed, call_goes, call_stops, call_stops_at, came_as, choice_boxed, if_otherwise, if_stops, if_then, leaf_reads, none_said, one_makes, or_ends, or_goes, or_stops, out_of_memory, read_as, said, said_is, token_goes, token_stops, two_make, two_stop}
 use Rattle.std.specs.Prelude.{Vec}
 use Rattle.std.specs.declared.alloc.Global.{Global}
 use Rattle.equation_law.specs.declared.coding.Single.{Single}
@@ -133,32 +133,47 @@ meaning-returns-in-Ok-came g t c = two_make c.args.expression.now c.in-Two.ensur
 pub meaning-returns-in-Err-came : goal.meaning-returns-in-Err-came
 meaning-returns-in-Err-came g t c = two_stop c.args.expression.now c.in-Two.ensures c.in-Err-came.is c.meaning-in-Two.ensures
 
-pub further-returns-in-Ok-given : goal.further-returns-in-Ok-given
-further-returns-in-Ok-given g t c =
-    said c.in-Call.is (call_goes (came_as c.in-Ok.is (boxed c.deref.ensures c.meaning.ensures)) c.node-node.ensures (for_parameters c.parameters-wanted.ensures c.in-Ok-given.ensures) c.call.ensures)
+pub put_call-returns-in-Ok-given : goal.put_call-returns-in-Ok-given
+put_call-returns-in-Ok-given g t c = λ here. call_goes (came_as c.in-Ok.is c.meaning.ensures) c.node-node.ensures (for_parameters c.parameters-wanted.ensures c.in-Ok-given.ensures) c.call.ensures
 
-pub further-returns-in-Err-given : goal.further-returns-in-Err-given
-further-returns-in-Err-given g t c =
-    said c.in-Call.is (call_stops_at (came_as c.in-Ok.is (boxed c.deref.ensures c.meaning.ensures)) c.in-Err-given.ensures)
+pub put_call-returns-in-Err-given : goal.put_call-returns-in-Err-given
+put_call-returns-in-Err-given g t c = λ here. call_stops_at (came_as c.in-Ok.is c.meaning.ensures) c.in-Err-given.ensures
 
-pub further-returns-in-Err : goal.further-returns-in-Err
-further-returns-in-Err g t c =
-    came_as (sym c.in-Err.is) (said c.in-Call.is (call_stops (came_as c.in-Err.is (boxed c.deref.ensures c.meaning.ensures))))
+pub put_call-returns-in-Err : goal.put_call-returns-in-Err
+put_call-returns-in-Err g t c = λ here. came_as (sym c.in-Err.is) (call_stops (came_as c.in-Err.is c.meaning.ensures))
+
+pub put_choice-returns-in-Some-true : goal.put_choice-returns-in-Some-true
+put_choice-returns-in-Some-true g t c = λ here.
+    let condition = said_is _ c.in-Some-true.ensures in
+    if_then (came_as condition.1 c.meaning.ensures) condition.2 c.in-Some-true.field-0-test c.meaning-in-Some-true.ensures
+
+pub put_choice-returns-in-Some-false : goal.put_choice-returns-in-Some-false
+put_choice-returns-in-Some-false g t c = λ here.
+    let condition = said_is _ c.in-Some-false.ensures in
+    if_otherwise (came_as condition.1 c.meaning.ensures) condition.2 c.in-Some-false.field-0-test c.meaning-in-Some-false.ensures
+
+pub put_choice-returns-in-None : goal.put_choice-returns-in-None
+put_choice-returns-in-None g t c = λ here.
+    let condition = none_said _ c.in-None.ensures in
+    came_as (sym condition.1) (if_stops (came_as condition.1 c.meaning.ensures))
+
+pub further-returns-in-Call : goal.further-returns-in-Call
+further-returns-in-Call g t c = said c.in-Call.is (call_boxed c.deref.ensures (c.put_call.ensures _))
 
 pub further-returns-in-Some-true : goal.further-returns-in-Some-true
 further-returns-in-Some-true g t c =
     let left = said_is _ c.in-Some-true.ensures in
-    said c.in-And.is (and_goes (came_as left.1 (boxed c.deref-in-And.ensures c.meaning-in-And.ensures)) left.2 c.in-Some-true.field-0-test (boxed c.deref-in-Some-true.ensures c.meaning-in-Some-true.ensures) c.round.ensures)
+    said c.in-And.is (and_goes (came_as left.1 (boxed c.deref-in-And.ensures c.meaning.ensures)) left.2 c.in-Some-true.field-0-test (boxed c.deref-in-Some-true.ensures c.meaning-in-Some-true.ensures) c.round.ensures)
 
 pub further-returns-in-Some-false : goal.further-returns-in-Some-false
 further-returns-in-Some-false g t c =
     let left = said_is _ c.in-Some-false.ensures in
-    said c.in-And.is (and_ends (came_as left.1 (boxed c.deref-in-And.ensures c.meaning-in-And.ensures)) left.2 c.in-Some-false.field-0-test)
+    said c.in-And.is (and_ends (came_as left.1 (boxed c.deref-in-And.ensures c.meaning.ensures)) left.2 c.in-Some-false.field-0-test)
 
 pub further-returns-in-None : goal.further-returns-in-None
 further-returns-in-None g t c =
     let left = none_said _ c.in-None.ensures in
-    came_as (sym left.1) (said c.in-And.is (and_stops (came_as left.1 (boxed c.deref-in-And.ensures c.meaning-in-And.ensures))))
+    came_as (sym left.1) (said c.in-And.is (and_stops (came_as left.1 (boxed c.deref-in-And.ensures c.meaning.ensures))))
 
 pub further-returns-in-Some-true-said : goal.further-returns-in-Some-true-said
 further-returns-in-Some-true-said g t c =
@@ -175,17 +190,5 @@ further-returns-in-None-said g t c =
     let left = none_said _ c.in-None-said.ensures in
     came_as (sym left.1) (said c.in-Or.is (or_stops (came_as left.1 (boxed c.deref-in-Or.ensures c.meaning-in-Or.ensures))))
 
-pub further-returns-in-Some-true-said-2 : goal.further-returns-in-Some-true-said-2
-further-returns-in-Some-true-said-2 g t c =
-    let condition = said_is _ c.in-Some-true-said-2.ensures in
-    said c.in-If.is (if_then (came_as condition.1 (boxed c.deref-in-If.ensures c.meaning-in-If.ensures)) condition.2 c.in-Some-true-said-2.field-0-test (boxed c.deref-in-Some-true-said-2.ensures c.meaning-in-Some-true-said-2.ensures))
-
-pub further-returns-in-Some-false-said-2 : goal.further-returns-in-Some-false-said-2
-further-returns-in-Some-false-said-2 g t c =
-    let condition = said_is _ c.in-Some-false-said-2.ensures in
-    said c.in-If.is (if_otherwise (came_as condition.1 (boxed c.deref-in-If.ensures c.meaning-in-If.ensures)) condition.2 c.in-Some-false-said-2.field-0-test (boxed c.deref-in-Some-false-said-2.ensures c.meaning-in-Some-false-said-2.ensures))
-
-pub further-returns-in-None-said-2 : goal.further-returns-in-None-said-2
-further-returns-in-None-said-2 g t c =
-    let condition = none_said _ c.in-None-said-2.ensures in
-    came_as (sym condition.1) (said c.in-If.is (if_stops (came_as condition.1 (boxed c.deref-in-If.ensures c.meaning-in-If.ensures))))
+pub further-returns-in-If : goal.further-returns-in-If
+further-returns-in-If g t c = said c.in-If.is (choice_boxed c.deref-in-If.ensures c.deref-in-If-2.ensures c.deref-in-If-3.ensures (c.put_choice.ensures _))

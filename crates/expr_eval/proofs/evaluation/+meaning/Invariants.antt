@@ -18,6 +18,12 @@ decreases-given g a = 9 * arguments_weight a.arguments.now + 6
 abbrev pub decreases-further : goal.decreases-further
 decreases-further g a = 9 * weight a.form.now + 5
 
+abbrev pub decreases-put_call : goal.decreases-put_call
+decreases-put_call g a = 9 * (weight a.receiver.now + arguments_weight a.arguments.now) + 7
+
+abbrev pub decreases-put_choice : goal.decreases-put_choice
+decreases-put_choice g a = 9 * (weight a.condition.now + weight a.then.now + weight a.otherwise.now) + 7
+
 abbrev pub decreases-over_form : goal.decreases-over_form
 decreases-over_form g a = 9 * max (weight a.range.now) (weight a.body.now) + 9
 
