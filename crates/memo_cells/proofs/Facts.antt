@@ -32,6 +32,7 @@ use Rattle.memo_cells.proofs.Places.{has_keys, has_values, keys_has, place_count
 module _ (f : Frame) (ks vs : List ℕ) (few : f.cells ≤ 4194304) (lk : length ks ≡ f.cells) (lv : length vs ≡ f.cells) (o : AreWords f ks vs) where
   pub pass_of : IsPassOf f (knows_all f ks vs)
   pass_of = record {
+    table = refl;
     frame = refl;
     few = few;
     within = λ p k h. let t = has_keys ks 0 p k h in omega (arith, t.1.1, t.1.2, lk);
@@ -73,6 +74,7 @@ first_approximations p f = record {
 
 pub first_own : (f : Frame) → f.cells ≤ 4194304 → IsPassOf f (first_view f)
 first_own f few = record {
+  table = refl;
   frame = refl;
   few = few;
   within = λ p k h. absurd h;

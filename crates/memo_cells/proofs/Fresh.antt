@@ -9,7 +9,7 @@ use Rattle.equation_law.specs.Systems.{program_of}
 use Rattle.equation_law.proofs.Orders.{at_most_itself}
 use Rattle.equation_law.proofs.Solution.{are_rising}
 use Rattle.memo_cells.specs.Standing.{AreWords}
-use Rattle.memo_cells.specs.Views.{bits_from, first_view, keys_from, knows_all, places_from, values_from, word_at}
+use Rattle.memo_cells.specs.Views.{bits_from, first_view, having_seen, keys_from, knows_all, places_from, values_from, word_at}
 use Rattle.memo_cells.specs.Words.{AreOrdered}
 use Rattle.memo_cells.proofs.Bits.{more_bits, no_bits, no_bits_below}
 use Rattle.memo_cells.proofs.Places.{no_key, no_value, open_value, zero_key, zero_place}
@@ -40,7 +40,7 @@ fresh_bits zero p = (no_bits p 0 [] []).0
 fresh_bits (suc n) p = more_bits p 0 0 (replicate n 0) (replicate n 0) ∙ ap (λ l. l ++ bits_from (suc p) (replicate n 0) (replicate n 0)) (no_bits_below p 0 1) ∙ fresh_bits n (suc p)
 
 pub fresh_view : (f : Frame) (n : ℕ) → knows_all f (replicate n 0) (replicate n 0) ≡ first_view f
-fresh_view f n = λ i. record { frame = Some f; share = 2 ^ 62; keys = fresh_keys n 0 i; values = fresh_values n 0 i; bits = fresh_bits n 0 i; claims = fresh_places n 0 i }
+fresh_view f n = λ i. having_seen f (fresh_keys n 0 i) (fresh_values n 0 i) (fresh_bits n 0 i) (fresh_places n 0 i)
 
 pub fresh_ordered : (formed : ℕ → Type 0) (settled : ℕ → ℕ → Type 0) (raised : ℕ → Type 0) (element : ℕ → ℕ → Type 0) (n m : ℕ) → AreOrdered formed settled raised element n (word_at (replicate m 0)) (word_at (replicate m 0))
 fresh_ordered formed settled raised element n m = record {

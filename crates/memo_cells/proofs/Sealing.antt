@@ -219,6 +219,7 @@ module _ (f : Frame) (ks vs : List ℕ) (lk : length ks ≡ f.cells) (lv : lengt
         let final : IsFinal p w o.values cell.0 (get_or vs s 0) = record {
           settled = record {
             of = i;
+            instance = may.instances i m;
             stands = stands_later v w sealed_more p cell.0 i cell.2;
             code = code_of i m s cell.0 cell.2 cell.1.1 small;
             shown = λ _. at_least_later p v w sealed_more i (kind_in p i) (may.values i) (may.shown i circular).1;

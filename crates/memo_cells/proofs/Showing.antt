@@ -75,7 +75,7 @@ module _ (p : Program) (v w : View) (more : IsAtLeast v w) where
   at_least_later i (kinds.Nodes d) x h = λ n e. let c = h n e in (c.0, c.1, shown_later i c.0 c.2)
 
   abbrev pub settled_later : (k c : ℕ) → IsSettled p v k c → IsSettled p w k c
-  settled_later k c h = record { of = h.of; stands = stands_later v w more p k h.of h.stands; code = h.code; shown = λ s. at_least_later h.of (kind_in p h.of) h.code.value (h.shown s); closed = λ j d. knows_later v w more p j (h.closed j d) }
+  settled_later k c h = record { of = h.of; instance = h.instance; stands = stands_later v w more p k h.of h.stands; code = h.code; shown = λ s. at_least_later h.of (kind_in p h.of) h.code.value (h.shown s); closed = λ j d. knows_later v w more p j (h.closed j d) }
 
   pub values_shown_later : (B : Instance → Value) → AreShown p v B → AreShown p w B
   values_shown_later B h j c = ((h j c).0, at_least_later j (kind_in p j) (B j) (h j c).1)

@@ -15,6 +15,7 @@ use Rattle.memo_cells.specs.Naming.{IsCellOf, IsWordOf}
 use Rattle.memo_cells.specs.Showing.{ShowsCode}
 use Rattle.memo_cells.specs.Standing.{MayShow}
 use Rattle.memo_cells.specs.Views.{Has, IsFull, times}
+use Rattle.memo_cells.specs.Working.{Held, program_at}
 
 -- the codes of the elements of a set; another value has none
 abbrev pub set_codes : CodedValue → List ℕ
@@ -52,6 +53,22 @@ ClaimsWords p v w i codes = (q : ℕ) → (times q w.claims ≡ times q v.claims
 -- other keys have all the cells than such a word
 abbrev pub LacksWord : Program → Frame → View → Instance → List ℕ → Type 0
 LacksWord p f v i codes = (k : ℕ) × IsWordWith p v i codes k × IsFull f v k
+
+-- an instance of this cell may show all of them, by what is held
+abbrev pub MayShowAllAt : Held → ℕ → List ℕ → Type 0
+MayShowAllAt d place codes = (i : Instance) × MayShowAll (program_at d) d.0 d.1 i place codes
+
+-- where an instance of this cell might show all of them, by what was held before, its words show them now
+abbrev pub ShowsAllAt : Held → Held → ℕ → List ℕ → Type 0
+ShowsAllAt d e place codes = (i : Instance) → MayShowAll (program_at d) d.0 d.1 i place codes → ShowsAll (program_at e) e.1 i codes
+
+-- other keys have all the cells now than a word of such an instance in which one of them lies
+abbrev pub LacksWordAt : Held → Held → ℕ → List ℕ → Type 0
+LacksWordAt d e place codes = (i : Instance) → MayShowAll (program_at d) d.0 d.1 i place codes → LacksWord (program_at e) e.0 e.1 i codes
+
+-- what was claimed since are cells of words of such an instance in which they lie
+abbrev pub ClaimsWordsAt : Held → Held → ℕ → List ℕ → Type 0
+ClaimsWordsAt d e place codes = (i : Instance) → MayShowAll (program_at d) d.0 d.1 i place codes → ClaimsWords (program_at e) d.1 e.1 i codes
 
 -- the first of these codes, so many, all lie in one word, and have these bits in it
 pub record HasBits (codes : List ℕ) (count bits : ℕ) : Type 0 where

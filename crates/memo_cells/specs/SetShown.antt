@@ -1,17 +1,21 @@
 -- What the words of a cell show, as a value.
-use Rattle.std.specs.Prelude.{◌≡◌, ◌↔◌, ◌⊎◌, ◌<◌, ◌≤◌, ◌/◌, ◌%◌, ℕ, true, List}
+use Rattle.std.specs.Prelude.{◌≡◌, ◌↔◌, ◌⊎◌, ◌<◌, ◌≤◌, ◌/◌, ◌%◌, ℕ, false, true, List}
 use Rattle.std.specs.Int.{bit_at}
+use Rattle.attr_rules.specs.declared.kinds.Kind.{Kind}
+use Rattle.attr_rules.specs.Rules.{is_single}
 use Rattle.code_sets.specs.Members.{has_code}
 use Rattle.equation_law.specs.declared.coding.Value.{Value as CodedValue}
 use Rattle.equation_law.specs.Codes.{AreElements, value_of}
-use Rattle.equation_law.specs.Equations.{HasValue, kind_in}
+use Rattle.equation_law.specs.Equations.{HasValue, is_ordered, kind_in}
 use Rattle.equation_law.specs.Names.{Instance}
 use Rattle.equation_law.specs.Orders.{FitsKind}
 use Rattle.equation_law.specs.Program.{Program, text_of}
 use Rattle.equation_law.specs.Values.{Value, as_kind}
 use Rattle.memo_cells.specs.declared.view.View.{View}
+use Rattle.memo_cells.specs.Naming.{IsCellOf}
 use Rattle.memo_cells.specs.Showing.{ShowsAtLeast, ShowsAtMost, ShowsCode}
 use Rattle.memo_cells.specs.Standing.{Knows}
+use Rattle.memo_cells.specs.Working.{Held, program_at}
 
 -- the code c lies in this word, from one code on, below another, and has its bit there
 pub record IsInWord (word bits from to c : ℕ) : Type 0 where
@@ -45,3 +49,11 @@ pub record IsShownValue (p : Program) (before now : View) (i : Instance) (x : Co
   pub shown : ShowsAtLeast p now i (kind_in p i) (value_of (text_of p) x)
   pub all : ShowsAtMost p before i (kind_in p i) (value_of (text_of p) x)
   pub settled : Knows p before i → (w : Value) × HasValue p i w × (value_of (text_of p) x ≡ as_kind (kind_in p i) w)
+
+-- they are the codes shown of a set that has its cell at this place, with what is held before and after
+abbrev pub AreCodesShownAt : Held → Held → ℕ → ℕ → ℕ → List ℕ → Type 0
+AreCodesShownAt d e place from to cs = (i : Instance) → IsCellOf (program_at d) d.0 d.1 i place → is_single (kind_in (program_at d) i) ≡ false → AreCodesShown (program_at d) d.1 e.1 i from to cs
+
+-- it is the value shown of what has its cell at this place and is a set or a truth value, if it is of this type
+abbrev pub IsShownValueAt : Program → Held → Held → ℕ → Kind → CodedValue → Type 0
+IsShownValueAt p d e place kind x = (i : Instance) → IsCellOf p d.0 d.1 i place → kind_in p i ≡ kind → is_ordered kind ≡ true → IsShownValue p d.1 e.1 i x

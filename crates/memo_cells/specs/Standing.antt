@@ -6,6 +6,7 @@ use Rattle.solutions.specs.Leading.{Holds, IsLower, Mixed, Read}
 use Rattle.solutions.specs.Rounds.{is_in}
 use Rattle.attr_rules.specs.declared.kinds.Kind.TheVariants as kinds
 use Rattle.attr_rules.specs.Rules.{is_single}
+use Rattle.attr_rules.specs.Types.{truth_kind}
 use Rattle.equation_law.specs.declared.system.System.{System}
 use Rattle.equation_law.specs.Checked.{IsInstance}
 use Rattle.equation_law.specs.Codes.{IsSmall, value_at}
@@ -39,9 +40,10 @@ pub record IsCodeOf (p : Program) (i : Instance) (c : ℕ) : Type 0 where
   pub small : IsSmall (kind_in p i) c
   pub fits : c < 2 ^ 32
 
--- c is the code of the value of what k stands for, the words of a set show it, and all that this demands is seen settled
+-- k stands for an instance of the program, c is the code of its value, the words of a set show it, and all that this demands is seen settled
 pub record IsSettled (p : Program) (v : View) (k c : ℕ) : Type 0 where
   pub of : Instance
+  pub instance : IsInstance p of
   pub stands : StandsFor p v k of
   pub code : IsCodeOf p of c
   pub shown : is_single (kind_in p of) ≡ false → ShowsAtLeast p v of (kind_in p of) code.value
@@ -65,6 +67,7 @@ pub record AreApproximations (p : Program) (v : View) : Type 0 where
 -- A pass of these cells: what it knows stands in one table, where a place has one key and a key one place, and what is settled codes the
 -- value of what its key stands for. What the words show are approximations. One that has the whole share claimed all of them.
 pub record IsPassOf (f : Frame) (v : View) : Type 0 where
+  pub table : v.table ≡ f.table
   pub frame : v.frame ≡ Some f
   pub few : f.cells ≤ 4194304
   pub within : (p k : ℕ) → Has v.keys (p, k) → p < f.cells
@@ -147,13 +150,33 @@ pub record HasWord (p : Program) (f : Frame) (v : View) (place w bits x : ℕ) :
   pub seen : (i : Instance) → IsCellOf p f v i place → IsWordSeen p v i (kind_in p i) w x
   pub added : (b : ℕ) → bit_at bits b ≡ 1 → bit_at x b ≡ 1
 
+-- x is the w-th word of what is shown of what has its cell at this place
+abbrev pub ShowsWord : Frame → View → ℕ → ℕ → ℕ → Type 0
+ShowsWord f v place w x = (i : Instance) → IsCellOf (program_of f.system.value) f v i place → IsWordSeen (program_of f.system.value) v i (kind_in (program_of f.system.value) i) w x
+
+-- the same, if that is a set
+abbrev pub ShowsWordOfSet : Frame → View → ℕ → ℕ → ℕ → Type 0
+ShowsWordOfSet f v place w x = (i : Instance) → IsCellOf (program_of f.system.value) f v i place → is_single (kind_in (program_of f.system.value) i) ≡ false → IsWordSeen (program_of f.system.value) v i (kind_in (program_of f.system.value) i) w x
+
+-- what has its cell at this place is a set
+abbrev pub IsOfSet : Frame → View → ℕ → Type 0
+IsOfSet f v place = (i : Instance) → IsCellOf (program_of f.system.value) f v i place → is_single (kind_in (program_of f.system.value) i) ≡ false
+
+-- what a call claimed is for a set: where a truth value has its cell at this place, it claimed nothing
+abbrev pub ClaimsForSet : Frame → View → View → ℕ → Type 0
+ClaimsForSet f v w place = (i : Instance) → IsCellOf (program_of f.system.value) f w i place → truth_kind (kind_in (program_of f.system.value) i) ≡ true → w.claims ≡ v.claims
+
 -- x is the w-th word of the value of i, if that is a set
 pub record IsWordOfValue (p : Program) (i : Instance) (w x : ℕ) : Type 0 where
   pub value : Value
   pub has : HasValue p i value
   pub bits : is_single (kind_in p i) ≡ false → (b : ℕ) → b < 64 → IsElementCode p (kind_in p i) (64 * w + b) → (bit_at x b ≡ 1) ↔ (has_code (text_of p) (kind_in p i) value (64 * w + b) ≡ true)
 
--- What stands in these slots are circular instances that are closed under values that the words show: what each of their equations reads
+-- where what has its cell at this place was seen settled, x is the w-th word of its value
+abbrev pub HasKnownWord : Frame → View → View → ℕ → ℕ → ℕ → Type 0
+HasKnownWord f before now place w x = (i : Instance) → IsCellOf (program_of f.system.value) f now i place → Knows (program_of f.system.value) before i → IsWordOfValue (program_of f.system.value) i w x
+
+-- What stands in these slots are circular instances of the program that are closed under values that the words show: what each of their equations reads
 -- is the value of one of them, or seen settled, and it comes to at most the value of its own instance.
 pub record MaySeal (p : Program) (f : Frame) (v : View) (slots : List ℕ) : Type 0 where
   pub set : List Instance
@@ -161,6 +184,7 @@ pub record MaySeal (p : Program) (f : Frame) (v : View) (slots : List ℕ) : Typ
   pub shown : AreShown p v values
   pub slot_of : (i : Instance) → is_in (equations_of p).same set i ≡ true → (s : ℕ) × Has slots s × IsCellOf p f v i s
   pub stands : (s : ℕ) → Has slots s → (i : Instance) × (is_in (equations_of p).same set i ≡ true) × IsCellOf p f v i s
+  pub instances : (i : Instance) → is_in (equations_of p).same set i ≡ true → IsInstance p i
   pub holds : (i : Instance) → is_in (equations_of p).same set i ≡ true → Holds (equations_of p) (order_in p) set values i
   pub known : (i j : Instance) → is_in (equations_of p).same set i ≡ true → Meets (Read (equations_of p) set values) ((equations_of p).equation i) j → (is_in (equations_of p).same set j ≡ true) ⊎ Knows p v j
 

@@ -1,7 +1,9 @@
 -- What a pass knows.
-use Rattle.std.specs.Prelude.{◌≡◌, ◌≢◌, ℕ, zero, suc, ◌+◌, ◌-◌, ◌^◌, ◌<◌, ◌≤◌, ◌⊎◌, ◌==◌, ◌&&◌, not, nat_le, Bool, false, List, [], ◌∷◌, ◌++◌, Some, set, slice_index, if◌then◌else◌}
+use Rattle.std.specs.Prelude.{◌≡◌, ◌≢◌, ℕ, zero, suc, ◌+◌, ◌-◌, ◌^◌, ◌<◌, ◌≤◌, ◌⊎◌, ◌==◌, ◌&&◌, not, nat_le, Bool, false, List, [], ◌∷◌, ◌++◌, Some, None, set, slice_index, if◌then◌else◌}
 use Rattle.std.specs.Int.{bit_at}
 use Rattle.std.specs.List.{list_any}
+use Rattle.std.specs.declared.snapshot.Snapshot.{Snapshot}
+use Rattle.equation_law.specs.declared.system.System.{System}
 use Rattle.memo_cells.specs.declared.view.Frame.{Frame}
 use Rattle.memo_cells.specs.declared.view.View.{View}
 use Rattle.memo_cells.specs.Keys.{is_attribute, is_set_word, start}
@@ -57,9 +59,35 @@ abbrev pub marked : List ℕ → List ℕ → List ℕ
 marked vs [] = vs
 marked vs (p ∷ ps) = marked (set vs p (with_mark (slice_index vs p))) ps
 
+-- so many cells of a system, in the only table that there is
+abbrev pub framed : Snapshot System → ℕ → Frame
+framed system cells = record { table = 0; system = system; cells = cells }
+
+-- a pass with the whole share that saw these keys, values and bits and claimed these places, and did nothing else: no tree and no query was drawn
+abbrev pub having_seen : Frame → List (ℕ × ℕ) → List (ℕ × ℕ × ℕ) → List (ℕ × ℕ × ℕ) → List ℕ → View
+having_seen f keys values bits claims = record {
+  table = f.table;
+  frame = Some f;
+  share = 2 ^ 62;
+  keys = keys;
+  values = values;
+  bits = bits;
+  claims = claims;
+  found = [];
+  trees = 0;
+  queries = 0;
+  held = None;
+  written = [];
+  rows = [];
+  spare = None;
+  given_up = [];
+  to_seal = [];
+  draws = [];
+}
+
 -- a pass that has the words itself knows all that stands there, and claimed it
 abbrev pub knows_all : Frame → List ℕ → List ℕ → View
-knows_all f ks vs = record { frame = Some f; share = 2 ^ 62; keys = keys_from 0 ks; values = values_from 0 ks vs; bits = bits_from 0 ks vs; claims = places_from 0 ks }
+knows_all f ks vs = having_seen f (keys_from 0 ks) (values_from 0 ks vs) (bits_from 0 ks vs) (places_from 0 ks)
 
 -- nothing is unlearnt
 pub record IsAtLeast (v w : View) : Type 0 where
@@ -115,7 +143,7 @@ word_at ws p = slice_index ws p
 
 -- the first pass knows nothing and has the whole share
 abbrev pub first_view : Frame → View
-first_view f = record { frame = Some f; share = 2 ^ 62; keys = []; values = []; bits = []; claims = [] }
+first_view f = having_seen f [] [] [] []
 
 -- the cell at this place is of an attribute, and seen settled
 abbrev pub is_settled_at : View → ℕ → Bool

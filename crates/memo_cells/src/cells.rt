@@ -21,12 +21,13 @@ impl Model for Cells {
     ghost use Rattle.equation_law.specs.Systems.{program_of};
     ghost use Rattle.memo_cells.specs.declared.view.Frame.{Frame};
     ghost use Rattle.memo_cells.specs.Truths.{AreTruths};
+    ghost use Rattle.memo_cells.specs.Views.{framed};
 
     ghost Value = { Frame };
 
     ghost coded = { Prim.hlevel (codes, expressions.the_row.coded) };
 
-    ghost view = { λ c. record { system = c.system; cells = c.size } };
+    ghost view = { λ c. framed c.system c.size };
 
     ghost invariant = { λ c. (0 < c.size) × AreTruths (program_of c.system.value) c.attributes.items c.queries.items };
 }
@@ -46,13 +47,13 @@ impl Model for Pass {
     ghost use Rattle.attr_rules.specs.contracts.expression.TExpr as expressions;
     ghost use Rattle.memo_cells.specs.declared.view.View.{View};
     ghost use Rattle.memo_cells.specs.Standing.{AreWords};
-    ghost use Rattle.memo_cells.specs.Views.{knows_all};
+    ghost use Rattle.memo_cells.specs.Views.{framed, knows_all};
 
     ghost Value = { View };
 
     ghost coded = { Prim.hlevel (codes, expressions.the_row.coded) };
 
-    ghost view = { λ p. knows_all (record { system = p.system; cells = p.size }) p.keys.items p.values.items };
+    ghost view = { λ p. knows_all (framed p.system p.size) p.keys.items p.values.items };
 
-    ghost invariant = { λ p. (0 < p.size) × (length p.keys.items ≡ p.size) × (length p.values.items ≡ p.size) × AreWords (record { system = p.system; cells = p.size }) p.keys.items p.values.items };
+    ghost invariant = { λ p. (0 < p.size) × (length p.keys.items ≡ p.size) × (length p.values.items ≡ p.size) × AreWords (framed p.system p.size) p.keys.items p.values.items };
 }

@@ -1,11 +1,9 @@
 // The cells of instances: one key for the attribute at the node, and one for each argument.
-ghost use Rattle.std.specs.Prelude.{◌≡◌, ◌<◌, ℕ, IfNone, IfOk, IfSome, OnErr};
+ghost use Rattle.std.specs.Prelude.{◌<◌, ℕ, IfOk, IfSome, OnErr};
 ghost use Rattle.equation_law.specs.declared.coding.Instance.TheVariants.{Attr as attribute_at};
-ghost use Rattle.equation_law.specs.Checked.{IsInstance};
-ghost use Rattle.equation_law.specs.Codes.{IsCoded, instance_of};
-ghost use Rattle.memo_cells.specs.Naming.{ClaimsKeysTo, IsCellOf, LacksCell};
+ghost use Rattle.equation_law.specs.Codes.{IsCoded};
 ghost use Rattle.memo_cells.specs.Views.{Has, IsPlain};
-ghost use Rattle.memo_cells.specs.Working.{GoesOn, IsOwn, ReadsOn, program_at};
+ghost use Rattle.memo_cells.specs.Working.{ClaimsKeysAt, FindsCell, GoesOn, IsCellAt, IsInstanceAt, IsOwn, LacksCellAt, MissesCell, ReadsOn, program_at};
 
 use crate::calls::CellsFull;
 use crate::keys::{Key, Slot};
@@ -21,12 +19,12 @@ fn claim_attribute<W: Work>(
     args: Args,
 ) -> Result<Slot, CellsFull>
     requires own { IsOwn (W.held work.old) }
-    requires instance { IsInstance (program_at (W.held work.old)) (instance_of (program_at (W.held work.old)) (attribute_at attr node args)) }
+    requires instance { IsInstanceAt (W.held work.old) (attribute_at attr node args) }
     requires coded { IsCoded (program_at (W.held work.old)) (attribute_at attr node args) }
     ensures on { GoesOn (W.held work.old) (W.held work.new) }
-    ensures slot { IfOk result (λ s. IsCellOf (program_at (W.held work.old)) (W.held work.old).0 (W.held work.new).1 (instance_of (program_at (W.held work.old)) (attribute_at attr node args)) s.0) }
-    ensures full { OnErr result (LacksCell (program_at (W.held work.old)) (W.held work.old).0 (W.held work.new).1 (instance_of (program_at (W.held work.old)) (attribute_at attr node args))) }
-    ensures claims { ClaimsKeysTo (program_at (W.held work.old)) (W.held work.old).1 (W.held work.new).1 (instance_of (program_at (W.held work.old)) (attribute_at attr node args)) }
+    ensures slot { IfOk result (λ s. IsCellAt (W.held work.old) (W.held work.new) (attribute_at attr node args) s.0) }
+    ensures full { OnErr result (LacksCellAt (W.held work.old) (W.held work.new) (attribute_at attr node args)) }
+    ensures claims { ClaimsKeysAt (W.held work.old) (W.held work.new) (attribute_at attr node args) }
 {
     let mut slot = work.claim(Key::Inst { attr, node })?;
     let mut place = 0;
@@ -41,12 +39,12 @@ fn claim_attribute<W: Work>(
 /// argument. It refuses only where other keys have all the cells than one of these.
 pub fn claim_instance<W: Work>(work: &mut W, i: Instance) -> Result<Slot, CellsFull>
     requires own { IsOwn (W.held work.old) }
-    requires instance { IsInstance (program_at (W.held work.old)) (instance_of (program_at (W.held work.old)) i) }
+    requires instance { IsInstanceAt (W.held work.old) i }
     requires coded { IsCoded (program_at (W.held work.old)) i }
     ensures on { GoesOn (W.held work.old) (W.held work.new) }
-    ensures slot { IfOk result (λ s. IsCellOf (program_at (W.held work.old)) (W.held work.old).0 (W.held work.new).1 (instance_of (program_at (W.held work.old)) i) s.0) }
-    ensures full { OnErr result (LacksCell (program_at (W.held work.old)) (W.held work.old).0 (W.held work.new).1 (instance_of (program_at (W.held work.old)) i)) }
-    ensures claims { ClaimsKeysTo (program_at (W.held work.old)) (W.held work.old).1 (W.held work.new).1 (instance_of (program_at (W.held work.old)) i) }
+    ensures slot { IfOk result (λ s. IsCellAt (W.held work.old) (W.held work.new) i s.0) }
+    ensures full { OnErr result (LacksCellAt (W.held work.old) (W.held work.new) i) }
+    ensures claims { ClaimsKeysAt (W.held work.old) (W.held work.new) i }
 {
     match i {
         Instance::Attr { attr, node, args } => claim_attribute(work, attr, node, args),
@@ -57,8 +55,8 @@ pub fn claim_instance<W: Work>(work: &mut W, i: Instance) -> Result<Slot, CellsF
 /// The slot of an attribute at a node with arguments, if it is claimed.
 fn seek_attribute<W: Words>(work: &mut W, attr: AttrId, node: NodeRef, args: Args) -> Option<Slot>
     ensures on { ReadsOn (W.held work.old) (W.held work.new) }
-    ensures slot { IsCoded (program_at (W.held work.old)) (attribute_at attr node args) → IfSome result (λ s. IsCellOf (program_at (W.held work.old)) (W.held work.old).0 (W.held work.new).1 (instance_of (program_at (W.held work.old)) (attribute_at attr node args)) s.0) }
-    ensures none { IsCoded (program_at (W.held work.old)) (attribute_at attr node args) → IfNone result ((s : ℕ) → ¬ IsCellOf (program_at (W.held work.old)) (W.held work.old).0 (W.held work.new).1 (instance_of (program_at (W.held work.old)) (attribute_at attr node args)) s) }
+    ensures slot { FindsCell (W.held work.old) (W.held work.new) (attribute_at attr node args) result }
+    ensures none { MissesCell (W.held work.old) (W.held work.new) (attribute_at attr node args) result }
     ensures place { IfSome result (λ s. s.0 < (W.held work.old).0.cells) }
     ensures plain { IfSome result (λ s. IsPlain (W.held work.new).1 s.0) }
     ensures key { IfSome result (λ s. (k : ℕ) × Has (W.held work.new).1.keys (s.0, k)) }
@@ -75,8 +73,8 @@ fn seek_attribute<W: Words>(work: &mut W, attr: AttrId, node: NodeRef, args: Arg
 /// The one slot of a well coded instance, or None exactly where it isn't claimed. It claims nothing.
 pub fn seek_instance<W: Words>(work: &mut W, i: Instance) -> Option<Slot>
     ensures on { ReadsOn (W.held work.old) (W.held work.new) }
-    ensures slot { IsCoded (program_at (W.held work.old)) i → IfSome result (λ s. IsCellOf (program_at (W.held work.old)) (W.held work.old).0 (W.held work.new).1 (instance_of (program_at (W.held work.old)) i) s.0) }
-    ensures none { IsCoded (program_at (W.held work.old)) i → IfNone result ((s : ℕ) → ¬ IsCellOf (program_at (W.held work.old)) (W.held work.old).0 (W.held work.new).1 (instance_of (program_at (W.held work.old)) i) s) }
+    ensures slot { FindsCell (W.held work.old) (W.held work.new) i result }
+    ensures none { MissesCell (W.held work.old) (W.held work.new) i result }
     ensures place { IfSome result (λ s. s.0 < (W.held work.old).0.cells) }
     ensures plain { IfSome result (λ s. IsPlain (W.held work.new).1 s.0) }
     ensures key { IfSome result (λ s. (k : ℕ) × Has (W.held work.new).1.keys (s.0, k)) }

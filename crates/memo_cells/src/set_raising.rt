@@ -1,8 +1,7 @@
 // Raising the words of a set.
 ghost use Rattle.std.specs.Prelude.{◌≡◌, ◌<◌, ◌+◌, ◌*◌, ◌/◌, IfOk, OnErr, OnOk, length};
-ghost use Rattle.equation_law.specs.Names.{Instance as StandingInstance};
-ghost use Rattle.memo_cells.specs.Working.{GoesOn, IsOwn, program_at};
-ghost use Rattle.memo_cells.specs.SetRaising.{ClaimsWords, HasBits, LacksWord, MayShowAll, ShowsAll, set_codes};
+ghost use Rattle.memo_cells.specs.Working.{GoesOn, IsOwn};
+ghost use Rattle.memo_cells.specs.SetRaising.{ClaimsWordsAt, HasBits, LacksWordAt, MayShowAllAt, ShowsAllAt, set_codes};
 
 use crate::calls::CellsFull;
 use crate::keys::Slot;
@@ -41,11 +40,11 @@ pub(crate) fn first_word(codes: &[Code]) -> (u64, usize)
 /// of a word in which one of them lies.
 pub fn raise_codes<W: Work>(work: &mut W, slot: Slot, codes: &[Code]) -> Result<(), CellsFull>
     requires own { IsOwn (W.held work.old) }
-    requires may { (i : StandingInstance) × MayShowAll (program_at (W.held work.old)) (W.held work.old).0 (W.held work.old).1 i slot.0 codes.now }
+    requires may { MayShowAllAt (W.held work.old) slot.0 codes.now }
     ensures on { GoesOn (W.held work.old) (W.held work.new) }
-    ensures shown { OnOk result ((i : StandingInstance) → MayShowAll (program_at (W.held work.old)) (W.held work.old).0 (W.held work.old).1 i slot.0 codes.now → ShowsAll (program_at (W.held work.new)) (W.held work.new).1 i codes.now) }
-    ensures full { OnErr result ((i : StandingInstance) → MayShowAll (program_at (W.held work.old)) (W.held work.old).0 (W.held work.old).1 i slot.0 codes.now → LacksWord (program_at (W.held work.new)) (W.held work.new).0 (W.held work.new).1 i codes.now) }
-    ensures claims { (i : StandingInstance) → MayShowAll (program_at (W.held work.old)) (W.held work.old).0 (W.held work.old).1 i slot.0 codes.now → ClaimsWords (program_at (W.held work.new)) (W.held work.old).1 (W.held work.new).1 i codes.now }
+    ensures shown { OnOk result (ShowsAllAt (W.held work.old) (W.held work.new) slot.0 codes.now) }
+    ensures full { OnErr result (LacksWordAt (W.held work.old) (W.held work.new) slot.0 codes.now) }
+    ensures claims { ClaimsWordsAt (W.held work.old) (W.held work.new) slot.0 codes.now }
 {
     let mut rest = codes;
     while let Some(code) = rest.first() {

@@ -1,12 +1,8 @@
 // The value that the words of a cell show.
-ghost use Rattle.std.specs.Prelude.{◌≡◌, ◌<◌, ◌^◌, IfOk, OnOk, false, true};
-ghost use Rattle.attr_rules.specs.Rules.{is_single};
-ghost use Rattle.equation_law.specs.Equations.{is_ordered, kind_in};
-ghost use Rattle.equation_law.specs.Names.{Instance as StandingInstance};
+ghost use Rattle.std.specs.Prelude.{◌≡◌, ◌<◌, ◌^◌, IfOk, OnOk};
 ghost use Rattle.equation_law.specs.Systems.{program_of};
-ghost use Rattle.memo_cells.specs.Naming.{IsCellOf};
-ghost use Rattle.memo_cells.specs.Working.{IsOwn, ReadsOn, program_at};
-ghost use Rattle.memo_cells.specs.SetShown.{AddsWord, AreBelow, AreCodesShown, IsShownValue};
+ghost use Rattle.memo_cells.specs.Working.{HasCell, IsOwn, ReadsOn, program_at};
+ghost use Rattle.memo_cells.specs.SetShown.{AddsWord, AreBelow, AreCodesShownAt, IsShownValueAt};
 
 use crate::keys::Slot;
 use crate::work::Words;
@@ -54,9 +50,9 @@ fn codes_shown<W: Words>(
     to: Code,
 ) -> Result<Codes, Memory>
     requires own { IsOwn (W.held work.old) }
-    requires cell { (i : StandingInstance) × IsCellOf (program_at (W.held work.old)) (W.held work.old).0 (W.held work.old).1 i slot.0 }
+    requires cell { HasCell (program_at (W.held work.old)) (W.held work.old) slot.0 }
     ensures on { ReadsOn (W.held work.old) (W.held work.new) }
-    ensures shown { IfOk result (λ codes. (i : StandingInstance) → IsCellOf (program_at (W.held work.old)) (W.held work.old).0 (W.held work.old).1 i slot.0 → is_single (kind_in (program_at (W.held work.old)) i) ≡ false → AreCodesShown (program_at (W.held work.old)) (W.held work.old).1 (W.held work.new).1 i from to codes) }
+    ensures shown { IfOk result (AreCodesShownAt (W.held work.old) (W.held work.new) slot.0 from to) }
 {
     let mut codes = Codes::none(alloc);
     if to <= from {
@@ -82,9 +78,9 @@ pub fn value_shown<W: Words>(
 ) -> Result<Value, Memory>
     requires own { IsOwn (W.held work.old) }
     requires same { (W.held work.old).0.system.value ≡ system.now }
-    requires cell { (i : StandingInstance) × IsCellOf (program_of system.now) (W.held work.old).0 (W.held work.old).1 i slot.0 }
+    requires cell { HasCell (program_of system.now) (W.held work.old) slot.0 }
     ensures on { ReadsOn (W.held work.old) (W.held work.new) }
-    ensures shown { IfOk result (λ x. (i : StandingInstance) → IsCellOf (program_of system.now) (W.held work.old).0 (W.held work.old).1 i slot.0 → kind_in (program_of system.now) i ≡ kind → is_ordered kind ≡ true → IsShownValue (program_of system.now) (W.held work.old).1 (W.held work.new).1 i x) }
+    ensures shown { IfOk result (IsShownValueAt (program_of system.now) (W.held work.old) (W.held work.new) slot.0 kind) }
 {
     match kind {
         Kind::Truth => Ok(Value::Truth(work.word(slot, 0) == 1)),

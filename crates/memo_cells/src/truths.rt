@@ -2,11 +2,11 @@
 ghost use Rattle.std.specs.Prelude.{◌≡◌, ◌<◌, ◌++◌, ◌∷◌, [], IfOk, OnOk, map, slice_index_or, true};
 ghost use Rattle.attr_equations.specs.Kept.{rules_in};
 ghost use Rattle.attr_rules.specs.Types.{truth_kind};
-ghost use Rattle.equation_law.specs.Equations.{kind_in};
 ghost use Rattle.equation_law.specs.Names.{Instance};
 ghost use Rattle.equation_law.specs.Systems.{program_of};
 ghost use Rattle.memo_cells.specs.Naming.{IsCellOf, IsFirstKey};
 ghost use Rattle.memo_cells.specs.Standing.{IsPassOf};
+ghost use Rattle.memo_cells.specs.Truths.{TellsTruth};
 ghost use Rattle.memo_cells.specs.Views.{IsAtLeast};
 
 use crate::cells::{Cells, Pass};
@@ -90,7 +90,7 @@ impl Cells {
         requires cell { (i : Instance) × IsCellOf (program_of self.now.system.value) self.now pass.old i slot.0 }
         ensures own { IsPassOf self.now pass.new }
         ensures kept { IsAtLeast pass.old pass.new }
-        ensures truth { (i : Instance) → IsCellOf (program_of self.now.system.value) self.now pass.old i slot.0 → result ≡ truth_kind (kind_in (program_of self.now.system.value) i) }
+        ensures truth { TellsTruth self.now pass.old slot.0 result }
         ensures claims { pass.new.claims ≡ pass.old.claims }
     {
         let word = self.first_key(pass, slot);

@@ -4,15 +4,18 @@ use equation_law::System;
 use std::collections::LinkedList;
 use std::snapshot::Snapshot;
 
-/// What cells are told when they are made.
+/// What cells are told when they are made, and the number of their table.
 #[derive(Drop)]
 pub struct Frame {
+    pub table: u64,
     pub system: Snapshot<System>,
     pub cells: u64,
 }
 
 /// What a pass knows and has done. Contracts speak of it, and no value of it is made.
 pub struct View {
+    /// The number of its table.
+    pub table: u64,
     pub frame: Option<Frame>,
     /// Its share of the table.
     pub share: u64,
@@ -25,4 +28,24 @@ pub struct View {
     pub bits: LinkedList<(u64, u64, u64)>,
     /// The places that it claimed itself.
     pub claims: LinkedList<u64>,
+    /// What its steps found: a word of the table and the number that stood there, the last first.
+    pub found: LinkedList<(u64, u64)>,
+    /// At least so many numbers of trees were drawn.
+    pub trees: u64,
+    /// At least so many queries were drawn.
+    pub queries: u64,
+    /// The number of a tree that it drew and that waits to be published or kept.
+    pub held: Option<u64>,
+    /// The words of that tree's row that it wrote: each with what it holds.
+    pub written: LinkedList<(u64, u64)>,
+    /// Each word of a row that it saw: the tree, the word and what it holds.
+    pub rows: LinkedList<(u64, u64, u64)>,
+    /// The number of a tree that it drew and keeps for the next one.
+    pub spare: Option<u64>,
+    /// The numbers of trees that it gave up.
+    pub given_up: LinkedList<u64>,
+    /// The places that it has still to seal.
+    pub to_seal: LinkedList<u64>,
+    /// The queries that it drew.
+    pub draws: LinkedList<u64>,
 }

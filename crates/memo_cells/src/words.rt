@@ -1,14 +1,10 @@
 // The words of sets, and approximations of circular instances.
-ghost use Rattle.std.specs.Prelude.{◌≡◌, ◌≢◌, ◌<◌, false, map, IfOk, OnErr, true};
-ghost use Rattle.attr_rules.specs.Rules.{is_single};
-ghost use Rattle.attr_rules.specs.Types.{truth_kind};
-ghost use Rattle.equation_law.specs.Equations.{kind_in};
+ghost use Rattle.std.specs.Prelude.{◌≡◌, ◌≢◌, ◌<◌, map, IfOk, OnErr};
 ghost use Rattle.equation_law.specs.Names.{Instance};
 ghost use Rattle.equation_law.specs.Systems.{program_of};
 ghost use Rattle.memo_cells.specs.Keys.{set_word};
 ghost use Rattle.memo_cells.specs.Naming.{IsCellOf};
-ghost use Rattle.memo_cells.specs.Showing.{IsWordSeen};
-ghost use Rattle.memo_cells.specs.Standing.{HasWord, IsPassOf, IsWordOfValue, Knows, MayRaise, MayRaiseSet, MayRaiseTruth, MaySeal};
+ghost use Rattle.memo_cells.specs.Standing.{ClaimsForSet, HasKnownWord, HasWord, IsOfSet, IsPassOf, MayRaise, MayRaiseSet, MayRaiseTruth, MaySeal, ShowsWord, ShowsWordOfSet};
 ghost use Rattle.memo_cells.specs.Steps.{AreSealed};
 ghost use Rattle.memo_cells.specs.Views.{ClaimsOnly, IsAtLeast, IsFull};
 
@@ -57,9 +53,9 @@ impl Cells {
         ensures kept { IsAtLeast pass.old pass.new }
         ensures raised { IfOk result (λ x. HasWord (program_of self.now.system.value) self.now pass.new slot.0 word bits x) }
         ensures full { OnErr result (IsFull self.now pass.new (set_word slot.0 word)) }
-        ensures set { OnErr result ((i : Instance) → IsCellOf (program_of self.now.system.value) self.now pass.new i slot.0 → is_single (kind_in (program_of self.now.system.value) i) ≡ false) }
+        ensures set { OnErr result (IsOfSet self.now pass.new slot.0) }
         ensures claims { ClaimsOnly pass.old pass.new (set_word slot.0 word) }
-        ensures truth { (i : Instance) → IsCellOf (program_of self.now.system.value) self.now pass.new i slot.0 → truth_kind (kind_in (program_of self.now.system.value) i) ≡ true → pass.new.claims ≡ pass.old.claims }
+        ensures truth { ClaimsForSet self.now pass.old pass.new slot.0 }
     {
         if self.is_of_truth(pass, slot) {
             Ok(self.raise_truth(pass, slot))
@@ -74,7 +70,7 @@ impl Cells {
         requires slot { slot.0 < self.now.cells }
         ensures own { IsPassOf self.now pass.new }
         ensures kept { IsAtLeast pass.old pass.new }
-        ensures word { (i : Instance) → IsCellOf (program_of self.now.system.value) self.now pass.new i slot.0 → is_single (kind_in (program_of self.now.system.value) i) ≡ false → IsWordSeen (program_of self.now.system.value) pass.new i (kind_in (program_of self.now.system.value) i) word result }
+        ensures word { ShowsWordOfSet self.now pass.new slot.0 word result }
         ensures claims { pass.new.claims ≡ pass.old.claims }
     {
         match self.seek(pass, Key::Word { slot, word }) {
@@ -89,8 +85,8 @@ impl Cells {
         requires cell { (i : Instance) × IsCellOf (program_of self.now.system.value) self.now pass.old i slot.0 }
         ensures own { IsPassOf self.now pass.new }
         ensures kept { IsAtLeast pass.old pass.new }
-        ensures word { (i : Instance) → IsCellOf (program_of self.now.system.value) self.now pass.new i slot.0 → IsWordSeen (program_of self.now.system.value) pass.new i (kind_in (program_of self.now.system.value) i) word result }
-        ensures settled { (i : Instance) → IsCellOf (program_of self.now.system.value) self.now pass.new i slot.0 → Knows (program_of self.now.system.value) pass.old i → IsWordOfValue (program_of self.now.system.value) i word result }
+        ensures word { ShowsWord self.now pass.new slot.0 word result }
+        ensures settled { HasKnownWord self.now pass.old pass.new slot.0 word result }
         ensures claims { pass.new.claims ≡ pass.old.claims }
     {
         if self.is_of_truth(pass, slot) {

@@ -1,16 +1,11 @@
 // What a reader does that holds a pass.
-ghost use Rattle.std.specs.Prelude.{◌≡◌, ◌≢◌, ◌<◌, IfNone, IfOk, IfSome, OnErr, false, map, true};
-ghost use Rattle.attr_rules.specs.Rules.{is_single};
-ghost use Rattle.attr_rules.specs.Types.{truth_kind};
-ghost use Rattle.equation_law.specs.Equations.{kind_in};
-ghost use Rattle.equation_law.specs.Names.{Instance};
+ghost use Rattle.std.specs.Prelude.{◌≢◌, ◌<◌, IfNone, IfOk, IfSome, OnErr, map};
 ghost use Rattle.memo_cells.specs.Keys.{Fits, key_word, set_word};
-ghost use Rattle.memo_cells.specs.Naming.{IsCellOf, IsFormed};
-ghost use Rattle.memo_cells.specs.Showing.{IsWordSeen};
-ghost use Rattle.memo_cells.specs.Standing.{HasWord, IsWordOfValue, Knows, MayRaise, MaySeal};
+ghost use Rattle.memo_cells.specs.Naming.{IsFormed};
+ghost use Rattle.memo_cells.specs.Standing.{HasWord, MayRaise, MaySeal};
 ghost use Rattle.memo_cells.specs.Steps.{AreSealed};
 ghost use Rattle.memo_cells.specs.Views.{ClaimsOnly, IsFull, IsNowhere, IsSlot};
-ghost use Rattle.memo_cells.specs.Working.{GoesOn, IsOwn, ReadsOn, program_at};
+ghost use Rattle.memo_cells.specs.Working.{ClaimsForSetAt, GoesOn, HasCell, HasKnownWordAt, IsOfSetAt, IsOwn, ReadsOn, ShowsWordAt, program_at};
 
 use crate::calls::CellsFull;
 use crate::keys::{Key, Slot};
@@ -32,10 +27,10 @@ pub trait Words {
     /// A word of what is shown of a slot's instance.
     fn word(&mut self, slot: Slot, word: u32) -> u64
         requires own { IsOwn (held self.old) }
-        requires cell { (i : Instance) × IsCellOf (program_at (held self.old)) (held self.old).0 (held self.old).1 i slot.0 }
+        requires cell { HasCell (program_at (held self.old)) (held self.old) slot.0 }
         ensures on { ReadsOn (held self.old) (held self.new) }
-        ensures word { (i : Instance) → IsCellOf (program_at (held self.old)) (held self.old).0 (held self.new).1 i slot.0 → IsWordSeen (program_at (held self.old)) (held self.new).1 i (kind_in (program_at (held self.old)) i) word result }
-        ensures settled { (i : Instance) → IsCellOf (program_at (held self.old)) (held self.old).0 (held self.new).1 i slot.0 → Knows (program_at (held self.old)) (held self.old).1 i → IsWordOfValue (program_at (held self.old)) i word result };
+        ensures word { ShowsWordAt (held self.old) (held self.new) slot.0 word result }
+        ensures settled { HasKnownWordAt (held self.old) (held self.new) slot.0 word result };
 }
 
 /// A reader that holds a pass of some cells. Each call is the call of `Cells` of the same name on that pass. As a reader it has a value for
@@ -62,9 +57,9 @@ pub trait Work: Reader + Words {
         ensures on { GoesOn (Self.held self.old) (Self.held self.new) }
         ensures raised { IfOk result (λ x. HasWord (program_at (Self.held self.old)) (Self.held self.old).0 (Self.held self.new).1 slot.0 word bits x) }
         ensures full { OnErr result (IsFull (Self.held self.old).0 (Self.held self.new).1 (set_word slot.0 word)) }
-        ensures set { OnErr result ((i : Instance) → IsCellOf (program_at (Self.held self.old)) (Self.held self.old).0 (Self.held self.new).1 i slot.0 → is_single (kind_in (program_at (Self.held self.old)) i) ≡ false) }
+        ensures set { OnErr result (IsOfSetAt (Self.held self.old) (Self.held self.new) slot.0) }
         ensures claims { ClaimsOnly (Self.held self.old).1 (Self.held self.new).1 (set_word slot.0 word) }
-        ensures truth { (i : Instance) → IsCellOf (program_at (Self.held self.old)) (Self.held self.old).0 (Self.held self.new).1 i slot.0 → truth_kind (kind_in (program_at (Self.held self.old)) i) ≡ true → (Self.held self.new).1.claims ≡ (Self.held self.old).1.claims };
+        ensures truth { ClaimsForSetAt (Self.held self.old) (Self.held self.new) slot.0 };
 
     /// Marks what the words show of each slot's instance as its value.
     fn seal(&mut self, set: &[Slot])
