@@ -182,7 +182,7 @@ module _ (p : Program) (good : IsProgram p) (v : View) (near : AreApproximations
 
     pub may_seal : MaySeal p f v (map (λ x. x.0) slots)
     unfolding equations_of
-    may_seal = record { set = opened p es; values = T; shown = values_shown p good v near f start es set; slot_of = slot_of; stands = stands; holds = holds; known = meets_known }
+    may_seal = record { set = opened p es; values = T; shown = values_shown p good v near f start es set; slot_of = slot_of; stands = stands; instances = λ i h. (current i h).0; holds = holds; known = meets_known }
 
     -- then each member is seen sealed
     pub member_sealed : (w : View) → IsAtLeast v w → AreSealed v w (map (λ x. x.0) slots) → (e : CodedInstance × Member) → Has es e → Knows p w (instance_of p e.0)

@@ -1,5 +1,5 @@
 -- What going on with a local set says.
-use Rattle.std.specs.Prelude.{◌≡◌, ℕ, false, List, [], ◌∷◌, ◌++◌, Some, Result, Ok, Err}
+use Rattle.std.specs.Prelude.{◌≡◌, ℕ, false, List, [], ◌∷◌, ◌++◌, Some, Result, Ok, Err, map}
 use Rattle.equation_law.specs.declared.coding.Instance.{Instance as CodedInstance}
 use Rattle.equation_law.specs.Checked.{IsInstance}
 use Rattle.equation_law.specs.Codes.{IsCoded, instance_of, value_of}
@@ -18,6 +18,7 @@ use Rattle.circular_eval.specs.declared.advancing.CircTurn.{CircTurn}
 use Rattle.circular_eval.specs.declared.advancing.CircTurn.TheVariants.{Closed, Need}
 use Rattle.circular_eval.specs.declared.local.Local.{Local}
 use Rattle.circular_eval.specs.declared.members.Member.{Member}
+use Rattle.circular_eval.specs.Local.{IsLocal}
 
 -- each later member is led to by the one before
 abbrev pub AreLed : Program → List Instance → Type 0
@@ -32,6 +33,10 @@ pub record IsPath (p : Program) (i n : Instance) (path : List Instance) : Type 0
   pub front : List Instance
   pub ends : path ≡ front ++ n ∷ []
   pub led : AreLed p path
+
+-- a list that begins with the start of a local set and ends with the instance that it needed last, each led to by the one before
+abbrev pub IsPathIn : Local → List CodedInstance → Type 0
+IsPathIn l list = (p : Program) (f : Frame) (v : View) (number : ℕ) (need : CodedInstance) → IsLocal p f v l → l.need ≡ Some (number, need) → IsPath p (instance_of p l.start) (instance_of p need) (map (instance_of p) list)
 
 -- an instance whose value is missing: it isn't circular, a member demands it, and its cell isn't seen settled
 pub record IsMissing (p : Program) (v : View) (l : Local) (n : CodedInstance) : Type 0 where

@@ -1,5 +1,6 @@
 -- Local sets: what they stand for.
 use Rattle.std.specs.Prelude.{◌≡◌, ℕ, zero, suc, ◌<◌, true, false, cond, List, [], ◌∷◌, Option, Some, None, slice_get}
+use Rattle.rag_io.specs.Pool.{ArePooled}
 use Rattle.solutions.specs.Asking.{Ends}
 use Rattle.equation_law.specs.declared.coding.Instance.{Instance as CodedInstance}
 use Rattle.equation_law.specs.declared.coding.Value.{Value as CodedValue}
@@ -42,6 +43,14 @@ with_value (e ∷ es) (suc n) x = e ∷ with_value es n x
 -- the members and their values are coded well, and the values are of the types of the members
 abbrev pub AreKept : Program → Members → Type 0
 AreKept p es = (e : CodedInstance × Member) → Has es e → IsCoded p e.0 × AreElements p e.1.value × FitsKind (kind_in p (instance_of p e.0)) (value_of (text_of p) e.1.value)
+
+-- what holds in each program with pooled texts in which i is coded well and the members are kept
+abbrev pub WhereKept : Members → CodedInstance → (Program → Type 0) → Type 0
+WhereKept es i holds = (p : Program) → ArePooled p.texts → IsCoded p i → AreKept p es → holds p
+
+-- x is the value that the set has for i
+abbrev pub IsLocalValue : Program → Members → CodedInstance → CodedValue → Type 0
+IsLocalValue p es i x = local_value p es (instance_of p i) ≡ value_of (text_of p) x
 
 -- j is a member
 abbrev pub IsMemberOf : Program → Members → Instance → Type 0
@@ -129,3 +138,7 @@ pub record IsLocal (p : Program) (f : Frame) (v : View) (l : Local) : Type 0 whe
   pub set : AreMembers p f v l.start l.members.entries
   pub need : IsNeedOf p l.members.entries l.need
   pub saved : IsKept f.system.value (ReadsHere p v l.members.entries) l.saved
+
+-- a local set of i under what any pass of any cells knows, in each program of which i is a circular instance
+abbrev pub IsLocalOf : CodedInstance → Local → Type 0
+IsLocalOf i l = (p : Program) (f : Frame) (v : View) → IsInstance p (instance_of p i) → IsCoded p i → (equations_of p).circular (instance_of p i) ≡ true → IsLocal p f v l

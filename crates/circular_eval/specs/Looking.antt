@@ -1,6 +1,7 @@
 -- What an evaluation under a local set reads from, and what it comes to.
 use Rattle.std.specs.Prelude.{◌≡◌, List}
 use Rattle.solutions.specs.Asking.{Ends, Halts}
+use Rattle.equation_law.specs.declared.coding.Instance.{Instance as CodedInstance}
 use Rattle.equation_law.specs.declared.system.System.{System}
 use Rattle.equation_law.specs.Codes.{AreElements, IsCoded, instance_of, value_of}
 use Rattle.equation_law.specs.Equations.{equations_of}
@@ -11,6 +12,7 @@ use Rattle.expr_eval.specs.declared.sites.Turn.{Turn}
 use Rattle.expr_eval.specs.declared.sites.Turn.TheVariants as turns
 use Rattle.memo_cells.specs.declared.view.View.{View}
 use Rattle.memo_cells.specs.Working.{Held, IsOwn, program_at}
+use Rattle.circular_eval.specs.declared.local.Local.{Local}
 use Rattle.circular_eval.specs.Local.{AreKept, MayRead, Members, ReadsHere}
 
 -- over what a work holds and the members of a set
@@ -26,3 +28,7 @@ told_here d s es keeps = record {
 abbrev pub ComesTo : Program → View → Members → Instance → Turn → Type 0
 ComesTo p v es i (turns.Done x) = ((ds : List Instance) × Ends (ReadsHere p v es) ((equations_of p).equation i) (value_of (text_of p) x) ds) × AreElements p x
 ComesTo p v es i (turns.Need n) = ((ds : List Instance) × Halts (ReadsHere p v es) ((equations_of p).equation i) (instance_of p n) ds) × IsCoded p n
+
+-- the same of the instance that is coded so, by what a work holds and under the values of a local set
+abbrev pub ComesHere : Program → Held → Local → CodedInstance → Turn → Type 0
+ComesHere p d l i turn = ComesTo p d.1 l.members.entries (instance_of p i) turn

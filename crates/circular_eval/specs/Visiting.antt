@@ -1,11 +1,12 @@
 -- Visits of the members of a local set.
 use Rattle.std.specs.Prelude.{◌≡◌, ℕ, ◌<◌, true, Option, Some, None, IsSome, Result, Ok, Err, IfErr, OnOk, length, slice_get}
+use Rattle.attr_rules.specs.declared.kinds.Kind.{Kind}
 use Rattle.equation_law.specs.declared.coding.Instance.{Instance as CodedInstance}
 use Rattle.equation_law.specs.declared.system.System.{System}
 use Rattle.equation_law.specs.Checked.{IsInstance, IsProgram}
 use Rattle.equation_law.specs.declared.coding.Value.{Value as CodedValue}
 use Rattle.equation_law.specs.Codes.{AreElements, IsCoded, instance_of, value_of}
-use Rattle.equation_law.specs.Equations.{equations_of, kind_in}
+use Rattle.equation_law.specs.Equations.{equations_of, is_ordered, kind_in}
 use Rattle.equation_law.specs.Names.{Instance}
 use Rattle.equation_law.specs.Orders.{FitsKind}
 use Rattle.equation_law.specs.Program.{Program, text_of}
@@ -16,6 +17,7 @@ use Rattle.expr_eval.specs.Saved.{AreSaved}
 use Rattle.memo_cells.specs.declared.view.Frame.{Frame}
 use Rattle.memo_cells.specs.declared.view.View.{View}
 use Rattle.memo_cells.specs.Claiming.{ClaimsKeys}
+use Rattle.memo_cells.specs.Naming.{IsCellOf}
 use Rattle.memo_cells.specs.Showing.{ShowsAtLeast}
 use Rattle.memo_cells.specs.Views.{Has}
 use Rattle.memo_cells.specs.Working.{GoesOn, Held, IsOwn, program_at}
@@ -58,6 +60,10 @@ pub record BeginsWith (p : Program) (v : View) (i : Instance) (x : CodedValue) :
   pub elements : AreElements p x
   pub fits : FitsKind (kind_in p i) (value_of (text_of p) x)
   pub shown : ShowsAtLeast p v i (kind_in p i) (value_of (text_of p) x)
+
+-- what has its cell at this place, and is of this type, a set or a truth value, may begin with x, with what is held before and after
+abbrev pub BeginsAt : Program → Held → Held → ℕ → Kind → CodedValue → Type 0
+BeginsAt p d e place kind x = (i : Instance) → IsCellOf p d.0 d.1 i place → kind_in p i ≡ kind → is_ordered kind ≡ true → BeginsWith p e.1 i x
 
 -- what the equation of the member of this number comes to, which wasn't sealed when it was met
 pub record ComesAt (p : Program) (v : View) (es : Members) (number : ℕ) (turn : Turn) : Type 0 where

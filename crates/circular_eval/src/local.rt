@@ -1,19 +1,13 @@
 // Local sets.
-ghost use Rattle.std.specs.Prelude.{◌≡◌, ◌≢◌, ◌⊎◌, ◌++◌, ◌∷◌, [], ℕ, true, ◌<◌, ◌≤◌, Contains, IfNone, IfOk, IfSome, None, OnErr, OnOk, Some, length, map, option_to_list, slice_get};
+ghost use Rattle.std.specs.Prelude.{◌≡◌, ◌≢◌, ◌⊎◌, ◌++◌, ◌∷◌, [], ℕ, ◌<◌, ◌≤◌, Contains, IfNone, IfOk, IfSome, None, OnErr, OnOk, Some, length, option_to_list, slice_get};
 ghost use Rattle.std.specs.BTreeSet.{IsUpperBound};
 ghost use Rattle.std.specs.Option.{option_and_then, option_map};
 ghost use Rattle.std.specs.Ordering.{nat_cmp};
-ghost use Rattle.rag_io.specs.Pool.{ArePooled};
-ghost use Rattle.equation_law.specs.declared.coding.Instance.{Instance as CodedInstance};
-ghost use Rattle.equation_law.specs.Checked.{IsInstance};
-ghost use Rattle.equation_law.specs.Codes.{AreElements, IsCoded, instance_of, value_of};
-ghost use Rattle.equation_law.specs.Equations.{equations_of};
-ghost use Rattle.equation_law.specs.Program.{Program, text_of};
-ghost use Rattle.memo_cells.specs.declared.view.Frame.{Frame};
-ghost use Rattle.memo_cells.specs.declared.view.View.{View};
+ghost use Rattle.equation_law.specs.Codes.{AreElements, instance_of};
+ghost use Rattle.equation_law.specs.Program.{Program};
 ghost use Rattle.expr_eval.specs.Saved.{SavesNothing};
-ghost use Rattle.circular_eval.specs.Advancing.{IsPath};
-ghost use Rattle.circular_eval.specs.Local.{AreKept, AreSlots, IsAbsent, IsLocal, IsMemberOf, local_value, with_value};
+ghost use Rattle.circular_eval.specs.Advancing.{IsPathIn};
+ghost use Rattle.circular_eval.specs.Local.{AreKept, AreSlots, IsAbsent, IsLocalOf, IsLocalValue, IsMemberOf, WhereKept, with_value};
 ghost use Rattle.circular_eval.specs.Parts.{AreClosedMembers, unsealed_at, without_slot};
 ghost use Rattle.circular_eval.specs.Sealed.{IsMemberAt};
 ghost use Rattle.circular_eval.specs.Left.{member_bound};
@@ -62,7 +56,7 @@ impl<'a> Local<'a> {
     /// The local set of a circular instance, which nobody looked at yet.
     pub fn start(alloc: Global, i: Instance) -> Result<Local<'a>, Memory>
         ensures start { IfOk result (λ l. l.start ≡ i) }
-        ensures local { IfOk result (λ l. (p : Program) (f : Frame) (v : View) → IsInstance p (instance_of p i) → IsCoded p i → (equations_of p).circular (instance_of p i) ≡ true → IsLocal p f v l) }
+        ensures local { IfOk result (IsLocalOf i) }
     {
         Ok(Local {
             start: i,
@@ -75,7 +69,7 @@ impl<'a> Local<'a> {
 
     /// A list of instances that begins with the start and ends with the instance that was needed last, each led to by the one before.
     pub fn path(&self, alloc: Global) -> Result<Chain, Memory>
-        ensures { IfOk result (λ chain. (p : Program) (f : Frame) (v : View) (number : ℕ) (need : CodedInstance) → IsLocal p f v self.now → self.now.need ≡ Some (number, need) → IsPath p (instance_of p self.now.start) (instance_of p need) (map (instance_of p) chain)) }
+        ensures { IfOk result (IsPathIn self.now) }
     {
         let mut list = Vec::new(alloc);
         let Some((number, need)) = self.need else {
@@ -118,9 +112,9 @@ impl<'a> Local<'a> {
 
     /// The number of a member and its value.
     pub(crate) fn find(&self, i: &Instance) -> Option<(usize, &Value)>
-        ensures none { (p : Program) → ArePooled p.texts → IsCoded p i.now → AreKept p self.now.members.entries → IfNone result (¬ IsMemberOf p self.now.members.entries (instance_of p i.now)) }
+        ensures none { WhereKept self.now.members.entries i.now (λ p. IfNone result (¬ IsMemberOf p self.now.members.entries (instance_of p i.now))) }
         ensures member { (p : Program) → IfSome result (λ x. IsMemberOf p self.now.members.entries (instance_of p i.now)) }
-        ensures value { (p : Program) → ArePooled p.texts → IsCoded p i.now → AreKept p self.now.members.entries → IfSome result (λ x. local_value p self.now.members.entries (instance_of p i.now) ≡ value_of (text_of p) x.1.now) }
+        ensures value { WhereKept self.now.members.entries i.now (λ p. IfSome result (λ x. IsLocalValue p self.now.members.entries i.now x.1.now)) }
         ensures elements { (p : Program) → AreKept p self.now.members.entries → IfSome result (λ x. AreElements p x.1.now) }
         ensures at { IfSome result (λ x. IsMemberAt self.now.members.entries x.0 i.now x.1.now) }
         ensures absent { IfNone result (IsAbsent self.now.members.entries i.now) }

@@ -6,7 +6,7 @@ ghost use Rattle.equation_law.specs.Systems.{program_of};
 ghost use Rattle.memo_cells.specs.Working.{IsOwn, ReadsOn};
 ghost use Rattle.expr_eval.specs.Saved.{AreSaved};
 ghost use Rattle.circular_eval.specs.Local.{AreKept, ReadsHere};
-ghost use Rattle.circular_eval.specs.Looking.{ComesTo};
+ghost use Rattle.circular_eval.specs.Looking.{ComesHere};
 
 use crate::local::Local;
 use equation_law::{Instance, Reader, System, Value};
@@ -67,7 +67,7 @@ pub(crate) fn evaluate<'a, W: Work>(
     requires kept { AreKept (program_of system.now) local.now.members.entries }
     requires saved { AreSaved system.now (ReadsHere (program_of system.now) (W.held work.old).1 local.now.members.entries) saved.old }
     ensures on { ReadsOn (W.held work.old) (W.held work.new) }
-    ensures came { IfOk result (λ came. ComesTo (program_of system.now) (W.held work.new).1 local.now.members.entries (instance_of (program_of system.now) i.now) came.turn) }
+    ensures came { IfOk result (λ came. ComesHere (program_of system.now) (W.held work.new) local.now i.now came.turn) }
     ensures saved { AreSaved system.now (ReadsHere (program_of system.now) (W.held work.new).1 local.now.members.entries) saved.new }
 {
     let mut read = Vec::new(alloc);

@@ -1,15 +1,12 @@
 // Visiting one member of a local set.
-ghost use Rattle.std.specs.Prelude.{◌≡◌, IfOk, true};
-ghost use Rattle.equation_law.specs.Equations.{is_ordered, kind_in};
-ghost use Rattle.equation_law.specs.Names.{Instance as StandingInstance};
+ghost use Rattle.std.specs.Prelude.{◌≡◌, IfOk};
 ghost use Rattle.equation_law.specs.Systems.{program_of};
-ghost use Rattle.memo_cells.specs.Naming.{IsCellOf};
-ghost use Rattle.memo_cells.specs.Working.{IsOwn, ReadsOn, program_at};
+ghost use Rattle.memo_cells.specs.Working.{HasCell, IsOwn, ReadsOn, program_at};
 ghost use Rattle.expr_eval.specs.declared.sites.Turn.TheVariants as turns;
 ghost use Rattle.expr_eval.specs.Saved.{AreSaved};
 ghost use Rattle.equation_law.specs.declared.system.System.{System as KeptSystem};
 ghost use Rattle.circular_eval.specs.Local.{ReadsHere};
-ghost use Rattle.circular_eval.specs.Visiting.{Admits, BeginsWith, ComesAt, IsNew, IsReady, KeepsSaved, Steps, Visits};
+ghost use Rattle.circular_eval.specs.Visiting.{Admits, BeginsAt, ComesAt, IsNew, IsReady, KeepsSaved, Steps, Visits};
 
 use crate::advancing::CircFault;
 use crate::claiming::{Opened, open_cell};
@@ -45,9 +42,9 @@ fn first_value<W: Work>(
 ) -> Result<Value, Memory>
     requires own { IsOwn (W.held work.old) }
     requires same { (W.held work.old).0.system.value ≡ system.now }
-    requires cell { (i : StandingInstance) × IsCellOf (program_of system.now) (W.held work.old).0 (W.held work.old).1 i opened.slot.0 }
+    requires cell { HasCell (program_of system.now) (W.held work.old) opened.slot.0 }
     ensures on { ReadsOn (W.held work.old) (W.held work.new) }
-    ensures begins { IfOk result (λ x. (i : StandingInstance) → IsCellOf (program_of system.now) (W.held work.old).0 (W.held work.old).1 i opened.slot.0 → kind_in (program_of system.now) i ≡ kind → is_ordered kind ≡ true → BeginsWith (program_of system.now) (W.held work.new).1 i x) }
+    ensures begins { IfOk result (BeginsAt (program_of system.now) (W.held work.old) (W.held work.new) opened.slot.0 kind) }
 {
     if opened.is_new {
         return Ok(Value::default_of(alloc, kind));
