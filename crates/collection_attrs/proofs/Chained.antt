@@ -13,7 +13,7 @@ use Rattle.equation_law.specs.Names.{At, Null, Reference, Source, reference_code
 use Rattle.equation_law.proofs.Names.{code_anti, is_equal}
 use Rattle.collection_attrs.specs.declared.linking.Entry.{Entry}
 use Rattle.collection_attrs.specs.Surveys.{AreChained, noted_in}
-use Rattle.collection_attrs.specs.Walks.{IsFirstFor, IsNextFor, NoneFrom, Noted, behind, round}
+use Rattle.collection_attrs.specs.Walks.{IsBehind, IsFirstFor, IsNextFor, NoneFrom, Noted, behind, round}
 use Rattle.collection_attrs.proofs.Noting.{first_comes, first_stays, none_stays}
 
 -- ---- references
@@ -333,7 +333,7 @@ module _ (es : List Entry) (lasts : NodeRef → Option ℕ) (h : AreChained es l
 -- ---- behind a note with a receiver
 
 abbrev Behind : List Noted → Reference → ℕ → Type 0
-Behind ns r from = (from ≡ 0) ⊎ ((k : ℕ) × (n : Noted) × (suc k ≡ from) × (slice_get ns k ≡ Some n) × (same_reference n.receiver r ≡ true))
+Behind ns r from = (from ≡ 0) ⊎ IsBehind ns r from
 
 pub behind_within : (es : List Entry) (ns : List Noted) → noted es ≡ ns → (r : Reference) (from : ℕ) → (from ≡ 0 → ⊥) → Behind ns r from → from - 1 < length es
 behind_within es ns same r from some (inl none) = absurd (some none)

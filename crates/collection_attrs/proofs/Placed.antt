@@ -9,8 +9,8 @@ use Rattle.equation_law.specs.Names.{At, Instance, Reference, same_reference}
 use Rattle.equation_law.specs.Program.{Program}
 use Rattle.equation_law.specs.Values.{Value}
 use Rattle.collection_attrs.specs.Passed.{contributed}
-use Rattle.collection_attrs.specs.Walks.{AreNotes, IsFirstFor, IsFor, IsSurvey, IsWalk, NoneFrom, Noted, Walk}
-use Rattle.collection_attrs.proofs.Walked.{NoneOwn, behind, standing, survey_own, survey_past, survey_stuck}
+use Rattle.collection_attrs.specs.Walks.{AreNotes, IsFirstFor, IsFor, IsSurvey, IsWalk, NoneFrom, Noted, Walk, one_further}
+use Rattle.collection_attrs.proofs.Walked.{NoneOwn, standing, survey_own, survey_past, survey_stuck}
 
 -- the notes from a place on: those in front of another place, the one at it, and the others
 rest_parts : (ns : List Noted) (from d place : ℕ) (n : Noted) → from + d ≡ place → slice_get ns place ≡ Some n → drop from ns ≡ take d (drop from ns) ++ n ∷ drop (suc place) ns
@@ -89,7 +89,7 @@ module _ (p : Program) (A : Instance → Value → Type 0) (c : Collection) wher
   pub survey_standing : (w : Walk) (node k taken : ℕ) (s : Value) → IsSurvey p A w c taken s → IsSurvey p A (standing w node k) c taken s
   survey_standing w node k taken s v = record { within = v.within; kept = v.kept; notes = v.notes; comes = v.comes }
 
-  pub survey_behind : (w : Walk) (r : Option Reference) (taken : ℕ) (s : Value) → IsSurvey p A w c taken s → IsSurvey p A (behind p A w r) c taken s
+  pub survey_behind : (w : Walk) (r : Option Reference) (taken : ℕ) (s : Value) → IsSurvey p A w c taken s → IsSurvey p A (one_further w r) c taken s
   survey_behind w None taken s v = record { within = v.within; kept = v.kept; notes = v.notes; comes = v.comes }
   survey_behind w (Some r) taken s v =
       let n : Noted = record { node = w.node; contribution = w.contribution; receiver = r } in

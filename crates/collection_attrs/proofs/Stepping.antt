@@ -6,7 +6,7 @@ use Rattle.attr_equations.specs.declared.contributions.Contribution as kept
 use Rattle.attr_equations.specs.KeptContributions.{IsContributionAt}
 use Rattle.attr_rules.specs.declared.kinds.EqId.{EqId}
 use Rattle.attr_rules.specs.Expression.{Expression, Truth}
-use Rattle.attr_rules.specs.Rules.{Contribution, RuleSet, bodies, body_at}
+use Rattle.attr_rules.specs.Rules.{RuleSet, bodies, body_at}
 use Rattle.tree_arena.specs.Nodes.{end_in}
 use Rattle.equation_law.specs.Collections.{Offer}
 use Rattle.equation_law.specs.Names.{Instance, Reference}
@@ -14,10 +14,10 @@ use Rattle.equation_law.specs.Program.{Program}
 use Rattle.equation_law.specs.Values.{Value}
 use Rattle.collection_attrs.specs.Passed.{IsPassed}
 use Rattle.collection_attrs.specs.declared.weighing.Weighed.{Weighed}
-use Rattle.collection_attrs.specs.Surveys.{IsCondition, IsWeighed}
-use Rattle.collection_attrs.specs.Walks.{IsOfferStuck, IsOfferedAt, IsStanding, IsStuck, IsWalk, Walk, passed_by}
+use Rattle.collection_attrs.specs.Surveys.{IsCondition, IsWeighed, IsWeighedAt}
+use Rattle.collection_attrs.specs.Walks.{IsOfferStuck, IsOfferedAt, IsStanding, IsStuck, IsWalk, Walk, one_further, passed_by, with_note}
 use Rattle.collection_attrs.proofs.Before.{before_offered}
-use Rattle.collection_attrs.proofs.Walked.{behind, walk_passes, walk_same, with_note}
+use Rattle.collection_attrs.proofs.Walked.{walk_passes, walk_same}
 
 -- ---- the condition of a contribution as it is kept
 
@@ -52,7 +52,7 @@ module _ (p : Program) (A : Instance → Value → Type 0) (v w : Walk) (h : IsW
   pub sought : IsWalk p A w
   sought = walk_same p A v w h stands notes same
 
-  notes_stay : (r : Option Reference) → length v.notes ≤ length (with_note p A w r)
+  notes_stay : (r : Option Reference) → length v.notes ≤ length (with_note w r)
   notes_stay None = let e = ap length notes in omega (arith, e)
   notes_stay (Some r) = let e = ap length notes in omega (arith, e, length-append w.notes (record { node = w.node; contribution = w.contribution; receiver = r } ∷ []))
 
@@ -67,9 +67,9 @@ module _ (p : Program) (A : Instance → Value → Type 0) (v w : Walk) (h : IsW
     offer = record { contribution = at.contribution; node = w.node }
 
     -- past an offer that was weighed, which is noted where it has a receiver
-    pub passes : (u : Walk) (r : Option Reference) → u ≡ behind p A w r → IsPassed p A offer r → HasPassed u
+    pub passes : (u : Walk) (r : Option Reference) → u ≡ one_further w r → IsPassed p A offer r → HasPassed u
     passes u r is q =
-        let one : passed_by p (behind p A w r) ≡ passed_by p w ++ offer ∷ [] = before_offered p w.attribute w.root w.node w.contribution at.contribution at.is at.offered in
+        let one : passed_by p (one_further w r) ≡ passed_by p w ++ offer ∷ [] = before_offered p w.attribute w.root w.node w.contribution at.contribution at.is at.offered in
         let long = ap length same in
         let one_longer = ap length one in
         subst HasPassed (sym is) (record {
@@ -83,7 +83,7 @@ module _ (p : Program) (A : Instance → Value → Type 0) (v w : Walk) (h : IsW
     stands_before j s = record { before = before; is = at; stuck = s }
 
 -- what was weighed of the offer at which a walk stands
-pub weighed_at : (p : Program) (A : Instance → Value → Type 0) (w : Walk) (n k : ℕ) → n ≡ w.node → k ≡ w.contribution → (at : IsOfferedAt p w) → {x y : Weighed} → x ≡ y → ((c : Contribution) → slice_get p.rules.contributions k ≡ Some c → IsWeighed p A (record { contribution = c; node = n }) x)
+pub weighed_at : (p : Program) (A : Instance → Value → Type 0) (w : Walk) (n k : ℕ) → n ≡ w.node → k ≡ w.contribution → (at : IsOfferedAt p w) → {x y : Weighed} → x ≡ y → IsWeighedAt p A k n x
     → IsWeighed p A (record { contribution = at.contribution; node = w.node }) y
 weighed_at p A w n k node number at {x} is weighed =
     subst (IsWeighed p A (record { contribution = at.contribution; node = w.node })) is

@@ -12,7 +12,7 @@ use Rattle.equation_law.specs.Names.{At, Instance, Reference, same_reference}
 use Rattle.equation_law.specs.Program.{Program}
 use Rattle.equation_law.specs.Values.{Value, node, truth}
 use Rattle.collection_attrs.specs.Passed.{ArePassed, Comes, IsPassed, Kept, contributed, kept, kept_of, offers_before, other, over, own}
-use Rattle.collection_attrs.specs.Walks.{AreNotes, IsFor, IsNote, IsStanding, IsSurvey, IsWalk, Noted, Walk, new_walk, passed_by}
+use Rattle.collection_attrs.specs.Walks.{AreNotes, IsFor, IsNote, IsStanding, IsSurvey, IsWalk, Noted, Walk, new_walk, one_further, passed_by, with_note}
 use Rattle.collection_attrs.proofs.Before.{Left, before_all, before_left, before_next, before_none, before_offered, before_skipped, left_offered}
 use Rattle.collection_attrs.proofs.Chains.{comes_both, comes_ends, comes_more, stuck_more, stuck_own}
 use Rattle.collection_attrs.proofs.Noting.{old_or_new}
@@ -134,13 +134,6 @@ module _ (p : Program) (A : Instance → Value → Type 0) where
   }
 
   -- past an offer, which is noted where its condition is true
-  abbrev pub with_note : Walk → Option Reference → List Noted
-  with_note w None = w.notes
-  with_note w (Some r) = w.notes ++ record { node = w.node; contribution = w.contribution; receiver = r } ∷ []
-
-  abbrev pub behind : Walk → Option Reference → Walk
-  behind w r = record { attribute = w.attribute; root = w.root; node = w.node; contribution = w.contribution + 1; notes = with_note w r }
-
   noted_one : (w : Walk) (c : Contribution) (r : Option Reference) (ks : List Kept) → slice_get p.rules.contributions w.contribution ≡ Some c → AreNotes p w.notes ks → AreNotes p (with_note w r) (ks ++ kept (record { contribution = c; node = w.node } ∷ []) (r ∷ []))
   noted_one w c None ks e h = subst (AreNotes p w.notes) (sym (append-nil ks)) h
   noted_one w c (Some r) ks e h =
@@ -151,7 +144,7 @@ module _ (p : Program) (A : Instance → Value → Type 0) where
   few_more w (Some r) h l k n e = old_or_new w.notes (record { node = w.node; contribution = w.contribution; receiver = r }) r 0 (λ m. m.node + 1 < 2 ^ 32) (λ i m from e. h.few i m e) l k n (omega arith) e
 
   pub walk_passes : (w : Walk) (c : Contribution) (r : Option Reference) → IsWalk p A w → w.node + 1 < 2 ^ 32 → w.node < end_in p.tree w.root → slice_get p.rules.contributions w.contribution ≡ Some c → w.contribution < length p.rules.contributions → is_offered p w.attribute w.node c ≡ true
-      → IsPassed p A (record { contribution = c; node = w.node }) r → IsWalk p A (behind w r)
+      → IsPassed p A (record { contribution = c; node = w.node }) r → IsWalk p A (one_further w r)
   walk_passes w c r h code u e m on q =
       let o : Offer = record { contribution = c; node = w.node } in
       let more = before_offered p w.attribute w.root w.node w.contribution c e on in

@@ -1,3 +1,4 @@
+pub mod Evaluations
 pub mod Passed
 pub mod Roots
 pub mod Spots

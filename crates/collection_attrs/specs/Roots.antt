@@ -1,11 +1,21 @@
--- Roots of collections that are noted.
-use Rattle.std.specs.Prelude.{◌≡◌, ◌<◌, ℕ, Option, IfSome, Some, length}
+-- Roots of collections, and those that are noted.
+use Rattle.std.specs.Prelude.{◌≡◌, ◌⊎◌, ◌<◌, ℕ, [], Option, IfSome, Some, length}
 use Rattle.std.specs.HashMap.{HashMap, get}
 use Rattle.ast_grammar.specs.declared.grammar.ClassId.{ClassId}
-use Rattle.equation_law.specs.Equations.{collection_root}
+use Rattle.equation_law.specs.Equations.{collection_root, offers_below}
 use Rattle.equation_law.specs.Program.{Program}
 use Rattle.collection_attrs.specs.contracts.noted_roots.UpwardsPartialEq.TheImpl as beginnings
+use Rattle.collection_attrs.specs.declared.collectors.Collector.{Collector}
 use Rattle.collection_attrs.specs.declared.noted_roots.Upwards.{Upwards}
+use Rattle.collection_attrs.specs.Surveys.{ForCollector}
+
+-- exactly what is offered in the subtree of this root is offered to the collection
+abbrev pub IsRootOf : Program → Collector → ℕ → Type 0
+IsRootOf p of r = ForCollector p of (λ c. c.offers ≡ offers_below p of.attr.0 (Some r))
+
+-- nothing is offered to it
+abbrev pub IsRootless : Program → Collector → Type 0
+IsRootless p of = ForCollector p of (λ c. c.offers ≡ [])
 
 -- the closest node of the class c from node n upwards, or that there is none; it is a node of the tree
 pub record IsRoot (p : Program) (c : ClassId) (n : ℕ) (r : Option ℕ) : Type 0 where
@@ -15,3 +25,7 @@ pub record IsRoot (p : Program) (c : ClassId) (n : ℕ) (r : Option ℕ) : Type 
 -- each note tells the root of its node
 abbrev pub AreRoots : {S : Type 0} → Program → HashMap Upwards (Option ℕ) S → Type 0
 AreRoots p notes = (u : Upwards) (r : Option ℕ) → get beginnings.ghosts.eq notes u ≡ Some r → IsRoot p (record { 0 = u.class }) u.node r
+
+-- what is kept was kept before, or is this root of this beginning
+abbrev pub KeepsAtMost : {S : Type 0} → HashMap Upwards (Option ℕ) S → Upwards → Option ℕ → HashMap Upwards (Option ℕ) S → Type 0
+KeepsAtMost old from root new = (u : Upwards) (r : Option ℕ) → get beginnings.ghosts.eq new u ≡ Some r → (get beginnings.ghosts.eq old u ≡ Some r) ⊎ ((u ≡ from) × (r ≡ root))

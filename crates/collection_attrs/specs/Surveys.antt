@@ -1,12 +1,16 @@
 -- Walks and surveys as the code keeps them.
-use Rattle.std.specs.Prelude.{◌≡◌, ℕ, suc, ◌+◌, ◌<◌, ◌≤◌, ◌^◌, ◌++◌, true, List, [], Option, Some, None, length, map, slice_get, take}
+use Rattle.std.specs.Prelude.{◌≡◌, ℕ, suc, ◌+◌, ◌<◌, ◌≤◌, ◌^◌, ◌++◌, true, List, [], Option, Some, None, length, map, set, slice_get, take}
 use Rattle.attr_rules.specs.declared.kinds.EqId.{EqId}
+use Rattle.attr_rules.specs.declared.kinds.Kind.{Kind}
+use Rattle.attr_rules.specs.declared.kinds.Method.{Method}
 use Rattle.attr_rules.specs.Expression.{Expression, Truth}
-use Rattle.attr_rules.specs.Rules.{body_at}
+use Rattle.attr_rules.specs.Rules.{Contribution, body_at}
 use Rattle.tree_arena.specs.Nodes.{end_in}
+use Rattle.equation_law.specs.declared.coding.Instance.{Instance as CodedInstance}
 use Rattle.equation_law.specs.declared.coding.NodeRef.{NodeRef}
+use Rattle.equation_law.specs.declared.coding.Value.{Value as CodedValue}
 use Rattle.equation_law.specs.Codes.{AreElements, IsCoded, instance_of, reference_of, value_of}
-use Rattle.equation_law.specs.Collections.{Collection, Offer, fresh}
+use Rattle.equation_law.specs.Collections.{Collection, Offer, combine, fresh}
 use Rattle.equation_law.specs.Equations.{collection_of}
 use Rattle.equation_law.specs.Names.{At, Attribute, Instance, Reference, same_reference}
 use Rattle.equation_law.specs.Program.{Program, text_of}
@@ -19,10 +23,18 @@ use Rattle.collection_attrs.specs.declared.surveys.Survey.{Survey}
 use Rattle.collection_attrs.specs.declared.weighing.Weighed.{Weighed}
 use Rattle.collection_attrs.specs.declared.weighing.Weighed.TheVariants as weighings
 use Rattle.collection_attrs.specs.Passed.{ArePassed, Comes, IsPassed, Kept, kept}
-use Rattle.collection_attrs.specs.Walks.{IsNextFor, IsOfferStuck, IsStuck, IsSurvey, NoneFrom, Noted, Walk, passed_by}
+use Rattle.collection_attrs.specs.Walks.{IsFor, IsNextFor, IsOfferStuck, IsStuck, IsSurvey, NoneFrom, Noted, Walk, passed_by}
 
 abbrev pub noted_in : Entry → Noted
 noted_in e = record { node = e.node; contribution = e.contribution; receiver = reference_of e.receiver.0 }
+
+-- the note of an offer, by its node, its contribution and its receiver as that is coded
+abbrev pub note_of : ℕ → ℕ → NodeRef → Noted
+note_of node contribution receiver = record { node = node; contribution = contribution; receiver = reference_of receiver.0 }
+
+-- the entry at a place tells this one as the next, and is no other but for that
+abbrev pub TellsNext : List Entry → ℕ → ℕ → List Entry → Type 0
+TellsNext old place next new = (x : Entry) → slice_get old place ≡ Some x → (y : Entry) × (new ≡ set old place y) × (noted_in y ≡ noted_in x) × (y.receiver ≡ x.receiver) × (y.next ≡ next)
 
 -- The entries with one receiver are a ring: each tells the next, and the last the first. For each receiver that has entries it is kept where the last
 -- stands. Entries are counted by 32 bits.
@@ -39,6 +51,14 @@ pub record IsCollectorOf (p : Program) (of : Collector) (c : Collection) : Type 
   pub method : c.method ≡ of.method
   pub kind : c.kind ≡ of.kind
 
+-- it holds of the collection that an attribute is at a node, as the code says it
+abbrev pub ForCollector : Program → Collector → (Collection → Type 0) → Type 0
+ForCollector p of holds = (c : Collection) → IsCollectorOf p of c → holds c
+
+-- an instance is a collection, and the code says which
+abbrev pub SaysCollection : Program → CodedInstance → Collector → Type 0
+SaysCollection p i of = (c : Collection) × (collection_of p (instance_of p i) ≡ Some c) × IsCollectorOf p of c
+
 -- the condition of a contribution: a condition that isn't written is true
 abbrev pub IsCondition : Program → Option EqId → Expression → Type 0
 IsCondition p None e = e ≡ Truth true
@@ -49,6 +69,10 @@ abbrev pub IsWeighed : Program → (Instance → Value → Type 0) → Offer →
 IsWeighed p A o weighings.Unmet = IsPassed p A o None
 IsWeighed p A o (weighings.Met r) = IsPassed p A o (Some (reference_of r.0))
 IsWeighed p A o (weighings.Stuck j) = IsCoded p j × IsOfferStuck p A o (instance_of p j)
+
+-- so it is of the offer of a contribution, by its number, at a node
+abbrev pub IsWeighedAt : Program → (Instance → Value → Type 0) → ℕ → ℕ → Weighed → Type 0
+IsWeighedAt p A number node weighed = (c : Contribution) → slice_get p.rules.contributions number ≡ Some c → IsWeighed p A (record { contribution = c; node = node }) weighed
 
 -- What came of a step of a walk: it has passed more, or it stands before an offer that is stuck at a demand, or at the end of the subtree.
 abbrev pub IsPassage : Program → (Instance → Value → Type 0) → Walk → Walk → Passage → Type 0
@@ -86,3 +110,19 @@ pub record IsNew (p : Program) (of : Collector) (s : Survey) : Type 0 where
   pub taken : s.taken ≡ 0
   pub so_far : value_of (text_of p) s.so_far ≡ fresh of.method of.kind
   pub coded : AreElements p s.so_far
+
+-- a collection goes along a walk that is for it, and so far it has gone over its offers, whatever walk it went along before
+abbrev pub GoesAlong : Program → (Instance → Value → Type 0) → Collector → Walk → Survey → Type 0
+GoesAlong p A of w s = (c : Collection) × IsCollectorOf p of c × IsFor p w c × IsSurveyed p A c s
+
+-- it has gone over all that a walk has noted
+abbrev pub HasCounted : Program → (Instance → Value → Type 0) → Collector → Walk → Survey → Type 0
+HasCounted p A of w s = ForCollector p of (λ c. IsCounted p A w c s)
+
+-- a value is the combination of another and one value more
+abbrev pub IsCombined : Program → Method → Kind → CodedValue → CodedValue → CodedValue → Type 0
+IsCombined p method kind so_far value v = value_of (text_of p) v ≡ combine method kind (value_of (text_of p) so_far) (value_of (text_of p) value)
+
+-- a collection has counted a value besides, up to the one that is contributed at this place
+abbrev pub CountsValue : Program → Collector → Survey → ℕ → CodedValue → Survey → Type 0
+CountsValue p of old place value new = (new.taken ≡ place + 1) × AreElements p new.so_far × IsCombined p of.method of.kind old.so_far value new.so_far

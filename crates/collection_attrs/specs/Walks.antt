@@ -1,6 +1,6 @@
 -- The walk over what is offered to a collection in the subtree of a root, shared by the collection's instances at all nodes, and how far one of
 -- them has gone in it.
-use Rattle.std.specs.Prelude.{◌≡◌, ℕ, zero, suc, ◌+◌, ◌^◌, ◌<◌, ◌≤◌, true, false, List, [], ◌∷◌, Option, Some, length, slice_get, take}
+use Rattle.std.specs.Prelude.{◌≡◌, ℕ, zero, suc, ◌+◌, ◌^◌, ◌<◌, ◌≤◌, true, false, List, [], ◌∷◌, ◌++◌, Option, Some, None, length, slice_get, take}
 use Rattle.solutions.specs.Asking.{Ends, Halts}
 use Rattle.attr_rules.specs.Rules.{Contribution}
 use Rattle.tree_arena.specs.Nodes.{end_in}
@@ -29,6 +29,15 @@ pub record Walk : Type 0 where
 -- a walk that begins
 abbrev pub new_walk : ℕ → ℕ → Walk
 new_walk a r = record { attribute = a; root = r; node = r; contribution = 0; notes = [] }
+
+-- the notes of a walk, and the offer before which it stands, where there is a receiver for which this is noted
+abbrev pub with_note : Walk → Option Reference → List Noted
+with_note w None = w.notes
+with_note w (Some r) = w.notes ++ record { node = w.node; contribution = w.contribution; receiver = r } ∷ []
+
+-- the walk behind the contribution before which it stands, which it has noted where there is a receiver
+abbrev pub one_further : Walk → Option Reference → Walk
+one_further w r = record { attribute = w.attribute; root = w.root; node = w.node; contribution = w.contribution + 1; notes = with_note w r }
 
 -- this is the offer that is noted
 pub record IsNote (p : Program) (n : Noted) (k : Kept) : Type 0 where
@@ -80,19 +89,31 @@ pub record IsOfferedAt (p : Program) (w : Walk) : Type 0 where
   pub is : slice_get p.rules.contributions w.contribution ≡ Some contribution
   pub offered : is_offered p w.attribute w.node contribution ≡ true
 
+-- this offer, by its node and its contribution, is the one before which a walk stands, in front of the end of the subtree
+abbrev pub StandsBefore : Program → Walk → ℕ × ℕ → Type 0
+StandsBefore p w at = (at.0 ≡ w.node) × (at.1 ≡ w.contribution) × (w.node < end_in p.tree w.root) × IsOfferedAt p w
+
 -- no contribution from one on and before another is offered to an attribute at a node
 abbrev pub NoneOffered : Program → ℕ → ℕ → ℕ → ℕ → Type 0
 NoneOffered p a node from to = (k : ℕ) (c : Contribution) → from ≤ k → k < to → slice_get p.rules.contributions k ≡ Some c → is_offered p a node c ≡ false
 
--- From a contribution at a node on, the next that is offered before the end of a subtree is this one, at this node. What stands before it is what
--- stands before the first place, in the subtree of any root from which the first node is reached.
+-- from one on, this contribution is the first that is offered to an attribute at a node
+abbrev pub IsFirstOffered : Program → ℕ → ℕ → ℕ → ℕ → Type 0
+IsFirstOffered p a node from k = (from ≤ k) × (c : Contribution) × (slice_get p.rules.contributions k ≡ Some c) × (is_offered p a node c ≡ true) × NoneOffered p a node from k
+
+-- From a contribution at a node on, none is offered before another place: what stands before that is what stands before the first place, in the
+-- subtree of any root from which the first node is reached.
+abbrev pub NoneBetween : Program → ℕ → ℕ → ℕ → ℕ → ℕ → Type 0
+NoneBetween p a from first node k = (root : ℕ) → root ≤ from → offers_before p a root node k ≡ offers_before p a root from first
+
+-- From a contribution at a node on, the next that is offered before the end of a subtree is this one, at this node.
 pub record IsNext (p : Program) (a from first end node k : ℕ) : Type 0 where
   pub after : from ≤ node
   pub before : node < end
   pub contribution : Contribution
   pub is : slice_get p.rules.contributions k ≡ Some contribution
   pub offered : is_offered p a node contribution ≡ true
-  pub same : (root : ℕ) → root ≤ from → offers_before p a root node k ≡ offers_before p a root from first
+  pub same : NoneBetween p a from first node k
 
 -- An offer is stuck at a demand that has no value: its condition is, or the condition is true, and its receiver is.
 pub data IsOfferStuck (p : Program) (A : Instance → Value → Type 0) (o : Offer) (j : Instance) : Type 0 where
@@ -116,6 +137,10 @@ pub record IsFirstFor (ns : List Noted) (r : Reference) (from place : ℕ) : Typ
 
 abbrev pub NoneFrom : List Noted → Reference → ℕ → Type 0
 NoneFrom ns r from = (i : ℕ) (n : Noted) → from ≤ i → slice_get ns i ≡ Some n → same_reference n.receiver r ≡ false
+
+-- a place stands behind a note with a receiver
+abbrev pub IsBehind : List Noted → Reference → ℕ → Type 0
+IsBehind ns r from = (k : ℕ) × (n : Noted) × (suc k ≡ from) × (slice_get ns k ≡ Some n) × (same_reference n.receiver r ≡ true)
 
 -- Where the notes with a receiver are a ring: from a place on, the next of them stands at this place. That is the first from there on, or where there
 -- is none, the first of all.

@@ -1,12 +1,13 @@
 // Which instances are collections, and the root of one.
-ghost use Rattle.std.specs.Prelude.{◌≡◌, ◌<◌, [], IfNone, IfSome, None, Some, length};
+ghost use Rattle.std.specs.Prelude.{◌≡◌, ◌<◌, IfNone, IfSome, None, Some, length};
 ghost use Rattle.std.specs.Option.{is_some};
 ghost use Rattle.tree_arena.specs.Terms.{IsTree};
 ghost use Rattle.equation_law.specs.Codes.{instance_of};
 ghost use Rattle.equation_law.specs.Collections.{Collection};
-ghost use Rattle.equation_law.specs.Equations.{collection_of, collection_root, offers_below};
+ghost use Rattle.equation_law.specs.Equations.{collection_of, collection_root};
 ghost use Rattle.equation_law.specs.Systems.{program_of};
-ghost use Rattle.collection_attrs.specs.Surveys.{IsCollectorOf};
+ghost use Rattle.collection_attrs.specs.Roots.{IsRootOf, IsRootless};
+ghost use Rattle.collection_attrs.specs.Surveys.{IsCollectorOf, SaysCollection};
 
 use ast_grammar::ClassId;
 use attr_rules::{AttrId, Kind, Method};
@@ -23,7 +24,7 @@ pub struct Collector {
 
 /// The collection that an instance is, if it is one. It takes no memory.
 pub fn collector_of(system: &System, i: &Instance) -> Option<Collector>
-    ensures some { IfSome result (λ of. (c : Collection) × (collection_of (program_of system.now) (instance_of (program_of system.now) i.now) ≡ Some c) × IsCollectorOf (program_of system.now) of c) }
+    ensures some { IfSome result (SaysCollection (program_of system.now) i.now) }
     ensures none { IfNone result (collection_of (program_of system.now) (instance_of (program_of system.now) i.now) ≡ None) }
 {
     let Instance::Attr { attr, node, .. } = *i else {
@@ -72,8 +73,8 @@ fn closest(system: &System, class: ClassId, node: u32) -> Option<u32>
 pub fn root_of(system: &System, of: Collector) -> Option<u32>
     requires { (c : Collection) × IsCollectorOf (program_of system.now) of c }
     ensures within { IfSome result (λ r. r < length (program_of system.now).tree) }
-    ensures some { IfSome result (λ r. (c : Collection) → IsCollectorOf (program_of system.now) of c → c.offers ≡ offers_below (program_of system.now) of.attr.0 (Some r)) }
-    ensures none { IfNone result ((c : Collection) → IsCollectorOf (program_of system.now) of c → c.offers ≡ []) }
+    ensures some { IfSome result (IsRootOf (program_of system.now) of) }
+    ensures none { IfNone result (IsRootless (program_of system.now) of) }
 {
     let node = of.node.source()?;
     let nodes = system.tree().len();

@@ -3,9 +3,10 @@ ghost use Rattle.std.specs.Prelude.{◌≡◌, ◌+ℤ◌, IfOk};
 ghost use Rattle.std.specs.Int.{int_wrap};
 ghost use mir.Syntax.{w32};
 ghost use Rattle.equation_law.specs.Codes.{AreElements, value_of};
-ghost use Rattle.equation_law.specs.Collections.{combine, fresh};
+ghost use Rattle.equation_law.specs.Collections.{fresh};
 ghost use Rattle.equation_law.specs.Program.{text_of};
 ghost use Rattle.equation_law.specs.Systems.{program_of};
+ghost use Rattle.collection_attrs.specs.Surveys.{IsCombined};
 
 use attr_rules::{Kind, Method, SetOperator};
 use equation_law::{System, Value};
@@ -44,7 +45,7 @@ pub(crate) fn combine(
 ) -> Result<Value, Memory>
     requires so_far { AreElements (program_of system.now) so_far }
     requires value { AreElements (program_of system.now) value }
-    ensures value { IfOk result (λ v. value_of (text_of (program_of system.now)) v ≡ combine method kind (value_of (text_of (program_of system.now)) so_far) (value_of (text_of (program_of system.now)) value)) }
+    ensures value { IfOk result (IsCombined (program_of system.now) method kind so_far value) }
     ensures elements { IfOk result (AreElements (program_of system.now)) }
 {
     match method {

@@ -1,11 +1,12 @@
 // What collections come to, and the equation of any instance.
 ghost use Rattle.std.specs.Prelude.{◌≡◌, Some};
 ghost use Rattle.equation_law.specs.Codes.{IsCoded, instance_of};
-ghost use Rattle.equation_law.specs.Collections.{Collection, collection_demands};
-ghost use Rattle.equation_law.specs.Equations.{collection_of, equations_of, world_of};
+ghost use Rattle.equation_law.specs.Collections.{Collection};
+ghost use Rattle.equation_law.specs.Equations.{collection_of};
 ghost use Rattle.equation_law.specs.Reading.{IsSound};
 ghost use Rattle.equation_law.specs.Systems.{program_of};
-ghost use Rattle.expr_eval.specs.Evaluating.{Evaluates};
+ghost use Rattle.collection_attrs.specs.Evaluations.{EvaluatesCollection};
+ghost use Rattle.expr_eval.specs.Sites.{EvaluatesInstance};
 ghost use Rattle.collection_attrs.specs.Surveys.{IsCollectorOf};
 
 use crate::collectors::{Collector, collector_of, is_collection, root_of};
@@ -25,7 +26,7 @@ fn collect<R: Reader>(
 ) -> Result<Turn, Memory>
     requires collection { (c : Collection) × IsCollectorOf (program_of system.now) of c }
     requires sound { IsSound (program_of system.now) (R.tells reader.old) }
-    ensures { (c : Collection) → IsCollectorOf (program_of system.now) of c → Evaluates (program_of system.now) (R.tells reader.old) (R.tells reader.new) (collection_demands (world_of (program_of system.now)) c) result }
+    ensures { EvaluatesCollection (program_of system.now) (R.tells reader.old) (R.tells reader.new) of result }
 {
     let mut survey = Survey::new(alloc, system, of);
     let Some(root) = root_of(system, of) else {
@@ -45,7 +46,7 @@ pub fn survey<R: Reader>(
 ) -> Result<Turn, Memory>
     requires collection { (c : Collection) × (collection_of (program_of system.now) (instance_of (program_of system.now) i.now) ≡ Some c) }
     requires sound { IsSound (program_of system.now) (R.tells reader.old) }
-    ensures { Evaluates (program_of system.now) (R.tells reader.old) (R.tells reader.new) ((equations_of (program_of system.now)).equation (instance_of (program_of system.now) i.now)) result }
+    ensures { EvaluatesInstance (program_of system.now) (R.tells reader.old) (R.tells reader.new) i.now result }
 {
     match collector_of(system, i) {
         Some(of) => collect(alloc, system, of, reader),
@@ -62,7 +63,7 @@ pub fn evaluate_any<R: Reader>(
 ) -> Result<Turn, Memory>
     requires sound { IsSound (program_of system.now) (R.tells reader.old) }
     requires coded { IsCoded (program_of system.now) i.now }
-    ensures { Evaluates (program_of system.now) (R.tells reader.old) (R.tells reader.new) ((equations_of (program_of system.now)).equation (instance_of (program_of system.now) i.now)) result }
+    ensures { EvaluatesInstance (program_of system.now) (R.tells reader.old) (R.tells reader.new) i.now result }
 {
     if is_collection(system, i) {
         return survey(alloc, system, i, reader);

@@ -1,9 +1,8 @@
 // Entries of a walk: those with one receiver are a ring.
-ghost use Rattle.std.specs.Prelude.{◌≡◌, ◌+◌, ◌++◌, ◌∷◌, ◌^◌, ◌<◌, [], ℕ, IfNone, IfOk, IfSome, OnErr, OnOk, Some, length, map, set, slice_get};
-ghost use Rattle.equation_law.specs.Codes.{reference_of};
+ghost use Rattle.std.specs.Prelude.{◌≡◌, ◌+◌, ◌++◌, ◌∷◌, ◌^◌, ◌<◌, [], ℕ, IfNone, IfOk, IfSome, OnErr, OnOk, Some, length, map, slice_get};
 ghost use Rattle.collection_attrs.specs.declared.linking.Entry.{Entry as Kept};
 ghost use Rattle.collection_attrs.specs.Spots.{IsTree, last_of};
-ghost use Rattle.collection_attrs.specs.Surveys.{AreChained, noted_in};
+ghost use Rattle.collection_attrs.specs.Surveys.{AreChained, TellsNext, note_of, noted_in};
 
 use crate::lasts::{Spot, last_for, put};
 use equation_law::NodeRef;
@@ -42,7 +41,7 @@ fn first_for(entries: &[Entry], before: Option<u32>, place: u32) -> u32
 /// Tells an entry the next with its receiver.
 fn tell(entries: &mut Vec<Entry>, place: u32, next: u32)
     requires { place < length entries.old.items }
-    ensures { (x : Kept) → slice_get entries.old.items place ≡ Some x → (y : Kept) × (entries.new.items ≡ set entries.old.items place y) × (noted_in y ≡ noted_in x) × (y.receiver ≡ x.receiver) × (y.next ≡ next) }
+    ensures { TellsNext entries.old.items place next entries.new.items }
 {
     let mut entry = entries[place as usize];
     entry.next = next;
@@ -79,7 +78,7 @@ pub(crate) fn link(
     requires tree { IsTree lasts.old.items }
     ensures chained { AreChained entries.new.items (last_of lasts.new.items) }
     ensures tree { IsTree lasts.new.items }
-    ensures kept { OnOk result (map noted_in entries.new.items ≡ map noted_in entries.old.items ++ record { node = node; contribution = contribution; receiver = reference_of receiver.0 } ∷ []) }
+    ensures kept { OnOk result (map noted_in entries.new.items ≡ map noted_in entries.old.items ++ note_of node contribution receiver ∷ []) }
     ensures stays { OnErr result (map noted_in entries.new.items ≡ map noted_in entries.old.items) }
 {
     let place = place_behind(entries)?;

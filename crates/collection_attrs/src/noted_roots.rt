@@ -1,13 +1,9 @@
 // Roots of collections that were found already.
-ghost use Rattle.std.specs.Prelude.{◌≡◌, ◌⊎◌, ◌<◌, [], ℕ, Option as OrNone, IfNone, IfSome, Some, length};
-ghost use Rattle.std.specs.HashMap.{get};
+ghost use Rattle.std.specs.Prelude.{◌≡◌, ◌<◌, IfNone, IfSome, length};
 ghost use Rattle.tree_arena.specs.Terms.{IsTree};
 ghost use Rattle.equation_law.specs.Collections.{Collection};
-ghost use Rattle.equation_law.specs.Equations.{offers_below};
 ghost use Rattle.equation_law.specs.Systems.{program_of};
-ghost use Rattle.collection_attrs.specs.contracts.noted_roots.UpwardsPartialEq.TheImpl as beginnings;
-ghost use Rattle.collection_attrs.specs.declared.noted_roots.Upwards.{Upwards as Beginning};
-ghost use Rattle.collection_attrs.specs.Roots.{IsRoot};
+ghost use Rattle.collection_attrs.specs.Roots.{IsRoot, IsRootOf, IsRootless, KeepsAtMost};
 ghost use Rattle.collection_attrs.specs.Surveys.{IsCollectorOf};
 
 use crate::collectors::Collector;
@@ -62,7 +58,7 @@ impl Model for Roots {
 
 // Keeps the root of a node, if there is memory for that.
 fn keep(notes: &mut HashMap<Upwards, Option<u32>>, from: Upwards, root: Option<u32>)
-    ensures { (u : Beginning) (r : OrNone ℕ) → get beginnings.ghosts.eq notes.new u ≡ Some r → (get beginnings.ghosts.eq notes.old u ≡ Some r) ⊎ ((u ≡ from) × (r ≡ root)) }
+    ensures { KeepsAtMost notes.old from root notes.new }
 {
     let _kept = notes.insert(from, root);
 }
@@ -143,8 +139,8 @@ impl Roots {
         requires collection { (c : Collection) × IsCollectorOf (program_of system.now) of c }
         ensures same { self.new ≡ self.old }
         ensures within { IfSome result (λ r. r < length (program_of system.now).tree) }
-        ensures some { IfSome result (λ r. (c : Collection) → IsCollectorOf (program_of system.now) of c → c.offers ≡ offers_below (program_of system.now) of.attr.0 (Some r)) }
-        ensures none { IfNone result ((c : Collection) → IsCollectorOf (program_of system.now) of c → c.offers ≡ []) }
+        ensures some { IfSome result (IsRootOf (program_of system.now) of) }
+        ensures none { IfNone result (IsRootless (program_of system.now) of) }
     {
         let node = of.node.source()?;
         let nodes = system.tree().len();

@@ -1,11 +1,10 @@
 // The walk over what is offered to a collection in the subtree of a root.
-ghost use Rattle.std.specs.Prelude.{◌≡◌, ◌⊎◌, ◌+◌, ◌++◌, ◌∷◌, ◌^◌, ◌<◌, ◌≤◌, [], ℕ, IfNone, IfSome, OnErr, OnOk, Some, length, slice_get, suc, true};
+ghost use Rattle.std.specs.Prelude.{◌≡◌, ◌⊎◌, ◌+◌, ◌^◌, ◌<◌, ◌≤◌, IfNone, IfSome, None, OnErr, OnOk, Some, length, slice_get};
 ghost use Rattle.tree_arena.specs.Nodes.{end_in};
 ghost use Rattle.equation_law.specs.Codes.{reference_of};
-ghost use Rattle.equation_law.specs.Names.{same_reference};
 ghost use Rattle.equation_law.specs.Systems.{program_of};
 ghost use Rattle.collection_attrs.specs.Surveys.{noted_in};
-ghost use Rattle.collection_attrs.specs.Walks.{IsFirstFor, IsOfferedAt, IsStanding, NoneFrom, Noted, new_walk, passed_by};
+ghost use Rattle.collection_attrs.specs.Walks.{IsBehind, IsFirstFor, IsStanding, NoneFrom, StandsBefore, new_walk, one_further, passed_by};
 
 use crate::lasts::{Spot, last_for};
 use crate::linking::{Entry, link, told};
@@ -88,7 +87,7 @@ impl Offers {
     /// The first offer from a place on with this receiver, if one is kept. It takes constant time: the place is 0, or stands behind an offer with
     /// the receiver.
     pub(crate) fn next_for(&self, receiver: NodeRef, from: u32) -> Option<u32>
-        requires { (from ≡ 0) ⊎ ((k : ℕ) × (n : Noted) × (suc k ≡ from) × (slice_get self.now.notes k ≡ Some n) × (same_reference n.receiver (reference_of receiver.0) ≡ true)) }
+        requires { (from ≡ 0) ⊎ IsBehind self.now.notes (reference_of receiver.0) from }
         ensures few { IfSome result (λ k. k + 1 < 2 ^ 32) }
         ensures some { IfSome result (IsFirstFor self.now.notes (reference_of receiver.0) from) }
         ensures none { IfNone result (NoneFrom self.now.notes (reference_of receiver.0) from) }
@@ -111,7 +110,7 @@ impl Offers {
         ensures stands { IsStanding (program_of system.now) self.new }
         ensures passed { passed_by (program_of system.now) self.new ≡ passed_by (program_of system.now) self.old }
         ensures few { IfSome result (λ at. (at.0 + 1 < 2 ^ 32) × (at.1 + 1 < 2 ^ 32)) }
-        ensures some { IfSome result (λ at. (at.0 ≡ self.new.node) × (at.1 ≡ self.new.contribution) × (self.new.node < end_in (program_of system.now).tree self.new.root) × IsOfferedAt (program_of system.now) self.new) }
+        ensures some { IfSome result (StandsBefore (program_of system.now) self.new) }
         ensures none { IfNone result (self.new.node ≡ end_in (program_of system.now).tree self.new.root) }
     {
         let end = system.tree().end(self.root);
@@ -134,7 +133,7 @@ impl Offers {
     /// Passes an offer whose condition is false.
     pub(crate) fn pass(&mut self)
         requires { self.old.contribution + 1 < 2 ^ 32 }
-        ensures { self.new ≡ record { attribute = self.old.attribute; root = self.old.root; node = self.old.node; contribution = self.old.contribution + 1; notes = self.old.notes } }
+        ensures { self.new ≡ one_further self.old None }
     {
         self.contribution += 1;
     }
@@ -142,7 +141,7 @@ impl Offers {
     /// Passes one whose condition is true, which is kept with its receiver. Without memory for it the walk stays where it is.
     pub(crate) fn keep(&mut self, receiver: NodeRef) -> Result<(), Memory>
         requires { self.old.contribution + 1 < 2 ^ 32 }
-        ensures kept { OnOk result (self.new ≡ record { attribute = self.old.attribute; root = self.old.root; node = self.old.node; contribution = self.old.contribution + 1; notes = self.old.notes ++ record { node = self.old.node; contribution = self.old.contribution; receiver = reference_of receiver.0 } ∷ [] }) }
+        ensures kept { OnOk result (self.new ≡ one_further self.old (Some (reference_of receiver.0))) }
         ensures stays { OnErr result (self.new ≡ self.old) }
     {
         link(

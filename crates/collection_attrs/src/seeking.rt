@@ -1,10 +1,7 @@
 // The next of the offers in the subtree of a root.
-ghost use Rattle.std.specs.Prelude.{◌≡◌, ◌+◌, ◌^◌, ◌<◌, ◌≤◌, ℕ, IfNone, IfSome, Some, length, slice_get, true};
-ghost use Rattle.attr_rules.specs.Rules.{Contribution as Offered};
-ghost use Rattle.equation_law.specs.Equations.{is_offered};
+ghost use Rattle.std.specs.Prelude.{◌≡◌, ◌+◌, ◌^◌, ◌<◌, ◌≤◌, IfNone, IfSome, length};
 ghost use Rattle.equation_law.specs.Systems.{program_of};
-ghost use Rattle.collection_attrs.specs.Passed.{offers_before};
-ghost use Rattle.collection_attrs.specs.Walks.{IsNext, NoneOffered};
+ghost use Rattle.collection_attrs.specs.Walks.{IsFirstOffered, IsNext, NoneBetween, NoneOffered};
 
 use attr_rules::AttrId;
 use equation_law::System;
@@ -13,7 +10,7 @@ use equation_law::System;
 fn next_offered(system: &System, attr: AttrId, node: u32, from: u32) -> Option<u32>
     requires node { node < length (program_of system.now).tree }
     ensures few { IfSome result (λ k. k + 1 < 2 ^ 32) }
-    ensures some { IfSome result (λ k. (from ≤ k) × (c : Offered) × (slice_get (program_of system.now).rules.contributions k ≡ Some c) × (is_offered (program_of system.now) attr.0 node c ≡ true) × NoneOffered (program_of system.now) attr.0 node from k) }
+    ensures some { IfSome result (IsFirstOffered (program_of system.now) attr.0 node from) }
     ensures none { IfNone result (NoneOffered (program_of system.now) attr.0 node from (length (program_of system.now).rules.contributions)) }
 {
     let rules = system.rules();
@@ -45,7 +42,7 @@ pub(crate) fn next_from(
     requires ended { from ≡ end → first ≡ 0 }
     ensures few { IfSome result (λ at. (at.0 + 1 < 2 ^ 32) × (at.1 + 1 < 2 ^ 32)) }
     ensures some { IfSome result (λ at. IsNext (program_of system.now) attr.0 from first end at.0 at.1) }
-    ensures none { IfNone result ((root : ℕ) → root ≤ from → offers_before (program_of system.now) attr.0 root end 0 ≡ offers_before (program_of system.now) attr.0 root from first) }
+    ensures none { IfNone result (NoneBetween (program_of system.now) attr.0 from first end 0) }
 {
     let mut node = from;
     let mut next = first;

@@ -1,17 +1,12 @@
 // How far one collection has gone over its offers, and how it goes on.
-ghost use Rattle.std.specs.Prelude.{◌≡◌, ◌⊎◌, ◌<◌, ◌≤◌, ◌+◌, ◌^◌, IfNone, IfOk, IfSome, List, OnErr, OnOk, length};
-ghost use Rattle.solutions.specs.Asking.{Halts};
-ghost use Rattle.equation_law.specs.Codes.{AreElements, IsCoded, instance_of, value_of};
-ghost use Rattle.equation_law.specs.Collections.{Collection, collection_demands, combine};
-ghost use Rattle.equation_law.specs.Equations.{world_of};
-ghost use Rattle.equation_law.specs.Names.{Instance as Asked};
-ghost use Rattle.equation_law.specs.Program.{text_of};
+ghost use Rattle.std.specs.Prelude.{◌≡◌, ◌⊎◌, ◌<◌, ◌≤◌, ◌+◌, ◌^◌, IfNone, IfOk, IfSome, OnErr, OnOk, length};
+ghost use Rattle.equation_law.specs.Codes.{AreElements};
 ghost use Rattle.equation_law.specs.Reading.{Grows, IsSound};
 ghost use Rattle.equation_law.specs.Systems.{program_of};
-ghost use Rattle.expr_eval.specs.Evaluating.{Evaluates};
 ghost use Rattle.expr_eval.specs.Saved.{AreSaved};
-ghost use Rattle.collection_attrs.specs.Surveys.{IsCollectorOf, IsCounted, IsNew, IsSurveyed};
-ghost use Rattle.collection_attrs.specs.Walks.{IsFor, IsWalk};
+ghost use Rattle.collection_attrs.specs.Evaluations.{EvaluatesCollection, IsStuckAt};
+ghost use Rattle.collection_attrs.specs.Surveys.{CountsValue, ForCollector, GoesAlong, HasCounted, IsNew, IsSurveyed};
+ghost use Rattle.collection_attrs.specs.Walks.{IsWalk};
 
 use crate::collectors::Collector;
 use crate::combining::{combine, fresh};
@@ -73,7 +68,7 @@ impl Survey {
         requires few { place + 1 < 2 ^ 32 }
         requires so_far { AreElements (program_of system.now) self.old.so_far }
         requires value { AreElements (program_of system.now) value }
-        ensures counted { OnOk result ((self.new.taken ≡ place + 1) × AreElements (program_of system.now) self.new.so_far × (value_of (text_of (program_of system.now)) self.new.so_far ≡ combine of.method of.kind (value_of (text_of (program_of system.now)) self.old.so_far) (value_of (text_of (program_of system.now)) value))) }
+        ensures counted { OnOk result (CountsValue (program_of system.now) of self.old place value self.new) }
         ensures anew { OnErr result (IsNew (program_of system.now) of self.new) }
     {
         let gone = replace(self, Survey::new(alloc, system, of));
@@ -96,14 +91,14 @@ impl Survey {
     ) -> Result<Option<Instance>, Memory>
         requires sound { IsSound (program_of system.now) (R.tells reader.old) }
         requires walk { IsWalk (program_of system.now) (R.tells reader.old).has offers.now }
-        requires collection { (c : Collection) × IsCollectorOf (program_of system.now) of c × IsFor (program_of system.now) offers.now c × IsSurveyed (program_of system.now) (R.tells reader.old).has c self.old }
+        requires collection { GoesAlong (program_of system.now) (R.tells reader.old).has of offers.now self.old }
         requires within { self.old.taken ≤ length offers.now.notes }
         requires saved { AreSaved system.now (R.tells reader.old).has saved.old }
         ensures kept { Grows (program_of system.now) (R.tells reader.old) (R.tells reader.new) }
-        ensures survey { (c : Collection) → IsCollectorOf (program_of system.now) of c → IsSurveyed (program_of system.now) (R.tells reader.new).has c self.new }
+        ensures survey { ForCollector (program_of system.now) of (λ c. IsSurveyed (program_of system.now) (R.tells reader.new).has c self.new) }
         ensures within { self.new.taken ≤ length offers.now.notes }
-        ensures counted { IfOk result (λ found. IfNone found ((c : Collection) → IsCollectorOf (program_of system.now) of c → IsCounted (program_of system.now) (R.tells reader.new).has offers.now c self.new)) }
-        ensures stuck { IfOk result (λ found. IfSome found (λ j. IsCoded (program_of system.now) j × ((c : Collection) → IsCollectorOf (program_of system.now) of c → (demands : List Asked) × Halts (R.tells reader.new).has (collection_demands (world_of (program_of system.now)) c) (instance_of (program_of system.now) j) demands))) }
+        ensures counted { IfOk result (λ found. IfNone found (HasCounted (program_of system.now) (R.tells reader.new).has of offers.now self.new)) }
+        ensures stuck { IfOk result (λ found. IfSome found (IsStuckAt (program_of system.now) (R.tells reader.new).has of)) }
         ensures saved { AreSaved system.now (R.tells reader.new).has saved.new }
     {
         let rules = system.rules();
@@ -133,12 +128,12 @@ impl Survey {
     ) -> Result<Turn, Memory>
         requires sound { IsSound (program_of system.now) (R.tells reader.old) }
         requires walk { IsWalk (program_of system.now) (R.tells reader.old).has offers.old }
-        requires collection { (c : Collection) × IsCollectorOf (program_of system.now) of c × IsFor (program_of system.now) offers.old c × IsSurveyed (program_of system.now) (R.tells reader.old).has c self.old }
+        requires collection { GoesAlong (program_of system.now) (R.tells reader.old).has of offers.old self.old }
         requires saved { AreSaved system.now (R.tells reader.old).has saved.old }
-        ensures evaluates { (c : Collection) → IsCollectorOf (program_of system.now) of c → Evaluates (program_of system.now) (R.tells reader.old) (R.tells reader.new) (collection_demands (world_of (program_of system.now)) c) result }
+        ensures evaluates { EvaluatesCollection (program_of system.now) (R.tells reader.old) (R.tells reader.new) of result }
         ensures same { (offers.new.attribute ≡ offers.old.attribute) × (offers.new.root ≡ offers.old.root) }
         ensures walk { IsWalk (program_of system.now) (R.tells reader.new).has offers.new }
-        ensures survey { (c : Collection) → IsCollectorOf (program_of system.now) of c → IsSurveyed (program_of system.now) (R.tells reader.new).has c self.new }
+        ensures survey { ForCollector (program_of system.now) of (λ c. IsSurveyed (program_of system.now) (R.tells reader.new).has c self.new) }
         ensures saved { AreSaved system.now (R.tells reader.new).has saved.new }
     {
         self.fit(alloc, system, of, offers);

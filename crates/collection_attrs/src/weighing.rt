@@ -1,14 +1,11 @@
 // What comes of an offer: its condition is evaluated, and where that is true, its receiver.
-ghost use Rattle.std.specs.Prelude.{◌≡◌, ◌+◌, ◌^◌, ◌<◌, IfOk, IfSome, Some, length, slice_get};
-ghost use Rattle.attr_rules.specs.Expression.{Expression};
-ghost use Rattle.attr_rules.specs.Rules.{Contribution as Offered, bodies, body_at};
-ghost use Rattle.equation_law.specs.Equations.{place_at, world_of};
-ghost use Rattle.equation_law.specs.Meaning.{meaning_of};
+ghost use Rattle.std.specs.Prelude.{◌+◌, ◌^◌, ◌<◌, IfOk, IfSome, length};
+ghost use Rattle.attr_rules.specs.Rules.{bodies};
 ghost use Rattle.equation_law.specs.Reading.{Grows, IsSound};
 ghost use Rattle.equation_law.specs.Systems.{program_of};
-ghost use Rattle.expr_eval.specs.Evaluating.{Evaluates};
 ghost use Rattle.expr_eval.specs.Saved.{AreSaved};
-ghost use Rattle.collection_attrs.specs.Surveys.{IsCondition, IsWeighed};
+ghost use Rattle.collection_attrs.specs.Evaluations.{EvaluatesBody, EvaluatesCondition};
+ghost use Rattle.collection_attrs.specs.Surveys.{IsWeighedAt};
 
 use attr_rules::EqId;
 use equation_law::{Instance, NodeRef, Reader, System, Value};
@@ -40,7 +37,7 @@ pub(crate) fn evaluate_part<'a, R: Reader>(
     requires few { node + 1 < 2 ^ 32 }
     requires sound { IsSound (program_of system.now) (R.tells reader.old) }
     requires saved { AreSaved system.now (R.tells reader.old).has saved.old }
-    ensures evaluates { (e : Expression) → body_at (program_of system.now).rules expression.0 ≡ Some e → Evaluates (program_of system.now) (R.tells reader.old) (R.tells reader.new) (meaning_of (world_of (program_of system.now)) e (place_at node)) result }
+    ensures evaluates { EvaluatesBody (program_of system.now) (R.tells reader.old) (R.tells reader.new) expression node result }
     ensures saved { AreSaved system.now (R.tells reader.new).has saved.new }
 {
     let at = NodeRef::of_source(Some(node));
@@ -64,7 +61,7 @@ fn condition<'a, R: Reader>(
     requires few { node + 1 < 2 ^ 32 }
     requires sound { IsSound (program_of system.now) (R.tells reader.old) }
     requires saved { AreSaved system.now (R.tells reader.old).has saved.old }
-    ensures evaluates { (e : Expression) → IsCondition (program_of system.now) guard e → Evaluates (program_of system.now) (R.tells reader.old) (R.tells reader.new) (meaning_of (world_of (program_of system.now)) e (place_at node)) result }
+    ensures evaluates { EvaluatesCondition (program_of system.now) (R.tells reader.old) (R.tells reader.new) guard node result }
     ensures saved { AreSaved system.now (R.tells reader.new).has saved.new }
 {
     match guard {
@@ -87,7 +84,7 @@ pub(crate) fn weigh<'a, R: Reader>(
     requires sound { IsSound (program_of system.now) (R.tells reader.old) }
     requires saved { AreSaved system.now (R.tells reader.old).has saved.old }
     ensures kept { Grows (program_of system.now) (R.tells reader.old) (R.tells reader.new) }
-    ensures weighed { IfOk result (λ weighed. (c : Offered) → slice_get (program_of system.now).rules.contributions number ≡ Some c → IsWeighed (program_of system.now) (R.tells reader.new).has (record { contribution = c; node = node }) weighed) }
+    ensures weighed { IfOk result (IsWeighedAt (program_of system.now) (R.tells reader.new).has number node) }
     ensures saved { AreSaved system.now (R.tells reader.new).has saved.new }
 {
     let contribution = system.rules().contribution(number);

@@ -3,4 +3,4 @@ use Rattle.collection_attrs.proofs.Grown.{survey_new}
 use Rattle.collection_attrs.proofs.laws.new_surveys.Goals as goal
 
 pub returns : goal.returns
-returns c = λ p A of x s is new. survey_new p (Graph A) is new
+returns c = λ p A of s new x is. survey_new p (Graph A) is new

@@ -1,7 +1,7 @@
 -- Nothing is offered between the first place and the one that is reached.
-use Rattle.std.proofs.Common.{◌≡◌, ◌-◌, ◌≤◌, ℕ, length}
+use Rattle.std.proofs.Common.{◌≡◌, ◌-◌, ◌≤◌, length}
 use Rattle.equation_law.specs.Systems.{program_of}
-use Rattle.collection_attrs.specs.Passed.{offers_before}
+use Rattle.collection_attrs.specs.Walks.{NoneBetween}
 use Rattle.collection_attrs.proofs.seeking.next_from.Given as goal
 
 abbrev pub invariant-nodes : goal.invariant-nodes
@@ -10,7 +10,7 @@ invariant-nodes l = record {
   before : l.node ≤ l.end;
   first : l.next ≤ length (program_of l.system).rules.contributions;
   ended : l.node ≡ l.end → l.next ≡ 0;
-  same : (root : ℕ) → root ≤ l.from → offers_before (program_of l.system) l.attr.0 root l.node l.next ≡ offers_before (program_of l.system) l.attr.0 root l.from l.first;
+  same : NoneBetween (program_of l.system) l.attr.0 l.from l.first l.node l.next;
 }
 
 abbrev pub decreases-nodes : goal.decreases-nodes
