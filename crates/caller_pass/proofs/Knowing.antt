@@ -6,6 +6,7 @@ use Rattle.solutions.proofs.Loops.{ends_meets}
 use Rattle.solutions.proofs.Runs.{ends_more}
 use Rattle.equation_law.specs.declared.coding.Instance.{Instance as CodedInstance}
 use Rattle.equation_law.specs.declared.coding.Value.{Value as CodedValue}
+use Rattle.equation_law.specs.Checked.{IsInstance}
 use Rattle.equation_law.specs.Codes.{AreElements, IsSmall, instance_of, value_at, value_of}
 use Rattle.equation_law.specs.Equations.{HasValue, equations_of, is_ordered, kind_in}
 use Rattle.equation_law.specs.Loops.{Leads}
@@ -113,12 +114,13 @@ pub ended_value : (p : Program) (v : View) (i : Instance) (x : CodedValue) → H
 ended_value p v i x e = ended p i (value_of (text_of p) x) e.demands (ends_more (λ k w a. a.1) e.ends)
 
 -- its code may be settled, once the words of a set show it
-pub may_settle : (p : Program) (f : Frame) (u v : View) (i : Instance) (slot code : ℕ) (kind : Kind) (x : CodedValue) → IsAtLeast u v → IsCellOf p f v i slot → HasEnded p u i x → (equations_of p).circular i ≡ false → kind ≡ kind_in p i → (is_single kind ≡ true → value_at (text_of p) kind code ≡ as_kind kind (value_of (text_of p) x)) → IsSmall kind code → code < 2 ^ 32 → (is_single kind ≡ false → ShowsAtLeast p v i kind (value_of (text_of p) x)) → MaySettle p v slot code
-may_settle p f u v i slot code kind x kept cell done plain kinds is small fits shown = record {
+pub may_settle : (p : Program) (f : Frame) (u v : View) (i : Instance) (slot code : ℕ) (kind : Kind) (x : CodedValue) → IsInstance p i → IsAtLeast u v → IsCellOf p f v i slot → HasEnded p u i x → (equations_of p).circular i ≡ false → kind ≡ kind_in p i → (is_single kind ≡ true → value_at (text_of p) kind code ≡ as_kind kind (value_of (text_of p) x)) → IsSmall kind code → code < 2 ^ 32 → (is_single kind ≡ false → ShowsAtLeast p v i kind (value_of (text_of p) x)) → MaySettle p v slot code
+may_settle p f u v i slot code kind x instance kept cell done plain kinds is small fits shown = record {
   key = cell.0;
   here = cell.1.1;
   settled = record {
     of = i;
+    instance = instance;
     stands = cell.2;
     code = record {
       value = value_of (text_of p) x;

@@ -54,6 +54,10 @@ AnswersFault p f v i (Circular on chain) = IsLoop p i (instance_of p on) (map (i
 AnswersFault p f v i CellsFull = FillsCells p i f v
 AnswersFault p f v i Memory = Unit {0}
 
+-- the fault is the answer to whoever asks with this chain, if that ends at `on`, which has a loop
+abbrev pub AnswersChain : CodedInstance → List CodedInstance → AskFault → Type 0
+AnswersChain on chain fault = (p : Program) (f : Frame) (v : View) (i : Instance) → EndsAtLoop p i (instance_of p on) (map (instance_of p) chain) → AnswersFault p f v i fault
+
 -- The same where the chain of `Circular` may end at an instance that is known to have a loop
 abbrev pub StopsAt : Program → Frame → View → Instance → AskFault → Type 0
 StopsAt p f v i (Circular on chain) = EndsAtLoop p i (instance_of p on) (map (instance_of p) chain)
@@ -159,6 +163,10 @@ pub record SolvesFor (p : Program) (f : Frame) (v w : View) (l : Local) (n : Ins
   pub cost : IsOk result → after + 2 * unsettled w f.cells < before + 2 * unsettled v f.cells
   pub start : IsOk result → ¬ Knows p v (instance_of p l.start) → Knows p w (instance_of p l.start) → after + 1 + 2 * unsettled w f.cells < before + 2 * unsettled v f.cells
 
+-- the same of a pass at its cells, with what it knew and knows
+abbrev pub SolvesNeed : Held → Held → Local → CodedInstance → ℕ → ℕ → Result Unit AskFault → Type 0
+SolvesNeed d e l n before after result = SolvesFor (program_at d) d.0 d.1 e.1 l (instance_of (program_at d) n) before after result
+
 -- What going on with the local set of i says, with the counts of evaluations before and after: more cells are seen settled then, and where the
 -- cell of i is one of them, it is left to pay.
 pub record ClosesMore (p : Program) (f : Frame) (v w : View) (i : Instance) (before after : ℕ) (result : Result Unit AskFault) : Type 0 where
@@ -167,6 +175,10 @@ pub record ClosesMore (p : Program) (f : Frame) (v w : View) (i : Instance) (bef
   pub cost : IsOk result → after + 2 * unsettled w f.cells ≤ before + 2 * unsettled v f.cells
   pub known : IsOk result → Knows p w i → after + 2 * unsettled w f.cells < before + 2 * unsettled v f.cells
   pub falls : IsOk result → unsettled w f.cells < unsettled v f.cells
+
+-- the same of a pass at its cells and a local set, with what it knew and knows
+abbrev pub ClosesLocal : Held → Held → Local → ℕ → ℕ → Result Unit AskFault → Type 0
+ClosesLocal d e l before after result = ClosesMore (program_at d) d.0 d.1 e.1 (instance_of (program_at d) l.start) before after result
 
 -- where the cell was seen settled, it takes no evaluation, and only the value of a set takes memory
 abbrev pub AnswersKnown : Program → Instance → Result CodedValue AskFault → Type 0

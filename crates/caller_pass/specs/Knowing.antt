@@ -3,6 +3,7 @@ use Rattle.std.specs.Prelude.{◌≡◌, ℕ, false, List, Option, Some, None, R
 use Rattle.attr_rules.specs.Rules.{is_single}
 use Rattle.rag_io.specs.declared.Memory.{Memory}
 use Rattle.solutions.specs.Asking.{Ends, Halts}
+use Rattle.equation_law.specs.declared.coding.Instance.{Instance as CodedInstance}
 use Rattle.equation_law.specs.declared.coding.Value.{Value as CodedValue}
 use Rattle.equation_law.specs.Codes.{AreElements, IsCoded, instance_of, value_of}
 use Rattle.equation_law.specs.Equations.{equations_of, kind_in}
@@ -14,7 +15,7 @@ use Rattle.expr_eval.specs.declared.sites.Turn.TheVariants as turns
 use Rattle.memo_cells.specs.declared.keys.Slot.{Slot}
 use Rattle.memo_cells.specs.declared.view.Frame.{Frame}
 use Rattle.memo_cells.specs.declared.view.View.{View}
-use Rattle.memo_cells.specs.Naming.{StandsFor}
+use Rattle.memo_cells.specs.Naming.{IsCellOf, StandsFor}
 use Rattle.memo_cells.specs.Standing.{Knows}
 use Rattle.memo_cells.specs.Views.{Has, IsSlot}
 use Rattle.memo_cells.specs.Working.{IsKnown}
@@ -25,6 +26,14 @@ pub record IsKnownValue (p : Program) (v : View) (i : Instance) (x : CodedValue)
   pub known : IsKnown p v i value
   pub coded : value_of (text_of p) x ≡ as_kind (kind_in p i) value
   pub elements : AreElements p x
+
+-- so it is of an instance that is coded well
+abbrev pub IsReadValue : Program → View → CodedInstance → CodedValue → Type 0
+IsReadValue p v i x = IsCoded p i → IsKnownValue p v (instance_of p i) x
+
+-- the cell of an instance that is coded well is the one at this slot, and is seen settled
+abbrev pub IsKnownAt : Program → Frame → View → CodedInstance → Slot → Type 0
+IsKnownAt p f v i slot = IsCoded p i → IsCellOf p f v (instance_of p i) slot.0 × Knows p v (instance_of p i)
 
 -- the cell of i is seen settled with this code at this slot
 pub record IsSettledAt (p : Program) (f : Frame) (v : View) (i : Instance) (slot code : ℕ) : Type 0 where

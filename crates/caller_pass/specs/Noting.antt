@@ -1,5 +1,5 @@
 -- What a caller notes of a program.
-use Rattle.std.specs.Prelude.{◌≡◌, Some, true, Result, Ok, Err}
+use Rattle.std.specs.Prelude.{◌≡◌, ◌⊎◌, Option, Some, true, Result, Ok, Err}
 use Rattle.std.specs.HashMap.{HashMap, get}
 use Rattle.std.specs.HashSet.{HashSet, contains}
 use Rattle.equation_law.specs.contracts.coding.InstancePartialEq.TheImpl as equality
@@ -29,6 +29,10 @@ IsNoted p i x = IsCoded p i → IsValueOf p (instance_of p i) x
 -- each value that is kept is that of its instance
 abbrev pub AreNoted : {S : Type 0} → Program → HashMap CodedInstance CodedValue S → Type 0
 AreNoted p notes = (i : CodedInstance) (x : CodedValue) → get equality.ghosts.eq notes i ≡ Some x → IsNoted p i x
+
+-- what is kept was kept before, or is this value of this instance
+abbrev pub KeepsAtMost : {S : Type 0} → HashMap CodedInstance CodedValue S → CodedInstance → CodedValue → HashMap CodedInstance CodedValue S → Type 0
+KeepsAtMost old i x new = (j : CodedInstance) (y : CodedValue) → get equality.ghosts.eq new j ≡ Some y → (get equality.ghosts.eq old j ≡ Some y) ⊎ ((j ≡ i) × (y ≡ x))
 
 -- each instance that is kept has a loop
 abbrev pub AreLooping : {S : Type 0} → Program → HashSet CodedInstance S → Type 0

@@ -37,6 +37,10 @@ way_of x = unboxed x.way
 abbrev pub waits : List (CodedInstance × Waiter) → CodedInstance → Bool
 waits es i = list_any (equality.ghosts.eq i) (keys_of es)
 
+-- a local set that begins with i: it is one of each program of which i is a circular instance, whatever its cells are
+abbrev pub IsLocalFrom : CodedInstance → Local → Type 0
+IsLocalFrom i l = (p : Program) (f : Frame) (v : View) → IsInstance p (instance_of p i) → IsCoded p i → (equations_of p).circular (instance_of p i) ≡ true → IsLocal p f v l
+
 -- i demands the start of this local set, which isn't seen sealed
 pub record IsWay (p : Program) (f : Frame) (v : View) (i : Instance) (l : Local) : Type 0 where
   pub local : IsLocal p f v l
@@ -97,6 +101,10 @@ pub record IsLineTo (p : Program) (es : List (CodedInstance × Waiter)) (n : Ins
   pub starts : (e : CodedInstance × Waiter) (ds : List (CodedInstance × Waiter)) → es ≡ e ∷ ds → (rest : List Instance) × (line ≡ instance_of p e.0 ∷ rest)
   pub among : (e : CodedInstance × Waiter) → Has es e → Has front (instance_of p e.0)
 
+-- the chain is such a line to `on`, if that is what they wait for
+abbrev pub IsChainTo : Program → List (CodedInstance × Waiter) → CodedInstance → List CodedInstance → Type 0
+IsChainTo p es on chain = (f : Frame) (v : View) → AreWaiting p f v es (instance_of p on) → IsLineTo p es (instance_of p on) (map (instance_of p) chain)
+
 -- the path of a local set to what it needed last was added, without that
 pub record HasPart (old new : List CodedInstance) (l : Local) : Type 0 where
   pub part : List CodedInstance
@@ -113,7 +121,7 @@ pub record IsBehind (l : Local) (chain whole : List CodedInstance) : Type 0 wher
 -- where it isn't known to have a loop
 abbrev pub AnswersWait : Program → Frame → View → List (CodedInstance × Waiter) → CodedInstance → List (CodedInstance × Waiter) → Result Waiter AskFault → Type 0
 AnswersWait p f v es next new (Ok x) = (new ≡ es) × IsCellOf p f v (instance_of p next) x.slot.0 × (way_of x ≡ None) × (waits es next ≡ false) × (x.left ≡ None)
-AnswersWait p f v es next new (Err (Circular on chain)) = (on ≡ next) × ((waits es next ≡ true) ⊎ HasLoop p (instance_of p next)) × ((g : Frame) (u : View) → AreWaiting p g u es (instance_of p next) → IsLineTo p es (instance_of p next) (map (instance_of p) chain))
+AnswersWait p f v es next new (Err (Circular on chain)) = (on ≡ next) × ((waits es next ≡ true) ⊎ HasLoop p (instance_of p next)) × IsChainTo p es next chain
 AnswersWait p f v es next new (Err CellsFull) = LacksCell p f v (instance_of p next)
 AnswersWait p f v es next new (Err Memory) = Unit {0}
 

@@ -1,17 +1,13 @@
 // Asking for the value of an instance.
-ghost use Rattle.std.specs.Prelude.{◌≡◌, ◌++◌, ◌∷◌, [], List, map, true};
+ghost use Rattle.std.specs.Prelude.{◌≡◌, ◌++◌, ◌∷◌, [], List, true};
 ghost use Rattle.equation_law.specs.declared.coding.Instance.{Instance as CodedInstance};
 ghost use Rattle.equation_law.specs.Checked.{IsInstance, IsProgram};
 ghost use Rattle.equation_law.specs.Codes.{IsCoded, instance_of};
-ghost use Rattle.equation_law.specs.Names.{Instance as StandingInstance};
-ghost use Rattle.equation_law.specs.Program.{Program};
 ghost use Rattle.equation_law.specs.Systems.{program_of};
-ghost use Rattle.memo_cells.specs.declared.view.Frame.{Frame};
-ghost use Rattle.memo_cells.specs.declared.view.View.{View};
 ghost use Rattle.memo_cells.specs.Standing.{IsPassOf, Knows};
 ghost use Rattle.memo_cells.specs.Views.{Has, IsAtLeast};
 ghost use Rattle.memo_cells.specs.Working.{GoesOn, IsOwn, program_at};
-ghost use Rattle.caller_pass.specs.Answering.{AnswersFault, Asks, AsksNoted, EndsAtLoop, Solves};
+ghost use Rattle.caller_pass.specs.Answering.{AnswersChain, Asks, AsksNoted, Solves};
 ghost use Rattle.caller_pass.specs.Keeping.{IsNotebookOf};
 ghost use Rattle.caller_pass.specs.Noting.{MayNote};
 
@@ -142,7 +138,7 @@ fn stands_before(on: &Instance, chain: &Chain) -> bool
 
 /// The fault of a chain that ends at an instance which stands in it before.
 fn round(on: Instance, chain: Chain) -> AskFault
-    ensures { (p : Program) (f : Frame) (v : View) (i : StandingInstance) → EndsAtLoop p i (instance_of p on) (map (instance_of p) chain) → AnswersFault p f v i result }
+    ensures { AnswersChain on chain result }
 {
     if stands_before(&on, &chain) {
         AskFault::Circular { on, chain }

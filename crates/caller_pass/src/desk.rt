@@ -80,21 +80,21 @@ impl Work for Desk<'_> {
 }
 
 impl<'a> Desk<'a> {
-    ghost use Rattle.std.specs.Prelude.{◌<◌, [], IfNone, IfOk, IfSome, Some, false, length, true};
+    ghost use Rattle.std.specs.Prelude.{◌<◌, IfNone, IfOk, IfSome, false, length, true};
     ghost use Rattle.attr_rules.specs.Rules.{is_single};
-    ghost use Rattle.equation_law.specs.declared.coding.Instance.TheVariants.{Attr as attribute_at};
     ghost use Rattle.equation_law.specs.Collections.{Collection};
-    ghost use Rattle.equation_law.specs.Equations.{kind_in, offers_below, site_of};
-    ghost use Rattle.inherited_walk.specs.Sites.{IsFound};
+    ghost use Rattle.equation_law.specs.Equations.{kind_in};
     ghost use Rattle.equation_law.specs.Codes.{IsCoded, IsRow, instance_of};
     ghost use Rattle.equation_law.specs.Loops.{HasLoop};
     ghost use Rattle.equation_law.specs.Names.{Instance as StandingInstance};
     ghost use Rattle.memo_cells.specs.Naming.{IsCellOf};
     ghost use Rattle.memo_cells.specs.Standing.{IsPassOf, Knows, MaySettle};
     ghost use Rattle.memo_cells.specs.Working.{IsKnown, IsOwn, ReadsOn, program_at};
+    ghost use Rattle.collection_attrs.specs.Roots.{IsRootOf, IsRootless};
     ghost use Rattle.collection_attrs.specs.Surveys.{IsCollectorOf};
     ghost use Rattle.collection_attrs.specs.Walks.{IsWalk};
-    ghost use Rattle.caller_pass.specs.Knowing.{FindsCode, FindsValue, IsKnownValue};
+    ghost use Rattle.caller_pass.specs.Knowing.{FindsCode, FindsValue, IsKnownAt, IsReadValue};
+    ghost use Rattle.inherited_walk.specs.Sites.{FindsEquation};
     ghost use Rattle.caller_pass.specs.Noting.{IsNoted};
 
     /// A pass at its cells, where nothing is noted.
@@ -170,7 +170,7 @@ impl<'a> Desk<'a> {
     /// The equation of an attribute at a node with arguments. The way to it is noted.
     pub(crate) fn site(&mut self, attr: AttrId, node: NodeRef, args: Args) -> Option<EqSite>
         ensures same { self.new ≡ self.old }
-        ensures found { IsFound (program_at self.old) attr.0 (site_of (program_at self.old) (instance_of (program_at self.old) (attribute_at attr node args))) result }
+        ensures found { FindsEquation (program_at self.old) attr node args result }
         ensures rows { IsRow args → IfSome result (λ s. IsRow s.outer × IsRow s.inner) }
     {
         let system = self.system;
@@ -182,8 +182,8 @@ impl<'a> Desk<'a> {
         requires { (c : Collection) × IsCollectorOf (program_at self.old) of c }
         ensures same { self.new ≡ self.old }
         ensures within { IfSome result (λ r. r < length (program_at self.old).tree) }
-        ensures some { IfSome result (λ r. (c : Collection) → IsCollectorOf (program_at self.old) of c → c.offers ≡ offers_below (program_at self.old) of.attr.0 (Some r)) }
-        ensures none { IfNone result ((c : Collection) → IsCollectorOf (program_at self.old) of c → c.offers ≡ []) }
+        ensures some { IfSome result (IsRootOf (program_at self.old) of) }
+        ensures none { IfNone result (IsRootless (program_at self.old) of) }
     {
         let system = self.system;
         self.notes.root_for(system, of)
@@ -224,11 +224,11 @@ impl<'a> Desk<'a> {
     ) -> Result<Value, Memory>
         requires own { IsOwn self.old }
         requires cell { (j : StandingInstance) × IsCellOf (program_at self.old) self.old.0 self.old.1 j slot.0 }
-        requires known { IsCoded (program_at self.old) i → IsCellOf (program_at self.old) self.old.0 self.old.1 (instance_of (program_at self.old) i) slot.0 × Knows (program_at self.old) self.old.1 (instance_of (program_at self.old) i) }
+        requires known { IsKnownAt (program_at self.old) self.old.0 self.old.1 i slot }
         requires kind { kind ≡ kind_in (program_at self.old) (instance_of (program_at self.old) i) }
         requires set { is_single kind ≡ false }
         ensures on { ReadsOn self.old self.new }
-        ensures value { IfOk result (λ x. IsCoded (program_at self.old) i → IsKnownValue (program_at self.old) self.new.1 (instance_of (program_at self.old) i) x) }
+        ensures value { IfOk result (IsReadValue (program_at self.old) self.new.1 i) }
     {
         if let Some(value) = self.notes.set(&i) {
             return Ok(value);

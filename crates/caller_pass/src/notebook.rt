@@ -1,24 +1,21 @@
 // What a caller notes of a program.
-ghost use Rattle.std.specs.Prelude.{◌≡◌, ◌⊎◌, ◌<◌, [], IfNone, IfSome, Some, length, true};
-ghost use Rattle.std.specs.HashMap.{get};
+ghost use Rattle.std.specs.Prelude.{◌≡◌, ◌⊎◌, ◌<◌, IfNone, IfSome, Some, length, true};
 ghost use Rattle.std.specs.HashSet.{contains};
 ghost use Rattle.equation_law.specs.contracts.coding.InstancePartialEq.TheImpl as equality;
 ghost use Rattle.equation_law.specs.declared.coding.Instance.{Instance as CodedInstance};
-ghost use Rattle.equation_law.specs.declared.coding.Value.{Value as CodedValue};
-ghost use Rattle.equation_law.specs.declared.coding.Instance.TheVariants.{Attr as attribute_at};
 ghost use Rattle.equation_law.specs.Codes.{IsRow, instance_of};
 ghost use Rattle.equation_law.specs.Collections.{Collection};
-ghost use Rattle.equation_law.specs.Equations.{offers_below, site_of};
-ghost use Rattle.inherited_walk.specs.Sites.{IsFound};
 ghost use Rattle.equation_law.specs.Loops.{HasLoop};
 ghost use Rattle.equation_law.specs.Systems.{program_of};
 ghost use Rattle.memo_cells.specs.declared.view.View.{View};
 ghost use Rattle.memo_cells.specs.Views.{Has};
+ghost use Rattle.collection_attrs.specs.Roots.{IsRootOf, IsRootless};
 ghost use Rattle.collection_attrs.specs.Surveys.{IsCollectorOf};
 ghost use Rattle.collection_attrs.specs.Walks.{Walk, new_walk};
 ghost use Rattle.caller_pass.specs.declared.walks.Walked.{Walked};
 ghost use Rattle.caller_pass.specs.Keeping.{IsNotebookOf, walk_at};
-ghost use Rattle.caller_pass.specs.Noting.{IsNoted};
+ghost use Rattle.inherited_walk.specs.Sites.{FindsEquation};
+ghost use Rattle.caller_pass.specs.Noting.{IsNoted, KeepsAtMost};
 
 use crate::walks::Walks;
 use attr_rules::AttrId;
@@ -49,7 +46,7 @@ pub struct Notebook {
 
 // Keeps the value of an instance, if there is memory for that.
 fn keep(sets: &mut HashMap<Instance, Value>, i: Instance, value: Value)
-    ensures { (j : CodedInstance) (x : CodedValue) → get equality.ghosts.eq sets.new j ≡ Some x → (get equality.ghosts.eq sets.old j ≡ Some x) ⊎ ((j ≡ i) × (x ≡ value)) }
+    ensures { KeepsAtMost sets.old i value sets.new }
 {
     let _noted = sets.insert(i, value);
 }
@@ -143,7 +140,7 @@ impl Notebook {
     ) -> Option<EqSite>
         requires { self.old.system ≡ system.now }
         ensures same { self.new ≡ self.old }
-        ensures found { IsFound (program_of system.now) attr.0 (site_of (program_of system.now) (instance_of (program_of system.now) (attribute_at attr node args))) result }
+        ensures found { FindsEquation (program_of system.now) attr node args result }
         ensures rows { IsRow args → IfSome result (λ s. IsRow s.outer × IsRow s.inner) }
     {
         find_noted(system, &mut self.ways, attr, node, args)
@@ -155,8 +152,8 @@ impl Notebook {
         requires collection { (c : Collection) × IsCollectorOf (program_of system.now) of c }
         ensures same { self.new ≡ self.old }
         ensures within { IfSome result (λ r. r < length (program_of system.now).tree) }
-        ensures some { IfSome result (λ r. (c : Collection) → IsCollectorOf (program_of system.now) of c → c.offers ≡ offers_below (program_of system.now) of.attr.0 (Some r)) }
-        ensures none { IfNone result ((c : Collection) → IsCollectorOf (program_of system.now) of c → c.offers ≡ []) }
+        ensures some { IfSome result (IsRootOf (program_of system.now) of) }
+        ensures none { IfNone result (IsRootless (program_of system.now) of) }
     {
         self.roots.find_root(system, of)
     }

@@ -1,12 +1,11 @@
 // Going on with the equation of an instance: an expression, or a collection.
-ghost use Rattle.std.specs.Prelude.{◌≡◌, IfNone, IfSome, None, Some};
-ghost use Rattle.collection_attrs.specs.Surveys.{IsCollectorOf, IsNew};
+ghost use Rattle.std.specs.Prelude.{◌≡◌, IfNone, IfSome, None};
+ghost use Rattle.expr_eval.specs.Sites.{EvaluatesInstance};
+ghost use Rattle.collection_attrs.specs.Surveys.{IsNew, SaysCollection};
 ghost use Rattle.equation_law.specs.Codes.{IsCoded, instance_of};
-ghost use Rattle.equation_law.specs.Collections.{Collection};
-ghost use Rattle.equation_law.specs.Equations.{collection_of, equations_of};
+ghost use Rattle.equation_law.specs.Equations.{collection_of};
 ghost use Rattle.equation_law.specs.Reading.{IsSound};
 ghost use Rattle.equation_law.specs.Systems.{program_of};
-ghost use Rattle.expr_eval.specs.Evaluating.{Evaluates};
 ghost use Rattle.expr_eval.specs.Saved.{AreSaved};
 ghost use Rattle.memo_cells.specs.Working.{told_by};
 ghost use Rattle.caller_pass.specs.Leaving.{AreLeft};
@@ -32,7 +31,7 @@ fn resume_single<'a>(
     requires saved { AreSaved system.now (told_by desk.old).has saved.old }
     requires coded { IsCoded (program_of system.now) i }
     requires single { collection_of (program_of system.now) (instance_of (program_of system.now) i) ≡ None }
-    ensures evaluates { Evaluates (program_of system.now) (told_by desk.old) (told_by desk.new) ((equations_of (program_of system.now)).equation (instance_of (program_of system.now) i)) result }
+    ensures evaluates { EvaluatesInstance (program_of system.now) (told_by desk.old) (told_by desk.new) i result }
     ensures saved { AreSaved system.now (told_by desk.new).has saved.new }
 {
     match i {
@@ -68,8 +67,8 @@ fn resume_collection<'a>(
     requires same { desk.old.0.system.value ≡ system.now }
     requires sound { IsSound (program_of system.now) (told_by desk.old) }
     requires left { AreLeft system.now (told_by desk.old).has (instance_of (program_of system.now) i) left.old }
-    requires collection { (c : Collection) × (collection_of (program_of system.now) (instance_of (program_of system.now) i) ≡ Some c) × IsCollectorOf (program_of system.now) of c }
-    ensures evaluates { Evaluates (program_of system.now) (told_by desk.old) (told_by desk.new) ((equations_of (program_of system.now)).equation (instance_of (program_of system.now) i)) result }
+    requires collection { SaysCollection (program_of system.now) i of }
+    ensures evaluates { EvaluatesInstance (program_of system.now) (told_by desk.old) (told_by desk.new) i result }
     ensures left { AreLeft system.now (told_by desk.new).has (instance_of (program_of system.now) i) left.new }
 {
     let Some(root) = desk.root_for(of) else {
@@ -96,7 +95,7 @@ pub(crate) fn resume<'a>(
     requires sound { IsSound (program_of system.now) (told_by desk.old) }
     requires left { AreLeft system.now (told_by desk.old).has (instance_of (program_of system.now) i) left.old }
     requires coded { IsCoded (program_of system.now) i }
-    ensures evaluates { Evaluates (program_of system.now) (told_by desk.old) (told_by desk.new) ((equations_of (program_of system.now)).equation (instance_of (program_of system.now) i)) result }
+    ensures evaluates { EvaluatesInstance (program_of system.now) (told_by desk.old) (told_by desk.new) i result }
     ensures left { AreLeft system.now (told_by desk.new).has (instance_of (program_of system.now) i) left.new }
 {
     match collector_of(system, &i) {

@@ -6,14 +6,11 @@ ghost use Rattle.equation_law.specs.Checked.{IsInstance, IsProgram};
 ghost use Rattle.equation_law.specs.Codes.{IsCoded, instance_of};
 ghost use Rattle.equation_law.specs.Equations.{equations_of};
 ghost use Rattle.equation_law.specs.Loops.{HasLoop};
-ghost use Rattle.equation_law.specs.Program.{Program};
-ghost use Rattle.memo_cells.specs.declared.view.Frame.{Frame as CellsFrame};
-ghost use Rattle.memo_cells.specs.declared.view.View.{View};
 ghost use Rattle.memo_cells.specs.Naming.{ClaimsKeysTo};
 ghost use Rattle.memo_cells.specs.Standing.{Knows};
 ghost use Rattle.memo_cells.specs.Working.{GoesOn, IsOwn, ReadsOn, program_at};
-ghost use Rattle.caller_pass.specs.Answering.{ClosesMore, GoesThrough, LeavesOne, Solves, SolvesFor};
-ghost use Rattle.caller_pass.specs.Waiting.{AnswersWait, IsBehind, IsFrame, LooksAgain, waits};
+ghost use Rattle.caller_pass.specs.Answering.{ClosesLocal, GoesThrough, LeavesOne, Solves, SolvesNeed};
+ghost use Rattle.caller_pass.specs.Waiting.{AnswersWait, IsBehind, IsFrame, IsLocalFrom, LooksAgain, waits};
 
 use crate::desk::Desk;
 use crate::evals::Steps;
@@ -43,7 +40,7 @@ pub(crate) enum Went {
 /// The local set that begins with a circular instance, in a box: few of those that wait have one.
 fn start<'a>(alloc: Global, i: Instance) -> Result<Box<Local<'a>>, Memory>
     ensures start { IfOk result (λ local. local.value.start ≡ i) }
-    ensures local { IfOk result (λ local. (p : Program) (f : CellsFrame) (v : View) → IsInstance p (instance_of p i) → IsCoded p i → (equations_of p).circular (instance_of p i) ≡ true → IsLocal p f v local.value) }
+    ensures local { IfOk result (λ local. IsLocalFrom i local.value) }
 {
     let local = Local::start(alloc, i)?;
     match Box::new(alloc, local) {
@@ -234,7 +231,7 @@ fn solve_for<L: Ledger>(
     requires local { IsLocal (program_at desk.old) desk.old.0 desk.old.1 local.now }
     requires missing { IsMissing (program_at desk.old) desk.old.1 local.now next }
     ensures on { GoesOn desk.old desk.new }
-    ensures solved { SolvesFor (program_at desk.old) desk.old.0 desk.old.1 desk.new.1 local.now (instance_of (program_at desk.old) next) evals.old evals.new result }
+    ensures solved { SolvesNeed desk.old desk.new local.now next evals.old evals.new result }
 {
     match solve_unless_noted(alloc, desk, next, evals) {
         Ok(()) => Ok(()),
@@ -260,7 +257,7 @@ fn close_more<'a, L: Ledger>(
     requires unknown { ¬ Knows (program_at desk.old) desk.old.1 (instance_of (program_at desk.old) local.old.start) }
     ensures on { GoesOn desk.old desk.new }
     ensures local { IsLocal (program_at desk.old) desk.old.0 desk.new.1 local.new × (local.new.start ≡ local.old.start) }
-    ensures more { ClosesMore (program_at desk.old) desk.old.0 desk.old.1 desk.new.1 (instance_of (program_at desk.old) local.old.start) evals.old evals.new result }
+    ensures more { ClosesLocal desk.old desk.new local.old evals.old evals.new result }
 {
     match go_on(alloc, desk, local, evals)? {
         CircTurn::Closed => Ok(()),

@@ -1,11 +1,8 @@
 // The instances that wait for values.
-ghost use Rattle.std.specs.Prelude.{◌≡◌, ◌++◌, ◌∷◌, [], false, IfNone, IfOk, IfSome, None, OnOk, map, option_map, option_to_list};
-ghost use Rattle.equation_law.specs.Codes.{instance_of};
+ghost use Rattle.std.specs.Prelude.{◌≡◌, ◌++◌, ◌∷◌, [], false, IfNone, IfOk, IfSome, None, OnOk, option_map, option_to_list};
 ghost use Rattle.equation_law.specs.Program.{Program};
-ghost use Rattle.memo_cells.specs.declared.view.Frame.{Frame as CellsFrame};
-ghost use Rattle.memo_cells.specs.declared.view.View.{View};
 ghost use Rattle.caller_pass.specs.Packing.{IsBare, unpacked};
-ghost use Rattle.caller_pass.specs.Waiting.{AreWaiting, HasPart, IsLineTo, waits, way_of};
+ghost use Rattle.caller_pass.specs.Waiting.{HasPart, IsChainTo, waits, way_of};
 
 use crate::left::Left;
 use circular_eval::Local;
@@ -202,7 +199,7 @@ impl<'a> Waiting<'a> {
 
     /// The instances by which the first one leads to what the last one waits for, that included.
     pub(crate) fn chain(&self, alloc: Global, on: Instance) -> Result<Chain, Memory>
-        ensures { IfOk result (λ chain. (p : Program) (f : CellsFrame) (v : View) → AreWaiting p f v self.now (instance_of p on) → IsLineTo p self.now (instance_of p on) (map (instance_of p) chain)) }
+        ensures { IfOk result (λ chain. (p : Program) → IsChainTo p self.now on chain) }
     {
         let mut list = Vec::new(alloc);
         for (instance, packed) in &self.waiters {

@@ -8,6 +8,7 @@ use Rattle.equation_law.specs.Systems.{program_of}
 use Rattle.expr_eval.specs.Saved.{AreSaved}
 use Rattle.expr_eval.specs.declared.sites.Turn.TheVariants as turns
 use Rattle.memo_cells.specs.Working.{Held, told_by}
+use Rattle.collection_attrs.specs.Roots.{IsRootOf, IsRootless}
 use Rattle.collection_attrs.specs.Surveys.{IsCollectorOf, IsSurveyed}
 use Rattle.collection_attrs.proofs.Surveying.{rootless}
 use Rattle.caller_pass.specs.Leaving.{AreLeft}
@@ -23,7 +24,7 @@ returns-in_default-clause-evaluates c =
     let d = c.args.desk.now in
     let k = c.requires.collection.0 in
     let its = c.requires.collection.2 in
-    let none : k.offers ≡ [] = subst (λ (s : System). (x : Collection) → IsCollectorOf (program_of s) c.args.of x → x.offers ≡ []) c.requires.same c.in_default.ensures.none k its in
+    let none : k.offers ≡ [] = subst (λ (s : System). IsRootless (program_of s) c.args.of) c.requires.same c.in_default.ensures.none k its in
     collected p (instance_of p c.args.i) k (Ok (turns.Done c.into_value.result)) d d d c.root_for.new.self c.requires.collection.1 refl c.root_for.ensures.same
     (rootless c.requires.sound its none c.new-none.ensures c.into_value.result c.into_value.ensures)
 
@@ -50,7 +51,7 @@ go_on-turn-requires-clause-collection c =
     let its = c.requires.collection.2 in
     let a = c.args.of.attr.0 in
     let root = c.in-Some.root in
-    let below : k.offers ≡ offers_below p a (Some root) = subst (λ (s : System). (x : Collection) → IsCollectorOf (program_of s) c.args.of x → x.offers ≡ offers_below (program_of s) a (Some root)) c.requires.same c.in-Some.ensures.some k its in
+    let below : k.offers ≡ offers_below p a (Some root) = subst (λ (s : System). IsRootOf (program_of s) c.args.of root) c.requires.same c.in-Some.ensures.some k its in
     let gone = survey_taken p (told_by c.args.desk.now).has (instance_of p c.args.i) c.args.of k c.args.left.now.survey c.take_survey-gone.result c.requires.collection.1 its c.take_survey-gone.ensures.own c.take_survey-gone.ensures.new c.requires.left.survey in (
       k,
       its,

@@ -31,7 +31,7 @@ settle-requires-clause-code c =
     let on = c.in_ok-show.ensures.on in
     let kinds = subst (λ (s : System). c.kind_of-kind.result ≡ kind_in (program_of s) (instance_of (program_of s) c.args.i)) (sym c.desk.invariant.1 ∙ ap (λ (x : Held). x.0.system.value) c.desk.view_is ∙ ap (λ (g : Frame). g.system.value) on.cells) c.kind_of-kind.ensures in
     subst (λ (g : Frame). MaySettle (program_of g.system.value) e.1 c.args.slot.0 c.code.result) (sym on.cells)
-    (may_settle p d.0 d.1 e.1 i c.args.slot.0 c.code.result c.kind_of-kind.result c.args.value.now on.kept (cell_later d.1 e.1 on.kept p d.0 i c.args.slot.0 c.requires.slot) c.requires.ended c.requires.undeclared kinds (c.code.ensures.value (text_of p) (first_text d.0.system.value)) c.code.ensures.small c.code.type_inv
+    (may_settle p d.0 d.1 e.1 i c.args.slot.0 c.code.result c.kind_of-kind.result c.args.value.now c.requires.instance on.kept (cell_later d.1 e.1 on.kept p d.0 i c.args.slot.0 c.requires.slot) c.requires.ended c.requires.undeclared kinds (c.code.ensures.value (text_of p) (first_text d.0.system.value)) c.code.ensures.small c.code.type_inv
     (λ single. subst (λ (k : Kind). ShowsAtLeast p e.1 i k (value_of (text_of p) c.args.value.now)) (sym kinds) (c.in_ok-show.ensures.answer (ap is_single (sym kinds) ∙ single))))
 
 pub note_set-requires : goal.note_set-requires

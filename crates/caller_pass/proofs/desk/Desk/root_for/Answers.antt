@@ -1,9 +1,9 @@
-use Rattle.std.proofs.Common.{◌≡◌, ◌<◌, [], IfNone, IfSome, Some, length, sym, subst}
+use Rattle.std.proofs.Common.{◌<◌, IfNone, IfSome, length, sym, subst}
 use Rattle.equation_law.specs.declared.system.System.{System}
 use Rattle.equation_law.specs.Collections.{Collection}
-use Rattle.equation_law.specs.Equations.{offers_below}
 use Rattle.equation_law.specs.Systems.{program_of}
 use Rattle.memo_cells.specs.Working.{Held, program_at}
+use Rattle.collection_attrs.specs.Roots.{IsRootOf, IsRootless}
 use Rattle.collection_attrs.specs.Surveys.{IsCollectorOf}
 use Rattle.caller_pass.specs.Keeping.{IsNotebookOf, Notes}
 use Rattle.caller_pass.proofs.desk.Desk.root_for.Goals as goal
@@ -26,10 +26,10 @@ returns-clause-within c =
 
 pub returns-clause-some : goal.returns-clause-some
 returns-clause-some c =
-    subst (λ (h : Held). IfSome c.root_for.result (λ r. (x : Collection) → IsCollectorOf (program_at h) c.args.of x → x.offers ≡ offers_below (program_at h) c.args.of.attr.0 (Some r))) c.self.view_is
-    (subst (λ (s : System). IfSome c.root_for.result (λ r. (x : Collection) → IsCollectorOf (program_of s) c.args.of x → x.offers ≡ offers_below (program_of s) c.args.of.attr.0 (Some r))) (sym c.self.invariant.1) c.root_for.ensures.some)
+    subst (λ (h : Held). IfSome c.root_for.result (IsRootOf (program_at h) c.args.of)) c.self.view_is
+    (subst (λ (s : System). IfSome c.root_for.result (IsRootOf (program_of s) c.args.of)) (sym c.self.invariant.1) c.root_for.ensures.some)
 
 pub returns-clause-none : goal.returns-clause-none
 returns-clause-none c =
-    subst (λ (h : Held). IfNone c.root_for.result ((x : Collection) → IsCollectorOf (program_at h) c.args.of x → x.offers ≡ [])) c.self.view_is
-    (subst (λ (s : System). IfNone c.root_for.result ((x : Collection) → IsCollectorOf (program_of s) c.args.of x → x.offers ≡ [])) (sym c.self.invariant.1) c.root_for.ensures.none)
+    subst (λ (h : Held). IfNone c.root_for.result (IsRootless (program_at h) c.args.of)) c.self.view_is
+    (subst (λ (s : System). IfNone c.root_for.result (IsRootless (program_of s) c.args.of)) (sym c.self.invariant.1) c.root_for.ensures.none)
