@@ -30,6 +30,10 @@ argument_named texts (arguments.Int z) = OfInt z
 argument_named texts (arguments.Text n) = OfText (texts n)
 argument_named texts (arguments.Node n) = OfNode (reference_named n)
 
+-- arguments by their names, by the texts of a program
+abbrev pub arguments_named : Program → List NamedArg → List Argument
+arguments_named p xs = map (argument_named (text_of p)) xs
+
 -- an instance of an attribute by its name
 abbrev pub instance_named : (ℕ → List ℕ) → NamedInstance → Instance
 instance_named texts i = Attribute i.attr.0 (reference_named i.node) (map (argument_named texts) i.args)
@@ -38,9 +42,13 @@ abbrev pub name_in : (ℕ → List ℕ) → Name → Instance
 name_in texts (listed.Attribute i) = instance_named texts i
 name_in texts (listed.Query q) = Query q
 
--- the instances of a list, by the texts of a program
+-- the instances of some names, by the texts of a program
+abbrev pub instances_named : Program → List Name → List Instance
+instances_named p names = map (name_in (text_of p)) names
+
+-- those of a list
 abbrev pub instances_in : Program → NameList → List Instance
-instances_in p l = map (name_in (text_of p)) l.names.items
+instances_in p l = instances_named p l.names.items
 
 abbrev pub value_in : (ℕ → List ℕ) → NamedValue → Value
 value_in texts v = value_of texts v.value

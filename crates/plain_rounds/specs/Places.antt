@@ -1,11 +1,13 @@
 -- Where instances stand in a list, and what values stand there.
-use Rattle.std.specs.Prelude.{◌≡◌, ℕ, suc, Bool, cond, List, [], ◌∷◌, All, Option, Some, None, length, slice_get}
+use Rattle.std.specs.Prelude.{◌≡◌, ℕ, suc, Bool, cond, List, [], ◌∷◌, All, MatchOption, Option, Some, None, length, slice_get}
 use Rattle.std.specs.Option.{option_map, option_and_then}
+use Rattle.std.specs.Borrow.{Bor}
 use Rattle.std.specs.HashMap.{HashMap, get_by}
 use Rattle.equation_law.specs.declared.coding.Instance.{Instance as CodedInstance}
+use Rattle.equation_law.specs.declared.coding.Value.{Value as CodedValue}
 use Rattle.equation_law.specs.contracts.coding.InstancePartialEq.TheImpl as equality
 use Rattle.plain_rounds.specs.declared.values.NamedValue.{NamedValue}
-use Rattle.equation_law.specs.Codes.{AreElements, IsCoded}
+use Rattle.equation_law.specs.Codes.{AreElements, IsCoded, value_of}
 use Rattle.equation_law.specs.Values.{Value}
 use Rattle.equation_law.specs.Program.{Program}
 use Rattle.plain_rounds.specs.Named.{value_in}
@@ -30,6 +32,10 @@ value_on texts values k = option_and_then (option_map (value_in texts)) (slice_g
 -- the value at the place that is kept of a code
 abbrev pub found : {S : Type 0} → (ℕ → List ℕ) → HashMap CodedInstance ℕ S → List (Option NamedValue) → CodedInstance → Option Value
 found texts m values q = option_and_then (value_on texts values) (kept_place m q)
+
+-- a value that is read is this one, whatever the texts are, and where none is read there is none
+abbrev pub IsRead : Option (Bor CodedValue) → ((ℕ → List ℕ) → Option Value) → Type 0
+IsRead read wanted = (texts : ℕ → List ℕ) → MatchOption read (wanted texts ≡ None) (λ v. wanted texts ≡ Some (value_of texts v.now))
 
 -- what stands somewhere is nothing, or a value, and the elements of a set are coded well
 abbrev pub IsHeld : Program → Option NamedValue → Type 0

@@ -1,9 +1,10 @@
 -- What stands in a round, told as a reader tells it.
 use Rattle.std.specs.Prelude.{◌≡◌, Option, Some, None}
+use Rattle.equation_law.specs.declared.coding.Instance.{Instance as CodedInstance}
 use Rattle.equation_law.specs.declared.coding.Value.{Value as CodedValue}
-use Rattle.equation_law.specs.Codes.{AreElements, value_of}
+use Rattle.equation_law.specs.Codes.{AreElements, instance_of, value_of}
 use Rattle.equation_law.specs.Equations.{kind_in}
-use Rattle.equation_law.specs.Program.{text_of}
+use Rattle.equation_law.specs.Program.{Program, text_of}
 use Rattle.equation_law.specs.Names.{Instance}
 use Rattle.equation_law.specs.Reading.{Told}
 use Rattle.equation_law.specs.Systems.{program_of}
@@ -11,6 +12,14 @@ use Rattle.equation_law.specs.Values.{Value, as_kind}
 use Rattle.plain_rounds.specs.declared.standing.Standing.{Standing}
 use Rattle.plain_rounds.specs.Places.{ArePlaced}
 use Rattle.plain_rounds.specs.Steps.{standing}
+
+-- the program whose instances stand there
+abbrev pub program_below : Standing → Program
+program_below s = program_of s.system.now
+
+-- the places are those of the names
+abbrev pub IsPlaced : Standing → Type 0
+IsPlaced s = ArePlaced (program_below s) s.names.now s.places.now.map s.values.now
 
 -- the value that stands under an instance
 abbrev pub standing_at : Standing → Instance → Option Value
@@ -24,3 +33,7 @@ told_by s = record { for = λ p. (p ≡ program_of s.system.now) × ArePlaced p 
 abbrev pub IsStanding : Standing → Instance → Option CodedValue → Type 0
 IsStanding s i None = standing_at s i ≡ None
 IsStanding s i (Some v) = ((w : Value) × (standing_at s i ≡ Some w) × (value_of (text_of (program_of s.system.now)) v ≡ as_kind (kind_in (program_of s.system.now) i) w)) × AreElements (program_of s.system.now) v
+
+-- the same under the instance that a code stands for
+abbrev pub IsStandingAt : Standing → CodedInstance → Option CodedValue → Type 0
+IsStandingAt s i value = IsStanding s (instance_of (program_below s) i) value

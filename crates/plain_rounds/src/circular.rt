@@ -1,12 +1,12 @@
 // Which instances are circular, and where these start.
 ghost use Rattle.std.specs.Prelude.{◌≡◌};
-ghost use Rattle.attr_rules.specs.Rules.{circular_at};
 ghost use Rattle.equation_law.specs.declared.coding.Instance.TheVariants.{Attr as attribute_at};
 ghost use Rattle.equation_law.specs.Codes.{instance_of};
-ghost use Rattle.equation_law.specs.Equations.{equation_of, equation_rises, equations_of};
+ghost use Rattle.equation_law.specs.Equations.{equations_of};
 ghost use Rattle.equation_law.specs.Equations as spec;
 ghost use Rattle.equation_law.specs.Systems.{program_of};
 ghost use Rattle.plain_rounds.specs.Places.{IsHeld};
+ghost use Rattle.plain_rounds.specs.Rising.{equation_rises_in};
 ghost use Rattle.plain_rounds.specs.Steps.{known, start_of};
 
 use crate::rising::rises;
@@ -30,7 +30,7 @@ fn is_ordered(kind: Kind) -> bool
 
 /// Whether an attribute has an equation at a node, and it is an expression that rises.
 fn equation_rises(system: &System, attr: AttrId, node: NodeRef, args: Args) -> bool
-    ensures { result ≡ equation_rises (circular_at (program_of system.now).rules.attributes) (equation_of (program_of system.now) (instance_of (program_of system.now) (attribute_at attr node args))) }
+    ensures { result ≡ equation_rises_in (program_of system.now) (instance_of (program_of system.now) (attribute_at attr node args)) }
 {
     if is_collection(system, &Instance::Attr { attr, node, args }) {
         return false;

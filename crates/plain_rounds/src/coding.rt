@@ -7,7 +7,7 @@ ghost use Rattle.equation_law.specs.Names.{Query};
 ghost use Rattle.equation_law.specs.Program.{class_of, text_of};
 ghost use Rattle.equation_law.specs.Systems.{program_of};
 ghost use Rattle.plain_rounds.specs.Coding.{CodesArgument, CodesArguments, CodesInstance, CodesNode};
-ghost use Rattle.plain_rounds.specs.Named.{argument_named, instance_named, name_in, reference_named};
+ghost use Rattle.plain_rounds.specs.Named.{argument_named, arguments_named, instance_named, instances_named, name_in, reference_named};
 ghost use Rattle.tree_arena.specs.Nodes.{most_nodes};
 
 use crate::growing::push;
@@ -72,7 +72,7 @@ fn argument_code(system: &System, kind: Kind, argument: NamedArg) -> Option<Code
 
 /// The codes of arguments for these parameters, where they are as many, and values of the parameters' types.
 fn argument_codes(system: &System, parameters: Params, arguments: &[NamedArg]) -> Option<Args>
-    ensures { CodesArguments (program_of system.now) (parameter_kinds parameters) (map (argument_named (text_of (program_of system.now))) arguments.now) result }
+    ensures { CodesArguments (program_of system.now) (parameter_kinds parameters) (arguments_named (program_of system.now) arguments.now) result }
 {
     let Some(kind) = parameters.first_kind() else {
         return if arguments.is_empty() {
@@ -147,9 +147,9 @@ pub(crate) fn codes_of(
     system: &System,
     names: &[Name],
 ) -> Result<Vec<Instance>, Memory>
-    requires { All (IsInstance (program_of system.now)) (map (name_in (text_of (program_of system.now))) names.now) }
+    requires { All (IsInstance (program_of system.now)) (instances_named (program_of system.now) names.now) }
     ensures coded { IfOk result (λ codes. All (IsCoded (program_of system.now)) codes.items) }
-    ensures instances { IfOk result (λ codes. map (instance_of (program_of system.now)) codes.items ≡ map (name_in (text_of (program_of system.now))) names.now) }
+    ensures instances { IfOk result (λ codes. map (instance_of (program_of system.now)) codes.items ≡ instances_named (program_of system.now) names.now) }
 {
     let mut codes = Vec::with_capacity(alloc, names.len()).map_err(|_| Memory)?;
     for name in names {

@@ -1,12 +1,12 @@
 // The instances of a program, listed.
-ghost use Rattle.std.specs.Prelude.{◌≡◌, ◌<◌, ◌≤◌, ◌+◌, ◌*◌, ◌++◌, ℕ, List, OnOk, Some, length, map, slice_get};
+ghost use Rattle.std.specs.Prelude.{◌≡◌, ◌<◌, ◌≤◌, ◌+◌, ◌*◌, ℕ, List, OnOk, Some, length, slice_get};
 ghost use Rattle.std.specs.Option.{option_map};
-ghost use Rattle.ast_grammar.specs.Grammar.{is_sub, superclasses_of};
+ghost use Rattle.ast_grammar.specs.Grammar.{is_sub};
 ghost use Rattle.attr_rules.specs.Rules.{most_attributes};
-ghost use Rattle.equation_law.specs.Program.{attribute_instances, query_instances, nodes_of, at_source, most_replies};
+ghost use Rattle.equation_law.specs.Program.{query_instances, at_source, most_replies};
 ghost use Rattle.tree_arena.specs.Nodes.{most_nodes};
 ghost use Rattle.equation_law.specs.Systems.{program_of};
-ghost use Rattle.plain_rounds.specs.Listing.{plain_instances};
+ghost use Rattle.plain_rounds.specs.Listing.{AddsInstances, all_plain_instances, instances_of_class, plain_instances};
 ghost use Rattle.plain_rounds.specs.Named.{name_in};
 
 use crate::growing::push;
@@ -47,7 +47,7 @@ fn push_nodes(
     attr: AttrId,
     class: ClassId,
 ) -> Result<(), Memory>
-    ensures names { OnOk result ((texts : ℕ → List ℕ) → map (name_in texts) names.new.items ≡ map (name_in texts) names.old.items ++ map (at_source attr.0) (nodes_of (superclasses_of grammar.now) tree.now class 0)) }
+    ensures names { OnOk result (AddsInstances names.old.items names.new.items (instances_of_class grammar.now tree.now attr.0 class)) }
     ensures few { length names.new.items ≤ length names.old.items + most_nodes }
 {
     for node in 0..tree.len() {
@@ -66,7 +66,7 @@ fn push_plain(
     attr: AttrId,
     declared: &Attr,
 ) -> Result<(), Memory>
-    ensures names { OnOk result ((texts : ℕ → List ℕ) → map (name_in texts) names.new.items ≡ map (name_in texts) names.old.items ++ plain_instances (program_of system.now) attr.0 declared.now) }
+    ensures names { OnOk result (AddsInstances names.old.items names.new.items (plain_instances (program_of system.now) attr.0 declared.now)) }
     ensures few { length names.new.items ≤ length names.old.items + most_nodes }
 {
     if declared.params.count > 0 {
@@ -88,7 +88,7 @@ pub(crate) fn push_attributes(
     names: &mut Vec<Name>,
     system: &System,
 ) -> Result<(), Memory>
-    ensures names { OnOk result ((texts : ℕ → List ℕ) → map (name_in texts) names.new.items ≡ map (name_in texts) names.old.items ++ attribute_instances (superclasses_of (program_of system.now).grammar) (program_of system.now).rules.attributes 0 (program_of system.now).tree) }
+    ensures names { OnOk result (AddsInstances names.old.items names.new.items (all_plain_instances (program_of system.now))) }
     ensures few { length names.new.items ≤ length names.old.items + most_attributes * most_nodes }
 {
     let rules = system.rules();
@@ -101,7 +101,7 @@ pub(crate) fn push_attributes(
 
 /// The queries.
 pub(crate) fn push_queries(names: &mut Vec<Name>, system: &System) -> Result<(), Memory>
-    ensures names { OnOk result ((texts : ℕ → List ℕ) → map (name_in texts) names.new.items ≡ map (name_in texts) names.old.items ++ query_instances (program_of system.now).queries 0) }
+    ensures names { OnOk result (AddsInstances names.old.items names.new.items (query_instances (program_of system.now).queries 0)) }
     ensures few { length names.new.items ≤ length names.old.items + most_replies }
 {
     for query in 0..system.replies() {

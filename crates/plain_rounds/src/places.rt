@@ -1,10 +1,10 @@
 // Where the instances of a list stand in it.
-ghost use Rattle.std.specs.Prelude.{◌≡◌, ℕ, All, List, Some, None, IfOk, IfSome, MatchOption, cond};
+ghost use Rattle.std.specs.Prelude.{◌≡◌, All, Some, None, IfOk, IfSome, cond};
 ghost use Rattle.solutions.specs.Rounds.{or_else};
 ghost use Rattle.equation_law.specs.declared.coding.Instance.{Instance as CodedInstance};
-ghost use Rattle.equation_law.specs.Codes.{AreElements, value_of};
+ghost use Rattle.equation_law.specs.Codes.{AreElements};
 ghost use Rattle.equation_law.specs.Program.{Program};
-ghost use Rattle.plain_rounds.specs.Places.{IsHeld, first_place, found, kept_place, same_code};
+ghost use Rattle.plain_rounds.specs.Places.{IsHeld, IsRead, first_place, found, kept_place, same_code};
 ghost use Rattle.plain_rounds.specs.Places as specs;
 
 use crate::values::NamedValue;
@@ -38,7 +38,7 @@ fn keep_first(
 
 /// The value at a place, if there are such a place and a value.
 fn value_on(values: &[Option<NamedValue>], place: usize) -> Option<&Value>
-    ensures value { (texts : ℕ → List ℕ) → MatchOption result (specs.value_on texts values.now place ≡ None) (λ value. specs.value_on texts values.now place ≡ Some (value_of texts value.now)) }
+    ensures value { IsRead result (λ texts. specs.value_on texts values.now place) }
     ensures elements { (p : Program) → All (IsHeld p) values.now → IfSome result (λ value. AreElements p value.now) }
 {
     match values.get(place) {
@@ -66,7 +66,7 @@ impl Places {
         values: &'a [Option<NamedValue>],
         name: Instance,
     ) -> Option<&'a Value>
-        ensures value { (texts : ℕ → List ℕ) → MatchOption result (found texts self.now.map values.now name ≡ None) (λ value. found texts self.now.map values.now name ≡ Some (value_of texts value.now)) }
+        ensures value { IsRead result (λ texts. found texts self.now.map values.now name) }
         ensures elements { (p : Program) → All (IsHeld p) values.now → IfSome result (λ value. AreElements p value.now) }
     {
         let place = self.map.get(&name)?;

@@ -4,6 +4,7 @@ ghost use Rattle.attr_rules.specs.Expression.{arguments_of, expression_of};
 ghost use Rattle.attr_equations.specs.Kept.{rules_in};
 ghost use Rattle.attr_rules.specs.Rising as spec;
 ghost use Rattle.attr_rules.specs.Rules.{circular_at};
+ghost use Rattle.plain_rounds.specs.Rising.{body_permits, calls_circular, range_permits, rises_by, second_permits};
 
 use attr_equations::Rules;
 use attr_rules::{Quantifier, SetOperator, TArgs, TExpr};
@@ -11,7 +12,7 @@ use attr_rules::{Quantifier, SetOperator, TArgs, TExpr};
 /// Whether one of two expressions calls a circular attribute.
 #[cycle(calls)]
 fn one_calls(rules: &Rules, first: &TExpr, second: &TExpr) -> bool
-    ensures { result ≡ (spec.has_call (circular_at (rules_in rules.now).attributes) (expression_of first.now) || spec.has_call (circular_at (rules_in rules.now).attributes) (expression_of second.now)) }
+    ensures { result ≡ (calls_circular rules.now first.now || calls_circular rules.now second.now) }
 {
     let in_first = calls(rules, first);
     let in_second = calls(rules, second);
@@ -36,7 +37,7 @@ fn calls_in(rules: &Rules, arguments: &TArgs) -> bool
 /// Whether an expression calls a circular attribute, at any depth.
 #[cycle(calls)]
 fn calls(rules: &Rules, expression: &TExpr) -> bool
-    ensures { result ≡ spec.has_call (circular_at (rules_in rules.now).attributes) (expression_of expression.now) }
+    ensures { result ≡ calls_circular rules.now expression.now }
 {
     match expression {
         TExpr::Truth(_) | TExpr::Int(_) | TExpr::Text(_) | TExpr::Variable(_) => false,
@@ -115,7 +116,7 @@ fn second_rises(form: SetOperator, calls: bool, rises: bool) -> bool
 /// Whether both of two expressions are rising.
 #[cycle(rising)]
 fn both_rise(rules: &Rules, first: &TExpr, second: &TExpr) -> bool
-    ensures { result ≡ (spec.rises (circular_at (rules_in rules.now).attributes) (expression_of first.now) && spec.rises (circular_at (rules_in rules.now).attributes) (expression_of second.now)) }
+    ensures { result ≡ (rises_by rules.now first.now && rises_by rules.now second.now) }
 {
     let first_rises = rises(rules, first);
     let second_rises = rises(rules, second);
@@ -125,7 +126,7 @@ fn both_rise(rules: &Rules, first: &TExpr, second: &TExpr) -> bool
 /// Whether the second is rising, and no call is in the first.
 #[cycle(rising)]
 fn second_alone_rises(rules: &Rules, first: &TExpr, second: &TExpr) -> bool
-    ensures { result ≡ (not (spec.has_call (circular_at (rules_in rules.now).attributes) (expression_of first.now)) && spec.rises (circular_at (rules_in rules.now).attributes) (expression_of second.now)) }
+    ensures { result ≡ (not (calls_circular rules.now first.now) && rises_by rules.now second.now) }
 {
     let in_first = calls(rules, first);
     let second_rises = rises(rules, second);
@@ -135,7 +136,7 @@ fn second_alone_rises(rules: &Rules, first: &TExpr, second: &TExpr) -> bool
 /// Whether the body of a form permits what is in it.
 #[cycle(rising)]
 fn in_body(rules: &Rules, form: Quantifier, body: &TExpr) -> bool
-    ensures { result ≡ spec.body_rises form (spec.has_call (circular_at (rules_in rules.now).attributes) (expression_of body.now)) (spec.rises (circular_at (rules_in rules.now).attributes) (expression_of body.now)) }
+    ensures { result ≡ body_permits rules.now form body.now }
 {
     let in_it = calls(rules, body);
     let it_rises = rises(rules, body);
@@ -145,7 +146,7 @@ fn in_body(rules: &Rules, form: Quantifier, body: &TExpr) -> bool
 /// Whether a form over a list is rising.
 #[cycle(rising)]
 fn over_list_rises(rules: &Rules, form: Quantifier, range: &TExpr, body: &TExpr) -> bool
-    ensures { result ≡ (not (spec.has_call (circular_at (rules_in rules.now).attributes) (expression_of range.now)) && spec.body_rises form (spec.has_call (circular_at (rules_in rules.now).attributes) (expression_of body.now)) (spec.rises (circular_at (rules_in rules.now).attributes) (expression_of body.now))) }
+    ensures { result ≡ (not (calls_circular rules.now range.now) && body_permits rules.now form body.now) }
 {
     let in_range = calls(rules, range);
     let body_rises = in_body(rules, form, body);
@@ -155,7 +156,7 @@ fn over_list_rises(rules: &Rules, form: Quantifier, range: &TExpr, body: &TExpr)
 /// Whether a form over a set is rising.
 #[cycle(rising)]
 fn over_set_rises(rules: &Rules, form: Quantifier, range: &TExpr, body: &TExpr) -> bool
-    ensures { result ≡ (spec.range_rises form (spec.has_call (circular_at (rules_in rules.now).attributes) (expression_of range.now)) (spec.rises (circular_at (rules_in rules.now).attributes) (expression_of range.now)) && spec.body_rises form (spec.has_call (circular_at (rules_in rules.now).attributes) (expression_of body.now)) (spec.rises (circular_at (rules_in rules.now).attributes) (expression_of body.now))) }
+    ensures { result ≡ (range_permits rules.now form range.now && body_permits rules.now form body.now) }
 {
     let in_range = calls(rules, range);
     let it_rises = rises(rules, range);
@@ -167,7 +168,7 @@ fn over_set_rises(rules: &Rules, form: Quantifier, range: &TExpr, body: &TExpr) 
 /// Whether a form that makes a set of two is rising.
 #[cycle(rising)]
 fn sets_rise(rules: &Rules, form: SetOperator, first: &TExpr, second: &TExpr) -> bool
-    ensures { result ≡ (spec.rises (circular_at (rules_in rules.now).attributes) (expression_of first.now) && spec.second_rises form (spec.has_call (circular_at (rules_in rules.now).attributes) (expression_of second.now)) (spec.rises (circular_at (rules_in rules.now).attributes) (expression_of second.now))) }
+    ensures { result ≡ (rises_by rules.now first.now && second_permits rules.now form second.now) }
 {
     let first_rises = rises(rules, first);
     let in_second = calls(rules, second);
@@ -179,7 +180,7 @@ fn sets_rise(rules: &Rules, form: SetOperator, first: &TExpr, second: &TExpr) ->
 /// Whether each call of a circular attribute in an expression stands in permitted positions alone.
 #[cycle(rising)]
 pub(crate) fn rises(rules: &Rules, expression: &TExpr) -> bool
-    ensures { result ≡ spec.rises (circular_at (rules_in rules.now).attributes) (expression_of expression.now) }
+    ensures { result ≡ rises_by rules.now expression.now }
 {
     match expression {
         TExpr::Truth(_) | TExpr::Int(_) | TExpr::Text(_) | TExpr::Variable(_) => true,

@@ -1,15 +1,9 @@
 // The values that stand in a round, as a reader.
 ghost use Rattle.std.specs.Prelude.{◌≡◌, IfOk};
-ghost use Rattle.std.specs.Option.{option_map};
-ghost use Rattle.solutions.specs.Asking.{run};
-ghost use Rattle.solutions.specs.Rounds.{value_of as outcome_value};
 ghost use Rattle.equation_law.specs.Codes.{IsCoded, instance_of};
-ghost use Rattle.equation_law.specs.Equations.{equations_of};
-ghost use Rattle.equation_law.specs.Program.{text_of};
 ghost use Rattle.equation_law.specs.Systems.{program_of};
-ghost use Rattle.plain_rounds.specs.Named.{value_in};
 ghost use Rattle.plain_rounds.specs.Places.{ArePlaced, IsHeld};
-ghost use Rattle.plain_rounds.specs.Steps.{standing};
+ghost use Rattle.plain_rounds.specs.Steps.{comes, known, standing};
 
 use crate::places::Places;
 use crate::values::NamedValue;
@@ -29,11 +23,11 @@ pub(crate) struct Standing<'a> {
 }
 
 impl Standing<'_> {
-    ghost use Rattle.plain_rounds.specs.Standing.{IsStanding};
+    ghost use Rattle.plain_rounds.specs.Standing.{IsPlaced, IsStandingAt, program_below};
 
     /// The value that stands under an instance, read at its type.
     fn value(&self, alloc: Global, i: Instance) -> Result<Option<Value>, Memory>
-        ensures { IfOk result (λ value. IsCoded (program_of self.now.system.now) i → ArePlaced (program_of self.now.system.now) self.now.names.now self.now.places.now.map self.now.values.now → IsStanding self.now (instance_of (program_of self.now.system.now) i) value) }
+        ensures { IfOk result (λ value. IsCoded (program_below self.now) i → IsPlaced self.now → IsStandingAt self.now i value) }
     {
         let Some(held) = self.places.value(self.values, i) else {
             return Ok(None);
@@ -64,7 +58,7 @@ pub(crate) fn equation_value(
 ) -> Result<Option<NamedValue>, Memory>
     requires placed { ArePlaced (program_of system.now) names.now places.now.map values.now }
     requires coded { IsCoded (program_of system.now) name }
-    ensures value { IfOk result (λ value. option_map (value_in (text_of (program_of system.now))) value ≡ outcome_value (run (standing (program_of system.now) names.now values.now) ((equations_of (program_of system.now)).equation (instance_of (program_of system.now) name)))) }
+    ensures value { let p = program_of system.now in IfOk result (λ value. known p value ≡ comes p (standing p names.now values.now) (instance_of p name)) }
     ensures elements { IfOk result (IsHeld (program_of system.now)) }
 {
     let mut standing = Standing {
