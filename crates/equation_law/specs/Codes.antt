@@ -16,32 +16,65 @@ use Rattle.equation_law.specs.Program.{Program, attribute_parameters, text_of}
 use Rattle.equation_law.specs.Values.{Int, Node, Nodes, Text, Texts, Truth, Value, as_argument, default_of}
 use Rattle.equation_law.specs.Sets.{set_of}
 
--- 0 is null, and one more than its number is a source node
-abbrev pub reference_of : ℕ → Reference
-reference_of zero = Null
-reference_of (suc k) = At (Source k)
+-- What numbers and codes stand for while a program runs: the text of each number, and the node of each code, of which the first has the code 1
+-- and stands at 0 here. What nodes there are beside those of the source tree depends on what was made so far.
+pub record Naming : Type 0 where
+  pub text : ℕ → List ℕ
+  pub node : ℕ → NodeName
+
+-- a naming for a program: it has the program's texts, the source nodes come first, and no two codes stand for one node
+pub record IsNamingOf (p : Program) (n : Naming) : Type 0 where
+  pub texts : n.text ≡ text_of p
+  pub sources : (k : ℕ) → k < length p.tree → n.node k ≡ Source k
+  pub one_code : (j k : ℕ) → n.node j ≡ n.node k → j ≡ k
+
+-- it holds by each naming for the program, whatever was made
+abbrev pub ByEachNaming : Program → (Naming → Type 0) → Type 0
+ByEachNaming p holds = (n : Naming) → IsNamingOf p n → holds n
+
+-- these texts, and source nodes alone: the naming where nothing was made
+abbrev pub source_names : (ℕ → List ℕ) → Naming
+source_names texts = record { text = texts; node = Source }
+
+-- 0 is null, and each other code stands for a node
+abbrev pub reference_by : (ℕ → NodeName) → ℕ → Reference
+reference_by nodes zero = Null
+reference_by nodes (suc k) = At (nodes k)
 
 -- the nodes that some codes stand for; null is none
+abbrev pub nodes_by : (ℕ → NodeName) → List ℕ → List NodeName
+nodes_by nodes [] = []
+nodes_by nodes (zero ∷ cs) = nodes_by nodes cs
+nodes_by nodes (suc k ∷ cs) = nodes k ∷ nodes_by nodes cs
+
+-- a value that is no set, by a naming
+abbrev pub single_by : Naming → Single → Value
+single_by n (single.Truth b) = Truth b
+single_by n (single.Int z) = Int z
+single_by n (single.Text k) = Text (n.text k)
+single_by n (single.Node m) = Node (reference_by n.node m.0)
+
+-- a value, by a naming
+abbrev pub value_by : Naming → CodedValue → Value
+value_by n (coded.Truth b) = Truth b
+value_by n (coded.Int z) = Int z
+value_by n (coded.Text k) = Text (n.text k)
+value_by n (coded.Node m) = Node (reference_by n.node m.0)
+value_by n (coded.Texts cs) = Texts (set_of (map n.text cs))
+value_by n (coded.Nodes cs) = Nodes (set_of (nodes_by n.node cs))
+
+-- the same by the texts and source nodes alone
+abbrev pub reference_of : ℕ → Reference
+reference_of c = reference_by Source c
+
 abbrev pub nodes_of : List ℕ → List NodeName
-nodes_of [] = []
-nodes_of (zero ∷ cs) = nodes_of cs
-nodes_of (suc k ∷ cs) = Source k ∷ nodes_of cs
+nodes_of cs = nodes_by Source cs
 
--- a value that is no set, by the texts that the numbers stand for
 abbrev pub single_of : (ℕ → List ℕ) → Single → Value
-single_of texts (single.Truth b) = Truth b
-single_of texts (single.Int z) = Int z
-single_of texts (single.Text n) = Text (texts n)
-single_of texts (single.Node n) = Node (reference_of n.0)
+single_of texts v = single_by (source_names texts) v
 
--- a value, by the texts that the numbers stand for
 abbrev pub value_of : (ℕ → List ℕ) → CodedValue → Value
-value_of texts (coded.Truth b) = Truth b
-value_of texts (coded.Int z) = Int z
-value_of texts (coded.Text n) = Text (texts n)
-value_of texts (coded.Node n) = Node (reference_of n.0)
-value_of texts (coded.Texts cs) = Texts (set_of (map texts cs))
-value_of texts (coded.Nodes cs) = Nodes (set_of (nodes_of cs))
+value_of texts v = value_by (source_names texts) v
 
 -- the value that a coded one stands for in a program
 abbrev pub stands_for : Program → CodedValue → Value
@@ -60,32 +93,45 @@ AreElements p (coded.Node n) = Unit {0}
 AreElements p (coded.Texts cs) = All (λ c. c < length p.texts) cs
 AreElements p (coded.Nodes cs) = All (λ c. 0 < c) cs
 
--- the value of a type that a code stands for, by the texts; a set has the code 0, and its elements stand elsewhere
+-- the value of a type that a code stands for, by a naming; a set has the code 0, and its elements stand elsewhere
+abbrev pub value_coded : Naming → Kind → ℕ → Value
+value_coded n kinds.Truth c = Truth (not (c == 0))
+value_coded n kinds.Int c = Int (int_wrap w32 (pos c))
+value_coded n kinds.Text c = Text (n.text c)
+value_coded n (kinds.Node d) c = Node (reference_by n.node c)
+value_coded n kinds.Texts c = default_of kinds.Texts
+value_coded n (kinds.Nodes d) c = default_of (kinds.Nodes d)
+
 abbrev pub value_at : (ℕ → List ℕ) → Kind → ℕ → Value
-value_at texts kinds.Truth c = Truth (not (c == 0))
-value_at texts kinds.Int c = Int (int_wrap w32 (pos c))
-value_at texts kinds.Text c = Text (texts c)
-value_at texts (kinds.Node d) c = Node (reference_of c)
-value_at texts kinds.Texts c = default_of kinds.Texts
-value_at texts (kinds.Nodes d) c = default_of (kinds.Nodes d)
+value_at texts k c = value_coded (source_names texts) k c
 
 -- the codes of some arguments
 abbrev pub codes_in : Args → List ℕ
 codes_in xs = take xs.count (xs.first ∷ xs.second ∷ xs.third ∷ [])
 
--- the arguments for parameters of these types that some codes stand for
-abbrev pub arguments_at : (ℕ → List ℕ) → List Kind → List ℕ → List Argument
-arguments_at texts [] cs = []
-arguments_at texts (k ∷ ks) [] = []
-arguments_at texts (k ∷ ks) (c ∷ cs) = as_argument k (value_at texts k c) ∷ arguments_at texts ks cs
+-- the arguments for parameters of these types that some codes stand for, by a naming
+abbrev pub arguments_by : Naming → List Kind → List ℕ → List Argument
+arguments_by n [] cs = []
+arguments_by n (k ∷ ks) [] = []
+arguments_by n (k ∷ ks) (c ∷ cs) = as_argument k (value_coded n k c) ∷ arguments_by n ks cs
 
--- the arguments of an attribute that some codes stand for
+abbrev pub arguments_at : (ℕ → List ℕ) → List Kind → List ℕ → List Argument
+arguments_at texts ks cs = arguments_by (source_names texts) ks cs
+
+-- the arguments of an attribute that some codes stand for, by a naming
+abbrev pub arguments_for : Program → Naming → ℕ → Args → List Argument
+arguments_for p n a xs = arguments_by n (attribute_parameters p a) (codes_in xs)
+
 abbrev pub arguments_of : Program → ℕ → Args → List Argument
-arguments_of p a xs = arguments_at (text_of p) (attribute_parameters p a) (codes_in xs)
+arguments_of p a xs = arguments_for p (source_names (text_of p)) a xs
+
+-- the instance that a coded one stands for, by a naming
+abbrev pub instance_by : Program → Naming → CodedInstance → Instance
+instance_by p n (coded_instance.Attr a m xs) = Attribute a.0 (reference_by n.node m.0) (arguments_for p n a.0 xs)
+instance_by p n (coded_instance.Query q) = Query q
 
 abbrev pub instance_of : Program → CodedInstance → Instance
-instance_of p (coded_instance.Attr a n xs) = Attribute a.0 (reference_of n.0) (arguments_of p a.0 xs)
-instance_of p (coded_instance.Query q) = Query q
+instance_of p i = instance_by p (source_names (text_of p)) i
 
 -- a code of a value of a type: each value has one; sets are none of the values that arguments have
 abbrev pub IsCode : Program → Kind → ℕ → Type 0

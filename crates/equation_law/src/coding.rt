@@ -1,8 +1,8 @@
 // Values, nodes and instances by their codes.
-ghost use Rattle.std.specs.Prelude.{◌≡◌, ◌≢◌, ◌<◌, ◌+◌, ◌^◌, ℕ, List, [], true, IfNone, IfOk, IfSome};
+ghost use Rattle.std.specs.Prelude.{◌≡◌, ◌≢◌, ◌<◌, ◌+◌, ◌^◌, [], true, IfNone, IfOk, IfSome};
 ghost use Rattle.attr_rules.specs.Rules.{is_single};
 ghost use Rattle.equation_law.specs.declared.coding.Single.{Single as CodedSingle};
-ghost use Rattle.equation_law.specs.Codes.{IsSmall, reference_of, single_of, value_at, value_of};
+ghost use Rattle.equation_law.specs.Codes.{IsSmall, Naming, reference_by, reference_of, single_by, value_by, value_coded};
 ghost use Rattle.equation_law.specs.Equations.{source_or_null};
 ghost use Rattle.equation_law.specs.Values.{as_kind, default_of, int, node, text, truth};
 
@@ -187,7 +187,7 @@ impl NodeRef {
 }
 
 impl From<Single> for Value {
-    ghost from_gives = { λ single value. (texts : ℕ → List ℕ) → value_of texts value ≡ single_of texts single };
+    ghost from_gives = { λ single value. (n : Naming) → value_by n value ≡ single_by n single };
 
     fn from(single: Single) -> Value {
         match single {
@@ -201,14 +201,14 @@ impl From<Single> for Value {
 
 impl Value {
     ghost use Rattle.std.specs.Prelude.{All, map, length};
-    ghost use Rattle.equation_law.specs.Codes.{AreElements, nodes_of};
+    ghost use Rattle.equation_law.specs.Codes.{AreElements, nodes_by};
     ghost use Rattle.equation_law.specs.Program.{Program};
     ghost use Rattle.equation_law.specs.Sets.{set_of};
     ghost use Rattle.equation_law.specs.Values.{nodes, texts};
 
     /// The truth value; of a value of another type, false.
     pub fn truth(&self) -> bool
-        ensures { (texts : ℕ → List ℕ) → result ≡ truth (value_of texts self.now) }
+        ensures { (n : Naming) → result ≡ truth (value_by n self.now) }
     {
         match self {
             Value::Truth(b) => *b,
@@ -218,7 +218,7 @@ impl Value {
 
     /// The integer; of a value of another type, 0.
     pub fn int(&self) -> i32
-        ensures { (texts : ℕ → List ℕ) → result ≡ int (value_of texts self.now) }
+        ensures { (n : Naming) → result ≡ int (value_by n self.now) }
     {
         match self {
             Value::Int(z) => *z,
@@ -228,7 +228,7 @@ impl Value {
 
     /// The number of the text; of a value of another type, that of the empty one.
     pub fn text(&self) -> u32
-        ensures { (texts : ℕ → List ℕ) → texts 0 ≡ [] → texts result ≡ text (value_of texts self.now) }
+        ensures { (n : Naming) → n.text 0 ≡ [] → n.text result ≡ text (value_by n self.now) }
     {
         match self {
             Value::Text(number) => *number,
@@ -238,7 +238,7 @@ impl Value {
 
     /// The node; of a value of another type, null.
     pub fn node(&self) -> NodeRef
-        ensures { (texts : ℕ → List ℕ) → reference_of result.0 ≡ node (value_of texts self.now) }
+        ensures { (n : Naming) → reference_by n.node result.0 ≡ node (value_by n self.now) }
     {
         match self {
             Value::Node(n) => *n,
@@ -248,8 +248,8 @@ impl Value {
 
     /// The value, where it is no set.
     pub fn single(&self) -> Option<Single>
-        ensures some { IfSome result (λ single. (texts : ℕ → List ℕ) → single_of texts single ≡ value_of texts self.now) }
-        ensures none { IfNone result ((texts : ℕ → List ℕ) (single : CodedSingle) → single_of texts single ≢ value_of texts self.now) }
+        ensures some { IfSome result (λ single. (n : Naming) → single_by n single ≡ value_by n self.now) }
+        ensures none { IfNone result ((n : Naming) (single : CodedSingle) → single_by n single ≢ value_by n self.now) }
     {
         match self {
             Value::Truth(b) => Some(Single::Truth(*b)),
@@ -262,7 +262,7 @@ impl Value {
 
     /// The numbers of the texts of a set; of a value of another type, none.
     pub fn into_texts(self, alloc: Global) -> Codes
-        ensures texts { (all : ℕ → List ℕ) → set_of (map all result) ≡ texts (value_of all self) }
+        ensures texts { (n : Naming) → set_of (map n.text result) ≡ texts (value_by n self) }
         ensures elements { (p : Program) → AreElements p self → All (λ c. c < length p.texts) result }
     {
         match self {
@@ -273,7 +273,7 @@ impl Value {
 
     /// The nodes of a set; of a value of another type, none.
     pub fn into_nodes(self, alloc: Global) -> Codes
-        ensures nodes { (all : ℕ → List ℕ) → set_of (nodes_of result) ≡ nodes (value_of all self) }
+        ensures nodes { (n : Naming) → set_of (nodes_by n.node result) ≡ nodes (value_by n self) }
         ensures elements { (p : Program) → AreElements p self → All (λ c. 0 < c) result }
     {
         match self {
@@ -284,7 +284,7 @@ impl Value {
 
     /// The same value once more.
     pub fn copy(&self) -> Result<Value, Memory>
-        ensures same { IfOk result (λ value. (texts : ℕ → List ℕ) → value_of texts value ≡ value_of texts self.now) }
+        ensures same { IfOk result (λ value. (n : Naming) → value_by n value ≡ value_by n self.now) }
         ensures elements { IfOk result (λ value. (p : Program) → AreElements p self.now → AreElements p value) }
     {
         match self {
@@ -299,7 +299,7 @@ impl Value {
 
     /// The value read at a type: a value of another type reads as the type's default.
     pub fn read_as(self, alloc: Global, kind: Kind) -> Value
-        ensures value { (texts : ℕ → List ℕ) → texts 0 ≡ [] → value_of texts result ≡ as_kind kind (value_of texts self) }
+        ensures value { (n : Naming) → n.text 0 ≡ [] → value_by n result ≡ as_kind kind (value_by n self) }
         ensures elements { (p : Program) → AreElements p self → AreElements p result }
     {
         match kind {
@@ -314,7 +314,7 @@ impl Value {
 
     /// The default of a type.
     pub fn default_of(alloc: Global, kind: Kind) -> Value
-        ensures value { (texts : ℕ → List ℕ) → texts 0 ≡ [] → value_of texts result ≡ default_of kind }
+        ensures value { (n : Naming) → n.text 0 ≡ [] → value_by n result ≡ default_of kind }
         ensures elements { (p : Program) → AreElements p result }
     {
         match kind {
@@ -330,7 +330,7 @@ impl Value {
     /// The code of the value, read at a type. A set has the code 0, which says nothing of its elements.
     pub fn code(&self, kind: Kind) -> Code
         ensures small { IsSmall kind result }
-        ensures value { (texts : ℕ → List ℕ) → texts 0 ≡ [] → is_single kind ≡ true → value_at texts kind result ≡ as_kind kind (value_of texts self.now) }
+        ensures value { (n : Naming) → n.text 0 ≡ [] → is_single kind ≡ true → value_coded n kind result ≡ as_kind kind (value_by n self.now) }
     {
         match kind {
             Kind::Truth => u32::from(self.truth()),
@@ -343,7 +343,7 @@ impl Value {
 
     /// The value of a type that a code stands for. Of a set type it is the empty set.
     pub fn of_code(alloc: Global, kind: Kind, code: Code) -> Value
-        ensures value { (texts : ℕ → List ℕ) → value_of texts result ≡ value_at texts kind code }
+        ensures value { (n : Naming) → value_by n result ≡ value_coded n kind code }
         ensures elements { (p : Program) → AreElements p result }
     {
         match kind {

@@ -5,8 +5,8 @@ use Rattle.attr_rules.specs.declared.expression.SetOperator.TheVariants.{Union, 
 use Rattle.attr_rules.specs.declared.kinds.Kind.{Kind}
 use Rattle.equation_law.specs.declared.coding.Value.{Value as CodedValue}
 use Rattle.equation_law.specs.declared.system.System.{System as KeptSystem}
-use Rattle.equation_law.specs.Codes.{AreElements, nodes_of, stands_for}
-use Rattle.equation_law.specs.Names.{node_cmp, text_cmp}
+use Rattle.equation_law.specs.Codes.{AreElements, Naming, nodes_by, value_by}
+use Rattle.equation_law.specs.Names.{NodeName, Source, node_cmp, text_cmp}
 use Rattle.equation_law.specs.Program.{Program, text_of}
 use Rattle.equation_law.specs.Sets.{SetBy, set_of}
 use Rattle.equation_law.specs.Systems.{program_of}
@@ -16,9 +16,13 @@ use Rattle.equation_law.specs.Values.{Value, set_operate}
 abbrev pub text_set : Program → List ℕ → SetBy text_cmp
 text_set p cs = set_of (map (text_of p) cs)
 
--- the set of the nodes of some codes
+-- the set of the nodes that some codes stand for
+abbrev pub nodes_set : (ℕ → NodeName) → List ℕ → SetBy node_cmp
+nodes_set nodes cs = set_of (nodes_by nodes cs)
+
+-- that of source nodes
 abbrev pub node_set : List ℕ → SetBy node_cmp
-node_set cs = set_of (nodes_of cs)
+node_set cs = nodes_set Source cs
 
 -- it holds in the program of each system where the elements of the set are coded well
 abbrev pub WhereCoded : CodedValue → (Program → Type 0) → Type 0
@@ -28,9 +32,9 @@ WhereCoded v holds = (system : KeptSystem) → AreElements (program_of system) v
 abbrev pub WhereBothCoded : CodedValue → CodedValue → (Program → Type 0) → Type 0
 WhereBothCoded v w holds = (system : KeptSystem) → AreElements (program_of system) v → AreElements (program_of system) w → holds (program_of system)
 
--- what an operator makes of what two coded sets stand for, both read at a type
-abbrev pub made_of : Program → SetOperator → Kind → CodedValue → CodedValue → Value
-made_of p o k v w = set_operate o k (stands_for p v) (stands_for p w)
+-- what an operator makes of what two coded sets stand for by a naming, both read at a type
+abbrev pub made_by : Naming → SetOperator → Kind → CodedValue → CodedValue → Value
+made_by n o k v w = set_operate o k (value_by n v) (value_by n w)
 
 -- whether what an operator makes of two sets has an element, by whether each of the two has it
 abbrev pub with_operator : SetOperator → Bool → Bool → Bool

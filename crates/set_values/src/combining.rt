@@ -1,8 +1,8 @@
 // What is made of two sets.
 ghost use Rattle.std.specs.Prelude.{◌≡◌, ◌||◌, IfOk};
 ghost use Rattle.code_sets.specs.Members.{AreMade};
-ghost use Rattle.equation_law.specs.Codes.{AreElements, stands_for};
-ghost use Rattle.set_values.specs.CodedSets.{WhereBothCoded, made_of, with_operator};
+ghost use Rattle.equation_law.specs.Codes.{AreElements, ByEachNaming, value_by};
+ghost use Rattle.set_values.specs.CodedSets.{WhereBothCoded, made_by, with_operator};
 
 use attr_rules::{Kind, SetOperator};
 use code_sets::Codes;
@@ -42,7 +42,7 @@ pub fn set_operate(
     left: Value,
     right: Value,
 ) -> Result<Value, Memory>
-    ensures value { IfOk result (λ set. WhereBothCoded left right (λ p. stands_for p set ≡ made_of p operator kind left right)) }
+    ensures value { IfOk result (λ set. WhereBothCoded left right (λ p. ByEachNaming p (λ n. value_by n set ≡ made_by n operator kind left right))) }
     ensures elements { IfOk result (λ set. WhereBothCoded left right (λ p. AreElements p set)) }
 {
     match kind {

@@ -2,12 +2,12 @@
 ghost use Rattle.std.specs.Prelude.{◌≡◌, ◌<◌, IfOk, All, length, pos};
 ghost use Rattle.std.specs.Int.{int_wrap};
 ghost use mir.Syntax.{w32};
-ghost use Rattle.equation_law.specs.Codes.{AreElements, reference_of, stands_for};
-ghost use Rattle.equation_law.specs.Program.{text_of};
+ghost use Rattle.equation_law.specs.Codes.{AreElements, ByEachNaming, reference_by, value_by};
+ghost use Rattle.equation_law.specs.Program.{Program, text_of};
 ghost use Rattle.equation_law.specs.Sets.{has};
 ghost use Rattle.equation_law.specs.Systems.{program_of};
 ghost use Rattle.equation_law.specs.Values as spec;
-ghost use Rattle.set_values.specs.CodedSets.{WhereCoded, node_set, text_set};
+ghost use Rattle.set_values.specs.CodedSets.{WhereCoded, nodes_set, text_set};
 
 use code_sets::{Code, Codes};
 use equation_law::{NodeRef, System, Value};
@@ -28,7 +28,7 @@ pub fn known_text(system: &System, number: Code) -> Code
 
 /// The set of a text or of a node. That of null is empty, and so is that of a value of which there are no sets.
 pub fn single_set(alloc: Global, system: &System, value: &Value) -> Result<Value, Memory>
-    ensures value { IfOk result (λ set. stands_for (program_of system.now) set ≡ spec.single (stands_for (program_of system.now) value.now)) }
+    ensures value { IfOk result (λ set. ByEachNaming (program_of system.now) (λ n. value_by n set ≡ spec.single (value_by n value.now))) }
     ensures elements { IfOk result (AreElements (program_of system.now)) }
 {
     match value {
@@ -49,7 +49,7 @@ fn has_text(system: &System, codes: &Codes, number: Code) -> bool
 /// Whether a node is one of some nodes; null is not.
 fn has_node(codes: &Codes, node: NodeRef) -> bool
     requires { All (λ c. 0 < c) codes.now }
-    ensures { result ≡ spec.has_node (node_set codes.now) (reference_of node.0) }
+    ensures { (p : Program) → ByEachNaming p (λ n. result ≡ spec.has_node (nodes_set n.node codes.now) (reference_by n.node node.0)) }
 {
     codes.has(node.0)
 }
@@ -57,7 +57,7 @@ fn has_node(codes: &Codes, node: NodeRef) -> bool
 /// Whether a set has a value among its elements. A value that is no set has none.
 pub fn contains(system: &System, set: &Value, element: &Value) -> bool
     requires { AreElements (program_of system.now) set.now }
-    ensures { result ≡ spec.contains (stands_for (program_of system.now) set.now) (stands_for (program_of system.now) element.now) }
+    ensures { ByEachNaming (program_of system.now) (λ n. result ≡ spec.contains (value_by n set.now) (value_by n element.now)) }
 {
     match set {
         Value::Texts(codes) => has_text(system, codes, element.text()),
@@ -75,7 +75,7 @@ fn wrapped(number: usize) -> i32
 
 /// How many elements a set has. A value that is no set has none.
 pub fn count(set: &Value) -> usize
-    ensures { WhereCoded set.now (λ p. result ≡ spec.size_of (stands_for p set.now)) }
+    ensures { WhereCoded set.now (λ p. ByEachNaming p (λ n. result ≡ spec.size_of (value_by n set.now))) }
 {
     match set {
         Value::Texts(codes) | Value::Nodes(codes) => codes.len(),
@@ -85,7 +85,7 @@ pub fn count(set: &Value) -> usize
 
 /// How many elements a set has, as an integer of 32 bits. A value that is no set has none.
 pub fn size(set: &Value) -> i32
-    ensures { WhereCoded set.now (λ p. result ≡ int_wrap w32 (pos (spec.size_of (stands_for p set.now)))) }
+    ensures { WhereCoded set.now (λ p. ByEachNaming p (λ n. result ≡ int_wrap w32 (pos (spec.size_of (value_by n set.now))))) }
 {
     wrapped(count(set))
 }

@@ -1,23 +1,20 @@
 use Rattle.std.proofs.Common.{◌≡◌, ap, refl, sym, ◌∙◌, inl, inr}
-use Rattle.equation_law.specs.Codes.{value_of}
-use Rattle.equation_law.specs.Program.{text_of}
+use Rattle.equation_law.specs.Codes.{value_by}
 use Rattle.equation_law.specs.Systems.{program_of}
 use Rattle.equation_law.specs.Values as spec
-use Rattle.equation_law.proofs.Pooled.{first_text}
 use Rattle.set_values.proofs.Coded.{holds_made}
 use Rattle.set_values.proofs.NodeCodes.{IsNode, made_nodes}
 use Rattle.set_values.proofs.Operators.{at_kind}
-use Rattle.set_values.proofs.TextCodes.{IsKnown, made_texts}
+use Rattle.set_values.proofs.TextCodes.{IsKnown, first_text_by, made_texts_by}
 use Rattle.set_values.proofs.combining.set_operate.Goals as goal
 
 pub returns-in_ok-codes-in-Texts-clause-value : goal.returns-in_ok-codes-in-Texts-clause-value
-returns-in_ok-codes-in-Texts-clause-value c = λ system good other.
+returns-in_ok-codes-in-Texts-clause-value c = λ system good other n h.
     let p = program_of system in
-    let texts = text_of p in
-    let made = made_texts system c.args.operator c.into_texts.result c.into_texts-in-Texts.result c.in_ok-codes-in-Texts.codes (c.into_texts.ensures.elements p good) (c.into_texts-in-Texts.ensures.elements p other) c.in_ok-codes-in-Texts.ensures in
-    let left = c.into_texts.ensures.texts texts in
-    let right = c.into_texts-in-Texts.ensures.texts texts in
-    ap spec.Texts made ∙ (λ i. spec.Texts (spec.combined c.args.operator (left i) (right i))) ∙ ap (λ k. spec.set_operate c.args.operator k (value_of texts c.args.left) (value_of texts c.args.right)) (sym c.in-Texts.is)
+    let made = made_texts_by system h c.args.operator c.into_texts.result c.into_texts-in-Texts.result c.in_ok-codes-in-Texts.codes (c.into_texts.ensures.elements p good) (c.into_texts-in-Texts.ensures.elements p other) c.in_ok-codes-in-Texts.ensures in
+    let left = c.into_texts.ensures.texts n in
+    let right = c.into_texts-in-Texts.ensures.texts n in
+    ap spec.Texts made ∙ (λ i. spec.Texts (spec.combined c.args.operator (left i) (right i))) ∙ ap (λ k. spec.set_operate c.args.operator k (value_by n c.args.left) (value_by n c.args.right)) (sym c.in-Texts.is)
 
 pub returns-in_ok-codes-in-Texts-clause-elements :
     goal.returns-in_ok-codes-in-Texts-clause-elements
@@ -26,13 +23,12 @@ returns-in_ok-codes-in-Texts-clause-elements c = λ system good other.
     holds_made (IsKnown system) c.args.operator c.into_texts.result c.into_texts-in-Texts.result c.in_ok-codes-in-Texts.codes (c.into_texts.ensures.elements p good) (c.into_texts-in-Texts.ensures.elements p other) c.in_ok-codes-in-Texts.ensures
 
 pub returns-in_ok-codes-in-Nodes-clause-value : goal.returns-in_ok-codes-in-Nodes-clause-value
-returns-in_ok-codes-in-Nodes-clause-value c = λ system good other.
+returns-in_ok-codes-in-Nodes-clause-value c = λ system good other n h.
     let p = program_of system in
-    let texts = text_of p in
-    let made = made_nodes c.args.operator c.into_nodes.result c.into_nodes-in-Nodes.result c.in_ok-codes-in-Nodes.codes (c.into_nodes.ensures.elements p good) (c.into_nodes-in-Nodes.ensures.elements p other) c.in_ok-codes-in-Nodes.ensures in
-    let left = c.into_nodes.ensures.nodes texts in
-    let right = c.into_nodes-in-Nodes.ensures.nodes texts in
-    ap spec.Nodes made ∙ (λ i. spec.Nodes (spec.combined c.args.operator (left i) (right i))) ∙ ap (λ k. spec.set_operate c.args.operator k (value_of texts c.args.left) (value_of texts c.args.right)) (sym c.in-Nodes.is)
+    let made = made_nodes n.node h.one_code c.args.operator c.into_nodes.result c.into_nodes-in-Nodes.result c.in_ok-codes-in-Nodes.codes (c.into_nodes.ensures.elements p good) (c.into_nodes-in-Nodes.ensures.elements p other) c.in_ok-codes-in-Nodes.ensures in
+    let left = c.into_nodes.ensures.nodes n in
+    let right = c.into_nodes-in-Nodes.ensures.nodes n in
+    ap spec.Nodes made ∙ (λ i. spec.Nodes (spec.combined c.args.operator (left i) (right i))) ∙ ap (λ k. spec.set_operate c.args.operator k (value_by n c.args.left) (value_by n c.args.right)) (sym c.in-Nodes.is)
 
 pub returns-in_ok-codes-in-Nodes-clause-elements :
     goal.returns-in_ok-codes-in-Nodes-clause-elements
@@ -54,6 +50,6 @@ returns-in-Truth c =
       ]
     ] in
     record {
-      value = λ system good other. let texts = text_of (program_of system) in c.default_of.ensures.value texts (first_text system) ∙ same (value_of texts c.args.left) (value_of texts c.args.right);
+      value = λ system good other n h. c.default_of.ensures.value n (first_text_by system h) ∙ same (value_by n c.args.left) (value_by n c.args.right);
       elements = λ system good other. c.default_of.ensures.elements (program_of system);
     }
