@@ -12,7 +12,7 @@ use Rattle.solutions.proofs.Runs.{ends_more}
 use Rattle.equation_law.specs.declared.coding.Args.{Args}
 use Rattle.equation_law.specs.declared.coding.Value.{Value as CodedValue}
 use Rattle.equation_law.specs.declared.coding.Value.TheVariants as coded
-use Rattle.equation_law.specs.Codes.{AreElements, reference_of, value_of}
+use Rattle.equation_law.specs.Codes.{AreElements, Naming, reference_by, source_names, value_by, value_of}
 use Rattle.equation_law.specs.Equations.{world_of}
 use Rattle.equation_law.specs.Meaning.{Place, World, call_at, meaning_of, token_at, with_arguments}
 use Rattle.equation_law.specs.Names.{Instance, Reference}
@@ -74,13 +74,13 @@ given_more g a = record { demands = a.demands; ends = ends_more g.values a.ends;
 pub gives_value : {S : Type 0} {p : Program} {s : Told S} {w : Value} {x : CodedValue} → value_of (text_of p) x ≡ w → AreElements p x → Given p s (Gives w) x
 gives_value {p = p} {s = s} {x = x} e h = subst (λ v. Given p s (Gives v) x) e (record { demands = []; ends = gives; coded = h })
 
--- the truth value, whatever the texts are
+-- the truth value, whatever codes stand for
 abbrev pub ReadsTruth : Bool → CodedValue → Type 0
-ReadsTruth t v = (texts : ℕ → List ℕ) → t ≡ truth (value_of texts v)
+ReadsTruth t v = (n : Naming) → t ≡ truth (value_by n v)
 
--- the node, by its code, whatever the texts are
+-- the node, by its code, whatever codes stand for
 abbrev pub ReadsNode : ℕ → CodedValue → Type 0
-ReadsNode o v = (texts : ℕ → List ℕ) → reference_of o ≡ node (value_of texts v)
+ReadsNode o v = (n : Naming) → reference_by n.node o ≡ node (value_by n v)
 
 -- a test that was evaluated
 tested : {S : Type 0} (p : Program) (s : Told S) (b t : Bool) (x y : Demands Instance Value) (res : Result CodedValue Halt) → t ≡ b → Answers p s (cond b x y) res → Answers p s (cond t x y) res
@@ -113,7 +113,7 @@ no_value {h} {v} there = cc
 
 -- the truth value that came is that of a value
 pub said_is : (came : Result CodedValue Halt) {t : Bool} → IsSaid came (Some t) → (v : CodedValue) × (came ≡ Ok v) × ReadsTruth t v
-said_is (Ok v) {t = t} h = let answer : Some t ≡ Some h.0 = h.2 in let same : t ≡ h.0 = cc in (v, refl, λ texts. same ∙ h.1 texts)
+said_is (Ok v) {t = t} h = let answer : Some t ≡ Some h.0 = h.2 in let same : t ≡ h.0 = cc in (v, refl, λ n. same ∙ h.1 n)
 said_is (Err k) {t = t} h = absurd (let none : Some t ≡ None = h in cc)
 
 pub none_said : (came : Result CodedValue Halt) → IsSaid came None → (k : Halt) × (came ≡ Err k)
@@ -243,7 +243,7 @@ module _ {p : Program} {place : Place} where
       → Reads p r (state n.system u n.saved) place (Call t here a es) res
   call_goes {u = u} {a = a} {es = es} {xs = xs} {v = v} {t = t} {here = here} {res = res} x is y c =
       let vs = y.is.values in
-      let said = subst (λ (o : Reference). Answers p u (call_at (world_of p) t o vs) res) (is (text_of p)) (c.is vs y.is.are) in
+      let said = subst (λ (o : Reference). Answers p u (call_at (world_of p) t o vs) res) (is (source_names (text_of p))) (c.is vs y.is.are) in
       goes (Call t here a es) a v res (behind_receiver p place t es) refl x (advances_then y.kept (advances_read y.kept.sound c.kept))
       (collected p u place (λ vs. call_at (world_of p) t (node (value_of (text_of p) v)) vs) res (collects_more c.kept.values y.is.collects) said)
 
@@ -276,7 +276,7 @@ module _ {p : Program} {place : Place} where
   pub token_goes : {S : Type 0} {r m : State S} {u : Told S} (e : TExpr) {t : Kind} {k o : ℕ} {a : TExpr} {v : CodedValue} {came res : Result CodedValue Halt} → token_read e ≡ Some (t, k, a) → came ≡ Ok v → Reads p r m place (expression_of a) came → ReadsNode o v → TokenReads p m.told u t k o res
       → Reads p r (state m.system u m.saved) place (expression_of e) res
   token_goes {u = u} e {t = t} {k = k} {a = a} {v = v} {res = res} is there x named c =
-      goes (expression_of e) (expression_of a) v res _ (token_part p place e t k a is) (came_as there x) (advances_read x.kept.sound c.kept) (subst (λ (n : Reference). Answers p u (token_at (world_of p) t k n) res) (named (text_of p)) c.is)
+      goes (expression_of e) (expression_of a) v res _ (token_part p place e t k a is) (came_as there x) (advances_read x.kept.sound c.kept) (subst (λ (n : Reference). Answers p u (token_at (world_of p) t k n) res) (named (source_names (text_of p))) c.is)
 
   -- a form of two parts
   pub two_stop : {S : Type 0} {r s : State S} (e : TExpr) {a b : TExpr} {h : Halt} {first : Result CodedValue Halt} → parts_of e ≡ Some (a, b) → first ≡ Err h → Reads p r s place (expression_of a) first → Reads p r s place (expression_of e) first
@@ -299,19 +299,19 @@ module _ {p : Program} {place : Place} where
   -- `&&` that ends on the left
   pub and_ends : {S : Type 0} {r s : State S} {a b : Expression} {v : CodedValue} {d : Bool} → Reads p r s place a (Ok v) → ReadsTruth d v → d ≡ false → Reads p r s place (And a b) (Ok (coded.Truth false))
   and_ends {s = s} {a = a} {b = b} {v = v} x e f =
-      goes (And a b) a v (Ok (coded.Truth false)) _ refl x (advances_self x.kept.sound) (tested p s.told false (truth (value_of (text_of p) v)) _ _ (Ok (coded.Truth false)) (sym (e (text_of p)) ∙ f) (gives_value refl tt))
+      goes (And a b) a v (Ok (coded.Truth false)) _ refl x (advances_self x.kept.sound) (tested p s.told false (truth (value_of (text_of p) v)) _ _ (Ok (coded.Truth false)) (sym (e (source_names (text_of p))) ∙ f) (gives_value refl tt))
 
   -- `&&` that is stuck on the right
   and_stops_right : {S : Type 0} {r m s : State S} {a b : Expression} {v : CodedValue} {h : Halt} {d : Bool} → Reads p r m place a (Ok v) → ReadsTruth d v → d ≡ true → Reads p m s place b (Err h) → Reads p r s place (And a b) (Err h)
   and_stops_right {s = s} {a = a} {b = b} {v = v} {h = h} {d = d} x e f y =
-      goes (And a b) a v (Err h) _ refl x y.kept (tested p s.told true (truth (value_of (text_of p) v)) _ _ (Err h) (sym (e (text_of p)) ∙ f) (second_stops b h _ y))
+      goes (And a b) a v (Err h) _ refl x y.kept (tested p s.told true (truth (value_of (text_of p) v)) _ _ (Err h) (sym (e (source_names (text_of p))) ∙ f) (second_stops b h _ y))
 
   -- `&&` that is evaluated on the right
   pub and_goes : {S : Type 0} {r m s : State S} {a b : Expression} {v : CodedValue} {d : Bool} {before after : Result CodedValue Halt} → Reads p r m place a (Ok v) → ReadsTruth d v → d ≡ true → Reads p m s place b before → IsRounded before after → Reads p r s place (And a b) after
   and_goes {r = r} {s = s} {a = a} {b = b} {v = v} {before = Ok w} y e f z g =
       subst (Reads p r s place (And a b)) (sym g.2)
       (goes (And a b) a v (Ok (coded.Truth g.0)) _ refl y z.kept
-      (tested p s.told true (truth (value_of (text_of p) v)) _ _ (Ok (coded.Truth g.0)) (sym (e (text_of p)) ∙ f) (second_goes b w (coded.Truth g.0) _ z _ refl (ap Truth (g.1 (text_of p))) tt)))
+      (tested p s.told true (truth (value_of (text_of p) v)) _ _ (Ok (coded.Truth g.0)) (sym (e (source_names (text_of p))) ∙ f) (second_goes b w (coded.Truth g.0) _ z _ refl (ap Truth (g.1 (source_names (text_of p)))) tt)))
   and_goes {r = r} {s = s} {a = a} {b = b} {before = Err h} y e f z same = subst (Reads p r s place (And a b)) (sym same) (and_stops_right y e f z)
 
   -- `||`
@@ -321,19 +321,19 @@ module _ {p : Program} {place : Place} where
   -- `||` that ends on the left
   pub or_ends : {S : Type 0} {r s : State S} {a b : Expression} {v : CodedValue} {d : Bool} → Reads p r s place a (Ok v) → ReadsTruth d v → d ≡ true → Reads p r s place (Or a b) (Ok (coded.Truth true))
   or_ends {s = s} {a = a} {b = b} {v = v} x e f =
-      goes (Or a b) a v (Ok (coded.Truth true)) _ refl x (advances_self x.kept.sound) (tested p s.told true (truth (value_of (text_of p) v)) _ _ (Ok (coded.Truth true)) (sym (e (text_of p)) ∙ f) (gives_value refl tt))
+      goes (Or a b) a v (Ok (coded.Truth true)) _ refl x (advances_self x.kept.sound) (tested p s.told true (truth (value_of (text_of p) v)) _ _ (Ok (coded.Truth true)) (sym (e (source_names (text_of p))) ∙ f) (gives_value refl tt))
 
   -- `||` that is stuck on the right
   or_stops_right : {S : Type 0} {r m s : State S} {a b : Expression} {v : CodedValue} {h : Halt} {d : Bool} → Reads p r m place a (Ok v) → ReadsTruth d v → d ≡ false → Reads p m s place b (Err h) → Reads p r s place (Or a b) (Err h)
   or_stops_right {s = s} {a = a} {b = b} {v = v} {h = h} {d = d} x e f y =
-      goes (Or a b) a v (Err h) _ refl x y.kept (tested p s.told false (truth (value_of (text_of p) v)) _ _ (Err h) (sym (e (text_of p)) ∙ f) (second_stops b h _ y))
+      goes (Or a b) a v (Err h) _ refl x y.kept (tested p s.told false (truth (value_of (text_of p) v)) _ _ (Err h) (sym (e (source_names (text_of p))) ∙ f) (second_stops b h _ y))
 
   -- `||` that is evaluated on the right
   pub or_goes : {S : Type 0} {r m s : State S} {a b : Expression} {v : CodedValue} {d : Bool} {before after : Result CodedValue Halt} → Reads p r m place a (Ok v) → ReadsTruth d v → d ≡ false → Reads p m s place b before → IsRounded before after → Reads p r s place (Or a b) after
   or_goes {r = r} {s = s} {a = a} {b = b} {v = v} {before = Ok w} y e f z g =
       subst (Reads p r s place (Or a b)) (sym g.2)
       (goes (Or a b) a v (Ok (coded.Truth g.0)) _ refl y z.kept
-      (tested p s.told false (truth (value_of (text_of p) v)) _ _ (Ok (coded.Truth g.0)) (sym (e (text_of p)) ∙ f) (second_goes b w (coded.Truth g.0) _ z _ refl (ap Truth (g.1 (text_of p))) tt)))
+      (tested p s.told false (truth (value_of (text_of p) v)) _ _ (Ok (coded.Truth g.0)) (sym (e (source_names (text_of p))) ∙ f) (second_goes b w (coded.Truth g.0) _ z _ refl (ap Truth (g.1 (source_names (text_of p)))) tt)))
   or_goes {r = r} {s = s} {a = a} {b = b} {before = Err h} y e f z same = subst (Reads p r s place (Or a b)) (sym same) (or_stops_right y e f z)
 
   -- a choice
@@ -342,11 +342,11 @@ module _ {p : Program} {place : Place} where
 
   -- a choice of the first part
   pub if_then : {S : Type 0} {r m s : State S} {c a b : Expression} {here : Option TextPlace} {v : CodedValue} {res : Result CodedValue Halt} {d : Bool} → Reads p r m place c (Ok v) → ReadsTruth d v → d ≡ true → Reads p m s place a res → Reads p r s place (If c a here b) res
-  if_then {s = s} {c = c} {a = a} {b = b} {here = here} {v = v} {res = res} x e f y = goes (If c a here b) c v res _ refl x y.kept (tested p s.told true (truth (value_of (text_of p) v)) _ _ res (sym (e (text_of p)) ∙ f) y.is)
+  if_then {s = s} {c = c} {a = a} {b = b} {here = here} {v = v} {res = res} x e f y = goes (If c a here b) c v res _ refl x y.kept (tested p s.told true (truth (value_of (text_of p) v)) _ _ res (sym (e (source_names (text_of p))) ∙ f) y.is)
 
   -- a choice of the second part
   pub if_otherwise : {S : Type 0} {r m s : State S} {c a b : Expression} {here : Option TextPlace} {v : CodedValue} {res : Result CodedValue Halt} {d : Bool} → Reads p r m place c (Ok v) → ReadsTruth d v → d ≡ false → Reads p m s place b res → Reads p r s place (If c a here b) res
-  if_otherwise {s = s} {c = c} {a = a} {b = b} {here = here} {v = v} {res = res} x e f y = goes (If c a here b) c v res _ refl x y.kept (tested p s.told false (truth (value_of (text_of p) v)) _ _ res (sym (e (text_of p)) ∙ f) y.is)
+  if_otherwise {s = s} {c = c} {a = a} {b = b} {here = here} {v = v} {res = res} x e f y = goes (If c a here b) c v res _ refl x y.kept (tested p s.told false (truth (value_of (text_of p) v)) _ _ res (sym (e (source_names (text_of p))) ∙ f) y.is)
 
   -- there is not enough memory for what follows
   pub out_of_memory : {S : Type 0} {r s : State S} {e : Expression} {res : Result CodedValue Halt} → Advances p r s → IsErr res × IsErrAnd res (λ m. m ≡ Memory) → Reads p r s place e res

@@ -13,7 +13,7 @@ use Rattle.equation_law.specs.declared.coding.EqSite.{EqSite}
 use Rattle.equation_law.specs.declared.coding.Single.{Single as CodedSingle}
 use Rattle.equation_law.specs.declared.coding.Value.{Value as CodedValue}
 use Rattle.equation_law.specs.declared.system.System.{System}
-use Rattle.equation_law.specs.Codes.{reference_of, single_of, value_of}
+use Rattle.equation_law.specs.Codes.{reference_of, single_of, source_names, value_of}
 use Rattle.equation_law.specs.Equations.{Site, attribute_kind, collection_of, equation_for, equations_of, inherited_site, inherits, place_at, site_at, site_demands, site_of, synthesized_site, world_of}
 use Rattle.equation_law.specs.Meaning.{Place, meaning_of}
 use Rattle.equation_law.specs.Names.{Argument, At, Attribute, Instance, Null, Query, Reference, Source}
@@ -85,7 +85,7 @@ module _ {S : Type 0} (p : Program) (r s : State S) where
   pub instance_evaluated : (i : Instance) (site : Site) (t u : Turn) → text_of p 0 ≡ [] → collection_of p i ≡ None → site_of p i ≡ Some site → Resumes p r s (meaning_of (world_of p) site.body site.place) (Ok t) → TurnAs site.kind t u
       → Resumes p r s ((equations_of p).equation i) (Ok u)
   instance_evaluated i site (turns.Done v) u first none is h read =
-      let ends = ends_next (λ x. Gives (as_kind site.kind x)) h.answer.ends (subst (λ x. Ends s.told.has (Gives (as_kind site.kind (value_of (text_of p) v))) x []) (sym (read.2 (text_of p) first)) gives) in
+      let ends = ends_next (λ x. Gives (as_kind site.kind x)) h.answer.ends (subst (λ x. Ends s.told.has (Gives (as_kind site.kind (value_of (text_of p) v))) x []) (sym (read.2 (source_names (text_of p)) first)) gives) in
       let done : AnswersTurn p s.told (site_demands (world_of p) (Some site)) (Ok (turns.Done read.0)) = record { demands = h.answer.demands ++ []; ends = ends; coded = read.3 p h.answer.coded } in
       record {
         kept = h.kept;

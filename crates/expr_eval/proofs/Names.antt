@@ -1,19 +1,19 @@
 -- The values of names.
 use Rattle.std.proofs.Common.{◌≡◌, ℕ, zero, suc, ◌+◌, arith, List, [], ◌∷◌, length, map, Some, None, slice_get, refl, sym, ap, ◌∙◌}
 use Rattle.equation_law.specs.declared.coding.Single.{Single as CodedSingle}
-use Rattle.equation_law.specs.Codes.{single_of}
+use Rattle.equation_law.specs.Codes.{Naming, single_by}
 use Rattle.equation_law.specs.Meaning.{named}
 use Rattle.std.specs.List.{range_with_len}
 use Rattle.equation_law.specs.Names.{Null}
 use Rattle.equation_law.specs.Values.{Node, Value}
 
-module _ (texts : ℕ → List ℕ) where
-  pub named_there : (names : List CodedSingle) (k : ℕ) (v : CodedSingle) → slice_get names k ≡ Some v → single_of texts v ≡ named (map (single_of texts) names) k
+module _ (n : Naming) where
+  pub named_there : (names : List CodedSingle) (k : ℕ) (v : CodedSingle) → slice_get names k ≡ Some v → single_by n v ≡ named (map (single_by n) names) k
   named_there [] k v e = cc
-  named_there (x ∷ names) zero v e = let same : x ≡ v = cc in ap (single_of texts) (sym same)
+  named_there (x ∷ names) zero v e = let same : x ≡ v = cc in ap (single_by n) (sym same)
   named_there (x ∷ names) (suc k) v e = named_there names k v e
 
-  pub named_nowhere : (names : List CodedSingle) (k : ℕ) → slice_get names k ≡ None → Node Null ≡ named (map (single_of texts) names) k
+  pub named_nowhere : (names : List CodedSingle) (k : ℕ) → slice_get names k ≡ None → Node Null ≡ named (map (single_by n) names) k
   named_nowhere [] k e = refl
   named_nowhere (x ∷ names) zero e = cc
   named_nowhere (x ∷ names) (suc k) e = named_nowhere names k e

@@ -7,7 +7,7 @@ use Rattle.equation_law.specs.declared.coding.Single.TheVariants as singles
 use Rattle.equation_law.specs.declared.coding.Value.{Value as CodedValue}
 use Rattle.equation_law.specs.declared.coding.Value.TheVariants as coded
 use Rattle.equation_law.specs.declared.system.System.{System}
-use Rattle.equation_law.specs.Codes.{AreElements, single_of, value_of}
+use Rattle.equation_law.specs.Codes.{AreElements, Naming, single_by, source_names, value_of}
 use Rattle.equation_law.specs.Meaning.{named, operate}
 use Rattle.equation_law.specs.Program.{Program, text_of}
 use Rattle.equation_law.specs.Values.{Int, Node, Nodes, Text, Texts, Truth, Value}
@@ -42,17 +42,17 @@ operate_plain Greater v w = refl
 operate_plain AtLeast v w = refl
 operate_plain Equal v w = refl
 
-pub single_plain : (texts : ℕ → List ℕ) (s : CodedSingle) → is_plain (single_of texts s) ≡ true
-single_plain texts (singles.Truth b) = refl
-single_plain texts (singles.Int z) = refl
-single_plain texts (singles.Text n) = refl
-single_plain texts (singles.Node n) = refl
+pub single_plain : (n : Naming) (s : CodedSingle) → is_plain (single_by n s) ≡ true
+single_plain n (singles.Truth b) = refl
+single_plain n (singles.Int z) = refl
+single_plain n (singles.Text k) = refl
+single_plain n (singles.Node k) = refl
 
-pub named_plain : (texts : ℕ → List ℕ) (names : List CodedSingle) (k : ℕ) → is_plain (named (map (single_of texts) names) k) ≡ true
-named_plain texts [] k = refl
-named_plain texts (s ∷ names) zero = single_plain texts s
-named_plain texts (s ∷ names) (suc k) = named_plain texts names k
+pub named_plain : (n : Naming) (names : List CodedSingle) (k : ℕ) → is_plain (named (map (single_by n) names) k) ≡ true
+named_plain n [] k = refl
+named_plain n (s ∷ names) zero = single_plain n s
+named_plain n (s ∷ names) (suc k) = named_plain n names k
 
 pub element_plain : (s : System) (o : Origin) (i : ℕ) → is_plain (element_from s o i) ≡ true
 element_plain s (origins.List n k) i = refl
-element_plain s (origins.Set xs) i = named_plain (texts_in s) xs i
+element_plain s (origins.Set xs) i = named_plain (source_names (texts_in s)) xs i

@@ -1,5 +1,5 @@
 -- What a form makes of the values of its parts, where it evaluates all of them, the first one first, whatever these come to.
-use Rattle.std.specs.Prelude.{◌≡◌, ◌||◌, ℕ, List, pos, neg_ℤ, not, Bool, true, false, Option, Some, None, Result, Ok, Err}
+use Rattle.std.specs.Prelude.{◌≡◌, ◌||◌, ℕ, pos, neg_ℤ, not, Bool, true, false, Option, Some, None, Result, Ok, Err}
 use Rattle.std.specs.Int.{int_wrap}
 use mir.Syntax.{w32}
 use Rattle.attr_rules.specs.Expression.{Expression, Truth as TruthLiteral, Int as IntLiteral, Text as TextLiteral, Null as NullLiteral, Empty, This, Variable, Source as SourceNode, Child, Element, Count, Has, Call, Cast, InstanceOf, Sets, Single, Contains, Size, Not, Negate, Binary, And, Or, OrBoth, If, expression_of}
@@ -10,7 +10,7 @@ use Rattle.attr_rules.specs.declared.expression.TExpr.TheVariants as kept
 use Rattle.equation_law.specs.declared.coding.Value.{Value as CodedValue}
 use Rattle.equation_law.specs.declared.coding.Value.TheVariants as coded
 use Rattle.equation_law.specs.declared.system.System.{System}
-use Rattle.equation_law.specs.Codes.{AreElements, value_of}
+use Rattle.equation_law.specs.Codes.{AreElements, Naming, value_by, value_of}
 use Rattle.equation_law.specs.Meaning.{Place, World, cast_to, child_at, count_at, element_at, is_instance, is_there, named, operate}
 use Rattle.equation_law.specs.Names.{Null as NoNode}
 use Rattle.equation_law.specs.Program.{Program, text_of}
@@ -154,9 +154,9 @@ TwoMake p f (Err h) second whole = Unit {0}
 
 -- the truth value of what came
 abbrev pub IsRounded : Result CodedValue Halt → Result CodedValue Halt → Type 0
-IsRounded (Ok v) whole = (t : Bool) × ((texts : ℕ → List ℕ) → t ≡ truth (value_of texts v)) × (whole ≡ Ok (coded.Truth t))
+IsRounded (Ok v) whole = (t : Bool) × ((n : Naming) → t ≡ truth (value_by n v)) × (whole ≡ Ok (coded.Truth t))
 IsRounded (Err h) whole = whole ≡ Err h
 
 abbrev pub IsSaid : Result CodedValue Halt → Option Bool → Type 0
-IsSaid (Ok v) answer = (t : Bool) × ((texts : ℕ → List ℕ) → t ≡ truth (value_of texts v)) × (answer ≡ Some t)
+IsSaid (Ok v) answer = (t : Bool) × ((n : Naming) → t ≡ truth (value_by n v)) × (answer ≡ Some t)
 IsSaid (Err h) answer = answer ≡ None

@@ -1,5 +1,5 @@
 -- The equations that are evaluated.
-use Rattle.std.specs.Prelude.{◌≡◌, ℕ, List, [], Option, Some, None, Result, Ok, Err, slice_get}
+use Rattle.std.specs.Prelude.{◌≡◌, ℕ, [], Option, Some, None, Result, Ok, Err, slice_get}
 use Rattle.std.specs.Result.{IsErr}
 use Rattle.rag_io.specs.declared.Memory.{Memory as NoMemory}
 use Rattle.attr_rules.specs.declared.kinds.Kind.{Kind}
@@ -11,7 +11,7 @@ use Rattle.equation_law.specs.declared.coding.EqSite.{EqSite}
 use Rattle.equation_law.specs.declared.coding.Instance.{Instance as CodedInstance}
 use Rattle.equation_law.specs.declared.coding.Value.{Value as CodedValue}
 use Rattle.equation_law.specs.declared.system.System.{System}
-use Rattle.equation_law.specs.Codes.{AreElements, instance_of, value_of}
+use Rattle.equation_law.specs.Codes.{AreElements, Naming, instance_of, value_by}
 use Rattle.equation_law.specs.Equations.{equations_of, place_at}
 use Rattle.inherited_walk.specs.Sites.{site_place}
 use Rattle.equation_law.specs.Names.{Instance}
@@ -70,7 +70,7 @@ ResumesInstance system r x s y i result = ResumesIn system r x s y (instance_rea
 
 -- a turn whose value is read at a type
 abbrev pub TurnAs : Kind → Turn → Turn → Type 0
-TurnAs k (turns.Done v) t = (w : CodedValue) × (t ≡ turns.Done w) × ((texts : ℕ → List ℕ) → texts 0 ≡ [] → value_of texts w ≡ as_kind k (value_of texts v)) × ((p : Program) → AreElements p v → AreElements p w)
+TurnAs k (turns.Done v) t = (w : CodedValue) × (t ≡ turns.Done w) × ((n : Naming) → n.text 0 ≡ [] → value_by n w ≡ as_kind k (value_by n v)) × ((p : Program) → AreElements p v → AreElements p w)
 TurnAs k (turns.Need i) t = t ≡ turns.Need i
 
 -- what an expression comes to, as a turn

@@ -123,12 +123,12 @@ impl Model for Singles {
 
 impl Singles {
     ghost use Rattle.std.specs.Prelude.{map};
-    ghost use Rattle.equation_law.specs.Codes.{single_of};
+    ghost use Rattle.equation_law.specs.Codes.{Naming, single_by};
     ghost use Rattle.equation_law.specs.Meaning.{named};
 
     /// One of them by its place, or null where there is none.
     fn get(&self, place: usize) -> Single
-        ensures { (texts : ℕ → List ℕ) → single_of texts result ≡ named (map (single_of texts) self.now) place }
+        ensures { (n : Naming) → single_by n result ≡ named (map (single_by n) self.now) place }
     {
         match self.values.get(place) {
             Some(value) => *value,

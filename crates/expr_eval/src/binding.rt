@@ -1,9 +1,9 @@
 // The values of the names that an equation begins with: the arguments of its attribute, and behind them what its path binds.
-ghost use Rattle.std.specs.Prelude.{◌≡◌, ◌++◌, ◌∷◌, [], ℕ, pos, List, IfOk, OnOk, map};
+ghost use Rattle.std.specs.Prelude.{◌≡◌, ◌++◌, ◌∷◌, [], pos, IfOk, OnOk, map};
 ghost use Rattle.std.specs.Int.{int_wrap};
 ghost use mir.Syntax.{w32};
 ghost use Rattle.attr_rules.specs.Types.{parameter_kinds};
-ghost use Rattle.equation_law.specs.Codes.{IsRow, single_of, value_at};
+ghost use Rattle.equation_law.specs.Codes.{IsRow, Naming, single_by, single_of, value_coded};
 ghost use Rattle.equation_law.specs.Systems.{program_of};
 ghost use Rattle.equation_law.specs.Values.{Int, argument_value, as_argument};
 ghost use Rattle.inherited_walk.specs.Sites.{index_values, site_place};
@@ -18,14 +18,14 @@ use std::alloc::Global;
 
 /// The integer of a code.
 fn integer(code: Code) -> Single
-    ensures { (texts : ℕ → List ℕ) → single_of texts result ≡ Int (int_wrap w32 (pos code)) }
+    ensures { (n : Naming) → single_by n result ≡ Int (int_wrap w32 (pos code)) }
 {
     Single::Int(code.cast_signed())
 }
 
 /// The value of an argument of this type. No argument is a set.
 fn argument(kind: Kind, code: Code) -> Single
-    ensures { (texts : ℕ → List ℕ) → single_of texts result ≡ argument_value (as_argument kind (value_at texts kind code)) }
+    ensures { (n : Naming) → single_by n result ≡ argument_value (as_argument kind (value_coded n kind code)) }
 {
     match kind {
         Kind::Truth => Single::Truth(code != 0),
@@ -61,7 +61,7 @@ fn arguments(alloc: Global, parameters: Params, args: Args) -> Result<Vec<Single
 /// What a path binds: places in lists.
 fn push_places(names: &mut Vec<Single>, outer: Args) -> Result<(), Memory>
     requires { IsRow outer }
-    ensures { OnOk result ((texts : ℕ → List ℕ) → map (single_of texts) names.new.items ≡ map (single_of texts) names.old.items ++ index_values outer) }
+    ensures { OnOk result ((n : Naming) → map (single_by n) names.new.items ≡ map (single_by n) names.old.items ++ index_values outer) }
 {
     let mut given = outer;
     while let Some(place) = given.first_code() {

@@ -1,8 +1,8 @@
 // The meaning of an expression under what a reader has.
-ghost use Rattle.std.specs.Prelude.{◌≡◌, ◌<◌, pos, ℕ, List, [], IfOk, OnOk, cond, length, true};
+ghost use Rattle.std.specs.Prelude.{◌≡◌, ◌<◌, pos, [], IfOk, OnOk, cond, length, true};
 ghost use Rattle.attr_rules.specs.Expression.{expression_of};
 ghost use Rattle.attr_rules.specs.Types.{parameter_kinds, text_kind};
-ghost use Rattle.equation_law.specs.Codes.{AreCodes, AreElements, IsCode, IsCoded, IsRow, codes_in, instance_of, single_of, value_at, value_of};
+ghost use Rattle.equation_law.specs.Codes.{AreCodes, AreElements, IsCode, IsCoded, IsRow, Naming, codes_in, instance_of, single_by, value_at, value_by, value_of};
 ghost use Rattle.equation_law.specs.Equations.{attribute_kind as kind_of};
 ghost use Rattle.equation_law.specs.Program.{Program, attribute_parameters};
 ghost use Rattle.equation_law.specs.Reading.{IsSound};
@@ -210,7 +210,7 @@ fn with_room(context: &Context<'_>) -> Result<Vec<Single>, Memory>
 
 /// The value where there are no elements.
 fn begun(alloc: Global, making: Making) -> Value
-    ensures value { (texts : ℕ → List ℕ) → texts 0 ≡ [] → value_of texts result ≡ begun_with making }
+    ensures value { (n : Naming) → n.text 0 ≡ [] → value_by n result ≡ begun_with making }
     ensures coded { (p : Program) → AreElements p result }
 {
     match making {
@@ -239,7 +239,7 @@ fn combined(
 
 /// Puts an element in the place of a value.
 fn put_element(place: &mut Value, element: Single)
-    ensures value { (texts : ℕ → List ℕ) → value_of texts place.new ≡ single_of texts element }
+    ensures value { (n : Naming) → value_by n place.new ≡ single_by n element }
     ensures coded { (p : Program) → AreElements p place.new }
 {
     *place = Value::from(element);
@@ -285,7 +285,7 @@ fn put_in(
 /// How many of so many elements are done with behind the n-th: `first` needs none behind one at which the condition is true.
 fn done(making: Making, count: usize, n: usize, said: &Value) -> usize
     requires { n < count }
-    ensures { (texts : ℕ → List ℕ) → result ≡ done_with making count n (value_of texts said.now) }
+    ensures { (by : Naming) → result ≡ done_with making count n (value_by by said.now) }
 {
     match making {
         Making::Tests(Quantifier::First) if said.truth() => count,

@@ -1,6 +1,6 @@
 use Rattle.std.proofs.Common.{◌∙◌, sym}
 use Rattle.solutions.proofs.Runs.{ends_more}
-use Rattle.equation_law.specs.Codes.{instance_of, reference_of}
+use Rattle.equation_law.specs.Codes.{instance_of, reference_of, source_names}
 use Rattle.equation_law.specs.Program.{text_of}
 use Rattle.equation_law.specs.Systems.{program_of}
 use Rattle.expr_eval.proofs.Forms.{grows_then}
@@ -42,7 +42,7 @@ returns-then-not-truth-clause-weighed g c = λ b is.
     let p = program_of c.args.system.now in
     let at = at_rules p c.rules.ensures c.contribution-contribution.ensures in
     let first = c.in_ok-instance.ensures.evaluates at.contribution.condition (condition_is p c.rules.ensures c.contribution-contribution.ensures) in
-    weighs_unmet p (g.R.Reader.tells c.condition.new.reader).has c.args.number c.args.node at.is is (given first c.in-Done.is).ends (sym (c.truth.ensures (text_of p)) ∙ c.if-not-truth.true)
+    weighs_unmet p (g.R.Reader.tells c.condition.new.reader).has c.args.number c.args.node at.is is (given first c.in-Done.is).ends (sym (c.truth.ensures (source_names (text_of p))) ∙ c.if-not-truth.true)
 
 pub evaluate_part-requires-clause-known : goal.evaluate_part-requires-clause-known
 evaluate_part-requires-clause-known g c = receiver_known (program_of c.args.system.now) c.rules.ensures c.contribution-contribution.ensures
@@ -78,7 +78,7 @@ returns-in-Need-2-clause-weighed g c = λ b is.
     let second = c.in_ok-instance-in-Done.ensures.evaluates at.contribution.receiver at.receiver in
     let stop = stopped second c.in-Need-2.is in (
       stop.coded,
-      weighs_stuck p (g.R.Reader.tells c.evaluate_part.new.reader).has c.args.number c.args.node at.is is (instance_of p c.in-Need-2.instance) (ends_more second.kept.values (given first c.in-Done.is).ends) (sym (c.truth.ensures (text_of p)) ∙ c.if-not-truth.false) stop.halts,
+      weighs_stuck p (g.R.Reader.tells c.evaluate_part.new.reader).has c.args.number c.args.node at.is is (instance_of p c.in-Need-2.instance) (ends_more second.kept.values (given first c.in-Done.is).ends) (sym (c.truth.ensures (source_names (text_of p))) ∙ c.if-not-truth.false) stop.halts,
     )
 
 pub returns-clause-kept : goal.returns-clause-kept
@@ -95,4 +95,4 @@ returns-clause-weighed g c = λ b is.
     let at = at_rules p c.rules.ensures c.contribution-contribution.ensures in
     let first = c.in_ok-instance.ensures.evaluates at.contribution.condition (condition_is p c.rules.ensures c.contribution-contribution.ensures) in
     let second = c.in_ok-instance-in-Done.ensures.evaluates at.contribution.receiver at.receiver in
-    weighs_met p (g.R.Reader.tells c.evaluate_part.new.reader).has c.args.number c.args.node at.is is (ends_more second.kept.values (given first c.in-Done.is).ends) (sym (c.truth.ensures (text_of p)) ∙ c.if-not-truth.false) (given second c.in-Done-2.is).ends (reference_of c.node.result.0) (c.node.ensures (text_of p))
+    weighs_met p (g.R.Reader.tells c.evaluate_part.new.reader).has c.args.number c.args.node at.is is (ends_more second.kept.values (given first c.in-Done.is).ends) (sym (c.truth.ensures (source_names (text_of p))) ∙ c.if-not-truth.false) (given second c.in-Done-2.is).ends (reference_of c.node.result.0) (c.node.ensures (source_names (text_of p)))

@@ -7,8 +7,8 @@ use Rattle.expr_eval.proofs.binding.arguments.Goals as goal
 pub loop-kind-preserved : goal.loop-kind-preserved
 loop-kind-preserved c = record {
   row = c.rest-given.ensures.row;
-  all = λ texts.
-      argument_more texts c.loop-kind.names.items c.push.new.names.items c.argument.result (parameter_kinds c.loop-kind.wanted) (parameter_kinds c.rest-wanted.result) (codes_in c.loop-kind.given) (codes_in c.rest-given.result) c.in-Some-Some.kind c.in-Some-Some.code
-      c.in-Some-Some.ensures c.rest-wanted.ensures c.in-Some-Some.ensures' c.rest-given.ensures.codes c.in_ok-push.ensures (c.argument.ensures texts)
-      ∙ c.loop-kind.invariant.all texts;
+  all = λ n.
+      argument_more n c.loop-kind.names.items c.push.new.names.items c.argument.result (parameter_kinds c.loop-kind.wanted) (parameter_kinds c.rest-wanted.result) (codes_in c.loop-kind.given) (codes_in c.rest-given.result) c.in-Some-Some.kind c.in-Some-Some.code
+      c.in-Some-Some.ensures c.rest-wanted.ensures c.in-Some-Some.ensures' c.rest-given.ensures.codes c.in_ok-push.ensures (c.argument.ensures n)
+      ∙ c.loop-kind.invariant.all n;
 }

@@ -1,6 +1,7 @@
 -- What the forms' parts that were evaluated give.
 use Rattle.std.proofs.Common.{◌<◌, refl, arith, subst, sym}
 use Rattle.attr_rules.specs.Expression.{expression_of}
+use Rattle.equation_law.specs.Codes.{source_names}
 use Rattle.equation_law.specs.Systems.{program_of}
 use Rattle.expr_eval.proofs.Forms.{advances_self, advances_then, and_ends, and_goes, and_stops, boxed, call_boxed, call_goes, call_stops, call_stops_at, came_as, choice_boxed, if_otherwise, if_stops, if_then, leaf_reads, none_said, one_makes, or_ends, or_goes, or_stops, out_of_memory, read_as, said, said_is, token_goes, token_stops, two_make, two_stop}
 use Rattle.std.specs.Prelude.{Vec}
@@ -83,7 +84,7 @@ over_form-returns-in_ok-put-in-Ok g t c =
     let over = over_by c.making_of.ensures (sym c.requires.body) c.in-Ok.ensures.over in
     let ranged = ranged_more over.kept.values stood.is.ranged in
     let kept = puts c.put.new.self _ (advances_then stood.kept over.kept) c.put.ensures (going_is c.args.context.now c.args.form c.in_ok-list.list c.at_elements.new.stand c.in-Ok.ensures.room ranged over.is.0) in
-    over_ends system (place_in c.args.context.now) (expression_of c.args.form.now) c.requires.form c.in_ok-value-in-Ok.value kept ranged over.is.0 over.is.1 (c.in_ok-value-in-Ok.ensures.same (texts_in system)) (c.in_ok-value-in-Ok.ensures.elements (program_of system) over.is.0.coded)
+    over_ends system (place_in c.args.context.now) (expression_of c.args.form.now) c.requires.form c.in_ok-value-in-Ok.value kept ranged over.is.0 over.is.1 (c.in_ok-value-in-Ok.ensures.same (source_names (texts_in system))) (c.in_ok-value-in-Ok.ensures.elements (program_of system) over.is.0.coded)
 
 pub over_form-returns-in_ok-put-in-Err-Need : goal.over_form-returns-in_ok-put-in-Err-Need
 over_form-returns-in_ok-put-in-Err-Need g t c =

@@ -1,6 +1,6 @@
 use Rattle.std.proofs.Common.{◌≡◌, ap, sym, subst, ◌∙◌}
 use Rattle.attr_rules.specs.declared.kinds.Kind.{Kind}
-use Rattle.equation_law.specs.Codes.{IsCode, value_at, value_of}
+use Rattle.equation_law.specs.Codes.{IsCode, source_names, value_at, value_of}
 use Rattle.equation_law.specs.Names.{OfText}
 use Rattle.equation_law.specs.Systems.{program_of}
 use Rattle.equation_law.specs.Values.{as_argument}
@@ -18,7 +18,7 @@ pub returns-then-is_text-clause-value : goal.returns-then-is_text-clause-value
 returns-then-is_text-clause-value c =
     let text = text_is c.args.kind (sym c.is_text.ensures ∙ c.if-is_text.true) in
     let texts = texts_in c.args.system.now in
-    let same = c.known_text.ensures.text ∙ c.text.ensures texts (first_text c.args.system.now) in
+    let same = c.known_text.ensures.text ∙ c.text.ensures (source_names texts) (first_text c.args.system.now) in
     subst (λ (k : Kind). as_argument k (value_at texts k c.known_text.result) ≡ as_argument k (value_of texts c.args.value)) (sym text) (ap OfText same)
 
 pub returns-clause-code : goal.returns-clause-code
@@ -27,4 +27,4 @@ returns-clause-code c = small_code (program_of c.args.system.now) c.args.kind c.
 pub returns-clause-value : goal.returns-clause-value
 returns-clause-value c =
     let texts = texts_in c.args.system.now in
-    coded_argument texts c.args.kind c.code.result (value_of texts c.args.value) (c.code.ensures.value texts (first_text c.args.system.now))
+    coded_argument texts c.args.kind c.code.result (value_of texts c.args.value) (c.code.ensures.value (source_names texts) (first_text c.args.system.now))

@@ -1,4 +1,5 @@
 use Rattle.std.proofs.Common.{refl, ap, ◌∙◌}
+use Rattle.equation_law.specs.Codes.{source_names}
 use Rattle.equation_law.specs.Systems.{program_of}
 use Rattle.equation_law.proofs.Pooled.{first_text}
 use Rattle.expr_eval.specs.Evaluating.{texts_in}
@@ -11,6 +12,6 @@ returns-clause-first c =
     record {
       room = c.in_ok-names.ensures;
       next = refl;
-      so_far = c.begun-so_far.ensures.value (texts_in system) (first_text system) ∙ ap begun c.making_of.ensures;
+      so_far = c.begun-so_far.ensures.value (source_names (texts_in system)) (first_text system) ∙ ap begun c.making_of.ensures;
       coded = c.begun-so_far.ensures.coded (program_of system);
     }

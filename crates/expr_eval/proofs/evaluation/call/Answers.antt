@@ -1,4 +1,5 @@
 use Rattle.std.proofs.Common.{rules}
+use Rattle.equation_law.specs.Codes.{source_names}
 use Rattle.equation_law.specs.Program.{text_of}
 use Rattle.equation_law.specs.Systems.{program_of}
 use Rattle.equation_law.proofs.Pooled.{first_text}
@@ -8,7 +9,7 @@ use Rattle.expr_eval.proofs.evaluation.call.Goals as goal
 pub returns-then-eq : goal.returns-then-eq
 returns-then-eq g c =
     let system = c.args.context.now.system.now in
-    call_null (program_of system) _ c.args.attr.0 c.args.args c.args.node.0 c.default_of.result c.attribute_kind-kind.result c.requires.sound (search rules) c.attribute_kind-kind.ensures (c.default_of.ensures.value (text_of (program_of system)) (first_text system)) (c.default_of.ensures.elements (program_of system))
+    call_null (program_of system) _ c.args.attr.0 c.args.args c.args.node.0 c.default_of.result c.attribute_kind-kind.result c.requires.sound (search rules) c.attribute_kind-kind.ensures (c.default_of.ensures.value (source_names (text_of (program_of system))) (first_text system)) (c.default_of.ensures.elements (program_of system))
 
 pub returns : goal.returns
 returns g c =

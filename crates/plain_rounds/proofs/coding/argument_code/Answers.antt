@@ -2,6 +2,7 @@ use Rattle.std.proofs.Common.{Some, ap, refl, rules, ◌∙◌}
 use Rattle.std.proofs.lemmas.Int.{to_z-of_z}
 use mir.Syntax.{w32}
 use mir.Val.{SFits}
+use Rattle.equation_law.specs.Codes.{source_names}
 use Rattle.equation_law.specs.Program.{text_of}
 use Rattle.equation_law.specs.Systems.{program_of}
 use Rattle.equation_law.specs.Values.{Int}
@@ -13,14 +14,14 @@ use Rattle.plain_rounds.proofs.coding.argument_code.Goals as goal
 pub returns-in-Truth-Truth : goal.returns-in-Truth-Truth
 returns-in-Truth-Truth c =
     let p = program_of c.args.system.now in
-    at_kind p c.args.kind _ c.args.argument _ (Some c.code.result) c.in-Truth-Truth.is-0 c.in-Truth-Truth.is-1 (truth_argument p c.in-Truth-Truth.value c.code.result c.code.ensures.small (c.code.ensures.value (text_of p) (first_text c.args.system.now) refl))
+    at_kind p c.args.kind _ c.args.argument _ (Some c.code.result) c.in-Truth-Truth.is-0 c.in-Truth-Truth.is-1 (truth_argument p c.in-Truth-Truth.value c.code.result c.code.ensures.small (c.code.ensures.value (source_names (text_of p)) (first_text c.args.system.now) refl))
 
 pub returns-in-Int-Int : goal.returns-in-Int-Int
 returns-in-Int-Int c =
     let p = program_of c.args.system.now in
     let fits : SFits w32 c.in-Int-Int.value = search rules in
     let back = to_z-of_z w32 c.in-Int-Int.value fits in
-    at_kind p c.args.kind _ c.args.argument _ (Some c.code-in-Int-Int.result) c.in-Int-Int.is-0 c.in-Int-Int.is-1 (int_argument p c.in-Int-Int.value c.code-in-Int-Int.result c.code-in-Int-Int.type_inv (c.code-in-Int-Int.ensures.value (text_of p) (first_text c.args.system.now) refl ∙ ap Int back))
+    at_kind p c.args.kind _ c.args.argument _ (Some c.code-in-Int-Int.result) c.in-Int-Int.is-0 c.in-Int-Int.is-1 (int_argument p c.in-Int-Int.value c.code-in-Int-Int.result c.code-in-Int-Int.type_inv (c.code-in-Int-Int.ensures.value (source_names (text_of p)) (first_text c.args.system.now) refl ∙ ap Int back))
 
 pub returns-in-Text-Text : goal.returns-in-Text-Text
 returns-in-Text-Text c =

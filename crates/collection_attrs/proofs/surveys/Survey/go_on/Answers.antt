@@ -1,7 +1,7 @@
 use Rattle.std.proofs.Common.{◌≡◌, ◌∙◌, IfNone, IfSome, List, Ok, Option, Some, arith, length, refl, subst, sym}
 use Rattle.solutions.specs.Asking.{Ends, Halts}
 use Rattle.equation_law.specs.declared.coding.Instance.{Instance as CodedInstance}
-use Rattle.equation_law.specs.Codes.{IsCoded, instance_of}
+use Rattle.equation_law.specs.Codes.{IsCoded, instance_of, source_names}
 use Rattle.equation_law.specs.Collections.{Collection, collection_demands}
 use Rattle.equation_law.specs.Equations.{offers_below, world_of}
 use Rattle.equation_law.specs.Names.{Instance}
@@ -133,5 +133,5 @@ returns-in-Ended-clause-evaluates g c =
     for_each (λ (x : Collection). Evaluates p (g.R.Reader.tells c.args.reader.now) (g.R.Reader.tells c.pass_next.new.reader) (collection_demands (world_of p) x) (Ok (turns.Done c.in_ok-copy-in-Ended.field-0))) of
     (record {
       kept = kept;
-      answer = record { demands = h.0; ends = subst (λ (v : Value). Ends (g.R.Reader.tells c.pass_next.new.reader).has (collection_demands (world_of p) d) v h.0) (sym (copy.same (text_of p))) h.1; coded = copy.elements p all.coded };
+      answer = record { demands = h.0; ends = subst (λ (v : Value). Ends (g.R.Reader.tells c.pass_next.new.reader).has (collection_demands (world_of p) d) v h.0) (sym (copy.same (source_names (text_of p)))) h.1; coded = copy.elements p all.coded };
     })

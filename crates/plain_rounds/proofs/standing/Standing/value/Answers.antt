@@ -1,5 +1,5 @@
 use Rattle.std.proofs.Common.{Some, sym, ap, ◌∙◌}
-use Rattle.equation_law.specs.Codes.{value_of}
+use Rattle.equation_law.specs.Codes.{source_names, value_of}
 use Rattle.equation_law.specs.Program.{text_of}
 use Rattle.equation_law.specs.Systems.{program_of}
 use Rattle.equation_law.specs.Values.{as_kind}
@@ -16,8 +16,8 @@ returns c = λ coded placed.
     let there = found_stands p (pooled_in s.system.now) s.names.now s.places.now.map s.values.now placed c.args.i coded in (
       (
         v,
-        sym there ∙ c.in-Some.ensures.value (text_of p) ∙ ap Some (sym (c.in_ok-value.ensures.same (text_of p))),
-        c.read_as.ensures.value (text_of p) (first_text s.system.now) ∙ ap (λ k. as_kind k v) c.kind_of.ensures,
+        sym there ∙ c.in-Some.ensures.value (text_of p) ∙ ap Some (sym (c.in_ok-value.ensures.same (source_names (text_of p)))),
+        c.read_as.ensures.value (source_names (text_of p)) (first_text s.system.now) ∙ ap (λ k. as_kind k v) c.kind_of.ensures,
       ),
       c.read_as.ensures.elements p (c.in_ok-value.ensures.elements p (c.in-Some.ensures.elements p placed.held)),
     )
