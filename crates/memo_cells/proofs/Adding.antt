@@ -17,11 +17,12 @@ use Rattle.equation_law.proofs.Solution.{are_joins, are_rising}
 use Rattle.memo_cells.specs.declared.view.Frame.{Frame}
 use Rattle.memo_cells.specs.declared.view.View.{View}
 use Rattle.memo_cells.specs.Keys.{is_set_word}
-use Rattle.memo_cells.specs.Standing.{AreWords, IsElement, IsPassOf, IsRaised, MayAdd, MayRaiseTruth}
+use Rattle.memo_cells.specs.Standing.{AreWords, IsElement, IsRaised, IsSeatOf, MayAdd, MayRaiseTruth}
 use Rattle.memo_cells.specs.Steps.{BitsAdded}
 use Rattle.memo_cells.specs.Views.{IsAtLeast, knows_all}
-use Rattle.memo_cells.proofs.Alone.{coded_now, frame_is, key_there, kept_words, read_at, size_of, words_after}
+use Rattle.memo_cells.proofs.Alone.{coded_now, frame_is, kept_safe, kept_words, key_there, read_at, size_of, words_after}
 use Rattle.memo_cells.proofs.Facts.{bits_of_words, bits_seen, pass_of}
+use Rattle.memo_cells.proofs.Lifting.{may_add_later, may_raise_truth_later, words_know}
 use Rattle.memo_cells.proofs.Meaning.{one_there, shown_at_most, true_code}
 use Rattle.memo_cells.proofs.Naming.{stands_later, stands_once, stands_plain, word_later, word_set}
 use Rattle.memo_cells.proofs.Raising.{Higher, higher}
@@ -37,12 +38,12 @@ or_right_bit a b n e = let both = bit_at_or a b n in let low = bit_at-lt a n in 
 pub or_new_bit : (a b n : ℕ) → bit_at (bit_or a b) n ≡ 1 → bit_at a n ≢ 1 → bit_at b n ≡ 1
 or_new_bit a b n e out = let both = bit_at_or a b n in let low = bit_at-lt a n in omega (arith, both, low, e, out)
 
-module _ (f : Frame) (ks vs : List ℕ) (lk : length ks ≡ f.cells) (lv : length vs ≡ f.cells) (o : AreWords f ks vs) (place : ℕ) (lt : place < f.cells) where
+module _ (f : Frame) (ts ks vs : List ℕ) (lk : length ks ≡ f.cells) (lv : length vs ≡ f.cells) (o : AreWords f ts ks vs) (place : ℕ) (lt : place < f.cells) where
   abbrev p : Program
   p = program_of f.system.value
 
   abbrev v : View
-  v = knows_all f ks vs
+  v = knows_all f ts ks vs
 
   -- another word at this place
   module _ (word : ℕ) where
@@ -58,10 +59,10 @@ module _ (f : Frame) (ks vs : List ℕ) (lk : length ks ≡ f.cells) (lv : lengt
   -- bits of a word of a set
   module _ (bits word : ℕ) (may : MayAdd p v place bits) (is_word : word ≡ bit_or (get_or vs place 0) bits) where
     grown : Higher p o.values may.of may.value
-    grown = higher p (are_rising p) (are_joins p) v o.values o.lower (λ j c. shown_at_most f ks vs lk lv o j (kind_in p j) refl c) may.of may.value may.may
+    grown = higher p (are_rising p) (are_joins p) v o.values o.lower (λ j c. shown_at_most f ts ks vs lk lv o j (kind_in p j) refl c) may.of may.value may.may
 
     key : (may.key ≢ 0) × (place < length ks) × (get_or ks place 0 ≡ may.key)
-    key = key_there f ks vs v refl place may.key may.here
+    key = key_there f ts ks vs v refl place may.key may.here
 
     at_key : (q : ℕ) → q ≡ place → get_or ks q 0 ≡ may.key
     at_key q e = ap (λ y. get_or ks y 0) e ∙ key.2
@@ -72,13 +73,13 @@ module _ (f : Frame) (ks vs : List ℕ) (lk : length ks ≡ f.cells) (lv : lengt
     old_bit : (n : ℕ) → bit_at (get_or vs place 0) n ≡ 1 → bit_at word n ≡ 1
     old_bit n e = ap (λ (y : ℕ). bit_at y n) is_word ∙ or_left_bit (get_or vs place 0) bits n e
 
-    pub add_more : IsAtLeast v (knows_all f ks (put word))
-    add_more = kept_words f ks vs v refl (put word) (length-set vs place word)
+    pub add_more : IsAtLeast v (knows_all f ts ks (put word))
+    add_more = kept_words f ts ks vs v refl ts (put word) (length-set vs place word)
         (λ q plain high. dite (ℕ_discrete q place) (λ e. absurd (not_both plain (is_set q e))) (λ ne. put_same word q ne))
         (λ q n low one. dite (ℕ_discrete q place)
         (λ e. ap (λ (y : ℕ). bit_at (get_or (put word) y 0) n) e ∙ ap (λ (y : ℕ). bit_at y n) (put_here word) ∙ old_bit n (ap (λ (y : ℕ). bit_at (get_or vs y 0) n) (sym e) ∙ one)) (λ ne. ap (λ (y : ℕ). bit_at y n) (put_same word q ne) ∙ one))
 
-    new_bit : (n : ℕ) → n < 64 → bit_at word n ≡ 1 → (bit_at (get_or vs place 0) n ≡ 1) ⊎ IsElement p (knows_all f ks (put word)) grown.values may.key n
+    new_bit : (n : ℕ) → n < 64 → bit_at word n ≡ 1 → (bit_at (get_or vs place 0) n ≡ 1) ⊎ IsElement p (knows_all f ts ks (put word)) grown.values may.key n
     new_bit n low e = dite (ℕ_discrete (bit_at (get_or vs place 0) n) 1) inl
         (λ out.
         let one : bit_at bits n ≡ 1 = or_new_bit (get_or vs place 0) bits n (ap (λ (y : ℕ). bit_at y n) (sym is_word) ∙ e) out in
@@ -87,27 +88,27 @@ module _ (f : Frame) (ks vs : List ℕ) (lk : length ks ≡ f.cells) (lv : lengt
         (record {
           of = may.of;
           word = may.word;
-          key = word_later v (knows_all f ks (put word)) add_more p may.key may.of may.word may.is;
+          key = word_later v (knows_all f ts ks (put word)) add_more p may.key may.of may.word may.is;
           part = ⊎_elim (λ a. inl (a.0, has_code_more (text_of p) (kind_in p may.of) may.value (grown.values may.of) (64 * may.word + n) (grown.reaches a.0) in_value)) (λ a. inr (a.0, (may.value, a.1, in_value))) may.may;
           code = (may.elements n low one).0;
         }))
 
-    pub add_words : AreWords f ks (put word)
+    pub add_words : AreWords f ts ks (put word)
     add_words = record {
       values = grown.values;
       lower = grown.lower;
-      ordered = words_after f ks vs v refl p lk lv o.values o.ordered grown.values (put word) add_more grown.up
+      ordered = words_after f ts ks vs v refl p lk lv o.values o.ordered grown.values ts (put word) add_more (kept_safe f ts ks vs v refl p ks (put word) add_more) grown.up
           (λ q lq nz. dite (ℕ_discrete q place) (λ e z. key.0 (sym (at_key q e) ∙ z)) (λ ne. o.ordered.keyed q lq (λ z. nz (put_same word q ne ∙ z))))
           (λ q lq plain nz. dite (ℕ_discrete q place) (λ e. absurd (not_both plain (is_set q e))) (λ ne. inl (put_same word q ne)))
           (λ q n lq st low e. dite (ℕ_discrete q place)
-          (λ here. ⊎_elim (λ h. inl (ap (λ (y : ℕ). bit_at (get_or vs y 0) n) here ∙ h)) (λ h. inr (subst (λ (y : ℕ). IsElement p (knows_all f ks (put word)) grown.values y n) (sym (at_key q here)) h))
+          (λ here. ⊎_elim (λ h. inl (ap (λ (y : ℕ). bit_at (get_or vs y 0) n) here ∙ h)) (λ h. inr (subst (λ (y : ℕ). IsElement p (knows_all f ts ks (put word)) grown.values y n) (sym (at_key q here)) h))
           (new_bit n low (ap (λ (y : ℕ). bit_at y n) (sym (put_here word)) ∙ ap (λ (y : ℕ). bit_at (get_or (put word) y 0) n) (sym here) ∙ e)))
           (λ ne. inl (ap (λ (y : ℕ). bit_at y n) (sym (put_same word q ne)) ∙ e)));
     }
 
-    pub add_seen : BitsAdded v (knows_all f ks (put word)) place bits word
+    pub add_seen : BitsAdded v (knows_all f ts ks (put word)) place bits word
     add_seen =
-        let seen = bits_of_words f ks (put word) place word key.1 (omega (arith, length-set vs place word, lv, lt)) (put_here word) in
+        let seen = bits_of_words f ts ks (put word) place word key.1 (omega (arith, length-set vs place word, lv, lt)) (put_here word) in
         record {
           seen = record { all = seen.all; only = seen.only; keys = refl; claims = refl };
           added = λ n e. ap (λ (y : ℕ). bit_at y n) is_word ∙ or_right_bit (get_or vs place 0) bits n e;
@@ -116,13 +117,13 @@ module _ (f : Frame) (ks vs : List ℕ) (lk : length ks ≡ f.cells) (lv : lengt
   -- a circular instance that becomes true
   module _ (may : MayRaiseTruth p v place) where
     grown_true : Higher p o.values may.of may.value
-    grown_true = higher p (are_rising p) (are_joins p) v o.values o.lower (λ j c. shown_at_most f ks vs lk lv o j (kind_in p j) refl c) may.of may.value (inl (may.is_circular, may.comes))
+    grown_true = higher p (are_rising p) (are_joins p) v o.values o.lower (λ j c. shown_at_most f ts ks vs lk lv o j (kind_in p j) refl c) may.of may.value (inl (may.is_circular, may.comes))
 
     is_true : truth (grown_true.values may.of) ≡ true
     is_true = (grown_true.reaches may.is_circular).in_truth may.is_true
 
     true_key : (may.key ≢ 0) × (place < length ks) × (get_or ks place 0 ≡ may.key)
-    true_key = key_there f ks vs v refl place may.key may.here
+    true_key = key_there f ts ks vs v refl place may.key may.here
 
     at_true_key : (q : ℕ) → q ≡ place → get_or ks q 0 ≡ may.key
     at_true_key q e = ap (λ y. get_or ks y 0) e ∙ true_key.2
@@ -135,30 +136,30 @@ module _ (f : Frame) (ks vs : List ℕ) (lk : length ks ≡ f.cells) (lv : lengt
       at_free : (q n : ℕ) → q ≡ place → bit_at (get_or vs q 0) n ≡ 0
       at_free q n e = ap (λ (y : ℕ). bit_at (get_or vs y 0) n) e ∙ ap (λ (y : ℕ). bit_at y n) free ∙ bit_at-zero n
 
-      pub true_more : IsAtLeast v (knows_all f ks (put 1))
-      true_more = kept_words f ks vs v refl (put 1) (length-set vs place 1)
+      pub true_more : IsAtLeast v (knows_all f ts ks (put 1))
+      true_more = kept_words f ts ks vs v refl ts (put 1) (length-set vs place 1)
           (λ q plain high. put_same 1 q (λ e. let z : get_or vs q 0 ≡ 0 = ap (λ y. get_or vs y 0) e ∙ free in absurd (omega (arith, z, high))))
           (λ q n low one. ap (λ (y : ℕ). bit_at y n) (put_same 1 q (λ e. let z = at_free q n e in absurd (omega (arith, z, one)))) ∙ one)
 
-      pub true_words : AreWords f ks (put 1)
+      pub true_words : AreWords f ts ks (put 1)
       true_words = record {
         values = grown_true.values;
         lower = grown_true.lower;
-        ordered = words_after f ks vs v refl p lk lv o.values o.ordered grown_true.values (put 1) true_more grown_true.up
+        ordered = words_after f ts ks vs v refl p lk lv o.values o.ordered grown_true.values ts (put 1) true_more (kept_safe f ts ks vs v refl p ks (put 1) true_more) grown_true.up
             (λ q lq nz. dite (ℕ_discrete q place) (λ e z. true_key.0 (sym (at_true_key q e) ∙ z)) (λ ne. o.ordered.keyed q lq (λ z. nz (put_same 1 q ne ∙ z))))
             (λ q lq plain nz. dite (ℕ_discrete q place)
             (λ e.
-            let raised : IsRaised p (knows_all f ks (put 1)) grown_true.values may.key
-            = record { of = may.of; stands = stands_later v (knows_all f ks (put 1)) true_more p may.key may.of may.stands; is_circular = may.is_circular; kind = may.kind; is_true = is_true } in
-            inr (inr (ap (λ (y : ℕ). get_or (put 1) y 0) e ∙ put_here 1, subst (λ (y : ℕ). IsRaised p (knows_all f ks (put 1)) grown_true.values y) (sym (at_true_key q e)) raised))
+            let raised : IsRaised p (knows_all f ts ks (put 1)) grown_true.values may.key
+            = record { of = may.of; stands = stands_later v (knows_all f ts ks (put 1)) true_more p may.key may.of may.stands; is_circular = may.is_circular; kind = may.kind; is_true = is_true } in
+            inr (inr (ap (λ (y : ℕ). get_or (put 1) y 0) e ∙ put_here 1, subst (λ (y : ℕ). IsRaised p (knows_all f ts ks (put 1)) grown_true.values y) (sym (at_true_key q e)) raised))
             )
             (λ ne. inl (put_same 1 q ne)))
             (λ q n lq st low e. dite (ℕ_discrete q place) (λ here. absurd (not_both is_plain (ap is_set_word (sym (at_true_key q here)) ∙ st))) (λ ne. inl (ap (λ (y : ℕ). bit_at y n) (sym (put_same 1 q ne)) ∙ e)));
       }
 
-      pub true_seen : BitsAdded v (knows_all f ks (put 1)) place 1 1
+      pub true_seen : BitsAdded v (knows_all f ts ks (put 1)) place 1 1
       true_seen =
-          let seen = bits_of_words f ks (put 1) place 1 true_key.1 (omega (arith, length-set vs place 1, lv, lt)) (put_here 1) in
+          let seen = bits_of_words f ts ks (put 1) place 1 true_key.1 (omega (arith, length-set vs place 1, lv, lt)) (put_here 1) in
           record { seen = record { all = seen.all; only = seen.only; keys = refl; claims = refl }; added = λ n e. e }
 
     -- where it is raised or sealed already, it is true
@@ -167,7 +168,7 @@ module _ (f : Frame) (ks vs : List ℕ) (lk : length ks ≡ f.cells) (lv : lengt
         let low = bit_at_lowest (get_or vs place 0) in
         ⊎_elim
         (λ x.
-        let of : x.2.settled.of ≡ may.of = stands_once v (one_there f ks vs lk lv o) p may.key x.2.settled.of may.of x.2.settled.stands may.stands in
+        let of : x.2.settled.of ≡ may.of = stands_once v (one_there f ts ks vs lk lv o) p may.key x.2.settled.of may.of x.2.settled.stands may.stands in
         let circular = ap (equations_of p).circular of ∙ may.is_circular in
         let least : IsAtMost (grown_true.values x.2.settled.of) x.2.settled.code.value
         = lower_below (equations_of p) (order_in p) (fits_in p) (join_in p) (are_rising p) (are_joins p) grown_true.values grown_true.lower x.2.settled.of x.2.settled.code.value circular x.2.settled.code.has in
@@ -176,65 +177,68 @@ module _ (f : Frame) (ks vs : List ℕ) (lk : length ks ≡ f.cells) (lv : lengt
         omega (arith, low, one, x.1)
         )
         (λ x. omega (arith, low, x.0))
-        (coded_now f ks vs v refl p lk lv o.values o.ordered place (get_or vs place 0) may.key (omega (arith, lv, lt)) (read_at vs place (get_or vs place 0) (omega (arith, lv, lt))) nz may.here is_plain)
+        (coded_now f ts ks vs v refl p lk lv o.values o.ordered place (get_or vs place 0) may.key (omega (arith, lv, lt)) (read_at vs place (get_or vs place 0) (omega (arith, lv, lt))) nz may.here is_plain)
 
 -- one bit of 1
 pub bit_of_one : (n : ℕ) → bit_at 1 n ≡ 1 → n ≡ 0
 bit_of_one n e = dite (ℕ_discrete n 0) (λ z. z) (λ nz. let none = bit_at-pow_other 0 n nz in absurd (omega (arith, none, e)))
 
-module _ (f : Frame) (ks vs : List ℕ) (v : View) (is : knows_all f ks vs ≡ v) (lk : length ks ≡ f.cells) (lv : length vs ≡ f.cells) (o : AreWords f ks vs) (g : Frame) (own : v.frame ≡ Some g) where
+module _ (f : Frame) (ts ks vs : List ℕ) (v : View) (is : knows_all f ts ks vs ≡ v) (lk : length ks ≡ f.cells) (lv : length vs ≡ f.cells) (o : AreWords f ts ks vs) (g : Frame) (own : v.frame ≡ Some g) where
   same_frame : f ≡ g
-  same_frame = frame_is f ks vs v is g own
+  same_frame = frame_is f ts ks vs v is g own
+
+  told : IsAtLeast v (knows_all f ts ks vs)
+  told = words_know f ts ks vs v is
 
   -- a pass that has other value words
-  pub own_of : (ws : List ℕ) → length ws ≡ length vs → g.cells ≤ 4194304 → AreWords f ks ws → IsPassOf g (knows_all f ks ws)
-  own_of ws long few a = subst (λ (h : Frame). IsPassOf h (knows_all f ks ws)) same_frame (pass_of f ks ws (subst (λ (h : Frame). h.cells ≤ 4194304) (sym same_frame) few) lk (long ∙ lv) a)
+  pub own_of : (ws : List ℕ) → length ws ≡ length vs → g.cells ≤ 4194304 → AreWords f ts ks ws → IsSeatOf g (knows_all f ts ks ws) ts
+  own_of ws long few a = subst (λ (h : Frame). IsSeatOf h (knows_all f ts ks ws) ts) same_frame (pass_of f ts ks ws (subst (λ (h : Frame). h.cells ≤ 4194304) (sym same_frame) few) lk (long ∙ lv) a)
 
   module _ (place : ℕ) (lt : place < g.cells) where
     there : place < f.cells
-    there = let size = size_of f ks vs v is g own in omega (arith, size, lt)
+    there = let size = size_of f ts ks vs v is g own in omega (arith, size, lt)
 
     module _ (bits found word : ℕ) (e : found ≡ get_or vs place found) (is_word : word ≡ bit_or found bits) (may : MayAdd (program_of g.system.value) v place bits) where
-      its : MayAdd (program_of f.system.value) (knows_all f ks vs) place bits
-      its = subst (λ (y : View). MayAdd (program_of f.system.value) y place bits) (sym is) (subst (λ (h : Frame). MayAdd (program_of h.system.value) v place bits) (sym same_frame) may)
+      its : MayAdd (program_of f.system.value) (knows_all f ts ks vs) place bits
+      its = may_add_later (program_of f.system.value) v (knows_all f ts ks vs) told place bits (subst (λ (h : Frame). MayAdd (program_of h.system.value) v place bits) (sym same_frame) may)
 
       at_word : word ≡ bit_or (get_or vs place 0) bits
       at_word = is_word ∙ ap (λ (y : ℕ). bit_or y bits) (e ∙ sym (read_at vs place found (omega (arith, there, lv))))
 
-      pub added_words : AreWords f ks (set vs place word)
-      added_words = add_words f ks vs lk lv o place there bits word its at_word
+      pub added_words : AreWords f ts ks (set vs place word)
+      added_words = add_words f ts ks vs lk lv o place there bits word its at_word
 
-      pub added_own : g.cells ≤ 4194304 → IsPassOf g (knows_all f ks (set vs place word))
+      pub added_own : g.cells ≤ 4194304 → IsSeatOf g (knows_all f ts ks (set vs place word)) ts
       added_own few = own_of (set vs place word) (length-set vs place word) few added_words
 
-      pub added_more : IsAtLeast v (knows_all f ks (set vs place word))
-      added_more = subst (λ (y : View). IsAtLeast y (knows_all f ks (set vs place word))) is (add_more f ks vs lk lv o place there bits word its at_word)
+      pub added_more : IsAtLeast v (knows_all f ts ks (set vs place word))
+      added_more = subst (λ (y : View). IsAtLeast y (knows_all f ts ks (set vs place word))) is (add_more f ts ks vs lk lv o place there bits word its at_word)
 
-      pub added_seen : BitsAdded v (knows_all f ks (set vs place word)) place bits word
-      added_seen = subst (λ (y : View). BitsAdded y (knows_all f ks (set vs place word)) place bits word) is (add_seen f ks vs lk lv o place there bits word its at_word)
+      pub added_seen : BitsAdded v (knows_all f ts ks (set vs place word)) place bits word
+      added_seen = subst (λ (y : View). BitsAdded y (knows_all f ts ks (set vs place word)) place bits word) is (add_seen f ts ks vs lk lv o place there bits word its at_word)
 
     module _ (found : ℕ) (e : found ≡ get_or vs place found) (may : MayRaiseTruth (program_of g.system.value) v place) where
-      true_its : MayRaiseTruth (program_of f.system.value) (knows_all f ks vs) place
-      true_its = subst (λ (y : View). MayRaiseTruth (program_of f.system.value) y place) (sym is) (subst (λ (h : Frame). MayRaiseTruth (program_of h.system.value) v place) (sym same_frame) may)
+      true_its : MayRaiseTruth (program_of f.system.value) (knows_all f ts ks vs) place
+      true_its = may_raise_truth_later (program_of f.system.value) v (knows_all f ts ks vs) told place (subst (λ (h : Frame). MayRaiseTruth (program_of h.system.value) v place) (sym same_frame) may)
 
       found_here : get_or vs place 0 ≡ found
       found_here = read_at vs place found (omega (arith, there, lv)) ∙ sym e
 
       module _ (z : found ≡ 0) where
-        pub raised_words : AreWords f ks (set vs place 1)
-        raised_words = true_words f ks vs lk lv o place there true_its (found_here ∙ z)
+        pub raised_words : AreWords f ts ks (set vs place 1)
+        raised_words = true_words f ts ks vs lk lv o place there true_its (found_here ∙ z)
 
-        pub raised_own : g.cells ≤ 4194304 → IsPassOf g (knows_all f ks (set vs place 1))
+        pub raised_own : g.cells ≤ 4194304 → IsSeatOf g (knows_all f ts ks (set vs place 1)) ts
         raised_own few = own_of (set vs place 1) (length-set vs place 1) few raised_words
 
-        pub raised_more : IsAtLeast v (knows_all f ks (set vs place 1))
-        raised_more = subst (λ (y : View). IsAtLeast y (knows_all f ks (set vs place 1))) is (true_more f ks vs lk lv o place there true_its (found_here ∙ z))
+        pub raised_more : IsAtLeast v (knows_all f ts ks (set vs place 1))
+        raised_more = subst (λ (y : View). IsAtLeast y (knows_all f ts ks (set vs place 1))) is (true_more f ts ks vs lk lv o place there true_its (found_here ∙ z))
 
-        pub raised_seen : BitsAdded v (knows_all f ks (set vs place 1)) place 1 1
-        raised_seen = subst (λ (y : View). BitsAdded y (knows_all f ks (set vs place 1)) place 1 1) is (true_seen f ks vs lk lv o place there true_its (found_here ∙ z))
+        pub raised_seen : BitsAdded v (knows_all f ts ks (set vs place 1)) place 1 1
+        raised_seen = subst (λ (y : View). BitsAdded y (knows_all f ts ks (set vs place 1)) place 1 1) is (true_seen f ts ks vs lk lv o place there true_its (found_here ∙ z))
 
       pub raised_already : found ≢ 0 → BitsAdded v v place 1 found
       raised_already nz = record {
-        seen = bits_seen f ks vs v is lk lv o g own place lt found e;
-        added = λ n b. ap (λ (y : ℕ × ℕ). bit_at y.0 y.1) (λ i. (sym found_here i, bit_of_one n b i)) ∙ true_already f ks vs lk lv o place there true_its (λ y. nz (sym found_here ∙ y));
+        seen = bits_seen f ts ks vs v is lk lv o g own place lt found e;
+        added = λ n b. ap (λ (y : ℕ × ℕ). bit_at y.0 y.1) (λ i. (sym found_here i, bit_of_one n b i)) ∙ true_already f ts ks vs lk lv o place there true_its (λ y. nz (sym found_here ∙ y));
       }

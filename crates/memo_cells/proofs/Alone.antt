@@ -13,14 +13,14 @@ use Rattle.equation_law.proofs.Orders.{at_most_itself}
 use Rattle.memo_cells.specs.declared.view.View.{View}
 use Rattle.memo_cells.specs.declared.view.Frame.{Frame}
 use Rattle.memo_cells.specs.Naming.{IsFormed}
-use Rattle.memo_cells.specs.Standing.{IsElement, IsFinal, IsRaised, MaySettle}
+use Rattle.memo_cells.specs.Standing.{IsElement, IsFinal, IsRaised, IsSafe, Knows, MaySettle}
 use Rattle.memo_cells.specs.Keys.{is_set_word}
 use Rattle.memo_cells.specs.Views.{Has, IsAtLeast, IsPassed, IsPlain, knows_all, shown_bits, values_from, word_at}
 use Rattle.memo_cells.specs.Words.{AreOrdered, IsCoded}
 use Rattle.memo_cells.proofs.Bits.{bits_kept, bits_more}
-use Rattle.memo_cells.proofs.Naming.{formed_later, stands_once, stands_plain}
+use Rattle.memo_cells.proofs.Naming.{formed_later, knows_later, stands_once, stands_plain}
 use Rattle.memo_cells.proofs.Ordered.{ordered_claim, ordered_words, same_coded, stands_nowhere}
-use Rattle.memo_cells.proofs.Showing.{element_later, final_later, not_both, raised_later, settled_later}
+use Rattle.memo_cells.proofs.Showing.{StaysSafe, element_later, final_later, not_both, raised_later, safe_later, settled_later}
 use Rattle.memo_cells.proofs.Places.{keys_has, has_keys, keys_more, has_values, values_has, values_kept, values_more, places_more}
 
 pub read_at : (ks : List ℕ) (p d : ℕ) → p < length ks → get_or ks p 0 ≡ get_or ks p d
@@ -28,7 +28,7 @@ read_at [] p d lt = absurd (omega arith)
 read_at (x ∷ ks) zero d lt = refl
 read_at (x ∷ ks) (suc p) d lt = read_at ks p d (omega arith)
 
-module _ (f : Frame) (ks vs : List ℕ) (v : View) (is : knows_all f ks vs ≡ v) where
+module _ (f : Frame) (ts ks vs : List ℕ) (v : View) (is : knows_all f ts ks vs ≡ v) where
   pub own_frame : v.frame ≡ Some f
   own_frame = sym (ap (λ y. y.frame) is)
 
@@ -98,10 +98,14 @@ module _ (f : Frame) (ks vs : List ℕ) (v : View) (is : knows_all f ks vs ≡ v
       values_has ks (set vs p (c + 2 ^ 63)) 0 p p k c (key_there p k has).1 (omega (arith, lv, length-set vs p (c + 2 ^ 63))) (key_there p k has).2 plain (get_or-set_same vs p (c + 2 ^ 63) 0 lv) (omega arith)
 
   -- where no settled word changes, and no bit is lost, nothing is unlearnt
-  pub kept_words : (ws : List ℕ) → length ws ≡ length vs → ((i : ℕ) → is_set_word (get_or ks i 0) ≡ false → 2 ^ 63 ≤ get_or vs i 0 → get_or ws i 0 ≡ get_or vs i 0)
-      → ((i c : ℕ) → c < shown_bits (get_or ks i 0) → bit_at (get_or vs i 0) c ≡ 1 → bit_at (get_or ws i 0) c ≡ 1) → IsAtLeast v (knows_all f ks ws)
-  kept_words ws long same more =
-      subst (λ u. IsAtLeast u (knows_all f ks ws)) is (record { frame = refl; share = refl; keys = λ q j h. h; values = λ q j c h. values_kept ks vs ws q j c long same h; bits = λ q j b h. bits_kept ks vs ws q j b long more h; claims = λ q. le_refl _ })
+  pub kept_words : (us ws : List ℕ) → length ws ≡ length vs → ((i : ℕ) → is_set_word (get_or ks i 0) ≡ false → 2 ^ 63 ≤ get_or vs i 0 → get_or ws i 0 ≡ get_or vs i 0)
+      → ((i c : ℕ) → c < shown_bits (get_or ks i 0) → bit_at (get_or vs i 0) c ≡ 1 → bit_at (get_or ws i 0) c ≡ 1) → IsAtLeast v (knows_all f us ks ws)
+  kept_words us ws long same more =
+      subst (λ u. IsAtLeast u (knows_all f us ks ws)) is (record { frame = refl; share = refl; keys = λ q j h. h; values = λ q j c h. values_kept ks vs ws q j c long same h; bits = λ q j b h. bits_kept ks vs ws q j b long more h; claims = λ q. le_refl _ })
+
+  -- where no slot was sealed, what is safe goes on to be so
+  pub kept_safe : (p : Program) (js ws : List ℕ) → IsAtLeast v (knows_all f ts js ws) → StaysSafe p v (knows_all f ts js ws)
+  kept_safe p js ws more = safe_later p v (knows_all f ts js ws) more (λ s h. subst (λ (y : View). Has y.to_seal s) (sym is) h)
 
   -- the words that are settled are those of a lower assignment's program
   module _ (program : Program) (lk : length ks ≡ f.cells) (lv : length vs ≡ f.cells) (T : Instance → Value) (o : AreOrdered (IsFormed program v) (IsFinal program v T) (IsRaised program v T) (IsElement program v T) f.cells (word_at ks) (word_at vs)) where
@@ -109,9 +113,9 @@ module _ (f : Frame) (ks vs : List ℕ) (v : View) (is : knows_all f ks vs ≡ v
     pub free_value : (p : ℕ) → p < f.cells → get_or ks p 0 ≡ 0 → get_or vs p 0 ≡ 0
     free_value p lt free = dite (ℕ_discrete (get_or vs p 0) 0) (λ z. z) (λ nz. absurd (o.keyed p lt nz free))
 
-    pub kept_after : (p k : ℕ) → p < f.cells → get_or ks p 0 ≡ 0 → IsAtLeast v (knows_all f (set ks p k) vs)
+    pub kept_after : (p k : ℕ) → p < f.cells → get_or ks p 0 ≡ 0 → IsAtLeast v (knows_all f ts (set ks p k) vs)
     kept_after p k lt free =
-        subst (λ y. IsAtLeast y (knows_all f (set ks p k) vs)) is
+        subst (λ y. IsAtLeast y (knows_all f ts (set ks p k) vs)) is
         (record {
           frame = refl;
           share = refl;
@@ -122,24 +126,24 @@ module _ (f : Frame) (ks vs : List ℕ) (v : View) (is : knows_all f ks vs ≡ v
         })
 
     -- a key is claimed at a free place behind others on its way
-    pub ordered_after : (p k : ℕ) → p < f.cells → get_or ks p 0 ≡ 0 → k ≢ 0 → IsFormed program v k → IsPassed f v k p → (let w = knows_all f (set ks p k) vs in AreOrdered (IsFormed program w) (IsFinal program w T) (IsRaised program w T) (IsElement program w T) f.cells (word_at (set ks p k)) (word_at vs))
+    pub ordered_after : (p k : ℕ) → p < f.cells → get_or ks p 0 ≡ 0 → k ≢ 0 → IsFormed program v k → IsPassed f v k p → (let w = knows_all f ts (set ks p k) vs in AreOrdered (IsFormed program w) (IsFinal program w T) (IsRaised program w T) (IsElement program w T) f.cells (word_at (set ks p k)) (word_at vs))
     ordered_after p k lt free nz good passed =
-        let w : View = knows_all f (set ks p k) vs in
+        let w : View = knows_all f ts (set ks p k) vs in
         let more : IsAtLeast v w = kept_after p k lt free in
         let stay = λ (j : Instance) (c : (equations_of program).circular j ≡ true). at_most_itself (T j) in
         ordered_claim f.cells (IsFormed program v) (IsFormed program w) (IsFinal program v T) (IsFinal program w T) (IsRaised program v T) (IsRaised program w T) (IsElement program v T) (IsElement program w T) (formed_later v w more program)
-        (final_later program v w more T T stay) (raised_later program v w more T T stay) (element_later program v w more T T stay)
+        (final_later program v w more T T stay (kept_safe program (set ks p k) vs more)) (raised_later program v w more T T stay) (element_later program v w more T T stay)
         (word_at ks) (word_at vs) (word_at (set ks p k)) (word_at vs) p k o lt free nz (formed_later v w more program k good)
         (λ q way. let seen = passed q way in let word = key_there q seen.0 seen.1 in ((λ z. word.0 (sym word.2 ∙ z)), (λ z. seen.2 (sym word.2 ∙ z)))) (get_or-set_same ks p k 0 (omega (arith, lk, lt))) (λ q ne. get_or-set_other ks p q k 0 ne) (λ q. refl)
 
     -- value words change, and no key word does
-    pub words_after : (U : Instance → Value) (ws : List ℕ) → IsAtLeast v (knows_all f ks ws) → ((j : Instance) → (equations_of program).circular j ≡ true → IsAtMost (T j) (U j)) → ((p : ℕ) → p < f.cells → get_or ws p 0 ≢ 0 → get_or ks p 0 ≢ 0)
-        → ((p : ℕ) → p < f.cells → is_set_word (get_or ks p 0) ≡ false → get_or ws p 0 ≢ 0 → (get_or ws p 0 ≡ get_or vs p 0) ⊎ IsCoded (IsFinal program (knows_all f ks ws) U) (IsRaised program (knows_all f ks ws) U) (get_or ks p 0) (get_or ws p 0))
-        → ((p b : ℕ) → p < f.cells → is_set_word (get_or ks p 0) ≡ true → b < 64 → bit_at (get_or ws p 0) b ≡ 1 → (bit_at (get_or vs p 0) b ≡ 1) ⊎ IsElement program (knows_all f ks ws) U (get_or ks p 0) b)
-        → (let w = knows_all f ks ws in AreOrdered (IsFormed program w) (IsFinal program w U) (IsRaised program w U) (IsElement program w U) f.cells (word_at ks) (word_at ws))
-    words_after U ws more up key code bit =
-        let w : View = knows_all f ks ws in
-        let final = final_later program v w more T U up in
+    pub words_after : (U : Instance → Value) (us ws : List ℕ) → IsAtLeast v (knows_all f us ks ws) → StaysSafe program v (knows_all f us ks ws) → ((j : Instance) → (equations_of program).circular j ≡ true → IsAtMost (T j) (U j)) → ((p : ℕ) → p < f.cells → get_or ws p 0 ≢ 0 → get_or ks p 0 ≢ 0)
+        → ((p : ℕ) → p < f.cells → is_set_word (get_or ks p 0) ≡ false → get_or ws p 0 ≢ 0 → (get_or ws p 0 ≡ get_or vs p 0) ⊎ IsCoded (IsFinal program (knows_all f us ks ws) U) (IsRaised program (knows_all f us ks ws) U) (get_or ks p 0) (get_or ws p 0))
+        → ((p b : ℕ) → p < f.cells → is_set_word (get_or ks p 0) ≡ true → b < 64 → bit_at (get_or ws p 0) b ≡ 1 → (bit_at (get_or vs p 0) b ≡ 1) ⊎ IsElement program (knows_all f us ks ws) U (get_or ks p 0) b)
+        → (let w = knows_all f us ks ws in AreOrdered (IsFormed program w) (IsFinal program w U) (IsRaised program w U) (IsElement program w U) f.cells (word_at ks) (word_at ws))
+    words_after U us ws more safe up key code bit =
+        let w : View = knows_all f us ks ws in
+        let final = final_later program v w more T U up safe in
         let raise = raised_later program v w more T U up in
         let part = element_later program v w more T U up in
         ordered_words f.cells (IsFormed program v) (IsFormed program w) (IsFinal program v T) (IsFinal program w U) (IsRaised program v T) (IsRaised program w U) (IsElement program v T) (IsElement program w U) (formed_later v w more program) final raise part (word_at ks) (word_at vs) (word_at ws) o key
@@ -156,23 +160,23 @@ module _ (f : Frame) (ks vs : List ℕ) (v : View) (is : knows_all f ks vs ≡ v
       put_same : (q : ℕ) → q ≢ p → get_or put q 0 ≡ get_or vs q 0
       put_same q ne = get_or-set_other vs p q (c + 2 ^ 63) 0 ne
 
-      pub kept_value : IsAtLeast v (knows_all f ks put)
-      kept_value = kept_words put (length-set vs p (c + 2 ^ 63)) (λ q plain high. put_same q (λ e. let z : get_or vs q 0 ≡ 0 = ap (λ y. get_or vs y 0) e ∙ free in absurd (omega (arith, z, high))))
+      pub kept_value : IsAtLeast v (knows_all f ts ks put)
+      kept_value = kept_words ts put (length-set vs p (c + 2 ^ 63)) (λ q plain high. put_same q (λ e. let z : get_or vs q 0 ≡ 0 = ap (λ y. get_or vs y 0) e ∙ free in absurd (omega (arith, z, high))))
           (λ q b low one. dite (ℕ_discrete q p) (λ e. let z : bit_at (get_or vs q 0) b ≡ 0 = ap (λ (y : ℕ). bit_at (get_or vs y 0) b) e ∙ ap (λ (y : ℕ). bit_at y b) free ∙ bit_at-zero b in absurd (omega (arith, z, one))) (λ ne. ap (λ (y : ℕ). bit_at y b) (put_same q ne) ∙ one))
 
       key : (may.key ≢ 0) × (p < length ks) × (get_or ks p 0 ≡ may.key)
       key = key_there p may.key may.here
 
-      pub valued_after : (let w = knows_all f ks put in AreOrdered (IsFormed program w) (IsFinal program w T) (IsRaised program w T) (IsElement program w T) f.cells (word_at ks) (word_at put))
+      pub valued_after : (let w = knows_all f ts ks put in AreOrdered (IsFormed program w) (IsFinal program w T) (IsRaised program w T) (IsElement program w T) f.cells (word_at ks) (word_at put))
       valued_after =
-          let w : View = knows_all f ks put in
-          words_after T put kept_value (λ j e. at_most_itself (T j))
+          let w : View = knows_all f ts ks put in
+          words_after T ts put kept_value (kept_safe program ks put kept_value) (λ j e. at_most_itself (T j))
           (λ q lq nz. dite (ℕ_discrete q p) (λ e z. key.0 (sym key.2 ∙ ap (λ y. get_or ks y 0) (sym e) ∙ z)) (λ ne. o.keyed q lq (λ z. nz (put_same q ne ∙ z))))
           (λ q lq plain nz. dite (ℕ_discrete q p)
           (λ e.
           let word : get_or put q 0 ≡ c + 2 ^ 63 = ap (λ y. get_or put y 0) e ∙ get_or-set_same vs p (c + 2 ^ 63) 0 (omega (arith, lv, lt)) in
           let at : may.key ≡ get_or ks q 0 = sym key.2 ∙ ap (λ y. get_or ks y 0) (sym e) in
-          let final : IsFinal program w T may.key c = record { settled = settled_later program v w kept_value may.key c may.settled; lower = λ d. absurd (not_both (may.undeclared) d) } in
+          let final : IsFinal program w T may.key c = record { settled = settled_later program v w kept_value (λ i j. Knows program v j) (IsSafe program w) may.key c may.settled (λ j k. inl (knows_later v w kept_value program j k)); lower = λ d. absurd (not_both (may.undeclared) d) } in
           inr (inl (c, word, subst (λ (y : ℕ). IsFinal program w T y c) at final)))
           (λ ne. inl (put_same q ne)))
           (λ q b lq set low e. dite (ℕ_discrete q p)

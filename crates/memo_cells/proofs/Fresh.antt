@@ -1,5 +1,5 @@
 -- Words of which none is set.
-use Rattle.std.proofs.Common.{◌≡◌, ℕ, zero, suc, ◌^◌, [], ◌++◌, replicate, get_or, refl, ap, ◌∙◌, arith, Some}
+use Rattle.std.proofs.Common.{◌≡◌, ℕ, zero, suc, [], ◌++◌, replicate, get_or, refl, ap, ◌∙◌, arith}
 use Rattle.memo_cells.specs.declared.view.Frame.{Frame}
 use Rattle.std.specs.Int.{bit_at}
 use Rattle.std.proofs.lemmas.Nat.Bits.{bit_at-zero}
@@ -39,7 +39,7 @@ fresh_bits : (n p : ℕ) → bits_from p (replicate n 0) (replicate n 0) ≡ []
 fresh_bits zero p = (no_bits p 0 [] []).0
 fresh_bits (suc n) p = more_bits p 0 0 (replicate n 0) (replicate n 0) ∙ ap (λ l. l ++ bits_from (suc p) (replicate n 0) (replicate n 0)) (no_bits_below p 0 1) ∙ fresh_bits n (suc p)
 
-pub fresh_view : (f : Frame) (n : ℕ) → knows_all f (replicate n 0) (replicate n 0) ≡ first_view f
+pub fresh_view : (f : Frame) (n : ℕ) → knows_all f [] (replicate n 0) (replicate n 0) ≡ first_view f
 fresh_view f n = λ i. having_seen f (fresh_keys n 0 i) (fresh_values n 0 i) (fresh_bits n 0 i) (fresh_places n 0 i)
 
 pub fresh_ordered : (formed : ℕ → Type 0) (settled : ℕ → ℕ → Type 0) (raised : ℕ → Type 0) (element : ℕ → ℕ → Type 0) (n m : ℕ) → AreOrdered formed settled raised element n (word_at (replicate m 0)) (word_at (replicate m 0))
@@ -53,7 +53,7 @@ fresh_ordered formed settled raised element n m = record {
 }
 
 -- no word is set: each circular instance stands at its bottom
-pub fresh_words : (f : Frame) (m : ℕ) → AreWords f (replicate m 0) (replicate m 0)
+pub fresh_words : (f : Frame) (m : ℕ) → AreWords f [] (replicate m 0) (replicate m 0)
 fresh_words f m = record {
   values = (equations_of (program_of f.system.value)).bottom;
   lower = record { top = (equations_of (program_of f.system.value)).bottom; reached = bottoms; fits = λ j c. (are_rising (program_of f.system.value)).start j c; below = λ j c. at_most_itself ((equations_of (program_of f.system.value)).bottom j) };

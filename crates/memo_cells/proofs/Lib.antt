@@ -8,6 +8,7 @@ pub mod Firsts
 pub mod Fresh
 pub mod Gathered
 pub mod Holding
+pub mod Lifting
 pub mod Marking
 pub mod Meaning
 pub mod More

@@ -55,12 +55,12 @@ module _ (p : Program) (i : Instance) (c : ℕ) (code : IsCodeOf p i c) (kind : 
       let is : not (eqb c 0) ≡ truth code.value = ap truth at_truth.0 in
       dite (ℕ_discrete c 0) (λ z. let no : not (eqb c 0) ≡ false = ap (λ (y : ℕ). not (eqb y 0)) z in absurd (not_both no (is ∙ e))) (λ nz. omega (arith, nz, at_truth.1))
 
-module _ (f : Frame) (ks vs : List ℕ) (lk : length ks ≡ f.cells) (lv : length vs ≡ f.cells) (o : AreWords f ks vs) where
+module _ (f : Frame) (ts ks vs : List ℕ) (lk : length ks ≡ f.cells) (lv : length vs ≡ f.cells) (o : AreWords f ts ks vs) where
   abbrev p : Program
   p = program_of f.system.value
 
   abbrev v : View
-  v = knows_all f ks vs
+  v = knows_all f ts ks vs
 
   -- at a place stands one key
   pub one_there : (s j k : ℕ) → Has v.keys (s, j) → Has v.keys (s, k) → j ≡ k

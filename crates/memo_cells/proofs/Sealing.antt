@@ -1,5 +1,5 @@
 -- Closed instances are sealed: what the words show of them is their value.
-use Rattle.std.proofs.Common.{◌≡◌, ◌≢◌, ℕ, true, false, Bool, ◌+◌, ◌-◌, ◌<◌, ◌≤◌, ◌^◌, inl, inr, ⊎_elim, List, length, get_or, refl, sym, ap, ◌∙◌, subst, arith, Some, eqb, not, if◌then◌else◌}
+use Rattle.std.proofs.Common.{◌≡◌, ◌≢◌, ℕ, suc, true, false, Bool, ◌+◌, ◌-◌, ◌<◌, ◌≤◌, ◌^◌, inl, inr, ⊎_elim, List, [], ◌∷◌, length, get_or, set, refl, sym, ap, ◌∙◌, subst, arith, Some, eqb, not, if◌then◌else◌, get_or-set_same, get_or-set_other, length-set}
 use mathlib.Core.Logic.{dite}
 use native.Mathlib.Decide.{ℕ_discrete, dec_le}
 use Rattle.std.specs.Int.{bit_at}
@@ -23,24 +23,27 @@ use Rattle.equation_law.specs.Values.{Truth, Value, as_kind, truth}
 use Rattle.equation_law.proofs.Orders.{at_most_itself, at_most_through}
 use Rattle.equation_law.proofs.Pooled.{texts_pooled}
 use Rattle.equation_law.proofs.Solution.{are_joins, are_rising, have_heights, height_in, one}
+use Rattle.memo_cells.specs.declared.keys.Slot.{Slot}
 use Rattle.memo_cells.specs.declared.view.Frame.{Frame}
 use Rattle.memo_cells.specs.declared.view.View.{View}
 use Rattle.memo_cells.specs.Keys.{is_set_word}
 use Rattle.memo_cells.specs.Naming.{StandsFor}
+use Rattle.memo_cells.specs.Sealing.{AreSealedTo, AreSealing, SealsAll, SealsOn, SealsTo, places, places_left}
 use Rattle.memo_cells.specs.Showing.{ShowsAtLeast, ShowsTrue}
-use Rattle.memo_cells.specs.Standing.{AreWords, IsCodeOf, IsFinal, IsLowerOf, IsPassOf, IsRaised, Knows, MaySeal}
-use Rattle.memo_cells.specs.Steps.{AreSealed}
-use Rattle.memo_cells.specs.Views.{Has, IsAtLeast, knows_all, marked, shown_bits, with_mark}
-use Rattle.memo_cells.proofs.Alone.{frame_is, key_there, kept_words, words_after}
-use Rattle.memo_cells.proofs.Adding.{own_of}
+use Rattle.memo_cells.specs.Standing.{AreWords, IsCodeOf, IsFinal, IsLowerOf, IsNoted, IsPassOf, IsRaised, IsSafe, IsSeatOf, IsSettled, IsSettledBy, Knows, MaySeal}
+use Rattle.memo_cells.specs.Steps.{AreSealed, IsSealedAt}
+use Rattle.memo_cells.specs.Views.{Has, IsAtLeast, knows_all, shown_bits, with_mark}
+use Rattle.memo_cells.proofs.Alone.{frame_is, kept_words, key_there, read_at, words_after}
 use Rattle.memo_cells.proofs.Bits.{has_bits}
 use Rattle.memo_cells.proofs.Facts.{pass_of}
-use Rattle.memo_cells.proofs.Marking.{has_or_not, mark_high, mark_is, mark_low, marked_in, marked_length, marked_out}
+use Rattle.memo_cells.proofs.Marking.{mark_high, mark_is, mark_low, none_after, slot_among, slot_left}
+use Rattle.memo_cells.proofs.Lifting.{may_seal_later, words_know}
 use Rattle.memo_cells.proofs.Meaning.{one_there, shown_at_most}
+use Rattle.memo_cells.proofs.More.{at_least_itself, at_least_then}
 use Rattle.memo_cells.proofs.Naming.{knows_later, stands_later, stands_once, stands_plain, word_once}
 use Rattle.memo_cells.proofs.Places.{values_has}
 use Rattle.memo_cells.proofs.Raising.{shown_below}
-use Rattle.memo_cells.proofs.Showing.{at_least_later, not_both}
+use Rattle.memo_cells.proofs.Showing.{StaysSafe, at_least_later, not_both, noted_later, safe_later, settled_later}
 
 -- what an equation that ends by what a closed set may read meets under the solution, it meets by that
 meets_read : {A B : Instance → Value → Type 0} {c : Demands Instance Value} {x : Value} {ds : List Instance} {j : Instance} → ((i : Instance) (v w : Value) → A i v → B i w → v ≡ w) → Ends A c x ds → Meets B c j → Meets A c j
@@ -63,207 +66,329 @@ marked_bit k x n plain low small e =
     let at : bit_at x 0 ≡ 1 = ap (bit_at x) (sym zero) ∙ e in
     ap (bit_at (x + 2 ^ 63)) zero ∙ omega (arith, before, after, at)
 
-module _ (f : Frame) (ks vs : List ℕ) (lk : length ks ≡ f.cells) (lv : length vs ≡ f.cells) (few : f.cells ≤ 4194304) (o : AreWords f ks vs) (slots : List ℕ) where
+module _ (f : Frame) (slot : ℕ) (us ks vs slots : List ℕ) (sealing : AreSealing f slots (slot ∷ us) ks vs) (has_slot : Has slots slot) where
   abbrev p : Program
   p = program_of f.system.value
 
+  abbrev ts : List ℕ
+  ts = slot ∷ us
+
   abbrev v : View
-  v = knows_all f ks vs
+  v = knows_all f ts ks vs
 
   abbrev ws : List ℕ
-  ws = marked vs slots
+  ws = set vs slot (with_mark (get_or vs slot 0))
 
   abbrev w : View
-  w = knows_all f ks ws
+  w = knows_all f us ks ws
 
-  own : IsPassOf f v
-  own = pass_of f ks vs few lk lv o
+  abbrev lk : length ks ≡ f.cells
+  lk = sealing.keys
 
-  module _ (may : MaySeal p f v slots) where
-    lower_shown : (j : Instance) → (equations_of p).circular j ≡ true → IsAtMost (may.values j) (o.values j)
-    lower_shown j c = shown_below p (are_rising p) (are_joins p) v o.values o.lower (λ i d. shown_at_most f ks vs lk lv o i (kind_in p i) refl d) may.values may.shown j c
+  abbrev lv : length vs ≡ f.cells
+  lv = sealing.long
 
-    lower_values : IsLowerOf p may.values
-    lower_values = record {
-      top = o.lower.top;
-      reached = o.lower.reached;
-      fits = λ j c. (may.shown j c).0;
-      below = λ j c. at_most_through (may.values j) (o.values j) (o.lower.top j) (lower_shown j c) (o.lower.below j c);
-    }
+  abbrev o : AreWords f ts ks vs
+  o = sealing.words
 
-    closed : IsClosed (equations_of p) (order_in p) (fits_in p) (join_in p) may.set may.values
-    closed = record { lower = lower_values; each = may.holds }
+  abbrev may : MaySeal p f v slots
+  may = sealing.may
 
-    -- so each member has its value in the solution
-    has : (i : Instance) → is_in (equations_of p).same may.set i ≡ true → HasValue p i (may.values i)
-    has i m = closed_val (equations_of p) (order_in p) (fits_in p) (join_in p) (are_rising p) (are_joins p) (height_in p) (have_heights p) may.set may.values closed i m
+  own : IsSeatOf f v ts
+  own = pass_of f ts ks vs sealing.few lk lv o
 
-    at_least_lower : (i : Instance) → is_in (equations_of p).same may.set i ≡ true → IsAtMost (o.values i) (may.values i)
-    at_least_lower i m = lower_below (equations_of p) (order_in p) (fits_in p) (join_in p) (are_rising p) (are_joins p) o.values o.lower i (may.values i) (may.holds i m).is_circular (has i m)
+  lower_shown : (j : Instance) → (equations_of p).circular j ≡ true → IsAtMost (may.values j) (o.values j)
+  lower_shown j c = shown_below p (are_rising p) (are_joins p) v o.values o.lower (λ i d. shown_at_most f ts ks vs lk lv o i (kind_in p i) refl d) may.values may.shown j c
 
-    read_value : (j : Instance) (x y : Value) → Read (equations_of p) may.set may.values j x → HasValue p j y → x ≡ y
-    read_value j x y (fixed c a) b = one p j x y a b
-    read_value j x y (inside c m) b = one p j x y (has j m) b
-    read_value j x y (known c a) b = one p j x y a b
+  lower_values : IsLowerOf p may.values
+  lower_values = record {
+    top = o.lower.top;
+    reached = o.lower.reached;
+    fits = λ j c. (may.shown j c).0;
+    below = λ j c. at_most_through (may.values j) (o.values j) (o.lower.top j) (lower_shown j c) (o.lower.below j c);
+  }
 
-    -- the words at the slots and elsewhere
-    long : length ws ≡ length vs
-    long = marked_length vs slots
+  closed : IsClosed (equations_of p) (order_in p) (fits_in p) (join_in p) may.set may.values
+  closed = record { lower = lower_values; each = may.holds }
 
-    word_there : (s : ℕ) → s < f.cells → Has slots s → get_or ws s 0 ≡ with_mark (get_or vs s 0)
-    word_there s lt h = marked_in vs slots s (omega (arith, lt, lv)) h
+  -- so each member has its value in the solution
+  has : (i : Instance) → is_in (equations_of p).same may.set i ≡ true → HasValue p i (may.values i)
+  has i m = closed_val (equations_of p) (order_in p) (fits_in p) (join_in p) (are_rising p) (are_joins p) (height_in p) (have_heights p) may.set may.values closed i m
 
-    place_less : (s : ℕ) → Has slots s → s < f.cells
-    place_less s h = (may.stands s h).2.1.0
+  at_least_lower : (i : Instance) → is_in (equations_of p).same may.set i ≡ true → IsAtMost (o.values i) (may.values i)
+  at_least_lower i m = lower_below (equations_of p) (order_in p) (fits_in p) (join_in p) (are_rising p) (are_joins p) o.values o.lower i (may.values i) (may.holds i m).is_circular (has i m)
 
-    marked_high : (s : ℕ) → Has slots s → 2 ^ 63 ≤ get_or vs s 0 → get_or ws s 0 ≡ get_or vs s 0
-    marked_high s h high = word_there s (place_less s h) h ∙ mark_high (get_or vs s 0) high
+  read_value : (j : Instance) (x y : Value) → Read (equations_of p) may.set may.values j x → HasValue p j y → x ≡ y
+  read_value j x y (fixed c a) b = one p j x y a b
+  read_value j x y (inside c m) b = one p j x y (has j m) b
+  read_value j x y (known c a) b = one p j x y a b
 
-    -- at a slot stands a key of an instance
-    slot_plain : (s : ℕ) → Has slots s → is_set_word (get_or ks s 0) ≡ false
-    slot_plain s h =
-        let cell = (may.stands s h).2 in
-        ap is_set_word (key_there f ks vs v refl s cell.0 cell.1.1).2 ∙ stands_plain p v cell.0 (may.stands s h).0 cell.2
+  -- the word at the slot and the others
+  slot_less : slot < f.cells
+  slot_less = (may.stands slot has_slot).2.1.0
 
-    pub sealed_more : IsAtLeast v w
-    sealed_more = kept_words f ks vs v refl ws long
-        (λ q plain high. ⊎_elim (λ h. marked_high q h high) (λ out. marked_out vs slots q out) (has_or_not slots q))
-        (λ q n low e. ⊎_elim
-        (λ h. dite (dec_le (2 ^ 63) (get_or vs q 0)) (λ high. ap (λ (y : ℕ). bit_at y n) (marked_high q h high) ∙ e)
-        (λ small. ap (λ (y : ℕ). bit_at y n) (word_there q (place_less q h) h ∙ mark_low (get_or vs q 0) (omega arith)) ∙ marked_bit (get_or ks q 0) (get_or vs q 0) n (slot_plain q h) low (omega arith) e))
-        (λ out. ap (λ (y : ℕ). bit_at y n) (marked_out vs slots q out) ∙ e) (has_or_not slots q))
+  long : length ws ≡ f.cells
+  long = length-set vs slot (with_mark (get_or vs slot 0)) ∙ lv
 
-    -- the word of a member that isn't sealed yet is 0, or 1 where it is raised
-    module _ (i : Instance) (m : is_in (equations_of p).same may.set i ≡ true) (s k : ℕ) (stands : StandsFor p v k i) (there : Has v.keys (s, k)) (small : get_or vs s 0 < 2 ^ 63) where
-      key : (k ≢ 0) × (s < length ks) × (get_or ks s 0 ≡ k)
-      key = key_there f ks vs v refl s k there
+  word_here : (q : ℕ) → q ≡ slot → get_or ws q 0 ≡ with_mark (get_or vs q 0)
+  word_here q e = ap (λ y. get_or ws y 0) e ∙ get_or-set_same vs slot (with_mark (get_or vs slot 0)) 0 (omega (arith, lv, slot_less)) ∙ ap (λ y. with_mark (get_or vs y 0)) (sym e)
 
-      circular : (equations_of p).circular i ≡ true
-      circular = (may.holds i m).is_circular
+  word_beside : (q : ℕ) → q ≢ slot → get_or ws q 0 ≡ get_or vs q 0
+  word_beside q ne = get_or-set_other vs slot q (with_mark (get_or vs slot 0)) 0 ne
 
-      -- raised, it is a truth value, and true
-      raised_true : get_or vs s 0 ≢ 0 → (get_or vs s 0 ≡ 1) × (kind_in p i ≡ kinds.Truth) × (truth (may.values i) ≡ true)
-      raised_true nz =
-          ⊎_elim (λ x. absurd (omega (arith, x.1, small)))
-          (λ x.
-          let raised : IsRaised p v o.values k = subst (λ (y : ℕ). IsRaised p v o.values y) key.2 x.1 in
-          let of : raised.of ≡ i = stands_once v (one_there f ks vs lk lv o) p k raised.of i raised.stands stands in
-          (x.0, sym (ap (kind_in p) of) ∙ raised.kind, (at_least_lower i m).in_truth (subst (λ (j : Instance). truth (o.values j) ≡ true) of raised.is_true))
-          )
-          (o.ordered.coded s (omega (arith, key.1, lk)) (ap is_set_word key.2 ∙ stands_plain p v k i stands) nz)
+  marked_high : (q : ℕ) → q ≡ slot → 2 ^ 63 ≤ get_or vs q 0 → get_or ws q 0 ≡ get_or vs q 0
+  marked_high q e high = word_here q e ∙ mark_high (get_or vs q 0) high
 
-      -- and what isn't raised isn't true
-      not_raised : kind_in p i ≡ kinds.Truth → get_or vs s 0 ≡ 0 → truth (may.values i) ≡ true → ⊥
-      not_raised kind z holds =
-          let shows : ShowsTrue p v i = subst (λ (t : Kind). ShowsAtLeast p v i t (may.values i)) kind (may.shown i circular).1 holds in
-          let word = word_once v own.one_key own.one_place p (texts_pooled f.system.value) shows.0 k i shows.2 stands in
-          let t = has_bits ks vs 0 shows.1 shows.0 0 shows.3 in
-          let same : shows.1 ≡ s = own.one_place shows.1 s k (subst (λ (y : ℕ). Has v.keys (shows.1, y)) word (own.keyed shows.1 shows.0 0 shows.3)) there in
-          let at : t.0 ≡ s = omega (arith, t.3, same) in
-          let bit : bit_at (get_or vs s 0) 0 ≡ 1 = ap (λ (y : ℕ). bit_at (get_or vs y 0) 0) (sym at) ∙ t.6 in
-          let low = bit_at_lowest (get_or vs s 0) in
-          omega (arith, bit, low, z)
+  -- at the slot stands a key of an instance
+  slot_plain : is_set_word (get_or ks slot 0) ≡ false
+  slot_plain =
+      let cell = (may.stands slot has_slot).2 in
+      ap is_set_word (key_there f ts ks vs v refl slot cell.0 cell.1.1).2 ∙ stands_plain p v cell.0 (may.stands slot has_slot).0 cell.2
 
-      unraised : (kind_in p i ≡ kinds.Truth → ⊥) → get_or vs s 0 ≡ 0
-      unraised other = dite (ℕ_discrete (get_or vs s 0) 0) (λ z. z) (λ nz. absurd (other (raised_true nz).1))
+  here_plain : (q : ℕ) → q ≡ slot → is_set_word (get_or ks q 0) ≡ false
+  here_plain q e = ap (λ y. is_set_word (get_or ks y 0)) e ∙ slot_plain
 
-      coded_as : (t : Kind) → kind_in p i ≡ t → FitsKind t (may.values i) → (is_single t ≡ true → value_at (text_of p) t (get_or vs s 0) ≡ as_kind t (may.values i)) × IsSmall t (get_or vs s 0)
-      coded_as kinds.Truth e fit =
-          dite (ℕ_discrete (get_or vs s 0) 0)
-          (λ z. ((λ _. ap (λ (y : ℕ). Truth (not (eqb y 0))) z ∙ ap Truth (sym (is_false (truth (may.values i)) (not_raised e z)))), omega (arith, z)))
-          (λ nz. let r = raised_true nz in ((λ _. ap (λ (y : ℕ). Truth (not (eqb y 0))) r.0 ∙ ap Truth (sym r.2)), omega (arith, r.0)))
-      coded_as kinds.Int e fit = elim fit [ ]
-      coded_as kinds.Text e fit = elim fit [ ]
-      coded_as (kinds.Node d) e fit = elim fit [ ]
-      coded_as kinds.Texts e fit = ((λ single. absurd (not_both refl single)), unraised (λ kind. let bad = ap is_single (sym kind ∙ e) in not_both bad refl))
-      coded_as (kinds.Nodes d) e fit = ((λ single. absurd (not_both refl single)), unraised (λ kind. let bad = ap is_single (sym kind ∙ e) in not_both bad refl))
+  sealed_more : IsAtLeast v w
+  sealed_more = kept_words f ts ks vs v refl us ws (length-set vs slot (with_mark (get_or vs slot 0)))
+      (λ q plain high. dite (ℕ_discrete q slot) (λ e. marked_high q e high) (λ ne. word_beside q ne))
+      (λ q n low one. dite (ℕ_discrete q slot)
+      (λ e. dite (dec_le (2 ^ 63) (get_or vs q 0)) (λ high. ap (λ (y : ℕ). bit_at y n) (marked_high q e high) ∙ one)
+      (λ small. ap (λ (y : ℕ). bit_at y n) (word_here q e ∙ mark_low (get_or vs q 0) (omega arith)) ∙ marked_bit (get_or ks q 0) (get_or vs q 0) n (here_plain q e) low (omega arith) one))
+      (λ ne. ap (λ (y : ℕ). bit_at y n) (word_beside q ne) ∙ one))
 
-      small_code : get_or vs s 0 < 2 ^ 32
-      small_code = dite (ℕ_discrete (get_or vs s 0) 0) (λ z. omega (arith, z)) (λ nz. let r = raised_true nz in omega (arith, r.0))
+  -- the word of a member that isn't sealed yet is 0, or 1 where it is raised
+  module _ (i : Instance) (m : is_in (equations_of p).same may.set i ≡ true) (s k : ℕ) (stands : StandsFor p v k i) (there : Has v.keys (s, k)) (small : get_or vs s 0 < 2 ^ 63) where
+    key : (k ≢ 0) × (s < length ks) × (get_or ks s 0 ≡ k)
+    key = key_there f ts ks vs v refl s k there
 
-      abbrev code_of : IsCodeOf p i (get_or vs s 0)
-      code_of =
-          let both = coded_as (kind_in p i) refl (may.shown i circular).0 in
-          record { value = may.values i; has = has i m; coded = both.0; small = both.1; fits = small_code }
+    circular : (equations_of p).circular i ≡ true
+    circular = (may.holds i m).is_circular
 
-    sealed_here : (s k : ℕ) → Has slots s → Has v.keys (s, k) → (c : ℕ) × Has w.values (s, k, c)
-    sealed_here s k h there =
-        let high = mark_is (get_or vs s 0) in
-        let word = word_there s (place_less s h) h in
-        let key = key_there f ks vs v refl s k there in
-        let lt = place_less s h in
-        (get_or ws s 0 - 2 ^ 63, values_has ks ws 0 s s k (get_or ws s 0 - 2 ^ 63) key.1 (omega (arith, long, lv, lt)) key.2 (ap is_set_word (sym key.2) ∙ slot_plain s h) (omega (arith, high, word)) (omega arith))
+    -- raised, it is a truth value, and true
+    raised_true : get_or vs s 0 ≢ 0 → (get_or vs s 0 ≡ 1) × (kind_in p i ≡ kinds.Truth) × (truth (may.values i) ≡ true)
+    raised_true nz =
+        ⊎_elim (λ x. absurd (omega (arith, x.1, small)))
+        (λ x.
+        let raised : IsRaised p v o.values k = subst (λ (y : ℕ). IsRaised p v o.values y) key.2 x.1 in
+        let of : raised.of ≡ i = stands_once v (one_there f ts ks vs lk lv o) p k raised.of i raised.stands stands in
+        (x.0, sym (ap (kind_in p) of) ∙ raised.kind, (at_least_lower i m).in_truth (subst (λ (j : Instance). truth (o.values j) ≡ true) of raised.is_true))
+        )
+        (o.ordered.coded s (omega (arith, key.1, lk)) (ap is_set_word key.2 ∙ stands_plain p v k i stands) nz)
 
-    pub are_sealed : AreSealed v w slots
-    are_sealed s k h there = sealed_here s k h there
+    -- and what isn't raised isn't true
+    not_raised : kind_in p i ≡ kinds.Truth → get_or vs s 0 ≡ 0 → truth (may.values i) ≡ true → ⊥
+    not_raised kind z holds =
+        let shows : ShowsTrue p v i = subst (λ (t : Kind). ShowsAtLeast p v i t (may.values i)) kind (may.shown i circular).1 holds in
+        let word = word_once v own.one_key own.one_place p (texts_pooled f.system.value) shows.0 k i shows.2 stands in
+        let t = has_bits ks vs 0 shows.1 shows.0 0 shows.3 in
+        let same : shows.1 ≡ s = own.one_place shows.1 s k (subst (λ (y : ℕ). Has v.keys (shows.1, y)) word (own.keyed shows.1 shows.0 0 shows.3)) there in
+        let at : t.0 ≡ s = omega (arith, t.3, same) in
+        let bit : bit_at (get_or vs s 0) 0 ≡ 1 = ap (λ (y : ℕ). bit_at (get_or vs y 0) 0) (sym at) ∙ t.6 in
+        let low = bit_at_lowest (get_or vs s 0) in
+        omega (arith, bit, low, z)
 
-    member_known : (i : Instance) → is_in (equations_of p).same may.set i ≡ true → Knows p w i
-    member_known i m =
-        let at = may.slot_of i m in
-        let cell = at.2 in
-        let sealed = sealed_here at.0 cell.0 at.1 cell.1.1 in
-        record { key = cell.0; stands = stands_later v w sealed_more p cell.0 i cell.2; slot = at.0; code = sealed.0; settled = sealed.1 }
+    unraised : (kind_in p i ≡ kinds.Truth → ⊥) → get_or vs s 0 ≡ 0
+    unraised other = dite (ℕ_discrete (get_or vs s 0) 0) (λ z. z) (λ nz. absurd (other (raised_true nz).1))
 
-    demand_known : (i j : Instance) → is_in (equations_of p).same may.set i ≡ true → Meets (HasValue p) ((equations_of p).equation i) j → Knows p w j
-    demand_known i j m meets = ⊎_elim (member_known j) (λ k. knows_later v w sealed_more p j k) (may.known i j m (meets_read read_value (may.holds i m).ends meets))
+    coded_as : (t : Kind) → kind_in p i ≡ t → FitsKind t (may.values i) → (is_single t ≡ true → value_at (text_of p) t (get_or vs s 0) ≡ as_kind t (may.values i)) × IsSmall t (get_or vs s 0)
+    coded_as kinds.Truth e fit =
+        dite (ℕ_discrete (get_or vs s 0) 0)
+        (λ z. ((λ _. ap (λ (y : ℕ). Truth (not (eqb y 0))) z ∙ ap Truth (sym (is_false (truth (may.values i)) (not_raised e z)))), omega (arith, z)))
+        (λ nz. let r = raised_true nz in ((λ _. ap (λ (y : ℕ). Truth (not (eqb y 0))) r.0 ∙ ap Truth (sym r.2)), omega (arith, r.0)))
+    coded_as kinds.Int e fit = elim fit [ ]
+    coded_as kinds.Text e fit = elim fit [ ]
+    coded_as (kinds.Node d) e fit = elim fit [ ]
+    coded_as kinds.Texts e fit = ((λ single. absurd (not_both refl single)), unraised (λ kind. let bad = ap is_single (sym kind ∙ e) in not_both bad refl))
+    coded_as (kinds.Nodes d) e fit = ((λ single. absurd (not_both refl single)), unraised (λ kind. let bad = ap is_single (sym kind ∙ e) in not_both bad refl))
 
-    -- the word of a slot codes the value of its instance
-    final_word : (s : ℕ) → Has slots s → get_or vs s 0 < 2 ^ 63 → (k : ℕ) → get_or ks s 0 ≡ k → IsFinal p w o.values k (get_or vs s 0)
-    final_word s h small k e =
-        let at = may.stands s h in
-        let i = at.0 in
-        let m = at.1 in
-        let cell = at.2 in
-        let same : cell.0 ≡ k = sym (key_there f ks vs v refl s cell.0 cell.1.1).2 ∙ e in
-        let circular = (may.holds i m).is_circular in
-        let final : IsFinal p w o.values cell.0 (get_or vs s 0) = record {
-          settled = record {
-            of = i;
-            instance = may.instances i m;
-            stands = stands_later v w sealed_more p cell.0 i cell.2;
-            code = code_of i m s cell.0 cell.2 cell.1.1 small;
-            shown = λ _. at_least_later p v w sealed_more i (kind_in p i) (may.values i) (may.shown i circular).1;
-            closed = λ j meets. demand_known i j m meets;
-          };
-          lower = λ c. lower_shown i c;
-        } in
-        subst (λ (y : ℕ). IsFinal p w o.values y (get_or vs s 0)) same final
+    small_code : get_or vs s 0 < 2 ^ 32
+    small_code = dite (ℕ_discrete (get_or vs s 0) 0) (λ z. omega (arith, z)) (λ nz. let r = raised_true nz in omega (arith, r.0))
 
-    pub sealed_words : AreWords f ks ws
-    sealed_words = record {
-      values = o.values;
-      lower = o.lower;
-      ordered = words_after f ks vs v refl p lk lv o.values o.ordered o.values ws sealed_more (λ j c. at_most_itself (o.values j))
-          (λ q lq nz. ⊎_elim (λ h z. let key = key_there f ks vs v refl q (may.stands q h).2.0 (may.stands q h).2.1.1 in key.0 (sym key.2 ∙ z)) (λ out. o.ordered.keyed q lq (λ z. nz (marked_out vs slots q out ∙ z))) (has_or_not slots q))
-          (λ q lq plain nz. ⊎_elim
-          (λ h. dite (dec_le (2 ^ 63) (get_or vs q 0)) (λ high. inl (marked_high q h high))
-          (λ low. inr (inl (get_or vs q 0, word_there q lq h ∙ mark_low (get_or vs q 0) (omega arith), final_word q h (omega arith) (get_or ks q 0) refl))))
-          (λ out. inl (marked_out vs slots q out)) (has_or_not slots q))
-          (λ q n lq set low e. ⊎_elim (λ h. absurd (not_both (slot_plain q h) set)) (λ out. inl (ap (λ (y : ℕ). bit_at y n) (sym (marked_out vs slots q out)) ∙ e)) (has_or_not slots q));
-    }
+    abbrev code_of : IsCodeOf p i (get_or vs s 0)
+    code_of =
+        let both = coded_as (kind_in p i) refl (may.shown i circular).0 in
+        record { value = may.values i; has = has i m; coded = both.0; small = both.1; fits = small_code }
 
-module _ (f : Frame) (ks vs : List ℕ) (v : View) (is : knows_all f ks vs ≡ v) (lk : length ks ≡ f.cells) (lv : length vs ≡ f.cells) (o : AreWords f ks vs) (g : Frame) (own : v.frame ≡ Some g) (few : g.cells ≤ 4194304) (slots : List ℕ) (may : MaySeal (program_of g.system.value) g v slots) where
+  -- what stands in the slot is settled now
+  sealed_here : (q k : ℕ) → q ≡ slot → Has v.keys (q, k) → IsSealedAt w q k
+  sealed_here q k e there =
+      let high = mark_is (get_or vs q 0) in
+      let word = word_here q e in
+      let key = key_there f ts ks vs v refl q k there in
+      (get_or ws q 0 - 2 ^ 63, values_has ks ws 0 q q k (get_or ws q 0 - 2 ^ 63) key.1 (omega (arith, long, lk, key.1)) key.2 (ap is_set_word (sym key.2) ∙ here_plain q e) (omega (arith, high, word)) (omega arith))
+
+  known_here : (j : Instance) (q k : ℕ) → q ≡ slot → Has v.keys (q, k) → StandsFor p v k j → Knows p w j
+  known_here j q k e there stands = let sealed = sealed_here q k e there in record { key = k; stands = stands_later v w sealed_more p k j stands; slot = q; code = sealed.0; settled = sealed.1 }
+
+  -- what was noted is sealed now, or still noted
+  noted_safe : (i j : Instance) → (equations_of p).circular i ≡ true → (equations_of p).circular j ≡ true → IsNoted p v j → IsSafe p w i j
+  noted_safe i j c d n = ⊎_elim (λ e. inl (known_here j n.slot n.key e n.there n.stands)) (λ left. inr (c, d, noted_later p v w sealed_more j n left)) n.left
+
+  all_safe : StaysSafe p v w
+  all_safe i j h = ⊎_elim (λ k. inl (knows_later v w sealed_more p j k)) (λ n. noted_safe i j n.0 n.1 n.2) h
+
+  -- a member is safe for another: it is noted, with the words of its value shown, or sealed
+  member_safe : (i j : Instance) → is_in (equations_of p).same may.set i ≡ true → is_in (equations_of p).same may.set j ≡ true → IsSafe p w i j
+  member_safe i j m n =
+      let at = may.slot_of j n in
+      let cell = at.2 in
+      let circular = (may.holds j n).is_circular in
+      ⊎_elim
+      (λ left. noted_safe i j (may.holds i m).is_circular circular (record { slot = at.0; left = left; key = cell.0; there = cell.1.1; stands = cell.2; value = may.values j; has = has j n; shown = (may.shown j circular).1 }))
+      (λ sealed. inl (knows_later v w sealed_more p j (record { key = cell.0; stands = cell.2; slot = at.0; code = sealed.0; settled = sealed.1 })))
+      (sealing.each at.0 cell.0 at.1 cell.1.1)
+
+  demand_safe : (i j : Instance) → is_in (equations_of p).same may.set i ≡ true → Meets (HasValue p) ((equations_of p).equation i) j → IsSafe p w i j
+  demand_safe i j m meets = ⊎_elim (member_safe i j m) (λ k. inl (knows_later v w sealed_more p j k)) (may.known i j m (meets_read read_value (may.holds i m).ends meets))
+
+  -- the word of the slot codes the value of its instance
+  final_word : (q : ℕ) → q ≡ slot → get_or vs q 0 < 2 ^ 63 → IsFinal p w o.values (get_or ks q 0) (get_or vs q 0)
+  final_word q e small =
+      let at = may.stands slot has_slot in
+      let i = at.0 in
+      let m = at.1 in
+      let cell = at.2 in
+      let circular = (may.holds i m).is_circular in
+      let there : Has v.keys (q, cell.0) = subst (λ (y : ℕ). Has v.keys (y, cell.0)) (sym e) cell.1.1 in
+      let final : IsFinal p w o.values cell.0 (get_or vs q 0) = record {
+        settled = record {
+          of = i;
+          instance = may.instances i m;
+          stands = stands_later v w sealed_more p cell.0 i cell.2;
+          code = code_of i m q cell.0 cell.2 there small;
+          shown = λ _. at_least_later p v w sealed_more i (kind_in p i) (may.values i) (may.shown i circular).1;
+          closed = λ j meets. demand_safe i j m meets;
+        };
+        lower = λ c. lower_shown i c;
+      } in
+      subst (λ (y : ℕ). IsFinal p w o.values y (get_or vs q 0)) (sym (key_there f ts ks vs v refl q cell.0 there).2) final
+
+  sealed_words : AreWords f us ks ws
+  sealed_words = record {
+    values = o.values;
+    lower = o.lower;
+    ordered = words_after f ts ks vs v refl p lk lv o.values o.ordered o.values us ws sealed_more all_safe (λ j c. at_most_itself (o.values j))
+        (λ q lq nz. dite (ℕ_discrete q slot)
+        (λ e z. let cell = (may.stands slot has_slot).2 in let key = key_there f ts ks vs v refl slot cell.0 cell.1.1 in key.0 (sym key.2 ∙ ap (λ y. get_or ks y 0) (sym e) ∙ z))
+        (λ ne. o.ordered.keyed q lq (λ z. nz (word_beside q ne ∙ z))))
+        (λ q lq plain nz. dite (ℕ_discrete q slot)
+        (λ e. dite (dec_le (2 ^ 63) (get_or vs q 0)) (λ high. inl (marked_high q e high))
+        (λ low. inr (inl (get_or vs q 0, word_here q e ∙ mark_low (get_or vs q 0) (omega arith), final_word q e (omega arith)))))
+        (λ ne. inl (word_beside q ne)))
+        (λ q n lq st low one. dite (ℕ_discrete q slot) (λ e. absurd (not_both (here_plain q e) st)) (λ ne. inl (ap (λ (y : ℕ). bit_at y n) (sym (word_beside q ne)) ∙ one)));
+  }
+
+  pub next_sealed : SealsOn f slots ts us ks vs ws
+  next_sealed = record {
+    sealing = record {
+      few = sealing.few;
+      keys = lk;
+      long = long;
+      words = sealed_words;
+      may = may_seal_later p v w sealed_more f slots may;
+      each = λ q k h there. ⊎_elim (λ left. ⊎_elim (λ e. inr (sealed_here q k e there)) inl left) (λ c. inr (c.0, sealed_more.values q k c.0 c.1)) (sealing.each q k h there);
+    };
+    own = pass_of f us ks ws sealing.few lk long sealed_words;
+    kept = sealed_more;
+  }
+
+  -- the slot is a place
+  pub slot_inside : slot < length vs
+  slot_inside = let lt = slot_less in omega (arith, lv, lt)
+
+-- all slots of a set are noted first
+module _ (f : Frame) (ks vs : List ℕ) (lk : length ks ≡ f.cells) (lv : length vs ≡ f.cells) (few : f.cells ≤ 4194304) (o : AreWords f [] ks vs) (slots : List ℕ) where
+  abbrev noting : View
+  noting = knows_all f slots ks vs
+
+  abbrev before : View
+  before = knows_all f [] ks vs
+
+  pub noted_more : IsAtLeast before noting
+  noted_more = kept_words f [] ks vs before refl slots vs refl (λ q plain high. refl) (λ q n low one. one)
+
+  noted_words : AreWords f slots ks vs
+  noted_words = record {
+    values = o.values;
+    lower = o.lower;
+    ordered = words_after f [] ks vs before refl (program_of f.system.value) lk lv o.values o.ordered o.values slots vs noted_more (safe_later (program_of f.system.value) before noting noted_more (λ s h. absurd h)) (λ j c. at_most_itself (o.values j))
+        (λ q lq nz. o.ordered.keyed q lq nz) (λ q lq plain nz. inl refl) (λ q n lq st low one. inl one);
+  }
+
+  pub all_noted : MaySeal (program_of f.system.value) f before slots → AreSealing f slots slots ks vs
+  all_noted may = record { few = few; keys = lk; long = lv; words = noted_words; may = may_seal_later (program_of f.system.value) before noting noted_more f slots may; each = λ s k h there. inl h }
+
+-- and none is left at the end
+pub none_left : (f : Frame) (slots ks vs : List ℕ) → AreSealing f slots [] ks vs → (s k : ℕ) → Has slots s → Has (knows_all f [] ks vs).keys (s, k) → IsSealedAt (knows_all f [] ks vs) s k
+none_left f slots ks vs s q k h there = ⊎_elim (λ left. absurd left) (λ c. c) (s.each q k h there)
+
+-- as a pass sees it that has the words
+module _ (f : Frame) (ks vs : List ℕ) (v : View) (is : knows_all f [] ks vs ≡ v) (lk : length ks ≡ f.cells) (lv : length vs ≡ f.cells) (o : AreWords f [] ks vs) (g : Frame) (own : v.frame ≡ Some g) (few : g.cells ≤ 4194304) (slots : List ℕ) (may : MaySeal (program_of g.system.value) g v slots) where
   same : f ≡ g
-  same = frame_is f ks vs v is g own
+  same = frame_is f [] ks vs v is g own
 
-  its : MaySeal (program_of f.system.value) f (knows_all f ks vs) slots
-  its = subst (λ (y : View). MaySeal (program_of f.system.value) f y slots) (sym is) (subst (λ (h : Frame). MaySeal (program_of h.system.value) h v slots) (sym same) may)
+  its : MaySeal (program_of f.system.value) f (knows_all f [] ks vs) slots
+  its = may_seal_later (program_of f.system.value) v (knows_all f [] ks vs) (words_know f [] ks vs v is) f slots (subst (λ (h : Frame). MaySeal (program_of h.system.value) h v slots) (sym same) may)
 
   its_few : f.cells ≤ 4194304
   its_few = subst (λ (h : Frame). h.cells ≤ 4194304) (sym same) few
 
-  pub mark_words : AreWords f ks (marked vs slots)
-  mark_words = sealed_words f ks vs lk lv its_few o slots its
+  pub set_noted : AreSealing g slots slots ks vs
+  set_noted = subst (λ (h : Frame). AreSealing h slots slots ks vs) same (all_noted f ks vs lk lv its_few o slots its)
 
-  pub mark_own : IsPassOf g (knows_all f ks (marked vs slots))
-  mark_own = own_of f ks vs v is lk lv o g own (marked vs slots) (marked_length vs slots) few mark_words
+  module _ (ws : List ℕ) (on : SealsOn g slots slots [] ks vs ws) where
+    its_on : SealsOn f slots slots [] ks vs ws
+    its_on = subst (λ (h : Frame). SealsOn h slots slots [] ks vs ws) (sym same) on
 
-  pub mark_more : IsAtLeast v (knows_all f ks (marked vs slots))
-  mark_more = subst (λ (y : View). IsAtLeast y (knows_all f ks (marked vs slots))) is (sealed_more f ks vs lk lv its_few o slots its)
+    pub mark_words : AreWords f [] ks ws
+    mark_words = its_on.sealing.words
 
-  pub mark_sealed : AreSealed v (knows_all f ks (marked vs slots)) slots
-  mark_sealed = subst (λ (y : View). AreSealed y (knows_all f ks (marked vs slots)) slots) is (are_sealed f ks vs lk lv its_few o slots its)
+    pub mark_long : length ws ≡ f.cells
+    mark_long = its_on.sealing.long
 
-  -- the slots are places
-  pub slot_within : (s : ℕ) → Has slots s → s < length vs
-  slot_within s h = let lt = (its.stands s h).2.1.0 in omega (arith, lv, lt)
+    pub mark_own : IsPassOf g (knows_all f [] ks ws)
+    mark_own = subst (λ (h : Frame). IsPassOf h (knows_all f [] ks ws)) same its_on.own
+
+    pub mark_more : IsAtLeast v (knows_all f [] ks ws)
+    mark_more = subst (λ (y : View). IsAtLeast y (knows_all f [] ks ws)) is (at_least_then (noted_more f ks vs lk lv its_few o slots) its_on.kept)
+
+    pub mark_sealed : AreSealed v (knows_all f [] ks ws) slots
+    mark_sealed q k h there = none_left f slots ks ws its_on.sealing q k h (mark_more.keys q k there)
+
+-- the next slot of a set gets its mark
+module _ (f : Frame) (slots : List Slot) (n : ℕ) (ks vs : List ℕ) (d : Slot) (lt : n < length slots) (s : AreSealedTo f slots n ks vs) where
+  abbrev next : Slot
+  next = get_or slots n d
+
+  left_now : AreSealing f (places slots) (next.0 ∷ places_left (suc n) slots) ks vs
+  left_now = subst (λ (l : List ℕ). AreSealing f (places slots) l ks vs) (slot_left slots n d lt) s
+
+  pub next_inside : next.0 < length vs
+  next_inside = slot_inside f next.0 (places_left (suc n) slots) ks vs (places slots) left_now (slot_among slots n d lt)
+
+  on_next : SealsTo f slots n (n + 1) ks vs (set vs next.0 (with_mark (get_or vs next.0 0)))
+  on_next =
+      let one_more : suc n ≡ n + 1 = omega arith in
+      subst (λ (y : List ℕ × ℕ). SealsOn f (places slots) y.0 (places_left y.1 slots) ks vs (set vs next.0 (with_mark (get_or vs next.0 0)))) (λ i. (sym (slot_left slots n d lt) i, one_more i))
+      (next_sealed f next.0 (places_left (suc n) slots) ks vs (places slots) left_now (slot_among slots n d lt))
+
+  pub next_marked : (place found word : ℕ) → place ≡ next.0 → found ≡ get_or vs place found → word ≡ with_mark found → SealsTo f slots n (n + 1) ks vs (set vs place word)
+  next_marked place found word e seen is =
+      let inside_now = next_inside in
+      let here_now : found ≡ get_or vs next.0 0 = seen ∙ sym (read_at vs place found (omega (arith, e, inside_now))) ∙ ap (λ y. get_or vs y 0) e in
+      let marked : word ≡ with_mark (get_or vs next.0 0) = is ∙ ap with_mark here_now in
+      subst (λ (y : ℕ × ℕ). SealsTo f slots n (n + 1) ks vs (set vs y.0 y.1)) (λ i. (sym e i, sym marked i)) on_next
+
+-- from none to all of them
+pub seals_none : (f : Frame) (slots left ks vs : List ℕ) → AreSealing f slots left ks vs → SealsOn f slots left left ks vs vs
+seals_none f slots left ks vs s = record { sealing = s; own = pass_of f left ks vs s.few s.keys s.long s.words; kept = at_least_itself (knows_all f left ks vs) }
+
+pub seals_then : (f : Frame) (slots l m n ks us vs xs : List ℕ) → SealsOn f slots l m ks us vs → SealsOn f slots m n ks vs xs → SealsOn f slots l n ks us xs
+seals_then f slots l m n ks us vs xs a b = record { sealing = b.sealing; own = b.own; kept = at_least_then a.kept b.kept }
+
+pub seals_all : (f : Frame) (slots : List Slot) (ks us vs : List ℕ) → SealsTo f slots 0 (length slots) ks us vs → SealsAll f slots ks us vs
+seals_all f slots ks us vs s = subst (λ (l : List ℕ). SealsOn f (places slots) (places slots) l ks us vs) (none_after slots) s
+
+-- with nothing left, all that a settled cell demands is seen settled
+pub closed_back : (p : Program) (f : Frame) (v : View) → IsPassOf f v → (k c : ℕ) → IsSettled p v k c → IsSettledBy p v (λ i j. Knows p v j) k c
+closed_back p f v own k c h = settled_later p v v (at_least_itself v) (IsSafe p v) (λ i j. Knows p v j) k c h (λ j safe. ⊎_elim (λ x. x) (λ n. absurd (subst (λ (l : List ℕ). Has l n.2.slot) own.to_seal n.2.left)) safe)

@@ -20,9 +20,10 @@ use Rattle.memo_cells.specs.Standing.{HasWord, IsPassOf, MayAdd, MayRaiseSet, Ma
 use Rattle.memo_cells.specs.Steps.{BitsAdded, BitsSeen}
 use Rattle.memo_cells.specs.Views.{Has, IsAtLeast, IsNowhere, shown_bits}
 use Rattle.memo_cells.proofs.Adding.{bit_of_one}
+use Rattle.memo_cells.proofs.Lifting.{may_show_later}
 use Rattle.memo_cells.proofs.Meaning.{some_bits}
 use Rattle.memo_cells.proofs.Naming.{set_is_word, stands_later, stands_once, word_later, word_once}
-use Rattle.memo_cells.proofs.Showing.{may_show_later, not_both}
+use Rattle.memo_cells.proofs.Showing.{not_both}
 
 -- a type that has elements is that of a set
 pub element_set : (p : Program) (k : Kind) (c : ℕ) → IsElementCode p k c → is_single k ≡ false

@@ -61,26 +61,26 @@ module _ (p : Program) (before now later : View) (kept : IsAtLeast before later)
 -- what a loop over the words keeps: d is what was held first, and e what is held now
 pub record ReadsBelow (d e : Held) (place from to n : ℕ) (cs : List ℕ) : Type 0 where
   pub on : ReadsOn d e
-  pub shown : (i : Instance) → IsCellOf (program_at d) d.0 d.1 i place → is_single (kind_in (program_at d) i) ≡ false → AreShownBelow (program_at d) d.1 e.1 i from to n cs
+  pub shown : (i : Instance) → IsCellOf (program_at d) d.frame d.view i place → is_single (kind_in (program_at d) i) ≡ false → AreShownBelow (program_at d) d.view e.view i from to n cs
 
 pub reads_none : (d : Held) (place from to : ℕ) → IsOwn d → ReadsBelow d d place from to (from / 64) []
-reads_none d place from to own = record { on = reads_itself d own; shown = λ i cell set. shown_none (program_at d) d.1 i from to }
+reads_none d place from to own = record { on = reads_itself d own; shown = λ i cell set. shown_none (program_at d) d.view i from to }
 
 -- a word that was read at e, and held as g then
-module _ (d e g : Held) (place from to n bits : ℕ) (cs next : List ℕ) (so_far : ReadsBelow d e place from to n cs) (on : ReadsOn e g) (word : (i : Instance) → IsCellOf (program_at e) e.0 g.1 i place → IsWordSeen (program_at e) g.1 i (kind_in (program_at e) i) n bits) where
+module _ (d e g : Held) (place from to n bits : ℕ) (cs next : List ℕ) (so_far : ReadsBelow d e place from to n cs) (on : ReadsOn e g) (word : (i : Instance) → IsCellOf (program_at e) e.frame g.view i place → IsWordSeen (program_at e) g.view i (kind_in (program_at e) i) n bits) where
   both : ReadsOn d g
   both = reads_then d e g so_far.on on
 
   -- the same at the cells that were held first
-  word_first : (i : Instance) → IsCellOf (program_at d) d.0 g.1 i place → IsWordSeen (program_at d) g.1 i (kind_in (program_at d) i) n bits
-  word_first = subst (λ (f : Frame). (i : Instance) → IsCellOf (program_of f.system.value) f g.1 i place → IsWordSeen (program_of f.system.value) g.1 i (kind_in (program_of f.system.value) i) n bits) so_far.on.on.cells word
+  word_first : (i : Instance) → IsCellOf (program_at d) d.frame g.view i place → IsWordSeen (program_at d) g.view i (kind_in (program_at d) i) n bits
+  word_first = subst (λ (f : Frame). (i : Instance) → IsCellOf (program_of f.system.value) f g.view i place → IsWordSeen (program_of f.system.value) g.view i (kind_in (program_of f.system.value) i) n bits) so_far.on.on.cells word
 
   pub reads_next : AddsWord n bits from to cs next → ReadsBelow d g place from to (n + 1) next
   reads_next adds = record {
     on = both;
     shown = λ i cell set.
-        shown_next (program_at d) d.1 e.1 g.1 both.on.kept on.on.kept i from to n bits cs next (so_far.shown i cell set)
-        (codes_seen (program_at d) g.1 i (kind_in (program_at d) i) n bits set (word_first i (cell_later d.1 g.1 both.on.kept (program_at d) d.0 i place cell))) adds;
+        shown_next (program_at d) d.view e.view g.view both.on.kept on.on.kept i from to n bits cs next (so_far.shown i cell set)
+        (codes_seen (program_at d) g.view i (kind_in (program_at d) i) n bits set (word_first i (cell_later d.view g.view both.on.kept (program_at d) d.frame i place cell))) adds;
   }
 
 -- all words that codes below the end lie in

@@ -19,9 +19,10 @@ use Rattle.memo_cells.specs.Standing.{HasWord, IsPassOf, MayRaise}
 use Rattle.memo_cells.specs.Views.{ClaimsOnly, Has, IsAtLeast, IsFull}
 use Rattle.memo_cells.specs.Working.{GoesOn, Held, IsOwn, program_at}
 use Rattle.memo_cells.proofs.Holding.{goes_itself, goes_then, own_then}
+use Rattle.memo_cells.proofs.Lifting.{may_show_later}
 use Rattle.memo_cells.proofs.Naming.{cell_later, word_later}
 use Rattle.memo_cells.proofs.Seeing.{element_set}
-use Rattle.memo_cells.proofs.Showing.{may_show_later, shown_later}
+use Rattle.memo_cells.proofs.Showing.{shown_later}
 use Rattle.memo_cells.proofs.Telling.{codes_seen}
 use Rattle.memo_cells.specs.SetRaising.{ClaimsWords, HasBits, IsWordWith, LacksWord, MayShowAll, ShowsAll}
 
@@ -115,15 +116,15 @@ module _ (codes rest : List ℕ) (part : (c : ℕ) → Has rest c → Has codes 
 pub record RaisesFirst (d e : Held) (place : ℕ) (codes rest : List ℕ) : Type 0 where
   pub on : GoesOn d e
   pub part : (c : ℕ) → Has rest c → Has codes c
-  pub shown : (i : Instance) → MayShowAll (program_at d) d.0 d.1 i place codes → (c : ℕ) → Has codes c → Has rest c ⊎ ShowsCode (program_at d) e.1 i c
-  pub claims : (i : Instance) → MayShowAll (program_at d) d.0 d.1 i place codes → ClaimsWords (program_at d) d.1 e.1 i codes
+  pub shown : (i : Instance) → MayShowAll (program_at d) d.frame d.view i place codes → (c : ℕ) → Has codes c → Has rest c ⊎ ShowsCode (program_at d) e.view i c
+  pub claims : (i : Instance) → MayShowAll (program_at d) d.frame d.view i place codes → ClaimsWords (program_at d) d.view e.view i codes
 
 pub raises_none : (d : Held) (place : ℕ) (codes : List ℕ) → IsOwn d → RaisesFirst d d place codes codes
 raises_none d place codes own = record { on = goes_itself d own; part = λ c h. h; shown = λ i all c h. inl h; claims = λ i all q. inl refl }
 
 -- a word that may be raised at e
-pub raise_may : (d e : Held) (place : ℕ) (codes rest : List ℕ) (so_far : RaisesFirst d e place codes rest) (x count bits : ℕ) → slice_get rest 0 ≡ Some x → HasBits rest count bits → (i : Instance) → MayShowAll (program_at d) d.0 d.1 i place codes → MayRaise (program_at e) e.1 place (x / 64) bits
-raise_may d e place codes rest so_far x count bits first word i all = subst (λ (f : Frame). MayRaise (program_of f.system.value) e.1 place (x / 64) bits) (sym so_far.on.cells) (may_raise codes rest so_far.part x count bits first word (program_at d) d.0 e.1 i place (may_later (program_at d) d.0 d.1 e.1 so_far.on.kept i place codes all))
+pub raise_may : (d e : Held) (place : ℕ) (codes rest : List ℕ) (so_far : RaisesFirst d e place codes rest) (x count bits : ℕ) → slice_get rest 0 ≡ Some x → HasBits rest count bits → (i : Instance) → MayShowAll (program_at d) d.frame d.view i place codes → MayRaise (program_at e) e.view place (x / 64) bits
+raise_may d e place codes rest so_far x count bits first word i all = subst (λ (f : Frame). MayRaise (program_of f.system.value) e.view place (x / 64) bits) (sym so_far.on.cells) (may_raise codes rest so_far.part x count bits first word (program_at d) d.frame e.view i place (may_later (program_at d) d.frame d.view e.view so_far.on.kept i place codes all))
 
 -- a word that was raised at e, and held as g then
 module _ (d e g : Held) (place : ℕ) (codes rest : List ℕ) (so_far : RaisesFirst d e place codes rest) (on : GoesOn e g) (x count bits : ℕ) (first : slice_get rest 0 ≡ Some x) (fits : (k : ℕ) → Fits w32 (get_or codes k 0)) (word : HasBits rest count bits) where
@@ -134,33 +135,33 @@ module _ (d e g : Held) (place : ℕ) (codes rest : List ℕ) (so_far : RaisesFi
   both_on = goes_then d e g so_far.on on
 
   -- what may be shown, at what is held then
-  module _ (i : Instance) (all : MayShowAll (program_at d) d.0 d.1 i place codes) (claims : ClaimsOnly e.1 g.1 (set_word place (x / 64))) where
-    all_then : MayShowAll (program_at d) d.0 g.1 i place codes
-    all_then = may_later (program_at d) d.0 d.1 g.1 both_on.kept i place codes all
+  module _ (i : Instance) (all : MayShowAll (program_at d) d.frame d.view i place codes) (claims : ClaimsOnly e.view g.view (set_word place (x / 64))) where
+    all_then : MayShowAll (program_at d) d.frame g.view i place codes
+    all_then = may_later (program_at d) d.frame d.view g.view both_on.kept i place codes all
 
-    key_then : IsWordWith (program_at d) g.1 i codes (set_word place (x / 64))
-    key_then = key_with codes rest so_far.part x count bits first word (program_at d) d.0 g.1 i place all_then small (own_then d g both_on)
+    key_then : IsWordWith (program_at d) g.view i codes (set_word place (x / 64))
+    key_then = key_with codes rest so_far.part x count bits first word (program_at d) d.frame g.view i place all_then small (own_then d g both_on)
 
-    pub claims_words : ClaimsWords (program_at d) d.1 g.1 i codes
+    pub claims_words : ClaimsWords (program_at d) d.view g.view i codes
     claims_words q =
         ⊎_elim
-        (λ same. ⊎_elim (λ before. inl (same ∙ before)) (λ k. inr (k.0, on.kept.keys q k.0 k.1, with_later (program_at d) e.1 g.1 on.kept i codes k.0 k.2)) (so_far.claims i all q))
+        (λ same. ⊎_elim (λ before. inl (same ∙ before)) (λ k. inr (k.0, on.kept.keys q k.0 k.1, with_later (program_at d) e.view g.view on.kept i codes k.0 k.2)) (so_far.claims i all q))
         (λ here. inr (set_word place (x / 64), here, key_then))
         (claims q)
 
-    pub lacks_word : IsFull e.0 g.1 (set_word place (x / 64)) → LacksWord (program_at d) d.0 g.1 i codes
-    lacks_word full = (set_word place (x / 64), key_then, subst (λ (f : Frame). IsFull f g.1 (set_word place (x / 64))) so_far.on.cells full)
+    pub lacks_word : IsFull e.frame g.view (set_word place (x / 64)) → LacksWord (program_at d) d.frame g.view i codes
+    lacks_word full = (set_word place (x / 64), key_then, subst (λ (f : Frame). IsFull f g.view (set_word place (x / 64))) so_far.on.cells full)
 
-  pub raises_next : (y : ℕ) → HasWord (program_at e) e.0 g.1 place (x / 64) bits y → ClaimsOnly e.1 g.1 (set_word place (x / 64)) → RaisesFirst d g place codes (drop count rest)
+  pub raises_next : (y : ℕ) → HasWord (program_at e) e.frame g.view place (x / 64) bits y → ClaimsOnly e.view g.view (set_word place (x / 64)) → RaisesFirst d g place codes (drop count rest)
   raises_next y raised claims =
-      let here : HasWord (program_at d) d.0 g.1 place (x / 64) bits y = subst (λ (f : Frame). HasWord (program_of f.system.value) f g.1 place (x / 64) bits y) so_far.on.cells raised in record {
+      let here : HasWord (program_at d) d.frame g.view place (x / 64) bits y = subst (λ (f : Frame). HasWord (program_of f.system.value) f g.view place (x / 64) bits y) so_far.on.cells raised in record {
         on = both_on;
         part = λ c h. so_far.part c (drop_has rest count c h);
         shown = λ i all c h.
             ⊎_elim
             (λ left.
-            ⊎_elim (λ now. inr (word_shown codes rest so_far.part x count bits first word (program_at d) d.0 g.1 i place (may_later (program_at d) d.0 d.1 g.1 both_on.kept i place codes all) y here c now)) inl (has_split rest count c left))
-            (λ old. inr (shown_later (program_at d) e.1 g.1 on.kept i c old))
+            ⊎_elim (λ now. inr (word_shown codes rest so_far.part x count bits first word (program_at d) d.frame g.view i place (may_later (program_at d) d.frame d.view g.view both_on.kept i place codes all) y here c now)) inl (has_split rest count c left))
+            (λ old. inr (shown_later (program_at d) e.view g.view on.kept i c old))
             (so_far.shown i all c h);
         claims = λ i all. claims_words i all claims;
       }
@@ -170,13 +171,13 @@ none_left [] c e h = h
 none_left (x ∷ rest) c e h = cc
 
 -- with no code left, all are shown
-pub raised_all : (d e : Held) (place : ℕ) (codes rest : List ℕ) → RaisesFirst d e place codes rest → slice_get rest 0 ≡ None → (i : Instance) → MayShowAll (program_at d) d.0 d.1 i place codes → ShowsAll (program_at e) e.1 i codes
+pub raised_all : (d e : Held) (place : ℕ) (codes rest : List ℕ) → RaisesFirst d e place codes rest → slice_get rest 0 ≡ None → (i : Instance) → MayShowAll (program_at d) d.frame d.view i place codes → ShowsAll (program_at e) e.view i codes
 raised_all d e place codes rest h none i all =
-    subst (λ (f : Frame). ShowsAll (program_of f.system.value) e.1 i codes) (sym h.on.cells) (λ c has. ⊎_elim (λ left. absurd (none_left rest c none left)) (λ s. s) (h.shown i all c has))
+    subst (λ (f : Frame). ShowsAll (program_of f.system.value) e.view i codes) (sym h.on.cells) (λ c has. ⊎_elim (λ left. absurd (none_left rest c none left)) (λ s. s) (h.shown i all c has))
 
 -- what is said of the cells that were held first is said of those that are held now
-pub claims_now : (d e : Held) → GoesOn d e → (i : Instance) (codes : List ℕ) → ClaimsWords (program_at d) d.1 e.1 i codes → ClaimsWords (program_at e) d.1 e.1 i codes
-claims_now d e on i codes h = subst (λ (f : Frame). ClaimsWords (program_of f.system.value) d.1 e.1 i codes) (sym on.cells) h
+pub claims_now : (d e : Held) → GoesOn d e → (i : Instance) (codes : List ℕ) → ClaimsWords (program_at d) d.view e.view i codes → ClaimsWords (program_at e) d.view e.view i codes
+claims_now d e on i codes h = subst (λ (f : Frame). ClaimsWords (program_of f.system.value) d.view e.view i codes) (sym on.cells) h
 
-pub lacks_now : (d e : Held) → GoesOn d e → (i : Instance) (codes : List ℕ) → LacksWord (program_at d) d.0 e.1 i codes → LacksWord (program_at e) e.0 e.1 i codes
-lacks_now d e on i codes h = subst (λ (f : Frame). LacksWord (program_of f.system.value) f e.1 i codes) (sym on.cells) h
+pub lacks_now : (d e : Held) → GoesOn d e → (i : Instance) (codes : List ℕ) → LacksWord (program_at d) d.frame e.view i codes → LacksWord (program_at e) e.frame e.view i codes
+lacks_now d e on i codes h = subst (λ (f : Frame). LacksWord (program_of f.system.value) f e.view i codes) (sym on.cells) h

@@ -14,8 +14,8 @@ use Rattle.equation_law.proofs.Orders.{at_most_through}
 use Rattle.equation_law.proofs.Sets.{empty_part}
 use Rattle.memo_cells.specs.declared.view.View.{View}
 use Rattle.memo_cells.specs.Showing.{AreShown, ShowsAtLeast, ShowsAtMost, ShowsCode, ShowsTrue}
-use Rattle.memo_cells.specs.Standing.{ComesTo, IsElement, IsFinal, IsPart, IsRaised, IsSettled, MayShow}
-use Rattle.memo_cells.specs.Views.{IsAtLeast}
+use Rattle.memo_cells.specs.Standing.{IsElement, IsFinal, IsNoted, IsPart, IsRaised, IsSafe, IsSettledBy}
+use Rattle.memo_cells.specs.Views.{Has, IsAtLeast}
 use Rattle.memo_cells.proofs.Naming.{knows_later, stands_later, word_later}
 
 -- a test that is false isn't true
@@ -59,6 +59,10 @@ shown_between p v i (kinds.Nodes d) x y f l m = record {
   in_nodes = λ q e. let c = l q e in subst (λ (r : Reference). has_node (nodes y) r ≡ true) c.1 (m c.0 c.2);
 }
 
+-- what is safe goes on to be so
+abbrev pub StaysSafe : Program → View → View → Type 0
+StaysSafe p v w = (i j : Instance) → IsSafe p v i j → IsSafe p w i j
+
 module _ (p : Program) (v w : View) (more : IsAtLeast v w) where
   pub true_later : (i : Instance) → ShowsTrue p v i → ShowsTrue p w i
   true_later i h = (h.0, h.1, stands_later v w more p h.0 i h.2, more.bits h.1 h.0 0 h.3)
@@ -74,22 +78,24 @@ module _ (p : Program) (v w : View) (more : IsAtLeast v w) where
   at_least_later i kinds.Texts x h = λ t e. let c = h t e in (c.0, c.1, shown_later i c.0 c.2)
   at_least_later i (kinds.Nodes d) x h = λ n e. let c = h n e in (c.0, c.1, shown_later i c.0 c.2)
 
-  abbrev pub settled_later : (k c : ℕ) → IsSettled p v k c → IsSettled p w k c
-  settled_later k c h = record { of = h.of; instance = h.instance; stands = stands_later v w more p k h.of h.stands; code = h.code; shown = λ s. at_least_later h.of (kind_in p h.of) h.code.value (h.shown s); closed = λ j d. knows_later v w more p j (h.closed j d) }
+  -- what is noted, as long as its slot is left
+  pub noted_later : (i : Instance) (h : IsNoted p v i) → Has w.to_seal h.slot → IsNoted p w i
+  noted_later i h left = record { slot = h.slot; left = left; key = h.key; there = more.keys h.slot h.key h.there; stands = stands_later v w more p h.key i h.stands; value = h.value; has = h.has; shown = at_least_later i (kind_in p i) h.value h.shown }
+
+  -- what is safe, if no slot was sealed
+  pub safe_later : ((s : ℕ) → Has v.to_seal s → Has w.to_seal s) → StaysSafe p v w
+  safe_later stay i j h = ⊎_elim (λ k. inl (knows_later v w more p j k)) (λ n. inr (n.0, n.1, noted_later j n.2 (stay n.2.slot n.2.left))) h
+
+  abbrev pub settled_later : (S U : Instance → Instance → Type 0) (k c : ℕ) (h : IsSettledBy p v S k c) → ((j : Instance) → S h.of j → U h.of j) → IsSettledBy p w U k c
+  settled_later S U k c h safe = record { of = h.of; instance = h.instance; stands = stands_later v w more p k h.of h.stands; code = h.code; shown = λ s. at_least_later h.of (kind_in p h.of) h.code.value (h.shown s); closed = λ j d. safe j (h.closed j d) }
 
   pub values_shown_later : (B : Instance → Value) → AreShown p v B → AreShown p w B
   values_shown_later B h j c = ((h j c).0, at_least_later j (kind_in p j) (B j) (h j c).1)
 
-  pub comes_later : (i : Instance) (x : Value) → ComesTo p v i x → ComesTo p w i x
-  comes_later i x h = record { below = h.below; shown = values_shown_later h.below h.shown; demands = h.demands; ends = h.ends }
-
-  pub may_show_later : (i : Instance) (x : Value) → MayShow p v i x → MayShow p w i x
-  may_show_later i x h = ⊎_elim (λ a. inl (a.0, comes_later i x a.1)) inr h
-
   -- under a greater lower assignment too
   module _ (T U : Instance → Value) (below : (j : Instance) → (equations_of p).circular j ≡ true → IsAtMost (T j) (U j)) where
-    pub final_later : (k c : ℕ) → IsFinal p v T k c → IsFinal p w U k c
-    final_later k c h = record { settled = settled_later k c h.settled; lower = λ e. at_most_through h.settled.code.value (T h.settled.of) (U h.settled.of) (h.lower e) (below h.settled.of e) }
+    pub final_later : StaysSafe p v w → (k c : ℕ) → IsFinal p v T k c → IsFinal p w U k c
+    final_later safe k c h = record { settled = settled_later (IsSafe p v) (IsSafe p w) k c h.settled (safe h.settled.of); lower = λ e. at_most_through h.settled.code.value (T h.settled.of) (U h.settled.of) (h.lower e) (below h.settled.of e) }
 
     pub raised_later : (k : ℕ) → IsRaised p v T k → IsRaised p w U k
     raised_later k h = record { of = h.of; stands = stands_later v w more p k h.of h.stands; is_circular = h.is_circular; kind = h.kind; is_true = (below h.of h.is_circular).in_truth h.is_true }

@@ -26,9 +26,10 @@ use Rattle.memo_cells.specs.Showing.{IsWordSeen, ShowsAtLeast, ShowsAtMost, Show
 use Rattle.memo_cells.specs.Standing.{AreApproximations, HasWord, IsPassOf, IsWordOfValue, Knows, MayRaise, MayRaiseSet, MayRaiseTruth}
 use Rattle.memo_cells.specs.Steps.{BitsSeen}
 use Rattle.memo_cells.specs.Views.{IsAtLeast}
-use Rattle.memo_cells.proofs.Naming.{knows_later, stands_later}
+use Rattle.memo_cells.proofs.Lifting.{may_raise_set_later, may_raise_truth_later}
+use Rattle.memo_cells.proofs.Naming.{knows_later}
 use Rattle.memo_cells.proofs.Seeing.{raised_kind, same_there, truth_seen}
-use Rattle.memo_cells.proofs.Showing.{comes_later, has_code_more, may_show_later, not_both}
+use Rattle.memo_cells.proofs.Showing.{has_code_more, not_both}
 use Rattle.memo_cells.proofs.Ways.{on_err}
 
 pub kind_of_truth : (k : Kind) → truth_kind k ≡ true → k ≡ kinds.Truth
@@ -47,14 +48,6 @@ set_no_truth (kinds.Node d) e = refl
 set_no_truth kinds.Texts e = refl
 set_no_truth (kinds.Nodes d) e = refl
 
--- what may be raised may be raised later
-module _ (p : Program) (u v : View) (kept : IsAtLeast u v) where
-  truth_later : (slot : ℕ) → MayRaiseTruth p u slot → MayRaiseTruth p v slot
-  truth_later slot h = record { of = h.of; key = h.key; here = kept.keys slot h.key h.here; stands = stands_later u v kept p h.key h.of h.stands; is_circular = h.is_circular; kind = h.kind; value = h.value; comes = comes_later p u v kept h.of h.value h.comes; is_true = h.is_true }
-
-  set_later : (slot w bits : ℕ) → MayRaiseSet p u slot w bits → MayRaiseSet p v slot w bits
-  set_later slot w bits h = record { of = h.of; key = h.key; here = kept.keys slot h.key h.here; stands = stands_later u v kept p h.key h.of h.stands; instance = h.instance; value = h.value; may = may_show_later p u v kept h.of h.value h.may; elements = h.elements }
-
 -- the type of the instance of a slot tells which of the two it is
 module _ (p : Program) (f : Frame) (u v : View) (kept : IsAtLeast u v) (slot w bits : ℕ) (lt : slot < f.cells) (nz : bits ≢ 0) (fits : bits < 2 ^ 64) (b : Bool) (told : (i : Instance) → IsCellOf p f u i slot → b ≡ truth_kind (kind_in p i)) where
   of_truth : (t : MayRaiseTruth p u slot) → b ≡ true
@@ -64,10 +57,10 @@ module _ (p : Program) (f : Frame) (u v : View) (kept : IsAtLeast u v) (slot w b
   of_set s = told s.of (s.key, (lt, s.here), s.stands) ∙ set_no_truth (kind_in p s.of) (raised_kind p f u slot w bits nz fits s)
 
   pub raises_truth : b ≡ true → MayRaise p u slot w bits → MayRaiseTruth p v slot × (w ≡ 0) × (bits ≡ 1)
-  raises_truth e h = ⊎_elim (λ t. (truth_later p u v kept slot t.0, t.1, t.2)) (λ s. absurd (not_both (of_set s) e)) h
+  raises_truth e h = ⊎_elim (λ t. (may_raise_truth_later p u v kept slot t.0, t.1, t.2)) (λ s. absurd (not_both (of_set s) e)) h
 
   pub raises_set : b ≡ false → MayRaise p u slot w bits → MayRaiseSet p v slot w bits
-  raises_set e h = ⊎_elim (λ t. absurd (not_both e (of_truth t.0))) (λ s. set_later p u v kept slot w bits s) h
+  raises_set e h = ⊎_elim (λ t. absurd (not_both e (of_truth t.0))) (λ s. may_raise_set_later p u v kept slot w bits s) h
 
 -- the word of a truth value, which has no other
 pub truth_word : (p : Program) (f : Frame) (v : View) (slot w bits x : ℕ) → w ≡ 0 → bits ≡ 1 → HasWord p f v slot 0 1 x → HasWord p f v slot w bits x

@@ -1,6 +1,7 @@
 pub mod Claiming
 pub mod Keys
 pub mod Naming
+pub mod Sealing
 pub mod SetRaising
 pub mod SetShown
 pub mod Showing

@@ -56,19 +56,19 @@ LacksWord p f v i codes = (k : ℕ) × IsWordWith p v i codes k × IsFull f v k
 
 -- an instance of this cell may show all of them, by what is held
 abbrev pub MayShowAllAt : Held → ℕ → List ℕ → Type 0
-MayShowAllAt d place codes = (i : Instance) × MayShowAll (program_at d) d.0 d.1 i place codes
+MayShowAllAt d place codes = (i : Instance) × MayShowAll (program_at d) d.frame d.view i place codes
 
 -- where an instance of this cell might show all of them, by what was held before, its words show them now
 abbrev pub ShowsAllAt : Held → Held → ℕ → List ℕ → Type 0
-ShowsAllAt d e place codes = (i : Instance) → MayShowAll (program_at d) d.0 d.1 i place codes → ShowsAll (program_at e) e.1 i codes
+ShowsAllAt d e place codes = (i : Instance) → MayShowAll (program_at d) d.frame d.view i place codes → ShowsAll (program_at e) e.view i codes
 
 -- other keys have all the cells now than a word of such an instance in which one of them lies
 abbrev pub LacksWordAt : Held → Held → ℕ → List ℕ → Type 0
-LacksWordAt d e place codes = (i : Instance) → MayShowAll (program_at d) d.0 d.1 i place codes → LacksWord (program_at e) e.0 e.1 i codes
+LacksWordAt d e place codes = (i : Instance) → MayShowAll (program_at d) d.frame d.view i place codes → LacksWord (program_at e) e.frame e.view i codes
 
 -- what was claimed since are cells of words of such an instance in which they lie
 abbrev pub ClaimsWordsAt : Held → Held → ℕ → List ℕ → Type 0
-ClaimsWordsAt d e place codes = (i : Instance) → MayShowAll (program_at d) d.0 d.1 i place codes → ClaimsWords (program_at e) d.1 e.1 i codes
+ClaimsWordsAt d e place codes = (i : Instance) → MayShowAll (program_at d) d.frame d.view i place codes → ClaimsWords (program_at e) d.view e.view i codes
 
 -- the first of these codes, so many, all lie in one word, and have these bits in it
 pub record HasBits (codes : List ℕ) (count bits : ℕ) : Type 0 where

@@ -52,8 +52,8 @@ pub record IsShownValue (p : Program) (before now : View) (i : Instance) (x : Co
 
 -- they are the codes shown of a set that has its cell at this place, with what is held before and after
 abbrev pub AreCodesShownAt : Held → Held → ℕ → ℕ → ℕ → List ℕ → Type 0
-AreCodesShownAt d e place from to cs = (i : Instance) → IsCellOf (program_at d) d.0 d.1 i place → is_single (kind_in (program_at d) i) ≡ false → AreCodesShown (program_at d) d.1 e.1 i from to cs
+AreCodesShownAt d e place from to cs = (i : Instance) → IsCellOf (program_at d) d.frame d.view i place → is_single (kind_in (program_at d) i) ≡ false → AreCodesShown (program_at d) d.view e.view i from to cs
 
 -- it is the value shown of what has its cell at this place and is a set or a truth value, if it is of this type
-abbrev pub IsShownValueAt : Program → Held → Held → ℕ → Kind → CodedValue → Type 0
-IsShownValueAt p d e place kind x = (i : Instance) → IsCellOf p d.0 d.1 i place → kind_in p i ≡ kind → is_ordered kind ≡ true → IsShownValue p d.1 e.1 i x
+abbrev pub IsShownValueAt : Held → Held → ℕ → Kind → CodedValue → Type 0
+IsShownValueAt d e place kind x = (i : Instance) → IsCellOf (program_at d) d.frame d.view i place → kind_in (program_at d) i ≡ kind → is_ordered kind ≡ true → IsShownValue (program_at d) d.view e.view i x

@@ -1,5 +1,5 @@
 -- What the words of the table stand for.
-use Rattle.std.specs.Prelude.{◌≡◌, ◌≢◌, ◌↔◌, ℕ, true, false, ◌+◌, ◌*◌, ◌<◌, ◌≤◌, ◌^◌, ◌⊎◌, List, Some}
+use Rattle.std.specs.Prelude.{◌≡◌, ◌≢◌, ◌↔◌, ℕ, true, false, ◌+◌, ◌*◌, ◌<◌, ◌≤◌, ◌^◌, ◌⊎◌, List, [], Some}
 use Rattle.std.specs.Int.{bit_at}
 use Rattle.solutions.specs.Asking.{Ends, Meets}
 use Rattle.solutions.specs.Leading.{Holds, IsLower, Mixed, Read}
@@ -40,14 +40,33 @@ pub record IsCodeOf (p : Program) (i : Instance) (c : ℕ) : Type 0 where
   pub small : IsSmall (kind_in p i) c
   pub fits : c < 2 ^ 32
 
--- k stands for an instance of the program, c is the code of its value, the words of a set show it, and all that this demands is seen settled
-pub record IsSettled (p : Program) (v : View) (k c : ℕ) : Type 0 where
+-- the cell of i has still to be sealed, and the words show the value of i
+pub record IsNoted (p : Program) (v : View) (i : Instance) : Type 0 where
+  pub slot : ℕ
+  pub left : Has v.to_seal slot
+  pub key : ℕ
+  pub there : Has v.keys (slot, key)
+  pub stands : StandsFor p v key i
+  pub value : Value
+  pub has : HasValue p i value
+  pub shown : ShowsAtLeast p v i (kind_in p i) value
+
+-- where i is settled and demands j, j is seen settled, or noted, both of them circular
+abbrev pub IsSafe : Program → View → Instance → Instance → Type 0
+IsSafe p v i j = Knows p v j ⊎ ((equations_of p).circular i ≡ true × (equations_of p).circular j ≡ true × IsNoted p v j)
+
+-- k stands for an instance of the program, c is the code of its value, the words of a set show it, and all that this demands is safe for it
+pub record IsSettledBy (p : Program) (v : View) (safe : Instance → Instance → Type 0) (k c : ℕ) : Type 0 where
   pub of : Instance
   pub instance : IsInstance p of
   pub stands : StandsFor p v k of
   pub code : IsCodeOf p of c
   pub shown : is_single (kind_in p of) ≡ false → ShowsAtLeast p v of (kind_in p of) code.value
-  pub closed : (j : Instance) → Meets (HasValue p) ((equations_of p).equation of) j → Knows p v j
+  pub closed : (j : Instance) → Meets (HasValue p) ((equations_of p).equation of) j → safe of j
+
+-- the same of what is settled in the words, where some slots may still be left to seal
+abbrev pub IsSettled : Program → View → ℕ → ℕ → Type 0
+IsSettled p v k c = IsSettledBy p v (IsSafe p v) k c
 
 -- T gives the circular instances values at most those that a rising list reaches
 abbrev pub IsLowerOf : Program → (Instance → Value) → Type 0
@@ -64,9 +83,10 @@ pub record AreApproximations (p : Program) (v : View) : Type 0 where
   pub truths : (i : Instance) → (equations_of p).circular i ≡ false → kind_in p i ≡ kinds.Truth → ShowsTrue p v i → (x : Value) × HasValue p i x × (truth x ≡ true)
   pub settled : (i : Instance) → Knows p v i → (x : Value) × HasValue p i x × ShowsAtLeast p v i (kind_in p i) x
 
--- A pass of these cells: what it knows stands in one table, where a place has one key and a key one place, and what is settled codes the
--- value of what its key stands for. What the words show are approximations. One that has the whole share claimed all of them.
-pub record IsPassOf (f : Frame) (v : View) : Type 0 where
+-- A pass of these cells that has these slots still to seal: what it knows stands in one table, where a place has one key and a key one place,
+-- and what is settled codes the value of what its key stands for. What the words show are approximations. One that has the whole share
+-- claimed all of them.
+pub record IsSeatOf (f : Frame) (v : View) (left : List ℕ) : Type 0 where
   pub table : v.table ≡ f.table
   pub frame : v.frame ≡ Some f
   pub few : f.cells ≤ 4194304
@@ -77,6 +97,11 @@ pub record IsPassOf (f : Frame) (v : View) : Type 0 where
   pub keyed : (p k n : ℕ) → Has v.bits (p, k, n) → Has v.keys (p, k)
   pub approximations : AreApproximations (program_of f.system.value) v
   pub whole : v.share ≡ 2 ^ 62 → (p k : ℕ) → Has v.keys (p, k) → times p v.claims ≢ 0
+  pub to_seal : v.to_seal ≡ left
+
+-- one that has nothing left to seal
+abbrev pub IsPassOf : Frame → View → Type 0
+IsPassOf f v = IsSeatOf f v []
 
 -- the cells of a system and their first pass
 pub record AreNew (kept : System) (count : ℕ) (f : Frame) (v : View) : Type 0 where
@@ -89,7 +114,7 @@ pub record AreNew (kept : System) (count : ℕ) (f : Frame) (v : View) : Type 0 
 pub record MaySettle (p : Program) (v : View) (place code : ℕ) : Type 0 where
   pub key : ℕ
   pub here : Has v.keys (place, key)
-  pub settled : IsSettled p v key code
+  pub settled : IsSettledBy p v (λ i j. Knows p v j) key code
   pub undeclared : (equations_of p).circular settled.of ≡ false
 
 -- The equation of i comes to x under values of the circular instances that are at most what the words show, and the values of the others.
@@ -213,8 +238,8 @@ pub record IsElement (p : Program) (v : View) (T : Instance → Value) (k b : �
   pub part : IsPart p T of (64 * word + b)
   pub code : IsElementCode p (kind_in p of) (64 * word + b)
 
--- the words of the cells of a program, if a pass knows all of them
-pub record AreWords (f : Frame) (ks vs : List ℕ) : Type 0 where
+-- the words of the cells of a program, if a pass knows all of them and has still to seal these slots
+pub record AreWords (f : Frame) (ts ks vs : List ℕ) : Type 0 where
   pub values : Instance → Value
   pub lower : IsLowerOf (program_of f.system.value) values
-  pub ordered : AreOrdered (IsFormed (program_of f.system.value) (knows_all f ks vs)) (IsFinal (program_of f.system.value) (knows_all f ks vs) values) (IsRaised (program_of f.system.value) (knows_all f ks vs) values) (IsElement (program_of f.system.value) (knows_all f ks vs) values) f.cells (word_at ks) (word_at vs)
+  pub ordered : AreOrdered (IsFormed (program_of f.system.value) (knows_all f ts ks vs)) (IsFinal (program_of f.system.value) (knows_all f ts ks vs) values) (IsRaised (program_of f.system.value) (knows_all f ts ks vs) values) (IsElement (program_of f.system.value) (knows_all f ts ks vs) values) f.cells (word_at ks) (word_at vs)

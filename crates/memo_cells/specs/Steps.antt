@@ -49,9 +49,13 @@ pub record BitsAdded (v w : View) (place put found : ℕ) : Type 0 where
   pub seen : BitsSeen v w place found
   pub added : (n : ℕ) → bit_at put n ≡ 1 → bit_at found n ≡ 1
 
+-- the cell of the key k at this place is seen settled
+abbrev pub IsSealedAt : View → ℕ → ℕ → Type 0
+IsSealedAt v place k = (c : ℕ) × Has v.values (place, k, c)
+
 -- what stands in these slots is seen settled
 abbrev pub AreSealed : View → View → List ℕ → Type 0
-AreSealed v w slots = (s k : ℕ) → Has slots s → Has v.keys (s, k) → (c : ℕ) × Has w.values (s, k, c)
+AreSealed v w slots = (s k : ℕ) → Has slots s → Has v.keys (s, k) → IsSealedAt w s k
 
 -- what a search for the key k finds among the places from a on, below b
 abbrev pub IsSearched : Frame → View → ℕ → ℕ → ℕ → Search → Type 0

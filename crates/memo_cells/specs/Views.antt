@@ -1,5 +1,5 @@
 -- What a pass knows.
-use Rattle.std.specs.Prelude.{◌≡◌, ◌≢◌, ℕ, zero, suc, ◌+◌, ◌-◌, ◌^◌, ◌<◌, ◌≤◌, ◌⊎◌, ◌==◌, ◌&&◌, not, nat_le, Bool, false, List, [], ◌∷◌, ◌++◌, Some, None, set, slice_index, if◌then◌else◌}
+use Rattle.std.specs.Prelude.{◌≡◌, ◌≢◌, ℕ, zero, suc, ◌+◌, ◌-◌, ◌^◌, ◌<◌, ◌≤◌, ◌⊎◌, ◌==◌, ◌&&◌, not, nat_le, Bool, false, List, [], ◌∷◌, ◌++◌, Some, None, slice_index, if◌then◌else◌}
 use Rattle.std.specs.Int.{bit_at}
 use Rattle.std.specs.List.{list_any}
 use Rattle.std.specs.declared.snapshot.Snapshot.{Snapshot}
@@ -54,11 +54,6 @@ bits_from p (k ∷ ks) (v ∷ vs) = bits_below p k v (shown_bits k) ++ bits_from
 abbrev pub with_mark : ℕ → ℕ
 with_mark v = if nat_le (2 ^ 63) v then v else v + 2 ^ 63
 
--- the words with this mark at these places
-abbrev pub marked : List ℕ → List ℕ → List ℕ
-marked vs [] = vs
-marked vs (p ∷ ps) = marked (set vs p (with_mark (slice_index vs p))) ps
-
 -- so many cells of a system, in the only table that there is
 abbrev pub framed : Snapshot System → ℕ → Frame
 framed system cells = record { table = 0; system = system; cells = cells }
@@ -85,9 +80,9 @@ having_seen f keys values bits claims = record {
   draws = [];
 }
 
--- a pass that has the words itself knows all that stands there, and claimed it
-abbrev pub knows_all : Frame → List ℕ → List ℕ → View
-knows_all f ks vs = having_seen f (keys_from 0 ks) (values_from 0 ks vs) (bits_from 0 ks vs) (places_from 0 ks)
+-- a pass that has the words itself knows all that stands there, and claimed it; these places it has still to seal
+abbrev pub knows_all : Frame → List ℕ → List ℕ → List ℕ → View
+knows_all f ts ks vs = record (having_seen f (keys_from 0 ks) (values_from 0 ks vs) (bits_from 0 ks vs) (places_from 0 ks)) { to_seal = ts }
 
 -- nothing is unlearnt
 pub record IsAtLeast (v w : View) : Type 0 where

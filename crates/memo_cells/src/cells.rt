@@ -42,7 +42,7 @@ pub struct Pass {
 }
 
 impl Model for Pass {
-    ghost use Rattle.std.specs.Prelude.{◌≡◌, ◌<◌, length};
+    ghost use Rattle.std.specs.Prelude.{◌≡◌, ◌<◌, [], length};
     ghost use Rattle.std.specs.Coded.{codes};
     ghost use Rattle.attr_rules.specs.contracts.expression.TExpr as expressions;
     ghost use Rattle.memo_cells.specs.declared.view.View.{View};
@@ -53,7 +53,7 @@ impl Model for Pass {
 
     ghost coded = { Prim.hlevel (codes, expressions.the_row.coded) };
 
-    ghost view = { λ p. knows_all (framed p.system p.size) p.keys.items p.values.items };
+    ghost view = { λ p. knows_all (framed p.system p.size) [] p.keys.items p.values.items };
 
-    ghost invariant = { λ p. (0 < p.size) × (length p.keys.items ≡ p.size) × (length p.values.items ≡ p.size) × AreWords (framed p.system p.size) p.keys.items p.values.items };
+    ghost invariant = { λ p. (0 < p.size) × (length p.keys.items ≡ p.size) × (length p.values.items ≡ p.size) × AreWords (framed p.system p.size) [] p.keys.items p.values.items };
 }

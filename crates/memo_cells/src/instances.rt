@@ -1,9 +1,7 @@
 // The cells of instances: one key for the attribute at the node, and one for each argument.
-ghost use Rattle.std.specs.Prelude.{◌<◌, ℕ, IfOk, IfSome, OnErr};
+ghost use Rattle.std.specs.Prelude.{◌<◌, IfOk, IfSome, OnErr};
 ghost use Rattle.equation_law.specs.declared.coding.Instance.TheVariants.{Attr as attribute_at};
-ghost use Rattle.equation_law.specs.Codes.{IsCoded};
-ghost use Rattle.memo_cells.specs.Views.{Has, IsPlain};
-ghost use Rattle.memo_cells.specs.Working.{ClaimsKeysAt, FindsCell, GoesOn, IsCellAt, IsInstanceAt, IsOwn, LacksCellAt, MissesCell, ReadsOn, program_at};
+ghost use Rattle.memo_cells.specs.Working.{ClaimsKeysAt, FindsCell, GoesOn, HasKeyAt, IsCellAt, IsCodedAt, IsInstanceAt, IsOwn, IsPlainAt, LacksCellAt, MissesCell, ReadsOn};
 
 use crate::calls::CellsFull;
 use crate::keys::{Key, Slot};
@@ -20,7 +18,7 @@ fn claim_attribute<W: Work>(
 ) -> Result<Slot, CellsFull>
     requires own { IsOwn (W.held work.old) }
     requires instance { IsInstanceAt (W.held work.old) (attribute_at attr node args) }
-    requires coded { IsCoded (program_at (W.held work.old)) (attribute_at attr node args) }
+    requires coded { IsCodedAt (W.held work.old) (attribute_at attr node args) }
     ensures on { GoesOn (W.held work.old) (W.held work.new) }
     ensures slot { IfOk result (λ s. IsCellAt (W.held work.old) (W.held work.new) (attribute_at attr node args) s.0) }
     ensures full { OnErr result (LacksCellAt (W.held work.old) (W.held work.new) (attribute_at attr node args)) }
@@ -40,7 +38,7 @@ fn claim_attribute<W: Work>(
 pub fn claim_instance<W: Work>(work: &mut W, i: Instance) -> Result<Slot, CellsFull>
     requires own { IsOwn (W.held work.old) }
     requires instance { IsInstanceAt (W.held work.old) i }
-    requires coded { IsCoded (program_at (W.held work.old)) i }
+    requires coded { IsCodedAt (W.held work.old) i }
     ensures on { GoesOn (W.held work.old) (W.held work.new) }
     ensures slot { IfOk result (λ s. IsCellAt (W.held work.old) (W.held work.new) i s.0) }
     ensures full { OnErr result (LacksCellAt (W.held work.old) (W.held work.new) i) }
@@ -57,9 +55,9 @@ fn seek_attribute<W: Words>(work: &mut W, attr: AttrId, node: NodeRef, args: Arg
     ensures on { ReadsOn (W.held work.old) (W.held work.new) }
     ensures slot { FindsCell (W.held work.old) (W.held work.new) (attribute_at attr node args) result }
     ensures none { MissesCell (W.held work.old) (W.held work.new) (attribute_at attr node args) result }
-    ensures place { IfSome result (λ s. s.0 < (W.held work.old).0.cells) }
-    ensures plain { IfSome result (λ s. IsPlain (W.held work.new).1 s.0) }
-    ensures key { IfSome result (λ s. (k : ℕ) × Has (W.held work.new).1.keys (s.0, k)) }
+    ensures place { IfSome result (λ s. s.0 < (W.held work.old).frame.cells) }
+    ensures plain { IfSome result (λ s. IsPlainAt (W.held work.new) s.0) }
+    ensures key { IfSome result (λ s. HasKeyAt (W.held work.new) s.0) }
 {
     let mut slot = work.seek(Key::Inst { attr, node })?;
     let mut place = 0;
@@ -75,9 +73,9 @@ pub fn seek_instance<W: Words>(work: &mut W, i: Instance) -> Option<Slot>
     ensures on { ReadsOn (W.held work.old) (W.held work.new) }
     ensures slot { FindsCell (W.held work.old) (W.held work.new) i result }
     ensures none { MissesCell (W.held work.old) (W.held work.new) i result }
-    ensures place { IfSome result (λ s. s.0 < (W.held work.old).0.cells) }
-    ensures plain { IfSome result (λ s. IsPlain (W.held work.new).1 s.0) }
-    ensures key { IfSome result (λ s. (k : ℕ) × Has (W.held work.new).1.keys (s.0, k)) }
+    ensures place { IfSome result (λ s. s.0 < (W.held work.old).frame.cells) }
+    ensures plain { IfSome result (λ s. IsPlainAt (W.held work.new) s.0) }
+    ensures key { IfSome result (λ s. HasKeyAt (W.held work.new) s.0) }
 {
     match i {
         Instance::Attr { attr, node, args } => seek_attribute(work, attr, node, args),

@@ -1,7 +1,6 @@
 // The value that the words of a cell show.
-ghost use Rattle.std.specs.Prelude.{◌≡◌, ◌<◌, ◌^◌, IfOk, OnOk};
-ghost use Rattle.equation_law.specs.Systems.{program_of};
-ghost use Rattle.memo_cells.specs.Working.{HasCell, IsOwn, ReadsOn, program_at};
+ghost use Rattle.std.specs.Prelude.{◌<◌, ◌^◌, IfOk, OnOk};
+ghost use Rattle.memo_cells.specs.Working.{HasCell, IsForSystem, IsOwn, ReadsOn};
 ghost use Rattle.memo_cells.specs.SetShown.{AddsWord, AreBelow, AreCodesShownAt, IsShownValueAt};
 
 use crate::keys::Slot;
@@ -50,7 +49,7 @@ fn codes_shown<W: Words>(
     to: Code,
 ) -> Result<Codes, Memory>
     requires own { IsOwn (W.held work.old) }
-    requires cell { HasCell (program_at (W.held work.old)) (W.held work.old) slot.0 }
+    requires cell { HasCell (W.held work.old) slot.0 }
     ensures on { ReadsOn (W.held work.old) (W.held work.new) }
     ensures shown { IfOk result (AreCodesShownAt (W.held work.old) (W.held work.new) slot.0 from to) }
 {
@@ -77,10 +76,10 @@ pub fn value_shown<W: Words>(
     kind: Kind,
 ) -> Result<Value, Memory>
     requires own { IsOwn (W.held work.old) }
-    requires same { (W.held work.old).0.system.value ≡ system.now }
-    requires cell { HasCell (program_of system.now) (W.held work.old) slot.0 }
+    requires same { IsForSystem (W.held work.old) system.now }
+    requires cell { HasCell (W.held work.old) slot.0 }
     ensures on { ReadsOn (W.held work.old) (W.held work.new) }
-    ensures shown { IfOk result (IsShownValueAt (program_of system.now) (W.held work.old) (W.held work.new) slot.0 kind) }
+    ensures shown { IfOk result (IsShownValueAt (W.held work.old) (W.held work.new) slot.0 kind) }
 {
     match kind {
         Kind::Truth => Ok(Value::Truth(work.word(slot, 0) == 1)),

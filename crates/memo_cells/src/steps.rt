@@ -1,10 +1,11 @@
 // The single steps on the words: each reads or writes one.
-ghost use Rattle.std.specs.Prelude.{◌≡◌, ◌≢◌, ◌<◌, All, length, map};
+ghost use Rattle.std.specs.Prelude.{◌≡◌, ◌≢◌, ◌+◌, ◌<◌, length, map};
 ghost use Rattle.equation_law.specs.Systems.{program_of};
 ghost use Rattle.memo_cells.specs.Naming.{IsFormed};
+ghost use Rattle.memo_cells.specs.Sealing.{AreSealedTo, SealsAll, SealsTo};
 ghost use Rattle.memo_cells.specs.Standing.{IsPassOf, MayAdd, MayRaiseTruth, MaySeal, MaySettle};
 ghost use Rattle.memo_cells.specs.Steps.{AreSealed, BitsAdded, BitsSeen, KeySeen, KeyTried, ValueSeen, ValueTried};
-ghost use Rattle.memo_cells.specs.Views.{IsAtLeast, IsPassed, IsPlain, marked, with_mark};
+ghost use Rattle.memo_cells.specs.Views.{IsAtLeast, IsPassed, IsPlain, with_mark};
 
 use crate::cells::{Cells, Pass};
 use crate::keys::Slot;
@@ -108,7 +109,7 @@ impl Cells {
         seen
     }
 
-    /// Sets bit 63 of the value word of each slot: what is raised there is final.
+    /// Sets bit 63 of the value word of each slot: what is raised there is final. All of them are noted, and sealed one after the other.
     pub(crate) fn mark(&self, pass: &mut Pass, set: &[Slot])
         requires own { IsPassOf self.now pass.old }
         requires may { MaySeal (program_of self.now.system.value) self.now pass.old (map (λ s. s.0) set.now) }
@@ -117,17 +118,26 @@ impl Cells {
         ensures sealed { AreSealed pass.old pass.new (map (λ s. s.0) set.now) }
         ensures claims { pass.new.claims ≡ pass.old.claims }
     {
-        mark_all(&mut pass.values, set);
+        self.mark_all(&pass.keys, &mut pass.values, set);
     }
-}
 
-/// Sets bit 63 of the words of these slots.
-fn mark_all(words: &mut Vec<u64>, set: &[Slot])
-    requires { All (λ s. s.0 < length words.old.items) set.now }
-    ensures { words.new.items ≡ marked words.old.items (map (λ s. s.0) set.now) }
-{
-    for slot in set {
-        let place = slot.0 as usize;
+    // Sets bit 63 of the value words of these slots, one after the other.
+    fn mark_all(&self, keys: &Vec<u64>, words: &mut Vec<u64>, set: &[Slot])
+        requires noted { AreSealedTo self.now set.now 0 keys.now.items words.old.items }
+        ensures sealed { SealsAll self.now set.now keys.now.items words.old.items words.new.items }
+    {
+        for number in 0..set.len() {
+            self.mark_one(keys, words, set, number);
+        }
+    }
+
+    // Sets bit 63 of the value word of one of them. Those before it are sealed, and those behind it are left to seal.
+    fn mark_one(&self, _keys: &Vec<u64>, words: &mut Vec<u64>, set: &[Slot], number: usize)
+        requires number { number < length set.now }
+        requires noted { AreSealedTo self.now set.now number _keys.now.items words.old.items }
+        ensures sealed { SealsTo self.now set.now number (number + 1) _keys.now.items words.old.items words.new.items }
+    {
+        let place = set[number].0 as usize;
         words[place] = with_mark(words[place]);
     }
 }

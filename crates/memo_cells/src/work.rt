@@ -1,11 +1,7 @@
 // What a reader does that holds a pass.
 ghost use Rattle.std.specs.Prelude.{◌≢◌, ◌<◌, IfNone, IfOk, IfSome, OnErr, map};
 ghost use Rattle.memo_cells.specs.Keys.{Fits, key_word, set_word};
-ghost use Rattle.memo_cells.specs.Naming.{IsFormed};
-ghost use Rattle.memo_cells.specs.Standing.{HasWord, MayRaise, MaySeal};
-ghost use Rattle.memo_cells.specs.Steps.{AreSealed};
-ghost use Rattle.memo_cells.specs.Views.{ClaimsOnly, IsFull, IsNowhere, IsSlot};
-ghost use Rattle.memo_cells.specs.Working.{ClaimsForSetAt, GoesOn, HasCell, HasKnownWordAt, IsOfSetAt, IsOwn, ReadsOn, ShowsWordAt, program_at};
+ghost use Rattle.memo_cells.specs.Working.{AreSealedAt, ClaimsForSetAt, ClaimsOnlyAt, GoesOn, HasCell, HasKnownWordAt, HasWordAt, IsFormedAt, IsFullAt, IsNowhereAt, IsOfSetAt, IsOwn, IsSlotAt, MayRaiseAt, MaySealAt, ReadsOn, ShowsWordAt};
 
 use crate::calls::CellsFull;
 use crate::keys::{Key, Slot};
@@ -21,13 +17,13 @@ pub trait Words {
     fn seek(&mut self, key: Key) -> Option<Slot>
         requires slot { Fits key }
         ensures on { ReadsOn (held self.old) (held self.new) }
-        ensures slot { IfSome result (λ s. IsSlot (held self.old).0 (held self.new).1 s.0 (key_word key)) }
-        ensures none { IfNone result (IsNowhere (held self.new).1 (key_word key)) };
+        ensures slot { IfSome result (λ s. IsSlotAt (held self.old) (held self.new) s.0 (key_word key)) }
+        ensures none { IfNone result (IsNowhereAt (held self.new) (key_word key)) };
 
     /// A word of what is shown of a slot's instance.
     fn word(&mut self, slot: Slot, word: u32) -> u64
         requires own { IsOwn (held self.old) }
-        requires cell { HasCell (program_at (held self.old)) (held self.old) slot.0 }
+        requires cell { HasCell (held self.old) slot.0 }
         ensures on { ReadsOn (held self.old) (held self.new) }
         ensures word { ShowsWordAt (held self.old) (held self.new) slot.0 word result }
         ensures settled { HasKnownWordAt (held self.old) (held self.new) slot.0 word result };
@@ -42,31 +38,31 @@ pub trait Work: Reader + Words {
     fn claim(&mut self, key: Key) -> Result<Slot, CellsFull>
         requires own { IsOwn (Self.held self.old) }
         requires slot { Fits key }
-        requires key { IsFormed (program_at (Self.held self.old)) (Self.held self.old).1 (key_word key) }
+        requires key { IsFormedAt (Self.held self.old) (key_word key) }
         ensures on { GoesOn (Self.held self.old) (Self.held self.new) }
-        ensures slot { IfOk result (λ s. IsSlot (Self.held self.old).0 (Self.held self.new).1 s.0 (key_word key)) }
-        ensures full { OnErr result (IsFull (Self.held self.old).0 (Self.held self.new).1 (key_word key)) }
-        ensures claims { ClaimsOnly (Self.held self.old).1 (Self.held self.new).1 (key_word key) };
+        ensures slot { IfOk result (λ s. IsSlotAt (Self.held self.old) (Self.held self.new) s.0 (key_word key)) }
+        ensures full { OnErr result (IsFullAt (Self.held self.old) (Self.held self.new) (key_word key)) }
+        ensures claims { ClaimsOnlyAt (Self.held self.old) (Self.held self.new) (key_word key) };
 
     /// Adds bits to a word of what is shown of a slot's instance, and answers the word with them.
     fn raise(&mut self, slot: Slot, word: u32, bits: u64) -> Result<u64, CellsFull>
         requires own { IsOwn (Self.held self.old) }
-        requires slot { slot.0 < (Self.held self.old).0.cells }
-        requires may { MayRaise (program_at (Self.held self.old)) (Self.held self.old).1 slot.0 word bits }
+        requires slot { slot.0 < (Self.held self.old).frame.cells }
+        requires may { MayRaiseAt (Self.held self.old) slot.0 word bits }
         requires some { bits ≢ 0 }
         ensures on { GoesOn (Self.held self.old) (Self.held self.new) }
-        ensures raised { IfOk result (λ x. HasWord (program_at (Self.held self.old)) (Self.held self.old).0 (Self.held self.new).1 slot.0 word bits x) }
-        ensures full { OnErr result (IsFull (Self.held self.old).0 (Self.held self.new).1 (set_word slot.0 word)) }
+        ensures raised { IfOk result (λ x. HasWordAt (Self.held self.old) (Self.held self.new) slot.0 word bits x) }
+        ensures full { OnErr result (IsFullAt (Self.held self.old) (Self.held self.new) (set_word slot.0 word)) }
         ensures set { OnErr result (IsOfSetAt (Self.held self.old) (Self.held self.new) slot.0) }
-        ensures claims { ClaimsOnly (Self.held self.old).1 (Self.held self.new).1 (set_word slot.0 word) }
+        ensures claims { ClaimsOnlyAt (Self.held self.old) (Self.held self.new) (set_word slot.0 word) }
         ensures truth { ClaimsForSetAt (Self.held self.old) (Self.held self.new) slot.0 };
 
     /// Marks what the words show of each slot's instance as its value.
     fn seal(&mut self, set: &[Slot])
         requires own { IsOwn (Self.held self.old) }
-        requires may { MaySeal (program_at (Self.held self.old)) (Self.held self.old).0 (Self.held self.old).1 (map (λ s. s.0) set.now) }
+        requires may { MaySealAt (Self.held self.old) (map (λ s. s.0) set.now) }
         ensures on { ReadsOn (Self.held self.old) (Self.held self.new) }
-        ensures sealed { AreSealed (Self.held self.old).1 (Self.held self.new).1 (map (λ s. s.0) set.now) };
+        ensures sealed { AreSealedAt (Self.held self.old) (Self.held self.new) (map (λ s. s.0) set.now) };
 
     ghost tells_pass: { (d : Self) → TellsPass Self.held d (Self.tells d) };
 }

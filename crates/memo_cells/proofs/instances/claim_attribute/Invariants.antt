@@ -11,8 +11,8 @@ abbrev pub invariant-loop-code : goal.invariant-loop-code
 invariant-loop-code g l = record {
   on : GoesOn (g.W.Words.held l.fn.work) (g.W.Words.held l.work);
   few : l.place ≤ length (codes_in l.args);
-  way : IsOnWay (g.W.Words.held l.fn.work).0 (g.W.Words.held l.work).1 l.fn.attr.0 l.fn.node.0 (take l.place (codes_in l.args)) l.slot.0;
-  claims : ClaimsKeysTo (program_at (g.W.Words.held l.fn.work)) (g.W.Words.held l.fn.work).1 (g.W.Words.held l.work).1 (instance_of (program_at (g.W.Words.held l.fn.work)) (attribute_at l.fn.attr l.fn.node l.args));
+  way : IsOnWay (g.W.Words.held l.fn.work).frame (g.W.Words.held l.work).view l.fn.attr.0 l.fn.node.0 (take l.place (codes_in l.args)) l.slot.0;
+  claims : ClaimsKeysTo (program_at (g.W.Words.held l.fn.work)) (g.W.Words.held l.fn.work).view (g.W.Words.held l.work).view (instance_of (program_at (g.W.Words.held l.fn.work)) (attribute_at l.fn.attr l.fn.node l.args));
 }
 
 abbrev pub decreases-loop-code : goal.decreases-loop-code

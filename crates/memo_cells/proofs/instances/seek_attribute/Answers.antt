@@ -8,7 +8,7 @@ use Rattle.memo_cells.proofs.Ways.{if_none, fits, nowhere_first, nowhere_on, pla
 use Rattle.memo_cells.proofs.instances.seek_attribute.Goals as goal
 
 pub returns-in_err-slot-clause-none : goal.returns-in_err-slot-clause-none
-returns-in_err-slot-clause-none g c = λ coded. if_none c.from_residual.result (nowhere_first (g.W.Words.held c.args.work.now).0 (g.W.Words.held c.seek.new.self).1 c.args.attr.0 c.args.node.0 (program_at (g.W.Words.held c.args.work.now)) (texts_pooled (g.W.Words.held c.args.work.now).0.system.value) (own_then (g.W.Words.held c.args.work.now) (g.W.Words.held c.seek.new.self) c.seek.ensures.on.on) c.args.args coded.1 c.in_err-slot.ensures.none)
+returns-in_err-slot-clause-none g c = λ coded. if_none c.from_residual.result (nowhere_first (g.W.Words.held c.args.work.now).frame (g.W.Words.held c.seek.new.self).view c.args.attr.0 c.args.node.0 (program_at (g.W.Words.held c.args.work.now)) (texts_pooled (g.W.Words.held c.args.work.now).frame.system.value) (own_then (g.W.Words.held c.args.work.now) (g.W.Words.held c.seek.new.self) c.seek.ensures.on.on) c.args.args coded.1 c.in_err-slot.ensures.none)
 
 pub loop-code-init : goal.loop-code-init
 loop-code-init g c = record {
@@ -18,7 +18,7 @@ loop-code-init g c = record {
 }
 
 pub seek-requires-in-Some : goal.seek-requires-in-Some
-seek-requires-in-Some g c = record { slot = fits (g.W.Words.held c.args.work.now).0 (g.W.Words.held c.loop-code.work).1 (g.W.Words.held c.loop-code.work).1 c.args.attr.0 c.args.node.0 c.args.args c.loop-code.place c.loop-code.slot.0 c.loop-code.invariant.way (own_then (g.W.Words.held c.args.work.now) (g.W.Words.held c.loop-code.work) c.loop-code.invariant.on.on) (at_least_itself (g.W.Words.held c.loop-code.work).1) }
+seek-requires-in-Some g c = record { slot = fits (g.W.Words.held c.args.work.now).frame (g.W.Words.held c.loop-code.work).view (g.W.Words.held c.loop-code.work).view c.args.attr.0 c.args.node.0 c.args.args c.loop-code.place c.loop-code.slot.0 c.loop-code.invariant.way (own_then (g.W.Words.held c.args.work.now) (g.W.Words.held c.loop-code.work) c.loop-code.invariant.on.on) (at_least_itself (g.W.Words.held c.loop-code.work).view) }
 
 pub returns-in_err-slot-2-clause-on : goal.returns-in_err-slot-2-clause-on
 returns-in_err-slot-2-clause-on g c = reads_then (g.W.Words.held c.args.work.now) (g.W.Words.held c.loop-code.work) (g.W.Words.held c.seek-in-Some.new.self) c.loop-code.invariant.on c.seek-in-Some.ensures.on
@@ -27,17 +27,17 @@ pub returns-in_err-slot-2-clause-none : goal.returns-in_err-slot-2-clause-none
 returns-in_err-slot-2-clause-none g c = λ coded.
     let on = reads_then (g.W.Words.held c.args.work.now) (g.W.Words.held c.loop-code.work) (g.W.Words.held c.seek-in-Some.new.self) c.loop-code.invariant.on c.seek-in-Some.ensures.on in
     if_none c.from_residual-in_err-slot-2.result
-    (nowhere_on (g.W.Words.held c.args.work.now).0 (g.W.Words.held c.loop-code.work).1 (g.W.Words.held c.seek-in-Some.new.self).1 c.args.attr.0 c.args.node.0 c.args.args c.loop-code.place c.loop-code.slot.0 c.loop-code.invariant.way (own_then (g.W.Words.held c.args.work.now) (g.W.Words.held c.loop-code.work) c.loop-code.invariant.on.on) c.seek-in-Some.ensures.on.on.kept c.in-Some.code (sym c.in-Some.ensures) (program_at (g.W.Words.held c.args.work.now)) (texts_pooled (g.W.Words.held c.args.work.now).0.system.value) (own_then (g.W.Words.held c.args.work.now) (g.W.Words.held c.seek-in-Some.new.self) on.on) coded.1 c.in_err-slot-2.ensures.none)
+    (nowhere_on (g.W.Words.held c.args.work.now).frame (g.W.Words.held c.loop-code.work).view (g.W.Words.held c.seek-in-Some.new.self).view c.args.attr.0 c.args.node.0 c.args.args c.loop-code.place c.loop-code.slot.0 c.loop-code.invariant.way (own_then (g.W.Words.held c.args.work.now) (g.W.Words.held c.loop-code.work) c.loop-code.invariant.on.on) c.seek-in-Some.ensures.on.on.kept c.in-Some.code (sym c.in-Some.ensures) (program_at (g.W.Words.held c.args.work.now)) (texts_pooled (g.W.Words.held c.args.work.now).frame.system.value) (own_then (g.W.Words.held c.args.work.now) (g.W.Words.held c.seek-in-Some.new.self) on.on) coded.1 c.in_err-slot-2.ensures.none)
 
 pub loop-code-smaller : goal.loop-code-smaller
-loop-code-smaller g c = let less = place_less (g.W.Words.held c.args.work.now).0 (g.W.Words.held c.loop-code.work).1 (g.W.Words.held c.loop-code.work).1 c.args.attr.0 c.args.node.0 c.args.args c.loop-code.place c.loop-code.slot.0 c.loop-code.invariant.way (own_then (g.W.Words.held c.args.work.now) (g.W.Words.held c.loop-code.work) c.loop-code.invariant.on.on) (at_least_itself (g.W.Words.held c.loop-code.work).1) c.in-Some.code 0 (search rules) (sym c.in-Some.ensures) in omega (arith, less)
+loop-code-smaller g c = let less = place_less (g.W.Words.held c.args.work.now).frame (g.W.Words.held c.loop-code.work).view (g.W.Words.held c.loop-code.work).view c.args.attr.0 c.args.node.0 c.args.args c.loop-code.place c.loop-code.slot.0 c.loop-code.invariant.way (own_then (g.W.Words.held c.args.work.now) (g.W.Words.held c.loop-code.work) c.loop-code.invariant.on.on) (at_least_itself (g.W.Words.held c.loop-code.work).view) c.in-Some.code 0 (search rules) (sym c.in-Some.ensures) in omega (arith, less)
 
 pub loop-code-preserved : goal.loop-code-preserved
 loop-code-preserved g c = record {
   on = reads_then (g.W.Words.held c.args.work.now) (g.W.Words.held c.loop-code.work) (g.W.Words.held c.seek-in-Some.new.self) c.loop-code.invariant.on c.seek-in-Some.ensures.on;
-  few = let less = place_less (g.W.Words.held c.args.work.now).0 (g.W.Words.held c.loop-code.work).1 (g.W.Words.held c.loop-code.work).1 c.args.attr.0 c.args.node.0 c.args.args c.loop-code.place c.loop-code.slot.0 c.loop-code.invariant.way (own_then (g.W.Words.held c.args.work.now) (g.W.Words.held c.loop-code.work) c.loop-code.invariant.on.on) (at_least_itself (g.W.Words.held c.loop-code.work).1) c.in-Some.code 0 (search rules) (sym c.in-Some.ensures) in omega (arith, less);
-  way = way_next (g.W.Words.held c.args.work.now).0 (g.W.Words.held c.loop-code.work).1 (g.W.Words.held c.seek-in-Some.new.self).1 c.args.attr.0 c.args.node.0 c.args.args c.loop-code.place c.loop-code.slot.0 c.loop-code.invariant.way (own_then (g.W.Words.held c.args.work.now) (g.W.Words.held c.loop-code.work) c.loop-code.invariant.on.on) c.seek-in-Some.ensures.on.on.kept c.in-Some.code c.in_ok-slot-2.slot.0 (search rules) (sym c.in-Some.ensures) (slot_back (g.W.Words.held c.args.work.now) (g.W.Words.held c.loop-code.work) (g.W.Words.held c.seek-in-Some.new.self) c.in_ok-slot-2.slot.0 (argument_word c.loop-code.slot.0 c.in-Some.code) c.loop-code.invariant.on.on c.in_ok-slot-2.ensures.slot);
+  few = let less = place_less (g.W.Words.held c.args.work.now).frame (g.W.Words.held c.loop-code.work).view (g.W.Words.held c.loop-code.work).view c.args.attr.0 c.args.node.0 c.args.args c.loop-code.place c.loop-code.slot.0 c.loop-code.invariant.way (own_then (g.W.Words.held c.args.work.now) (g.W.Words.held c.loop-code.work) c.loop-code.invariant.on.on) (at_least_itself (g.W.Words.held c.loop-code.work).view) c.in-Some.code 0 (search rules) (sym c.in-Some.ensures) in omega (arith, less);
+  way = way_next (g.W.Words.held c.args.work.now).frame (g.W.Words.held c.loop-code.work).view (g.W.Words.held c.seek-in-Some.new.self).view c.args.attr.0 c.args.node.0 c.args.args c.loop-code.place c.loop-code.slot.0 c.loop-code.invariant.way (own_then (g.W.Words.held c.args.work.now) (g.W.Words.held c.loop-code.work) c.loop-code.invariant.on.on) c.seek-in-Some.ensures.on.on.kept c.in-Some.code c.in_ok-slot-2.slot.0 (search rules) (sym c.in-Some.ensures) (slot_back (g.W.Words.held c.args.work.now) (g.W.Words.held c.loop-code.work) (g.W.Words.held c.seek-in-Some.new.self) c.in_ok-slot-2.slot.0 (argument_word c.loop-code.slot.0 c.in-Some.code) c.loop-code.invariant.on.on c.in_ok-slot-2.ensures.slot);
 }
 
 pub returns-clause-plain : goal.returns-clause-plain
-returns-clause-plain g c = way_plain (g.W.Words.held c.args.work.now).0 (g.W.Words.held c.loop-code.work).1 c.args.attr.0 c.args.node.0 _ c.loop-code.slot.0 (own_then (g.W.Words.held c.args.work.now) (g.W.Words.held c.loop-code.work) c.loop-code.invariant.on.on) c.loop-code.invariant.way
+returns-clause-plain g c = way_plain (g.W.Words.held c.args.work.now).frame (g.W.Words.held c.loop-code.work).view c.args.attr.0 c.args.node.0 _ c.loop-code.slot.0 (own_then (g.W.Words.held c.args.work.now) (g.W.Words.held c.loop-code.work) c.loop-code.invariant.on.on) c.loop-code.invariant.way

@@ -9,7 +9,7 @@ abbrev pub invariant-loop-code : goal.invariant-loop-code
 invariant-loop-code g l = record {
   on : ReadsOn (g.W.Words.held l.fn.work) (g.W.Words.held l.work);
   few : l.place ≤ length (codes_in l.args);
-  way : IsOnWay (g.W.Words.held l.fn.work).0 (g.W.Words.held l.work).1 l.fn.attr.0 l.fn.node.0 (take l.place (codes_in l.args)) l.slot.0;
+  way : IsOnWay (g.W.Words.held l.fn.work).frame (g.W.Words.held l.work).view l.fn.attr.0 l.fn.node.0 (take l.place (codes_in l.args)) l.slot.0;
 }
 
 abbrev pub decreases-loop-code : goal.decreases-loop-code

@@ -9,4 +9,4 @@ pub returns-in-Attr-clause-none : goal.returns-in-Attr-clause-none
 returns-in-Attr-clause-none g c =
     let d = g.W.Words.held c.args.work.now in
     let e = g.W.Words.held c.seek_attribute.new.work in
-    subst (λ (i : CodedInstance). IsCoded (program_at d) i → IfNone c.seek_attribute.result ((s : ℕ) → ¬ IsCellOf (program_at d) d.0 e.1 (instance_of (program_at d) i) s)) (sym c.in-Attr.is) c.seek_attribute.ensures.none
+    subst (λ (i : CodedInstance). IsCoded (program_at d) i → IfNone c.seek_attribute.result ((s : ℕ) → ¬ IsCellOf (program_at d) d.frame e.view (instance_of (program_at d) i) s)) (sym c.in-Attr.is) c.seek_attribute.ensures.none

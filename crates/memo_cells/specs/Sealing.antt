@@ -1,0 +1,44 @@
+-- The words while the slots of a set are sealed one after the other.
+use Rattle.std.specs.Prelude.{◌≡◌, ℕ, ◌≤◌, ◌⊎◌, List, [], drop, length, map}
+use Rattle.equation_law.specs.Systems.{program_of}
+use Rattle.memo_cells.specs.declared.keys.Slot.{Slot}
+use Rattle.memo_cells.specs.declared.view.Frame.{Frame}
+use Rattle.memo_cells.specs.Standing.{AreWords, IsSeatOf, MaySeal}
+use Rattle.memo_cells.specs.Steps.{IsSealedAt}
+use Rattle.memo_cells.specs.Views.{Has, IsAtLeast, knows_all}
+
+-- the places of these slots
+abbrev pub places : List Slot → List ℕ
+places slots = map (λ s. s.0) slots
+
+-- those that are left to seal when so many are sealed
+abbrev pub places_left : ℕ → List Slot → List ℕ
+places_left n slots = places (drop n slots)
+
+-- the words of the cells of f while these slots are sealed, of which some are left: all of them together may be sealed, and what stands in each is
+-- settled, or the slot is left
+pub record AreSealing (f : Frame) (slots left ks vs : List ℕ) : Type 0 where
+  pub few : f.cells ≤ 4194304
+  pub keys : length ks ≡ f.cells
+  pub long : length vs ≡ f.cells
+  pub words : AreWords f left ks vs
+  pub may : MaySeal (program_of f.system.value) f (knows_all f left ks vs) slots
+  pub each : (s k : ℕ) → Has slots s → Has (knows_all f left ks vs).keys (s, k) → Has left s ⊎ IsSealedAt (knows_all f left ks vs) s k
+
+-- more of them are sealed: what has seen these words is a pass that has only the others left, and it knows no less
+pub record SealsOn (f : Frame) (slots before left ks vs ws : List ℕ) : Type 0 where
+  pub sealing : AreSealing f slots left ks ws
+  pub own : IsSeatOf f (knows_all f left ks ws) left
+  pub kept : IsAtLeast (knows_all f before ks vs) (knows_all f left ks ws)
+
+-- so many of these slots are sealed
+abbrev pub AreSealedTo : Frame → List Slot → ℕ → List ℕ → List ℕ → Type 0
+AreSealedTo f set n ks vs = AreSealing f (places set) (places_left n set) ks vs
+
+-- of which fewer were
+abbrev pub SealsTo : Frame → List Slot → ℕ → ℕ → List ℕ → List ℕ → List ℕ → Type 0
+SealsTo f set n m ks vs ws = SealsOn f (places set) (places_left n set) (places_left m set) ks vs ws
+
+-- all of them are, of which none was
+abbrev pub SealsAll : Frame → List Slot → List ℕ → List ℕ → List ℕ → Type 0
+SealsAll f set ks vs ws = SealsOn f (places set) (places set) [] ks vs ws
