@@ -39,7 +39,7 @@ none_some : (o : Option Slot) → o ≡ None → IsSome o → ⊥
 none_some None e h = cc
 none_some (Some x) e h = cc
 
-module _ (s : System) (d : Held) (l : Local) (r : IsReady s d l) (number : ℕ) (x : CodedValue) (came : ComesAt (program_at d) d.1 l.members.entries number (turns.Done x)) where
+module _ (s : System) (d : Held) (l : Local) (r : IsReady s d l) (number : ℕ) (x : CodedValue) (came : ComesAt d l number (turns.Done x)) where
   abbrev p : Program
   p = program_at d
 
@@ -53,7 +53,7 @@ module _ (s : System) (d : Held) (l : Local) (r : IsReady s d l) (number : ℕ) 
   abbrev i : Instance
   i = instance_of p came.entry.0
 
-  member : IsMember p d.0 d.1 es l.start number came.entry
+  member : IsMember p d.frame d.view es l.start number came.entry
   member = (local_is_here s d l r).set.members number came.entry came.at
 
   -- so there is one, with a cell
@@ -69,11 +69,11 @@ module _ (s : System) (d : Held) (l : Local) (r : IsReady s d l) (number : ℕ) 
 
     may_entry : MayRise d i place x came.entry.1.value
     may_entry = record {
-      cell = placed_at p d.0 d.1 i (value_of (text_of p) came.entry.1.value) came.entry.1.slot slot (ap (λ (u : CodedInstance × Member). u.1.slot) (one_entry e at) ∙ is) member.placed;
+      cell = placed_at p d.frame d.view i (value_of (text_of p) came.entry.1.value) came.entry.1.slot slot (ap (λ (u : CodedInstance × Member). u.1.slot) (one_entry e at) ∙ is) member.placed;
       instance = member.instance;
       is_circular = member.is_circular;
-      comes = comes p (program_is s d l r) d.1 (near_is s d l r) d.0 l.start es (local_is_here s d l r).set i member.instance (value_of (text_of p) x) came.comes.0.0 came.comes.0.1;
-      typed = ended_typed p (program_is s d l r) d.1 (near_is s d l r) d.0 l.start es (local_is_here s d l r).set i member.instance (value_of (text_of p) x) came.comes.0.0 came.comes.0.1;
+      comes = comes p (program_is s d l r) d.view (near_is s d l r) d.frame l.start es (local_is_here s d l r).set i member.instance (value_of (text_of p) x) came.comes.0.0 came.comes.0.1;
+      typed = ended_typed p (program_is s d l r) d.view (near_is s d l r) d.frame l.start es (local_is_here s d l r).set i member.instance (value_of (text_of p) x) came.comes.0.0 came.comes.0.1;
       elements = came.comes.1;
       of = member.elements;
       fits = member.fits;
@@ -84,48 +84,48 @@ module _ (s : System) (d : Held) (l : Local) (r : IsReady s d l) (number : ℕ) 
     may_rise = subst (λ (u : CodedInstance × Member). MayRise d i place x u.1.value) (one_entry e at) may_entry
 
     chain : Chain p (instance_of p l.start) i
-    chain = member_chain p d.0 d.1 l (local_is_here s d l r) number came.entry came.at
+    chain = member_chain p d.frame d.view l (local_is_here s d l r) number came.entry came.at
 
     module _ (f : Held) (q : Result (Option CodedValue) CircFault) (raises : RaisesValue d f place x e.1.value q) where
-      claims : ClaimsKeys p (instance_of p l.start) d.1 f.1
-      claims = claims_raised p (instance_of p l.start) i chain d.1 (near_is s d l r) member.is_circular (value_of (text_of p) x) may_rise.comes (set_codes x) (value_elements d i place x e.1.value may_rise) d.1 f.1 (raises.claims i may_rise)
+      claims : ClaimsKeys p (instance_of p l.start) d.view f.view
+      claims = claims_raised p (instance_of p l.start) i chain d.view (near_is s d l r) member.is_circular (value_of (text_of p) x) may_rise.comes (set_codes x) (value_elements d i place x e.1.value may_rise) d.view f.view (raises.claims i may_rise)
 
-      goes : (m : Local) → IsSame l m → GoesOnWith p d f l m
+      goes : (m : Local) → IsSame l m → GoesOnWith d f l m
       goes m same = goes_same s d l r f raises.on claims m same
 
-      fault_answer : (fault : CircFault) → LacksSome p d.0 f.1 i (set_codes x) fault → AnswersFault p (instance_of p l.start) d.0 f.1 fault
-      fault_answer CellsFull lacks = fills_raised p (instance_of p l.start) i chain d.1 (near_is s d l r) member.is_circular (value_of (text_of p) x) may_rise.comes (set_codes x) (value_elements d i place x e.1.value may_rise) d.0 f.1 lacks
+      fault_answer : (fault : CircFault) → LacksSome p d.frame f.view i (set_codes x) fault → AnswersFault p (instance_of p l.start) d.frame f.view fault
+      fault_answer CellsFull lacks = fills_raised p (instance_of p l.start) i chain d.view (near_is s d l r) member.is_circular (value_of (text_of p) x) may_rise.comes (set_codes x) (value_elements d i place x e.1.value may_rise) d.frame f.view lacks
       fault_answer Memory lacks = tt
 
       -- a fault
       pub absorb_refused : (fault : CircFault) → q ≡ Err fault → (y : Result (Option Visited) CircFault) → y ≡ Err fault → Steps d f l l number y
       absorb_refused fault is_fault y h =
           subst (λ (z : Result (Option Visited) CircFault). Steps d f l l number z) (sym h)
-          (record { goes = goes l (record { start = refl; entries = refl; need = refl; saved = refl }); answer = fault_answer fault (subst (λ (z : Result (Option CodedValue) CircFault). AnswersRaise p d.0 f.1 i x e.1.value z) is_fault (raises.answer i may_rise)) })
+          (record { goes = goes l (record { start = refl; entries = refl; need = refl; saved = refl }); answer = fault_answer fault (subst (λ (z : Result (Option CodedValue) CircFault). AnswersRaise p d.frame f.view i x e.1.value z) is_fault (raises.answer i may_rise)) })
 
       -- the value isn't more
-      current : IsAtMost (value_of (text_of p) x) (value_of (text_of p) e.1.value) → (c : CodedInstance × Member) → slice_get es number ≡ Some c → IsCurrent p f.1 es (instance_of p c.0)
+      current : IsAtMost (value_of (text_of p) x) (value_of (text_of p) e.1.value) → (c : CodedInstance × Member) → slice_get es number ≡ Some c → IsCurrent p f.view es (instance_of p c.0)
       current most c there =
           let here : local_value p es i ≡ value_of (text_of p) came.entry.1.value = value_there p es (local_is_here s d l r).set.different number came.entry came.at in
           let same : local_value p es i ≡ value_of (text_of p) e.1.value = here ∙ ap (λ (u : CodedInstance × Member). value_of (text_of p) u.1.value) (one_entry e at) in
-          subst (λ (u : CodedInstance × Member). IsCurrent p f.1 es (instance_of p u.0)) (one_entry c there)
-          (record { value = value_of (text_of p) x; demands = came.comes.0.0; ends = ends_more (read_later p d.1 f.1 raises.on.kept es) came.comes.0.1; below = subst (λ (v : Value). IsAtMost (value_of (text_of p) x) v) (sym same) most })
+          subst (λ (u : CodedInstance × Member). IsCurrent p f.view es (instance_of p u.0)) (one_entry c there)
+          (record { value = value_of (text_of p) x; demands = came.comes.0.0; ends = ends_more (read_later p d.view f.view raises.on.kept es) came.comes.0.1; below = subst (λ (v : Value). IsAtMost (value_of (text_of p) x) v) (sym same) most })
 
       pub absorb_same : q ≡ Ok None → Steps d f l l number (Ok (Some Same))
       absorb_same none = record {
         goes = goes l (record { start = refl; entries = refl; need = refl; saved = refl });
-        answer = record { members = refl; due = refl; confirmed = λ c there some. current (subst (λ (z : Result (Option CodedValue) CircFault). AnswersRaise p d.0 f.1 i x e.1.value z) none (raises.answer i may_rise)) c there };
+        answer = record { members = refl; due = refl; confirmed = λ c there some. current (subst (λ (z : Result (Option CodedValue) CircFault). AnswersRaise p d.frame f.view i x e.1.value z) none (raises.answer i may_rise)) c there };
       }
 
       -- it rose
       module _ (both : CodedValue) (some : q ≡ Ok (Some both)) (m : Local) (start : m.start ≡ l.start) (need : m.need ≡ l.need) (saved : m.saved ≡ None) (entries : m.members.entries ≡ with_value es number both) where
-        risen : IsRisen p f.1 i x e.1.value both
-        risen = subst (λ (z : Result (Option CodedValue) CircFault). AnswersRaise p d.0 f.1 i x e.1.value z) some (raises.answer i may_rise)
+        risen : IsRisen p f.view i x e.1.value both
+        risen = subst (λ (z : Result (Option CodedValue) CircFault). AnswersRaise p d.frame f.view i x e.1.value z) some (raises.answer i may_rise)
 
-        risen_goes : GoesOnWith p d f l m
+        risen_goes : GoesOnWith d f l m
         risen_goes = record {
           on = raises.on;
-          local = local_risen p d.0 f.1 l (local_later p d.1 f.1 raises.on.kept d.0 l (local_is_here s d l r)) number both came.entry came.at came.placed risen.elements risen.fits risen.shown m start need saved entries;
+          local = local_risen p d.frame f.view l (local_later p d.view f.view raises.on.kept d.frame l (local_is_here s d l r)) number both came.entry came.at came.placed risen.elements risen.fits risen.shown m start need saved entries;
           start = start;
           claims = claims;
           some = λ h. subst (λ (k : ℕ). 0 < k) (sym (ap length entries ∙ length_changed es number both)) h;

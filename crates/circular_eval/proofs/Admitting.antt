@@ -35,7 +35,7 @@ use Rattle.circular_eval.specs.declared.members.Member.{Member}
 use Rattle.circular_eval.specs.Advancing.{AnswersFault}
 use Rattle.circular_eval.specs.Left.{left, member_bound}
 use Rattle.circular_eval.specs.Local.{IsAbsent, IsLedBy, IsLocal, StillMembers}
-use Rattle.circular_eval.specs.Visiting.{Admits, BeginsWith, GoesOnWith, IsNew, IsReady}
+use Rattle.circular_eval.specs.Visiting.{Admits, BeginsAt, BeginsWith, GoesOnWith, IsNew, IsReady}
 use Rattle.circular_eval.proofs.Entries.{length_more}
 use Rattle.circular_eval.proofs.Going.{member_chain, program_on}
 use Rattle.circular_eval.proofs.Growing.{IsFit, left_more, local_more, local_same}
@@ -71,17 +71,17 @@ module _ (s : System) (d : Held) (l : Local) (r : IsReady s d l) where
   pub program_is : IsProgram p
   program_is = subst (λ (q : System). IsProgram (program_of q)) (sym r.same) r.program
 
-  pub local_is_here : IsLocal p d.0 d.1 l
-  local_is_here = subst (λ (q : System). IsLocal (program_of q) d.0 d.1 l) (sym r.same) r.local
+  pub local_is_here : IsLocal p d.frame d.view l
+  local_is_here = subst (λ (q : System). IsLocal (program_of q) d.frame d.view l) (sym r.same) r.local
 
-  pub near_is : AreApproximations p d.1
+  pub near_is : AreApproximations p d.view
   near_is = r.own.approximations
 
   -- the set stays as it is
-  pub goes_same : (e : Held) → GoesOn d e → ClaimsKeys p (instance_of p l.start) d.1 e.1 → (m : Local) → IsSame l m → GoesOnWith p d e l m
+  pub goes_same : (e : Held) → GoesOn d e → ClaimsKeys p (instance_of p l.start) d.view e.view → (m : Local) → IsSame l m → GoesOnWith d e l m
   goes_same e on claims m same = record {
     on = on;
-    local = local_same p d.0 e.1 l m same.start same.entries same.need same.saved (local_later p d.1 e.1 on.kept d.0 l local_is_here);
+    local = local_same p d.frame e.view l m same.start same.entries same.need same.saved (local_later p d.view e.view on.kept d.frame l local_is_here);
     start = same.start;
     claims = claims;
     some = λ h. subst (λ (es : List (CodedInstance × Member)). 0 < length es) (sym same.entries) h;
@@ -90,38 +90,38 @@ module _ (s : System) (d : Held) (l : Local) (r : IsReady s d l) where
   module _ (i : CodedInstance) (by : Option ℕ) (new : IsNew p l i by) where
     led_chain : (b : Option ℕ) → IsLedBy p l.members.entries l.start (length l.members.entries) i b → Chain p (instance_of p l.start) (instance_of p i)
     led_chain None h = subst (λ (x : CodedInstance). Chain p (instance_of p l.start) (instance_of p x)) (sym h) none
-    led_chain (Some b) h = chain_more p (instance_of p l.start) (instance_of p h.1.0.0) (instance_of p i) (member_chain p d.0 d.1 l local_is_here b h.1.0 h.1.1) h.1.2
+    led_chain (Some b) h = chain_more p (instance_of p l.start) (instance_of p h.1.0.0) (instance_of p i) (member_chain p d.frame d.view l local_is_here b h.1.0 h.1.1) h.1.2
 
     new_chain : Chain p (instance_of p l.start) (instance_of p i)
     new_chain = led_chain by new.led
 
     -- claims of its cell
-    pub keys_claimed : (e f : Held) → GoesOn d e → e.1.claims ≡ d.1.claims → ClaimsKeysTo (program_at e) e.1 f.1 (instance_of (program_at e) i) → ClaimsKeys p (instance_of p l.start) d.1 f.1
+    pub keys_claimed : (e f : Held) → GoesOn d e → e.view.claims ≡ d.view.claims → ClaimsKeysTo (program_at e) e.view f.view (instance_of (program_at e) i) → ClaimsKeys p (instance_of p l.start) d.view f.view
     keys_claimed e f on same claims q =
         ⊎_elim (λ a. inl (a ∙ ap (λ (cs : List ℕ). times q cs) same)) inr
-        (claims_way p (instance_of p l.start) (instance_of p i) new_chain e.1 f.1 (subst (λ (u : Program). ClaimsKeysTo u e.1 f.1 (instance_of u i)) (program_on d e on) claims) q)
+        (claims_way p (instance_of p l.start) (instance_of p i) new_chain e.view f.view (subst (λ (u : Program). ClaimsKeysTo u e.view f.view (instance_of u i)) (program_on d e on) claims) q)
 
-    pub cell_lacks : (e f : Held) → GoesOn d e → LacksCell (program_at e) e.0 f.1 (instance_of (program_at e) i) → FillsCells p (instance_of p l.start) d.0 f.1
-    cell_lacks e f on full = fills_way p (instance_of p l.start) (instance_of p i) new_chain d.0 f.1 (subst (λ (u : Program × Frame). LacksCell u.0 u.1 f.1 (instance_of u.0 i)) (λ j. (program_on d e on j, on.cells j)) full)
+    pub cell_lacks : (e f : Held) → GoesOn d e → LacksCell (program_at e) e.frame f.view (instance_of (program_at e) i) → FillsCells p (instance_of p l.start) d.frame f.view
+    cell_lacks e f on full = fills_way p (instance_of p l.start) (instance_of p i) new_chain d.frame f.view (subst (λ (u : Program × Frame). LacksCell u.0 u.1 f.view (instance_of u.0 i)) (λ j. (program_on d e on j, on.cells j)) full)
 
     -- it is no member yet
     pub is_absent : IsAbsent l.members.entries i
     is_absent e there is = new.absent (e, there, ap (λ (x : CodedInstance). instance_of p x) is)
 
     -- nothing was added
-    pub refused : (e : Held) → GoesOn d e → ClaimsKeys p (instance_of p l.start) d.1 e.1 → (m : Local) → IsSame l m → (fault : CircFault) → AnswersFault p (instance_of p l.start) d.0 e.1 fault → (x : Result Unit CircFault) → x ≡ Err fault → Admits d e l m x
+    pub refused : (e : Held) → GoesOn d e → ClaimsKeys p (instance_of p l.start) d.view e.view → (m : Local) → IsSame l m → (fault : CircFault) → AnswersFault p (instance_of p l.start) d.frame e.view fault → (x : Result Unit CircFault) → x ≡ Err fault → Admits d e l m x
     refused e on claims m same fault answer x is = subst (λ (y : Result Unit CircFault). Admits d e l m y) (sym is) (record { goes = goes_same e on claims m same; grown = tt; still = tt; some = tt; fault = answer })
 
     -- it was added
-    pub admitted : (e : Held) → GoesOn d e → ClaimsKeys p (instance_of p l.start) d.1 e.1 → (m : Local) (n : Member) → n.by ≡ by → IsFit p d.0 e.1 (instance_of p i) n → length l.members.entries < member_bound → m.start ≡ l.start → m.need ≡ l.need → m.saved ≡ l.saved → m.members.entries ≡ l.members.entries ++ (i, n) ∷ [] → (u : Unit) → Admits d e l m (Ok u)
+    pub admitted : (e : Held) → GoesOn d e → ClaimsKeys p (instance_of p l.start) d.view e.view → (m : Local) (n : Member) → n.by ≡ by → IsFit p d.frame e.view (instance_of p i) n → length l.members.entries < member_bound → m.start ≡ l.start → m.need ≡ l.need → m.saved ≡ l.saved → m.members.entries ≡ l.members.entries ++ (i, n) ∷ [] → (u : Unit) → Admits d e l m (Ok u)
     admitted e on claims m n of fit few start need saved entries u =
-        let later = local_later p d.1 e.1 on.kept d.0 l local_is_here in
+        let later = local_later p d.view e.view on.kept d.frame l local_is_here in
         let longer : length (l.members.entries ++ (i, n) ∷ []) ≡ suc (length l.members.entries) = length_more l.members.entries (i, n) in
         let some : 0 < length m.members.entries = subst (λ (es : List (CodedInstance × Member)). 0 < length es) (sym entries) (omega (arith, longer)) in
         record {
           goes = record {
             on = on;
-            local = local_more p d.0 e.1 l later i n (subst (λ (b : Option ℕ). IsNew p l i b) (sym of) new) fit m start need saved entries;
+            local = local_more p d.frame e.view l later i n (subst (λ (b : Option ℕ). IsNew p l i b) (sym of) new) fit m start need saved entries;
             start = start;
             claims = claims;
             some = λ h. some;
@@ -133,7 +133,7 @@ module _ (s : System) (d : Held) (l : Local) (r : IsReady s d l) where
         }
 
     -- the value that it was sealed with
-    sealed_fit : (e : Held) → GoesOn d e → (x : CodedValue) → ((w : Value) × IsKnown p e.1 (instance_of p i) w × (value_of (text_of p) x ≡ as_kind (kind_in p (instance_of p i)) w)) → AreElements p x → AreApproximations p e.1 → (n : Member) → n.slot ≡ None → n.value ≡ x → IsFit p d.0 e.1 (instance_of p i) n
+    sealed_fit : (e : Held) → GoesOn d e → (x : CodedValue) → ((w : Value) × IsKnown p e.view (instance_of p i) w × (value_of (text_of p) x ≡ as_kind (kind_in p (instance_of p i)) w)) → AreElements p x → AreApproximations p e.view → (n : Member) → n.slot ≡ None → n.value ≡ x → IsFit p d.frame e.view (instance_of p i) n
     sealed_fit e on x known elements near n slot is =
         let j = instance_of p i in
         let k = kind_in p j in
@@ -141,40 +141,41 @@ module _ (s : System) (d : Held) (l : Local) (r : IsReady s d l) where
         let fits : FitsKind k known.0 = typed_fits p k known.0 (ordered_kind p j new.is_circular) typed in
         let same : value_of (text_of p) x ≡ known.0 = known.2 ∙ fits_read k known.0 fits in
         let seen = near.settled j known.1.0 in
-        let shown : ShowsAtLeast p e.1 j k known.0 = subst (λ (y : Value). ShowsAtLeast p e.1 j k y) (one p j seen.0 known.0 seen.1 known.1.1) seen.2 in
-        subst (λ (y : Member). IsFit p d.0 e.1 j y) (λ q. record { slot = sym slot q; value = sym is q; by = n.by })
+        let shown : ShowsAtLeast p e.view j k known.0 = subst (λ (y : Value). ShowsAtLeast p e.view j k y) (one p j seen.0 known.0 seen.1 known.1.1) seen.2 in
+        subst (λ (y : Member). IsFit p d.frame e.view j y) (λ q. record { slot = sym slot q; value = sym is q; by = n.by })
         (record {
           elements = elements;
           fits = subst (λ (y : Value). FitsKind k y) (sym same) fits;
-          shown = subst (λ (y : Value). ShowsAtLeast p e.1 j k y) (sym same) shown;
+          shown = subst (λ (y : Value). ShowsAtLeast p e.view j k y) (sym same) shown;
           placed = (known.1.0, subst (λ (y : Value). HasValue p j y) (sym same) known.1.1);
         })
 
-    pub settled_fit : {W : Type 0} (held : W → Held) (y : W) (t : Told W) → TellsPass held y t → GoesOn d (held y) → (x : CodedValue) → Settles p t (instance_of p i) (Ok (Some x)) → (n : Member) → n.slot ≡ None → n.value ≡ x → IsFit p d.0 (held y).1 (instance_of p i) n
+    pub settled_fit : {W : Type 0} (held : W → Held) (y : W) (t : Told W) → TellsPass held y t → GoesOn d (held y) → (x : CodedValue) → Settles p t (instance_of p i) (Ok (Some x)) → (n : Member) → n.slot ≡ None → n.value ≡ x → IsFit p d.frame (held y).view (instance_of p i) n
     settled_fit held y t told on x settles n slot is =
         sealed_fit (held y) on x
-        (settles.0.0, subst (λ (u : Program). IsKnown u (held y).1 (instance_of p i) settles.0.0) (program_on d (held y) on) (told.known (instance_of p i) settles.0.0 settles.0.1), settles.0.2)
+        (settles.0.0, subst (λ (u : Program). IsKnown u (held y).view (instance_of p i) settles.0.0) (program_on d (held y) on) (told.known (instance_of p i) settles.0.0 settles.0.1), settles.0.2)
         settles.1
-        (subst (λ (u : Program). AreApproximations u (held y).1) (program_on d (held y) on) on.own.approximations)
+        (subst (λ (u : Program). AreApproximations u (held y).view) (program_on d (held y) on) on.own.approximations)
         n slot is
 
     -- its cell, as it is said of what is held before and after
-    pub cell_here : (e f : Held) → GoesOn d e → (k : ℕ) → IsCellOf (program_at e) e.0 f.1 (instance_of (program_at e) i) k → IsCellOf p d.0 f.1 (instance_of p i) k
-    cell_here e f on k cell = subst (λ (u : Program × Frame). IsCellOf u.0 u.1 f.1 (instance_of u.0 i) k) (λ j. (program_on d e on j, on.cells j)) cell
+    pub cell_here : (e f : Held) → GoesOn d e → (k : ℕ) → IsCellOf (program_at e) e.frame f.view (instance_of (program_at e) i) k → IsCellOf p d.frame f.view (instance_of p i) k
+    cell_here e f on k cell = subst (λ (u : Program × Frame). IsCellOf u.0 u.1 f.view (instance_of u.0 i) k) (λ j. (program_on d e on j, on.cells j)) cell
 
-    pub cell_out : (f : Held) → GoesOn d f → (k : ℕ) → IsCellOf p d.0 f.1 (instance_of p i) k → IsCellOf (program_of s) f.0 f.1 (instance_of (program_of s) i) k
-    cell_out f on k cell = subst (λ (u : Program × Frame). IsCellOf u.0 u.1 f.1 (instance_of u.0 i) k) (λ j. (ap program_of r.same j, sym on.cells j)) cell
+    pub cell_out : (f : Held) → GoesOn d f → (k : ℕ) → IsCellOf p d.frame f.view (instance_of p i) k → IsCellOf (program_at f) f.frame f.view (instance_of (program_at f) i) k
+    cell_out f on k cell = subst (λ (g : Frame). IsCellOf (program_of g.system.value) g f.view (instance_of (program_of g.system.value) i) k) (sym on.cells) cell
 
-    pub begins_here : (e f : Held) → GoesOn d e → (slot : Slot) (kind : Kind) (x : CodedValue) → ((j : Instance) → IsCellOf (program_of s) e.0 e.1 j slot.0 → kind_in (program_of s) j ≡ kind → is_ordered kind ≡ true → BeginsWith (program_of s) f.1 j x) → kind ≡ kind_in (program_of s) (instance_of (program_of s) i) → IsCellOf p d.0 e.1 (instance_of p i) slot.0 → BeginsWith p f.1 (instance_of p i) x
+    pub begins_here : (e f : Held) → GoesOn d e → (slot : Slot) (kind : Kind) (x : CodedValue) → BeginsAt e f slot.0 kind x → kind ≡ kind_in (program_of s) (instance_of (program_of s) i) → IsCellOf p d.frame e.view (instance_of p i) slot.0 → BeginsWith p f.view (instance_of p i) x
     begins_here e f on slot kind x shown is cell =
-        let ordered : is_ordered (kind_in (program_of s) (instance_of (program_of s) i)) ≡ true = subst (λ (u : System). is_ordered (kind_in (program_of u) (instance_of (program_of u) i)) ≡ true) r.same (ordered_kind p (instance_of p i) new.is_circular) in
-        subst (λ (u : System). BeginsWith (program_of u) f.1 (instance_of (program_of u) i) x) (sym r.same)
-        (shown (instance_of (program_of s) i) (cell_out e on slot.0 cell) (sym is) (ap is_ordered is ∙ ordered))
+        let here : kind ≡ kind_in p (instance_of p i) = subst (λ (u : System). kind ≡ kind_in (program_of u) (instance_of (program_of u) i)) (sym r.same) is in
+        let at : kind_in (program_at e) (instance_of (program_at e) i) ≡ kind = subst (λ (u : Program). kind_in u (instance_of u i) ≡ kind) (sym (program_on d e on)) (sym here) in
+        subst (λ (u : Program). BeginsWith u f.view (instance_of u i) x) (program_on d e on)
+        (shown (instance_of (program_at e) i) (cell_out e on slot.0 cell) at (ap is_ordered here ∙ ordered_kind p (instance_of p i) new.is_circular))
 
     -- a value that it may begin with
-    pub begins_fit : (e : Held) (slot : Slot) → IsCellOf p d.0 e.1 (instance_of p i) slot.0 → (x : CodedValue) → BeginsWith p e.1 (instance_of p i) x → (n : Member) → n.slot ≡ Some slot → n.value ≡ x → IsFit p d.0 e.1 (instance_of p i) n
+    pub begins_fit : (e : Held) (slot : Slot) → IsCellOf p d.frame e.view (instance_of p i) slot.0 → (x : CodedValue) → BeginsWith p e.view (instance_of p i) x → (n : Member) → n.slot ≡ Some slot → n.value ≡ x → IsFit p d.frame e.view (instance_of p i) n
     begins_fit e slot cell x shown n at is =
-        subst (λ (y : Member). IsFit p d.0 e.1 (instance_of p i) y) (λ q. record { slot = sym at q; value = sym is q; by = n.by })
+        subst (λ (y : Member). IsFit p d.frame e.view (instance_of p i) y) (λ q. record { slot = sym at q; value = sym is q; by = n.by })
         (record { elements = shown.elements; fits = shown.fits; shown = shown.shown; placed = cell })
 
 -- ---- the value that a member begins with

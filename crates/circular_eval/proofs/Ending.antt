@@ -31,13 +31,13 @@ use Rattle.circular_eval.proofs.Valued.{member_has}
 use Rattle.circular_eval.proofs.Passing.{goes_looked, goes_read}
 
 -- what is said of what is held in between
-close_back : (d e f : Held) (l m n : Local) → GoesOnWith (program_at d) d e l m → (y : Result (Option CodedInstance) CircFault) → Closes e f m n y → AnswersClose (program_at d) d.0 f.1 m n y
-close_back d e f l m n h y v = subst (λ (u : Program × Frame). AnswersClose u.0 u.1 f.1 m n y) (λ j. (program_on d e h.on j, h.on.cells j)) v.answer
+close_back : (d e f : Held) (l m n : Local) → GoesOnWith d e l m → (y : Result (Option CodedInstance) CircFault) → Closes e f m n y → AnswersClose (program_at d) d.frame f.view m n y
+close_back d e f l m n h y v = subst (λ (u : Program × Frame). AnswersClose u.0 u.1 f.view m n y) (λ j. (program_on d e h.on j, h.on.cells j)) v.answer
 
 -- passes, one after the other
-module _ (d e f : Held) (l m n : Local) (h : GoesOnWith (program_at d) d e l m) where
-  pass_back : (y : Result Visited CircFault) → Passes e f m n y → AnswersPass (program_at d) d.0 f.1 m n y
-  pass_back y v = subst (λ (u : Program × Frame). AnswersPass u.0 u.1 f.1 m n y) (λ j. (program_on d e h.on j, h.on.cells j)) v.answer
+module _ (d e f : Held) (l m n : Local) (h : GoesOnWith d e l m) where
+  pass_back : (y : Result Visited CircFault) → Passes e f m n y → AnswersPass (program_at d) d.frame f.view m n y
+  pass_back y v = subst (λ (u : Program × Frame). AnswersPass u.0 u.1 f.view m n y) (λ j. (program_on d e h.on j, h.on.cells j)) v.answer
 
   pub close_need : (x : CodedInstance) → Passes e f m n (Ok (Need x)) → Closes d f l n (Ok (Some x))
   close_need x v = record { goes = with_then d e f l m n h v.goes; answer = pass_back (Ok (Need x)) v }
@@ -48,13 +48,13 @@ module _ (d e f : Held) (l m n : Local) (h : GoesOnWith (program_at d) d e l m) 
   pub close_fault : (fault : CircFault) → Passes e f m n (Err fault) → (y : Result (Option CodedInstance) CircFault) → y ≡ Err fault → Closes d f l n y
   close_fault fault v y is =
       subst (λ (z : Result (Option CodedInstance) CircFault). Closes d f l n z) (sym is)
-      (record { goes = with_then d e f l m n h v.goes; answer = subst (λ (u : CodedInstance). AnswersFault (program_at d) (instance_of (program_at d) u) d.0 f.1 fault) h.start (pass_back (Err fault) v) })
+      (record { goes = with_then d e f l m n h v.goes; answer = subst (λ (u : CodedInstance). AnswersFault (program_at d) (instance_of (program_at d) u) d.frame f.view fault) h.start (pass_back (Err fault) v) })
 
   -- and behind going on with the member that stopped last
-  close_from : (y : Result (Option CodedInstance) CircFault) → AnswersClose (program_at d) d.0 f.1 m n y → AnswersClose (program_at d) d.0 f.1 l n y
+  close_from : (y : Result (Option CodedInstance) CircFault) → AnswersClose (program_at d) d.frame f.view m n y → AnswersClose (program_at d) d.frame f.view l n y
   close_from (Ok (Some x)) a = a
   close_from (Ok None) a = a
-  close_from (Err fault) a = subst (λ (u : CodedInstance). AnswersFault (program_at d) (instance_of (program_at d) u) d.0 f.1 fault) h.start a
+  close_from (Err fault) a = subst (λ (u : CodedInstance). AnswersFault (program_at d) (instance_of (program_at d) u) d.frame f.view fault) h.start a
 
   pub close_then : (y : Result (Option CodedInstance) CircFault) → Closes e f m n y → Closes d f l n y
   close_then y v = record { goes = with_then d e f l m n h v.goes; answer = close_from y (close_back d e f l m n h y v) }
@@ -109,13 +109,13 @@ begin_admits d e l m y h = record { goes = h.goes; some = h.some; fault = h.faul
 pub on_refused : (d e : Held) (l m : Local) (fault : CircFault) → Begins d e l m (Err fault) → (y : Result CircTurn CircFault) → y ≡ Err fault → Advances d e l m y
 on_refused d e l m fault h y is =
     subst (λ (z : Result CircTurn CircFault). Advances d e l m z) (sym is)
-    (record { goes = h.goes; begun = tt; answer = subst (λ (u : CodedInstance). AnswersFault (program_at d) (instance_of (program_at d) u) d.0 e.1 fault) (sym h.goes.start) h.fault })
+    (record { goes = h.goes; begun = tt; answer = subst (λ (u : CodedInstance). AnswersFault (program_at d) (instance_of (program_at d) u) d.frame e.view fault) (sym h.goes.start) h.fault })
 
-module _ (d e f : Held) (l m n : Local) (h : GoesOnWith (program_at d) d e l m) where
+module _ (d e f : Held) (l m n : Local) (h : GoesOnWith d e l m) where
   pub on_fault : (fault : CircFault) → Closes e f m n (Err fault) → (y : Result CircTurn CircFault) → y ≡ Err fault → Advances d f l n y
   on_fault fault v y is =
       subst (λ (z : Result CircTurn CircFault). Advances d f l n z) (sym is)
-      (record { goes = with_then d e f l m n h v.goes; begun = tt; answer = subst (λ (u : CodedInstance). AnswersFault (program_at d) (instance_of (program_at d) u) d.0 f.1 fault) (sym v.goes.start) (close_back d e f l m n h (Err fault) v) })
+      (record { goes = with_then d e f l m n h v.goes; begun = tt; answer = subst (λ (u : CodedInstance). AnswersFault (program_at d) (instance_of (program_at d) u) d.frame f.view fault) (sym v.goes.start) (close_back d e f l m n h (Err fault) v) })
 
   pub on_need : 0 < length m.members.entries → (x : CodedInstance) → Closes e f m n (Ok (Some x)) → Advances d f l n (Ok (turn.Need x))
   on_need some x v = record { goes = with_then d e f l m n h v.goes; begun = v.goes.some some; answer = close_back d e f l m n h (Ok (Some x)) v }
@@ -124,35 +124,35 @@ module _ (d e f : Held) (l m n : Local) (h : GoesOnWith (program_at d) d e l m) 
   on_late v y is = subst (λ (z : Result CircTurn CircFault). Advances d f l n z) (sym is) (record { goes = with_then d e f l m n h v.goes; begun = tt; answer = tt })
 
   module _ (s : System) (r : IsReady s d l) (some : 0 < length m.members.entries) (closed : Closes e f m n (Ok None)) where
-    pub on_goes : GoesOnWith (program_at d) d f l n
+    pub on_goes : GoesOnWith d f l n
     on_goes = with_then d e f l m n h closed.goes
 
     ready : IsReady s f n
     ready = ready_then s d f l n r on_goes
 
-    confirmed : AreConfirmed (program_at f) f.1 n.members.entries
-    confirmed = subst (λ (u : Program). AreConfirmed u f.1 n.members.entries) (sym (program_on d f on_goes.on)) (close_back d e f l m n h (Ok None) closed)
+    confirmed : AreConfirmed (program_at f) f.view n.members.entries
+    confirmed = subst (λ (u : Program). AreConfirmed u f.view n.members.entries) (sym (program_on d f on_goes.on)) (close_back d e f l m n h (Ok None) closed)
 
     module _ (slots : List Slot) (are : AreSlots n.members.entries slots) where
-      pub on_may : MaySeal (program_at f) f.0 f.1 (map (λ x. x.0) slots)
-      on_may = may_seal (program_at f) (program_is s f n ready) f.1 (near_is s f n ready) f.0 n.start n.members.entries (local_is_here s f n ready).set confirmed slots are
+      pub on_may : MaySeal (program_at f) f.frame f.view (map (λ x. x.0) slots)
+      on_may = may_seal (program_at f) (program_is s f n ready) f.view (near_is s f n ready) f.frame n.start n.members.entries (local_is_here s f n ready).set confirmed slots are
 
-      module _ (g : Held) (on : ReadsOn f g) (sealed : AreSealed f.1 g.1 (map (λ x. x.0) slots)) where
-        each : (x : CodedInstance × Member) → Has n.members.entries x → Knows (program_at f) g.1 (instance_of (program_at f) x.0)
-        each x there = member_sealed (program_at f) (program_is s f n ready) f.1 (near_is s f n ready) f.0 n.start n.members.entries (local_is_here s f n ready).set confirmed slots are g.1 on.on.kept sealed x there
+      module _ (g : Held) (on : ReadsOn f g) (sealed : AreSealed f.view g.view (map (λ x. x.0) slots)) where
+        each : (x : CodedInstance × Member) → Has n.members.entries x → Knows (program_at f) g.view (instance_of (program_at f) x.0)
+        each x there = member_sealed (program_at f) (program_is s f n ready) f.view (near_is s f n ready) f.frame n.start n.members.entries (local_is_here s f n ready).set confirmed slots are g.view on.on.kept sealed x there
 
-        each_here : (x : CodedInstance × Member) → Has n.members.entries x → Knows (program_at d) g.1 (instance_of (program_at d) x.0)
-        each_here x there = subst (λ (u : Program). Knows u g.1 (instance_of u x.0)) (program_on d f on_goes.on) (each x there)
+        each_here : (x : CodedInstance × Member) → Has n.members.entries x → Knows (program_at d) g.view (instance_of (program_at d) x.0)
+        each_here x there = subst (λ (u : Program). Knows u g.view (instance_of u x.0)) (program_on d f on_goes.on) (each x there)
 
         each_value : (x : CodedInstance × Member) → Has n.members.entries x → HasValue (program_at d) (instance_of (program_at d) x.0) (value_of (text_of (program_at d)) x.1.value)
         each_value x there =
             subst (λ (u : Program). HasValue u (instance_of u x.0) (value_of (text_of u) x.1.value)) (program_on d f on_goes.on)
-            (member_has (program_at f) (program_is s f n ready) f.1 (near_is s f n ready) f.0 n.start n.members.entries (local_is_here s f n ready).set confirmed slots are x there)
+            (member_has (program_at f) (program_is s f n ready) f.view (near_is s f n ready) f.frame n.start n.members.entries (local_is_here s f n ready).set confirmed slots are x there)
 
-        start_sealed : Knows (program_at d) g.1 (instance_of (program_at d) n.start)
+        start_sealed : Knows (program_at d) g.view (instance_of (program_at d) n.start)
         start_sealed =
             let x = head_of n.members.entries (closed.goes.some some) in
-            subst (λ (i : CodedInstance). Knows (program_at d) g.1 (instance_of (program_at d) i)) ((local_is_here s f n ready).set.first x.0 x.1) (each_here x.0 (at_has n.members.entries 0 x.0 x.1))
+            subst (λ (i : CodedInstance). Knows (program_at d) g.view (instance_of (program_at d) i)) ((local_is_here s f n ready).set.first x.0 x.1) (each_here x.0 (at_has n.members.entries 0 x.0 x.1))
 
         pub on_closed : Advances d g l n (Ok turn.Closed)
         on_closed = record {

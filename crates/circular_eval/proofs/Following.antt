@@ -39,10 +39,10 @@ pub admit_refused : (d e : Held) (l m : Local) (number : ℕ) (fault : CircFault
 admit_refused d e l m number fault h y is = subst (λ (z : Result (Option Visited) CircFault). Steps d e l m number z) (sym is) (record { goes = h.goes; answer = h.fault })
 
 -- what came, by its turn
-pub turn_is : (d : Held) (l : Local) (number : ℕ) (t u : Turn) → t ≡ u → ComesAt (program_at d) d.1 l.members.entries number t → ComesAt (program_at d) d.1 l.members.entries number u
-turn_is d l number t u is h = subst (λ (z : Turn). ComesAt (program_at d) d.1 l.members.entries number z) is h
+pub turn_is : (d : Held) (l : Local) (number : ℕ) (t u : Turn) → t ≡ u → ComesAt d l number t → ComesAt d l number u
+turn_is d l number t u is h = subst (λ (z : Turn). ComesAt d l number z) is h
 
-module _ (s : System) (d : Held) (l : Local) (r : IsReady s d l) (number : ℕ) (n : CodedInstance) (came : ComesAt (program_at d) d.1 l.members.entries number (turns.Need n)) where
+module _ (s : System) (d : Held) (l : Local) (r : IsReady s d l) (number : ℕ) (n : CodedInstance) (came : ComesAt d l number (turns.Need n)) where
   abbrev p : Program
   p = program_at d
 
@@ -55,20 +55,20 @@ module _ (s : System) (d : Held) (l : Local) (r : IsReady s d l) (number : ℕ) 
   abbrev j : Instance
   j = instance_of p n
 
-  member : IsMember p d.0 d.1 es l.start number came.entry
+  member : IsMember p d.frame d.view es l.start number came.entry
   member = (local_is_here s d l r).set.members number came.entry came.at
 
-  halting : Halts (ReadsHere p d.1 es) ((equations_of p).equation i) j came.comes.0.0
+  halting : Halts (ReadsHere p d.view es) ((equations_of p).equation i) j came.comes.0.0
   halting = came.comes.0.1
 
   needed : IsInstance p j
-  needed = met_is p (program_is s d l r) d.1 (near_is s d l r) d.0 l.start es (local_is_here s d l r).set i member.instance j (halts_meets halting).0
+  needed = met_is p (program_is s d l r) d.view (near_is s d l r) d.frame l.start es (local_is_here s d l r).set i member.instance j (halts_meets halting).0
 
-  not_read : (w : Value) → ReadsHere p d.1 es j w → ⊥
+  not_read : (w : Value) → ReadsHere p d.view es j w → ⊥
   not_read = (halts_meets halting).1
 
   leads : Leads p i j
-  leads = stuck_leads p (program_is s d l r) d.1 (near_is s d l r) d.0 l.start es (local_is_here s d l r).set i member.instance member.is_circular j came.comes.0.0 halting
+  leads = stuck_leads p (program_is s d l r) d.view (near_is s d l r) d.frame l.start es (local_is_here s d l r).set i member.instance member.is_circular j came.comes.0.0 halting
 
   declared_here : (b : Bool) → b ≡ is_declared (program_of s) (instance_of (program_of s) n) → (equations_of p).circular j ≡ b
   declared_here b e = as_declared p (program_is s d l r) j needed ∙ subst (λ (u : System). is_declared (program_of u) (instance_of (program_of u) n) ≡ b) (sym r.same) (sym e)
@@ -90,16 +90,16 @@ module _ (s : System) (d : Held) (l : Local) (r : IsReady s d l) (number : ℕ) 
     undeclared : (equations_of p).circular j ≡ false
     undeclared = declared_here false plain
 
-    not_known : ¬ Knows p d.1 j
+    not_known : ¬ Knows p d.view j
     not_known k = let v = (near_is s d l r).settled j k in not_read v.0 (settled (sym (as_declared p (program_is s d l r) j needed) ∙ undeclared) (k, v.1))
 
     pub need_missing : (m : Local) → m.start ≡ l.start → m.members ≡ l.members → m.need ≡ Some (number, n) → m.saved ≡ l.saved → Steps d d l m number (Ok (Some (Need n)))
     need_missing m start members need saved = record {
       goes = record {
         on = goes_itself d r.own;
-        local = local_needs p d.0 d.1 l m number n came.entry came.at leads start members need saved (local_is_here s d l r);
+        local = local_needs p d.frame d.view l m number n came.entry came.at leads start members need saved (local_is_here s d l r);
         start = start;
-        claims = claims_same p (instance_of p l.start) d.1 d.1 refl;
+        claims = claims_same p (instance_of p l.start) d.view d.view refl;
         some = λ h. subst (λ (k : ℕ). 0 < k) (sym (ap (λ x. length x.entries) members)) h;
       };
       answer = (
@@ -108,7 +108,7 @@ module _ (s : System) (d : Held) (l : Local) (r : IsReady s d l) (number : ℕ) 
           coded = came.comes.1;
           undeclared = undeclared;
           unknown = not_known;
-          reached = subst (λ (x : CodedInstance). Chain p (instance_of p x) j) (sym start) (chain_more p (instance_of p l.start) i j (member_chain p d.0 d.1 l (local_is_here s d l r) number came.entry came.at) leads);
+          reached = subst (λ (x : CodedInstance). Chain p (instance_of p x) j) (sym start) (chain_more p (instance_of p l.start) i j (member_chain p d.frame d.view l (local_is_here s d l r) number came.entry came.at) leads);
           number = number;
           noted = need;
         },

@@ -62,33 +62,33 @@ module _ (p : Program) (i j : Instance) (c : Chain p i j) (u : View) (near : Are
 pub program_on : (d e : Held) → GoesOn d e → program_at e ≡ program_at d
 program_on d e on = ap (λ (f : Frame). program_of f.system.value) on.cells
 
-pub with_itself : (s : System) (d : Held) (l : Local) → IsReady s d l → GoesOnWith (program_at d) d d l l
+pub with_itself : (s : System) (d : Held) (l : Local) → IsReady s d l → GoesOnWith d d l l
 with_itself s d l r = record {
   on = goes_itself d r.own;
-  local = subst (λ (q : System). IsLocal (program_of q) d.0 d.1 l) (sym r.same) r.local;
+  local = subst (λ (q : System). IsLocal (program_of q) d.frame d.view l) (sym r.same) r.local;
   start = refl;
-  claims = claims_same (program_at d) (instance_of (program_at d) l.start) d.1 d.1 refl;
+  claims = claims_same (program_at d) (instance_of (program_at d) l.start) d.view d.view refl;
   some = λ x. x;
 }
 
-pub with_then : (a b c : Held) (l m n : Local) → GoesOnWith (program_at a) a b l m → GoesOnWith (program_at b) b c m n → GoesOnWith (program_at a) a c l n
+pub with_then : (a b c : Held) (l m n : Local) → GoesOnWith a b l m → GoesOnWith b c m n → GoesOnWith a c l n
 with_then a b c l m n x y =
-    let back : GoesOnWith (program_at a) b c m n = subst (λ (q : Program). GoesOnWith q b c m n) (program_on a b x.on) y in
+    let claims : ClaimsKeys (program_at a) (instance_of (program_at a) l.start) b.view c.view = subst (λ (u : Program × CodedInstance). ClaimsKeys u.0 (instance_of u.0 u.1) b.view c.view) (λ j. (program_on a b x.on j, x.start j)) y.claims in
     record {
-      on = goes_then a b c x.on back.on;
-      local = subst (λ (f : Frame). IsLocal (program_at a) f c.1 n) x.on.cells back.local;
-      start = back.start ∙ x.start;
-      claims = claims_more (program_at a) (instance_of (program_at a) l.start) a.1 b.1 c.1 x.claims (subst (λ (i : CodedInstance). ClaimsKeys (program_at a) (instance_of (program_at a) i) b.1 c.1) x.start back.claims) back.on.kept;
-      some = λ h. back.some (x.some h);
+      on = goes_then a b c x.on y.on;
+      local = subst (λ (f : Frame). IsLocal (program_of f.system.value) f c.view n) x.on.cells y.local;
+      start = y.start ∙ x.start;
+      claims = claims_more (program_at a) (instance_of (program_at a) l.start) a.view b.view c.view x.claims claims y.on.kept;
+      some = λ h. y.some (x.some h);
     }
 
 -- and the set stays ready
-pub ready_then : (s : System) (a b : Held) (l m : Local) → IsReady s a l → GoesOnWith (program_at a) a b l m → IsReady s b m
+pub ready_then : (s : System) (a b : Held) (l m : Local) → IsReady s a l → GoesOnWith a b l m → IsReady s b m
 ready_then s a b l m r x =
-    let same : b.0.system.value ≡ s = ap (λ (f : Frame). f.system.value) x.on.cells ∙ r.same in
+    let same : b.frame.system.value ≡ s = ap (λ (f : Frame). f.system.value) x.on.cells ∙ r.same in
     record {
       program = r.program;
       same = same;
       own = x.on.own;
-      local = subst (λ (q : Program × Frame). IsLocal q.0 q.1 b.1 m) (λ i. (ap program_of r.same i, sym x.on.cells i)) x.local;
+      local = subst (λ (q : Program × Frame). IsLocal q.0 q.1 b.view m) (λ i. (ap program_of r.same i, sym x.on.cells i)) x.local;
     }

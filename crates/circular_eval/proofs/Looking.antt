@@ -74,7 +74,7 @@ may_read (settled n k) = solved n k.1
 may_read (here n k) = present n
 
 -- an evaluation under a local set has a sound reader
-pub here_sound : {S : Type 0} (d : Held) (s : System) (es : Members) (keeps : S → Type 0) (p : Program) → p ≡ program_at d → d.0.system.value ≡ s → IsOwn d → AreKept p es → IsSound p (told_here d s es keeps)
+pub here_sound : {S : Type 0} (d : Held) (s : System) (es : Members) (keeps : S → Type 0) (p : Program) → p ≡ program_at d → d.frame.system.value ≡ s → IsOwn d → AreKept p es → IsSound p (told_here d s es keeps)
 here_sound d s es keeps p e same own kept = record { for = (e, same, own, kept); within = λ i v h. may_read h; one_value = λ i v w a b. read_once a b }
 
 -- and goes on with one, where what is held goes on
@@ -83,7 +83,7 @@ here_grows d e s es keeps more on kept p sound =
     let same : program_at e ≡ program_at d = ap (λ (f : Frame). program_of f.system.value) on.on.cells in
     record {
       sound = here_sound e s es more p (sound.for.0 ∙ sym same) (ap (λ (f : Frame). f.system.value) on.on.cells ∙ sound.for.1) on.on.own sound.for.3;
-      values = λ i v h. subst (λ (q : Program). ReadsHere q e.1 es i v) (sym same) (read_later (program_at d) d.1 e.1 on.on.kept es i v h);
+      values = λ i v h. subst (λ (q : Program). ReadsHere q e.view es i v) (sym same) (read_later (program_at d) d.view e.view on.on.kept es i v h);
       bound = λ i v h. subst (λ (q : Program). MayRead q es i v) same h;
       kept = kept;
     }

@@ -1,12 +1,12 @@
 -- Parts of a local set that are sealed: the set stays one.
-use Rattle.std.proofs.Common.{◌≡◌, ◌⊎◌, ℕ, zero, suc, ◌<◌, Bool, true, false, cond, List, [], ◌∷◌, Option, Some, None, IsSome, Result, Ok, Err, length, slice_get, inl, inr, ⊎_elim, refl, sym, ap, subst, ◌∙◌}
+use Rattle.std.proofs.Common.{◌≡◌, ◌⊎◌, ℕ, zero, suc, ◌<◌, Bool, true, false, cond, [], ◌∷◌, Option, Some, None, IsSome, Result, Ok, Err, length, slice_get, inl, inr, ⊎_elim, refl, sym, ap, subst, ◌∙◌}
 use Rattle.std.specs.Option.{option_and_then, option_map}
 use Rattle.std.specs.Prelude.{IfErr, OnOk}
 use Rattle.equation_law.specs.declared.coding.Instance.{Instance as CodedInstance}
 use Rattle.equation_law.specs.declared.coding.Value.{Value as CodedValue}
 use Rattle.equation_law.specs.declared.system.System.{System}
 use Rattle.equation_law.specs.Checked.{IsInstance}
-use Rattle.equation_law.specs.Codes.{AreElements, IsCoded, instance_of, value_of}
+use Rattle.equation_law.specs.Codes.{AreElements, IsCoded, Naming, instance_of, source_names, value_by, value_of}
 use Rattle.equation_law.specs.Equations.{HasValue, equations_of, kind_in}
 use Rattle.equation_law.specs.Loops.{Chain, Leads}
 use Rattle.equation_law.specs.Names.{Instance, same_instance}
@@ -220,10 +220,10 @@ settled_risen l r m n x risen e s2 q2 k2 e2 = record {
 }
 
 -- and so it is for a copy of the value
-same_final : (p : Program) (v : View) (es : Members) (n : ℕ) (x y : CodedValue) → ((texts : ℕ → List ℕ) → value_of texts y ≡ value_of texts x) → ((q : Program) → AreElements q x → AreElements q y) → IsFinalAt p v es n x → IsFinalAt p v es n y
+same_final : (p : Program) (v : View) (es : Members) (n : ℕ) (x y : CodedValue) → ((names : Naming) → value_by names y ≡ value_by names x) → ((q : Program) → AreElements q x → AreElements q y) → IsFinalAt p v es n x → IsFinalAt p v es n y
 same_final p v es n x y same elements final e at =
     let a = final e at in
-    let q : value_of (text_of p) x ≡ value_of (text_of p) y = sym (same (text_of p)) in
+    let q : value_of (text_of p) x ≡ value_of (text_of p) y = sym (same (source_names (text_of p))) in
     record {
       elements = elements p a.elements;
       fits = subst (λ (u : Value). FitsKind (kind_in p (instance_of p e.0)) u) q a.fits;
@@ -232,7 +232,7 @@ same_final p v es n x y same elements final e at =
       has = subst (λ (u : Value). HasValue p (instance_of p e.0) u) q a.has;
     }
 
-pub settled_copy : (l m : Local) (n : ℕ) (x y : CodedValue) → ((texts : ℕ → List ℕ) → value_of texts y ≡ value_of texts x) → ((q : Program) → AreElements q x → AreElements q y) → Settles l m n y → Settles l m n x
+pub settled_copy : (l m : Local) (n : ℕ) (x y : CodedValue) → ((names : Naming) → value_by names y ≡ value_by names x) → ((q : Program) → AreElements q x → AreElements q y) → Settles l m n y → Settles l m n x
 settled_copy l m n x y same elements s = record {
   start = s.start;
   members = s.members;
@@ -293,25 +293,25 @@ module _ (s : System) (d : Held) (l : Local) (r : IsReady s d l) (n : ℕ) (i : 
         program = r.program;
         same = r.same;
         own = r.own;
-        local = begun q d.0 d.1 (subst (λ (u : CodedInstance). IsInstance q (instance_of q u)) entry.2 m.instance) (subst (λ (u : CodedInstance). IsCoded q u) entry.2 m.coded) (subst (λ (u : CodedInstance). (equations_of q).circular (instance_of q u) ≡ true) entry.2 m.is_circular);
+        local = begun q d.frame d.view (subst (λ (u : CodedInstance). IsInstance q (instance_of q u)) entry.2 m.instance) (subst (λ (u : CodedInstance). IsCoded q u) entry.2 m.coded) (subst (λ (u : CodedInstance). (equations_of q).circular (instance_of q u) ≡ true) entry.2 m.is_circular);
       }
 
   reached : Chain p (instance_of p l.start) (instance_of p i)
-  reached = subst (λ (u : CodedInstance). Chain p (instance_of p l.start) (instance_of p u)) entry.2 (member_chain p d.0 d.1 l (local_is_here s d l r) n entry.0 entry.1)
+  reached = subst (λ (u : CodedInstance). Chain p (instance_of p l.start) (instance_of p u)) entry.2 (member_chain p d.frame d.view l (local_is_here s d l r) n entry.0 entry.1)
 
   module _ (e : Held) (begun part : Local) (is : begun.start ≡ i) where
     -- what a part did, the set did
-    pub part_goes : (m : Local) → GoesOnWith p d e begun part → m.start ≡ l.start → (0 < length l.members.entries → 0 < length m.members.entries) → IsLocal p d.0 e.1 m → GoesOnWith p d e l m
+    pub part_goes : (m : Local) → GoesOnWith d e begun part → m.start ≡ l.start → (0 < length l.members.entries → 0 < length m.members.entries) → IsLocal p d.frame e.view m → GoesOnWith d e l m
     part_goes m goes start some local = record {
       on = goes.on;
       local = local;
       start = start;
-      claims = claims_then p (instance_of p l.start) (instance_of p i) d.1 d.1 e.1 reached (claims_same p (instance_of p l.start) d.1 d.1 refl) goes.on.kept (subst (λ (u : CodedInstance). ClaimsKeys p (instance_of p u) d.1 e.1) is goes.claims);
+      claims = claims_then p (instance_of p l.start) (instance_of p i) d.view d.view e.view reached (claims_same p (instance_of p l.start) d.view d.view refl) goes.on.kept (subst (λ (u : CodedInstance). ClaimsKeys p (instance_of p u) d.view e.view) is goes.claims);
       some = some;
     }
 
-    later : GoesOnWith p d e begun part → IsLocal p d.0 e.1 l
-    later goes = local_later p d.1 e.1 goes.on.kept d.0 l (local_is_here s d l r)
+    later : GoesOnWith d e begun part → IsLocal p d.frame e.view l
+    later goes = local_later p d.view e.view goes.on.kept d.frame l (local_is_here s d l r)
 
     -- it needs what is missing: nothing changed
     pub part_waits : (x : CodedInstance) → Advances d e begun part (Ok (turn.Need x)) → SealsPart d e l l (Ok false)
@@ -335,10 +335,10 @@ module _ (s : System) (d : Held) (l : Local) (r : IsReady s d l) (n : ℕ) (i : 
     pub part_fails : (fault : CircFault) → Advances d e begun part (Err fault) → (y : Result Bool CircFault) → y ≡ Err fault → SealsPart d e l l y
     part_fails fault a y same =
         subst (λ (z : Result Bool CircFault). SealsPart d e l l z) (sym same)
-        (record { goes = part_goes l a.goes refl (λ h. h) (later a.goes); members = same_itself l.members.entries; fault = fault_led p (instance_of p l.start) (instance_of p i) d.0 e.1 reached fault (subst (λ (u : CodedInstance). AnswersFault p (instance_of p u) d.0 e.1 fault) (a.goes.start ∙ is) a.answer) })
+        (record { goes = part_goes l a.goes refl (λ h. h) (later a.goes); members = same_itself l.members.entries; fault = fault_led p (instance_of p l.start) (instance_of p i) d.frame e.view reached fault (subst (λ (u : CodedInstance). AnswersFault p (instance_of p u) d.frame e.view fault) (a.goes.start ∙ is) a.answer) })
 
     -- it was sealed
-    pub part_sealed : Advances d e begun part (Ok turn.Closed) → IsSealedSet p d.0 e.1 part
+    pub part_sealed : Advances d e begun part (Ok turn.Closed) → IsSealedSet p d.frame e.view part
     part_sealed a = record { local = a.goes.local; sealed = a.answer }
 
     -- the member is the first one of the part
@@ -355,13 +355,13 @@ module _ (s : System) (d : Held) (l : Local) (r : IsReady s d l) (n : ℕ) (i : 
         let before = same.same n x at in
         let both : Some before.0 ≡ Some entry.0 = sym before.1 ∙ entry.1 in
         let one : before.0 ≡ entry.0 = cc in
-        seals 0 p d.0 e.1 (later a.goes) (part_sealed a) c.0 c.1 n x at (before.2 ∙ ap (λ (q : CodedInstance × Member). q.0) one ∙ entry.2 ∙ sym c.2))
+        seals 0 p d.frame e.view (later a.goes) (part_sealed a) c.0 c.1 n x at (before.2 ∙ ap (λ (q : CodedInstance × Member). q.0) one ∙ entry.2 ∙ sym c.2))
 
     pub part_taken : (m : Local) → Advances d e begun part (Ok turn.Closed) → m.start ≡ l.start → SameMembers l.members.entries m.members.entries → (0 < length l.members.entries → 0 < length m.members.entries) → ((q : Program) (f : Frame) (v : View) → IsLocal q f v l → IsSealedSet q f v part → IsLocal q f v m) → (y : Result Bool CircFault) → ((fault : CircFault) → y ≡ Err fault → fault ≡ Memory) → SealsPart d e l m y
     part_taken m a start same some kept y memory = record {
-      goes = part_goes m a.goes start some (kept p d.0 e.1 (later a.goes) (part_sealed a));
+      goes = part_goes m a.goes start some (kept p d.frame e.view (later a.goes) (part_sealed a));
       members = same;
-      fault = only_memory p (instance_of p l.start) d.0 e.1 y memory;
+      fault = only_memory p (instance_of p l.start) d.frame e.view y memory;
     }
 
 -- what was taken over from a part so far
@@ -380,16 +380,16 @@ pub takes_then : (part l m n : Local) → Takes part l m → Takes part m n → 
 takes_then part l m n a b = record { start = b.start ∙ a.start; members = same_then l.members.entries m.members.entries n.members.entries a.members b.members; some = λ h. b.some (a.some h); kept = λ p f v h sealed. b.kept p f v (a.kept p f v h sealed) sealed }
 
 -- parts, one after the other
-module _ (d e f : Held) (l m n : Local) (h : GoesOnWith (program_at d) d e l m) where
-  part_back : {X : Type 0} (y : Result X CircFault) → SealsPart e f m n y → IfErr y (AnswersFault (program_at d) (instance_of (program_at d) l.start) d.0 f.1)
-  part_back y v = subst (λ (u : (Program × Frame) × CodedInstance). IfErr y (AnswersFault u.0.0 (instance_of u.0.0 u.1) u.0.1 f.1)) (λ j. ((program_on d e h.on j, h.on.cells j), h.start j)) v.fault
+module _ (d e f : Held) (l m n : Local) (h : GoesOnWith d e l m) where
+  part_back : {X : Type 0} (y : Result X CircFault) → SealsPart e f m n y → IfErr y (AnswersFault (program_at d) (instance_of (program_at d) l.start) d.frame f.view)
+  part_back y v = subst (λ (u : (Program × Frame) × CodedInstance). IfErr y (AnswersFault u.0.0 (instance_of u.0.0 u.1) u.0.1 f.view)) (λ j. ((program_on d e h.on j, h.on.cells j), h.start j)) v.fault
 
   pub parts_then : {X : Type 0} → SameMembers l.members.entries m.members.entries → (y : Result X CircFault) → SealsPart e f m n y → SealsPart d f l n y
   parts_then same y v = record { goes = with_then d e f l m n h v.goes; members = same_then l.members.entries m.members.entries n.members.entries same v.members; fault = part_back y v }
 
   -- going on behind them
-  turn_back : (y : Result CircTurn CircFault) → Advances e f m n y → AnswersTurn (program_at d) d.0 f.1 n y
-  turn_back y v = subst (λ (u : Program × Frame). AnswersTurn u.0 u.1 f.1 n y) (λ j. (program_on d e h.on j, h.on.cells j)) v.answer
+  turn_back : (y : Result CircTurn CircFault) → Advances e f m n y → AnswersTurn (program_at d) d.frame f.view n y
+  turn_back y v = subst (λ (u : Program × Frame). AnswersTurn u.0 u.1 f.view n y) (λ j. (program_on d e h.on j, h.on.cells j)) v.answer
 
   pub turns_then : (y : Result CircTurn CircFault) → Advances e f m n y → Advances d f l n y
   turns_then y v = record { goes = with_then d e f l m n h v.goes; begun = v.begun; answer = turn_back y v }
@@ -397,11 +397,11 @@ module _ (d e f : Held) (l m n : Local) (h : GoesOnWith (program_at d) d e l m) 
   pub parts_fail : {X : Type 0} (fault : CircFault) → SealsPart {X = X} e f m n (Err fault) → (y : Result CircTurn CircFault) → y ≡ Err fault → Advances d f l n y
   parts_fail {X = X} fault v y is =
       subst (λ (z : Result CircTurn CircFault). Advances d f l n z) (sym is)
-      (record { goes = with_then d e f l m n h v.goes; begun = tt; answer = subst (λ (u : CodedInstance). AnswersFault (program_at d) (instance_of (program_at d) u) d.0 f.1 fault) (sym (with_then d e f l m n h v.goes).start) (part_back {X = X} (Err fault) v) })
+      (record { goes = with_then d e f l m n h v.goes; begun = tt; answer = subst (λ (u : CodedInstance). AnswersFault (program_at d) (instance_of (program_at d) u) d.frame f.view fault) (sym (with_then d e f l m n h v.goes).start) (part_back {X = X} (Err fault) v) })
 
 -- where none is sealed
-pub parts_none : (s : System) (d : Held) (l m : Local) (r : IsReady s d l) → GoesOnWith (program_at d) d d l m → SameMembers l.members.entries m.members.entries → (y : Result Bool CircFault) → ((fault : CircFault) → y ≡ Err fault → fault ≡ Memory) → SealsPart d d l m y
-parts_none s d l m r goes same y memory = record { goes = goes; members = same; fault = only_memory (program_at d) (instance_of (program_at d) l.start) d.0 d.1 y memory }
+pub parts_none : (s : System) (d : Held) (l m : Local) (r : IsReady s d l) → GoesOnWith d d l m → SameMembers l.members.entries m.members.entries → (y : Result Bool CircFault) → ((fault : CircFault) → y ≡ Err fault → fault ≡ Memory) → SealsPart d d l m y
+parts_none s d l m r goes same y memory = record { goes = goes; members = same; fault = only_memory (program_at d) (instance_of (program_at d) l.start) d.frame d.view y memory }
 
 pub ok_memory : {X : Type 0} (x : X) (y : Result X CircFault) → y ≡ Ok x → (fault : CircFault) → y ≡ Err fault → fault ≡ Memory
 ok_memory x y is fault e = let both : Ok x ≡ Err fault = sym is ∙ e in cc
@@ -428,15 +428,15 @@ turn_same p f v m n (Ok turn.Closed) start members need a = record {
 turn_same p f v m n (Err fault) start members need a = subst (λ (u : CodedInstance). AnswersFault p (instance_of p u) f v fault) (sym start) a
 
 pub turn_looked : (d e : Held) (l m n : Local) (y : Result CircTurn CircFault) → Advances d e l m y → n.start ≡ m.start → n.members ≡ m.members → n.need ≡ m.need → n.saved ≡ m.saved → Advances d e l n y
-turn_looked d e l m n y a start members need saved = record { goes = goes_looked d e l m n start members need saved a.goes; begun = subst (λ u. OnOk y (0 < length u.entries)) (sym members) a.begun; answer = turn_same (program_at d) d.0 e.1 m n y start members need a.answer }
+turn_looked d e l m n y a start members need saved = record { goes = goes_looked d e l m n start members need saved a.goes; begun = subst (λ u. OnOk y (0 < length u.entries)) (sym members) a.begun; answer = turn_same (program_at d) d.frame e.view m n y start members need a.answer }
 
-pub turn_refused : (d e : Held) (l m n : Local) → GoesOnWith (program_at d) d e l m → n.start ≡ m.start → n.members ≡ m.members → n.need ≡ m.need → n.saved ≡ m.saved → (y : Result CircTurn CircFault) → y ≡ Err Memory → Advances d e l n y
+pub turn_refused : (d e : Held) (l m n : Local) → GoesOnWith d e l m → n.start ≡ m.start → n.members ≡ m.members → n.need ≡ m.need → n.saved ≡ m.saved → (y : Result CircTurn CircFault) → y ≡ Err Memory → Advances d e l n y
 turn_refused d e l m n h start members need saved y is = subst (λ (z : Result CircTurn CircFault). Advances d e l n z) (sym is) (record { goes = goes_looked d e l m n start members need saved h; begun = tt; answer = tt })
 
 pub turn_fails : (d e : Held) (l m : Local) (fault : CircFault) → Advances d e l m (Err fault) → (y : Result CircTurn CircFault) → y ≡ Err fault → Advances d e l m y
 turn_fails d e l m fault a y is = subst (λ (z : Result CircTurn CircFault). Advances d e l m z) (sym is) a
 
-pub parts_stop : {X Y : Type 0} (d e f : Held) (l m n : Local) → GoesOnWith (program_at d) d e l m → SameMembers l.members.entries m.members.entries → (fault : CircFault) → SealsPart {X = X} e f m n (Err fault) → (y : Result Y CircFault) → y ≡ Err fault → SealsPart d f l n y
+pub parts_stop : {X Y : Type 0} (d e f : Held) (l m n : Local) → GoesOnWith d e l m → SameMembers l.members.entries m.members.entries → (fault : CircFault) → SealsPart {X = X} e f m n (Err fault) → (y : Result Y CircFault) → y ≡ Err fault → SealsPart d f l n y
 parts_stop {Y = Y} d e f l m n h same fault v y is =
     let back : SealsPart {X = Y} e f m n (Err fault) = record { goes = v.goes; members = v.members; fault = v.fault } in
     subst (λ (z : Result Y CircFault). SealsPart d f l n z) (sym is) (parts_then d e f l m n h same (Err fault) back)

@@ -29,7 +29,7 @@ use Rattle.circular_eval.specs.declared.visiting.Visited.TheVariants.{Changed, N
 use Rattle.circular_eval.specs.Advancing.{AnswersFault, IsMissing}
 use Rattle.circular_eval.specs.Left.{left}
 use Rattle.circular_eval.specs.Local.{AreKept, IsKept, Members, ReadsHere, StillMembers}
-use Rattle.circular_eval.specs.Looking.{ComesTo}
+use Rattle.circular_eval.specs.Looking.{AreSavedHere, ComesHere, ComesTo}
 use Rattle.worklists.specs.Waiting.{due_count}
 use Rattle.circular_eval.specs.Visiting.{AnswersStep, AnswersVisit, ComesAt, GoesOnWith, IsConfirmed, IsReady, KeepsSaved, Passes, Stays, Steps, Visits}
 use Rattle.circular_eval.proofs.Admitting.{IsSame, goes_same}
@@ -51,16 +51,20 @@ pub single_member : (s : System) (d : Held) (l : Local) → IsReady s d l → (n
 single_member s d l r number e at = circular_single (program_of s) (instance_of (program_of s) e.0) (r.local.set.members number e at).is_circular
 
 -- what was read
-pub goes_read : (s : System) (d e : Held) (l m : Local) → IsReady s d l → ReadsOn d e → IsSame l m → GoesOnWith (program_at d) d e l m
-goes_read s d e l m r on same = goes_same s d l r e on.on (claims_same (program_at d) (instance_of (program_at d) l.start) d.1 e.1 on.claims) m same
+pub goes_read : (s : System) (d e : Held) (l m : Local) → IsReady s d l → ReadsOn d e → IsSame l m → GoesOnWith d e l m
+goes_read s d e l m r on same = goes_same s d l r e on.on (claims_same (program_at d) (instance_of (program_at d) l.start) d.view e.view on.claims) m same
 
 pub read_refused : (s : System) (d e : Held) (l m : Local) (number : ℕ) → IsReady s d l → ReadsOn d e → IsSame l m → (y : Result (Option Visited) CircFault) → y ≡ Err Memory → Steps d e l m number y
 read_refused s d e l m number r on same y is = subst (λ (z : Result (Option Visited) CircFault). Steps d e l m number z) (sym is) (record { goes = goes_read s d e l m r on same; answer = tt })
 
-pub came_read : (s : System) (d e : Held) (l m : Local) (number : ℕ) (x : CodedInstance × Member) (turn : Turn) → IsReady s d l → ReadsOn d e → m.members.entries ≡ l.members.entries → slice_get l.members.entries number ≡ Some x → IsSome x.1.slot → ComesTo (program_of s) e.1 l.members.entries (instance_of (program_of s) x.0) turn → ComesAt (program_at e) e.1 m.members.entries number turn
+pub came_read : (s : System) (d e : Held) (l m : Local) (number : ℕ) (x : CodedInstance × Member) (turn : Turn) → IsReady s d l → ReadsOn d e → m.members.entries ≡ l.members.entries → slice_get l.members.entries number ≡ Some x → IsSome x.1.slot → ComesHere e l x.0 turn → ComesAt e m number turn
 came_read s d e l m number x turn r on same at some came =
-    let here : program_of s ≡ program_at e = sym (ap program_of r.same) ∙ sym (program_on d e on.on) in
-    subst (λ (u : Program × Members). ComesAt u.0 e.1 u.1 number turn) (λ j. (here j, sym same j)) (record { entry = x; at = at; placed = some; comes = came })
+    record {
+      entry = x;
+      at = ap (λ (es : Members). slice_get es number) same ∙ at;
+      placed = some;
+      comes = subst (λ (es : Members). ComesTo (program_at e) e.view es (instance_of (program_at e) x.0) turn) (sym same) came;
+    }
 
 -- a step after what only read
 step_answer : (p : Program) (f : Frame) (v : View) (l m n : Local) (number : ℕ) (y : Result (Option Visited) CircFault) → m.start ≡ l.start → m.members.entries ≡ l.members.entries → m.worklist.due ≡ l.worklist.due → AnswersStep p f v m n number y → AnswersStep p f v l n number y
@@ -73,36 +77,36 @@ step_answer p f v l m n number (Err fault) start same due h = subst (λ (u : Cod
 pub step_then : (s : System) (d e f : Held) (l m n : Local) (number : ℕ) (y : Result (Option Visited) CircFault) → IsReady s d l → ReadsOn d e → IsSame l m → m.worklist.due ≡ l.worklist.due → Steps e f m n number y → Steps d f l n number y
 step_then s d e f l m n number y r on same due h = record {
   goes = with_then d e f l m n (goes_read s d e l m r on same) h.goes;
-  answer = step_answer (program_at d) d.0 f.1 l m n number y same.start same.entries due (subst (λ (u : Program × Frame). AnswersStep u.0 u.1 f.1 m n number y) (λ j. (program_on d e on.on j, on.on.cells j)) h.answer);
+  answer = step_answer (program_at d) d.frame f.view l m n number y same.start same.entries due (subst (λ (u : Program × Frame). AnswersStep u.0 u.1 f.view m n number y) (λ j. (program_on d e on.on j, on.on.cells j)) h.answer);
 }
 
 -- what is saved, where the evaluation may go on
-pub step_saved : (s : System) (e f : Held) (m n : Local) (number : ℕ) (x : Saved) → IsReady s e m → (y : Result (Option Visited) CircFault) → Steps e f m n number y → AreSaved s (ReadsHere (program_of s) e.1 m.members.entries) x → KeepsSaved s f.1 n.members.entries x y
+pub step_saved : (s : System) (e f : Held) (m n : Local) (number : ℕ) (x : Saved) → IsReady s e m → (y : Result (Option Visited) CircFault) → Steps e f m n number y → AreSavedHere s e m x → KeepsSaved s f n x y
 step_saved s e f m n number x r (Err fault) h saved = tt
 step_saved s e f m n number x r (Ok (Some Changed)) h saved = tt
 step_saved s e f m n number x r (Ok (Some Same)) h saved = tt
 step_saved s e f m n number x r (Ok (Some (Need q))) h saved =
     let es = m.members.entries in
-    subst (λ (u : Members). AreSaved s (ReadsHere (program_of s) f.1 u) x) (sym h.answer.1) (saved_on (program_of s) e.1 f.1 h.goes.on.kept es es (still_itself (program_of s) es) s x saved)
+    subst (λ (u : Members). AreSaved s (ReadsHere (program_of s) f.view u) x) (sym h.answer.1) (saved_on (program_of s) e.view f.view h.goes.on.kept es es (still_itself (program_of s) es) s x saved)
 step_saved s e f m n number x r (Ok None) h saved =
-    saved_on (program_of s) e.1 f.1 h.goes.on.kept m.members.entries n.members.entries (subst (λ (q : Program). StillMembers q m.members.entries n.members.entries) (ap program_of r.same) h.answer.1) s x saved
+    saved_on (program_of s) e.view f.view h.goes.on.kept m.members.entries n.members.entries (subst (λ (q : Program). StillMembers q m.members.entries n.members.entries) (ap program_of r.same) h.answer.1) s x saved
 
 -- which member is next, and what is kept, changes nothing of the members
-goes_kept : (d e : Held) (l m o : Local) → o.start ≡ m.start → o.members ≡ m.members → o.need ≡ m.need → IsKept d.0.system.value (ReadsHere (program_at d) e.1 o.members.entries) o.saved → GoesOnWith (program_at d) d e l m → GoesOnWith (program_at d) d e l o
+goes_kept : (d e : Held) (l m o : Local) → o.start ≡ m.start → o.members ≡ m.members → o.need ≡ m.need → IsKept d.frame.system.value (ReadsHere (program_at d) e.view o.members.entries) o.saved → GoesOnWith d e l m → GoesOnWith d e l o
 goes_kept d e l m o start members need saved h =
     let entries : o.members.entries ≡ m.members.entries = ap (λ x. x.entries) members in
     record {
       on = h.on;
-      local = local_kept (program_at d) d.0 e.1 m o start entries need saved h.local;
+      local = local_kept (program_at d) d.frame e.view m o start entries need saved h.local;
       start = start ∙ h.start;
       claims = h.claims;
       some = λ some. subst (λ (u : Members). 0 < length u) (sym entries) (h.some some);
     }
 
-pub goes_looked : (d e : Held) (l m o : Local) → o.start ≡ m.start → o.members ≡ m.members → o.need ≡ m.need → o.saved ≡ m.saved → GoesOnWith (program_at d) d e l m → GoesOnWith (program_at d) d e l o
+pub goes_looked : (d e : Held) (l m o : Local) → o.start ≡ m.start → o.members ≡ m.members → o.need ≡ m.need → o.saved ≡ m.saved → GoesOnWith d e l m → GoesOnWith d e l o
 goes_looked d e l m o start members need saved h =
     goes_kept d e l m o start members need
-    (subst (λ (x : Members × Option Saved). IsKept d.0.system.value (ReadsHere (program_at d) e.1 x.0) x.1) (λ i. (ap (λ x. x.entries) (sym members) i, sym saved i)) h.local.saved)
+    (subst (λ (x : Members × Option Saved). IsKept d.frame.system.value (ReadsHere (program_at d) e.view x.0) x.1) (λ i. (ap (λ x. x.entries) (sym members) i, sym saved i)) h.local.saved)
     h
 
 -- a visit, so far: nothing changed in the set, or members were added
@@ -111,7 +115,7 @@ HasGrown false l m = (m.members.entries ≡ l.members.entries) × (m.worklist.du
 HasGrown true l m = left m.members.entries < left l.members.entries
 
 pub record IsVisited (d e : Held) (l m : Local) (grown : Bool) : Type 0 where
-  pub goes : GoesOnWith (program_at d) d e l m
+  pub goes : GoesOnWith d e l m
   pub change : HasGrown grown l m
 
 grown_less : (b : Bool) (l m : Local) → HasGrown b l m → (k : ℕ) → k < left m.members.entries → k < left l.members.entries
@@ -123,7 +127,7 @@ visit_begins s d l r = record { goes = with_itself s d l r; change = (refl, refl
 
 -- the set from which what was kept is taken
 pub ready_taken : (s : System) (d : Held) (l m : Local) → IsReady s d l → m.start ≡ l.start → m.members ≡ l.members → m.need ≡ l.need → m.saved ≡ None → IsReady s d m
-ready_taken s d l m r start members need none = record { program = r.program; same = r.same; own = r.own; local = local_free (program_of s) d.0 d.1 l m start (ap (λ x. x.entries) members) need none r.local }
+ready_taken s d l m r start members need none = record { program = r.program; same = r.same; own = r.own; local = local_free (program_of s) d.frame d.view l m start (ap (λ x. x.entries) members) need none r.local }
 
 visit_answer : (p : Program) (f : Frame) (v : View) (l m n : Local) (number : ℕ) (y : Result Visited CircFault) → m.start ≡ l.start → m.members.entries ≡ l.members.entries → m.worklist.due ≡ l.worklist.due → AnswersVisit p f v m n number y → AnswersVisit p f v l n number y
 visit_answer p f v l m n number (Ok (Need x)) start same due h = h
@@ -139,25 +143,25 @@ visit_from d f l m n number y start members due h =
         on = h.goes.on;
         local = h.goes.local;
         start = h.goes.start ∙ start;
-        claims = subst (λ (u : CodedInstance). ClaimsKeys (program_at d) (instance_of (program_at d) u) d.1 f.1) start h.goes.claims;
+        claims = subst (λ (u : CodedInstance). ClaimsKeys (program_at d) (instance_of (program_at d) u) d.view f.view) start h.goes.claims;
         some = λ some. h.goes.some (subst (λ (u : Members). 0 < length u) (sym entries) some);
       };
-      answer = visit_answer (program_at d) d.0 f.1 l m n number y start entries due h.answer;
+      answer = visit_answer (program_at d) d.frame f.view l m n number y start entries due h.answer;
     }
 
 -- what it goes on with
-pub taken_saved : (s : System) (d : Held) (l m : Local) → IsReady s d l → m.members ≡ l.members → (x : Saved) → SavesNothing x ⊎ (l.saved ≡ Some x) → AreSaved s (ReadsHere (program_of s) d.1 m.members.entries) x
+pub taken_saved : (s : System) (d : Held) (l m : Local) → IsReady s d l → m.members ≡ l.members → (x : Saved) → SavesNothing x ⊎ (l.saved ≡ Some x) → AreSaved s (ReadsHere (program_of s) d.view m.members.entries) x
 taken_saved s d l m r members x (inl none) = none_saved x none
 taken_saved s d l m r members x (inr is) =
-    let here : IsKept s (ReadsHere (program_of s) d.1 l.members.entries) l.saved = subst (λ (q : System). IsKept q (ReadsHere (program_of s) d.1 l.members.entries) l.saved) r.same r.local.saved in
-    subst (λ (u : Members × Option Saved). IsKept s (ReadsHere (program_of s) d.1 u.0) u.1) (λ i. (ap (λ x. x.entries) (sym members) i, is i)) here
+    let here : IsKept s (ReadsHere (program_of s) d.view l.members.entries) l.saved = subst (λ (q : System). IsKept q (ReadsHere (program_of s) d.view l.members.entries) l.saved) r.same r.local.saved in
+    subst (λ (u : Members × Option Saved). IsKept s (ReadsHere (program_of s) d.view u.0) u.1) (λ i. (ap (λ x. x.entries) (sym members) i, is i)) here
 
 pub visit_ready : (s : System) (d e : Held) (l m : Local) (b : Bool) → IsReady s d l → IsVisited d e l m b → IsReady s e m
 visit_ready s d e l m b r h = ready_then s d e l m r h.goes
 
 module _ (d e f : Held) (l m n : Local) (number : ℕ) (b : Bool) (h : IsVisited d e l m b) where
-  step_back : (y : Result (Option Visited) CircFault) → Steps e f m n number y → AnswersStep (program_at d) d.0 f.1 m n number y
-  step_back y v = subst (λ (u : Program × Frame). AnswersStep u.0 u.1 f.1 m n number y) (λ j. (program_on d e h.goes.on j, h.goes.on.cells j)) v.answer
+  step_back : (y : Result (Option Visited) CircFault) → Steps e f m n number y → AnswersStep (program_at d) d.frame f.view m n number y
+  step_back y v = subst (λ (u : Program × Frame). AnswersStep u.0 u.1 f.view m n number y) (λ j. (program_on d e h.goes.on j, h.goes.on.cells j)) v.answer
 
   -- a member was added
   pub visit_less : Steps e f m n number (Ok None) → left n.members.entries < left m.members.entries
@@ -168,15 +172,15 @@ module _ (d e f : Held) (l m n : Local) (number : ℕ) (b : Bool) (h : IsVisited
 
   -- it ends
   pub visit_fault : (fault : CircFault) → Steps e f m n number (Err fault) → (y : Result Visited CircFault) → y ≡ Err fault → Visits d f l n number y
-  visit_fault fault v y is = subst (λ (z : Result Visited CircFault). Visits d f l n number z) (sym is) (record { goes = with_then d e f l m n h.goes v.goes; answer = subst (λ (u : CodedInstance). AnswersFault (program_at d) (instance_of (program_at d) u) d.0 f.1 fault) h.goes.start (step_back (Err fault) v) })
+  visit_fault fault v y is = subst (λ (z : Result Visited CircFault). Visits d f l n number z) (sym is) (record { goes = with_then d e f l m n h.goes v.goes; answer = subst (λ (u : CodedInstance). AnswersFault (program_at d) (instance_of (program_at d) u) d.frame f.view fault) h.goes.start (step_back (Err fault) v) })
 
-  pub visit_need : (s : System) → IsReady s d l → (q : CodedInstance) → Steps e f m n number (Ok (Some (Need q))) → (o : Local) (x : Saved) → o.start ≡ n.start → o.members ≡ n.members → o.need ≡ n.need → o.saved ≡ Some x → AreSaved s (ReadsHere (program_of s) f.1 n.members.entries) x → Visits d f l o number (Ok (Need q))
+  pub visit_need : (s : System) → IsReady s d l → (q : CodedInstance) → Steps e f m n number (Ok (Some (Need q))) → (o : Local) (x : Saved) → o.start ≡ n.start → o.members ≡ n.members → o.need ≡ n.need → o.saved ≡ Some x → AreSaved s (ReadsHere (program_of s) f.view n.members.entries) x → Visits d f l o number (Ok (Need q))
   visit_need s r q v o x start members need kept saved =
-      let missing : IsMissing (program_at d) f.1 n q = (step_back (Ok (Some (Need q))) v).0 in
-      let here : AreSaved d.0.system.value (ReadsHere (program_at d) f.1 n.members.entries) x = subst (λ (z : System). AreSaved z (ReadsHere (program_of z) f.1 n.members.entries) x) (sym r.same) saved in
+      let missing : IsMissing (program_at d) f.view n q = (step_back (Ok (Some (Need q))) v).0 in
+      let here : AreSaved d.frame.system.value (ReadsHere (program_at d) f.view n.members.entries) x = subst (λ (z : System). AreSaved z (ReadsHere (program_of z) f.view n.members.entries) x) (sym r.same) saved in
       record {
         goes = goes_kept d f l n o start members need
-            (subst (λ (u : Members × Option Saved). IsKept d.0.system.value (ReadsHere (program_at d) f.1 u.0) u.1) (λ i. (ap (λ x. x.entries) (sym members) i, sym kept i)) here)
+            (subst (λ (u : Members × Option Saved). IsKept d.frame.system.value (ReadsHere (program_at d) f.view u.0) u.1) (λ i. (ap (λ x. x.entries) (sym members) i, sym kept i)) here)
             (with_then d e f l m n h.goes v.goes);
         answer = record {
           instance = missing.instance;
@@ -193,12 +197,12 @@ module _ (d e f : Held) (l m n : Local) (number : ℕ) (b : Bool) (h : IsVisited
   visit_changed v = record { goes = with_then d e f l m n h.goes v.goes; answer = grown_less b l m h.change (left n.members.entries) (step_back (Ok (Some Changed)) v) }
 
   same_members : Steps e f m n number (Ok (Some Same)) → n.members.entries ≡ m.members.entries
-  same_members v = let st : Stays (program_at d) f.1 m n number = step_back (Ok (Some Same)) v in st.members
+  same_members v = let st : Stays (program_at d) f.view m n number = step_back (Ok (Some Same)) v in st.members
 
   pub visit_same : b ≡ false → Steps e f m n number (Ok (Some Same)) → Visits d f l n number (Ok Same)
   visit_same none v =
       let change : HasGrown false l m = subst (λ (x : Bool). HasGrown x l m) none h.change in
-      record { goes = with_then d e f l m n h.goes v.goes; answer = visit_answer (program_at d) d.0 f.1 l m n number (Ok Same) h.goes.start change.0 change.1 (step_back (Ok (Some Same)) v) }
+      record { goes = with_then d e f l m n h.goes v.goes; answer = visit_answer (program_at d) d.frame f.view l m n number (Ok Same) h.goes.start change.0 change.1 (step_back (Ok (Some Same)) v) }
 
   -- it ends with members that were added, and rests
   pub visit_rests : b ≡ true → Steps e f m n number (Ok (Some Same)) → (o : Local) → o.start ≡ n.start → o.members ≡ n.members → o.need ≡ n.need → o.saved ≡ n.saved → Visits d f l o number (Ok Changed)
@@ -212,9 +216,9 @@ module _ (d e f : Held) (l m n : Local) (number : ℕ) (b : Bool) (h : IsVisited
 
 -- a pass, so far: the members up to this one are confirmed
 pub record IsPassed (d e : Held) (l m : Local) (upto : ℕ) : Type 0 where
-  pub goes : GoesOnWith (program_at d) d e l m
+  pub goes : GoesOnWith d e l m
   pub same : m.members.entries ≡ l.members.entries
-  pub confirmed : (k : ℕ) (x : CodedInstance × Member) → k < upto → slice_get m.members.entries k ≡ Some x → IsConfirmed (program_at d) e.1 m.members.entries x
+  pub confirmed : (k : ℕ) (x : CodedInstance × Member) → k < upto → slice_get m.members.entries k ≡ Some x → IsConfirmed (program_at d) e.view m.members.entries x
 
 pub pass_begins : (s : System) (d : Held) (l : Local) → IsReady s d l → IsPassed d d l l 0
 pass_begins s d l r = record { goes = with_itself s d l r; same = refl; confirmed = λ k x low at. absurd (omega (arith, low)) }
@@ -225,7 +229,7 @@ pass_looked d e l m o upto start members need saved h =
     record {
       goes = goes_looked d e l m o start members need saved h.goes;
       same = entries ∙ h.same;
-      confirmed = λ k x low at. subst (λ (u : Members). IsConfirmed (program_at d) e.1 u x) (sym entries) (h.confirmed k x low (ap (λ (u : Members). slice_get u k) (sym entries) ∙ at));
+      confirmed = λ k x low at. subst (λ (u : Members). IsConfirmed (program_at d) e.view u x) (sym entries) (h.confirmed k x low (ap (λ (u : Members). slice_get u k) (sym entries) ∙ at));
     }
 
 pub pass_ready : (s : System) (d e : Held) (l m : Local) (upto : ℕ) → IsReady s d l → IsPassed d e l m upto → IsReady s e m
@@ -241,8 +245,8 @@ pass_whole d e l m upto most h = record {
 }
 
 module _ (d e f : Held) (l m n : Local) (upto number : ℕ) (h : IsPassed d e l m upto) where
-  back : (y : Result Visited CircFault) → Visits e f m n number y → AnswersVisit (program_at d) d.0 f.1 m n number y
-  back y v = subst (λ (u : Program × Frame). AnswersVisit u.0 u.1 f.1 m n number y) (λ j. (program_on d e h.goes.on j, h.goes.on.cells j)) v.answer
+  back : (y : Result Visited CircFault) → Visits e f m n number y → AnswersVisit (program_at d) d.frame f.view m n number y
+  back y v = subst (λ (u : Program × Frame). AnswersVisit u.0 u.1 f.view m n number y) (λ j. (program_on d e h.goes.on j, h.goes.on.cells j)) v.answer
 
   pub pass_need : (x : CodedInstance) → Visits e f m n number (Ok (Need x)) → Passes d f l n (Ok (Need x))
   pass_need x v = record { goes = with_then d e f l m n h.goes v.goes; answer = back (Ok (Need x)) v }
@@ -251,16 +255,16 @@ module _ (d e f : Held) (l m n : Local) (upto number : ℕ) (h : IsPassed d e l 
   pass_changed v = record { goes = with_then d e f l m n h.goes v.goes; answer = subst (λ (u : Members). left n.members.entries < left u) h.same (back (Ok Changed) v) }
 
   pub pass_fault : (fault : CircFault) → Visits e f m n number (Err fault) → (y : Result Visited CircFault) → y ≡ Err fault → Passes d f l n y
-  pass_fault fault v y is = subst (λ (z : Result Visited CircFault). Passes d f l n z) (sym is) (record { goes = with_then d e f l m n h.goes v.goes; answer = subst (λ (u : CodedInstance). AnswersFault (program_at d) (instance_of (program_at d) u) d.0 f.1 fault) h.goes.start (back (Err fault) v) })
+  pass_fault fault v y is = subst (λ (z : Result Visited CircFault). Passes d f l n z) (sym is) (record { goes = with_then d e f l m n h.goes v.goes; answer = subst (λ (u : CodedInstance). AnswersFault (program_at d) (instance_of (program_at d) u) d.frame f.view fault) h.goes.start (back (Err fault) v) })
 
-  stays : Visits e f m n number (Ok Same) → Stays (program_at d) f.1 m n number
+  stays : Visits e f m n number (Ok Same) → Stays (program_at d) f.view m n number
   stays v = back (Ok Same) v
 
-  before : (v : Visits e f m n number (Ok Same)) → (k : ℕ) (x : CodedInstance × Member) → k < upto → slice_get n.members.entries k ≡ Some x → IsConfirmed (program_at d) f.1 n.members.entries x
+  before : (v : Visits e f m n number (Ok Same)) → (k : ℕ) (x : CodedInstance × Member) → k < upto → slice_get n.members.entries k ≡ Some x → IsConfirmed (program_at d) f.view n.members.entries x
   before v k x low at =
       let st = stays v in
-      subst (λ (u : Members). IsConfirmed (program_at d) f.1 u x) (sym st.members)
-      (confirmed_later (program_at d) e.1 f.1 v.goes.on.kept m.members.entries x (h.confirmed k x low (ap (λ (u : Members). slice_get u k) (sym st.members) ∙ at)))
+      subst (λ (u : Members). IsConfirmed (program_at d) f.view u x) (sym st.members)
+      (confirmed_later (program_at d) e.view f.view v.goes.on.kept m.members.entries x (h.confirmed k x low (ap (λ (u : Members). slice_get u k) (sym st.members) ∙ at)))
 
   -- what was confirmed still is
   pub pass_stays : Visits e f m n number (Ok Same) → IsPassed d f l n upto

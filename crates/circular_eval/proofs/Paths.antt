@@ -81,3 +81,10 @@ pub tail_whole : (l : Local) (list : List CodedInstance) → LeadsOn l None list
 tail_whole l list h p f v number need is needs =
     let t = h p f v number need is needs in
     record { rest = t.rest; starts = t.starts ∙ ap (λ i. i ∷ t.rest) t.before; front = t.front; ends = t.ends; led = t.led }
+
+-- it goes on only behind a member
+pub no_tail : (l : Local) (k : ℕ) (list : List CodedInstance) → LeadsOn l (Some k) list → slice_get l.members.entries k ≡ None → (p : Program) (f : Frame) (v : View) (number : ℕ) (need : CodedInstance) → IsLocal p f v l → l.need ≡ Some (number, need) → ⊥
+no_tail l k list h none p f v number need is needs =
+    let t = h p f v number need is needs in
+    let both : Some t.before.0 ≡ None = sym t.before.1 ∙ none in
+    cc

@@ -111,7 +111,7 @@ waited_before c d e i on w =
       need = w.need;
       reached = subst (λ (p : Program). Chain p (instance_of p i) (instance_of p w.need)) same w.reached;
       undeclared = subst (λ (p : Program). (equations_of p).circular (instance_of p w.need) ≡ false) same w.undeclared;
-      unknown = subst (λ (p : Program). ¬ Knows p w.then.1 (instance_of p w.need)) same w.unknown;
+      unknown = subst (λ (p : Program). ¬ Knows p w.then.view (instance_of p w.need)) same w.unknown;
     }
 
 -- a member that had to wait in a later part

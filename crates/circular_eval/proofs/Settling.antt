@@ -75,7 +75,7 @@ member_settles d s es keeps i x e member is elements = record {
       let q : program_of s ≡ program_at d = sym (ap program_of sound.for.1) in
       let kept : AreKept (program_at d) es = subst (λ (u : Program). AreKept u es) sound.for.0 sound.for.3 in
       let coded_here : IsCoded (program_at d) i = subst (λ (u : Program). IsCoded u i) sound.for.0 coded in
-      let value = is (program_at d) (texts_pooled d.0.system.value) coded_here kept in
+      let value = is (program_at d) (texts_pooled d.frame.system.value) coded_here kept in
       subst (λ (u : Program). Settles u (told_here d s es keeps) (instance_of u i) (Ok (Some x))) (sym sound.for.0)
       (read_member d s es keeps (instance_of (program_at d) i) x (subst (λ (u : Program). is_declared u (instance_of u i) ≡ true) q e) (member (program_at d)) value
       (subst (λ (y : Value). FitsKind (kind_in (program_at d) (instance_of (program_at d) i)) y) value (local_fits (program_at d) es (instance_of (program_at d) i) kept (member (program_at d)))) (elements (program_at d) kept));
@@ -90,10 +90,10 @@ none_settles d s es keeps i e none = record {
       let kept : AreKept (program_at d) es = subst (λ (u : Program). AreKept u es) sound.for.0 sound.for.3 in
       let coded_here : IsCoded (program_at d) i = subst (λ (u : Program). IsCoded u i) sound.for.0 coded in
       subst (λ (u : Program). Settles u (told_here d s es keeps) (instance_of u i) (Ok None)) (sym sound.for.0)
-      (read_absent d s es keeps (instance_of (program_at d) i) (subst (λ (u : Program). is_declared u (instance_of u i) ≡ true) q e) (none (program_at d) (texts_pooled d.0.system.value) coded_here kept));
+      (read_absent d s es keeps (instance_of (program_at d) i) (subst (λ (u : Program). is_declared u (instance_of u i) ≡ true) q e) (none (program_at d) (texts_pooled d.frame.system.value) coded_here kept));
 }
 
 -- what an evaluation came to, by what was read at its end
-pub came_to : {S : Type 0} (p : Program) (e : Held) (s : System) (es : Members) (keeps : S → Type 0) (i : Instance) (turn : Turn) → p ≡ program_at e → AnswersTurn p (told_here e s es keeps) ((equations_of p).equation i) (Ok turn) → ComesTo p e.1 es i turn
-came_to p e s es keeps i (turns.Done x) is a = ((a.demands, subst (λ (q : Program). Ends (ReadsHere q e.1 es) ((equations_of p).equation i) (value_of (text_of p) x) a.demands) (sym is) a.ends), a.coded)
-came_to p e s es keeps i (turns.Need n) is a = ((a.demands, subst (λ (q : Program). Halts (ReadsHere q e.1 es) ((equations_of p).equation i) (instance_of p n) a.demands) (sym is) a.halts), a.coded)
+pub came_to : {S : Type 0} (p : Program) (e : Held) (s : System) (es : Members) (keeps : S → Type 0) (i : Instance) (turn : Turn) → p ≡ program_at e → AnswersTurn p (told_here e s es keeps) ((equations_of p).equation i) (Ok turn) → ComesTo p e.view es i turn
+came_to p e s es keeps i (turns.Done x) is a = ((a.demands, subst (λ (q : Program). Ends (ReadsHere q e.view es) ((equations_of p).equation i) (value_of (text_of p) x) a.demands) (sym is) a.ends), a.coded)
+came_to p e s es keeps i (turns.Need n) is a = ((a.demands, subst (λ (q : Program). Halts (ReadsHere q e.view es) ((equations_of p).equation i) (instance_of p n) a.demands) (sym is) a.halts), a.coded)

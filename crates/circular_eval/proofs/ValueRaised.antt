@@ -50,23 +50,23 @@ pub truth_none : (d : Held) → IsOwn d → (place : ℕ) (a b : Bool) → (a �
 truth_none d own place a b h = record {
   on = goes_itself d own;
   answer = λ i may. truth_most (text_of (program_at d)) a b h;
-  claims = λ i may. no_claims (program_at d) d.1 i [];
+  claims = λ i may. no_claims (program_at d) d.view i [];
 }
 
 kind_is : (d : Held) (i : Instance) (place : ℕ) (a b : Bool) → MayRise d i place (coded.Truth a) (coded.Truth b) → kind_in (program_at d) i ≡ kinds.Truth
 kind_is d i place a b may = kind_of_truth (program_at d) (kind_in (program_at d) i) a may.typed
 
-pub truth_may : (d : Held) (i : Instance) (place : ℕ) (a b : Bool) → a ≡ true → MayRise d i place (coded.Truth a) (coded.Truth b) → MayRaise (program_at d) d.1 place 0 1
+pub truth_may : (d : Held) (i : Instance) (place : ℕ) (a b : Bool) → a ≡ true → MayRise d i place (coded.Truth a) (coded.Truth b) → MayRaise (program_at d) d.view place 0 1
 truth_may d i place a b e may = inl (record { of = i; key = may.cell.0; here = may.cell.1.1; stands = may.cell.2; is_circular = may.is_circular; kind = kind_is d i place a b may; value = value_of (text_of (program_at d)) (coded.Truth a); comes = may.comes; is_true = e }, refl, refl)
 
-module _ (d e : Held) (place : ℕ) (a b : Bool) (on : GoesOn d e) (plain : (i : Instance) → IsCellOf (program_at d) d.0 e.1 i place → truth_kind (kind_in (program_at d) i) ≡ true → e.1.claims ≡ d.1.claims) where
-  later : (i : Instance) → MayRise d i place (coded.Truth a) (coded.Truth b) → IsCellOf (program_at d) d.0 e.1 i place
-  later i may = cell_later d.1 e.1 on.kept (program_at d) d.0 i place may.cell
+module _ (d e : Held) (place : ℕ) (a b : Bool) (on : GoesOn d e) (plain : (i : Instance) → IsCellOf (program_at d) d.frame e.view i place → truth_kind (kind_in (program_at d) i) ≡ true → e.view.claims ≡ d.view.claims) where
+  later : (i : Instance) → MayRise d i place (coded.Truth a) (coded.Truth b) → IsCellOf (program_at d) d.frame e.view i place
+  later i may = cell_later d.view e.view on.kept (program_at d) d.frame i place may.cell
 
-  truth_claims : (i : Instance) → MayRise d i place (coded.Truth a) (coded.Truth b) → ClaimsWords (program_at d) d.1 e.1 i []
+  truth_claims : (i : Instance) → MayRise d i place (coded.Truth a) (coded.Truth b) → ClaimsWords (program_at d) d.view e.view i []
   truth_claims i may q = inl (ap (λ (cs : List ℕ). times q cs) (plain i (later i may) (ap truth_kind (kind_is d i place a b may))))
 
-  pub truth_full : ((i : Instance) → IsCellOf (program_at d) d.0 e.1 i place → is_single (kind_in (program_at d) i) ≡ false) → (r : Result (Option CodedValue) CircFault) → RaisesValue d e place (coded.Truth a) (coded.Truth b) r
+  pub truth_full : ((i : Instance) → IsCellOf (program_at d) d.frame e.view i place → is_single (kind_in (program_at d) i) ≡ false) → (r : Result (Option CodedValue) CircFault) → RaisesValue d e place (coded.Truth a) (coded.Truth b) r
   truth_full set r = record {
     on = on;
     answer = λ i may. absurd (not_both (set i (later i may)) (ap is_single (kind_is d i place a b may)));
@@ -78,16 +78,16 @@ module _ (d e : Held) (place : ℕ) (a b : Bool) (on : GoesOn d e) (plain : (i :
   one_bit (suc zero) l h = refl
   one_bit (suc (suc n)) l h = absurd (omega (arith, l))
 
-  seen_true : (i : Instance) (k : Kind) (x : ℕ) → k ≡ kinds.Truth → IsWordSeen (program_at d) e.1 i k 0 x → bit_at x 0 ≡ 1 → ShowsTrue (program_at d) e.1 i
-  seen_true i k x is seen bit = let s = subst (λ (j : Kind). IsWordSeen (program_at d) e.1 i j 0 x) is seen in s.1.0 (one_bit x s.0 bit)
+  seen_true : (i : Instance) (k : Kind) (x : ℕ) → k ≡ kinds.Truth → IsWordSeen (program_at d) e.view i k 0 x → bit_at x 0 ≡ 1 → ShowsTrue (program_at d) e.view i
+  seen_true i k x is seen bit = let s = subst (λ (j : Kind). IsWordSeen (program_at d) e.view i j 0 x) is seen in s.1.0 (one_bit x s.0 bit)
 
-  pub truth_more : a ≡ true → b ≡ false → (x : ℕ) → HasWord (program_at d) d.0 e.1 place 0 1 x → RaisesValue d e place (coded.Truth a) (coded.Truth b) (Ok (Some (coded.Truth true)))
+  pub truth_more : a ≡ true → b ≡ false → (x : ℕ) → HasWord (program_at d) d.frame e.view place 0 1 x → RaisesValue d e place (coded.Truth a) (coded.Truth b) (Ok (Some (coded.Truth true)))
   truth_more h k x word = record {
     on = on;
     answer = λ i may.
         let kind = kind_is d i place a b may in
-        subst (λ (z : Bool × Bool). AnswersRaise (program_at d) d.0 e.1 i (coded.Truth z.0) (coded.Truth z.1) (Ok (Some (coded.Truth true)))) (λ j. (sym h j, sym k j))
-        (truth_risen (program_at d) e.1 i kind (seen_true i (kind_in (program_at d) i) x kind (word.seen i (later i may)) (word.added 0 refl)));
+        subst (λ (z : Bool × Bool). AnswersRaise (program_at d) d.frame e.view i (coded.Truth z.0) (coded.Truth z.1) (Ok (Some (coded.Truth true)))) (λ j. (sym h j, sym k j))
+        (truth_risen (program_at d) e.view i kind (seen_true i (kind_in (program_at d) i) x kind (word.seen i (later i may)) (word.added 0 refl)));
     claims = truth_claims;
   }
 
@@ -99,7 +99,7 @@ wrapped f (Err fault) = Err fault
 
 module _ (d : Held) (i : Instance) (place : ℕ) (a : List ℕ) (b : CodedValue) where
   abbrev s : System
-  s = d.0.system.value
+  s = d.frame.system.value
 
   abbrev p : Program
   p = program_at d
@@ -109,7 +109,7 @@ module _ (d : Held) (i : Instance) (place : ℕ) (a : List ℕ) (b : CodedValue)
       let known = holds_of (IsKnown s) a all c (there_code a c there) in
       subst (λ (j : Kind). IsElementCode p j c × (has_code (text_of p) j (value_of (text_of p) (coded.Texts a)) c ≡ true)) (sym k) (known, has_text_code s c known a all ∙ there_code a c there)
 
-  pub texts_show : MayRise d i place (coded.Texts a) b → MayShowAll p d.0 d.1 i place a
+  pub texts_show : MayRise d i place (coded.Texts a) b → MayShowAll p d.frame d.view i place a
   texts_show may = record {
     cell = may.cell;
     instance = may.instance;
@@ -134,7 +134,7 @@ module _ (d : Held) (i : Instance) (place : ℕ) (a : List ℕ) (b : CodedValue)
       let within = has_node_code k a all ∙ there_code a k there in
       subst (λ (j : Kind). IsElementCode p j k × (has_code (text_of p) j (value_of (text_of p) (coded.Nodes a)) k ≡ true)) (sym q) ((low, node_code c (node_there c (kind_in p i) q typed) k low within), within)
 
-  pub nodes_show : MayRise d i place (coded.Nodes a) b → MayShowAll p d.0 d.1 i place a
+  pub nodes_show : MayRise d i place (coded.Nodes a) b → MayShowAll p d.frame d.view i place a
   nodes_show may =
       let k = kind_of_nodes p (kind_in p i) (node_set a) may.typed in
       record {
@@ -149,21 +149,21 @@ module _ (d e : Held) (place : ℕ) (a b : List ℕ) (on : GoesOn d e) where
   abbrev q : Program
   q = program_at d
 
-  later_shown : (i : Instance) (k : Kind) (x : Value) → kind_in q i ≡ k → ShowsAtLeast q d.1 i (kind_in q i) x → ShowsAtLeast q e.1 i k x
-  later_shown i k x is h = at_least_later q d.1 e.1 on.kept i k x (subst (λ (j : Kind). ShowsAtLeast q d.1 i j x) is h)
+  later_shown : (i : Instance) (k : Kind) (x : Value) → kind_in q i ≡ k → ShowsAtLeast q d.view i (kind_in q i) x → ShowsAtLeast q e.view i k x
+  later_shown i k x is h = at_least_later q d.view e.view on.kept i k x (subst (λ (j : Kind). ShowsAtLeast q d.view i j x) is h)
 
-  texts_answer : (i : Instance) → MayRise d i place (coded.Texts a) (coded.Texts b) → (r : Result (Option (List ℕ)) CircFault) → AnswersSet q d.0 e.1 i a b r → AnswersRaise q d.0 e.1 i (coded.Texts a) (coded.Texts b) (wrapped coded.Texts r)
-  texts_answer i may (Ok None) h = texts_most d.0.system.value e.1 i a b may.of h
+  texts_answer : (i : Instance) → MayRise d i place (coded.Texts a) (coded.Texts b) → (r : Result (Option (List ℕ)) CircFault) → AnswersSet q d.frame e.view i a b r → AnswersRaise q d.frame e.view i (coded.Texts a) (coded.Texts b) (wrapped coded.Texts r)
+  texts_answer i may (Ok None) h = texts_most d.frame.system.value e.view i a b may.of h
   texts_answer i may (Ok (Some both)) h =
       let k = kind_of_texts q (kind_in q i) (text_set q a) may.typed in
-      texts_risen d.0.system.value e.1 i k a b both h may.elements may.of (later_shown i kinds.Texts (value_of (text_of q) (coded.Texts b)) k may.shown)
+      texts_risen d.frame.system.value e.view i k a b both h may.elements may.of (later_shown i kinds.Texts (value_of (text_of q) (coded.Texts b)) k may.shown)
   texts_answer i may (Err fault) h = h
 
-  nodes_answer : (i : Instance) → MayRise d i place (coded.Nodes a) (coded.Nodes b) → (r : Result (Option (List ℕ)) CircFault) → AnswersSet q d.0 e.1 i a b r → AnswersRaise q d.0 e.1 i (coded.Nodes a) (coded.Nodes b) (wrapped coded.Nodes r)
-  nodes_answer i may (Ok None) h = nodes_most d.0.system.value e.1 i a b may.of h
+  nodes_answer : (i : Instance) → MayRise d i place (coded.Nodes a) (coded.Nodes b) → (r : Result (Option (List ℕ)) CircFault) → AnswersSet q d.frame e.view i a b r → AnswersRaise q d.frame e.view i (coded.Nodes a) (coded.Nodes b) (wrapped coded.Nodes r)
+  nodes_answer i may (Ok None) h = nodes_most d.frame.system.value e.view i a b may.of h
   nodes_answer i may (Ok (Some both)) h =
       let k = kind_of_nodes q (kind_in q i) (node_set a) may.typed in
-      nodes_risen d.0.system.value e.1 i k.0 k.1 a b both h may.elements may.of (later_shown i (kinds.Nodes k.0) (value_of (text_of q) (coded.Nodes b)) k.1 may.shown)
+      nodes_risen d.frame.system.value e.view i k.0 k.1 a b both h may.elements may.of (later_shown i (kinds.Nodes k.0) (value_of (text_of q) (coded.Nodes b)) k.1 may.shown)
   nodes_answer i may (Err fault) h = h
 
 pub texts_raised : (d e : Held) (place : ℕ) (a b : List ℕ) (r : Result (Option (List ℕ)) CircFault) → RaisesSet d e place a b r → RaisesValue d e place (coded.Texts a) (coded.Texts b) (wrapped coded.Texts r)

@@ -12,6 +12,7 @@ use Rattle.memo_cells.specs.declared.view.View.{View}
 use Rattle.memo_cells.specs.Claiming.{FillsCells}
 use Rattle.memo_cells.specs.Standing.{Knows}
 use Rattle.memo_cells.specs.Views.{Has}
+use Rattle.memo_cells.specs.Working.{Held, program_at}
 use Rattle.circular_eval.specs.declared.advancing.CircFault.{CircFault}
 use Rattle.circular_eval.specs.declared.advancing.CircFault.TheVariants.{CellsFull, Memory}
 use Rattle.circular_eval.specs.declared.advancing.CircTurn.{CircTurn}
@@ -63,3 +64,10 @@ abbrev pub AnswersTurn : Program → Frame → View → Local → Result CircTur
 AnswersTurn p f v l (Ok (Need n)) = IsMissing p v l n
 AnswersTurn p f v l (Ok Closed) = IsSealed p v l
 AnswersTurn p f v l (Err fault) = AnswersFault p (instance_of p l.start) f v fault
+
+-- the same with what is held before and after
+abbrev pub AnswersTurnAt : Held → Held → Local → Result CircTurn CircFault → Type 0
+AnswersTurnAt d e l result = AnswersTurn (program_at d) d.frame e.view l result
+
+abbrev pub AnswersFaultAt : Held → Held → CodedInstance → CircFault → Type 0
+AnswersFaultAt d e i fault = AnswersFault (program_at d) (instance_of (program_at d) i) d.frame e.view fault

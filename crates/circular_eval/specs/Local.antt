@@ -22,7 +22,7 @@ use Rattle.memo_cells.specs.Naming.{IsCellOf}
 use Rattle.memo_cells.specs.Showing.{ShowsAtLeast}
 use Rattle.memo_cells.specs.Standing.{Knows}
 use Rattle.memo_cells.specs.Views.{Has}
-use Rattle.memo_cells.specs.Working.{IsKnown}
+use Rattle.memo_cells.specs.Working.{Held, IsKnown, program_at}
 use Rattle.circular_eval.specs.declared.local.Local.{Local}
 use Rattle.circular_eval.specs.declared.members.Member.{Member}
 
@@ -138,6 +138,14 @@ pub record IsLocal (p : Program) (f : Frame) (v : View) (l : Local) : Type 0 whe
   pub set : AreMembers p f v l.start l.members.entries
   pub need : IsNeedOf p l.members.entries l.need
   pub saved : IsKept f.system.value (ReadsHere p v l.members.entries) l.saved
+
+-- the same under what is held
+abbrev pub IsLocalAt : Held → Local → Type 0
+IsLocalAt d l = IsLocal (program_at d) d.frame d.view l
+
+-- a local set of what was held before, under what is held now
+abbrev pub IsStillLocal : Held → Held → Local → Type 0
+IsStillLocal d e l = IsLocal (program_at d) d.frame e.view l
 
 -- a local set of i under what any pass of any cells knows, in each program of which i is a circular instance
 abbrev pub IsLocalOf : CodedInstance → Local → Type 0

@@ -8,18 +8,21 @@ use Rattle.equation_law.specs.Equations.{equations_of}
 use Rattle.equation_law.specs.Names.{Instance}
 use Rattle.equation_law.specs.Program.{Program, text_of}
 use Rattle.equation_law.specs.Reading.{Told}
+use Rattle.equation_law.specs.Systems.{program_of}
+use Rattle.expr_eval.specs.declared.saved.Saved.{Saved}
 use Rattle.expr_eval.specs.declared.sites.Turn.{Turn}
 use Rattle.expr_eval.specs.declared.sites.Turn.TheVariants as turns
+use Rattle.expr_eval.specs.Saved.{AreSaved}
 use Rattle.memo_cells.specs.declared.view.View.{View}
-use Rattle.memo_cells.specs.Working.{Held, IsOwn, program_at}
+use Rattle.memo_cells.specs.Working.{Held, IsForSystem, IsOwn, program_at}
 use Rattle.circular_eval.specs.declared.local.Local.{Local}
 use Rattle.circular_eval.specs.Local.{AreKept, MayRead, Members, ReadsHere}
 
 -- over what a work holds and the members of a set
 abbrev pub told_here : {S : Type 0} → Held → System → Members → (S → Type 0) → Told S
 told_here d s es keeps = record {
-  for = λ p. (p ≡ program_at d) × (d.0.system.value ≡ s) × IsOwn d × AreKept p es;
-  has = ReadsHere (program_at d) d.1 es;
+  for = λ p. (p ≡ program_at d) × IsForSystem d s × IsOwn d × AreKept p es;
+  has = ReadsHere (program_at d) d.view es;
   can = MayRead (program_at d) es;
   keeps = keeps;
 }
@@ -30,5 +33,9 @@ ComesTo p v es i (turns.Done x) = ((ds : List Instance) × Ends (ReadsHere p v e
 ComesTo p v es i (turns.Need n) = ((ds : List Instance) × Halts (ReadsHere p v es) ((equations_of p).equation i) (instance_of p n) ds) × IsCoded p n
 
 -- the same of the instance that is coded so, by what a work holds and under the values of a local set
-abbrev pub ComesHere : Program → Held → Local → CodedInstance → Turn → Type 0
-ComesHere p d l i turn = ComesTo p d.1 l.members.entries (instance_of p i) turn
+abbrev pub ComesHere : Held → Local → CodedInstance → Turn → Type 0
+ComesHere d l i turn = ComesTo (program_at d) d.view l.members.entries (instance_of (program_at d) i) turn
+
+-- what an evaluation over the system s left behind is so, by what is held and under the values of a local set
+abbrev pub AreSavedHere : System → Held → Local → Saved → Type 0
+AreSavedHere s d l x = AreSaved s (ReadsHere (program_of s) d.view l.members.entries) x

@@ -17,7 +17,7 @@ use Rattle.memo_cells.specs.Working.{GoesOn, Held, program_at}
 use Rattle.circular_eval.specs.declared.advancing.CircFault.{CircFault}
 use Rattle.circular_eval.specs.declared.local.Local.{Local}
 use Rattle.circular_eval.specs.declared.members.Member.{Member}
-use Rattle.circular_eval.specs.Advancing.{AnswersFault, IsSealed}
+use Rattle.circular_eval.specs.Advancing.{AnswersFaultAt, IsSealed}
 use Rattle.circular_eval.specs.Local.{IsLocal, Members}
 use Rattle.circular_eval.specs.Visiting.{GoesOnWith}
 use Rattle.worklists.specs.Waiting.{IsClosed}
@@ -93,9 +93,9 @@ SealsMember part old new k = (p : Program) (f : Frame) (v : View) → IsLocal p 
 
 -- what sealing parts of a local set says, with what is held before and after
 pub record SealsPart {X : Type 0} (d e : Held) (old new : Local) (result : Result X CircFault) : Type 0 where
-  pub goes : GoesOnWith (program_at d) d e old new
+  pub goes : GoesOnWith d e old new
   pub members : SameMembers old.members.entries new.members.entries
-  pub fault : IfErr result (AnswersFault (program_at d) (instance_of (program_at d) old.start) d.0 e.1)
+  pub fault : IfErr result (AnswersFaultAt d e old.start)
 
 -- i led to an instance that isn't circular, and whose value was missing then
 pub record HadToWait (d e : Held) (i : CodedInstance) : Type 0 where
@@ -105,7 +105,7 @@ pub record HadToWait (d e : Held) (i : CodedInstance) : Type 0 where
   pub need : CodedInstance
   pub reached : Chain (program_at d) (instance_of (program_at d) i) (instance_of (program_at d) need)
   pub undeclared : (equations_of (program_at d)).circular (instance_of (program_at d) need) ≡ false
-  pub unknown : ¬ Knows (program_at d) then.1 (instance_of (program_at d) need)
+  pub unknown : ¬ Knows (program_at d) then.view (instance_of (program_at d) need)
 
 -- whether the member of this number is sealed now; where it isn't it had to wait
 abbrev pub AnswersPart : Held → Held → Members → Members → ℕ → Bool → Type 0

@@ -42,20 +42,20 @@ AnswersSet p f v i set other (Err fault) = LacksSome p f v i set fault
 -- what raising a set says of the instance of the cell, with what is held before and after
 pub record RaisesSet (d e : Held) (place : ℕ) (set other : List ℕ) (result : Result (Option (List ℕ)) CircFault) : Type 0 where
   pub on : GoesOn d e
-  pub answer : (i : Instance) → MayShowAll (program_at d) d.0 d.1 i place set → AnswersSet (program_at d) d.0 e.1 i set other result
-  pub claims : (i : Instance) → MayShowAll (program_at d) d.0 d.1 i place set → ClaimsWords (program_at d) d.1 e.1 i set
+  pub answer : (i : Instance) → MayShowAll (program_at d) d.frame d.view i place set → AnswersSet (program_at d) d.frame e.view i set other result
+  pub claims : (i : Instance) → MayShowAll (program_at d) d.frame d.view i place set → ClaimsWords (program_at d) d.view e.view i set
 
 -- The equation of the circular instance i of this cell comes to the one value, and the words show the other one.
 pub record MayRise (d : Held) (i : Instance) (place : ℕ) (value other : CodedValue) : Type 0 where
-  pub cell : IsCellOf (program_at d) d.0 d.1 i place
+  pub cell : IsCellOf (program_at d) d.frame d.view i place
   pub instance : IsInstance (program_at d) i
   pub is_circular : (equations_of (program_at d)).circular i ≡ true
-  pub comes : ComesTo (program_at d) d.1 i (value_of (text_of (program_at d)) value)
+  pub comes : ComesTo (program_at d) d.view i (value_of (text_of (program_at d)) value)
   pub typed : IsValue (program_at d) (kind_in (program_at d) i) (value_of (text_of (program_at d)) value)
   pub elements : AreElements (program_at d) value
   pub of : AreElements (program_at d) other
   pub fits : FitsKind (kind_in (program_at d) i) (value_of (text_of (program_at d)) other)
-  pub shown : ShowsAtLeast (program_at d) d.1 i (kind_in (program_at d) i) (value_of (text_of (program_at d)) other)
+  pub shown : ShowsAtLeast (program_at d) d.view i (kind_in (program_at d) i) (value_of (text_of (program_at d)) other)
 
 -- both joined, which is shown and is more than the other one
 pub record IsRisen (p : Program) (v : View) (i : Instance) (value other both : CodedValue) : Type 0 where
@@ -72,5 +72,5 @@ AnswersRaise p f v i value other (Err fault) = LacksSome p f v i (set_codes valu
 -- what raising a value says of the instance of the cell
 pub record RaisesValue (d e : Held) (place : ℕ) (value other : CodedValue) (result : Result (Option CodedValue) CircFault) : Type 0 where
   pub on : GoesOn d e
-  pub answer : (i : Instance) → MayRise d i place value other → AnswersRaise (program_at d) d.0 e.1 i value other result
-  pub claims : (i : Instance) → MayRise d i place value other → ClaimsWords (program_at d) d.1 e.1 i (set_codes value)
+  pub answer : (i : Instance) → MayRise d i place value other → AnswersRaise (program_at d) d.frame e.view i value other result
+  pub claims : (i : Instance) → MayRise d i place value other → ClaimsWords (program_at d) d.view e.view i (set_codes value)

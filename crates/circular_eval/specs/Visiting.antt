@@ -13,38 +13,36 @@ use Rattle.equation_law.specs.Program.{Program, text_of}
 use Rattle.equation_law.specs.Systems.{program_of}
 use Rattle.expr_eval.specs.declared.saved.Saved.{Saved}
 use Rattle.expr_eval.specs.declared.sites.Turn.{Turn}
-use Rattle.expr_eval.specs.Saved.{AreSaved}
 use Rattle.memo_cells.specs.declared.view.Frame.{Frame}
 use Rattle.memo_cells.specs.declared.view.View.{View}
-use Rattle.memo_cells.specs.Claiming.{ClaimsKeys}
 use Rattle.memo_cells.specs.Naming.{IsCellOf}
 use Rattle.memo_cells.specs.Showing.{ShowsAtLeast}
 use Rattle.memo_cells.specs.Views.{Has}
-use Rattle.memo_cells.specs.Working.{GoesOn, Held, IsOwn, program_at}
+use Rattle.memo_cells.specs.Working.{ClaimsKeysFor, GoesOn, Held, IsForSystem, IsOwn, program_at}
 use Rattle.circular_eval.specs.declared.advancing.CircFault.{CircFault}
 use Rattle.circular_eval.specs.declared.advancing.CircTurn.{CircTurn}
 use Rattle.circular_eval.specs.declared.local.Local.{Local}
 use Rattle.circular_eval.specs.declared.members.Member.{Member}
 use Rattle.circular_eval.specs.declared.visiting.Visited.{Visited}
 use Rattle.circular_eval.specs.declared.visiting.Visited.TheVariants.{Changed, Need, Same}
-use Rattle.circular_eval.specs.Advancing.{AnswersFault, AnswersTurn, IsMissing}
+use Rattle.circular_eval.specs.Advancing.{AnswersFault, AnswersFaultAt, AnswersTurnAt, IsMissing}
 use Rattle.circular_eval.specs.Left.{left}
-use Rattle.circular_eval.specs.Local.{IsCurrent, IsLedBy, IsLocal, IsMemberOf, Members, ReadsHere, StillMembers}
-use Rattle.circular_eval.specs.Looking.{ComesTo}
+use Rattle.circular_eval.specs.Local.{IsCurrent, IsLedBy, IsLocal, IsMemberOf, IsStillLocal, Members, StillMembers}
+use Rattle.circular_eval.specs.Looking.{AreSavedHere, ComesHere}
 
 -- a local set of the system, under what is held
 pub record IsReady (s : System) (d : Held) (l : Local) : Type 0 where
   pub program : IsProgram (program_of s)
-  pub same : d.0.system.value ≡ s
+  pub same : IsForSystem d s
   pub own : IsOwn d
-  pub local : IsLocal (program_of s) d.0 d.1 l
+  pub local : IsLocal (program_of s) d.frame d.view l
 
 -- what was held went on, and the local set with it
-pub record GoesOnWith (p : Program) (d e : Held) (old new : Local) : Type 0 where
+pub record GoesOnWith (d e : Held) (old new : Local) : Type 0 where
   pub on : GoesOn d e
-  pub local : IsLocal p d.0 e.1 new
+  pub local : IsStillLocal d e new
   pub start : new.start ≡ old.start
-  pub claims : ClaimsKeys p (instance_of p old.start) d.1 e.1
+  pub claims : ClaimsKeysFor d e old.start
   pub some : 0 < length old.members.entries → 0 < length new.members.entries
 
 -- a circular instance that is no member yet, and is the start or led to by this member
@@ -55,6 +53,9 @@ pub record IsNew (p : Program) (l : Local) (i : CodedInstance) (by : Option ℕ)
   pub absent : ¬ IsMemberOf p l.members.entries (instance_of p i)
   pub led : IsLedBy p l.members.entries l.start (length l.members.entries) i by
 
+abbrev pub IsNewAt : Held → Local → CodedInstance → Option ℕ → Type 0
+IsNewAt d l i by = IsNew (program_at d) l i by
+
 -- a value that a member may begin with: it is of its type, and at most what its words show
 pub record BeginsWith (p : Program) (v : View) (i : Instance) (x : CodedValue) : Type 0 where
   pub elements : AreElements p x
@@ -62,15 +63,15 @@ pub record BeginsWith (p : Program) (v : View) (i : Instance) (x : CodedValue) :
   pub shown : ShowsAtLeast p v i (kind_in p i) (value_of (text_of p) x)
 
 -- what has its cell at this place, and is of this type, a set or a truth value, may begin with x, with what is held before and after
-abbrev pub BeginsAt : Program → Held → Held → ℕ → Kind → CodedValue → Type 0
-BeginsAt p d e place kind x = (i : Instance) → IsCellOf p d.0 d.1 i place → kind_in p i ≡ kind → is_ordered kind ≡ true → BeginsWith p e.1 i x
+abbrev pub BeginsAt : Held → Held → ℕ → Kind → CodedValue → Type 0
+BeginsAt d e place kind x = (i : Instance) → IsCellOf (program_at d) d.frame d.view i place → kind_in (program_at d) i ≡ kind → is_ordered kind ≡ true → BeginsWith (program_at d) e.view i x
 
 -- what the equation of the member of this number comes to, which wasn't sealed when it was met
-pub record ComesAt (p : Program) (v : View) (es : Members) (number : ℕ) (turn : Turn) : Type 0 where
+pub record ComesAt (d : Held) (l : Local) (number : ℕ) (turn : Turn) : Type 0 where
   pub entry : CodedInstance × Member
-  pub at : slice_get es number ≡ Some entry
+  pub at : slice_get l.members.entries number ≡ Some entry
   pub placed : IsSome entry.1.slot
-  pub comes : ComesTo p v es (instance_of p entry.0) turn
+  pub comes : ComesHere d l entry.0 turn
 
 -- the member's equation holds, unless it was sealed when it was met
 abbrev pub IsConfirmed : Program → View → Members → CodedInstance × Member → Type 0
@@ -87,11 +88,11 @@ pub record Stays (p : Program) (v : View) (old new : Local) (number : ℕ) : Typ
 
 -- what making a circular instance a member says, with what is held before and after
 pub record Admits (d e : Held) (old new : Local) (result : Result Unit CircFault) : Type 0 where
-  pub goes : GoesOnWith (program_at d) d e old new
+  pub goes : GoesOnWith d e old new
   pub grown : OnOk result (left new.members.entries < left old.members.entries)
   pub still : OnOk result (StillMembers (program_at d) old.members.entries new.members.entries)
   pub some : OnOk result (0 < length new.members.entries)
-  pub fault : IfErr result (AnswersFault (program_at d) (instance_of (program_at d) old.start) d.0 e.1)
+  pub fault : IfErr result (AnswersFaultAt d e old.start)
 
 abbrev pub AnswersVisit : Program → Frame → View → Local → Local → ℕ → Result Visited CircFault → Type 0
 AnswersVisit p f v old new number (Ok (Need n)) = IsMissing p v new n
@@ -101,8 +102,8 @@ AnswersVisit p f v old new number (Err fault) = AnswersFault p (instance_of p ol
 
 -- what a visit of the member of this number says
 pub record Visits (d e : Held) (old new : Local) (number : ℕ) (result : Result Visited CircFault) : Type 0 where
-  pub goes : GoesOnWith (program_at d) d e old new
-  pub answer : AnswersVisit (program_at d) d.0 e.1 old new number result
+  pub goes : GoesOnWith d e old new
+  pub answer : AnswersVisit (program_at d) d.frame e.view old new number result
 
 -- None where a member was added, under whose value the evaluation may go on
 abbrev pub AnswersStep : Program → Frame → View → Local → Local → ℕ → Result (Option Visited) CircFault → Type 0
@@ -114,16 +115,16 @@ AnswersStep p f v old new number (Err fault) = AnswersFault p (instance_of p old
 
 -- what going on with the evaluation of the member of this number says
 pub record Steps (d e : Held) (old new : Local) (number : ℕ) (result : Result (Option Visited) CircFault) : Type 0 where
-  pub goes : GoesOnWith (program_at d) d e old new
-  pub answer : AnswersStep (program_at d) d.0 e.1 old new number result
+  pub goes : GoesOnWith d e old new
+  pub answer : AnswersStep (program_at d) d.frame e.view old new number result
 
 -- what is saved stays so, unless the evaluation has ended
-abbrev pub KeepsSaved : System → View → Members → Saved → Result (Option Visited) CircFault → Type 0
-KeepsSaved s v es x (Ok None) = AreSaved s (ReadsHere (program_of s) v es) x
-KeepsSaved s v es x (Ok (Some (Need n))) = AreSaved s (ReadsHere (program_of s) v es) x
-KeepsSaved s v es x (Ok (Some Changed)) = Unit {0}
-KeepsSaved s v es x (Ok (Some Same)) = Unit {0}
-KeepsSaved s v es x (Err fault) = Unit {0}
+abbrev pub KeepsSaved : System → Held → Local → Saved → Result (Option Visited) CircFault → Type 0
+KeepsSaved s d l x (Ok None) = AreSavedHere s d l x
+KeepsSaved s d l x (Ok (Some (Need n))) = AreSavedHere s d l x
+KeepsSaved s d l x (Ok (Some Changed)) = Unit {0}
+KeepsSaved s d l x (Ok (Some Same)) = Unit {0}
+KeepsSaved s d l x (Err fault) = Unit {0}
 
 abbrev pub AnswersPass : Program → Frame → View → Local → Local → Result Visited CircFault → Type 0
 AnswersPass p f v old new (Ok (Need n)) = IsMissing p v new n
@@ -133,8 +134,8 @@ AnswersPass p f v old new (Err fault) = AnswersFault p (instance_of p old.start)
 
 -- what a pass over all members says
 pub record Passes (d e : Held) (old new : Local) (result : Result Visited CircFault) : Type 0 where
-  pub goes : GoesOnWith (program_at d) d e old new
-  pub answer : AnswersPass (program_at d) d.0 e.1 old new result
+  pub goes : GoesOnWith d e old new
+  pub answer : AnswersPass (program_at d) d.frame e.view old new result
 
 abbrev pub AnswersAgain : Program → Frame → View → Local → Local → Result (Option CodedInstance) CircFault → Type 0
 AnswersAgain p f v old new (Ok (Some n)) = IsMissing p v new n
@@ -143,8 +144,8 @@ AnswersAgain p f v old new (Err fault) = AnswersFault p (instance_of p old.start
 
 -- what going on says with the member whose equation stopped last
 pub record GoesAgain (d e : Held) (old new : Local) (result : Result (Option CodedInstance) CircFault) : Type 0 where
-  pub goes : GoesOnWith (program_at d) d e old new
-  pub answer : AnswersAgain (program_at d) d.0 e.1 old new result
+  pub goes : GoesOnWith d e old new
+  pub answer : AnswersAgain (program_at d) d.frame e.view old new result
 
 abbrev pub AnswersClose : Program → Frame → View → Local → Local → Result (Option CodedInstance) CircFault → Type 0
 AnswersClose p f v old new (Ok (Some n)) = IsMissing p v new n
@@ -153,17 +154,17 @@ AnswersClose p f v old new (Err fault) = AnswersFault p (instance_of p old.start
 
 -- what passes say until nothing changes
 pub record Closes (d e : Held) (old new : Local) (result : Result (Option CodedInstance) CircFault) : Type 0 where
-  pub goes : GoesOnWith (program_at d) d e old new
-  pub answer : AnswersClose (program_at d) d.0 e.1 old new result
+  pub goes : GoesOnWith d e old new
+  pub answer : AnswersClose (program_at d) d.frame e.view old new result
 
 -- what making the start a member says
 pub record Begins (d e : Held) (old new : Local) (result : Result Unit CircFault) : Type 0 where
-  pub goes : GoesOnWith (program_at d) d e old new
+  pub goes : GoesOnWith d e old new
   pub some : OnOk result (0 < length new.members.entries)
-  pub fault : IfErr result (AnswersFault (program_at d) (instance_of (program_at d) old.start) d.0 e.1)
+  pub fault : IfErr result (AnswersFaultAt d e old.start)
 
 -- what going on with a local set says
 pub record Advances (d e : Held) (old new : Local) (result : Result CircTurn CircFault) : Type 0 where
-  pub goes : GoesOnWith (program_at d) d e old new
+  pub goes : GoesOnWith d e old new
   pub begun : OnOk result (0 < length new.members.entries)
-  pub answer : AnswersTurn (program_at d) d.0 e.1 new result
+  pub answer : AnswersTurnAt d e new result

@@ -1,12 +1,10 @@
 // Going on with a local set.
 ghost use Rattle.std.specs.Prelude.{◌≡◌};
 ghost use Rattle.equation_law.specs.Checked.{IsProgram};
-ghost use Rattle.equation_law.specs.Codes.{instance_of};
 ghost use Rattle.equation_law.specs.Systems.{program_of};
-ghost use Rattle.memo_cells.specs.Claiming.{ClaimsKeys};
-ghost use Rattle.memo_cells.specs.Working.{GoesOn, IsOwn};
-ghost use Rattle.circular_eval.specs.Advancing.{AnswersTurn};
-ghost use Rattle.circular_eval.specs.Local.{IsLocal};
+ghost use Rattle.memo_cells.specs.Working.{ClaimsKeysFor, GoesOn, IsForSystem, IsOwn};
+ghost use Rattle.circular_eval.specs.Advancing.{AnswersTurnAt};
+ghost use Rattle.circular_eval.specs.Local.{IsLocalAt, IsStillLocal};
 ghost use Rattle.circular_eval.specs.Visiting.{Advances, Begins, Closes, GoesAgain, IsReady, Passes};
 
 use crate::local::Local;
@@ -219,14 +217,14 @@ pub fn advance<'a, W: Work>(
     local: &mut Local<'a>,
 ) -> Result<CircTurn, CircFault>
     requires program { IsProgram (program_of system.now) }
-    requires same { (W.held work.old).0.system.value ≡ system.now }
+    requires same { IsForSystem (W.held work.old) system.now }
     requires own { IsOwn (W.held work.old) }
-    requires local { IsLocal (program_of system.now) (W.held work.old).0 (W.held work.old).1 local.old }
+    requires local { IsLocalAt (W.held work.old) local.old }
     ensures on { GoesOn (W.held work.old) (W.held work.new) }
-    ensures local { IsLocal (program_of system.now) (W.held work.old).0 (W.held work.new).1 local.new }
+    ensures local { IsStillLocal (W.held work.old) (W.held work.new) local.new }
     ensures start { local.new.start ≡ local.old.start }
-    ensures claims { ClaimsKeys (program_of system.now) (instance_of (program_of system.now) local.old.start) (W.held work.old).1 (W.held work.new).1 }
-    ensures answer { AnswersTurn (program_of system.now) (W.held work.old).0 (W.held work.new).1 local.new result }
+    ensures claims { ClaimsKeysFor (W.held work.old) (W.held work.new) local.old.start }
+    ensures answer { AnswersTurnAt (W.held work.old) (W.held work.new) local.new result }
 {
     go_on(alloc, system, work, local)
 }

@@ -1,7 +1,6 @@
 // Claiming the cell of an instance, and whether it is new.
 ghost use Rattle.std.specs.Prelude.{IfOk, OnErr};
-ghost use Rattle.equation_law.specs.Codes.{IsCoded};
-ghost use Rattle.memo_cells.specs.Working.{ClaimsKeysAt, GoesOn, IsCellAt, IsInstanceAt, IsOwn, LacksCellAt, ReadsOn, program_at};
+ghost use Rattle.memo_cells.specs.Working.{ClaimsKeysAt, GoesOn, IsCellAt, IsCodedAt, IsInstanceAt, IsOwn, LacksCellAt, ReadsOn};
 
 use equation_law::Instance;
 use memo_cells::{CellsFull, Key, Slot, Work, claim_instance};
@@ -29,7 +28,7 @@ fn is_unclaimed<W: Work>(work: &mut W, i: Instance) -> bool
 pub(crate) fn open_cell<W: Work>(work: &mut W, i: Instance) -> Result<Opened, CellsFull>
     requires own { IsOwn (W.held work.old) }
     requires instance { IsInstanceAt (W.held work.old) i }
-    requires coded { IsCoded (program_at (W.held work.old)) i }
+    requires coded { IsCodedAt (W.held work.old) i }
     ensures on { GoesOn (W.held work.old) (W.held work.new) }
     ensures slot { IfOk result (λ o. IsCellAt (W.held work.old) (W.held work.new) i o.slot.0) }
     ensures full { OnErr result (LacksCellAt (W.held work.old) (W.held work.new) i) }

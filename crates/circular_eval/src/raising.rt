@@ -1,8 +1,8 @@
 // Raising the words of a member.
 ghost use Rattle.std.specs.Prelude.{◌<◌};
 ghost use Rattle.equation_law.specs.Names.{Instance};
-ghost use Rattle.memo_cells.specs.Working.{IsOwn, program_at};
-ghost use Rattle.memo_cells.specs.SetRaising.{MayShowAll};
+ghost use Rattle.memo_cells.specs.Working.{IsOwn};
+ghost use Rattle.memo_cells.specs.SetRaising.{MayShowAllAt};
 ghost use Rattle.circular_eval.specs.Left.{code_bound};
 ghost use Rattle.circular_eval.specs.Rising.{MayRise, RaisesSet, RaisesValue};
 
@@ -29,7 +29,7 @@ fn raise_set<W: Work>(
     other: &Codes,
 ) -> Result<Option<Codes>, CircFault>
     requires own { IsOwn (W.held work.old) }
-    requires may { (i : Instance) × MayShowAll (program_at (W.held work.old)) (W.held work.old).0 (W.held work.old).1 i slot.0 set.now }
+    requires may { MayShowAllAt (W.held work.old) slot.0 set.now }
     ensures { RaisesSet (W.held work.old) (W.held work.new) slot.0 set.now other.now result }
 {
     let codes = set.minus(alloc, other)?.list(alloc)?;

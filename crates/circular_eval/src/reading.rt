@@ -3,10 +3,9 @@ ghost use Rattle.std.specs.Prelude.{◌≡◌, IfOk, None};
 ghost use Rattle.equation_law.specs.Equations.{collection_of};
 ghost use Rattle.equation_law.specs.Codes.{IsCoded, instance_of};
 ghost use Rattle.equation_law.specs.Systems.{program_of};
-ghost use Rattle.memo_cells.specs.Working.{IsOwn, ReadsOn};
-ghost use Rattle.expr_eval.specs.Saved.{AreSaved};
-ghost use Rattle.circular_eval.specs.Local.{AreKept, ReadsHere};
-ghost use Rattle.circular_eval.specs.Looking.{ComesHere};
+ghost use Rattle.memo_cells.specs.Working.{IsForSystem, IsOwn, ReadsOn};
+ghost use Rattle.circular_eval.specs.Local.{AreKept};
+ghost use Rattle.circular_eval.specs.Looking.{AreSavedHere, ComesHere};
 
 use crate::local::Local;
 use equation_law::{Instance, Reader, System, Value};
@@ -61,14 +60,14 @@ pub(crate) fn evaluate<'a, W: Work>(
     saved: &mut Saved<'a>,
 ) -> Result<Came, Memory>
     requires own { IsOwn (W.held work.old) }
-    requires same { (W.held work.old).0.system.value ≡ system.now }
+    requires same { IsForSystem (W.held work.old) system.now }
     requires coded { IsCoded (program_of system.now) i.now }
     requires single { collection_of (program_of system.now) (instance_of (program_of system.now) i.now) ≡ None }
     requires kept { AreKept (program_of system.now) local.now.members.entries }
-    requires saved { AreSaved system.now (ReadsHere (program_of system.now) (W.held work.old).1 local.now.members.entries) saved.old }
+    requires saved { AreSavedHere system.now (W.held work.old) local.now saved.old }
     ensures on { ReadsOn (W.held work.old) (W.held work.new) }
-    ensures came { IfOk result (λ came. ComesHere (program_of system.now) (W.held work.new) local.now i.now came.turn) }
-    ensures saved { AreSaved system.now (ReadsHere (program_of system.now) (W.held work.new).1 local.now.members.entries) saved.new }
+    ensures came { IfOk result (λ came. ComesHere (W.held work.new) local.now i.now came.turn) }
+    ensures saved { AreSavedHere system.now (W.held work.new) local.now saved.new }
 {
     let mut read = Vec::new(alloc);
     let mut reader = LocalReader {

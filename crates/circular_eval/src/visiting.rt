@@ -1,12 +1,10 @@
 // Visiting one member of a local set.
-ghost use Rattle.std.specs.Prelude.{◌≡◌, IfOk};
-ghost use Rattle.equation_law.specs.Systems.{program_of};
-ghost use Rattle.memo_cells.specs.Working.{HasCell, IsOwn, ReadsOn, program_at};
+ghost use Rattle.std.specs.Prelude.{IfOk};
+ghost use Rattle.memo_cells.specs.Working.{HasCell, IsForSystem, IsOwn, ReadsOn};
 ghost use Rattle.expr_eval.specs.declared.sites.Turn.TheVariants as turns;
-ghost use Rattle.expr_eval.specs.Saved.{AreSaved};
 ghost use Rattle.equation_law.specs.declared.system.System.{System as KeptSystem};
-ghost use Rattle.circular_eval.specs.Local.{ReadsHere};
-ghost use Rattle.circular_eval.specs.Visiting.{Admits, BeginsAt, ComesAt, IsNew, IsReady, KeepsSaved, Steps, Visits};
+ghost use Rattle.circular_eval.specs.Looking.{AreSavedHere};
+ghost use Rattle.circular_eval.specs.Visiting.{Admits, BeginsAt, ComesAt, IsNewAt, IsReady, KeepsSaved, Steps, Visits};
 
 use crate::advancing::CircFault;
 use crate::claiming::{Opened, open_cell};
@@ -41,10 +39,10 @@ fn first_value<W: Work>(
     kind: Kind,
 ) -> Result<Value, Memory>
     requires own { IsOwn (W.held work.old) }
-    requires same { (W.held work.old).0.system.value ≡ system.now }
-    requires cell { HasCell (program_of system.now) (W.held work.old) opened.slot.0 }
+    requires same { IsForSystem (W.held work.old) system.now }
+    requires cell { HasCell (W.held work.old) opened.slot.0 }
     ensures on { ReadsOn (W.held work.old) (W.held work.new) }
-    ensures begins { IfOk result (BeginsAt (program_of system.now) (W.held work.old) (W.held work.new) opened.slot.0 kind) }
+    ensures begins { IfOk result (BeginsAt (W.held work.old) (W.held work.new) opened.slot.0 kind) }
 {
     if opened.is_new {
         return Ok(Value::default_of(alloc, kind));
@@ -62,7 +60,7 @@ pub(crate) fn admit<W: Work>(
     by: Option<usize>,
 ) -> Result<(), CircFault>
     requires ready { IsReady system.now (W.held work.old) local.old }
-    requires new { IsNew (program_at (W.held work.old)) local.old i by }
+    requires new { IsNewAt (W.held work.old) local.old i by }
     ensures { Admits (W.held work.old) (W.held work.new) local.old local.new result }
 {
     if let Some(value) = work.settled(alloc, &i)? {
@@ -92,7 +90,7 @@ fn absorb<W: Work>(
     value: &Value,
 ) -> Result<Option<Visited>, CircFault>
     requires ready { (s : KeptSystem) × IsReady s (W.held work.old) local.old }
-    requires came { ComesAt (program_at (W.held work.old)) (W.held work.old).1 local.old.members.entries number (turns.Done value.now) }
+    requires came { ComesAt (W.held work.old) local.old number (turns.Done value.now) }
     ensures { Steps (W.held work.old) (W.held work.new) local.old local.new number result }
 {
     let Some((_, member)) = local.member(number) else {
@@ -118,7 +116,7 @@ fn follow<W: Work>(
     turn: Turn,
 ) -> Result<Option<Visited>, CircFault>
     requires ready { IsReady system.now (W.held work.old) local.old }
-    requires came { ComesAt (program_at (W.held work.old)) (W.held work.old).1 local.old.members.entries number turn }
+    requires came { ComesAt (W.held work.old) local.old number turn }
     ensures { Steps (W.held work.old) (W.held work.new) local.old local.new number result }
 {
     match turn {
@@ -145,9 +143,9 @@ fn step<'a, W: Work>(
     saved: &mut Saved<'a>,
 ) -> Result<Option<Visited>, CircFault>
     requires ready { IsReady system.now (W.held work.old) local.old }
-    requires saved { AreSaved system.now (ReadsHere (program_of system.now) (W.held work.old).1 local.old.members.entries) saved.old }
+    requires saved { AreSavedHere system.now (W.held work.old) local.old saved.old }
     ensures steps { Steps (W.held work.old) (W.held work.new) local.old local.new number result }
-    ensures saved { KeepsSaved system.now (W.held work.new).1 local.new.members.entries saved.new result }
+    ensures saved { KeepsSaved system.now (W.held work.new) local.new saved.new result }
 {
     let Some((instance, member)) = local.member(number) else {
         return Ok(Some(Visited::Same));

@@ -41,8 +41,8 @@ seal-requires-clause-own g c =
 
 pub seal-requires-clause-may : goal.seal-requires-clause-may
 seal-requires-clause-may g c =
-    subst (λ (l : List Slot). MaySeal (program_at (g.W.Words.held c.close.new.work)) (g.W.Words.held c.close.new.work).0 (g.W.Words.held c.close.new.work).1 (map (λ x. x.0) l)) (sym c.deref.ensures.value) (on_may (g.W.Words.held c.args.work.now) (g.W.Words.held c.begin.new.work) (g.W.Words.held c.close.new.work) c.args.local.now c.begin.new.local c.close.new.local c.begin.ensures.goes c.args.system.now c.requires.ready c.in_ok-begin.ensures.some (subst (λ (o : Option CodedInstance). Closes (g.W.Words.held c.begin.new.work) (g.W.Words.held c.close.new.work) c.begin.new.local c.close.new.local (Ok o)) c.in_default.is c.in_ok-need.ensures) c.in_ok-slots.slots.items c.in_ok-slots.ensures)
+    subst (λ (l : List Slot). MaySeal (program_at (g.W.Words.held c.close.new.work)) (g.W.Words.held c.close.new.work).frame (g.W.Words.held c.close.new.work).view (map (λ x. x.0) l)) (sym c.deref.ensures.value) (on_may (g.W.Words.held c.args.work.now) (g.W.Words.held c.begin.new.work) (g.W.Words.held c.close.new.work) c.args.local.now c.begin.new.local c.close.new.local c.begin.ensures.goes c.args.system.now c.requires.ready c.in_ok-begin.ensures.some (subst (λ (o : Option CodedInstance). Closes (g.W.Words.held c.begin.new.work) (g.W.Words.held c.close.new.work) c.begin.new.local c.close.new.local (Ok o)) c.in_default.is c.in_ok-need.ensures) c.in_ok-slots.slots.items c.in_ok-slots.ensures)
 
 pub returns : goal.returns
 returns g c =
-    on_closed (g.W.Words.held c.args.work.now) (g.W.Words.held c.begin.new.work) (g.W.Words.held c.close.new.work) c.args.local.now c.begin.new.local c.close.new.local c.begin.ensures.goes c.args.system.now c.requires.ready c.in_ok-begin.ensures.some (subst (λ (o : Option CodedInstance). Closes (g.W.Words.held c.begin.new.work) (g.W.Words.held c.close.new.work) c.begin.new.local c.close.new.local (Ok o)) c.in_default.is c.in_ok-need.ensures) c.in_ok-slots.slots.items c.in_ok-slots.ensures (g.W.Words.held c.seal.new.self) c.seal.ensures.on (subst (λ (l : List Slot). AreSealed (g.W.Words.held c.close.new.work).1 (g.W.Words.held c.seal.new.self).1 (map (λ x. x.0) l)) c.deref.ensures.value c.seal.ensures.sealed)
+    on_closed (g.W.Words.held c.args.work.now) (g.W.Words.held c.begin.new.work) (g.W.Words.held c.close.new.work) c.args.local.now c.begin.new.local c.close.new.local c.begin.ensures.goes c.args.system.now c.requires.ready c.in_ok-begin.ensures.some (subst (λ (o : Option CodedInstance). Closes (g.W.Words.held c.begin.new.work) (g.W.Words.held c.close.new.work) c.begin.new.local c.close.new.local (Ok o)) c.in_default.is c.in_ok-need.ensures) c.in_ok-slots.slots.items c.in_ok-slots.ensures (g.W.Words.held c.seal.new.self) c.seal.ensures.on (subst (λ (l : List Slot). AreSealed (g.W.Words.held c.close.new.work).view (g.W.Words.held c.seal.new.self).view (map (λ x. x.0) l)) c.deref.ensures.value c.seal.ensures.sealed)

@@ -11,6 +11,6 @@ pub returns-in_err-slot-clause-claims : goal.returns-in_err-slot-clause-claims
 returns-in_err-slot-clause-claims g c =
     let d = g.W.Words.held c.args.work.now in
     let e = g.W.Words.held c.is_unclaimed-is_new.new.work in
-    let w = (g.W.Words.held c.claim_instance.new.work).1 in
-    claims_read (program_at d) d.1 e.1 w (instance_of (program_at d) c.args.i) c.is_unclaimed-is_new.ensures.on.claims
-    (subst (λ (q : Program). ClaimsKeysTo q e.1 w (instance_of q c.args.i)) (program_on d e c.is_unclaimed-is_new.ensures.on.on) c.claim_instance.ensures.claims)
+    let w = (g.W.Words.held c.claim_instance.new.work).view in
+    claims_read (program_at d) d.view e.view w (instance_of (program_at d) c.args.i) c.is_unclaimed-is_new.ensures.on.claims
+    (subst (λ (q : Program). ClaimsKeysTo q e.view w (instance_of q c.args.i)) (program_on d e c.is_unclaimed-is_new.ensures.on.on) c.claim_instance.ensures.claims)

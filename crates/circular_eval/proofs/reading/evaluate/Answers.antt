@@ -5,7 +5,7 @@ use Rattle.expr_eval.specs.Saved.{AreSaved}
 use Rattle.memo_cells.specs.Working.{ReadsOn}
 use Rattle.circular_eval.specs.declared.local.Local.{Local}
 use Rattle.circular_eval.specs.Local.{ReadsHere}
-use Rattle.circular_eval.specs.Looking.{ComesTo}
+use Rattle.circular_eval.specs.Looking.{ComesHere, ComesTo}
 use Rattle.circular_eval.proofs.Raised.{err_ok}
 use Rattle.circular_eval.proofs.Settling.{came_to}
 use Rattle.equation_law.specs.Systems.{program_of}
@@ -25,7 +25,7 @@ resume_instance-turn-requires-clause-single g c = c.requires.single
 pub resume_instance-turn-requires-clause-saved : goal.resume_instance-turn-requires-clause-saved
 resume_instance-turn-requires-clause-saved g c =
     let d = g.W.Words.held c.args.work.now in
-    subst (λ (q : Program). AreSaved c.args.system.now (ReadsHere q d.1 c.args.local.now.members.entries) c.args.saved.now) (ap program_of (sym c.requires.same)) c.requires.saved
+    subst (λ (q : Program). AreSaved c.args.system.now (ReadsHere q d.view c.args.local.now.members.entries) c.args.saved.now) (ap program_of (sym c.requires.same)) c.requires.saved
 
 pub returns-in_err-turn-clause-on : goal.returns-in_err-turn-clause-on
 returns-in_err-turn-clause-on g c =
@@ -48,9 +48,11 @@ returns-clause-came g c =
     let back = c.work-1.given.1 (sym l.1) in
     let p = program_of c.args.system.now in
     let i = instance_of p c.args.i.now in
-    subst (λ (x : g.row.W.Denot). ComesTo p (g.W.Words.held x).1 c.args.local.now.members.entries i c.in_ok-turn.field-0) (sym back)
-    (subst (λ (m : Local). ComesTo p (g.W.Words.held c.resume_instance-turn.new.reader.work.now).1 m.members.entries i c.in_ok-turn.field-0) l.2
-    (came_to p (g.W.Words.held c.resume_instance-turn.new.reader.work.now) c.resume_instance-turn.new.reader.system.now c.resume_instance-turn.new.reader.local.now.members.entries _ i c.in_ok-turn.field-0 c.resume_instance-turn.ensures.evaluates.kept.sound.for.0 c.in_ok-turn.ensures.evaluates.answer))
+    let e = g.W.Words.held c.resume_instance-turn.new.reader.work.now in
+    subst (λ (x : g.row.W.Denot). ComesHere (g.W.Words.held x) c.args.local.now c.args.i.now c.in_ok-turn.field-0) (sym back)
+    (subst (λ (q : Program). ComesTo q e.view c.args.local.now.members.entries (instance_of q c.args.i.now) c.in_ok-turn.field-0) c.resume_instance-turn.ensures.evaluates.kept.sound.for.0
+    (subst (λ (m : Local). ComesTo p (g.W.Words.held c.resume_instance-turn.new.reader.work.now).view m.members.entries i c.in_ok-turn.field-0) l.2
+    (came_to p (g.W.Words.held c.resume_instance-turn.new.reader.work.now) c.resume_instance-turn.new.reader.system.now c.resume_instance-turn.new.reader.local.now.members.entries _ i c.in_ok-turn.field-0 c.resume_instance-turn.ensures.evaluates.kept.sound.for.0 c.in_ok-turn.ensures.evaluates.answer)))
 
 pub returns-in_err-turn-clause-saved : goal.returns-in_err-turn-clause-saved
 returns-in_err-turn-clause-saved g c =
@@ -58,9 +60,9 @@ returns-in_err-turn-clause-saved g c =
     let back = c.work-1.given.1 (sym l.1) in
     let e = g.W.Words.held c.resume_instance-turn.new.reader.work.now in
     let p = program_of c.args.system.now in
-    subst (λ (x : g.row.W.Denot). AreSaved c.args.system.now (ReadsHere p (g.W.Words.held x).1 c.args.local.now.members.entries) c.resume_instance-turn.new.saved) (sym back)
-    (subst (λ (m : Local). AreSaved c.args.system.now (ReadsHere p e.1 m.members.entries) c.resume_instance-turn.new.saved) l.2
-    (subst (λ (q : Program). AreSaved c.args.system.now (ReadsHere q e.1 c.resume_instance-turn.new.reader.local.now.members.entries) c.resume_instance-turn.new.saved) (sym c.resume_instance-turn.ensures.evaluates.kept.sound.for.0) c.resume_instance-turn.ensures.saved))
+    subst (λ (x : g.row.W.Denot). AreSaved c.args.system.now (ReadsHere p (g.W.Words.held x).view c.args.local.now.members.entries) c.resume_instance-turn.new.saved) (sym back)
+    (subst (λ (m : Local). AreSaved c.args.system.now (ReadsHere p e.view m.members.entries) c.resume_instance-turn.new.saved) l.2
+    (subst (λ (q : Program). AreSaved c.args.system.now (ReadsHere q e.view c.resume_instance-turn.new.reader.local.now.members.entries) c.resume_instance-turn.new.saved) (sym c.resume_instance-turn.ensures.evaluates.kept.sound.for.0) c.resume_instance-turn.ensures.saved))
 
 pub returns-clause-saved : goal.returns-clause-saved
 returns-clause-saved g c =
@@ -68,6 +70,6 @@ returns-clause-saved g c =
     let back = c.work-1.given.1 (sym l.1) in
     let e = g.W.Words.held c.resume_instance-turn.new.reader.work.now in
     let p = program_of c.args.system.now in
-    subst (λ (x : g.row.W.Denot). AreSaved c.args.system.now (ReadsHere p (g.W.Words.held x).1 c.args.local.now.members.entries) c.resume_instance-turn.new.saved) (sym back)
-    (subst (λ (m : Local). AreSaved c.args.system.now (ReadsHere p e.1 m.members.entries) c.resume_instance-turn.new.saved) l.2
-    (subst (λ (q : Program). AreSaved c.args.system.now (ReadsHere q e.1 c.resume_instance-turn.new.reader.local.now.members.entries) c.resume_instance-turn.new.saved) (sym c.resume_instance-turn.ensures.evaluates.kept.sound.for.0) c.resume_instance-turn.ensures.saved))
+    subst (λ (x : g.row.W.Denot). AreSaved c.args.system.now (ReadsHere p (g.W.Words.held x).view c.args.local.now.members.entries) c.resume_instance-turn.new.saved) (sym back)
+    (subst (λ (m : Local). AreSaved c.args.system.now (ReadsHere p e.view m.members.entries) c.resume_instance-turn.new.saved) l.2
+    (subst (λ (q : Program). AreSaved c.args.system.now (ReadsHere q e.view c.resume_instance-turn.new.reader.local.now.members.entries) c.resume_instance-turn.new.saved) (sym c.resume_instance-turn.ensures.evaluates.kept.sound.for.0) c.resume_instance-turn.ensures.saved))

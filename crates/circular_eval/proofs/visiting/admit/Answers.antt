@@ -4,7 +4,6 @@ use Rattle.equation_law.specs.Checked.{IsInstance}
 use Rattle.equation_law.specs.Codes.{IsCoded, instance_of}
 use Rattle.equation_law.specs.Program.{Program}
 use Rattle.equation_law.specs.Reading.{Settles}
-use Rattle.equation_law.specs.Systems.{program_of}
 use Rattle.memo_cells.specs.declared.view.Frame.{Frame}
 use Rattle.memo_cells.specs.Working.{program_at}
 use Rattle.memo_cells.proofs.Claiming.{claims_same}
@@ -21,7 +20,7 @@ use Rattle.circular_eval.proofs.visiting.admit.Goals as goal
 pub returns-in_err-value : goal.returns-in_err-value
 returns-in_err-value g c =
     let on1 = (reads g.W.Words.held c.args.work.now c.settled.new.self (g.W.Reader.tells c.args.work.now) (g.W.Reader.tells c.settled.new.self) (g.met.W.Work.tells_pass c.args.work.now) (g.met.W.Work.tells_pass c.settled.new.self) c.args.i c.settled.result c.settled.ensures c.requires.ready.own) in
-    refused c.args.system.now (g.W.Words.held c.args.work.now) c.args.local.now c.requires.ready c.args.i c.args.by c.requires.new (g.W.Words.held c.settled.new.self) on1.on (claims_same (program_at (g.W.Words.held c.args.work.now)) (instance_of (program_at (g.W.Words.held c.args.work.now)) c.args.local.now.start) (g.W.Words.held c.args.work.now).1 (g.W.Words.held c.settled.new.self).1 on1.claims) c.args.local.now (record { start = refl; entries = refl; need = refl; saved = refl }) Memory tt c.from_residual.result (err_is c.from_residual.result Memory c.from_residual.ensures)
+    refused c.args.system.now (g.W.Words.held c.args.work.now) c.args.local.now c.requires.ready c.args.i c.args.by c.requires.new (g.W.Words.held c.settled.new.self) on1.on (claims_same (program_at (g.W.Words.held c.args.work.now)) (instance_of (program_at (g.W.Words.held c.args.work.now)) c.args.local.now.start) (g.W.Words.held c.args.work.now).view (g.W.Words.held c.settled.new.self).view on1.claims) c.args.local.now (record { start = refl; entries = refl; need = refl; saved = refl }) Memory tt c.from_residual.result (err_is c.from_residual.result Memory c.from_residual.ensures)
 
 pub add-requires : goal.add-requires
 add-requires g c =
@@ -30,14 +29,14 @@ add-requires g c =
 pub returns-in_err-add : goal.returns-in_err-add
 returns-in_err-add g c =
     let on1 = (reads g.W.Words.held c.args.work.now c.settled.new.self (g.W.Reader.tells c.args.work.now) (g.W.Reader.tells c.settled.new.self) (g.met.W.Work.tells_pass c.args.work.now) (g.met.W.Work.tells_pass c.settled.new.self) c.args.i c.settled.result c.settled.ensures c.requires.ready.own) in
-    refused c.args.system.now (g.W.Words.held c.args.work.now) c.args.local.now c.requires.ready c.args.i c.args.by c.requires.new (g.W.Words.held c.settled.new.self) on1.on (claims_same (program_at (g.W.Words.held c.args.work.now)) (instance_of (program_at (g.W.Words.held c.args.work.now)) c.args.local.now.start) (g.W.Words.held c.args.work.now).1 (g.W.Words.held c.settled.new.self).1 on1.claims) c.add.new.self (record { start = c.add.ensures.start; entries = c.in_err-add.ensures.refused; need = c.add.ensures.need; saved = c.add.ensures.saved }) Memory tt c.from_residual-in_err-add.result (err_is c.from_residual-in_err-add.result Memory c.from_residual-in_err-add.ensures)
+    refused c.args.system.now (g.W.Words.held c.args.work.now) c.args.local.now c.requires.ready c.args.i c.args.by c.requires.new (g.W.Words.held c.settled.new.self) on1.on (claims_same (program_at (g.W.Words.held c.args.work.now)) (instance_of (program_at (g.W.Words.held c.args.work.now)) c.args.local.now.start) (g.W.Words.held c.args.work.now).view (g.W.Words.held c.settled.new.self).view on1.claims) c.add.new.self (record { start = c.add.ensures.start; entries = c.in_err-add.ensures.refused; need = c.add.ensures.need; saved = c.add.ensures.saved }) Memory tt c.from_residual-in_err-add.result (err_is c.from_residual-in_err-add.result Memory c.from_residual-in_err-add.ensures)
 
 pub returns-in-Some : goal.returns-in-Some
 returns-in-Some g c =
     let on1 = (reads g.W.Words.held c.args.work.now c.settled.new.self (g.W.Reader.tells c.args.work.now) (g.W.Reader.tells c.settled.new.self) (g.met.W.Work.tells_pass c.args.work.now) (g.met.W.Work.tells_pass c.settled.new.self) c.args.i c.settled.result c.settled.ensures c.requires.ready.own) in
     let told = c.in_ok-value.ensures.answer (program_at (g.W.Words.held c.args.work.now)) (work_sound g.W.Words.held c.args.work.now (g.W.Reader.tells c.args.work.now) (g.met.W.Work.tells_pass c.args.work.now)) c.requires.new.coded in
     let seen = subst (λ (o : Option CodedValue). Settles (program_at (g.W.Words.held c.args.work.now)) (g.W.Reader.tells c.settled.new.self) (instance_of (program_at (g.W.Words.held c.args.work.now)) c.args.i) (Ok o)) c.in-Some.is told in
-    admitted c.args.system.now (g.W.Words.held c.args.work.now) c.args.local.now c.requires.ready c.args.i c.args.by c.requires.new (g.W.Words.held c.settled.new.self) on1.on (claims_same (program_at (g.W.Words.held c.args.work.now)) (instance_of (program_at (g.W.Words.held c.args.work.now)) c.args.local.now.start) (g.W.Words.held c.args.work.now).1 (g.W.Words.held c.settled.new.self).1 on1.claims) c.add.new.self (record { slot = None; value = c.in-Some.value; by = c.args.by }) refl (settled_fit c.args.system.now (g.W.Words.held c.args.work.now) c.args.local.now c.requires.ready c.args.i c.args.by c.requires.new g.W.Words.held c.settled.new.self (g.W.Reader.tells c.settled.new.self) (g.met.W.Work.tells_pass c.settled.new.self) on1.on c.in-Some.value seen (record { slot = None; value = c.in-Some.value; by = c.args.by }) refl refl) c.add.ensures.few c.add.ensures.start c.add.ensures.need c.add.ensures.saved c.in_ok-add.ensures.added c.in_ok-add.field-0
+    admitted c.args.system.now (g.W.Words.held c.args.work.now) c.args.local.now c.requires.ready c.args.i c.args.by c.requires.new (g.W.Words.held c.settled.new.self) on1.on (claims_same (program_at (g.W.Words.held c.args.work.now)) (instance_of (program_at (g.W.Words.held c.args.work.now)) c.args.local.now.start) (g.W.Words.held c.args.work.now).view (g.W.Words.held c.settled.new.self).view on1.claims) c.add.new.self (record { slot = None; value = c.in-Some.value; by = c.args.by }) refl (settled_fit c.args.system.now (g.W.Words.held c.args.work.now) c.args.local.now c.requires.ready c.args.i c.args.by c.requires.new g.W.Words.held c.settled.new.self (g.W.Reader.tells c.settled.new.self) (g.met.W.Work.tells_pass c.settled.new.self) on1.on c.in-Some.value seen (record { slot = None; value = c.in-Some.value; by = c.args.by }) refl refl) c.add.ensures.few c.add.ensures.start c.add.ensures.need c.add.ensures.saved c.in_ok-add.ensures.added c.in_ok-add.field-0
 
 pub open_cell-requires-clause-own : goal.open_cell-requires-clause-own
 open_cell-requires-clause-own g c =
@@ -76,14 +75,14 @@ pub first_value-requires-clause-cell : goal.first_value-requires-clause-cell
 first_value-requires-clause-cell g c =
     let on1 = (reads g.W.Words.held c.args.work.now c.settled.new.self (g.W.Reader.tells c.args.work.now) (g.W.Reader.tells c.settled.new.self) (g.met.W.Work.tells_pass c.args.work.now) (g.met.W.Work.tells_pass c.settled.new.self) c.args.i c.settled.result c.settled.ensures c.requires.ready.own) in
     let on2 = (goes_then (g.W.Words.held c.args.work.now) (g.W.Words.held c.settled.new.self) (g.W.Words.held c.open_cell.new.work) on1.on c.open_cell.ensures.on) in
-    (instance_of (program_of c.args.system.now) c.args.i, cell_out c.args.system.now (g.W.Words.held c.args.work.now) c.args.local.now c.requires.ready c.args.i c.args.by c.requires.new (g.W.Words.held c.open_cell.new.work) on2 c.in_ok-opened.opened.slot.0 (cell_here c.args.system.now (g.W.Words.held c.args.work.now) c.args.local.now c.requires.ready c.args.i c.args.by c.requires.new (g.W.Words.held c.settled.new.self) (g.W.Words.held c.open_cell.new.work) on1.on c.in_ok-opened.opened.slot.0 c.in_ok-opened.ensures.slot))
+    (instance_of (program_at (g.W.Words.held c.open_cell.new.work)) c.args.i, cell_out c.args.system.now (g.W.Words.held c.args.work.now) c.args.local.now c.requires.ready c.args.i c.args.by c.requires.new (g.W.Words.held c.open_cell.new.work) on2 c.in_ok-opened.opened.slot.0 (cell_here c.args.system.now (g.W.Words.held c.args.work.now) c.args.local.now c.requires.ready c.args.i c.args.by c.requires.new (g.W.Words.held c.settled.new.self) (g.W.Words.held c.open_cell.new.work) on1.on c.in_ok-opened.opened.slot.0 c.in_ok-opened.ensures.slot))
 
 pub returns-in_err-value-2 : goal.returns-in_err-value-2
 returns-in_err-value-2 g c =
     let on1 = (reads g.W.Words.held c.args.work.now c.settled.new.self (g.W.Reader.tells c.args.work.now) (g.W.Reader.tells c.settled.new.self) (g.met.W.Work.tells_pass c.args.work.now) (g.met.W.Work.tells_pass c.settled.new.self) c.args.i c.settled.result c.settled.ensures c.requires.ready.own) in
     let on2 = (goes_then (g.W.Words.held c.args.work.now) (g.W.Words.held c.settled.new.self) (g.W.Words.held c.open_cell.new.work) on1.on c.open_cell.ensures.on) in
     let on3 = (goes_then (g.W.Words.held c.args.work.now) (g.W.Words.held c.open_cell.new.work) (g.W.Words.held c.first_value.new.work) on2 c.first_value.ensures.on.on) in
-    refused c.args.system.now (g.W.Words.held c.args.work.now) c.args.local.now c.requires.ready c.args.i c.args.by c.requires.new (g.W.Words.held c.first_value.new.work) on3 (claims_more (program_at (g.W.Words.held c.args.work.now)) (instance_of (program_at (g.W.Words.held c.args.work.now)) c.args.local.now.start) (g.W.Words.held c.args.work.now).1 (g.W.Words.held c.open_cell.new.work).1 (g.W.Words.held c.first_value.new.work).1 (keys_claimed c.args.system.now (g.W.Words.held c.args.work.now) c.args.local.now c.requires.ready c.args.i c.args.by c.requires.new (g.W.Words.held c.settled.new.self) (g.W.Words.held c.open_cell.new.work) on1.on on1.claims c.open_cell.ensures.claims) (claims_same (program_at (g.W.Words.held c.args.work.now)) (instance_of (program_at (g.W.Words.held c.args.work.now)) c.args.local.now.start) (g.W.Words.held c.open_cell.new.work).1 (g.W.Words.held c.first_value.new.work).1 c.first_value.ensures.on.claims) c.first_value.ensures.on.on.kept) c.args.local.now (record { start = refl; entries = refl; need = refl; saved = refl }) Memory tt c.from_residual-in_err-value-2.result (err_is c.from_residual-in_err-value-2.result Memory c.from_residual-in_err-value-2.ensures)
+    refused c.args.system.now (g.W.Words.held c.args.work.now) c.args.local.now c.requires.ready c.args.i c.args.by c.requires.new (g.W.Words.held c.first_value.new.work) on3 (claims_more (program_at (g.W.Words.held c.args.work.now)) (instance_of (program_at (g.W.Words.held c.args.work.now)) c.args.local.now.start) (g.W.Words.held c.args.work.now).view (g.W.Words.held c.open_cell.new.work).view (g.W.Words.held c.first_value.new.work).view (keys_claimed c.args.system.now (g.W.Words.held c.args.work.now) c.args.local.now c.requires.ready c.args.i c.args.by c.requires.new (g.W.Words.held c.settled.new.self) (g.W.Words.held c.open_cell.new.work) on1.on on1.claims c.open_cell.ensures.claims) (claims_same (program_at (g.W.Words.held c.args.work.now)) (instance_of (program_at (g.W.Words.held c.args.work.now)) c.args.local.now.start) (g.W.Words.held c.open_cell.new.work).view (g.W.Words.held c.first_value.new.work).view c.first_value.ensures.on.claims) c.first_value.ensures.on.on.kept) c.args.local.now (record { start = refl; entries = refl; need = refl; saved = refl }) Memory tt c.from_residual-in_err-value-2.result (err_is c.from_residual-in_err-value-2.result Memory c.from_residual-in_err-value-2.ensures)
 
 pub add-requires-2 : goal.add-requires-2
 add-requires-2 g c =
@@ -94,7 +93,7 @@ returns-in_err-add-2 g c =
     let on1 = (reads g.W.Words.held c.args.work.now c.settled.new.self (g.W.Reader.tells c.args.work.now) (g.W.Reader.tells c.settled.new.self) (g.met.W.Work.tells_pass c.args.work.now) (g.met.W.Work.tells_pass c.settled.new.self) c.args.i c.settled.result c.settled.ensures c.requires.ready.own) in
     let on2 = (goes_then (g.W.Words.held c.args.work.now) (g.W.Words.held c.settled.new.self) (g.W.Words.held c.open_cell.new.work) on1.on c.open_cell.ensures.on) in
     let on3 = (goes_then (g.W.Words.held c.args.work.now) (g.W.Words.held c.open_cell.new.work) (g.W.Words.held c.first_value.new.work) on2 c.first_value.ensures.on.on) in
-    refused c.args.system.now (g.W.Words.held c.args.work.now) c.args.local.now c.requires.ready c.args.i c.args.by c.requires.new (g.W.Words.held c.first_value.new.work) on3 (claims_more (program_at (g.W.Words.held c.args.work.now)) (instance_of (program_at (g.W.Words.held c.args.work.now)) c.args.local.now.start) (g.W.Words.held c.args.work.now).1 (g.W.Words.held c.open_cell.new.work).1 (g.W.Words.held c.first_value.new.work).1 (keys_claimed c.args.system.now (g.W.Words.held c.args.work.now) c.args.local.now c.requires.ready c.args.i c.args.by c.requires.new (g.W.Words.held c.settled.new.self) (g.W.Words.held c.open_cell.new.work) on1.on on1.claims c.open_cell.ensures.claims) (claims_same (program_at (g.W.Words.held c.args.work.now)) (instance_of (program_at (g.W.Words.held c.args.work.now)) c.args.local.now.start) (g.W.Words.held c.open_cell.new.work).1 (g.W.Words.held c.first_value.new.work).1 c.first_value.ensures.on.claims) c.first_value.ensures.on.on.kept) c.add-2.new.self (record { start = c.add-2.ensures.start; entries = c.in_err-add-2.ensures.refused; need = c.add-2.ensures.need; saved = c.add-2.ensures.saved }) Memory tt c.from_residual-in_err-add-2.result (err_is c.from_residual-in_err-add-2.result Memory c.from_residual-in_err-add-2.ensures)
+    refused c.args.system.now (g.W.Words.held c.args.work.now) c.args.local.now c.requires.ready c.args.i c.args.by c.requires.new (g.W.Words.held c.first_value.new.work) on3 (claims_more (program_at (g.W.Words.held c.args.work.now)) (instance_of (program_at (g.W.Words.held c.args.work.now)) c.args.local.now.start) (g.W.Words.held c.args.work.now).view (g.W.Words.held c.open_cell.new.work).view (g.W.Words.held c.first_value.new.work).view (keys_claimed c.args.system.now (g.W.Words.held c.args.work.now) c.args.local.now c.requires.ready c.args.i c.args.by c.requires.new (g.W.Words.held c.settled.new.self) (g.W.Words.held c.open_cell.new.work) on1.on on1.claims c.open_cell.ensures.claims) (claims_same (program_at (g.W.Words.held c.args.work.now)) (instance_of (program_at (g.W.Words.held c.args.work.now)) c.args.local.now.start) (g.W.Words.held c.open_cell.new.work).view (g.W.Words.held c.first_value.new.work).view c.first_value.ensures.on.claims) c.first_value.ensures.on.on.kept) c.add-2.new.self (record { start = c.add-2.ensures.start; entries = c.in_err-add-2.ensures.refused; need = c.add-2.ensures.need; saved = c.add-2.ensures.saved }) Memory tt c.from_residual-in_err-add-2.result (err_is c.from_residual-in_err-add-2.result Memory c.from_residual-in_err-add-2.ensures)
 
 pub returns : goal.returns
 returns g c =
@@ -103,4 +102,4 @@ returns g c =
     let on3 = (goes_then (g.W.Words.held c.args.work.now) (g.W.Words.held c.open_cell.new.work) (g.W.Words.held c.first_value.new.work) on2 c.first_value.ensures.on.on) in
     let cell = (cell_here c.args.system.now (g.W.Words.held c.args.work.now) c.args.local.now c.requires.ready c.args.i c.args.by c.requires.new (g.W.Words.held c.settled.new.self) (g.W.Words.held c.open_cell.new.work) on1.on c.in_ok-opened.opened.slot.0 c.in_ok-opened.ensures.slot) in
     let shown = begins_here c.args.system.now (g.W.Words.held c.args.work.now) c.args.local.now c.requires.ready c.args.i c.args.by c.requires.new (g.W.Words.held c.open_cell.new.work) (g.W.Words.held c.first_value.new.work) on2 c.in_ok-opened.opened.slot c.kind_of.result c.in_ok-value-2.value c.in_ok-value-2.ensures.begins c.kind_of.ensures cell in
-    admitted c.args.system.now (g.W.Words.held c.args.work.now) c.args.local.now c.requires.ready c.args.i c.args.by c.requires.new (g.W.Words.held c.first_value.new.work) on3 (claims_more (program_at (g.W.Words.held c.args.work.now)) (instance_of (program_at (g.W.Words.held c.args.work.now)) c.args.local.now.start) (g.W.Words.held c.args.work.now).1 (g.W.Words.held c.open_cell.new.work).1 (g.W.Words.held c.first_value.new.work).1 (keys_claimed c.args.system.now (g.W.Words.held c.args.work.now) c.args.local.now c.requires.ready c.args.i c.args.by c.requires.new (g.W.Words.held c.settled.new.self) (g.W.Words.held c.open_cell.new.work) on1.on on1.claims c.open_cell.ensures.claims) (claims_same (program_at (g.W.Words.held c.args.work.now)) (instance_of (program_at (g.W.Words.held c.args.work.now)) c.args.local.now.start) (g.W.Words.held c.open_cell.new.work).1 (g.W.Words.held c.first_value.new.work).1 c.first_value.ensures.on.claims) c.first_value.ensures.on.on.kept) c.add-2.new.self (record { slot = Some c.in_ok-opened.opened.slot; value = c.in_ok-value-2.value; by = c.args.by }) refl (begins_fit c.args.system.now (g.W.Words.held c.args.work.now) c.args.local.now c.requires.ready c.args.i c.args.by c.requires.new (g.W.Words.held c.first_value.new.work) c.in_ok-opened.opened.slot (cell_later (g.W.Words.held c.open_cell.new.work).1 (g.W.Words.held c.first_value.new.work).1 c.first_value.ensures.on.on.kept (program_at (g.W.Words.held c.args.work.now)) (g.W.Words.held c.args.work.now).0 (instance_of (program_at (g.W.Words.held c.args.work.now)) c.args.i) c.in_ok-opened.opened.slot.0 cell) c.in_ok-value-2.value shown (record { slot = Some c.in_ok-opened.opened.slot; value = c.in_ok-value-2.value; by = c.args.by }) refl refl) c.add-2.ensures.few c.add-2.ensures.start c.add-2.ensures.need c.add-2.ensures.saved c.in_ok-add-2.ensures.added c.in_ok-add-2.field-0
+    admitted c.args.system.now (g.W.Words.held c.args.work.now) c.args.local.now c.requires.ready c.args.i c.args.by c.requires.new (g.W.Words.held c.first_value.new.work) on3 (claims_more (program_at (g.W.Words.held c.args.work.now)) (instance_of (program_at (g.W.Words.held c.args.work.now)) c.args.local.now.start) (g.W.Words.held c.args.work.now).view (g.W.Words.held c.open_cell.new.work).view (g.W.Words.held c.first_value.new.work).view (keys_claimed c.args.system.now (g.W.Words.held c.args.work.now) c.args.local.now c.requires.ready c.args.i c.args.by c.requires.new (g.W.Words.held c.settled.new.self) (g.W.Words.held c.open_cell.new.work) on1.on on1.claims c.open_cell.ensures.claims) (claims_same (program_at (g.W.Words.held c.args.work.now)) (instance_of (program_at (g.W.Words.held c.args.work.now)) c.args.local.now.start) (g.W.Words.held c.open_cell.new.work).view (g.W.Words.held c.first_value.new.work).view c.first_value.ensures.on.claims) c.first_value.ensures.on.on.kept) c.add-2.new.self (record { slot = Some c.in_ok-opened.opened.slot; value = c.in_ok-value-2.value; by = c.args.by }) refl (begins_fit c.args.system.now (g.W.Words.held c.args.work.now) c.args.local.now c.requires.ready c.args.i c.args.by c.requires.new (g.W.Words.held c.first_value.new.work) c.in_ok-opened.opened.slot (cell_later (g.W.Words.held c.open_cell.new.work).view (g.W.Words.held c.first_value.new.work).view c.first_value.ensures.on.on.kept (program_at (g.W.Words.held c.args.work.now)) (g.W.Words.held c.args.work.now).frame (instance_of (program_at (g.W.Words.held c.args.work.now)) c.args.i) c.in_ok-opened.opened.slot.0 cell) c.in_ok-value-2.value shown (record { slot = Some c.in_ok-opened.opened.slot; value = c.in_ok-value-2.value; by = c.args.by }) refl refl) c.add-2.ensures.few c.add-2.ensures.start c.add-2.ensures.need c.add-2.ensures.saved c.in_ok-add-2.ensures.added c.in_ok-add-2.field-0

@@ -27,7 +27,7 @@ pub returns-in-Need : goal.returns-in-Need
 returns-in-Need g c =
     visit_from (g.W.Words.held c.args.work.now) (g.W.Words.held c.step.new.work) c.args.local.now c.take_saved-saved.new.self c.keep.new.self c.args.number (Ok (Need c.in-Need.need)) c.take_saved-saved.ensures.start c.take_saved-saved.ensures.members c.take_saved-saved.ensures.due
     (visit_need (g.W.Words.held c.args.work.now) (g.W.Words.held c.steps.work) (g.W.Words.held c.step.new.work) c.take_saved-saved.new.self c.steps.local c.step.new.local c.args.number c.steps.grown c.steps.invariant.0 c.args.system.now (ready_taken c.args.system.now (g.W.Words.held c.args.work.now) c.args.local.now c.take_saved-saved.new.self c.requires.ready c.take_saved-saved.ensures.start c.take_saved-saved.ensures.members c.take_saved-saved.ensures.need c.take_saved-saved.ensures.none) c.in-Need.need (subst (λ (o : Option Visited). Steps (g.W.Words.held c.steps.work) (g.W.Words.held c.step.new.work) c.steps.local c.step.new.local c.args.number (Ok o)) (c.in-Some.is ∙ ap (λ (v : Visited). Some v) c.in-Need.is) c.in_ok-step.ensures.steps) c.keep.new.self c.step.new.saved c.keep.ensures.start c.keep.ensures.members c.keep.ensures.need c.keep.ensures.saved
-    (subst (λ (o : Option Visited). KeepsSaved c.args.system.now (g.W.Words.held c.step.new.work).1 c.step.new.local.members.entries c.step.new.saved (Ok o)) (c.in-Some.is ∙ ap (λ (v : Visited). Some v) c.in-Need.is) c.in_ok-step.ensures.saved))
+    (subst (λ (o : Option Visited). KeepsSaved c.args.system.now (g.W.Words.held c.step.new.work) c.step.new.local c.step.new.saved (Ok o)) (c.in-Some.is ∙ ap (λ (v : Visited). Some v) c.in-Need.is) c.in_ok-step.ensures.saved))
 
 pub returns-in-Changed : goal.returns-in-Changed
 returns-in-Changed g c =
@@ -50,4 +50,4 @@ steps-smaller g c =
 
 pub steps-preserved : goal.steps-preserved
 steps-preserved g c =
-    (visit_grows (g.W.Words.held c.args.work.now) (g.W.Words.held c.steps.work) (g.W.Words.held c.step.new.work) c.take_saved-saved.new.self c.steps.local c.step.new.local c.args.number c.steps.grown c.steps.invariant.0 (subst (λ (o : Option Visited). Steps (g.W.Words.held c.steps.work) (g.W.Words.held c.step.new.work) c.steps.local c.step.new.local c.args.number (Ok o)) c.in-None.is c.in_ok-step.ensures.steps), subst (λ (o : Option Visited). KeepsSaved c.args.system.now (g.W.Words.held c.step.new.work).1 c.step.new.local.members.entries c.step.new.saved (Ok o)) c.in-None.is c.in_ok-step.ensures.saved)
+    (visit_grows (g.W.Words.held c.args.work.now) (g.W.Words.held c.steps.work) (g.W.Words.held c.step.new.work) c.take_saved-saved.new.self c.steps.local c.step.new.local c.args.number c.steps.grown c.steps.invariant.0 (subst (λ (o : Option Visited). Steps (g.W.Words.held c.steps.work) (g.W.Words.held c.step.new.work) c.steps.local c.step.new.local c.args.number (Ok o)) c.in-None.is c.in_ok-step.ensures.steps), subst (λ (o : Option Visited). KeepsSaved c.args.system.now (g.W.Words.held c.step.new.work) c.step.new.local c.step.new.saved (Ok o)) c.in-None.is c.in_ok-step.ensures.saved)
