@@ -1,5 +1,5 @@
 -- What asking for an instance says, at each way out.
-use Rattle.std.proofs.Common.{◌≡◌, ℕ, inl, inr, true, false, ◌||◌, List, [], ◌∷◌, ◌++◌, map, Result, Ok, Err, refl, ap, sym, subst, ◌∙◌, arith}
+use Rattle.std.proofs.Common.{◌≡◌, ℕ, inl, inr, ⊎_elim, true, false, ◌||◌, List, [], ◌∷◌, ◌++◌, map, Result, Ok, Err, refl, ap, sym, subst, ◌∙◌, arith}
 use Rattle.std.specs.List.{list_any}
 use Rattle.std.specs.Result.{IsErr, IsErrAnd}
 use Rattle.attr_rules.specs.declared.kinds.Kind.{Kind}
@@ -24,6 +24,7 @@ use Rattle.memo_cells.specs.Naming.{LacksCell}
 use Rattle.memo_cells.specs.Standing.{Knows}
 use Rattle.memo_cells.specs.Views.{Has, IsAtLeast}
 use Rattle.memo_cells.proofs.Claiming.{claims_same, claims_then}
+use Rattle.memo_cells.proofs.More.{at_least_itself}
 use Rattle.caller_pass.specs.declared.faults.AskFault.{AskFault}
 use Rattle.caller_pass.specs.declared.faults.AskFault.TheVariants.{CellsFull, Circular, Memory}
 use Rattle.caller_pass.specs.declared.waiting.Waiter.{Waiter}
@@ -31,7 +32,8 @@ use Rattle.caller_pass.specs.Answering.{AnswersFault, AnswersNoted, AnswersSolve
 use Rattle.caller_pass.specs.Knowing.{IsKnownValue}
 use Rattle.caller_pass.specs.Noting.{MayNote}
 use Rattle.caller_pass.specs.Waiting.{AnswersWait}
-use Rattle.caller_pass.proofs.Closing.{unsettled_less}
+use Rattle.caller_pass.proofs.Falling.{unsettled_less}
+use Rattle.caller_pass.proofs.Going.{was_within}
 use Rattle.caller_pass.proofs.Listing.{map_both}
 use Rattle.caller_pass.proofs.Lines.{each_has, ends_has, ends_twice, has_map, same_last}
 
@@ -79,7 +81,8 @@ pub solves_before : (p : Program) (f : Frame) (v u w : View) (i : Instance) (m n
 solves_before p f v u w i m n r kept quiet later h = record {
   answer = h.answer;
   claims = claims_then p i i v u w none (claims_same p i v u quiet) later h.claims;
-  cost = λ ok. let cost = h.cost ok in let less = unsettled_less v u f.cells kept in omega (arith, cost, less);
+  loads = ⊎_elim inl (λ was. inr (was_within p v u w w i kept (at_least_itself w) was)) h.loads;
+  cost = λ ok. ⊎_elim inl (λ few. inr (let less = unsettled_less v u f.cells kept in omega (arith, few, less))) (h.cost ok);
 }
 
 module _ (p : Program) (f : Frame) (v u w : View) (i : Instance) (m n : ℕ) (unknown : ¬ Knows p v i) where
@@ -101,7 +104,7 @@ module _ (p : Program) (f : Frame) (v u w : View) (i : Instance) (m n : ℕ) (un
       circular = λ h. absurd h;
       claims = claims_all;
       known = λ k. absurd (unknown k);
-      cost = λ ok. inr (let cost = solved.cost ok in let less = unsettled_less u w f.cells kept in omega (arith, cost, less));
+      cost = λ ok. ⊎_elim inl (λ few. inr (let less = unsettled_less u w f.cells kept in omega (arith, few, less))) (solved.cost ok);
     }
 
     pub asked_memory : (r : Result CodedValue AskFault) → IsErr r × IsErrAnd r (λ e. e ≡ Memory) → AsksNoted p f v w i m n r

@@ -1,5 +1,5 @@
 -- Closing a local set: the cells that come to be seen settled pay for its evaluations.
-use Rattle.std.proofs.Common.{◌≡◌, ℕ, ◌+◌, ◌*◌, ◌<◌, ◌≤◌, ⊎_elim, true, [], Result, Ok, Err, refl, sym, subst, arith}
+use Rattle.std.proofs.Common.{◌≡◌, ℕ, ◌+◌, ◌*◌, ◌<◌, ◌≤◌, ◌⊎◌, inl, inr, ⊎_elim, Result, Ok, Err, refl, sym, subst, arith}
 use Rattle.std.specs.Result.{IsErr, IsErrAnd, IsOk}
 use Rattle.solutions.specs.Leading.{none}
 use Rattle.equation_law.specs.declared.coding.Instance.{Instance as CodedInstance}
@@ -20,32 +20,10 @@ use Rattle.circular_eval.specs.declared.advancing.CircFault.TheVariants as set_f
 use Rattle.circular_eval.specs.declared.local.Local.{Local}
 use Rattle.circular_eval.specs.Advancing.{AnswersFault as AnswersCircular, IsMissing}
 use Rattle.caller_pass.specs.declared.faults.AskFault.{AskFault}
-use Rattle.caller_pass.specs.Answering.{StopsAt, ClosesMore, IsSameFault, Solves, SolvesFor, unsettled}
-use Rattle.caller_pass.proofs.Falling.{by_value, left_falls, left_less, left_unsettled, not_taken, taken, taken_by}
-use Rattle.caller_pass.proofs.Knowing.{known_cell, settled_known}
+use Rattle.caller_pass.specs.Answering.{StopsAt, ClosesMore, IsSameFault, Solves, SolvesFor, WasUnsettled, unsettled}
+use Rattle.caller_pass.proofs.Falling.{unsettled_falls, unsettled_less}
 use Rattle.caller_pass.proofs.Paying.{knows_or_not}
-use Rattle.caller_pass.proofs.Going.{solve_fault}
-
-still_taken : (v w : View) → IsAtLeast v w → (q : ℕ) → taken v [] q ≡ true → taken w [] q ≡ true
-still_taken v w kept q h = ⊎_elim (λ x. by_value w [] q x.0 x.1 (kept.values q x.0 x.1 x.2)) (λ x. absurd x.1) (taken_by v [] q h)
-
--- what is seen settled stays so
-pub unsettled_less : (v w : View) (n : ℕ) → IsAtLeast v w → unsettled w n ≤ unsettled v n
-unsettled_less v w n kept =
-    let less = left_less (taken v []) (taken w []) n (still_taken v w kept) in
-    let before = left_unsettled v n in
-    let now = left_unsettled w n in
-    omega (arith, less, before, now)
-
--- an instance came to be known
-pub unsettled_falls : (p : Program) (f : Frame) → p ≡ program_of f.system.value → (v w : View) → IsPassOf f v → IsPassOf f w → IsAtLeast v w → (i : Instance) → ¬ Knows p v i → Knows p w i → unsettled w f.cells < unsettled v f.cells
-unsettled_falls p f same v w own then kept i unknown k =
-    let cell = known_cell p f w i then k in
-    let free = not_taken v [] k.slot (λ key c h. unknown (settled_known p f v same own w i k.slot key c then kept cell h)) (λ e h. absurd h) in
-    let falls = left_falls (taken v []) (taken w []) f.cells k.slot (still_taken v w kept) cell.1.0 free (by_value w [] k.slot k.key k.code k.settled) in
-    let before = left_unsettled v f.cells in
-    let now = left_unsettled w f.cells in
-    omega (arith, falls, before, now)
+use Rattle.caller_pass.proofs.Going.{solve_fault, was_within}
 
 -- the fault of a local set
 pub same_fault : (p : Program) (f : Frame) (v : View) (i : Instance) (from : CircFault) (e : AskFault) → IsSameFault from e → AnswersCircular p i f v from → StopsAt p f v i e
@@ -100,11 +78,20 @@ pub record IsClosing (p : Program) (f : Frame) (v w : View) (i : Instance) (befo
   pub own : IsPassOf f w
   pub kept : IsAtLeast v w
   pub claims : ClaimsKeys p i v w
+  pub loads : (now ≡ before) ⊎ WasUnsettled p v w i
   pub cost : now + 2 * unsettled w f.cells ≤ before + 2 * unsettled v f.cells
-  pub known : Knows p w i → now + 2 * unsettled w f.cells < before + 2 * unsettled v f.cells
+  pub known : Knows p w i → (now ≡ before) ⊎ (now + 2 * unsettled w f.cells < before + 2 * unsettled v f.cells)
 
-pub closing_first : (p : Program) (f : Frame) (v : View) (i : Instance) (evals : ℕ) → IsPassOf f v → ¬ Knows p v i → IsClosing p f v v i evals evals
-closing_first p f v i evals own unknown = record { own = own; kept = at_least_itself v; claims = claims_same p i v v refl; cost = omega arith; known = λ k. absurd (unknown k) }
+-- its cell was claimed
+pub closing_first : (p : Program) (f : Frame) (v w : View) (i : Instance) (evals : ℕ) → IsPassOf f w → IsAtLeast v w → ClaimsKeys p i v w → IsClosing p f v w i evals evals
+closing_first p f v w i evals own kept claims = record {
+  own = own;
+  kept = kept;
+  claims = claims;
+  loads = inl refl;
+  cost = (let less = unsettled_less v w f.cells kept in omega (arith, less));
+  known = λ k. inl refl;
+}
 
 module _ (p : Program) (f : Frame) (same : p ≡ program_of f.system.value) (v w u : View) (i : Instance) (before now : ℕ) (c : IsClosing p f v w i before now) (own : IsPassOf f u) (kept : IsAtLeast w u) where
   -- it was looked whether i is sealed
@@ -113,27 +100,32 @@ module _ (p : Program) (f : Frame) (same : p ≡ program_of f.system.value) (v w
     own = own;
     kept = at_least_then c.kept kept;
     claims = claims_then p i i v w u none c.claims kept (claims_same p i w u quiet);
+    loads = ⊎_elim inl (λ was. inr (was_within p v v w u i (at_least_itself v) kept was)) c.loads;
     cost = (let cost = c.cost in let less = unsettled_less w u f.cells kept in omega (arith, cost, less));
     known = λ k. ⊎_elim
-        (λ yet. let cost = c.known yet in let less = unsettled_less w u f.cells kept in omega (arith, cost, less))
-        (λ not_yet. let cost = c.cost in let falls = unsettled_falls p f same w u c.own own kept i not_yet k in omega (arith, cost, falls))
+        (λ yet. ⊎_elim inl (λ cost. inr (let less = unsettled_less w u f.cells kept in omega (arith, cost, less))) (c.known yet))
+        (λ not_yet. inr (let cost = c.cost in let falls = unsettled_falls p f same w u c.own own kept i not_yet k in omega (arith, cost, falls)))
         (knows_or_not p f w i same c.own);
   }
 
-  -- the set went on
-  module _ (after : ℕ) (r : Result Unit AskFault) (h : ClosesMore p f w u i now after r) where
+  -- the set went on, where i wasn't sealed
+  module _ (unknown : ¬ Knows p w i) (after : ℕ) (r : Result Unit AskFault) (h : ClosesMore p f w u i now after r) where
+    was_unsettled : WasUnsettled p v u i
+    was_unsettled = record { loaded = w; later = c.kept; kept = kept; unsettled = unknown }
+
     pub closing_more : IsOk r → IsClosing p f v u i before after
     closing_more ok = record {
       own = own;
       kept = at_least_then c.kept kept;
       claims = claims_then p i i v w u none c.claims kept h.claims;
+      loads = inr was_unsettled;
       cost = (let cost = c.cost in let more = h.cost ok in omega (arith, cost, more));
-      known = λ k. let cost = c.cost in let more = h.known ok k in omega (arith, cost, more);
+      known = λ k. inr (let cost = c.cost in let more = h.known ok k in omega (arith, cost, more));
     }
 
     pub closing_fault : (e : AskFault) → r ≡ Err e → (all : Result Unit AskFault) → IsErr all × IsErrAnd all (λ x. x ≡ e) → Solves p f v u i before after all
-    closing_fault e is all given = solve_fault p f v u i before after e all given (claims_then p i i v w u none c.claims kept h.claims) (h.fault e is)
+    closing_fault e is all given = solve_fault p f v u i before after e all given (claims_then p i i v w u none c.claims kept h.claims) (inr was_unsettled) (h.fault e is)
 
 -- it is sealed
 pub closed : (p : Program) (f : Frame) (v w : View) (i : Instance) (before now : ℕ) → IsClosing p f v w i before now → Knows p w i → (done : Unit {0}) → Solves p f v w i before now (Ok done)
-closed p f v w i before now c k done = record { answer = k; claims = c.claims; cost = λ ok. c.known k }
+closed p f v w i before now c k done = record { answer = k; claims = c.claims; loads = c.loads; cost = λ ok. c.known k }

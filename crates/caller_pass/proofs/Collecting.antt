@@ -34,11 +34,11 @@ survey_taken p A i of c None x is its own new h = survey_new p A its new
 survey_taken p A i of c (Some s) x is its own new h = subst (λ (y : Survey). IsSurveyed p A c y) (sym own) (h c is)
 
 -- a walk by what a desk tells, and by what its pass knows
-pub walk_told : (s : System) (d e : Held) (w : Walk) → d.0.system.value ≡ s → e ≡ d → IsWalk (program_at d) (IsKnown (program_at d) d.1) w → IsWalk (program_of s) (told_by e).has w
+pub walk_told : (s : System) (d e : Held) (w : Walk) → d.frame.system.value ≡ s → e ≡ d → IsWalk (program_at d) (IsKnown (program_at d) d.view) w → IsWalk (program_of s) (told_by e).has w
 walk_told s d e w same is h = subst (λ (t : System). IsWalk (program_of t) (told_by e).has w) same (subst (λ (x : Held). IsWalk (program_at d) (told_by x).has w) (sym is) h)
 
-pub walk_known : (p : Program) (e : Held) (w : Walk) → p ≡ program_at e → IsWalk p (told_by e).has w → IsWalk (program_at e) (IsKnown (program_at e) e.1) w
-walk_known p e w same h = subst (λ (q : Program). IsWalk q (IsKnown (program_at e) e.1) w) same h
+pub walk_known : (p : Program) (e : Held) (w : Walk) → p ≡ program_at e → IsWalk p (told_by e).has w → IsWalk (program_at e) (IsKnown (program_at e) e.view) w
+walk_known p e w same h = subst (λ (q : Program). IsWalk q (IsKnown (program_at e) e.view) w) same h
 
 -- what going on says of its equation
 pub collected : (p : Program) (i : Instance) (c : Collection) (r : Result Turn Memory) (d x y e : Held) → collection_of p i ≡ Some c → x ≡ d → e ≡ y → Evaluates p (told_by x) (told_by y) (collection_demands (world_of p) c) r → Evaluates p (told_by d) (told_by e) ((equations_of p).equation i) r

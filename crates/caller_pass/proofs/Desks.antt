@@ -32,28 +32,28 @@ grows x d p l a =
     let same : program_at d ≡ program_at x = ap (λ (f : Frame). program_of f.system.value) l.on.cells in
     record {
       sound = subst (λ (q : Program). IsSound q (told_by d)) (same ∙ sym a.for) (sound d);
-      values = λ i v k. subst (λ (q : Program). IsKnown q d.1 i v) (sym same) (knows_later x.1 d.1 l.on.kept (program_at x) i k.0, k.1);
+      values = λ i v k. subst (λ (q : Program). IsKnown q d.view i v) (sym same) (knows_later x.view d.view l.on.kept (program_at x) i k.0, k.1);
       bound = λ i v k. subst (λ (q : Program). HasValue q i v) same k;
       kept = λ y k. reads_then y x d k l;
     }
 
-answers : (d : Held) (i : Instance) (r : Result (Option CodedValue) Memory) → FindsValue (program_at d) d.1 i r → Settles (program_at d) (told_by d) i r
+answers : (d : Held) (i : Instance) (r : Result (Option CodedValue) Memory) → FindsValue (program_at d) d.view i r → Settles (program_at d) (told_by d) i r
 answers d i (Ok None) none = λ w a. none a.0
 answers d i (Ok (Some v)) some = ((some.value, some.known, some.coded), some.elements)
 answers d i (Err m) h = tt
 
 -- what is answered to a coded instance
-pub settled_at : (x d : Held) (i : CodedInstance) (r : Result (Option CodedValue) Memory) → ReadsOn x d → (IsCoded (program_at x) i → FindsValue (program_at x) d.1 (instance_of (program_at x) i) r) → SettledBy (told_by x) (told_by d) i r
+pub settled_at : (x d : Held) (i : CodedInstance) (r : Result (Option CodedValue) Memory) → ReadsOn x d → (IsCoded (program_at x) i → FindsValue (program_at x) d.view (instance_of (program_at x) i) r) → SettledBy (told_by x) (told_by d) i r
 settled_at x d i r l told =
     let same : program_at d ≡ program_at x = ap (λ (f : Frame). program_of f.system.value) l.on.cells in
     record {
       kept = λ p a. grows x d p l a;
       answer = λ p a. subst (λ (q : Program). IsCoded q i → Settles q (told_by d) (instance_of q i) r) (same ∙ sym a.for)
-          (λ good. answers d (instance_of (program_at d) i) r (subst (λ (q : Program). FindsValue q d.1 (instance_of q i) r) (sym same) (told (subst (λ (q : Program). IsCoded q i) same good))));
+          (λ good. answers d (instance_of (program_at d) i) r (subst (λ (q : Program). FindsValue q d.view (instance_of q i) r) (sym same) (told (subst (λ (q : Program). IsCoded q i) same good))));
     }
 
 -- what an evaluation says
-pub turned : (p : Program) (d : Held) (i : Instance) (r : Result Turn Memory) → p ≡ program_at d → AnswersTurn p (told_by d) ((equations_of p).equation i) r → TurnsTo p d.1 i r
-turned p d i (Ok (Done x)) e a = record { demands = a.demands; ends = subst (λ (q : Program). Ends (IsKnown q d.1) ((equations_of p).equation i) (value_of (text_of p) x) a.demands) (sym e) a.ends; elements = a.coded }
-turned p d i (Ok (Need j)) e a = (a.demands, subst (λ (q : Program). Halts (IsKnown q d.1) ((equations_of p).equation i) (instance_of p j) a.demands) (sym e) a.halts, a.coded)
+pub turned : (p : Program) (d : Held) (i : Instance) (r : Result Turn Memory) → p ≡ program_at d → AnswersTurn p (told_by d) ((equations_of p).equation i) r → TurnsTo p d.view i r
+turned p d i (Ok (Done x)) e a = record { demands = a.demands; ends = subst (λ (q : Program). Ends (IsKnown q d.view) ((equations_of p).equation i) (value_of (text_of p) x) a.demands) (sym e) a.ends; elements = a.coded }
+turned p d i (Ok (Need j)) e a = (a.demands, subst (λ (q : Program). Halts (IsKnown q d.view) ((equations_of p).equation i) (instance_of p j) a.demands) (sym e) a.halts, a.coded)
 turned p d i (Err m) e a = tt

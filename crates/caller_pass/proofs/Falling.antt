@@ -6,7 +6,12 @@ use Rattle.std.specs.List.{list_any}
 use Rattle.std.proofs.lemmas.Bool.{eq-eqb, eqb-true, or_left, or_right}
 use Rattle.equation_law.proofs.Keys.{both_ways}
 use Rattle.equation_law.specs.declared.coding.Instance.{Instance as CodedInstance}
+use Rattle.equation_law.specs.Names.{Instance}
+use Rattle.equation_law.specs.Program.{Program}
+use Rattle.equation_law.specs.Systems.{program_of}
+use Rattle.memo_cells.specs.declared.view.Frame.{Frame}
 use Rattle.memo_cells.specs.declared.view.View.{View}
+use Rattle.memo_cells.specs.Standing.{IsPassOf, Knows}
 use Rattle.memo_cells.specs.Views.{Has, IsAtLeast}
 use Rattle.memo_cells.proofs.Counting.{any_has, has_any}
 use Rattle.circular_eval.specs.declared.local.Local.{Local}
@@ -14,6 +19,7 @@ use Rattle.caller_pass.specs.declared.waiting.Waiter.{Waiter}
 use Rattle.caller_pass.specs.Waiting.{way_of}
 use Rattle.caller_pass.specs.Answering.{unsettled}
 use Rattle.memo_cells.proofs.Bits.{has_left}
+use Rattle.caller_pass.proofs.Knowing.{known_cell, settled_known}
 use Rattle.caller_pass.proofs.Lines.{has_snoc}
 
 -- the cell is seen settled, or an instance waits at it
@@ -93,9 +99,9 @@ abbrev pub turns_of : Option Local → ℕ
 turns_of None = 1
 turns_of (Some l) = 0
 
--- the measure of a turn: each cell that is left pays three, and each that waits one
+-- the measure of a turn: each cell that is left pays four, and each that waits two
 abbrev pub measure : View → List (CodedInstance × Waiter) → CodedInstance × Waiter → ℕ → ℕ
-measure v es top n = 3 * left (taken v (es ++ top ∷ [])) n + length es + turns_of (way_of top.1)
+measure v es top n = 4 * left (taken v (es ++ top ∷ [])) n + 2 * length es + turns_of (way_of top.1)
 
 -- where nobody waits, what isn't seen settled is left
 pub left_unsettled : (v : View) (n : ℕ) → left (taken v []) n ≡ unsettled v n
@@ -107,3 +113,24 @@ left_unsettled v (suc n) =
     no_more : (b : Bool) → (b || false) ≡ b
     no_more true = refl
     no_more false = refl
+
+still_taken : (v w : View) → IsAtLeast v w → (q : ℕ) → taken v [] q ≡ true → taken w [] q ≡ true
+still_taken v w kept q h = ⊎_elim (λ x. by_value w [] q x.0 x.1 (kept.values q x.0 x.1 x.2)) (λ x. absurd x.1) (taken_by v [] q h)
+
+-- what is seen settled stays so
+pub unsettled_less : (v w : View) (n : ℕ) → IsAtLeast v w → unsettled w n ≤ unsettled v n
+unsettled_less v w n kept =
+    let less = left_less (taken v []) (taken w []) n (still_taken v w kept) in
+    let before = left_unsettled v n in
+    let now = left_unsettled w n in
+    omega (arith, less, before, now)
+
+-- an instance came to be known
+pub unsettled_falls : (p : Program) (f : Frame) → p ≡ program_of f.system.value → (v w : View) → IsPassOf f v → IsPassOf f w → IsAtLeast v w → (i : Instance) → ¬ Knows p v i → Knows p w i → unsettled w f.cells < unsettled v f.cells
+unsettled_falls p f same v w own later kept i unknown k =
+    let cell = known_cell p f w i later k in
+    let free = not_taken v [] k.slot (λ key c h. unknown (settled_known p f v same own w i k.slot key c later kept cell h)) (λ e h. absurd h) in
+    let falls = left_falls (taken v []) (taken w []) f.cells k.slot (still_taken v w kept) cell.1.0 free (by_value w [] k.slot k.key k.code k.settled) in
+    let before = left_unsettled v f.cells in
+    let now = left_unsettled w f.cells in
+    omega (arith, falls, before, now)

@@ -45,18 +45,18 @@ module _ (p : Program) (good : IsProgram p) (f : Frame) (v : View) (i : Instance
     may_show_codes = subst (λ (cs : List ℕ). MayShowAll p f v i slot cs) (sym are) may_show
 
     -- what was claimed, what was wanting, and what they show then, by the cells as they are then
-    module _ (e : Held) (cells : e.0 ≡ f) (same : p ≡ program_of f.system.value) where
-      back : (P : Program → Frame → Type 0) → P (program_at e) e.0 → P p f
+    module _ (e : Held) (cells : e.frame ≡ f) (same : p ≡ program_of f.system.value) where
+      back : (P : Program → Frame → Type 0) → P (program_at e) e.frame → P p f
       back P h = subst (λ (q : Program). P q f) (sym same) (subst (λ (g : Frame). P (program_of g.system.value) g) cells h)
 
-      pub show_claims : ClaimsWords (program_at e) v e.1 i codes → ClaimsKeys p i v e.1
-      show_claims h = claims_words p i i none (set_codes x) counted v e.1 (subst (λ (cs : List ℕ). ClaimsWords p v e.1 i cs) are (back (λ q g. ClaimsWords q v e.1 i codes) h))
+      pub show_claims : ClaimsWords (program_at e) v e.view i codes → ClaimsKeys p i v e.view
+      show_claims h = claims_words p i i none (set_codes x) counted v e.view (subst (λ (cs : List ℕ). ClaimsWords p v e.view i cs) are (back (λ q g. ClaimsWords q v e.view i codes) h))
 
-      pub show_full : LacksWord (program_at e) e.0 e.1 i codes → FillsCells p i f e.1
-      show_full h = fills_words p i i none (set_codes x) counted f e.1 (subst (λ (cs : List ℕ). LacksWord p f e.1 i cs) are (back (λ q g. LacksWord q g e.1 i codes) h))
+      pub show_full : LacksWord (program_at e) e.frame e.view i codes → FillsCells p i f e.view
+      show_full h = fills_words p i i none (set_codes x) counted f e.view (subst (λ (cs : List ℕ). LacksWord p f e.view i cs) are (back (λ q g. LacksWord q g e.view i codes) h))
 
-      pub show_done : (done : Unit {0}) → ShowsAll (program_at e) e.1 i codes → AnswersShow p f e.1 i x (Ok done)
-      show_done done h set = shows_set p e.1 i (kind_in p i) x typed set (subst (λ (cs : List ℕ). ShowsAll p e.1 i cs) are (back (λ q g. ShowsAll q e.1 i codes) h))
+      pub show_done : (done : Unit {0}) → ShowsAll (program_at e) e.view i codes → AnswersShow p f e.view i x (Ok done)
+      show_done done h set = shows_set p e.view i (kind_in p i) x typed set (subst (λ (cs : List ℕ). ShowsAll p e.view i cs) are (back (λ q g. ShowsAll q e.view i codes) h))
 
 pub show_fault : (p : Program) (f : Frame) (v : View) (i : Instance) (x : CodedValue) (e : AskFault) → e ≡ CellsFull → FillsCells p i f v → AnswersShow p f v i x (Err e)
 show_fault p f v i x e is full = subst (λ (d : AskFault). AnswersShow p f v i x (Err d)) (sym is) full

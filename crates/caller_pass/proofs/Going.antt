@@ -1,5 +1,5 @@
 -- Solving on demand: what holds before each turn, and what each turn comes to.
-use Rattle.std.proofs.Common.{◌≡◌, ℕ, ◌+◌, ◌*◌, ◌<◌, ◌⊎◌, inl, inr, ⊎_elim, true, false, List, [], ◌∷◌, ◌++◌, length, map, Option, Some, None, Result, Ok, Err, sym, ap, subst, ◌∙◌, arith}
+use Rattle.std.proofs.Common.{◌≡◌, ℕ, ◌+◌, ◌*◌, ◌<◌, ◌⊎◌, inl, inr, ⊎_elim, true, false, List, [], ◌∷◌, ◌++◌, length, map, Option, Some, None, Result, Ok, Err, refl, sym, ap, subst, ◌∙◌, arith}
 use Rattle.std.specs.Result.{IsErr, IsErrAnd}
 use Rattle.rag_io.specs.Pool.{ArePooled}
 use Rattle.solutions.specs.Leading.{none}
@@ -20,68 +20,105 @@ use Rattle.memo_cells.specs.Standing.{IsPassOf, Knows}
 use Rattle.memo_cells.specs.Views.{Has, IsAtLeast}
 use Rattle.memo_cells.specs.Working.{Held, IsKnown, program_at}
 use Rattle.memo_cells.proofs.Claiming.{chain_then, claims_same, claims_then, claims_to, fills_more, fills_to}
-use Rattle.memo_cells.proofs.More.{at_least_then}
+use Rattle.memo_cells.proofs.More.{at_least_itself, at_least_then}
 use Rattle.memo_cells.proofs.Naming.{knows_later}
 use Rattle.circular_eval.specs.declared.local.Local.{Local}
 use Rattle.caller_pass.specs.declared.faults.AskFault.{AskFault}
 use Rattle.caller_pass.specs.declared.faults.AskFault.TheVariants.{CellsFull, Circular, Memory}
 use Rattle.caller_pass.specs.declared.solving.Went.{Went}
+use Rattle.caller_pass.specs.declared.solving.Went.TheVariants.{Settled}
 use Rattle.caller_pass.specs.declared.waiting.Waiter.{Waiter}
-use Rattle.caller_pass.specs.Answering.{AnswersStep, EndsAtLoop, GoesThrough, IsNext, LeavesOne, SameWay, Solves, StopsAt, WayChanges, unsettled}
+use Rattle.caller_pass.specs.Answering.{AnswersStep, EndsAtLoop, Evaluates, FindsSettled, IsNext, LeavesOne, SameWay, Solves, StopsAt, TakesTurn, WasUnsettled, WayChanges, unsettled}
 use Rattle.caller_pass.specs.Leaving.{IsLeft}
 use Rattle.caller_pass.specs.Waiting.{AnswersWait, AreWaiting, IsLineTo, IsPlaced, IsStack, IsWayOf, LooksAgain, waits, way_of}
-use Rattle.caller_pass.proofs.Falling.{measure}
+use Rattle.caller_pass.proofs.Falling.{measure, unsettled_falls}
 use Rattle.caller_pass.proofs.Frames.{stack_fewer, stack_more, stack_on, stack_one, waiting_later, waiting_more}
 use Rattle.caller_pass.proofs.Leaving.{none_left}
 use Rattle.caller_pass.proofs.Knowing.{has_value}
 use Rattle.caller_pass.proofs.Lines.{met_loop, waits_chain}
 use Rattle.caller_pass.proofs.Paid.{pays_all, pays_back, pays_first, pays_further, pays_more, top_reached}
 use Rattle.caller_pass.proofs.Paying.{AreApart, Pays}
-use Rattle.caller_pass.proofs.Turning.{falls_back, falls_further, falls_more}
+use Rattle.caller_pass.proofs.Turning.{falls_back, falls_further, falls_more, length_snoc}
 
--- different circular instances that lead to i, and aren't known
+-- what was unsettled between two times was so between others around them
+pub was_within : (p : Program) (a b c d : View) (i : Instance) → IsAtLeast a b → IsAtLeast c d → WasUnsettled p b c i → WasUnsettled p a d i
+was_within p a b c d i before after h = record { loaded = h.loaded; later = at_least_then before h.later; kept = at_least_then h.kept after; unsettled = h.unsettled }
+
+-- different circular instances that lead to i; neither they nor i are known
 pub record IsOuter (p : Program) (v : View) (i : Instance) (hs : List Instance) : Type 0 where
+  pub inner : ¬ Knows p v i
   pub apart : AreApart hs
   pub unknown : (h : Instance) → Has hs h → ¬ Knows p v h
   pub are_circular : (h : Instance) → Has hs h → (equations_of p).circular h ≡ true
   pub leads : (h : Instance) → Has hs h → Chain p h i
 
--- The instances of the stack wait for its top, whose turn it is; `v` is what was known at first, and `w` what is known. The evaluations are paid,
--- unless i has a loop.
+-- The instances of the stack wait for its top, whose turn it is; `v` is what was known at first, and `w` what is known. Nothing was evaluated before
+-- i was loaded and wasn't settled. The evaluations are paid, unless i has a loop.
 pub record IsSolving (p : Program) (f : Frame) (v w : View) (i : Instance) (es : List (CodedInstance × Waiter)) (top : CodedInstance × Waiter) (before now : ℕ) : Type 0 where
   pub own : IsPassOf f w
   pub kept : IsAtLeast v w
   pub stack : IsStack p f w i es top
   pub claims : ClaimsKeys p i v w
+  pub loads : ((now ≡ before) × (es ≡ [])) ⊎ WasUnsettled p v w i
   pub paid : (hs : List Instance) → IsOuter p v i hs → HasLoop p i ⊎ Pays p w f.cells hs es top now (before + 2 * unsettled v f.cells)
 
--- a turn of t, by the cells of which it was
+-- a turn of t with an evaluation, by the cells of which it was
 pub record WentThrough (p : Program) (f : Frame) (w u : View) (t : CodedInstance) (x y : Waiter) (before after : ℕ) (r : Result Went AskFault) : Type 0 where
   pub own : IsPassOf f u
   pub kept : IsAtLeast w u
+  pub was : WasUnsettled p w u (instance_of p t)
   pub claims : ClaimsKeys p (instance_of p t) w u
   pub slot : y.slot ≡ x.slot
   pub left : IsLeft f.system.value (IsKnown p u) (instance_of p t) y.left
   pub answer : AnswersStep p f u (instance_of p t) (way_of x) (way_of y) r
   pub evals : after ≡ before + 1
 
-pub through : (d e : Held) (f : Frame) (t : CodedInstance) (x y : Waiter) (before after : ℕ) (r : Result Went AskFault) → d.0 ≡ f → GoesThrough (program_at d) d e t x y before after r → WentThrough (program_of f.system.value) f d.1 e.1 t x y before after r
+pub through : (d e : Held) (f : Frame) (t : CodedInstance) (x y : Waiter) (before after : ℕ) (r : Result Went AskFault) → d.frame ≡ f → Evaluates (program_at d) d e t x y before after r → WentThrough (program_of f.system.value) f d.view e.view t x y before after r
 through d e f t x y before after r is h =
-    let g = subst (λ (g : Frame). GoesThrough (program_of g.system.value) (g, d.1, d.2) e t x y before after r) is h in
+    let g = subst (λ (g : Frame). Evaluates (program_of g.system.value) (record { frame = g; view = d.view; lender = d.lender }) e t x y before after r) is h in
     record {
-      own = subst (λ (c : Frame). IsPassOf c e.1) g.on.cells g.on.own;
-      kept = g.on.kept;
-      claims = g.claims;
-      slot = g.slot;
-      left = g.left;
-      answer = g.answer;
-      evals = g.evals;
+      own = subst (λ (c : Frame). IsPassOf c e.view) g.through.on.cells g.through.on.own;
+      kept = g.through.on.kept;
+      was = g.was;
+      claims = g.through.claims;
+      slot = g.through.slot;
+      left = g.through.left;
+      answer = g.through.answer;
+      evals = g.through.evals;
     }
 
+-- a turn of t that ended with its cell settled: it was found so, or t was evaluated, which waits for no local set
+pub record CameSettled (p : Program) (f : Frame) (w u : View) (t : CodedInstance) (x : Waiter) (before after : ℕ) : Type 0 where
+  pub own : IsPassOf f u
+  pub kept : IsAtLeast w u
+  pub claims : ClaimsKeys p (instance_of p t) w u
+  pub known : Knows p u (instance_of p t)
+  pub evals : (after ≡ before) ⊎ ((after ≡ before + 1) × (way_of x ≡ None) × WasUnsettled p w u (instance_of p t))
+
+pub came_settled : (d e : Held) (f : Frame) (t : CodedInstance) (x y : Waiter) (before after : ℕ) (r : Result Went AskFault) → d.frame ≡ f → r ≡ Ok Settled → TakesTurn (program_at d) d e t x y before after r → CameSettled (program_of f.system.value) f d.view e.view t x before after
+came_settled d e f t x y before after r is went turn =
+    let p = program_of f.system.value in
+    ⊎_elim
+    (λ h.
+    let g = subst (λ (g : Frame). FindsSettled (program_of g.system.value) (record { frame = g; view = d.view; lender = d.lender }) e t before after r) is h in
+    record { own = subst (λ (c : Frame). IsPassOf c e.view) g.read.on.cells g.read.on.own; kept = g.read.on.kept; claims = claims_same p (instance_of p t) d.view e.view g.read.claims; known = g.known; evals = inl g.evals })
+    (λ h.
+    let g = through d e f t x y before after r is h in
+    let settled = subst (λ (z : Result Went AskFault). AnswersStep p f e.view (instance_of p t) (way_of x) (way_of y) z) went g.answer in
+    record { own = g.own; kept = g.kept; claims = g.claims; known = settled.0; evals = inr (g.evals, settled.1, g.was) })
+    turn
+
+-- where none waits, the one on top is the one that was asked for
+only_one : (p : Program) (f : Frame) (v : View) (i : Instance) (es : List (CodedInstance × Waiter)) (t : CodedInstance) (x : Waiter) → IsStack p f v i es (t, x) → es ≡ [] → instance_of p t ≡ i
+only_one p f v i es t x stack empty =
+    let starts : (t, x) ∷ [] ≡ stack.first ∷ stack.rest = ap (λ l. l ++ (t, x) ∷ []) (sym empty) ∙ stack.starts in
+    let first : (t, x) ≡ stack.first = cc in
+    ap (λ (e : CodedInstance × Waiter). instance_of p e.0) first ∙ stack.is
+
 -- a fault that is handed on
-pub solve_fault : (p : Program) (f : Frame) (v w : View) (i : Instance) (before after : ℕ) (e : AskFault) (r : Result Unit AskFault) → IsErr r × IsErrAnd r (λ x. x ≡ e) → ClaimsKeys p i v w → StopsAt p f w i e → Solves p f v w i before after r
-solve_fault p f v w i before after e (Ok x) h claims a = let none = h.0 in cc
-solve_fault p f v w i before after e (Err d) h claims a = record { answer = subst (λ (y : AskFault). StopsAt p f w i y) (sym h.1) a; claims = claims; cost = λ ok. cc }
+pub solve_fault : (p : Program) (f : Frame) (v w : View) (i : Instance) (before after : ℕ) (e : AskFault) (r : Result Unit AskFault) → IsErr r × IsErrAnd r (λ x. x ≡ e) → ClaimsKeys p i v w → (after ≡ before) ⊎ WasUnsettled p v w i → StopsAt p f w i e → Solves p f v w i before after r
+solve_fault p f v w i before after e (Ok x) h claims loads a = let none = h.0 in cc
+solve_fault p f v w i before after e (Err d) h claims loads a = record { answer = subst (λ (y : AskFault). StopsAt p f w i y) (sym h.1) a; claims = claims; loads = loads; cost = λ ok. cc }
 
 -- the line to what stands in it already, or is known to have a loop
 waited_loop : (p : Program) (f g : Frame) (v u : View) (i : Instance) (es : List (CodedInstance × Waiter)) (t : CodedInstance) (x y : Waiter) (on : CodedInstance) (line : List Instance) → IsStack p f v i es (t, x) → AreWaiting p g u (es ++ (t, y) ∷ []) (instance_of p on) → ((g : Frame) (u : View) → AreWaiting p g u (es ++ (t, y) ∷ []) (instance_of p on) → IsLineTo p (es ++ (t, y) ∷ []) (instance_of p on) line) → (waits (es ++ (t, y) ∷ []) on ≡ true) ⊎ HasLoop p (instance_of p on) → (equations_of p).circular (instance_of p on) ≡ false → EndsAtLoop p i (instance_of p on) line
@@ -93,31 +130,43 @@ waited_loop p f g v u i (e ∷ es) t x y on line stack waiting lines why plain =
     subst (λ (j : Instance). EndsAtLoop p j (instance_of p on) line) (ap (λ (d : CodedInstance × Waiter). instance_of p d.0) first ∙ stack.is) (met_loop p e (es ++ (t, y) ∷ []) on line (lines g u waiting) why plain)
 
 -- before the first turn
-pub begun : (p : Program) (f : Frame) (v w : View) → p ≡ program_of f.system.value → IsPassOf f v → IsPassOf f w → IsAtLeast v w → (i : CodedInstance) (x : Waiter) → IsInstance p (instance_of p i) → IsCoded p i → (equations_of p).circular (instance_of p i) ≡ false → ¬ Knows p v (instance_of p i) → IsCellOf p f w (instance_of p i) x.slot.0 → way_of x ≡ None → x.left ≡ None → ClaimsKeysTo p v w (instance_of p i) → (evals : ℕ) → IsSolving p f v w (instance_of p i) [] (i, x) evals evals
-begun p f v w same own then kept i x instance coded plain unknown cell way fresh claims evals =
+pub begun : (p : Program) (f : Frame) (v w : View) → p ≡ program_of f.system.value → IsPassOf f v → IsPassOf f w → IsAtLeast v w → (i : CodedInstance) (x : Waiter) → IsInstance p (instance_of p i) → IsCoded p i → (equations_of p).circular (instance_of p i) ≡ false → IsCellOf p f w (instance_of p i) x.slot.0 → way_of x ≡ None → x.left ≡ None → ClaimsKeysTo p v w (instance_of p i) → (evals : ℕ) → IsSolving p f v w (instance_of p i) [] (i, x) evals evals
+begun p f v w same own then kept i x instance coded plain cell way fresh claims evals =
     let placed : IsPlaced p f w (i, x) = record { instance = instance; coded = coded; undeclared = plain; slot = cell; left = none_left _ _ _ x.left fresh } in
     record {
       own = then;
       kept = kept;
       stack = stack_one p f w i x placed way;
       claims = claims_to p (instance_of p i) v w claims;
-      paid = λ hs out. inr (pays_first p f same v w own then kept i x unknown cell way placed hs out.apart out.unknown out.are_circular evals);
+      loads = inl (refl, refl);
+      paid = λ hs out. inr (pays_first p f same v w own then kept i x out.inner cell way placed hs out.apart out.unknown out.are_circular evals);
     }
 
-module _ {p : Program} {f : Frame} {v w u : View} {i : Instance} {es : List (CodedInstance × Waiter)} {t : CodedInstance} {x y : Waiter} {before now after : ℕ} {r : Result Went AskFault} (same : p ≡ program_of f.system.value) (pooled : ArePooled p.texts) (s : IsSolving p f v w i es (t, x) before now) (g : WentThrough p f w u t x y now after r) where
+module _ {p : Program} {f : Frame} {v w : View} {i : Instance} {es : List (CodedInstance × Waiter)} {t : CodedInstance} {x : Waiter} {before now : ℕ} (s : IsSolving p f v w i es (t, x) before now) where
   reached : Chain p i (instance_of p t)
   reached = top_reached p f w i es (t, x) s.stack
 
+  -- what was asked for was loaded with this turn, or before it
+  was_asked : (u : View) → IsAtLeast w u → WasUnsettled p w u (instance_of p t) → WasUnsettled p v u i
+  was_asked u kept was = ⊎_elim
+      (λ first. subst (λ (j : Instance). WasUnsettled p v u j) (only_one p f w i es t x s.stack first.1) (was_within p v w u u (instance_of p t) s.kept (at_least_itself u) was))
+      (λ before. was_within p v v w u i (at_least_itself v) kept before)
+      s.loads
+
+module _ {p : Program} {f : Frame} {v w u : View} {i : Instance} {es : List (CodedInstance × Waiter)} {t : CodedInstance} {x y : Waiter} {before now after : ℕ} {r : Result Went AskFault} (same : p ≡ program_of f.system.value) (pooled : ArePooled p.texts) (s : IsSolving p f v w i es (t, x) before now) (g : WentThrough p f w u t x y now after r) where
   pub claims_now : ClaimsKeys p i v u
-  claims_now = claims_then p i (instance_of p t) v w u reached s.claims g.kept g.claims
+  claims_now = claims_then p i (instance_of p t) v w u (reached s) s.claims g.kept g.claims
 
   pub kept_now : IsAtLeast v u
   kept_now = at_least_then s.kept g.kept
 
+  pub was_now : WasUnsettled p v u i
+  was_now = was_asked s u g.kept g.was
+
   -- a fault
   pub step_fault : (e : AskFault) → AnswersStep p f u (instance_of p t) (way_of x) (way_of y) (Err e) → StopsAt p f u i e
   step_fault (Circular on chain) a = absurd a
-  step_fault CellsFull a = fills_more p i (instance_of p t) f u reached a
+  step_fault CellsFull a = fills_more p i (instance_of p t) f u (reached s) a
   step_fault Memory a = tt
 
   -- it waits for a local set now, or doesn't any more
@@ -137,6 +186,7 @@ module _ {p : Program} {f : Frame} {v w u : View} {i : Instance} {es : List (Cod
       kept = kept_now;
       stack = stack_further;
       claims = claims_now;
+      loads = inr was_now;
       paid = λ hs out. ⊎_elim inl (λ pays. subst (λ (n : ℕ). HasLoop p i ⊎ Pays p u f.cells hs es (t, y) n (before + 2 * unsettled v f.cells)) (sym g.evals) (pays_further p f same pooled w u s.own g.own g.kept i hs out.leads es t x s.stack now (before + 2 * unsettled v f.cells) pays y g.slot stack_further changes)) (s.paid hs out);
     }
 
@@ -149,11 +199,14 @@ module _ {p : Program} {f : Frame} {v w u : View} {i : Instance} {es : List (Cod
     waiting_now = waiting_more p f u es (t, y) (instance_of p n) (waiting_later p f w u g.kept es (instance_of p t) s.stack.waiting) next.waits
 
     next_reached : Chain p i (instance_of p n)
-    next_reached = chain_then p reached (waits_chain p f u (instance_of p t) (way_of y) (instance_of p n) next.waits)
+    next_reached = chain_then p (reached s) (waits_chain p f u (instance_of p t) (way_of y) (instance_of p n) next.waits)
 
     module _ {o : View} (own : IsPassOf f o) (later : IsAtLeast u o) (claims : ClaimsKeysTo p u o (instance_of p n)) where
       pub claims_more : ClaimsKeys p i v o
       claims_more = claims_then p i (instance_of p n) v u o next_reached claims_now later (claims_to p (instance_of p n) u o claims)
+
+      pub was_more : WasUnsettled p v o i
+      was_more = was_within p v v u o i (at_least_itself v) later was_now
 
       -- a fault
       pub wait_fault : (new : List (CodedInstance × Waiter)) (e : AskFault) → AnswersWait p f o (es ++ (t, y) ∷ []) n new (Err e) → StopsAt p f o i e
@@ -180,6 +233,7 @@ module _ {p : Program} {f : Frame} {v w u : View} {i : Instance} {es : List (Cod
           kept = at_least_then kept_now later;
           stack = stack_next;
           claims = claims_more;
+          loads = inr was_more;
           paid = λ hs out. ⊎_elim inl (λ pays. inr (subst (λ (m : ℕ). Pays p o f.cells hs (es ++ (t, y) ∷ []) (n, z) m (before + 2 * unsettled v f.cells)) (sym g.evals) (pays_more p f same pooled w o s.own own (at_least_then g.kept later) i hs out.leads es t x s.stack now (before + 2 * unsettled v f.cells) pays y g.slot ways n z unknown stack_next))) (s.paid hs out);
         }
 
@@ -192,58 +246,89 @@ module _ {p : Program} {f : Frame} {v w u : View} {i : Instance} {es : List (Cod
         pub fell_more : (new : List (CodedInstance × Waiter)) → new ≡ es ++ (t, y) ∷ [] → measure o new (n, z) f.cells < measure w es (t, x) f.cells
         fell_more new is = subst (λ l. measure o l (n, z) f.cells < measure w es (t, x) f.cells) (sym is) fell_next
 
-  -- it is settled
-  module _ (known : Knows p u (instance_of p t)) (way : way_of x ≡ None) where
-    -- the one that waited for it is on top again
-    module _ {o : View} (own : IsPassOf f o) (later : IsAtLeast u o) (quiet : o.claims ≡ u.claims) (ds : List (CodedInstance × Waiter)) (last : CodedInstance × Waiter) (is : es ≡ ds ++ last ∷ []) (free : waits ds last.0 ≡ false) (z : Waiter) (looks : LooksAgain p o last.1 z) where
-      then_kept : IsAtLeast w o
-      then_kept = at_least_then g.kept later
+-- the one on top is settled
+module _ {p : Program} {f : Frame} {v w u : View} {i : Instance} {es : List (CodedInstance × Waiter)} {t : CodedInstance} {x : Waiter} {before now after : ℕ} (same : p ≡ program_of f.system.value) (pooled : ArePooled p.texts) (s : IsSolving p f v w i es (t, x) before now) (g : CameSettled p f w u t x now after) where
+  all_claims : ClaimsKeys p i v u
+  all_claims = claims_then p i (instance_of p t) v w u (reached s) s.claims g.kept g.claims
 
-      stack_back : IsStack p f o i ds (last.0, z)
-      stack_back = stack_fewer p f w o then_kept i es t x s.stack ds last is free z looks
+  all_kept : IsAtLeast v u
+  all_kept = at_least_then s.kept g.kept
 
-      pub went_back : IsSolving p f v o i ds (last.0, z) before after
-      went_back = record {
-        own = own;
-        kept = at_least_then kept_now later;
-        stack = stack_back;
-        claims = claims_then p i i v u o none claims_now later (claims_same p i u o quiet);
-        paid = λ hs out. ⊎_elim inl (λ pays. inr (subst (λ (m : ℕ). Pays p o f.cells hs ds (last.0, z) m (before + 2 * unsettled v f.cells)) (sym g.evals) (pays_back p f same pooled w o s.own own then_kept i hs out.leads es t x s.stack now (before + 2 * unsettled v f.cells) pays (knows_later u o later p (instance_of p t) known) way ds last is z looks stack_back))) (s.paid hs out);
-      }
+  all_loads : (after ≡ before) ⊎ WasUnsettled p v u i
+  all_loads = ⊎_elim
+      (λ none_more. ⊎_elim (λ first. inl (none_more ∙ first.0)) (λ was. inr (was_within p v v w u i (at_least_itself v) g.kept was)) s.loads)
+      (λ more. inr (was_asked s u g.kept more.2))
+      g.evals
 
-      pub fell_back : measure o ds (last.0, z) f.cells < measure w es (t, x) f.cells
-      fell_back = falls_back p f same pooled w o s.own own then_kept i es t x s.stack (knows_later u o later p (instance_of p t) known) way ds last is z looks.slot
+  cheap : (after ≡ now) ⊎ ((after ≡ now + 1) × (way_of x ≡ None))
+  cheap = ⊎_elim inl (λ more. inr (more.0, more.1)) g.evals
 
-    -- it is the one that was asked for
-    module _ (empty : es ≡ []) where
-      it_is : instance_of p t ≡ i
-      it_is =
-          let starts : (t, x) ∷ [] ≡ s.stack.first ∷ s.stack.rest = ap (λ l. l ++ (t, x) ∷ []) (sym empty) ∙ s.stack.starts in
-          let first : (t, x) ≡ s.stack.first = cc in
-          ap (λ (e : CodedInstance × Waiter). instance_of p e.0) first ∙ s.stack.is
+  -- the one that waited for it is on top again
+  module _ {o : View} (own : IsPassOf f o) (later : IsAtLeast u o) (quiet : o.claims ≡ u.claims) (ds : List (CodedInstance × Waiter)) (last : CodedInstance × Waiter) (is : es ≡ ds ++ last ∷ []) (free : waits ds last.0 ≡ false) (z : Waiter) (looks : LooksAgain p o last.1 z) where
+    then_kept : IsAtLeast w o
+    then_kept = at_least_then g.kept later
 
-      all_known : Knows p u i
-      all_known = subst (λ (j : Instance). Knows p u j) it_is known
+    its_known : Knows p o (instance_of p t)
+    its_known = knows_later u o later p (instance_of p t) g.known
 
-      -- so it has no loop
-      total : (hs : List Instance) → IsOuter p v i hs → ((h : Instance) → Has hs h → Knows p u h) → after + 2 * unsettled u f.cells + length hs < before + 2 * unsettled v f.cells
-      total hs out outer_known = ⊎_elim
-          (λ loop. (let value = has_value p f u same g.own i all_known in absurd (loopless p i value.0 value.1 loop)))
-          (λ pays. subst (λ (m : ℕ). m + 2 * unsettled u f.cells + length hs < before + 2 * unsettled v f.cells) (sym g.evals) (pays_all p f same pooled w u s.own g.own g.kept i hs out.leads es t x s.stack now (before + 2 * unsettled v f.cells) pays known way empty outer_known))
-          (s.paid hs out)
+    stack_back : IsStack p f o i ds (last.0, z)
+    stack_back = stack_fewer p f w o then_kept i es t x s.stack ds last is free z looks
 
-      pub solved_all : (done : Unit {0}) → Solves p f v u i before after (Ok done)
-      solved_all done =
-          let cheap = total [] (record { apart = tt; unknown = λ h there. absurd there; are_circular = λ h there. absurd there; leads = λ h there. absurd there }) (λ h there. absurd there) in
-          record { answer = all_known; claims = claims_now; cost = λ ok. omega (arith, cheap) }
+    -- one waits, so what was asked for was loaded before
+    was_back : WasUnsettled p v o i
+    was_back = ⊎_elim
+        (λ first. let none : length es ≡ 0 = ap length first.1 in let some = ap length is ∙ length_snoc ds last in absurd (omega (arith, none, some)))
+        (λ was. was_within p v v w o i (at_least_itself v) then_kept was)
+        s.loads
 
-      pub leaves_one : LeavesOne p f v u i before after
-      leaves_one h leads its unknown later =
-          let one : IsOuter p v i (h ∷ []) = record {
-            apart = ((λ no. no), tt);
-            unknown = λ j there. ⊎_elim (λ at. subst (λ (k : Instance). ¬ Knows p v k) (sym at) unknown) absurd there;
-            are_circular = λ j there. ⊎_elim (λ at. subst (λ (k : Instance). (equations_of p).circular k ≡ true) (sym at) its) absurd there;
-            leads = λ j there. ⊎_elim (λ at. subst (λ (k : Instance). Chain p k i) (sym at) leads) absurd there;
-          } in
-          let cheap = total (h ∷ []) one (λ j there. ⊎_elim (λ at. subst (λ (k : Instance). Knows p u k) (sym at) later) absurd there) in
-          omega (arith, cheap)
+    pub went_back : IsSolving p f v o i ds (last.0, z) before after
+    went_back = record {
+      own = own;
+      kept = at_least_then all_kept later;
+      stack = stack_back;
+      claims = claims_then p i i v u o none all_claims later (claims_same p i u o quiet);
+      loads = inr was_back;
+      paid = λ hs out. ⊎_elim inl (λ pays. inr (pays_back p f same pooled w o s.own own then_kept i hs out.leads es t x s.stack now (before + 2 * unsettled v f.cells) pays its_known after cheap ds last is z looks stack_back)) (s.paid hs out);
+    }
+
+    pub fell_back : measure o ds (last.0, z) f.cells < measure w es (t, x) f.cells
+    fell_back = falls_back p f same pooled w o s.own own then_kept i es t x s.stack its_known ds last is z looks.slot
+
+  -- it is the one that was asked for
+  module _ (empty : es ≡ []) where
+    all_known : Knows p u i
+    all_known = subst (λ (j : Instance). Knows p u j) (only_one p f w i es t x s.stack empty) g.known
+
+    not_before : WasUnsettled p v u i → ¬ Knows p v i
+    not_before was k = was.unsettled (knows_later v was.loaded was.later p i k)
+
+    -- so it has no loop
+    total : (hs : List Instance) → IsOuter p v i hs → ((h : Instance) → Has hs h → Knows p u h) → after + 2 * unsettled u f.cells + length hs < before + 2 * unsettled v f.cells
+    total hs out outer_known = ⊎_elim
+        (λ loop. (let value = has_value p f u same g.own i all_known in absurd (loopless p i value.0 value.1 loop)))
+        (λ pays. pays_all p f same pooled w u s.own g.own g.kept i hs out.leads es t x s.stack now (before + 2 * unsettled v f.cells) pays g.known after cheap empty outer_known)
+        (s.paid hs out)
+
+    few : WasUnsettled p v u i → after + 2 * unsettled u f.cells < before + 2 * unsettled v f.cells
+    few was =
+        let cost = total [] (record { inner = not_before was; apart = tt; unknown = λ h there. absurd there; are_circular = λ h there. absurd there; leads = λ h there. absurd there }) (λ h there. absurd there) in
+        omega (arith, cost)
+
+    pub solved_all : (done : Unit {0}) → Solves p f v u i before after (Ok done)
+    solved_all done = record { answer = all_known; claims = all_claims; loads = all_loads; cost = λ ok. ⊎_elim inl (λ was. inr (few was)) all_loads }
+
+    pub leaves_one : IsPassOf f v → LeavesOne p f v u i before after
+    leaves_one own h leads its unknown later = ⊎_elim
+        (λ none_more. let falls = unsettled_falls p f same v u own g.own all_kept h unknown later in omega (arith, none_more, falls))
+        (λ was.
+        let one : IsOuter p v i (h ∷ []) = record {
+          inner = not_before was;
+          apart = ((λ no. no), tt);
+          unknown = λ j there. ⊎_elim (λ at. subst (λ (k : Instance). ¬ Knows p v k) (sym at) unknown) absurd there;
+          are_circular = λ j there. ⊎_elim (λ at. subst (λ (k : Instance). (equations_of p).circular k ≡ true) (sym at) its) absurd there;
+          leads = λ j there. ⊎_elim (λ at. subst (λ (k : Instance). Chain p k i) (sym at) leads) absurd there;
+        } in
+        let cost = total (h ∷ []) one (λ j there. ⊎_elim (λ at. subst (λ (k : Instance). Knows p u k) (sym at) later) absurd there) in
+        omega (arith, cost)
+        )
+        all_loads

@@ -7,7 +7,7 @@ use Rattle.solutions.proofs.Runs.{ends_more}
 use Rattle.equation_law.specs.declared.coding.Instance.{Instance as CodedInstance}
 use Rattle.equation_law.specs.declared.coding.Value.{Value as CodedValue}
 use Rattle.equation_law.specs.Checked.{IsInstance}
-use Rattle.equation_law.specs.Codes.{AreElements, IsSmall, instance_of, value_at, value_of}
+use Rattle.equation_law.specs.Codes.{AreElements, IsSmall, Naming, instance_of, source_names, value_at, value_by, value_coded, value_of}
 use Rattle.equation_law.specs.Equations.{HasValue, equations_of, is_ordered, kind_in}
 use Rattle.equation_law.specs.Loops.{Leads}
 use Rattle.equation_law.specs.Names.{Instance}
@@ -72,13 +72,13 @@ module _ (p : Program) (f : Frame) (v : View) (same : p ≡ program_of f.system.
       record { key = key; stands = subst (λ (j : Instance). StandsFor p v key j) is of.1; slot = slot; code = code; settled = h }
 
   -- a settled code, read at the type of the instance
-  pub known_value_is : (i : Instance) (slot code : ℕ) (kind : Kind) (x : CodedValue) → IsSettledAt p f v i slot code → kind ≡ kind_in p i → is_single kind ≡ true → ((texts : ℕ → List ℕ) → value_of texts x ≡ value_at texts kind code) → AreElements p x → IsKnownValue p v i x
+  pub known_value_is : (i : Instance) (slot code : ℕ) (kind : Kind) (x : CodedValue) → IsSettledAt p f v i slot code → kind ≡ kind_in p i → is_single kind ≡ true → ((n : Naming) → value_by n x ≡ value_coded n kind code) → AreElements p x → IsKnownValue p v i x
   known_value_is i slot code kind x s kinds single is elements =
       let of = code_of i slot s.key code s.stands s.settled in
       record {
         value = of.value;
         known = (record { key = s.key; stands = s.stands; slot = slot; code = code; settled = s.settled }, of.has);
-        coded = is (text_of p) ∙ ap (λ (k : Kind). value_at (text_of p) k code) kinds ∙ of.coded (ap is_single (sym kinds) ∙ single);
+        coded = is (source_names (text_of p)) ∙ ap (λ (k : Kind). value_at (text_of p) k code) kinds ∙ of.coded (ap is_single (sym kinds) ∙ single);
         elements = elements;
       }
 

@@ -1,13 +1,16 @@
 -- Settling what a local set needs.
-use Rattle.std.proofs.Common.{◌≡◌, ℕ, List, Result, Ok, Err, map, refl, sym, ap, subst, ◌∙◌}
+use Rattle.std.proofs.Common.{◌≡◌, ℕ, ⊎_elim, List, Result, Ok, Err, map, refl, sym, ap, subst, ◌∙◌, arith}
 use Rattle.std.specs.Result.{IsErr, IsErrAnd}
 use Rattle.equation_law.specs.declared.coding.Instance.{Instance as CodedInstance}
 use Rattle.equation_law.specs.Codes.{instance_of}
 use Rattle.equation_law.specs.Names.{Instance}
 use Rattle.equation_law.specs.Program.{Program}
+use Rattle.equation_law.specs.Systems.{program_of}
 use Rattle.memo_cells.specs.declared.view.Frame.{Frame}
 use Rattle.memo_cells.specs.declared.view.View.{View}
 use Rattle.memo_cells.specs.Claiming.{ClaimsKeys}
+use Rattle.memo_cells.specs.Standing.{IsPassOf}
+use Rattle.memo_cells.specs.Views.{IsAtLeast}
 use Rattle.memo_cells.proofs.Claiming.{fills_more}
 use Rattle.circular_eval.specs.declared.local.Local.{Local}
 use Rattle.circular_eval.specs.Advancing.{IsMissing}
@@ -16,19 +19,22 @@ use Rattle.caller_pass.specs.declared.faults.AskFault.{AskFault}
 use Rattle.caller_pass.specs.declared.faults.AskFault.TheVariants.{CellsFull, Circular, Memory}
 use Rattle.caller_pass.specs.Answering.{StopsAt, EndsAtLoop, LeavesOne, Solves, SolvesFor}
 use Rattle.caller_pass.specs.Waiting.{IsBehind, Needed}
+use Rattle.caller_pass.proofs.Falling.{unsettled_falls}
 use Rattle.caller_pass.proofs.Lines.{ends_behind}
 use Rattle.caller_pass.proofs.Listing.{map_both}
 
 module _ (p : Program) (f : Frame) (v w : View) (l : Local) (n : CodedInstance) (local : IsLocal p f v l) (missing : IsMissing p v l n) (before after : ℕ) where
-  -- it is settled
-  pub settled_for : (done : Unit {0}) → Solves p f v w (instance_of p n) before after (Ok done) → LeavesOne p f v w (instance_of p n) before after → SolvesFor p f v w l (instance_of p n) before after (Ok done)
-  settled_for done h leaves = record {
-    settled = λ ok. h.answer;
-    fault = λ e is. cc;
-    claims = h.claims;
-    cost = λ ok. h.cost ok;
-    start = λ ok unknown known. leaves (instance_of p l.start) missing.reached local.is_circular unknown known;
-  }
+  -- it is settled, which it wasn't before
+  pub settled_for : p ≡ program_of f.system.value → IsPassOf f v → IsPassOf f w → IsAtLeast v w → (done : Unit {0}) → Solves p f v w (instance_of p n) before after (Ok done) → LeavesOne p f v w (instance_of p n) before after → SolvesFor p f v w l (instance_of p n) before after (Ok done)
+  settled_for same own then kept done h leaves =
+      let falls = unsettled_falls p f same v w own then kept (instance_of p n) missing.unknown h.answer in
+      record {
+        settled = λ ok. h.answer;
+        fault = λ e is. cc;
+        claims = h.claims;
+        cost = λ ok. ⊎_elim (λ none_more. omega (arith, none_more, falls)) (λ few. few) (h.cost ok);
+        start = λ ok unknown known. leaves (instance_of p l.start) missing.reached local.is_circular unknown known;
+      }
 
   for_fault : (d : AskFault) → ClaimsKeys p (instance_of p n) v w → StopsAt p f w (instance_of p l.start) d → SolvesFor p f v w l (instance_of p n) before after (Err d)
   for_fault d claims a = record { settled = λ ok. cc; fault = λ e is. let same : d ≡ e = cc in subst (λ (x : AskFault). StopsAt p f w (instance_of p l.start) x) same a; claims = claims; cost = λ ok. cc; start = λ ok. cc }

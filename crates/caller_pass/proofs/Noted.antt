@@ -9,23 +9,21 @@ use Rattle.std.specs.Map.{lookup}
 use Rattle.equation_law.specs.contracts.coding.InstancePartialEq.TheImpl as equality
 use Rattle.attr_rules.specs.declared.kinds.Kind.{Kind}
 use Rattle.attr_rules.specs.Rules.{is_single}
-use Rattle.equation_law.specs.declared.system.System.{System}
 use Rattle.equation_law.specs.declared.coding.Instance.{Instance as CodedInstance}
 use Rattle.equation_law.specs.declared.coding.Value.{Value as CodedValue}
 use Rattle.equation_law.specs.Checked.{IsInstance, IsProgram}
-use Rattle.equation_law.specs.Codes.{AreElements, IsCoded, instance_of, value_of}
-use Rattle.equation_law.specs.Equations.{is_ordered, kind_in}
+use Rattle.equation_law.specs.Codes.{AreElements, IsCoded, Naming, instance_of, source_names, value_by, value_of}
+use Rattle.equation_law.specs.Equations.{kind_in}
 use Rattle.equation_law.specs.Names.{Instance}
 use Rattle.equation_law.specs.Program.{Program, text_of}
-use Rattle.equation_law.specs.Systems.{program_of}
 use Rattle.equation_law.proofs.Keys.{key_is}
 use Rattle.equation_law.proofs.QueryValues.{value_typed}
-use Rattle.memo_cells.specs.declared.view.Frame.{Frame}
 use Rattle.memo_cells.specs.declared.view.View.{View}
 use Rattle.memo_cells.specs.Naming.{IsCellOf}
-use Rattle.memo_cells.specs.SetShown.{IsShownValue}
+use Rattle.memo_cells.specs.SetShown.{IsShownValueAt}
 use Rattle.memo_cells.specs.Standing.{Knows}
 use Rattle.memo_cells.specs.Views.{Has, IsAtLeast}
+use Rattle.memo_cells.specs.Working.{Held, program_at}
 use Rattle.caller_pass.specs.Knowing.{HasEnded, IsKnownValue}
 use Rattle.caller_pass.specs.Noting.{IsNoted, IsValueOf}
 use Rattle.caller_pass.proofs.Asked.{typed_as}
@@ -55,8 +53,8 @@ has_at (x ∷ xs) zero d lt = inl refl
 has_at (x ∷ xs) (suc k) d lt = inr (has_at xs k d (omega (arith, lt)))
 
 -- a value once more
-pub noted_copy : (p : Program) (i : CodedInstance) (x y : CodedValue) → ((texts : ℕ → List ℕ) → value_of texts y ≡ value_of texts x) → (AreElements p x → AreElements p y) → IsNoted p i x → IsNoted p i y
-noted_copy p i x y same elements note good = let h = note good in record { value = h.value; has = h.has; coded = same (text_of p) ∙ h.coded; elements = elements h.elements }
+pub noted_copy : (p : Program) (i : CodedInstance) (x y : CodedValue) → ((n : Naming) → value_by n y ≡ value_by n x) → (AreElements p x → AreElements p y) → IsNoted p i x → IsNoted p i y
+noted_copy p i x y same elements note good = let h = note good in record { value = h.value; has = h.has; coded = same (source_names (text_of p)) ∙ h.coded; elements = elements h.elements }
 
 -- what is noted of an instance is its value, once its cell is seen settled
 pub noted_known : (p : Program) (v : View) (i : Instance) (x : CodedValue) → IsValueOf p i x → Knows p v i → IsKnownValue p v i x
@@ -73,14 +71,13 @@ ended_noted p v i x good instance h =
     record { value = value_of (text_of p) x; has = has; coded = sym (typed_as p (kind_in p i) (value_of (text_of p) x) (value_typed p good i instance (value_of (text_of p) x) has)); elements = h.elements }
 
 -- a copy of what is noted, if there is memory for one
-pub copy_noted : (p : Program) (i : CodedInstance) (x : CodedValue) (r : Result CodedValue Memory) (o : Option CodedValue) → o ≡ result_ok r → IfOk r (λ y. (texts : ℕ → List ℕ) → value_of texts y ≡ value_of texts x) → IfOk r (λ y. (q : Program) → AreElements q x → AreElements q y) → IsNoted p i x → IfSome o (λ y. IsNoted p i y)
+pub copy_noted : (p : Program) (i : CodedInstance) (x : CodedValue) (r : Result CodedValue Memory) (o : Option CodedValue) → o ≡ result_ok r → IfOk r (λ y. (n : Naming) → value_by n y ≡ value_by n x) → IfOk r (λ y. (q : Program) → AreElements q x → AreElements q y) → IsNoted p i x → IfSome o (λ y. IsNoted p i y)
 copy_noted p i x (Ok y) o is same elements note = subst (λ (z : Option CodedValue). IfSome z (λ y. IsNoted p i y)) (sym is) (noted_copy p i x y same (elements p) note)
 copy_noted p i x (Err m) o is same elements note = subst (λ (z : Option CodedValue). IfSome z (λ y. IsNoted p i y)) (sym is) tt
 
 -- the value of a set whose cell was seen settled, by what its words show
-pub shown_known : (s t : System) (f : Frame) (v w : View) (i : CodedInstance) (slot : ℕ) (kind : Kind) (x : CodedValue) → s ≡ t → IsAtLeast v w → (IsCoded (program_of s) i → IsCellOf (program_of s) f v (instance_of (program_of s) i) slot × Knows (program_of s) v (instance_of (program_of s) i)) → kind ≡ kind_in (program_of s) (instance_of (program_of s) i) → is_single kind ≡ false → ((j : Instance) → IsCellOf (program_of t) f v j slot → kind_in (program_of t) j ≡ kind → is_ordered kind ≡ true → IsShownValue (program_of t) v w j x) → IsCoded (program_of s) i → IsKnownValue (program_of s) w (instance_of (program_of s) i) x
-shown_known s t f v w i slot kind x same kept known kinds set shown good =
-    let j = instance_of (program_of s) i in
+pub shown_known : (d e : Held) (i : CodedInstance) (slot : ℕ) (kind : Kind) (x : CodedValue) → IsAtLeast d.view e.view → (IsCoded (program_at d) i → IsCellOf (program_at d) d.frame d.view (instance_of (program_at d) i) slot × Knows (program_at d) d.view (instance_of (program_at d) i)) → kind ≡ kind_in (program_at d) (instance_of (program_at d) i) → is_single kind ≡ false → IsShownValueAt d e slot kind x → IsCoded (program_at d) i → IsKnownValue (program_at d) e.view (instance_of (program_at d) i) x
+shown_known d e i slot kind x kept known kinds set shown good =
+    let j = instance_of (program_at d) i in
     let k = known good in
-    let here = subst (λ (u : System). (j : Instance) → IsCellOf (program_of u) f v j slot → kind_in (program_of u) j ≡ kind → is_ordered kind ≡ true → IsShownValue (program_of u) v w j x) (sym same) shown in
-    known_shown (program_of s) v w j x kept k.1 (here j k.0 (sym kinds) (set_ordered kind set))
+    known_shown (program_at d) d.view e.view j x kept k.1 (shown j k.0 (sym kinds) (set_ordered kind set))

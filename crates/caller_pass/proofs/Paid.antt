@@ -30,6 +30,14 @@ use Rattle.caller_pass.proofs.Lines.{has_last, has_snoc, start_chain, waiting_ch
 use Rattle.caller_pass.proofs.Paying.{AreApart, IsFresh, IsStart, Pays, by_done, done, done_by, empty_of, falls_so, fresh_circular, fresh_frame, has_or_not, left_done, none_some, some_once, sorted, without}
 use Rattle.caller_pass.proofs.Turning.{length_snoc, on_stack, waits_each}
 
+-- the starts of the local sets that are waited for below the top, where one less pays for an evaluation that wasn't made
+record Below (p : Program) (hs opens : List Instance) (es : List (CodedInstance × Waiter)) (evals after : ℕ) : Type 0 where
+  starts : List Instance
+  apart : AreApart starts
+  among : (s : Instance) → Has starts s → Has opens s
+  waited : (s : Instance) → Has starts s → Has hs s ⊎ IsStart p es s
+  enough : after + length opens ≤ evals + 1 + length starts
+
 -- the instance that was asked for reaches the one on top
 pub top_reached : (p : Program) (f : Frame) (v : View) (i : Instance) (es : List (CodedInstance × Waiter)) (top : CodedInstance × Waiter) → IsStack p f v i es top → Chain p i (instance_of p top.0)
 top_reached p f v i [] top stack =
@@ -173,8 +181,8 @@ module _ (p : Program) (f : Frame) (same : p ≡ program_of f.system.value) (poo
           (λ now. way_on s (way_of x) (way_of y) refl ways at.local (ap (λ (d : CodedInstance × Waiter). (way_of d.1)) (sym now) ∙ at.way) at.is)
           (has_snoc es (t, x) at.entry at.there)
 
-  -- the last one is settled
-  module _ (known : Knows p w (instance_of p t)) (way_none : way_of x ≡ None) where
+  -- the last one is settled: it was evaluated where it waits for no local set, or it was found so
+  module _ (known : Knows p w (instance_of p t)) (count : ℕ) (cheap : (count ≡ evals) ⊎ ((count ≡ evals + 1) × (way_of x ≡ None))) where
     its_cell : x.slot.0 ≡ known.slot
     its_cell = one_cell p f w (instance_of p t) x.slot.0 known.slot then pooled (cell_later v w kept p f (instance_of p t) x.slot.0 stack.frame.placed.slot) (known_cell p f w (instance_of p t) then known)
 
@@ -185,6 +193,38 @@ module _ (p : Program) (f : Frame) (same : p ≡ program_of f.system.value) (poo
         let yes = subst (λ (c : CodedInstance). waits es c ≡ true) one (waits_each es d h) in
         let no = stack.other in
         cc
+
+    -- those below it
+    below : Below p hs pays.open_starts es evals count
+    below = ⊎_elim (λ no_more. by_way (way_of x) refl no_more) (λ more. all_below more.1 (let one_more = more.0 in omega (arith, one_more))) cheap
+      where
+        at_below : (s : Instance) → IsStart p (es ++ (t, x) ∷ []) s → ((l : Local) → way_of x ≡ Some l → instance_of p l.start ≡ s → ⊥) → IsStart p es s
+        at_below s at not_top = ⊎_elim
+            (λ before. record { entry = at.entry; there = before; local = at.local; way = at.way; is = at.is })
+            (λ now. absurd (not_top at.local (ap (λ (d : CodedInstance × Waiter). (way_of d.1)) (sym now) ∙ at.way) at.is))
+            (has_snoc es (t, x) at.entry at.there)
+
+        all_below : way_of x ≡ None → count ≤ evals + 1 → Below p hs pays.open_starts es evals count
+        all_below way_none few = record {
+          starts = pays.open_starts;
+          apart = pays.apart;
+          among = λ s h. h;
+          waited = λ s h. ⊎_elim inl (λ at. inr (at_below s at (λ l some _. none_some way_none some))) (pays.starts s h);
+          enough = omega (arith, few);
+        }
+
+        by_way : (o : Option Local) → way_of x ≡ o → count ≡ evals → Below p hs pays.open_starts es evals count
+        by_way None is no_more = all_below is (omega (arith, no_more))
+        by_way (Some l) is no_more =
+            let q = without pays.open_starts (instance_of p l.start) pays.apart in
+            let most = q.most in
+            record {
+              starts = q.others;
+              apart = q.apart;
+              among = λ s h. (q.among s h).0;
+              waited = λ s h. ⊎_elim inl (λ at. inr (at_below s at (λ m some start. (q.among s h).1 (sym start ∙ ap (λ (k : Local). instance_of p k.start) (some_once some is))))) (pays.starts s (q.among s h).0);
+              enough = omega (arith, most, no_more);
+            }
 
     -- the cells of the last one and of those that came to be known
     fewer_back : (after : List (CodedInstance × Waiter)) (placed : (e : CodedInstance × Waiter) → Has after e → IsPlaced p f w e) → ((q : ℕ) → done v (es ++ (t, x) ∷ []) q ≡ true → done w after q ≡ true) → ((d : CodedInstance × Waiter) → Has after d → instance_of p d.0 ≢ instance_of p t) → (ks : List Instance) (knows : (s : Instance) → Has ks s → Knows p w s × Has pays.open_starts s) → AreApart ks → left (done w after) f.cells + length ks + 1 ≤ left (done v (es ++ (t, x) ∷ [])) f.cells
@@ -207,21 +247,22 @@ module _ (p : Program) (f : Frame) (same : p ≡ program_of f.system.value) (poo
             h
 
     -- the one that waited for it is on top again
-    pub pays_back : (ds : List (CodedInstance × Waiter)) (last : CodedInstance × Waiter) → es ≡ ds ++ last ∷ [] → (y : Waiter) → LooksAgain p w last.1 y → IsStack p f w i ds (last.0, y) → Pays p w f.cells hs ds (last.0, y) (evals + 1) budget
+    pub pays_back : (ds : List (CodedInstance × Waiter)) (last : CodedInstance × Waiter) → es ≡ ds ++ last ∷ [] → (y : Waiter) → LooksAgain p w last.1 y → IsStack p f w i ds (last.0, y) → Pays p w f.cells hs ds (last.0, y) count budget
     pays_back ds last is y looks next =
         let placed = on_stack p f w i ds (last.0, y) next in
-        let r = sorted p f w pays.open_starts same then pays.apart in
-        let fewer = fewer_back (ds ++ (last.0, y) ∷ []) placed still_back others_back r.known r.knows r.known_apart in
+        let r = sorted p f w below.starts same then below.apart in
+        let fewer = fewer_back (ds ++ (last.0, y) ∷ []) placed still_back others_back r.known (λ s h. ((r.knows s h).0, below.among s (r.knows s h).1)) r.known_apart in
         let many = r.many in
         let paid = pays.paid in
+        let enough = below.enough in
         let longer = ap length is ∙ length_snoc ds last in
         record {
           open_starts = r.others;
           apart = r.others_apart;
           unknown = λ s h. (r.unknown s h).0;
-          are_circular = λ s h. pays.are_circular s (r.unknown s h).1;
-          starts = λ s h. ⊎_elim inl (λ at. inr (start_back s at (r.unknown s h).0)) (pays.starts s (r.unknown s h).1);
-          paid = omega (arith, fewer, many, paid, longer);
+          are_circular = λ s h. pays.are_circular s (below.among s (r.unknown s h).1);
+          starts = λ s h. ⊎_elim inl (λ at. inr (start_back s at (r.unknown s h).0)) (below.waited s (r.unknown s h).1);
+          paid = omega (arith, fewer, many, paid, enough, longer);
         }
       where
         -- those that wait now waited before
@@ -246,38 +287,30 @@ module _ (p : Program) (f : Frame) (same : p ≡ program_of f.system.value) (poo
             absurd (unknown (subst (λ (j : Instance). Knows p w j) start (h waited.1.coded)))
         way_back s (Some k) (Some m) a b h l some at unknown = record { entry = (last.0, y); there = has_last ds (last.0, y); local = m; way = b; is = ap (λ (o : Local). instance_of p o.start) (h.0 ∙ some_once refl some) ∙ at }
 
-        start_back : (s : Instance) → IsStart p (es ++ (t, x) ∷ []) s → ¬ Knows p w s → IsStart p (ds ++ (last.0, y) ∷ []) s
+        start_back : (s : Instance) → IsStart p es s → ¬ Knows p w s → IsStart p (ds ++ (last.0, y) ∷ []) s
         start_back s at unknown = ⊎_elim
-            (λ before. ⊎_elim
             (λ front. record { entry = at.entry; there = has_left ds ((last.0, y) ∷ []) at.entry front; local = at.local; way = at.way; is = at.is })
             (λ it. way_back s (way_of last.1) (way_of y) refl refl looks.way at.local (ap (λ (d : CodedInstance × Waiter). (way_of d.1)) (sym it) ∙ at.way) at.is unknown)
-            (has_snoc ds last at.entry (subst (λ l. Has l at.entry) is before)))
-            (λ now. absurd (none_some way_none (ap (λ (d : CodedInstance × Waiter). (way_of d.1)) (sym now) ∙ at.way)))
-            (has_snoc es (t, x) at.entry at.there)
+            (has_snoc ds last at.entry (subst (λ l. Has l at.entry) is at.there))
 
     -- what the whole took
-    pub pays_all : es ≡ [] → ((h : Instance) → Has hs h → Knows p w h) → evals + 1 + 2 * unsettled w f.cells + length hs < budget
+    pub pays_all : es ≡ [] → ((h : Instance) → Has hs h → Knows p w h) → count + 2 * unsettled w f.cells + length hs < budget
     pays_all empty all_known =
-        let r = sorted p f w pays.open_starts same then pays.apart in
-        let fewer = fewer_back [] (λ e h. absurd h) (λ q h. still_none q h) (λ d h. absurd h) r.known r.knows r.known_apart in
+        let r = sorted p f w below.starts same then below.apart in
+        let fewer = fewer_back [] (λ e h. absurd h) (λ q h. still_none q h) (λ d h. absurd h) r.known (λ s h. ((r.knows s h).0, below.among s (r.knows s h).1)) r.known_apart in
         let none_left = empty_of r.others (λ s h. not_open s (r.unknown s h).0 (r.unknown s h).1) in
         let many = r.many in
         let paid = pays.paid in
+        let enough = below.enough in
         let all = left_done w f.cells in
         let short = ap length empty in
-        omega (arith, fewer, none_left, many, paid, all, short)
+        omega (arith, fewer, none_left, many, paid, enough, all, short)
       where
         still_none : (q : ℕ) → done v (es ++ (t, x) ∷ []) q ≡ true → done w [] q ≡ true
         still_none = done_still [] (λ e h q at k c _. absurd h)
 
-        not_open : (s : Instance) → (¬ Knows p w s) → Has pays.open_starts s → ⊥
-        not_open s unknown h = ⊎_elim
-            (λ out. unknown (all_known s out))
-            (λ at. ⊎_elim
-            (λ before. subst (λ l. Has l at.entry) empty before)
-            (λ now. none_some way_none (ap (λ (d : CodedInstance × Waiter). (way_of d.1)) (sym now) ∙ at.way))
-            (has_snoc es (t, x) at.entry at.there))
-            (pays.starts s h)
+        not_open : (s : Instance) → (¬ Knows p w s) → Has below.starts s → ⊥
+        not_open s unknown h = ⊎_elim (λ out. unknown (all_known s out)) (λ at. subst (λ l. Has l at.entry) empty at.there) (below.waited s h)
 
 -- before the first turn
 pub pays_first : (p : Program) (f : Frame) → p ≡ program_of f.system.value → (v w : View) → IsPassOf f v → IsPassOf f w → IsAtLeast v w → (i : CodedInstance) (x : Waiter) → ¬ Knows p v (instance_of p i) → IsCellOf p f w (instance_of p i) x.slot.0 → way_of x ≡ None → IsPlaced p f w (i, x) → (hs : List Instance) → AreApart hs → ((h : Instance) → Has hs h → ¬ Knows p v h) → ((h : Instance) → Has hs h → (equations_of p).circular h ≡ true) → (evals : ℕ) → Pays p w f.cells hs [] (i, x) evals (evals + 2 * unsettled v f.cells)

@@ -128,15 +128,14 @@ module _ (p : Program) (f : Frame) (same : p ≡ program_in f) (pooled : ArePool
     less_back = left_less (taken v (es ++ (t, x) ∷ [])) (taken w es) f.cells (pop_keeps v w es (t, x) known.key known.code kept settled_there)
 
     -- the one that waited for it is on top again
-    pub falls_back : way_of x ≡ None → (ds : List (CodedInstance × Waiter)) (last : CodedInstance × Waiter) → es ≡ ds ++ last ∷ [] → (y : Waiter) → y.slot ≡ last.1.slot → measure w ds (last.0, y) f.cells < measure v es (t, x) f.cells
-    falls_back none ds last is y slot =
+    pub falls_back : (ds : List (CodedInstance × Waiter)) (last : CodedInstance × Waiter) → es ≡ ds ++ last ∷ [] → (y : Waiter) → y.slot ≡ last.1.slot → measure w ds (last.0, y) f.cells < measure v es (t, x) f.cells
+    falls_back ds last is y slot =
         let less = less_back in
         let back = left_less (taken w (ds ++ last ∷ [])) (taken w (ds ++ (last.0, y) ∷ [])) f.cells (taken_on w w ds last.0 last.1 y (at_least_itself w) slot) in
         let same_left : left (taken w (ds ++ last ∷ [])) f.cells ≡ left (taken w es) f.cells = ap (λ l. left (taken w l) f.cells) (sym is) in
         let longer = ap length is ∙ length_snoc ds last in
-        let was : turns_of (way_of x) ≡ 1 = ap turns_of none in
         let now = few (way_of y) in
-        omega (arith, less, back, same_left, longer, was, now)
+        omega (arith, less, back, same_left, longer, now)
       where
         few : (o : Option Local) → turns_of o ≤ 1
         few None = omega arith

@@ -15,7 +15,8 @@ use Rattle.memo_cells.specs.declared.view.View.{View}
 use Rattle.memo_cells.specs.Claiming.{ClaimsKeys, FillsCells}
 use Rattle.memo_cells.specs.Showing.{ShowsAtLeast}
 use Rattle.memo_cells.specs.Standing.{Knows}
-use Rattle.memo_cells.specs.Working.{GoesOn, Held, IsKnown, program_at}
+use Rattle.memo_cells.specs.Views.{IsAtLeast}
+use Rattle.memo_cells.specs.Working.{GoesOn, Held, IsKnown, ReadsOn, program_at}
 use Rattle.circular_eval.specs.declared.advancing.CircFault.{CircFault}
 use Rattle.circular_eval.specs.declared.advancing.CircFault.TheVariants as set_fault
 use Rattle.circular_eval.specs.declared.local.Local.{Local}
@@ -121,14 +122,37 @@ AnswersStep p f v i old new (Err (Circular on chain)) = ⊥
 AnswersStep p f v i old new (Err CellsFull) = FillsCells p i f v
 AnswersStep p f v i old new (Err Memory) = Unit {0}
 
--- a turn of i, with what was known and is known, and the counts of evaluations before and after
+-- an evaluation in a turn of i, with what was known and is known, and the counts of evaluations before and after
 pub record GoesThrough (p : Program) (d e : Held) (i : CodedInstance) (old new : Waiter) (before after : ℕ) (result : Result Went AskFault) : Type 0 where
   pub on : GoesOn d e
-  pub claims : ClaimsKeys p (instance_of p i) d.1 e.1
+  pub claims : ClaimsKeys p (instance_of p i) d.view e.view
   pub slot : new.slot ≡ old.slot
-  pub left : IsLeft d.0.system.value (IsKnown (program_at d) e.1) (instance_of p i) new.left
-  pub answer : AnswersStep p d.0 e.1 (instance_of p i) (way_of old) (way_of new) result
+  pub left : IsLeft d.frame.system.value (IsKnown (program_at d) e.view) (instance_of p i) new.left
+  pub answer : AnswersStep p d.frame e.view (instance_of p i) (way_of old) (way_of new) result
   pub evals : after ≡ before + 1
+
+-- the value word of i was loaded meanwhile, and wasn't settled: `v` is what was known before, and `w` what is known
+pub record WasUnsettled (p : Program) (v w : View) (i : Instance) : Type 0 where
+  pub loaded : View
+  pub later : IsAtLeast v loaded
+  pub kept : IsAtLeast loaded w
+  pub unsettled : ¬ Knows p loaded i
+
+-- the value word of i was settled, as its turn loaded it: the turn ends there
+pub record FindsSettled (p : Program) (d e : Held) (i : CodedInstance) (before after : ℕ) (result : Result Went AskFault) : Type 0 where
+  pub read : ReadsOn d e
+  pub known : Knows p e.view (instance_of p i)
+  pub went : result ≡ Ok Settled
+  pub evals : after ≡ before
+
+-- it wasn't, as its turn loaded it, and there is one evaluation more
+pub record Evaluates (p : Program) (d e : Held) (i : CodedInstance) (old new : Waiter) (before after : ℕ) (result : Result Went AskFault) : Type 0 where
+  pub was : WasUnsettled p d.view e.view (instance_of p i)
+  pub through : GoesThrough p d e i old new before after result
+
+-- A turn of i, which begins with a load of its value word. The count of evaluations rises only where that wasn't settled.
+abbrev pub TakesTurn : Program → Held → Held → CodedInstance → Waiter → Waiter → ℕ → ℕ → Result Went AskFault → Type 0
+TakesTurn p d e i old new before after result = FindsSettled p d e i before after result ⊎ Evaluates p d e i old new before after result
 
 abbrev pub IsCircular : {X : Type 0} → Result X AskFault → Type 0
 IsCircular (Err (Circular on chain)) = Unit {0}
@@ -144,12 +168,13 @@ abbrev pub unsettled : View → ℕ → ℕ
 unsettled v zero = 0
 unsettled v (suc n) = (if list_any (λ x. x.0 == n) v.values then 0 else 1) + unsettled v n
 
--- What settling i on demand says, with the counts of evaluations before and after. It takes fewer than twice as many as cells came to be seen
--- settled.
+-- What settling i on demand says, with the counts of evaluations before and after. It takes some only where the value word of i wasn't settled, as it was
+-- loaded meanwhile, and then fewer than twice as many as cells came to be seen settled.
 pub record Solves (p : Program) (f : Frame) (v w : View) (i : Instance) (before after : ℕ) (result : Result Unit AskFault) : Type 0 where
   pub answer : AnswersSolve p f w i result
   pub claims : ClaimsKeys p i v w
-  pub cost : IsOk result → after + 2 * unsettled w f.cells < before + 2 * unsettled v f.cells
+  pub loads : (after ≡ before) ⊎ WasUnsettled p v w i
+  pub cost : IsOk result → (after ≡ before) ⊎ (after + 2 * unsettled w f.cells < before + 2 * unsettled v f.cells)
 
 -- A circular instance that leads to i came to be seen settled, and its cell is left to pay for one evaluation more.
 abbrev pub LeavesOne : Program → Frame → View → View → Instance → ℕ → ℕ → Type 0
@@ -165,7 +190,7 @@ pub record SolvesFor (p : Program) (f : Frame) (v w : View) (l : Local) (n : Ins
 
 -- the same of a pass at its cells, with what it knew and knows
 abbrev pub SolvesNeed : Held → Held → Local → CodedInstance → ℕ → ℕ → Result Unit AskFault → Type 0
-SolvesNeed d e l n before after result = SolvesFor (program_at d) d.0 d.1 e.1 l (instance_of (program_at d) n) before after result
+SolvesNeed d e l n before after result = SolvesFor (program_at d) d.frame d.view e.view l (instance_of (program_at d) n) before after result
 
 -- What going on with the local set of i says, with the counts of evaluations before and after: more cells are seen settled then, and where the
 -- cell of i is one of them, it is left to pay.
@@ -178,7 +203,7 @@ pub record ClosesMore (p : Program) (f : Frame) (v w : View) (i : Instance) (bef
 
 -- the same of a pass at its cells and a local set, with what it knew and knows
 abbrev pub ClosesLocal : Held → Held → Local → ℕ → ℕ → Result Unit AskFault → Type 0
-ClosesLocal d e l before after result = ClosesMore (program_at d) d.0 d.1 e.1 (instance_of (program_at d) l.start) before after result
+ClosesLocal d e l before after result = ClosesMore (program_at d) d.frame d.view e.view (instance_of (program_at d) l.start) before after result
 
 -- where the cell was seen settled, it takes no evaluation, and only the value of a set takes memory
 abbrev pub AnswersKnown : Program → Instance → Result CodedValue AskFault → Type 0

@@ -1,5 +1,5 @@
 -- What a pass knows of instances.
-use Rattle.std.specs.Prelude.{◌≡◌, ℕ, false, List, Option, Some, None, Result, Ok, Err}
+use Rattle.std.specs.Prelude.{◌≡◌, ℕ, Bool, true, false, List, Option, Some, None, Result, Ok, Err}
 use Rattle.attr_rules.specs.Rules.{is_single}
 use Rattle.rag_io.specs.declared.Memory.{Memory}
 use Rattle.solutions.specs.Asking.{Ends, Halts}
@@ -46,6 +46,11 @@ pub record IsSettledAt (p : Program) (f : Frame) (v : View) (i : Instance) (slot
 abbrev pub FindsCode : Program → Frame → View → Instance → Option (Slot × ℕ) → Type 0
 FindsCode p f v i (Some (slot, code)) = IsSettledAt p f v i slot.0 code
 FindsCode p f v i None = ¬ Knows p v i
+
+-- whether the instance whose cell is the one at this slot is settled, by a load of its value word: `v` is what was known before, and `w` what is known
+abbrev pub TellsSettled : Program → Frame → View → View → ℕ → Bool → Type 0
+TellsSettled p f v w slot true = (i : Instance) → IsCellOf p f v i slot → Knows p w i
+TellsSettled p f v w slot false = (i : Instance) → IsCellOf p f v i slot → ¬ Knows p w i
 
 -- The value of i, if its cell is seen settled. Only that of a set takes memory.
 abbrev pub FindsValue : Program → View → Instance → Result (Option CodedValue) Memory → Type 0

@@ -1,4 +1,5 @@
 pub mod Answering
+pub mod Holding
 pub mod Keeping
 pub mod Knowing
 pub mod Leaving

@@ -64,6 +64,16 @@ pub record IsFrame (p : Program) (f : Frame) (v : View) (e : CodedInstance × Wa
   pub placed : IsPlaced p f v e
   pub way : IsWayOf p f v (instance_of p e.0) (way_of e.1)
 
+-- i demands the start of the local set for which it waits, whatever is seen of that
+abbrev pub HasWay : Program → Frame → View → Instance → Option Local → Type 0
+HasWay p f v i None = Unit {0}
+HasWay p f v i (Some l) = IsLocal p f v l × Leads p i (instance_of p l.start)
+
+-- it may be evaluated, or the local set that it waits for may go on
+pub record HasTurn (p : Program) (f : Frame) (v : View) (e : CodedInstance × Waiter) : Type 0 where
+  pub placed : IsPlaced p f v e
+  pub way : HasWay p f v (instance_of p e.0) (way_of e.1)
+
 -- the local set needed n last
 pub record Needed (p : Program) (l : Local) (n : Instance) : Type 0 where
   pub number : ℕ

@@ -4,12 +4,13 @@ ghost use Rattle.equation_law.specs.declared.coding.Instance.{Instance as CodedI
 ghost use Rattle.equation_law.specs.Checked.{IsInstance, IsProgram};
 ghost use Rattle.equation_law.specs.Codes.{IsCoded, instance_of};
 ghost use Rattle.equation_law.specs.Systems.{program_of};
-ghost use Rattle.memo_cells.specs.Standing.{IsPassOf, Knows};
+ghost use Rattle.memo_cells.specs.Standing.{IsPassOf};
 ghost use Rattle.memo_cells.specs.Views.{Has, IsAtLeast};
-ghost use Rattle.memo_cells.specs.Working.{GoesOn, IsOwn, program_at};
-ghost use Rattle.caller_pass.specs.Answering.{AnswersChain, Asks, AsksNoted, Solves};
+ghost use Rattle.memo_cells.specs.Working.{GoesOn, IsCodedAt, IsInstanceAt, IsOwn};
+ghost use Rattle.caller_pass.specs.Answering.{AnswersChain, Asks, AsksNoted};
 ghost use Rattle.caller_pass.specs.Keeping.{IsNotebookOf};
 ghost use Rattle.caller_pass.specs.Noting.{MayNote};
+ghost use Rattle.caller_pass.specs.Holding.{AsksNotedAt, IsProgramAt, SolvesAt};
 
 use crate::desk::Desk;
 use crate::evals::Steps;
@@ -30,13 +31,12 @@ fn settle<L: Ledger>(
     i: Instance,
     evals: &mut Steps<L>,
 ) -> Result<(), AskFault>
-    requires program { IsProgram (program_at desk.old) }
+    requires program { IsProgramAt desk.old }
     requires own { IsOwn desk.old }
-    requires instance { IsInstance (program_at desk.old) (instance_of (program_at desk.old) i) }
-    requires coded { IsCoded (program_at desk.old) i }
-    requires unknown { ¬ Knows (program_at desk.old) desk.old.1 (instance_of (program_at desk.old) i) }
+    requires instance { IsInstanceAt desk.old i }
+    requires coded { IsCodedAt desk.old i }
     ensures on { GoesOn desk.old desk.new }
-    ensures solved { Solves (program_at desk.old) desk.old.0 desk.old.1 desk.new.1 (instance_of (program_at desk.old) i) evals.old evals.new result }
+    ensures solved { SolvesAt desk.old desk.new i evals.old evals.new result }
 {
     if is_declared(desk.system, &i) {
         return close(alloc, desk, i, evals);
@@ -51,11 +51,11 @@ fn answer<L: Ledger>(
     i: Instance,
     evals: &mut Steps<L>,
 ) -> Result<Value, AskFault>
-    requires program { IsProgram (program_at desk.old) }
-    requires instance { IsInstance (program_at desk.old) (instance_of (program_at desk.old) i) }
-    requires coded { IsCoded (program_at desk.old) i }
+    requires program { IsProgramAt desk.old }
+    requires instance { IsInstanceAt desk.old i }
+    requires coded { IsCodedAt desk.old i }
     ensures on { GoesOn desk.old desk.new }
-    ensures asked { AsksNoted (program_at desk.old) desk.old.0 desk.old.1 desk.new.1 (instance_of (program_at desk.old) i) evals.old evals.new result }
+    ensures asked { AsksNotedAt desk.old desk.new i evals.old evals.new result }
 {
     if let Some(value) = desk.known_value(alloc, i)? {
         return Ok(value);
@@ -158,9 +158,9 @@ fn note_loops(notes: &mut Notebook, came: &Result<Value, AskFault>)
 }
 
 /// The value of an instance in the solution, evaluated on demand. What is demanded for it waits in an explicit stack. Each value that comes is
-/// settled in its cell, and circular instances are sealed together; what is settled or sealed already isn't evaluated again. An evaluation goes
-/// up to the first demand that isn't settled, so each instance that is demanded takes one evaluation, and one more for each of its demands that
-/// has to wait.
+/// settled in its cell, and circular instances are sealed together; what is settled or sealed already isn't evaluated again: the value word is loaded
+/// once the cell is claimed. An evaluation goes up to the first demand that isn't settled, so each instance that is demanded takes one evaluation, and
+/// one more for each of its demands that has to wait.
 ///
 /// After a fault the pass knows what it knew and what was settled meanwhile, and asking again goes on from there.
 pub fn ask<L: Ledger>(

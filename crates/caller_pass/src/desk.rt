@@ -22,19 +22,18 @@ pub struct Desk<'a> {
 }
 
 impl<'a> Model for Desk<'a> {
-    ghost use Rattle.std.specs.Prelude.{◌≡◌, ℕ};
+    ghost use Rattle.std.specs.Prelude.{◌≡◌};
     ghost use Rattle.std.specs.Coded.{codes};
     ghost use Rattle.attr_rules.specs.contracts.expression.TExpr as expressions;
-    ghost use Rattle.memo_cells.specs.declared.view.Frame.{Frame};
-    ghost use Rattle.memo_cells.specs.declared.view.View.{View};
     ghost use Rattle.memo_cells.specs.Standing.{IsPassOf};
+    ghost use Rattle.memo_cells.specs.Working.{Held};
     ghost use Rattle.caller_pass.specs.Keeping.{IsNotebookOf};
 
-    ghost Value = { Frame × View × ℕ };
+    ghost Value = { Held };
 
     ghost coded = { Prim.hlevel (codes, expressions.the_row.coded) };
 
-    ghost view = { λ d. (d.cells.now, d.pass.now, d.pass.ghost_name) };
+    ghost view = { λ d. record { frame = d.cells.now; view = d.pass.now; lender = d.pass.ghost_name } };
 
     ghost invariant = { λ d. (IsPassOf d.cells.now d.pass.now × IsNotebookOf d.system.now d.pass.now d.notes) × (d.cells.now.system.value ≡ d.system.now) };
 }
@@ -84,25 +83,21 @@ impl<'a> Desk<'a> {
     ghost use Rattle.attr_rules.specs.Rules.{is_single};
     ghost use Rattle.equation_law.specs.Collections.{Collection};
     ghost use Rattle.equation_law.specs.Equations.{kind_in};
-    ghost use Rattle.equation_law.specs.Codes.{IsCoded, IsRow, instance_of};
-    ghost use Rattle.equation_law.specs.Loops.{HasLoop};
-    ghost use Rattle.equation_law.specs.Names.{Instance as StandingInstance};
-    ghost use Rattle.memo_cells.specs.Naming.{IsCellOf};
-    ghost use Rattle.memo_cells.specs.Standing.{IsPassOf, Knows, MaySettle};
-    ghost use Rattle.memo_cells.specs.Working.{IsKnown, IsOwn, ReadsOn, program_at};
+    ghost use Rattle.equation_law.specs.Codes.{IsRow, instance_of};
+    ghost use Rattle.memo_cells.specs.Standing.{IsPassOf};
+    ghost use Rattle.memo_cells.specs.Working.{HasCell, IsOwn, MaySettleAt, ReadsOn, program_at};
     ghost use Rattle.collection_attrs.specs.Roots.{IsRootOf, IsRootless};
     ghost use Rattle.collection_attrs.specs.Surveys.{IsCollectorOf};
-    ghost use Rattle.collection_attrs.specs.Walks.{IsWalk};
-    ghost use Rattle.caller_pass.specs.Knowing.{FindsCode, FindsValue, IsKnownAt, IsReadValue};
     ghost use Rattle.inherited_walk.specs.Sites.{FindsEquation};
     ghost use Rattle.caller_pass.specs.Noting.{IsNoted};
+    ghost use Rattle.caller_pass.specs.Holding.{FindsCodeAt, FindsValueAt, HasCellThen, HasLoopAt, IsKnownCell, IsReadValueAt, IsWalkAt, KnowsCell, TellsSettledAt};
 
     /// A pass at its cells, where nothing is noted.
     pub fn new(alloc: Global, system: &'a System, cells: &'a Cells, pass: &'a mut Pass) -> Desk<'a>
         requires same { cells.now.system.value ≡ system.now }
         requires own { IsPassOf cells.now pass.old }
-        ensures cells { result.0 ≡ cells.now }
-        ensures pass { result.1 ≡ pass.old }
+        ensures cells { result.frame ≡ cells.now }
+        ensures pass { result.view ≡ pass.old }
     {
         Desk {
             system,
@@ -115,21 +110,30 @@ impl<'a> Desk<'a> {
     /// The slot of a well coded instance whose cell is settled, and its code. Of another one, the slot is that of some instance.
     pub(crate) fn settled_code(&mut self, i: Instance) -> Option<(Slot, Code)>
         ensures on { ReadsOn self.old self.new }
-        ensures known { IsCoded (program_at self.old) i → FindsCode (program_at self.old) self.new.0 self.new.1 (instance_of (program_at self.old) i) result }
-        ensures cell { IfSome result (λ x. (j : StandingInstance) × IsCellOf (program_at self.old) self.new.0 self.new.1 j x.0.0) }
+        ensures known { FindsCodeAt self.old self.new i result }
+        ensures cell { IfSome result (λ x. HasCellThen self.old self.new x.0.0) }
     {
         let slot = seek_instance(self, i)?;
         let code = self.cells.settled(self.pass, slot)?;
         Some((slot, code))
     }
 
+    /// Whether the instance of a claimed cell is settled, by a load of its value word.
+    pub(crate) fn is_settled(&mut self, slot: Slot) -> bool
+        requires { HasCell self.old slot.0 }
+        ensures on { ReadsOn self.old self.new }
+        ensures told { TellsSettledAt self.old self.new slot.0 result }
+    {
+        self.cells.settled(self.pass, slot).is_some()
+    }
+
     /// Settles the cell of an instance.
     pub(crate) fn settle(&mut self, slot: Slot, code: Code)
         requires own { IsOwn self.old }
-        requires slot { slot.0 < self.old.0.cells }
-        requires code { MaySettle (program_at self.old) self.old.1 slot.0 code }
+        requires slot { slot.0 < self.old.frame.cells }
+        requires code { MaySettleAt self.old slot.0 code }
         ensures on { ReadsOn self.old self.new }
-        ensures known { (i : StandingInstance) → IsCellOf (program_at self.old) self.old.0 self.old.1 i slot.0 → Knows (program_at self.old) self.new.1 i }
+        ensures known { KnowsCell self.old self.new slot.0 }
     {
         self.cells.settle(self.pass, slot, code);
     }
@@ -141,7 +145,7 @@ impl<'a> Desk<'a> {
         i: Instance,
     ) -> Result<Option<Value>, Memory>
         ensures on { ReadsOn self.old self.new }
-        ensures known { IsCoded (program_at self.old) i → FindsValue (program_at self.old) self.new.1 (instance_of (program_at self.old) i) result }
+        ensures known { FindsValueAt self.old self.new i result }
     {
         let Some((slot, code)) = self.settled_code(i) else {
             return Ok(None);
@@ -194,14 +198,14 @@ impl<'a> Desk<'a> {
         requires { root < length (program_at self.old).tree }
         ensures same { self.new ≡ self.old }
         ensures of { (result.attribute ≡ attr.0) × (result.root ≡ root) }
-        ensures walk { IsWalk (program_at self.old) (IsKnown (program_at self.old) self.old.1) result }
+        ensures walk { IsWalkAt self.old result }
     {
         self.notes.take_walk(alloc, attr, root)
     }
 
     /// Notes a walk.
     pub(crate) fn put_walk(&mut self, offers: Offers)
-        requires { IsWalk (program_at self.old) (IsKnown (program_at self.old) self.old.1) offers }
+        requires { IsWalkAt self.old offers }
         ensures { self.new ≡ self.old }
     {
         self.notes.put_walk(offers);
@@ -209,7 +213,7 @@ impl<'a> Desk<'a> {
 
     /// Whether it is noted that an instance has a loop.
     pub(crate) fn has_loop(&self, i: &Instance) -> bool
-        ensures { result ≡ true → HasLoop (program_at self.now) (instance_of (program_at self.now) i.now) }
+        ensures { result ≡ true → HasLoopAt self.now i.now }
     {
         self.notes.has_loop(i)
     }
@@ -223,12 +227,12 @@ impl<'a> Desk<'a> {
         kind: Kind,
     ) -> Result<Value, Memory>
         requires own { IsOwn self.old }
-        requires cell { (j : StandingInstance) × IsCellOf (program_at self.old) self.old.0 self.old.1 j slot.0 }
-        requires known { IsKnownAt (program_at self.old) self.old.0 self.old.1 i slot }
+        requires cell { HasCell self.old slot.0 }
+        requires known { IsKnownCell self.old i slot }
         requires kind { kind ≡ kind_in (program_at self.old) (instance_of (program_at self.old) i) }
         requires set { is_single kind ≡ false }
         ensures on { ReadsOn self.old self.new }
-        ensures value { IfOk result (IsReadValue (program_at self.old) self.new.1 i) }
+        ensures value { IfOk result (IsReadValueAt self.old self.new i) }
     {
         if let Some(value) = self.notes.set(&i) {
             return Ok(value);

@@ -7,7 +7,7 @@ ghost use Rattle.equation_law.specs.Equations.{collection_of};
 ghost use Rattle.equation_law.specs.Reading.{IsSound};
 ghost use Rattle.equation_law.specs.Systems.{program_of};
 ghost use Rattle.expr_eval.specs.Saved.{AreSaved};
-ghost use Rattle.memo_cells.specs.Working.{told_by};
+ghost use Rattle.memo_cells.specs.Working.{IsForSystem, told_by};
 ghost use Rattle.caller_pass.specs.Leaving.{AreLeft};
 
 use crate::desk::Desk;
@@ -26,7 +26,7 @@ fn resume_single<'a>(
     desk: &mut Desk<'a>,
     saved: &mut Saved<'a>,
 ) -> Result<Turn, Memory>
-    requires same { desk.old.0.system.value ≡ system.now }
+    requires same { IsForSystem desk.old system.now }
     requires sound { IsSound (program_of system.now) (told_by desk.old) }
     requires saved { AreSaved system.now (told_by desk.old).has saved.old }
     requires coded { IsCoded (program_of system.now) i }
@@ -64,7 +64,7 @@ fn resume_collection<'a>(
     desk: &mut Desk<'a>,
     left: &mut Left<'a>,
 ) -> Result<Turn, Memory>
-    requires same { desk.old.0.system.value ≡ system.now }
+    requires same { IsForSystem desk.old system.now }
     requires sound { IsSound (program_of system.now) (told_by desk.old) }
     requires left { AreLeft system.now (told_by desk.old).has (instance_of (program_of system.now) i) left.old }
     requires collection { SaysCollection (program_of system.now) i of }
@@ -91,7 +91,7 @@ pub(crate) fn resume<'a>(
     desk: &mut Desk<'a>,
     left: &mut Left<'a>,
 ) -> Result<Turn, Memory>
-    requires same { desk.old.0.system.value ≡ system.now }
+    requires same { IsForSystem desk.old system.now }
     requires sound { IsSound (program_of system.now) (told_by desk.old) }
     requires left { AreLeft system.now (told_by desk.old).has (instance_of (program_of system.now) i) left.old }
     requires coded { IsCoded (program_of system.now) i }

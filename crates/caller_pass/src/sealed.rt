@@ -1,9 +1,8 @@
 // Noting the values of a local set that is sealed.
 ghost use Rattle.std.specs.Prelude.{◌≡◌};
-ghost use Rattle.equation_law.specs.Checked.{IsProgram};
-ghost use Rattle.memo_cells.specs.Working.{program_at};
-ghost use Rattle.circular_eval.specs.Advancing.{AnswersTurn, IsSealed};
-ghost use Rattle.circular_eval.specs.Local.{IsLocal};
+ghost use Rattle.circular_eval.specs.Advancing.{AnswersTurnAt};
+ghost use Rattle.circular_eval.specs.Local.{IsLocalAt};
+ghost use Rattle.caller_pass.specs.Holding.{IsProgramAt, IsSealedBy};
 
 use crate::desk::Desk;
 use circular_eval::{CircFault, CircTurn, Local};
@@ -11,9 +10,9 @@ use expr_eval::kind_of;
 
 /// Notes the value of each member of a sealed local set that is of a set type. No word is read for it.
 fn note_members(desk: &mut Desk<'_>, local: &Local<'_>)
-    requires program { IsProgram (program_at desk.old) }
-    requires local { IsLocal (program_at desk.old) desk.old.0 desk.old.1 local.now }
-    requires sealed { IsSealed (program_at desk.old) desk.old.1 local.now }
+    requires program { IsProgramAt desk.old }
+    requires local { IsLocalAt desk.old local.now }
+    requires sealed { IsSealedBy desk.old local.now }
     ensures { desk.new ≡ desk.old }
 {
     for number in 0..local.len() {
@@ -30,9 +29,9 @@ pub(crate) fn note_sealed(
     local: &Local<'_>,
     turn: &Result<CircTurn, CircFault>,
 )
-    requires program { IsProgram (program_at desk.old) }
-    requires local { IsLocal (program_at desk.old) desk.old.0 desk.old.1 local.now }
-    requires answer { AnswersTurn (program_at desk.old) desk.old.0 desk.old.1 local.now turn.now }
+    requires program { IsProgramAt desk.old }
+    requires local { IsLocalAt desk.old local.now }
+    requires answer { AnswersTurnAt desk.old desk.old local.now turn.now }
     ensures { desk.new ≡ desk.old }
 {
     if let Ok(CircTurn::Closed) = turn {

@@ -1,16 +1,10 @@
 // Settling an instance on demand, with an explicit stack of what waits.
 ghost use Rattle.std.specs.Prelude.{◌≡◌, ◌⊎◌, ◌++◌, ◌∷◌, [], false, true, IfOk, IsOk};
-ghost use Rattle.circular_eval.specs.Advancing.{IsMissing};
-ghost use Rattle.circular_eval.specs.Local.{IsLocal};
-ghost use Rattle.equation_law.specs.Checked.{IsInstance, IsProgram};
-ghost use Rattle.equation_law.specs.Codes.{IsCoded, instance_of};
-ghost use Rattle.equation_law.specs.Equations.{equations_of};
-ghost use Rattle.equation_law.specs.Loops.{HasLoop};
-ghost use Rattle.memo_cells.specs.Naming.{ClaimsKeysTo};
-ghost use Rattle.memo_cells.specs.Standing.{Knows};
-ghost use Rattle.memo_cells.specs.Working.{GoesOn, IsOwn, ReadsOn, program_at};
-ghost use Rattle.caller_pass.specs.Answering.{ClosesLocal, GoesThrough, LeavesOne, Solves, SolvesNeed};
-ghost use Rattle.caller_pass.specs.Waiting.{AnswersWait, IsBehind, IsFrame, IsLocalFrom, LooksAgain, waits};
+ghost use Rattle.circular_eval.specs.Local.{IsLocalAt, IsStillLocal};
+ghost use Rattle.memo_cells.specs.Working.{ClaimsKeysAt, GoesOn, IsCodedAt, IsInstanceAt, IsOwn, KnowsAt, ReadsOn};
+ghost use Rattle.caller_pass.specs.Answering.{ClosesLocal, SolvesNeed};
+ghost use Rattle.caller_pass.specs.Waiting.{IsBehind, IsLocalFrom, waits};
+ghost use Rattle.caller_pass.specs.Holding.{AnswersWaitAt, GoesThroughAt, HasLoopAt, HasTurnAt, IsCircularAt, IsFrameAt, IsMissingAt, IsProgramAt, IsUndeclaredAt, LeavesOneAt, LooksAgainAt, SolvesAt, TakesTurnAt};
 
 use crate::desk::Desk;
 use crate::evals::Steps;
@@ -49,17 +43,19 @@ fn start<'a>(alloc: Global, i: Instance) -> Result<Box<Local<'a>>, Memory>
     }
 }
 
-/// One turn of an instance that isn't circular: its local set goes on, if it waits for one, or else its equation is evaluated.
-fn step<'a, L: Ledger>(
+/// An evaluation of an instance that isn't circular: its local set goes on, if it waits for one, or else its equation is evaluated. Its value word was
+/// loaded before, and wasn't settled.
+fn evaluate<'a, L: Ledger>(
     alloc: Global,
     desk: &mut Desk<'a>,
     i: Instance,
     waiter: &mut Waiter<'a>,
     evals: &mut Steps<L>,
 ) -> Result<Went, AskFault>
-    requires program { IsProgram (program_at desk.old) }
-    requires frame { IsFrame (program_at desk.old) desk.old.0 desk.old.1 (i, waiter.old) }
-    ensures went { GoesThrough (program_at desk.old) desk.old desk.new i waiter.old waiter.new evals.old evals.new result }
+    requires program { IsProgramAt desk.old }
+    requires turn { HasTurnAt desk.old (i, waiter.old) }
+    requires unsettled { ¬ KnowsAt desk.old i }
+    ensures went { GoesThroughAt desk.old desk.new i waiter.old waiter.new evals.old evals.new result }
 {
     if let Some(local) = &mut waiter.way {
         return match go_on(alloc, desk, local, evals)? {
@@ -87,9 +83,28 @@ fn step<'a, L: Ledger>(
     }
 }
 
+/// One turn of an instance that isn't circular. It begins with a load of the value word, since others may have settled it meanwhile: where that is
+/// settled, nothing is evaluated.
+fn step<'a, L: Ledger>(
+    alloc: Global,
+    desk: &mut Desk<'a>,
+    i: Instance,
+    waiter: &mut Waiter<'a>,
+    evals: &mut Steps<L>,
+) -> Result<Went, AskFault>
+    requires program { IsProgramAt desk.old }
+    requires frame { IsFrameAt desk.old (i, waiter.old) }
+    ensures went { TakesTurnAt desk.old desk.new i waiter.old waiter.new evals.old evals.new result }
+{
+    if desk.is_settled(waiter.slot) {
+        return Ok(Went::Settled);
+    }
+    evaluate(alloc, desk, i, waiter, evals)
+}
+
 /// Whether an instance waits already, or is noted to have a loop.
 fn closes_loop(desk: &Desk<'_>, waiting: &Waiting<'_>, next: Instance) -> bool
-    ensures closes { result ≡ true → (waits waiting.now next ≡ true) ⊎ HasLoop (program_at desk.now) (instance_of (program_at desk.now) next) }
+    ensures closes { result ≡ true → (waits waiting.now next ≡ true) ⊎ HasLoopAt desk.now next }
     ensures other { result ≡ false → waits waiting.now next ≡ false }
 {
     waiting.contains(next) || desk.has_loop(&next)
@@ -104,13 +119,13 @@ fn wait_for<'a>(
     last: (Instance, Waiter<'a>),
     next: Instance,
 ) -> Result<Waiter<'a>, AskFault>
-    requires next { IsInstance (program_at desk.old) (instance_of (program_at desk.old) next) }
-    requires coded { IsCoded (program_at desk.old) next }
+    requires next { IsInstanceAt desk.old next }
+    requires coded { IsCodedAt desk.old next }
     requires own { IsOwn desk.old }
     requires other { waits waiting.old last.0 ≡ false }
     ensures on { GoesOn desk.old desk.new }
-    ensures claims { ClaimsKeysTo (program_at desk.old) desk.old.1 desk.new.1 (instance_of (program_at desk.old) next) }
-    ensures answer { AnswersWait (program_at desk.old) desk.old.0 desk.new.1 (waiting.old ++ last.entry ∷ []) next waiting.new result }
+    ensures claims { ClaimsKeysAt desk.old desk.new next }
+    ensures answer { AnswersWaitAt desk.old desk.new (waiting.old ++ last.entry ∷ []) next waiting.new result }
 {
     let (top, waiter) = last;
     waiting.push(alloc, top, waiter)?;
@@ -130,7 +145,7 @@ fn wait_for<'a>(
 fn look_again(desk: &mut Desk<'_>, waiter: &mut Waiter<'_>)
     requires own { IsOwn desk.old }
     ensures on { ReadsOn desk.old desk.new }
-    ensures looked { LooksAgain (program_at desk.old) desk.new.1 waiter.old waiter.new }
+    ensures looked { LooksAgainAt desk.old desk.new waiter.old waiter.new }
 {
     let known = match &waiter.way {
         None => false,
@@ -142,22 +157,21 @@ fn look_again(desk: &mut Desk<'_>, waiter: &mut Waiter<'_>)
 }
 
 /// Settles the cell of an instance that isn't circular. What is demanded for it waits in an explicit stack, each instance with its slot, and
-/// with the local set through which it waits where it demands a circular one.
+/// with the local set through which it waits where it demands a circular one. Each turn loads the value word of a cell that is claimed.
 fn solve<L: Ledger>(
     alloc: Global,
     desk: &mut Desk<'_>,
     i: Instance,
     evals: &mut Steps<L>,
 ) -> Result<(), AskFault>
-    requires program { IsProgram (program_at desk.old) }
+    requires program { IsProgramAt desk.old }
     requires own { IsOwn desk.old }
-    requires instance { IsInstance (program_at desk.old) (instance_of (program_at desk.old) i) }
-    requires coded { IsCoded (program_at desk.old) i }
-    requires undeclared { (equations_of (program_at desk.old)).circular (instance_of (program_at desk.old) i) ≡ false }
-    requires unknown { ¬ Knows (program_at desk.old) desk.old.1 (instance_of (program_at desk.old) i) }
+    requires instance { IsInstanceAt desk.old i }
+    requires coded { IsCodedAt desk.old i }
+    requires undeclared { IsUndeclaredAt desk.old i }
     ensures on { GoesOn desk.old desk.new }
-    ensures solved { Solves (program_at desk.old) desk.old.0 desk.old.1 desk.new.1 (instance_of (program_at desk.old) i) evals.old evals.new result }
-    ensures outer { IsOk result → LeavesOne (program_at desk.old) desk.old.0 desk.old.1 desk.new.1 (instance_of (program_at desk.old) i) evals.old evals.new }
+    ensures solved { SolvesAt desk.old desk.new i evals.old evals.new result }
+    ensures outer { IsOk result → LeavesOneAt desk.old desk.new i evals.old evals.new }
 {
     let mut waiting = Waiting::new(alloc);
     let mut top = i;
@@ -191,15 +205,14 @@ pub(crate) fn solve_unless_noted<L: Ledger>(
     i: Instance,
     evals: &mut Steps<L>,
 ) -> Result<(), AskFault>
-    requires program { IsProgram (program_at desk.old) }
+    requires program { IsProgramAt desk.old }
     requires own { IsOwn desk.old }
-    requires instance { IsInstance (program_at desk.old) (instance_of (program_at desk.old) i) }
-    requires coded { IsCoded (program_at desk.old) i }
-    requires undeclared { (equations_of (program_at desk.old)).circular (instance_of (program_at desk.old) i) ≡ false }
-    requires unknown { ¬ Knows (program_at desk.old) desk.old.1 (instance_of (program_at desk.old) i) }
+    requires instance { IsInstanceAt desk.old i }
+    requires coded { IsCodedAt desk.old i }
+    requires undeclared { IsUndeclaredAt desk.old i }
     ensures on { GoesOn desk.old desk.new }
-    ensures solved { Solves (program_at desk.old) desk.old.0 desk.old.1 desk.new.1 (instance_of (program_at desk.old) i) evals.old evals.new result }
-    ensures outer { IsOk result → LeavesOne (program_at desk.old) desk.old.0 desk.old.1 desk.new.1 (instance_of (program_at desk.old) i) evals.old evals.new }
+    ensures solved { SolvesAt desk.old desk.new i evals.old evals.new result }
+    ensures outer { IsOk result → LeavesOneAt desk.old desk.new i evals.old evals.new }
 {
     if desk.has_loop(&i) {
         let chain = alone(alloc, i)?;
@@ -226,10 +239,10 @@ fn solve_for<L: Ledger>(
     next: Instance,
     evals: &mut Steps<L>,
 ) -> Result<(), AskFault>
-    requires program { IsProgram (program_at desk.old) }
+    requires program { IsProgramAt desk.old }
     requires own { IsOwn desk.old }
-    requires local { IsLocal (program_at desk.old) desk.old.0 desk.old.1 local.now }
-    requires missing { IsMissing (program_at desk.old) desk.old.1 local.now next }
+    requires local { IsLocalAt desk.old local.now }
+    requires missing { IsMissingAt desk.old local.now next }
     ensures on { GoesOn desk.old desk.new }
     ensures solved { SolvesNeed desk.old desk.new local.now next evals.old evals.new result }
 {
@@ -251,12 +264,12 @@ fn close_more<'a, L: Ledger>(
     local: &mut Local<'a>,
     evals: &mut Steps<L>,
 ) -> Result<(), AskFault>
-    requires program { IsProgram (program_at desk.old) }
+    requires program { IsProgramAt desk.old }
     requires own { IsOwn desk.old }
-    requires local { IsLocal (program_at desk.old) desk.old.0 desk.old.1 local.old }
-    requires unknown { ¬ Knows (program_at desk.old) desk.old.1 (instance_of (program_at desk.old) local.old.start) }
+    requires local { IsLocalAt desk.old local.old }
+    requires unknown { ¬ KnowsAt desk.old local.old.start }
     ensures on { GoesOn desk.old desk.new }
-    ensures local { IsLocal (program_at desk.old) desk.old.0 desk.new.1 local.new × (local.new.start ≡ local.old.start) }
+    ensures local { IsStillLocal desk.old desk.new local.new × (local.new.start ≡ local.old.start) }
     ensures more { ClosesLocal desk.old desk.new local.old evals.old evals.new result }
 {
     match go_on(alloc, desk, local, evals)? {
@@ -265,24 +278,24 @@ fn close_more<'a, L: Ledger>(
     }
 }
 
-/// Seals a circular instance.
+/// Seals a circular instance. Its local set goes on only where its value word isn't settled, as it was loaded once the cell was claimed.
 pub(crate) fn close<L: Ledger>(
     alloc: Global,
     desk: &mut Desk<'_>,
     i: Instance,
     evals: &mut Steps<L>,
 ) -> Result<(), AskFault>
-    requires program { IsProgram (program_at desk.old) }
+    requires program { IsProgramAt desk.old }
     requires own { IsOwn desk.old }
-    requires instance { IsInstance (program_at desk.old) (instance_of (program_at desk.old) i) }
-    requires coded { IsCoded (program_at desk.old) i }
-    requires is_circular { (equations_of (program_at desk.old)).circular (instance_of (program_at desk.old) i) ≡ true }
-    requires unknown { ¬ Knows (program_at desk.old) desk.old.1 (instance_of (program_at desk.old) i) }
+    requires instance { IsInstanceAt desk.old i }
+    requires coded { IsCodedAt desk.old i }
+    requires is_circular { IsCircularAt desk.old i }
     ensures on { GoesOn desk.old desk.new }
-    ensures solved { Solves (program_at desk.old) desk.old.0 desk.old.1 desk.new.1 (instance_of (program_at desk.old) i) evals.old evals.new result }
+    ensures solved { SolvesAt desk.old desk.new i evals.old evals.new result }
 {
+    let slot = claim_instance(desk, i)?;
     let mut local = Local::start(alloc, i)?;
-    'closing: while desk.settled_code(i).is_none() {
+    'closing: while !desk.is_settled(slot) {
         close_more(alloc, desk, &mut local, evals)?;
     }
     Ok(())

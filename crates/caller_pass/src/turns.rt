@@ -1,17 +1,10 @@
 // One turn: the equation of an instance is evaluated, or a local set goes on.
-ghost use Rattle.std.specs.Prelude.{◌≡◌, ◌+◌, false, not};
+ghost use Rattle.std.specs.Prelude.{◌≡◌, ◌+◌, not};
 ghost use Rattle.attr_rules.specs.Rules.{is_single};
-ghost use Rattle.memo_cells.specs.Claiming.{ClaimsKeys};
-ghost use Rattle.circular_eval.specs.Advancing.{AnswersTurn};
-ghost use Rattle.circular_eval.specs.Local.{IsLocal};
-ghost use Rattle.equation_law.specs.Codes.{IsCoded, instance_of};
-ghost use Rattle.equation_law.specs.Equations.{equations_of};
-ghost use Rattle.equation_law.specs.Checked.{IsInstance, IsProgram};
-ghost use Rattle.memo_cells.specs.Naming.{IsCellOf};
-ghost use Rattle.memo_cells.specs.Working.{GoesOn, IsKnown, IsOwn, ReadsOn, program_at};
-ghost use Rattle.caller_pass.specs.Answering.{AnswersFinish, AnswersShow};
-ghost use Rattle.caller_pass.specs.Knowing.{HasEnded, TurnsTo};
-ghost use Rattle.caller_pass.specs.Leaving.{AreLeft};
+ghost use Rattle.circular_eval.specs.Advancing.{AnswersTurnAt};
+ghost use Rattle.circular_eval.specs.Local.{IsLocalAt, IsStillLocal};
+ghost use Rattle.memo_cells.specs.Working.{ClaimsKeysFor, GoesOn, IsCellNow, IsCodedAt, IsInstanceAt, IsOwn, ReadsOn};
+ghost use Rattle.caller_pass.specs.Holding.{AnswersFinishAt, AnswersShowAt, AreLeftAt, AreLeftNow, HasEndedAt, IsProgramAt, IsUndeclaredAt, TurnsToAt};
 
 use crate::desk::Desk;
 use crate::evals::Steps;
@@ -43,11 +36,11 @@ pub(crate) fn turn<'a, L: Ledger>(
     left: &mut Left<'a>,
     evals: &mut Steps<L>,
 ) -> Result<Turn, Memory>
-    requires coded { IsCoded (program_at desk.old) i }
-    requires left { AreLeft desk.old.0.system.value (IsKnown (program_at desk.old) desk.old.1) (instance_of (program_at desk.old) i) left.old }
+    requires coded { IsCodedAt desk.old i }
+    requires left { AreLeftAt desk.old i left.old }
     ensures on { ReadsOn desk.old desk.new }
-    ensures turned { TurnsTo (program_at desk.old) desk.new.1 (instance_of (program_at desk.old) i) result }
-    ensures left { AreLeft desk.old.0.system.value (IsKnown (program_at desk.old) desk.new.1) (instance_of (program_at desk.old) i) left.new }
+    ensures turned { TurnsToAt desk.old desk.new i result }
+    ensures left { AreLeftNow desk.old desk.new i left.new }
     ensures evals { evals.new ≡ evals.old + 1 }
 {
     evals.tick();
@@ -62,12 +55,12 @@ pub(crate) fn go_on<'a, L: Ledger>(
     local: &mut Local<'a>,
     evals: &mut Steps<L>,
 ) -> Result<CircTurn, CircFault>
-    requires program { IsProgram (program_at desk.old) }
-    requires local { IsLocal (program_at desk.old) desk.old.0 desk.old.1 local.old }
+    requires program { IsProgramAt desk.old }
+    requires local { IsLocalAt desk.old local.old }
     ensures on { GoesOn desk.old desk.new }
-    ensures local { IsLocal (program_at desk.old) desk.old.0 desk.new.1 local.new × (local.new.start ≡ local.old.start) }
-    ensures claims { ClaimsKeys (program_at desk.old) (instance_of (program_at desk.old) local.old.start) desk.old.1 desk.new.1 }
-    ensures answer { AnswersTurn (program_at desk.old) desk.old.0 desk.new.1 local.new result }
+    ensures local { IsStillLocal desk.old desk.new local.new × (local.new.start ≡ local.old.start) }
+    ensures claims { ClaimsKeysFor desk.old desk.new local.old.start }
+    ensures answer { AnswersTurnAt desk.old desk.new local.new result }
     ensures evals { evals.new ≡ evals.old + 1 }
 {
     evals.tick();
@@ -85,15 +78,15 @@ fn show(
     slot: Slot,
     value: &Value,
 ) -> Result<(), AskFault>
-    requires program { IsProgram (program_at desk.old) }
+    requires program { IsProgramAt desk.old }
     requires own { IsOwn desk.old }
-    requires instance { IsInstance (program_at desk.old) (instance_of (program_at desk.old) i) }
-    requires undeclared { (equations_of (program_at desk.old)).circular (instance_of (program_at desk.old) i) ≡ false }
-    requires slot { IsCellOf (program_at desk.old) desk.old.0 desk.old.1 (instance_of (program_at desk.old) i) slot.0 }
-    requires ended { HasEnded (program_at desk.old) desk.old.1 (instance_of (program_at desk.old) i) value.now }
+    requires instance { IsInstanceAt desk.old i }
+    requires undeclared { IsUndeclaredAt desk.old i }
+    requires slot { IsCellNow desk.old i slot.0 }
+    requires ended { HasEndedAt desk.old i value.now }
     ensures on { GoesOn desk.old desk.new }
-    ensures claims { ClaimsKeys (program_at desk.old) (instance_of (program_at desk.old) i) desk.old.1 desk.new.1 }
-    ensures answer { AnswersShow (program_at desk.old) desk.old.0 desk.new.1 (instance_of (program_at desk.old) i) value.now result }
+    ensures claims { ClaimsKeysFor desk.old desk.new i }
+    ensures answer { AnswersShowAt desk.old desk.new i value.now result }
 {
     if !is_set(kind_of(desk.system, &i)) {
         return Ok(());
@@ -111,15 +104,15 @@ pub(crate) fn finish(
     slot: Slot,
     value: &Value,
 ) -> Result<(), AskFault>
-    requires program { IsProgram (program_at desk.old) }
+    requires program { IsProgramAt desk.old }
     requires own { IsOwn desk.old }
-    requires instance { IsInstance (program_at desk.old) (instance_of (program_at desk.old) i) }
-    requires undeclared { (equations_of (program_at desk.old)).circular (instance_of (program_at desk.old) i) ≡ false }
-    requires slot { IsCellOf (program_at desk.old) desk.old.0 desk.old.1 (instance_of (program_at desk.old) i) slot.0 }
-    requires ended { HasEnded (program_at desk.old) desk.old.1 (instance_of (program_at desk.old) i) value.now }
+    requires instance { IsInstanceAt desk.old i }
+    requires undeclared { IsUndeclaredAt desk.old i }
+    requires slot { IsCellNow desk.old i slot.0 }
+    requires ended { HasEndedAt desk.old i value.now }
     ensures on { GoesOn desk.old desk.new }
-    ensures claims { ClaimsKeys (program_at desk.old) (instance_of (program_at desk.old) i) desk.old.1 desk.new.1 }
-    ensures answer { AnswersFinish (program_at desk.old) desk.old.0 desk.new.1 (instance_of (program_at desk.old) i) result }
+    ensures claims { ClaimsKeysFor desk.old desk.new i }
+    ensures answer { AnswersFinishAt desk.old desk.new i result }
 {
     show(alloc, desk, i, slot, value)?;
     let kind = kind_of(desk.system, &i);

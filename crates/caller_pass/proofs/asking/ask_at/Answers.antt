@@ -26,16 +26,16 @@ pub answer-came-requires-clause-coded : goal.answer-came-requires-clause-coded
 answer-came-requires-clause-coded g c = subst (λ (s : System). IsCoded (program_of s) c.args.i.now) (sym c.requires.same) c.requires.coded
 
 pub returns-clause-own : goal.returns-clause-own
-returns-clause-own g c = subst (λ (v : View). IsPassOf c.args.cells.now v) (sym ((c.pass-1.given.1 (sym (ap (λ (h : Held). h.2) c.desk.view_is ∙ c.answer-came.ensures.on.lender))) ∙ ap (λ (h : Held). h.1) c.desk.view_is)) (own_then _ c.answer-came.new.desk c.answer-came.ensures.on)
+returns-clause-own g c = subst (λ (v : View). IsPassOf c.args.cells.now v) (sym ((c.pass-1.given.1 (sym (ap (λ (h : Held). h.lender) c.desk.view_is ∙ c.answer-came.ensures.on.lender))) ∙ ap (λ (h : Held). h.view) c.desk.view_is)) (own_then _ c.answer-came.new.desk c.answer-came.ensures.on)
 
 pub returns-clause-kept : goal.returns-clause-kept
-returns-clause-kept g c = subst (λ (v : View). IsAtLeast c.args.pass.now v) (sym ((c.pass-1.given.1 (sym (ap (λ (h : Held). h.2) c.desk.view_is ∙ c.answer-came.ensures.on.lender))) ∙ ap (λ (h : Held). h.1) c.desk.view_is)) c.answer-came.ensures.on.kept
+returns-clause-kept g c = subst (λ (v : View). IsAtLeast c.args.pass.now v) (sym ((c.pass-1.given.1 (sym (ap (λ (h : Held). h.lender) c.desk.view_is ∙ c.answer-came.ensures.on.lender))) ∙ ap (λ (h : Held). h.view) c.desk.view_is)) c.answer-came.ensures.on.kept
 
 pub returns-clause-notes : goal.returns-clause-notes
 returns-clause-notes g c =
-    let same = sym c.desk.invariant.1 ∙ ap (λ (h : Held). h.0.system.value) c.desk.view_is ∙ ap (λ (f : Frame). f.system.value) c.answer-came.ensures.on.cells ∙ c.requires.same in
-    subst (λ (v : View). IsNotebookOf c.args.system.now v c.desk.inside.notes) (sym (c.pass-1.given.1 (sym (ap (λ (h : Held). h.2) c.desk.view_is ∙ c.answer-came.ensures.on.lender))))
+    let same = sym c.desk.invariant.1 ∙ ap (λ (h : Held). h.frame.system.value) c.desk.view_is ∙ ap (λ (f : Frame). f.system.value) c.answer-came.ensures.on.cells ∙ c.requires.same in
+    subst (λ (v : View). IsNotebookOf c.args.system.now v c.desk.inside.notes) (sym (c.pass-1.given.1 (sym (ap (λ (h : Held). h.lender) c.desk.view_is ∙ c.answer-came.ensures.on.lender))))
     (subst (λ (s : System). IsNotebookOf s c.desk.inside.pass.now c.desk.inside.notes) same c.desk.invariant.0.1)
 
 pub returns-clause-asked : goal.returns-clause-asked
-returns-clause-asked g c = subst (λ (s : System). AsksNoted (program_of s) c.args.cells.now c.args.pass.now c.pass-1.given.0 (instance_of (program_of s) c.args.i.now) c.args.evals.now c.answer-came.new.evals c.answer-came.result) c.requires.same (subst (λ (v : View). AsksNoted (program_of c.args.cells.now.system.value) c.args.cells.now c.args.pass.now v (instance_of (program_of c.args.cells.now.system.value) c.args.i.now) c.args.evals.now c.answer-came.new.evals c.answer-came.result) (sym ((c.pass-1.given.1 (sym (ap (λ (h : Held). h.2) c.desk.view_is ∙ c.answer-came.ensures.on.lender))) ∙ ap (λ (h : Held). h.1) c.desk.view_is)) c.answer-came.ensures.asked)
+returns-clause-asked g c = subst (λ (s : System). AsksNoted (program_of s) c.args.cells.now c.args.pass.now c.pass-1.given.0 (instance_of (program_of s) c.args.i.now) c.args.evals.now c.answer-came.new.evals c.answer-came.result) c.requires.same (subst (λ (v : View). AsksNoted (program_of c.args.cells.now.system.value) c.args.cells.now c.args.pass.now v (instance_of (program_of c.args.cells.now.system.value) c.args.i.now) c.args.evals.now c.answer-came.new.evals c.answer-came.result) (sym ((c.pass-1.given.1 (sym (ap (λ (h : Held). h.lender) c.desk.view_is ∙ c.answer-came.ensures.on.lender))) ∙ ap (λ (h : Held). h.view) c.desk.view_is)) c.answer-came.ensures.asked)

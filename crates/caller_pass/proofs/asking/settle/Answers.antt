@@ -8,7 +8,7 @@ use Rattle.memo_cells.specs.Working.{Held, program_at}
 use Rattle.caller_pass.proofs.asking.settle.Goals as goal
 
 pub close-requires-clause-is_circular : goal.close-requires-clause-is_circular
-close-requires-clause-is_circular g c = as_declared (program_at c.args.desk.now) c.requires.program (instance_of (program_at c.args.desk.now) c.args.i) c.requires.instance ∙ subst (λ (s : System). is_declared (program_of s) (instance_of (program_of s) c.args.i) ≡ true) (sym c.desk.invariant.1 ∙ ap (λ (h : Held). h.0.system.value) c.desk.view_is) (sym c.is_declared.ensures ∙ c.if-is_declared.true)
+close-requires-clause-is_circular g c = as_declared (program_at c.args.desk.now) c.requires.program (instance_of (program_at c.args.desk.now) c.args.i) c.requires.instance ∙ subst (λ (s : System). is_declared (program_of s) (instance_of (program_of s) c.args.i) ≡ true) (sym c.desk.invariant.1 ∙ ap (λ (h : Held). h.frame.system.value) c.desk.view_is) (sym c.is_declared.ensures ∙ c.if-is_declared.true)
 
 pub solve_unless_noted-requires-clause-undeclared : goal.solve_unless_noted-requires-clause-undeclared
-solve_unless_noted-requires-clause-undeclared g c = as_declared (program_at c.args.desk.now) c.requires.program (instance_of (program_at c.args.desk.now) c.args.i) c.requires.instance ∙ subst (λ (s : System). is_declared (program_of s) (instance_of (program_of s) c.args.i) ≡ false) (sym c.desk.invariant.1 ∙ ap (λ (h : Held). h.0.system.value) c.desk.view_is) (sym c.is_declared.ensures ∙ c.if-is_declared.false)
+solve_unless_noted-requires-clause-undeclared g c = as_declared (program_at c.args.desk.now) c.requires.program (instance_of (program_at c.args.desk.now) c.args.i) c.requires.instance ∙ subst (λ (s : System). is_declared (program_of s) (instance_of (program_of s) c.args.i) ≡ false) (sym c.desk.invariant.1 ∙ ap (λ (h : Held). h.frame.system.value) c.desk.view_is) (sym c.is_declared.ensures ∙ c.if-is_declared.false)

@@ -34,14 +34,14 @@ returns-in_default-clause-left c =
     subst (λ (d : Held). AreLeft c.args.system.now (told_by d).has (instance_of p c.args.i) c.args.left.now) (sym c.root_for.ensures.same) c.requires.left
 
 pub take_walk-offers-requires : goal.take_walk-offers-requires
-take_walk-offers-requires c = subst (λ (d : Held). c.in-Some.root < length (program_of d.0.system.value).tree) (sym c.root_for.ensures.same) c.in-Some.ensures.within
+take_walk-offers-requires c = subst (λ (d : Held). c.in-Some.root < length (program_of d.frame.system.value).tree) (sym c.root_for.ensures.same) c.in-Some.ensures.within
 
 pub go_on-turn-requires-clause-sound : goal.go_on-turn-requires-clause-sound
 go_on-turn-requires-clause-sound c = subst (λ (d : Held). IsSound (program_of c.args.system.now) (told_by d)) (sym (c.take_walk-offers.ensures.same ∙ c.root_for.ensures.same)) c.requires.sound
 
 pub go_on-turn-requires-clause-walk : goal.go_on-turn-requires-clause-walk
 go_on-turn-requires-clause-walk c =
-    let same = ap (λ (d : Held). d.0.system.value) c.root_for.ensures.same ∙ c.requires.same in
+    let same = ap (λ (d : Held). d.frame.system.value) c.root_for.ensures.same ∙ c.requires.same in
     walk_told c.args.system.now c.root_for.new.self c.take_walk-offers.new.self c.take_walk-offers.result same c.take_walk-offers.ensures.same c.take_walk-offers.ensures.walk
 
 pub go_on-turn-requires-clause-collection : goal.go_on-turn-requires-clause-collection

@@ -7,4 +7,4 @@ use Rattle.caller_pass.proofs.sealed.note_members.Goals as goal
 pub note_set-requires : goal.note_set-requires
 note_set-requires c =
     subst (λ (d : Held). IsNoted (program_at d) c.in-Some.i c.in-Some.value.now) (sym c.loop-number.invariant)
-    (member_noted (program_at c.args.desk.now) c.args.desk.now.0 c.args.desk.now.1 c.args.local.now c.requires.program c.requires.local c.requires.sealed c.loop-number.number c.in-Some.i c.in-Some.value.now c.in-Some.ensures.some)
+    (member_noted (program_at c.args.desk.now) c.args.desk.now.frame c.args.desk.now.view c.args.local.now c.requires.program c.requires.local c.requires.sealed c.loop-number.number c.in-Some.i c.in-Some.value.now c.in-Some.ensures.some)

@@ -1,43 +1,65 @@
-use Rattle.std.proofs.Common.{not, refl, ap, ◌∙◌}
-use Rattle.memo_cells.proofs.Holding.{goes_itself}
+use Rattle.std.proofs.Common.{refl, subst, sym}
+use Rattle.equation_law.specs.Codes.{instance_of}
+use Rattle.equation_law.specs.Names.{Instance}
+use Rattle.equation_law.specs.Systems.{program_of}
+use Rattle.memo_cells.specs.declared.view.Frame.{Frame}
+use Rattle.memo_cells.specs.Naming.{IsCellOf}
+use Rattle.memo_cells.specs.Working.{program_at}
 use Rattle.caller_pass.proofs.Sealing.{is_closed, looked_on, more_falls, more_fault, more_local, more_on, more_program, more_sealing, more_unknown, sealing_first, sealing_memory}
+use Rattle.caller_pass.proofs.Solved.{no_cell}
 use Rattle.caller_pass.proofs.solving.close.Goals as goal
 
+pub claim_instance-requires-clause-instance : goal.claim_instance-requires-clause-instance
+claim_instance-requires-clause-instance g c = c.requires.instance
+
+pub claim_instance-requires-clause-coded : goal.claim_instance-requires-clause-coded
+claim_instance-requires-clause-coded g c = c.requires.coded
+
+pub returns-in_err-slot-clause-on : goal.returns-in_err-slot-clause-on
+returns-in_err-slot-clause-on g c = c.in_err-slot.ensures.on
+
+pub returns-in_err-slot-clause-solved : goal.returns-in_err-slot-clause-solved
+returns-in_err-slot-clause-solved g c = no_cell c.args.i c.in_err-slot.ensures.on c.in_err-slot.ensures.full c.in_err-slot.ensures.claims c.from_residual.ensures
+
 pub returns-in_err-local-clause-on : goal.returns-in_err-local-clause-on
-returns-in_err-local-clause-on g c = goes_itself c.args.desk.now c.requires.own
+returns-in_err-local-clause-on g c = c.in_ok-slot.ensures.on
 
 pub returns-in_err-local-clause-solved : goal.returns-in_err-local-clause-solved
-returns-in_err-local-clause-solved g c = sealing_memory c.args.desk.now c.args.i c.args.evals.now c.from_residual.result c.from_residual.ensures
+returns-in_err-local-clause-solved g c = sealing_memory c.args.i c.args.evals.now c.in_ok-slot.ensures.on c.in_ok-slot.ensures.claims c.from_residual-in_err-local.ensures
 
 pub closing-init : goal.closing-init
-closing-init g c = sealing_first c.args.desk.now c.args.i c.in_ok-local.local c.args.evals.now c.requires.own c.requires.instance c.requires.coded c.requires.is_circular c.requires.unknown c.in_ok-local.ensures.start c.in_ok-local.ensures.local
+closing-init g c = sealing_first c.args.i c.args.evals.now c.in_ok-slot.ensures.on c.in_ok-slot.ensures.claims c.in_ok-slot.ensures.slot c.requires.instance c.requires.coded c.requires.is_circular c.in_ok-local.ensures.start c.in_ok-local.ensures.local
+
+pub is_settled-requires : goal.is_settled-requires
+is_settled-requires g c =
+    subst (λ (f : Frame). (i : Instance) × IsCellOf (program_of f.system.value) f c.closing.desk.view i c.in_ok-slot.slot.0) (sym c.closing.invariant.cells) (instance_of (program_at c.args.desk.now) c.args.i, c.closing.invariant.cell)
 
 pub close_more-requires-clause-program : goal.close_more-requires-clause-program
-close_more-requires-clause-program g c = more_program c.args.desk.now c.closing.desk c.args.i c.closing.local c.args.evals.now c.closing.evals c.closing.invariant c.settled_code.new.self c.settled_code.ensures.on c.settled_code.result c.settled_code.ensures.known (c.is_none.ensures ∙ ap not c.closing-test.true) c.requires.program
+close_more-requires-clause-program g c = more_program c.closing.invariant c.is_settled.ensures.on c.is_settled.result c.is_settled.ensures.told c.closing-test.true c.requires.program
 
 pub close_more-requires-clause-own : goal.close_more-requires-clause-own
-close_more-requires-clause-own g c = c.settled_code.ensures.on.on.own
+close_more-requires-clause-own g c = c.is_settled.ensures.on.on.own
 
 pub close_more-requires-clause-local : goal.close_more-requires-clause-local
-close_more-requires-clause-local g c = more_local c.args.desk.now c.closing.desk c.args.i c.closing.local c.args.evals.now c.closing.evals c.closing.invariant c.settled_code.new.self c.settled_code.ensures.on c.settled_code.result c.settled_code.ensures.known (c.is_none.ensures ∙ ap not c.closing-test.true)
+close_more-requires-clause-local g c = more_local c.closing.invariant c.is_settled.ensures.on c.is_settled.result c.is_settled.ensures.told c.closing-test.true
 
 pub close_more-requires-clause-unknown : goal.close_more-requires-clause-unknown
-close_more-requires-clause-unknown g c = more_unknown c.args.desk.now c.closing.desk c.args.i c.closing.local c.args.evals.now c.closing.evals c.closing.invariant c.settled_code.new.self c.settled_code.ensures.on c.settled_code.result c.settled_code.ensures.known (c.is_none.ensures ∙ ap not c.closing-test.true)
+close_more-requires-clause-unknown g c = more_unknown c.closing.invariant c.is_settled.ensures.on c.is_settled.result c.is_settled.ensures.told c.closing-test.true
 
 pub closing-smaller : goal.closing-smaller
-closing-smaller g c = more_falls c.args.desk.now c.closing.desk c.args.i c.closing.local c.args.evals.now c.closing.evals c.closing.invariant c.settled_code.new.self c.settled_code.ensures.on c.settled_code.result c.settled_code.ensures.known (c.is_none.ensures ∙ ap not c.closing-test.true) c.close_more.new.desk c.in_ok-close_more.ensures.on c.close_more.new.evals _ c.in_ok-close_more.ensures.more refl
+closing-smaller g c = more_falls c.closing.invariant c.is_settled.ensures.on c.is_settled.result c.is_settled.ensures.told c.closing-test.true c.in_ok-close_more.ensures.on c.in_ok-close_more.ensures.more refl
 
 pub closing-preserved : goal.closing-preserved
-closing-preserved g c = more_sealing c.args.desk.now c.closing.desk c.args.i c.closing.local c.args.evals.now c.closing.evals c.closing.invariant c.settled_code.new.self c.settled_code.ensures.on c.settled_code.result c.settled_code.ensures.known (c.is_none.ensures ∙ ap not c.closing-test.true) c.close_more.new.desk c.in_ok-close_more.ensures.on c.close_more.new.evals _ c.in_ok-close_more.ensures.more c.close_more.new.local c.in_ok-close_more.ensures.local refl
+closing-preserved g c = more_sealing c.closing.invariant c.is_settled.ensures.on c.is_settled.result c.is_settled.ensures.told c.closing-test.true c.in_ok-close_more.ensures.on c.in_ok-close_more.ensures.more c.in_ok-close_more.ensures.local refl
 
 pub returns-in_err-close_more-clause-on : goal.returns-in_err-close_more-clause-on
-returns-in_err-close_more-clause-on g c = more_on c.args.desk.now c.closing.desk c.args.i c.closing.local c.args.evals.now c.closing.evals c.closing.invariant c.settled_code.new.self c.settled_code.ensures.on c.settled_code.result c.settled_code.ensures.known (c.is_none.ensures ∙ ap not c.closing-test.true) c.close_more.new.desk c.in_err-close_more.ensures.on c.close_more.new.evals _ c.in_err-close_more.ensures.more
+returns-in_err-close_more-clause-on g c = more_on c.closing.invariant c.is_settled.ensures.on c.is_settled.result c.is_settled.ensures.told c.closing-test.true c.in_err-close_more.ensures.on c.in_err-close_more.ensures.more
 
 pub returns-in_err-close_more-clause-solved : goal.returns-in_err-close_more-clause-solved
-returns-in_err-close_more-clause-solved g c = more_fault c.args.desk.now c.closing.desk c.args.i c.closing.local c.args.evals.now c.closing.evals c.closing.invariant c.settled_code.new.self c.settled_code.ensures.on c.settled_code.result c.settled_code.ensures.known (c.is_none.ensures ∙ ap not c.closing-test.true) c.close_more.new.desk c.in_err-close_more.ensures.on c.close_more.new.evals _ c.in_err-close_more.ensures.more c.in_err-close_more.field-0.0 refl c.from_residual-in_err-close_more.result c.from_residual-in_err-close_more.ensures
+returns-in_err-close_more-clause-solved g c = more_fault c.closing.invariant c.is_settled.ensures.on c.is_settled.result c.is_settled.ensures.told c.closing-test.true c.in_err-close_more.ensures.on c.in_err-close_more.ensures.more refl c.from_residual-in_err-close_more.ensures
 
 pub returns-clause-on : goal.returns-clause-on
-returns-clause-on g c = looked_on c.args.desk.now c.closing.desk c.args.i c.closing.local c.args.evals.now c.closing.evals c.closing.invariant c.settled_code.new.self c.settled_code.ensures.on c.settled_code.result c.settled_code.ensures.known
+returns-clause-on g c = looked_on c.closing.invariant c.is_settled.ensures.on c.is_settled.result c.is_settled.ensures.told
 
 pub returns-clause-solved : goal.returns-clause-solved
-returns-clause-solved g c = is_closed c.args.desk.now c.closing.desk c.args.i c.closing.local c.args.evals.now c.closing.evals c.closing.invariant c.settled_code.new.self c.settled_code.ensures.on c.settled_code.result c.settled_code.ensures.known (c.is_none.ensures ∙ ap not c.closing-test.false) tt
+returns-clause-solved g c = is_closed c.closing.invariant c.is_settled.ensures.on c.is_settled.result c.is_settled.ensures.told c.closing-test.false tt

@@ -4,7 +4,7 @@ use Rattle.caller_pass.proofs.Sealing.{IsSealing}
 use Rattle.caller_pass.proofs.solving.close.Given as goal
 
 abbrev pub invariant-closing : goal.invariant-closing
-invariant-closing g l = IsSealing l.fn.desk l.desk l.fn.i l.local l.fn.evals l.evals
+invariant-closing g l = IsSealing l.fn.desk l.desk l.fn.i l.local l.slot.0 l.fn.evals l.evals
 
 abbrev pub decreases-closing : goal.decreases-closing
-decreases-closing g l = unsettled l.desk.1 l.fn.desk.0.cells
+decreases-closing g l = unsettled l.desk.view l.fn.desk.frame.cells

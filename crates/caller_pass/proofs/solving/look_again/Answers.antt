@@ -7,7 +7,7 @@ use Rattle.caller_pass.proofs.solving.look_again.Goals.{in-None, in-Some}
 use Rattle.caller_pass.proofs.solving.look_again.Goals as goal
 
 still : (d : Held) → IsOwn d → ReadsOn d d
-still d own = record { on = record { cells = refl; lender = refl; own = own; kept = at_least_itself d.1 }; claims = refl }
+still d own = record { on = record { cells = refl; lender = refl; own = own; kept = at_least_itself d.view }; claims = refl }
 
 pub returns-else-known-clause-on : goal.returns-else-known-clause-on
 returns-else-known-clause-on c = elim c.match-waiter.branch [
@@ -22,5 +22,5 @@ returns-then-known-clause-looked c = elim c.match-waiter.branch [
       let d = c.args.desk.now in
       let p = program_at d in
       let there = sym w.is_some-known.ensures ∙ sym w.known-is ∙ c.if-known.true in
-      looked_known p w.settled_code.new.self.0 w.settled_code.new.self.1 c.match-waiter.desk.1 (ap (λ (e : Held). e.1) w.desk-is) c.args.waiter.now w.deref.result.now (ap unboxed w.in-Some.is ∙ ap Some (sym w.deref.ensures)) w.first.result w.first.ensures w.settled_code.result there w.settled_code.ensures.known
+      looked_known p w.settled_code.new.self.frame w.settled_code.new.self.view c.match-waiter.desk.view (ap (λ (e : Held). e.view) w.desk-is) c.args.waiter.now w.deref.result.now (ap unboxed w.in-Some.is ∙ ap Some (sym w.deref.ensures)) w.first.result w.first.ensures w.settled_code.result there w.settled_code.ensures.known
 ]

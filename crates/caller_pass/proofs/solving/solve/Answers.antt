@@ -1,7 +1,7 @@
 use Rattle.std.proofs.Common.{◌++◌, [], List, Ok, refl, ap, ◌∙◌}
 use Rattle.equation_law.specs.declared.coding.Instance.{Instance as CodedInstance}
 use Rattle.caller_pass.specs.declared.waiting.Waiter.{Waiter}
-use Rattle.caller_pass.proofs.Solved.{first_turn, next_coded, next_instance, no_cell, turn_back, turn_back_falls, turn_failed, turn_frame, turn_further, turn_further_falls, turn_leaves, turn_next, turn_next_falls, turn_on, turn_other, turn_program, turn_solved, wait_failed, wait_on}
+use Rattle.caller_pass.proofs.Solved.{first_turn, next_coded, next_instance, no_cell, took_on, turn_back, turn_back_falls, turn_failed, turn_frame, turn_further, turn_further_falls, turn_leaves, turn_next, turn_next_falls, turn_on, turn_other, turn_program, turn_solved, wait_failed, wait_on}
 use Rattle.caller_pass.proofs.Stepping.{not_ok}
 use Rattle.caller_pass.proofs.solving.solve.Goals as goal
 
@@ -21,7 +21,7 @@ pub returns-in_err-claim_instance-clause-outer : goal.returns-in_err-claim_insta
 returns-in_err-claim_instance-clause-outer g c = λ ok. not_ok c.from_residual.result c.from_residual.ensures.0 ok
 
 pub turns-init : goal.turns-init
-turns-init g c = first_turn c.args.evals.now c.requires.own c.in_ok-claim_instance.ensures.on c.requires.instance c.requires.coded c.requires.undeclared c.requires.unknown c.in_ok-claim_instance.ensures.slot c.in_ok-claim_instance.ensures.claims c.new-waiting.result c.new-waiting.ensures
+turns-init g c = first_turn c.args.evals.now c.requires.own c.in_ok-claim_instance.ensures.on c.requires.instance c.requires.coded c.requires.undeclared c.in_ok-claim_instance.ensures.slot c.in_ok-claim_instance.ensures.claims c.new-waiting.result c.new-waiting.ensures
 
 pub step-requires-clause-program : goal.step-requires-clause-program
 step-requires-clause-program g c = turn_program c.turns.invariant c.requires.program
@@ -51,7 +51,7 @@ pub wait_for-requires-clause-coded : goal.wait_for-requires-clause-coded
 wait_for-requires-clause-coded g c = next_coded c.turns.invariant c.requires.program c.in_ok-step.ensures.went (ap Ok c.in-Need.is)
 
 pub wait_for-requires-clause-own : goal.wait_for-requires-clause-own
-wait_for-requires-clause-own g c = c.in_ok-step.ensures.went.on.own
+wait_for-requires-clause-own g c = (took_on _ _ _ _ _ _ _ _ c.in_ok-step.ensures.went).own
 
 pub wait_for-requires-clause-other : goal.wait_for-requires-clause-other
 wait_for-requires-clause-other g c = turn_other c.turns.invariant
@@ -78,10 +78,10 @@ pub returns-in-None-clause-solved : goal.returns-in-None-clause-solved
 returns-in-None-clause-solved g c = turn_solved c.turns.invariant c.requires.program c.in_ok-step.ensures.went (ap Ok c.in-Settled.is) (c.in-None.ensures.last ∙ ap (λ (l : List (CodedInstance × Waiter)). l ++ []) c.in-None.ensures.none) tt
 
 pub returns-in-None-clause-outer : goal.returns-in-None-clause-outer
-returns-in-None-clause-outer g c = λ ok. turn_leaves c.turns.invariant c.requires.program c.in_ok-step.ensures.went (ap Ok c.in-Settled.is) (c.in-None.ensures.last ∙ ap (λ (l : List (CodedInstance × Waiter)). l ++ []) c.in-None.ensures.none)
+returns-in-None-clause-outer g c = λ ok. turn_leaves c.turns.invariant c.requires.program c.in_ok-step.ensures.went (ap Ok c.in-Settled.is) c.requires.own (c.in-None.ensures.last ∙ ap (λ (l : List (CodedInstance × Waiter)). l ++ []) c.in-None.ensures.none)
 
 pub look_again-requires : goal.look_again-requires
-look_again-requires g c = record { own = c.in_ok-step.ensures.went.on.own }
+look_again-requires g c = record { own = (took_on _ _ _ _ _ _ _ _ c.in_ok-step.ensures.went).own }
 
 pub turns-smaller : goal.turns-smaller
 turns-smaller g c = turn_back_falls c.turns.invariant c.requires.program c.in_ok-step.ensures.went (ap Ok c.in-Settled.is) c.look_again.ensures.on c.pop.new.self c.in-Some.last c.in-Some.ensures.last c.in-Some.ensures.other c.look_again.new.waiter c.look_again.ensures.looked

@@ -7,4 +7,4 @@ abbrev pub invariant-turns : goal.invariant-turns
 invariant-turns g l = IsTurn l.fn.desk l.desk l.fn.i l.waiting l.top l.waiter l.fn.evals l.evals
 
 abbrev pub decreases-turns : goal.decreases-turns
-decreases-turns g l = measure l.desk.1 l.waiting (l.top, l.waiter) l.fn.desk.0.cells
+decreases-turns g l = measure l.desk.view l.waiting (l.top, l.waiter) l.fn.desk.frame.cells

@@ -4,6 +4,7 @@ use Rattle.caller_pass.specs.declared.faults.AskFault.{AskFault}
 use Rattle.caller_pass.specs.declared.faults.AskFault.TheVariants.{Memory}
 use Rattle.caller_pass.specs.Answering.{Solves}
 use Rattle.memo_cells.specs.Working.{program_at}
+use Rattle.memo_cells.proofs.Holding.{own_then}
 use Rattle.caller_pass.proofs.Needing.{full_for, loop_for, memory_for, settled_for}
 use Rattle.caller_pass.proofs.solving.solve_for.Goals as goal
 
@@ -22,35 +23,32 @@ solve_unless_noted-requires-clause-coded g c = c.requires.missing.coded
 pub solve_unless_noted-requires-clause-undeclared : goal.solve_unless_noted-requires-clause-undeclared
 solve_unless_noted-requires-clause-undeclared g c = c.requires.missing.undeclared
 
-pub solve_unless_noted-requires-clause-unknown : goal.solve_unless_noted-requires-clause-unknown
-solve_unless_noted-requires-clause-unknown g c = c.requires.missing.unknown
-
 pub returns-in_err-chain-in-Err-Circular-clause-on : goal.returns-in_err-chain-in-Err-Circular-clause-on
 returns-in_err-chain-in-Err-Circular-clause-on g c = c.in-Err-Circular.ensures.on
 
 pub returns-in_err-chain-in-Err-Circular-clause-solved : goal.returns-in_err-chain-in-Err-Circular-clause-solved
-returns-in_err-chain-in-Err-Circular-clause-solved g c = memory_for (program_at c.args.desk.now) c.args.desk.now.0 c.args.desk.now.1 c.solve_unless_noted.new.desk.1 c.args.local.now c.args.next c.requires.local c.requires.missing c.args.evals.now c.solve_unless_noted.new.evals c.from_residual.result c.in-Err-Circular.ensures.solved.claims c.from_residual.ensures
+returns-in_err-chain-in-Err-Circular-clause-solved g c = memory_for (program_at c.args.desk.now) c.args.desk.now.frame c.args.desk.now.view c.solve_unless_noted.new.desk.view c.args.local.now c.args.next c.requires.local c.requires.missing c.args.evals.now c.solve_unless_noted.new.evals c.from_residual.result c.in-Err-Circular.ensures.solved.claims c.from_residual.ensures
 
 pub returns-in_ok-chain-in-Err-Circular-clause-on : goal.returns-in_ok-chain-in-Err-Circular-clause-on
 returns-in_ok-chain-in-Err-Circular-clause-on g c = c.in-Err-Circular.ensures.on
 
 pub returns-in_ok-chain-in-Err-Circular-clause-solved : goal.returns-in_ok-chain-in-Err-Circular-clause-solved
-returns-in_ok-chain-in-Err-Circular-clause-solved g c = loop_for (program_at c.args.desk.now) c.args.desk.now.0 c.args.desk.now.1 c.solve_unless_noted.new.desk.1 c.args.local.now c.args.next c.requires.local c.requires.missing c.args.evals.now c.solve_unless_noted.new.evals c.in-Err-Circular.on c.in-Err-Circular.chain c.in_ok-chain-in-Err-Circular.chain (subst (λ (e : AskFault). Solves (program_at c.args.desk.now) c.args.desk.now.0 c.args.desk.now.1 c.solve_unless_noted.new.desk.1 (instance_of (program_at c.args.desk.now) c.args.next) c.args.evals.now c.solve_unless_noted.new.evals (Err e)) c.in-Err-Circular.field-0-is c.in-Err-Circular.ensures.solved) c.in_ok-chain-in-Err-Circular.ensures
+returns-in_ok-chain-in-Err-Circular-clause-solved g c = loop_for (program_at c.args.desk.now) c.args.desk.now.frame c.args.desk.now.view c.solve_unless_noted.new.desk.view c.args.local.now c.args.next c.requires.local c.requires.missing c.args.evals.now c.solve_unless_noted.new.evals c.in-Err-Circular.on c.in-Err-Circular.chain c.in_ok-chain-in-Err-Circular.chain (subst (λ (e : AskFault). Solves (program_at c.args.desk.now) c.args.desk.now.frame c.args.desk.now.view c.solve_unless_noted.new.desk.view (instance_of (program_at c.args.desk.now) c.args.next) c.args.evals.now c.solve_unless_noted.new.evals (Err e)) c.in-Err-Circular.field-0-is c.in-Err-Circular.ensures.solved) c.in_ok-chain-in-Err-Circular.ensures
 
 pub returns-in-Ok-clause-on : goal.returns-in-Ok-clause-on
 returns-in-Ok-clause-on g c = c.in-Ok.ensures.on
 
 pub returns-in-Ok-clause-solved : goal.returns-in-Ok-clause-solved
-returns-in-Ok-clause-solved g c = settled_for (program_at c.args.desk.now) c.args.desk.now.0 c.args.desk.now.1 c.solve_unless_noted.new.desk.1 c.args.local.now c.args.next c.requires.local c.requires.missing c.args.evals.now c.solve_unless_noted.new.evals tt c.in-Ok.ensures.solved (c.in-Ok.ensures.outer refl)
+returns-in-Ok-clause-solved g c = settled_for (program_at c.args.desk.now) c.args.desk.now.frame c.args.desk.now.view c.solve_unless_noted.new.desk.view c.args.local.now c.args.next c.requires.local c.requires.missing c.args.evals.now c.solve_unless_noted.new.evals refl c.requires.own (own_then c.args.desk.now c.solve_unless_noted.new.desk c.in-Ok.ensures.on) c.in-Ok.ensures.on.kept tt c.in-Ok.ensures.solved (c.in-Ok.ensures.outer refl)
 
 pub returns-in-Err-CellsFull-clause-on : goal.returns-in-Err-CellsFull-clause-on
 returns-in-Err-CellsFull-clause-on g c = c.in-Err-CellsFull.ensures.on
 
 pub returns-in-Err-CellsFull-clause-solved : goal.returns-in-Err-CellsFull-clause-solved
-returns-in-Err-CellsFull-clause-solved g c = full_for (program_at c.args.desk.now) c.args.desk.now.0 c.args.desk.now.1 c.solve_unless_noted.new.desk.1 c.args.local.now c.args.next c.requires.local c.requires.missing c.args.evals.now c.solve_unless_noted.new.evals (subst (λ (e : AskFault). Solves (program_at c.args.desk.now) c.args.desk.now.0 c.args.desk.now.1 c.solve_unless_noted.new.desk.1 (instance_of (program_at c.args.desk.now) c.args.next) c.args.evals.now c.solve_unless_noted.new.evals (Err e)) c.in-Err-CellsFull.field-0-is c.in-Err-CellsFull.ensures.solved)
+returns-in-Err-CellsFull-clause-solved g c = full_for (program_at c.args.desk.now) c.args.desk.now.frame c.args.desk.now.view c.solve_unless_noted.new.desk.view c.args.local.now c.args.next c.requires.local c.requires.missing c.args.evals.now c.solve_unless_noted.new.evals (subst (λ (e : AskFault). Solves (program_at c.args.desk.now) c.args.desk.now.frame c.args.desk.now.view c.solve_unless_noted.new.desk.view (instance_of (program_at c.args.desk.now) c.args.next) c.args.evals.now c.solve_unless_noted.new.evals (Err e)) c.in-Err-CellsFull.field-0-is c.in-Err-CellsFull.ensures.solved)
 
 pub returns-in-Err-Memory-clause-on : goal.returns-in-Err-Memory-clause-on
 returns-in-Err-Memory-clause-on g c = c.in-Err-Memory.ensures.on
 
 pub returns-in-Err-Memory-clause-solved : goal.returns-in-Err-Memory-clause-solved
-returns-in-Err-Memory-clause-solved g c = memory_for (program_at c.args.desk.now) c.args.desk.now.0 c.args.desk.now.1 c.solve_unless_noted.new.desk.1 c.args.local.now c.args.next c.requires.local c.requires.missing c.args.evals.now c.solve_unless_noted.new.evals (Err Memory) c.in-Err-Memory.ensures.solved.claims (refl, refl)
+returns-in-Err-Memory-clause-solved g c = memory_for (program_at c.args.desk.now) c.args.desk.now.frame c.args.desk.now.view c.solve_unless_noted.new.desk.view c.args.local.now c.args.next c.requires.local c.requires.missing c.args.evals.now c.solve_unless_noted.new.evals (Err Memory) c.in-Err-Memory.ensures.solved.claims (refl, refl)

@@ -2,7 +2,7 @@ use Rattle.std.proofs.Common.{◌≡◌, ap, sym, subst, ◌∙◌}
 use Rattle.equation_law.specs.declared.system.System.{System}
 use Rattle.attr_rules.specs.declared.kinds.Kind.{Kind}
 use Rattle.attr_rules.specs.Rules.{is_single}
-use Rattle.equation_law.specs.Codes.{instance_of, value_of}
+use Rattle.equation_law.specs.Codes.{instance_of, source_names, value_of}
 use Rattle.equation_law.specs.Equations.{kind_in}
 use Rattle.equation_law.specs.Program.{Program, text_of}
 use Rattle.equation_law.specs.Systems.{program_of}
@@ -29,17 +29,17 @@ settle-requires-clause-code c =
     let p = program_at d in
     let i = instance_of p c.args.i in
     let on = c.in_ok-show.ensures.on in
-    let kinds = subst (λ (s : System). c.kind_of-kind.result ≡ kind_in (program_of s) (instance_of (program_of s) c.args.i)) (sym c.desk.invariant.1 ∙ ap (λ (x : Held). x.0.system.value) c.desk.view_is ∙ ap (λ (g : Frame). g.system.value) on.cells) c.kind_of-kind.ensures in
-    subst (λ (g : Frame). MaySettle (program_of g.system.value) e.1 c.args.slot.0 c.code.result) (sym on.cells)
-    (may_settle p d.0 d.1 e.1 i c.args.slot.0 c.code.result c.kind_of-kind.result c.args.value.now c.requires.instance on.kept (cell_later d.1 e.1 on.kept p d.0 i c.args.slot.0 c.requires.slot) c.requires.ended c.requires.undeclared kinds (c.code.ensures.value (text_of p) (first_text d.0.system.value)) c.code.ensures.small c.code.type_inv
-    (λ single. subst (λ (k : Kind). ShowsAtLeast p e.1 i k (value_of (text_of p) c.args.value.now)) (sym kinds) (c.in_ok-show.ensures.answer (ap is_single (sym kinds) ∙ single))))
+    let kinds = subst (λ (s : System). c.kind_of-kind.result ≡ kind_in (program_of s) (instance_of (program_of s) c.args.i)) (sym c.desk.invariant.1 ∙ ap (λ (x : Held). x.frame.system.value) c.desk.view_is ∙ ap (λ (g : Frame). g.system.value) on.cells) c.kind_of-kind.ensures in
+    subst (λ (g : Frame). MaySettle (program_of g.system.value) e.view c.args.slot.0 c.code.result) (sym on.cells)
+    (may_settle p d.frame d.view e.view i c.args.slot.0 c.code.result c.kind_of-kind.result c.args.value.now c.requires.instance on.kept (cell_later d.view e.view on.kept p d.frame i c.args.slot.0 c.requires.slot) c.requires.ended c.requires.undeclared kinds (c.code.ensures.value (source_names (text_of p)) (first_text d.frame.system.value)) c.code.ensures.small c.code.type_inv
+    (λ single. subst (λ (k : Kind). ShowsAtLeast p e.view i k (value_of (text_of p) c.args.value.now)) (sym kinds) (c.in_ok-show.ensures.answer (ap is_single (sym kinds) ∙ single))))
 
 pub note_set-requires : goal.note_set-requires
 note_set-requires c =
     let d = c.args.desk.now in
     let on = c.in_ok-show.ensures.on in
     subst (λ (q : Program). IsNoted q c.args.i c.args.value.now) (ap (λ (g : Frame). program_of g.system.value) (sym on.cells ∙ sym c.settle.ensures.on.on.cells))
-    (λ _. ended_noted (program_at d) d.1 (instance_of (program_at d) c.args.i) c.args.value.now c.requires.program c.requires.instance c.requires.ended)
+    (λ _. ended_noted (program_at d) d.view (instance_of (program_at d) c.args.i) c.args.value.now c.requires.program c.requires.instance c.requires.ended)
 
 pub returns-clause-on : goal.returns-clause-on
 returns-clause-on c = subst (λ (e : Held). GoesOn c.args.desk.now e) (sym c.note_set.ensures) (goes_then c.args.desk.now c.show.new.desk c.settle.new.self c.in_ok-show.ensures.on c.settle.ensures.on.on)
@@ -49,8 +49,8 @@ returns-clause-claims c =
     let d = c.args.desk.now in
     let p = program_at d in
     let i = instance_of p c.args.i in
-    subst (λ (e : Held). ClaimsKeys p i d.1 e.1) (sym c.note_set.ensures)
-    (claims_then p i i d.1 c.show.new.desk.1 c.settle.new.self.1 none c.in_ok-show.ensures.claims c.settle.ensures.on.on.kept (claims_same p i c.show.new.desk.1 c.settle.new.self.1 c.settle.ensures.on.claims))
+    subst (λ (e : Held). ClaimsKeys p i d.view e.view) (sym c.note_set.ensures)
+    (claims_then p i i d.view c.show.new.desk.view c.settle.new.self.view none c.in_ok-show.ensures.claims c.settle.ensures.on.on.kept (claims_same p i c.show.new.desk.view c.settle.new.self.view c.settle.ensures.on.claims))
 
 pub returns-clause-answer : goal.returns-clause-answer
 returns-clause-answer c =
@@ -59,6 +59,6 @@ returns-clause-answer c =
     let p = program_at d in
     let i = instance_of p c.args.i in
     let on = c.in_ok-show.ensures.on in
-    subst (λ (h : Held). Knows p h.1 i) (sym c.note_set.ensures)
-    (subst (λ (g : Frame). Knows (program_of g.system.value) c.settle.new.self.1 i) on.cells
-    (c.settle.ensures.known i (subst (λ (g : Frame). IsCellOf (program_of g.system.value) g e.1 i c.args.slot.0) (sym on.cells) (cell_later d.1 e.1 on.kept p d.0 i c.args.slot.0 c.requires.slot))))
+    subst (λ (h : Held). Knows p h.view i) (sym c.note_set.ensures)
+    (subst (λ (g : Frame). Knows (program_of g.system.value) c.settle.new.self.view i) on.cells
+    (c.settle.ensures.known i (subst (λ (g : Frame). IsCellOf (program_of g.system.value) g e.view i c.args.slot.0) (sym on.cells) (cell_later d.view e.view on.kept p d.frame i c.args.slot.0 c.requires.slot))))

@@ -12,15 +12,15 @@ pub raise_codes-requires-clause-may : goal.raise_codes-requires-clause-may
 raise_codes-requires-clause-may c =
     let d = c.args.desk.now in
     let i = instance_of (program_at d) c.args.i in
-    (i, may_show_codes (program_at d) c.requires.program d.0 d.1 i c.requires.instance c.requires.undeclared c.args.slot.0 c.requires.slot c.args.value.now c.requires.ended c.deref.result.now (c.deref.ensures.value ∙ c.in_ok-codes.ensures))
+    (i, may_show_codes (program_at d) c.requires.program d.frame d.view i c.requires.instance c.requires.undeclared c.args.slot.0 c.requires.slot c.args.value.now c.requires.ended c.deref.result.now (c.deref.ensures.value ∙ c.in_ok-codes.ensures))
 
 pub returns-in_err-raise_codes-clause-claims : goal.returns-in_err-raise_codes-clause-claims
 returns-in_err-raise_codes-clause-claims c =
     let d = c.args.desk.now in
     let i = instance_of (program_at d) c.args.i in
     let are = c.deref.ensures.value ∙ c.in_ok-codes.ensures in
-    let may = may_show_codes (program_at d) c.requires.program d.0 d.1 i c.requires.instance c.requires.undeclared c.args.slot.0 c.requires.slot c.args.value.now c.requires.ended c.deref.result.now are in
-    show_claims (program_at d) c.requires.program d.0 d.1 i c.requires.instance c.requires.undeclared c.args.slot.0 c.requires.slot c.args.value.now c.requires.ended c.deref.result.now are c.raise_codes.new.work c.in_err-raise_codes.ensures.on.cells refl (c.in_err-raise_codes.ensures.claims i may)
+    let may = may_show_codes (program_at d) c.requires.program d.frame d.view i c.requires.instance c.requires.undeclared c.args.slot.0 c.requires.slot c.args.value.now c.requires.ended c.deref.result.now are in
+    show_claims (program_at d) c.requires.program d.frame d.view i c.requires.instance c.requires.undeclared c.args.slot.0 c.requires.slot c.args.value.now c.requires.ended c.deref.result.now are c.raise_codes.new.work c.in_err-raise_codes.ensures.on.cells refl (c.in_err-raise_codes.ensures.claims i may)
 
 pub returns-in_err-raise_codes-clause-answer : goal.returns-in_err-raise_codes-clause-answer
 returns-in_err-raise_codes-clause-answer c =
@@ -28,22 +28,22 @@ returns-in_err-raise_codes-clause-answer c =
     let p = program_at d in
     let i = instance_of p c.args.i in
     let are = c.deref.ensures.value ∙ c.in_ok-codes.ensures in
-    let may = may_show_codes p c.requires.program d.0 d.1 i c.requires.instance c.requires.undeclared c.args.slot.0 c.requires.slot c.args.value.now c.requires.ended c.deref.result.now are in
-    let full = show_full p c.requires.program d.0 d.1 i c.requires.instance c.requires.undeclared c.args.slot.0 c.requires.slot c.args.value.now c.requires.ended c.deref.result.now are c.raise_codes.new.work c.in_err-raise_codes.ensures.on.cells refl (c.in_err-raise_codes.ensures.full i may) in
-    err_is (AnswersShow p d.0 c.raise_codes.new.work.1 i c.args.value.now) (λ (e : AskFault). e ≡ CellsFull) c.from_residual-in_err-raise_codes.result c.from_residual-in_err-raise_codes.ensures (λ e is. show_fault p d.0 c.raise_codes.new.work.1 i c.args.value.now e is full)
+    let may = may_show_codes p c.requires.program d.frame d.view i c.requires.instance c.requires.undeclared c.args.slot.0 c.requires.slot c.args.value.now c.requires.ended c.deref.result.now are in
+    let full = show_full p c.requires.program d.frame d.view i c.requires.instance c.requires.undeclared c.args.slot.0 c.requires.slot c.args.value.now c.requires.ended c.deref.result.now are c.raise_codes.new.work c.in_err-raise_codes.ensures.on.cells refl (c.in_err-raise_codes.ensures.full i may) in
+    err_is (AnswersShow p d.frame c.raise_codes.new.work.view i c.args.value.now) (λ (e : AskFault). e ≡ CellsFull) c.from_residual-in_err-raise_codes.result c.from_residual-in_err-raise_codes.ensures (λ e is. show_fault p d.frame c.raise_codes.new.work.view i c.args.value.now e is full)
 
 pub returns-clause-claims : goal.returns-clause-claims
 returns-clause-claims c =
     let d = c.args.desk.now in
     let i = instance_of (program_at d) c.args.i in
     let are = c.deref.ensures.value ∙ c.in_ok-codes.ensures in
-    let may = may_show_codes (program_at d) c.requires.program d.0 d.1 i c.requires.instance c.requires.undeclared c.args.slot.0 c.requires.slot c.args.value.now c.requires.ended c.deref.result.now are in
-    show_claims (program_at d) c.requires.program d.0 d.1 i c.requires.instance c.requires.undeclared c.args.slot.0 c.requires.slot c.args.value.now c.requires.ended c.deref.result.now are c.raise_codes.new.work c.in_ok-raise_codes.ensures.on.cells refl (c.in_ok-raise_codes.ensures.claims i may)
+    let may = may_show_codes (program_at d) c.requires.program d.frame d.view i c.requires.instance c.requires.undeclared c.args.slot.0 c.requires.slot c.args.value.now c.requires.ended c.deref.result.now are in
+    show_claims (program_at d) c.requires.program d.frame d.view i c.requires.instance c.requires.undeclared c.args.slot.0 c.requires.slot c.args.value.now c.requires.ended c.deref.result.now are c.raise_codes.new.work c.in_ok-raise_codes.ensures.on.cells refl (c.in_ok-raise_codes.ensures.claims i may)
 
 pub returns-clause-answer : goal.returns-clause-answer
 returns-clause-answer c =
     let d = c.args.desk.now in
     let i = instance_of (program_at d) c.args.i in
     let are = c.deref.ensures.value ∙ c.in_ok-codes.ensures in
-    let may = may_show_codes (program_at d) c.requires.program d.0 d.1 i c.requires.instance c.requires.undeclared c.args.slot.0 c.requires.slot c.args.value.now c.requires.ended c.deref.result.now are in
-    show_done (program_at d) c.requires.program d.0 d.1 i c.requires.instance c.requires.undeclared c.args.slot.0 c.requires.slot c.args.value.now c.requires.ended c.deref.result.now are c.raise_codes.new.work c.in_ok-raise_codes.ensures.on.cells refl tt (c.in_ok-raise_codes.ensures.shown i may)
+    let may = may_show_codes (program_at d) c.requires.program d.frame d.view i c.requires.instance c.requires.undeclared c.args.slot.0 c.requires.slot c.args.value.now c.requires.ended c.deref.result.now are in
+    show_done (program_at d) c.requires.program d.frame d.view i c.requires.instance c.requires.undeclared c.args.slot.0 c.requires.slot c.args.value.now c.requires.ended c.deref.result.now are c.raise_codes.new.work c.in_ok-raise_codes.ensures.on.cells refl tt (c.in_ok-raise_codes.ensures.shown i may)

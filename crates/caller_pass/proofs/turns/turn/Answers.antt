@@ -11,13 +11,13 @@ use Rattle.caller_pass.proofs.Desks.{sound_for, turned}
 use Rattle.caller_pass.proofs.turns.turn.Goals as goal
 
 pub resume-requires-clause-sound : goal.resume-requires-clause-sound
-resume-requires-clause-sound g c = sound_for (program_of c.desk.inside.system.now) c.args.desk.now (ap (λ (d : Held). program_of d.0.system.value) (sym c.desk.view_is) ∙ ap program_of c.desk.invariant.1)
+resume-requires-clause-sound g c = sound_for (program_of c.desk.inside.system.now) c.args.desk.now (ap (λ (d : Held). program_of d.frame.system.value) (sym c.desk.view_is) ∙ ap program_of c.desk.invariant.1)
 
 pub resume-requires-clause-left : goal.resume-requires-clause-left
 resume-requires-clause-left g c =
     let d = c.args.desk.now in
-    let same = ap (λ (x : Held). x.0.system.value) (sym c.desk.view_is) ∙ c.desk.invariant.1 in
-    subst (λ (s : System). AreLeft s (IsKnown (program_at d) d.1) (instance_of (program_of s) c.args.i) c.args.left.now) same c.requires.left
+    let same = ap (λ (x : Held). x.frame.system.value) (sym c.desk.view_is) ∙ c.desk.invariant.1 in
+    subst (λ (s : System). AreLeft s (IsKnown (program_at d) d.view) (instance_of (program_of s) c.args.i) c.args.left.now) same c.requires.left
 
 pub returns-clause-on : goal.returns-clause-on
 returns-clause-on g c = c.resume.ensures.evaluates.kept.kept c.args.desk.now (reads_itself c.args.desk.now (subst (λ (d : Held). IsOwn d) c.desk.view_is c.desk.invariant.0.0))
@@ -26,15 +26,15 @@ pub returns-clause-turned : goal.returns-clause-turned
 returns-clause-turned g c =
     let p = program_of c.desk.inside.system.now in
     let d = c.resume.new.desk in
-    let same = ap (λ (x : Held). program_of x.0.system.value) (sym c.desk.view_is) ∙ ap program_of c.desk.invariant.1 in
-    subst (λ (q : Program). TurnsTo q d.1 (instance_of q c.args.i) c.resume.result) (sym same)
+    let same = ap (λ (x : Held). program_of x.frame.system.value) (sym c.desk.view_is) ∙ ap program_of c.desk.invariant.1 in
+    subst (λ (q : Program). TurnsTo q d.view (instance_of q c.args.i) c.resume.result) (sym same)
     (turned p d (instance_of p c.args.i) c.resume.result c.resume.ensures.evaluates.kept.sound.for c.resume.ensures.evaluates.answer)
 
 pub returns-clause-left : goal.returns-clause-left
 returns-clause-left g c =
     let d = c.args.desk.now in
     let e = c.resume.new.desk in
-    let same = ap (λ (x : Held). x.0.system.value) (sym c.desk.view_is) ∙ c.desk.invariant.1 in
+    let same = ap (λ (x : Held). x.frame.system.value) (sym c.desk.view_is) ∙ c.desk.invariant.1 in
     let program : program_at e ≡ program_at d = sym c.resume.ensures.evaluates.kept.sound.for ∙ ap program_of (sym same) in
-    let here = subst (λ (s : System). AreLeft s (IsKnown (program_at e) e.1) (instance_of (program_of s) c.args.i) c.resume.new.left) (sym same) c.resume.ensures.left in
-    subst (λ (q : Program). AreLeft d.0.system.value (IsKnown q e.1) (instance_of (program_at d) c.args.i) c.resume.new.left) program here
+    let here = subst (λ (s : System). AreLeft s (IsKnown (program_at e) e.view) (instance_of (program_of s) c.args.i) c.resume.new.left) (sym same) c.resume.ensures.left in
+    subst (λ (q : Program). AreLeft d.frame.system.value (IsKnown q e.view) (instance_of (program_at d) c.args.i) c.resume.new.left) program here

@@ -8,5 +8,5 @@ use Rattle.caller_pass.proofs.desk.Desk.has_loop.Goals as goal
 
 pub returns : goal.returns
 returns c = λ noted.
-    let same = c.self.invariant.0.1.system ∙ sym c.self.invariant.1 ∙ ap (λ (h : Held). h.0.system.value) c.self.view_is in
+    let same = c.self.invariant.0.1.system ∙ sym c.self.invariant.1 ∙ ap (λ (h : Held). h.frame.system.value) c.self.view_is in
     subst (λ (s : System). HasLoop (program_of s) (instance_of (program_of s) c.args.i.now)) same (c.has_loop.ensures noted)

@@ -10,5 +10,5 @@ pub invariant_of-self : goal.invariant_of-self
 invariant_of-self c =
     let w = c.args.offers in
     let walk = subst (λ (s : System). IsWalk (program_of s) (IsKnown (program_of s) c.self.inside.pass.now) w) c.self.invariant.1
-    (subst (λ (h : Held). IsWalk (program_at h) (IsKnown (program_at h) h.1) w) (sym c.self.view_is) c.requires) in
+    (subst (λ (h : Held). IsWalk (program_at h) (IsKnown (program_at h) h.view) w) (sym c.self.view_is) c.requires) in
     ((c.self.invariant.0.0, notes_more c.self.inside.system.now c.self.inside.pass.now c.self.inside.notes c.self.invariant.0.1 c.put_walk.new.self w c.put_walk.ensures.system c.put_walk.ensures.walks walk), c.self.invariant.1)

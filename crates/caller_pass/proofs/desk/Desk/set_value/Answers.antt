@@ -14,26 +14,24 @@ pub returns-in-Some-clause-value : goal.returns-in-Some-clause-value
 returns-in-Some-clause-value c = λ good.
     let d = c.args.self.now in
     let p = program_at d in
-    let same = c.self.invariant.0.1.system ∙ sym c.self.invariant.1 ∙ ap (λ (h : Held). h.0.system.value) c.self.view_is in
+    let same = c.self.invariant.0.1.system ∙ sym c.self.invariant.1 ∙ ap (λ (h : Held). h.frame.system.value) c.self.view_is in
     let note = subst (λ (s : System). IsNoted (program_of s) c.args.i c.in-Some.value) same c.in-Some.ensures in
-    noted_known p d.1 (instance_of p c.args.i) c.in-Some.value (note good) (c.requires.known good).1
+    noted_known p d.view (instance_of p c.args.i) c.in-Some.value (note good) (c.requires.known good).1
 
 pub note_set-requires : goal.note_set-requires
 note_set-requires c =
     let d = c.args.self.now in
     let p = program_at d in
-    let w = c.value_shown.new.work.1 in
+    let e = c.value_shown.new.work in
     let x = c.in_ok-value.value in
-    let same = ap (λ (h : Held). h.0.system.value) (sym c.self.view_is) ∙ c.self.invariant.1 in
-    let known = shown_known d.0.system.value c.self.inside.system.now d.0 d.1 w c.args.i c.args.slot.0 c.args.kind x same c.in_ok-value.ensures.on.on.kept c.requires.known c.requires.kind c.requires.set c.in_ok-value.ensures.shown in
-    subst (λ (q : Program). IsNoted q c.args.i x) (ap (λ (f : Frame). program_of f.system.value) (sym c.in_ok-value.ensures.on.on.cells)) (λ good. known_noted p w (instance_of p c.args.i) x (known good))
+    let known = shown_known d e c.args.i c.args.slot.0 c.args.kind x c.in_ok-value.ensures.on.on.kept c.requires.known c.requires.kind c.requires.set c.in_ok-value.ensures.shown in
+    subst (λ (q : Program). IsNoted q c.args.i x) (ap (λ (f : Frame). program_of f.system.value) (sym c.in_ok-value.ensures.on.on.cells)) (λ good. known_noted p e.view (instance_of p c.args.i) x (known good))
 
 pub returns-clause-value : goal.returns-clause-value
 returns-clause-value c =
     let d = c.args.self.now in
     let p = program_at d in
-    let w = c.value_shown.new.work.1 in
+    let e = c.value_shown.new.work in
     let x = c.in_ok-value.value in
-    let same = ap (λ (h : Held). h.0.system.value) (sym c.self.view_is) ∙ c.self.invariant.1 in
-    let known = shown_known d.0.system.value c.self.inside.system.now d.0 d.1 w c.args.i c.args.slot.0 c.args.kind x same c.in_ok-value.ensures.on.on.kept c.requires.known c.requires.kind c.requires.set c.in_ok-value.ensures.shown in
-    subst (λ (h : Held). IsCoded p c.args.i → IsKnownValue p h.1 (instance_of p c.args.i) x) (sym c.note_set.ensures) known
+    let known = shown_known d e c.args.i c.args.slot.0 c.args.kind x c.in_ok-value.ensures.on.on.kept c.requires.known c.requires.kind c.requires.set c.in_ok-value.ensures.shown in
+    subst (λ (h : Held). IsCoded p c.args.i → IsKnownValue p h.view (instance_of p c.args.i) x) (sym c.note_set.ensures) known

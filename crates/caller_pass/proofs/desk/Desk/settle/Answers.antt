@@ -14,5 +14,5 @@ invariant_of-self c = ((c.settle.ensures.own, notes_later c.self.inside.system.n
 pub returns-clause-known : goal.returns-clause-known
 returns-clause-known c =
     let f = c.self.inside.cells.now in
-    subst (λ (d : Held). (i : Instance) → IsCellOf (program_at d) d.0 d.1 i c.args.slot.0 → Knows (program_at d) c.settle.new.pass i) c.self.view_is
+    subst (λ (d : Held). (i : Instance) → IsCellOf (program_at d) d.frame d.view i c.args.slot.0 → Knows (program_at d) c.settle.new.pass i) c.self.view_is
     (λ i cell. settled_knows (program_of f.system.value) f c.self.inside.pass.now c.settle.new.pass i c.args.slot.0 c.settle.result c.settle.ensures.kept cell c.settle.ensures.known)

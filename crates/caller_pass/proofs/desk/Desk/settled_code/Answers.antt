@@ -22,14 +22,14 @@ pub returns-in_err-slot-clause-known : goal.returns-in_err-slot-clause-known
 returns-in_err-slot-clause-known c = λ good.
     let d = c.args.self.now in
     let e = c.seek_instance.new.work in
-    subst (λ (o : Option (Slot × ℕ)). FindsCode (program_at d) e.0 e.1 (instance_of (program_at d) c.args.i) o) (sym c.from_residual.ensures)
-    (unknown_nowhere (program_at d) d.0 e.1 (instance_of (program_at d) c.args.i) (own_then d e c.seek_instance.ensures.on.on) (c.in_err-slot.ensures.none good))
+    subst (λ (o : Option (Slot × ℕ)). FindsCode (program_at d) e.frame e.view (instance_of (program_at d) c.args.i) o) (sym c.from_residual.ensures)
+    (unknown_nowhere (program_at d) d.frame e.view (instance_of (program_at d) c.args.i) (own_then d e c.seek_instance.ensures.on.on) (c.in_err-slot.ensures.none good))
 
 pub settled-requires-clause-slot : goal.settled-requires-clause-slot
-settled-requires-clause-slot c = subst (λ (f : Frame). c.in_ok-slot.slot.0 < f.cells) (sym (ap (λ (h : Held). h.0) c.self.view_is ∙ c.seek_instance.ensures.on.on.cells)) c.in_ok-slot.ensures.place
+settled-requires-clause-slot c = subst (λ (f : Frame). c.in_ok-slot.slot.0 < f.cells) (sym (ap (λ (h : Held). h.frame) c.self.view_is ∙ c.seek_instance.ensures.on.on.cells)) c.in_ok-slot.ensures.place
 
 pub settled-requires-clause-plain : goal.settled-requires-clause-plain
-settled-requires-clause-plain c = subst (λ (h : Held). IsPlain h.1 c.in_ok-slot.slot.0) (sym c.self.view_is) c.in_ok-slot.ensures.plain
+settled-requires-clause-plain c = subst (λ (h : Held). IsPlain h.view c.in_ok-slot.slot.0) (sym c.self.view_is) c.in_ok-slot.ensures.plain
 
 pub returns-in_err-code-clause-on : goal.returns-in_err-code-clause-on
 returns-in_err-code-clause-on c =
@@ -44,7 +44,7 @@ returns-in_err-code-clause-known c = λ good.
     let x = c.self.inside in
     let on = subst (λ (h : Held). ReadsOn d h) (sym c.self.view_is) c.seek_instance.ensures.on in
     subst (λ (o : Option (Slot × ℕ)). FindsCode (program_at d) x.cells.now c.settled.new.pass (instance_of (program_at d) c.args.i) o) (sym c.from_residual-in_err-code.ensures)
-    (finds_none d x.cells.now x.pass.now c.settled.new.pass x.pass.ghost_name on c.settled.ensures.own c.settled.ensures.kept c.settled.ensures.claims c.args.i c.in_ok-slot.slot.0 (subst (λ (h : Held). IsCellOf (program_at d) d.0 h.1 (instance_of (program_at d) c.args.i) c.in_ok-slot.slot.0) (sym c.self.view_is) (c.in_ok-slot.ensures.slot good)) c.in_err-code.ensures.none)
+    (finds_none d x.cells.now x.pass.now c.settled.new.pass x.pass.ghost_name on c.settled.ensures.own c.settled.ensures.kept c.settled.ensures.claims c.args.i c.in_ok-slot.slot.0 (subst (λ (h : Held). IsCellOf (program_at d) d.frame h.view (instance_of (program_at d) c.args.i) c.in_ok-slot.slot.0) (sym c.self.view_is) (c.in_ok-slot.ensures.slot good)) c.in_err-code.ensures.none)
 
 pub returns-clause-on : goal.returns-clause-on
 returns-clause-on c =
@@ -58,12 +58,12 @@ returns-clause-known c = λ good.
     let d = c.args.self.now in
     let x = c.self.inside in
     let on = subst (λ (h : Held). ReadsOn d h) (sym c.self.view_is) c.seek_instance.ensures.on in
-    finds_code d x.cells.now x.pass.now c.settled.new.pass x.pass.ghost_name on c.settled.ensures.own c.settled.ensures.kept c.settled.ensures.claims c.args.i c.in_ok-slot.slot.0 (subst (λ (h : Held). IsCellOf (program_at d) d.0 h.1 (instance_of (program_at d) c.args.i) c.in_ok-slot.slot.0) (sym c.self.view_is) (c.in_ok-slot.ensures.slot good)) c.in_ok-code.code c.in_ok-code.ensures.known
+    finds_code d x.cells.now x.pass.now c.settled.new.pass x.pass.ghost_name on c.settled.ensures.own c.settled.ensures.kept c.settled.ensures.claims c.args.i c.in_ok-slot.slot.0 (subst (λ (h : Held). IsCellOf (program_at d) d.frame h.view (instance_of (program_at d) c.args.i) c.in_ok-slot.slot.0) (sym c.self.view_is) (c.in_ok-slot.ensures.slot good)) c.in_ok-code.code c.in_ok-code.ensures.known
 
 pub returns-clause-cell : goal.returns-clause-cell
 returns-clause-cell c =
     let d = c.args.self.now in
     let x = c.self.inside in
     let on = subst (λ (h : Held). ReadsOn d h) (sym c.self.view_is) c.seek_instance.ensures.on in
-    let k = subst (λ (h : Held). (k : ℕ) × Has h.1.keys (c.in_ok-slot.slot.0, k)) (sym c.self.view_is) c.in_ok-slot.ensures.key in
+    let k = subst (λ (h : Held). (k : ℕ) × Has h.view.keys (c.in_ok-slot.slot.0, k)) (sym c.self.view_is) c.in_ok-slot.ensures.key in
     found_cell d x.cells.now x.pass.now c.settled.new.pass x.pass.ghost_name on c.settled.ensures.own c.settled.ensures.kept c.settled.ensures.claims c.in_ok-slot.slot.0 k.0 c.in_ok-code.code k.1 c.in_ok-code.ensures.known

@@ -11,4 +11,4 @@ pub invariant_of-self : goal.invariant_of-self
 invariant_of-self c = ((c.raise.ensures.own, notes_later c.self.inside.system.now c.self.inside.pass.now c.raise.new.pass c.self.inside.notes c.raise.ensures.kept c.self.invariant.0.1), c.self.invariant.1)
 
 pub returns-clause-set : goal.returns-clause-set
-returns-clause-set c = subst (λ (d : Held). OnErr c.raise.result ((i : Instance) → IsCellOf (program_at d) d.0 c.raise.new.pass i c.args.slot.0 → is_single (kind_in (program_at d) i) ≡ false)) c.self.view_is c.raise.ensures.set
+returns-clause-set c = subst (λ (d : Held). OnErr c.raise.result ((i : Instance) → IsCellOf (program_at d) d.frame c.raise.new.pass i c.args.slot.0 → is_single (kind_in (program_at d) i) ≡ false)) c.self.view_is c.raise.ensures.set
