@@ -21,10 +21,10 @@ use Rattle.caller_pass.proofs.Stepping.{need_instance}
 use Rattle.rag_tests.specs.Circular.{IsCircular}
 
 -- the program of the cells
-pub program_here : (s : System) (d e : Held) → d.0.system.value ≡ s → ReadsOn d e → program_at e ≡ program_of s
+pub program_here : (s : System) (d e : Held) → d.frame.system.value ≡ s → ReadsOn d e → program_at e ≡ program_of s
 program_here s d e same on = ap (λ (f : Frame). program_of f.system.value) on.on.cells ∙ ap program_of same
 
-module _ (s : System) (good : IsProgram (program_of s)) (d e : Held) (same : d.0.system.value ≡ s) (on : ReadsOn d e) (i n : CodedInstance) (instance : IsInstance (program_of s) (instance_of (program_of s) i)) (answer : AnswersTurn (program_of s) (told_by e) ((equations_of (program_of s)).equation (instance_of (program_of s) i)) (Ok (turns.Need n))) where
+module _ (s : System) (good : IsProgram (program_of s)) (d e : Held) (same : d.frame.system.value ≡ s) (on : ReadsOn d e) (i n : CodedInstance) (instance : IsInstance (program_of s) (instance_of (program_of s) i)) (answer : AnswersTurn (program_of s) (told_by e) ((equations_of (program_of s)).equation (instance_of (program_of s) i)) (Ok (turns.Need n))) where
   abbrev p : Program
   p = program_of s
 
@@ -32,7 +32,7 @@ module _ (s : System) (good : IsProgram (program_of s)) (d e : Held) (same : d.0
   here = sym (program_here s d e same on)
 
   pub need_is : IsInstance p (instance_of p n)
-  need_is = need_instance p good e.0 here e.1 on.on.own (instance_of p i) instance n (turned p e (instance_of p i) (Ok (turns.Need n)) here answer)
+  need_is = need_instance p good e.frame here e.view on.on.own (instance_of p i) instance n (turned p e (instance_of p i) (Ok (turns.Need n)) here answer)
 
   pub need_circular : is_declared p (instance_of p n) ≡ true → IsCircular p n
   need_circular declared = record { instance = need_is; coded = answer.coded; is_circular = as_declared p good (instance_of p n) need_is ∙ declared }

@@ -24,8 +24,8 @@ impl Gate for Silent {
     fn reached(&self, _caller: u32, _reply: u32) {}
 }
 
-// What a query of the system gives, where it gives a single value, and whether the cells are full.
-fn asked<L: Ledger>(
+/// What a query of the system gives, where it gives a single value, and whether the cells are full.
+pub(crate) fn asked<L: Ledger>(
     alloc: Global,
     system: &System,
     cells: &Cells,

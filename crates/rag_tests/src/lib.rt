@@ -7,6 +7,8 @@ mod cells;
 #[cfg(test)]
 mod codes;
 #[cfg(test)]
+mod counted;
+#[cfg(test)]
 mod demand;
 #[cfg(test)]
 mod events;

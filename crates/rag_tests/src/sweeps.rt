@@ -1,10 +1,10 @@
 // How often the members of a local set are evaluated, and which of them are sealed while it waits.
 ghost use Rattle.std.specs.Prelude.{◌≡◌, ◌<◌, IfOk, IfSome};
-ghost use Rattle.circular_eval.specs.Local.{IsLocal};
+ghost use Rattle.circular_eval.specs.Local.{IsLocalAt, IsStillLocal};
 ghost use Rattle.equation_law.specs.Checked.{IsInstance, IsProgram};
 ghost use Rattle.equation_law.specs.Codes.{IsCoded, instance_of};
 ghost use Rattle.equation_law.specs.Systems.{program_of};
-ghost use Rattle.memo_cells.specs.Working.{GoesOn, IsOwn, ReadsOn};
+ghost use Rattle.memo_cells.specs.Working.{GoesOn, IsForSystem, IsOwn, ReadsOn};
 ghost use Rattle.rag_tests.specs.Circular.{IsCircular};
 
 use crate::programs::{Texts, system_said};
@@ -83,15 +83,15 @@ impl Work for Counting<'_> {
     ghost tells_pass = { told_pass };
 }
 
-// The first circular instance that one leads to, from each to what it demands first, over no collection.
-fn first_circular(
+/// The first circular instance that one leads to, from each to what it demands first, over no collection.
+pub(crate) fn first_circular(
     alloc: Global,
     system: &System,
     work: &mut Counting<'_>,
     i: Instance,
 ) -> Result<Option<Instance>, Memory>
     requires program { IsProgram (program_of system.now) }
-    requires same { work.old.0.system.value ≡ system.now }
+    requires same { IsForSystem work.old system.now }
     requires own { IsOwn work.old }
     requires instance { IsInstance (program_of system.now) (instance_of (program_of system.now) i) }
     requires coded { IsCoded (program_of system.now) i }
@@ -133,11 +133,11 @@ fn go_on<'a>(
     local: &mut Local<'a>,
 ) -> (Ended, u32)
     requires program { IsProgram (program_of system.now) }
-    requires same { work.old.0.system.value ≡ system.now }
+    requires same { IsForSystem work.old system.now }
     requires own { IsOwn work.old }
-    requires local { IsLocal (program_of system.now) work.old.0 work.old.1 local.old }
+    requires local { IsLocalAt work.old local.old }
     ensures on { GoesOn work.old work.new }
-    ensures local { IsLocal (program_of system.now) work.old.0 work.new.1 local.new }
+    ensures local { IsStillLocal work.old work.new local.new }
 {
     let before = work.demands;
     let ended = match advance(alloc, system, work, local) {

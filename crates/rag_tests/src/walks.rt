@@ -2,7 +2,7 @@
 ghost use Rattle.std.specs.Prelude.{◌≡◌, ◌<◌};
 ghost use Rattle.equation_law.specs.Checked.{IsProgram};
 ghost use Rattle.equation_law.specs.Systems.{program_of};
-ghost use Rattle.memo_cells.specs.Working.{IsOwn, ReadsOn, told_by};
+ghost use Rattle.memo_cells.specs.Working.{IsForSystem, IsOwn, ReadsOn, told_by};
 ghost use Rattle.collection_attrs.specs.Walks.{IsWalk};
 
 use crate::programs::{Texts, system_said};
@@ -41,7 +41,7 @@ fn sum_along(
     node: u32,
 ) -> Result<Option<i32>, Memory>
     requires program { IsProgram (program_of system.now) }
-    requires same { work.old.0.system.value ≡ system.now }
+    requires same { IsForSystem work.old system.now }
     requires own { IsOwn work.old }
     requires walk { IsWalk (program_of system.now) (told_by work.old).has offers.old }
     ensures on { ReadsOn work.old work.new }
@@ -79,7 +79,7 @@ fn all_along(
     nodes: u16,
 ) -> Result<Option<Walked>, Memory>
     requires program { IsProgram (program_of system.now) }
-    requires same { work.old.0.system.value ≡ system.now }
+    requires same { IsForSystem work.old system.now }
     requires own { IsOwn work.old }
 {
     if system.tree().len() == 0 {

@@ -1,9 +1,11 @@
 -- The first two queries are instances, and the local set stays one.
-use Rattle.std.proofs.Common.{◌<◌, ◌∙◌, Option, length, subst, sym, arith}
+use Rattle.std.proofs.Common.{rules, ◌≡◌, ◌<◌, ◌∙◌, Option, length, subst, sym, arith}
 use Rattle.std.specs.Prelude.{IfSome}
 use Rattle.equation_law.specs.declared.coding.Instance.{Instance as CodedInstance}
+use Rattle.equation_law.specs.declared.system.System.{System}
 use Rattle.equation_law.specs.Systems.{program_of}
 use Rattle.memo_cells.specs.declared.view.Frame.{Frame}
+use Rattle.memo_cells.specs.Working.{program_at}
 use Rattle.circular_eval.specs.Local.{IsLocal}
 use Rattle.circular_eval.proofs.Later.{local_later}
 use Rattle.query_replies.proofs.Answered.{query_instance}
@@ -26,11 +28,14 @@ pub go_on-first-requires-clause-local : goal.go_on-first-requires-clause-local
 go_on-first-requires-clause-local g c =
     let p = program_of c.args.system.now in
     let is = subst (λ (o : Option CodedInstance). IfSome o (IsCircular p)) c.in-Some.is c.in_ok-start.ensures.found in
-    c.in_ok-local.ensures.local p c.first_circular.new.work.0 c.first_circular.new.work.1 is.instance is.coded is.is_circular
+    let d = c.first_circular.new.work in
+    let same : d.frame.system.value ≡ c.args.system.now = search rules in
+    subst (λ (s : System). IsLocal (program_of s) d.frame d.view c.in_ok-local.local) (sym same) (c.in_ok-local.ensures.local p d.frame d.view is.instance is.coded is.is_circular)
 
 pub go_on-second-requires-clause-local : goal.go_on-second-requires-clause-local
 go_on-second-requires-clause-local g c =
-    let p = program_of c.args.system.now in
     let on = c.in_ok-sealed.ensures.on.on in
-    subst (λ (f : Frame). IsLocal p f c.count_sealed.new.work.1 c.go_on-first.new.local) (sym (on.cells ∙ c.go_on-first.ensures.on.cells))
-    (local_later p c.go_on-first.new.work.1 c.count_sealed.new.work.1 on.kept c.first_circular.new.work.0 c.go_on-first.new.local c.go_on-first.ensures.local)
+    let d = c.first_circular.new.work in
+    let e = c.count_sealed.new.work in
+    subst (λ (f : Frame). IsLocal (program_of f.system.value) f e.view c.go_on-first.new.local) (sym (on.cells ∙ c.go_on-first.ensures.on.cells))
+    (local_later (program_at d) c.go_on-first.new.work.view e.view on.kept d.frame c.go_on-first.new.local c.go_on-first.ensures.local)

@@ -7,4 +7,4 @@ use Rattle.memo_cells.specs.Working.{Held, program_at}
 use Rattle.rag_tests.proofs.sweeps.CountingWork.raise.Goals as goal
 
 pub returns-clause-set : goal.returns-clause-set
-returns-clause-set c = subst (λ (d : Held). OnErr c.raise.result ((i : Instance) → IsCellOf (program_at d) d.0 c.raise.new.self.1 i c.args.slot.0 → is_single (kind_in (program_at d) i) ≡ false)) c.self.view_is c.raise.ensures.set
+returns-clause-set c = subst (λ (d : Held). OnErr c.raise.result ((i : Instance) → IsCellOf (program_at d) d.frame c.raise.new.self.view i c.args.slot.0 → is_single (kind_in (program_at d) i) ≡ false)) c.self.view_is c.raise.ensures.set
