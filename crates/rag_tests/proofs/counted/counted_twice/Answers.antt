@@ -7,4 +7,4 @@ use Rattle.rag_tests.specs.Circular.{IsCircular}
 use Rattle.rag_tests.proofs.counted.counted_twice.Goals as goal
 
 pub ask-first-requires-clause-instance : goal.ask-first-requires-clause-instance
-ask-first-requires-clause-instance g c = (subst (λ (o : Option CodedInstance). IfSome o (IsCircular (program_of c.args.system.now))) c.in-Some.is c.in_ok-circular_asked.ensures).instance
+ask-first-requires-clause-instance g c = (subst (λ (o : Option CodedInstance). IfSome o (IsCircular (program_of c.args.system.now))) c.in-Some.is c.in_ok-i.ensures).instance
