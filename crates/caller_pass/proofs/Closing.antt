@@ -14,6 +14,7 @@ use Rattle.memo_cells.specs.Claiming.{ClaimsKeys}
 use Rattle.memo_cells.specs.Standing.{IsPassOf, Knows}
 use Rattle.memo_cells.specs.Views.{IsAtLeast}
 use Rattle.memo_cells.proofs.Claiming.{claims_same, claims_then}
+use Rattle.memo_cells.proofs.Deciding.{knows_or_not}
 use Rattle.memo_cells.proofs.More.{at_least_itself, at_least_then}
 use Rattle.circular_eval.specs.declared.advancing.CircFault.{CircFault}
 use Rattle.circular_eval.specs.declared.advancing.CircFault.TheVariants as set_fault
@@ -22,7 +23,6 @@ use Rattle.circular_eval.specs.Advancing.{AnswersFault as AnswersCircular, IsMis
 use Rattle.caller_pass.specs.declared.faults.AskFault.{AskFault}
 use Rattle.caller_pass.specs.Answering.{StopsAt, ClosesMore, IsSameFault, Solves, SolvesFor, WasUnsettled, unsettled}
 use Rattle.caller_pass.proofs.Falling.{unsettled_falls, unsettled_less}
-use Rattle.caller_pass.proofs.Paying.{knows_or_not}
 use Rattle.caller_pass.proofs.Going.{solve_fault, was_within}
 
 -- the fault of a local set
@@ -66,7 +66,7 @@ module _ (p : Program) (f : Frame) (same : p ≡ program_of f.system.value) (v w
         let cost = h.start ok (subst (λ (j : Instance). ¬ Knows p w j) (sym start) not_yet) (subst (λ (j : Instance). Knows p u j) (sym start) k) in
         let less = unsettled_less v w f.cells kept in
         omega (arith, cost, less, evals))
-        (knows_or_not p f w i same then);
+        (knows_or_not p f w same then i);
     falls = λ ok.
         let falls = unsettled_falls p f same w u then own_u later (instance_of p n) missing.unknown (h.settled ok) in
         let less = unsettled_less v w f.cells kept in
@@ -105,7 +105,7 @@ module _ (p : Program) (f : Frame) (same : p ≡ program_of f.system.value) (v w
     known = λ k. ⊎_elim
         (λ yet. ⊎_elim inl (λ cost. inr (let less = unsettled_less w u f.cells kept in omega (arith, cost, less))) (c.known yet))
         (λ not_yet. inr (let cost = c.cost in let falls = unsettled_falls p f same w u c.own own kept i not_yet k in omega (arith, cost, falls)))
-        (knows_or_not p f w i same c.own);
+        (knows_or_not p f w same c.own i);
   }
 
   -- the set went on, where i wasn't sealed

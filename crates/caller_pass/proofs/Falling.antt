@@ -17,14 +17,15 @@ use Rattle.memo_cells.proofs.Counting.{any_has, has_any}
 use Rattle.circular_eval.specs.declared.local.Local.{Local}
 use Rattle.caller_pass.specs.declared.waiting.Waiter.{Waiter}
 use Rattle.caller_pass.specs.Waiting.{way_of}
-use Rattle.caller_pass.specs.Answering.{unsettled}
+use Rattle.caller_pass.specs.Answering.{is_known_at, unsettled}
 use Rattle.memo_cells.proofs.Bits.{has_left}
-use Rattle.caller_pass.proofs.Knowing.{known_cell, settled_known}
+use Rattle.caller_pass.proofs.Knowing.{known_cell}
 use Rattle.caller_pass.proofs.Lines.{has_snoc}
+use Rattle.caller_pass.proofs.Places.{known_at, known_at_later, one_of, settled_known}
 
 -- the cell is seen settled, or an instance waits at it
 abbrev pub taken : View → List (CodedInstance × Waiter) → ℕ → Bool
-taken v es q = list_any (λ x. eqb x.0 q) v.values || list_any (λ e. eqb e.1.slot.0 q) es
+taken v es q = is_known_at v q || list_any (λ e. eqb e.1.slot.0 q) es
 
 -- how many of the cells below n aren't
 abbrev pub left : (ℕ → Bool) → ℕ → ℕ
@@ -60,39 +61,35 @@ left_falls f g (suc n) s more lt free new =
     )
 
 -- what is taken
-pub by_value : (v : View) (es : List (CodedInstance × Waiter)) (q k c : ℕ) → Has v.values (q, k, c) → taken v es q ≡ true
-by_value v es q k c h = or_left (list_any (λ x. eqb x.0 q) v.values) _ (any_has (λ x. eqb x.0 q) v.values (q, k, c) h (eq-eqb q q refl))
+pub by_value : (v : View) (es : List (CodedInstance × Waiter)) (q : ℕ) → is_known_at v q ≡ true → taken v es q ≡ true
+by_value v es q h = or_left (is_known_at v q) _ h
 
 pub by_one : (v : View) (es : List (CodedInstance × Waiter)) (e : CodedInstance × Waiter) → Has es e → taken v es e.1.slot.0 ≡ true
-by_one v es e h = or_right (list_any (λ x. eqb x.0 e.1.slot.0) v.values) _ (any_has (λ x. eqb x.1.slot.0 e.1.slot.0) es e h (eq-eqb e.1.slot.0 e.1.slot.0 refl))
+by_one v es e h = or_right (is_known_at v e.1.slot.0) _ (any_has (λ x. eqb x.1.slot.0 e.1.slot.0) es e h (eq-eqb e.1.slot.0 e.1.slot.0 refl))
 
-pub taken_by : (v : View) (es : List (CodedInstance × Waiter)) (q : ℕ) → taken v es q ≡ true → ((k c : ℕ) × Has v.values (q, k, c)) ⊎ ((e : CodedInstance × Waiter) × Has es e × (e.1.slot.0 ≡ q))
+pub taken_by : (v : View) (es : List (CodedInstance × Waiter)) (q : ℕ) → taken v es q ≡ true → (is_known_at v q ≡ true) ⊎ ((e : CodedInstance × Waiter) × Has es e × (e.1.slot.0 ≡ q))
 taken_by v es q h = ⊎_elim
-    (λ e. let r = has_any (λ x. eqb x.0 q) v.values e in inl (r.0.1, r.0.2, subst (λ (y : ℕ). Has v.values (y, r.0.1, r.0.2)) (eqb-true r.0.0 q r.2) r.1))
+    inl
     (λ e. let r = has_any (λ x. eqb x.1.slot.0 q) es e in inr (r.0, r.1, eqb-true r.0.1.slot.0 q r.2))
-    (one_of (list_any (λ x. eqb x.0 q) v.values) (list_any (λ e. eqb e.1.slot.0 q) es) h)
-  where
-    one_of : (a b : Bool) → (a || b) ≡ true → (a ≡ true) ⊎ (b ≡ true)
-    one_of true b h = inl refl
-    one_of false b h = inr h
+    (one_of (is_known_at v q) (list_any (λ e. eqb e.1.slot.0 q) es) h)
 
 -- one that waits more
 pub push_keeps : (v w : View) (es : List (CodedInstance × Waiter)) (e : CodedInstance × Waiter) → IsAtLeast v w → (q : ℕ) → taken v es q ≡ true → taken w (es ++ e ∷ []) q ≡ true
 push_keeps v w es e kept q h = ⊎_elim
-    (λ x. by_value w (es ++ e ∷ []) q x.0 x.1 (kept.values q x.0 x.1 x.2))
+    (λ x. by_value w (es ++ e ∷ []) q (known_at_later v w q kept x))
     (λ x. subst (λ (y : ℕ). taken w (es ++ e ∷ []) y ≡ true) x.2 (by_one w (es ++ e ∷ []) x.0 (has_left es (e ∷ []) x.0 x.1)))
     (taken_by v es q h)
 
 -- one that waits no more, whose cell is seen settled
-pub pop_keeps : (v w : View) (es : List (CodedInstance × Waiter)) (e : CodedInstance × Waiter) (k c : ℕ) → IsAtLeast v w → Has w.values (e.1.slot.0, k, c) → (q : ℕ) → taken v (es ++ e ∷ []) q ≡ true → taken w es q ≡ true
-pop_keeps v w es e k c kept settled q h = ⊎_elim
-    (λ x. by_value w es q x.0 x.1 (kept.values q x.0 x.1 x.2))
-    (λ x. ⊎_elim (λ before. subst (λ (y : ℕ). taken w es y ≡ true) x.2 (by_one w es x.0 before)) (λ same. by_value w es q k c (subst (λ (y : ℕ). Has w.values (y, k, c)) (sym (ap (λ (d : CodedInstance × Waiter). d.1.slot.0) same) ∙ x.2) settled)) (has_snoc es e x.0 x.1))
+pub pop_keeps : (v w : View) (es : List (CodedInstance × Waiter)) (e : CodedInstance × Waiter) → IsAtLeast v w → is_known_at w e.1.slot.0 ≡ true → (q : ℕ) → taken v (es ++ e ∷ []) q ≡ true → taken w es q ≡ true
+pop_keeps v w es e kept settled q h = ⊎_elim
+    (λ x. by_value w es q (known_at_later v w q kept x))
+    (λ x. ⊎_elim (λ before. subst (λ (y : ℕ). taken w es y ≡ true) x.2 (by_one w es x.0 before)) (λ same. by_value w es q (subst (λ (y : ℕ). is_known_at w y ≡ true) (sym (ap (λ (d : CodedInstance × Waiter). d.1.slot.0) same) ∙ x.2) settled)) (has_snoc es e x.0 x.1))
     (taken_by v (es ++ e ∷ []) q h)
 
 -- a cell that nothing takes
-pub not_taken : (v : View) (es : List (CodedInstance × Waiter)) (q : ℕ) → ((k c : ℕ) → ¬ Has v.values (q, k, c)) → ((e : CodedInstance × Waiter) → Has es e → e.1.slot.0 ≢ q) → taken v es q ≡ false
-not_taken v es q none other = both_ways (taken v es q) false (λ h. ⊎_elim (λ x. absurd (none x.0 x.1 x.2)) (λ x. absurd (other x.0 x.1 x.2)) (taken_by v es q h)) (λ h. cc)
+pub not_taken : (v : View) (es : List (CodedInstance × Waiter)) (q : ℕ) → (¬ (is_known_at v q ≡ true)) → ((e : CodedInstance × Waiter) → Has es e → e.1.slot.0 ≢ q) → taken v es q ≡ false
+not_taken v es q none other = both_ways (taken v es q) false (λ h. ⊎_elim (λ x. absurd (none x)) (λ x. absurd (other x.0 x.1 x.2)) (taken_by v es q h)) (λ h. cc)
 
 -- one for an instance that is evaluated next, and none for one whose local set goes on
 abbrev pub turns_of : Option Local → ℕ
@@ -108,14 +105,14 @@ pub left_unsettled : (v : View) (n : ℕ) → left (taken v []) n ≡ unsettled 
 left_unsettled v zero = refl
 left_unsettled v (suc n) =
     let rest = left_unsettled v n in
-    ap (λ (b : Bool). (if b then 0 else 1) + left (taken v []) n) (no_more (list_any (λ x. eqb x.0 n) v.values)) ∙ ap (λ (x : ℕ). (if list_any (λ y. eqb y.0 n) v.values then 0 else 1) + x) rest
+    ap (λ (b : Bool). (if b then 0 else 1) + left (taken v []) n) (no_more (is_known_at v n)) ∙ ap (λ (x : ℕ). (if is_known_at v n then 0 else 1) + x) rest
   where
     no_more : (b : Bool) → (b || false) ≡ b
     no_more true = refl
     no_more false = refl
 
 still_taken : (v w : View) → IsAtLeast v w → (q : ℕ) → taken v [] q ≡ true → taken w [] q ≡ true
-still_taken v w kept q h = ⊎_elim (λ x. by_value w [] q x.0 x.1 (kept.values q x.0 x.1 x.2)) (λ x. absurd x.1) (taken_by v [] q h)
+still_taken v w kept q h = ⊎_elim (λ x. by_value w [] q (known_at_later v w q kept x)) (λ x. absurd x.1) (taken_by v [] q h)
 
 -- what is seen settled stays so
 pub unsettled_less : (v w : View) (n : ℕ) → IsAtLeast v w → unsettled w n ≤ unsettled v n
@@ -129,8 +126,8 @@ unsettled_less v w n kept =
 pub unsettled_falls : (p : Program) (f : Frame) → p ≡ program_of f.system.value → (v w : View) → IsPassOf f v → IsPassOf f w → IsAtLeast v w → (i : Instance) → ¬ Knows p v i → Knows p w i → unsettled w f.cells < unsettled v f.cells
 unsettled_falls p f same v w own later kept i unknown k =
     let cell = known_cell p f w i later k in
-    let free = not_taken v [] k.slot (λ key c h. unknown (settled_known p f v same own w i k.slot key c later kept cell h)) (λ e h. absurd h) in
-    let falls = left_falls (taken v []) (taken w []) f.cells k.slot (still_taken v w kept) cell.1.0 free (by_value w [] k.slot k.key k.code k.settled) in
+    let free = not_taken v [] k.slot (λ h. unknown (settled_known p f v same own w i k.slot later kept cell h)) (λ e h. absurd h) in
+    let falls = left_falls (taken v []) (taken w []) f.cells k.slot (still_taken v w kept) cell.1.0 free (by_value w [] k.slot (known_at p w i k)) in
     let before = left_unsettled v f.cells in
     let now = left_unsettled w f.cells in
     omega (arith, falls, before, now)

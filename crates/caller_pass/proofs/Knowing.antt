@@ -22,17 +22,18 @@ use Rattle.memo_cells.specs.declared.view.Frame.{Frame}
 use Rattle.memo_cells.specs.declared.view.View.{View}
 use Rattle.memo_cells.specs.Naming.{IsCellOf, StandsFor}
 use Rattle.memo_cells.specs.Showing.{ShowsAtLeast}
-use Rattle.memo_cells.specs.Standing.{IsCodeOf, IsPassOf, Knows, MaySettle}
-use Rattle.memo_cells.specs.Views.{Has, IsAtLeast, IsUnset}
+use Rattle.memo_cells.specs.Standing.{AreApproximations, HaveCodes, IsCodeOf, IsPassOf, Knows, MaySettle}
+use Rattle.memo_cells.specs.Views.{Has, IsAtLeast, IsUnset, IsUnsettled}
 use Rattle.memo_cells.specs.Working.{IsKnown}
-use Rattle.memo_cells.proofs.Naming.{knows_later, stands_later, stands_once, word_once}
+use Rattle.memo_cells.proofs.Naming.{knows_later, stands_later, word_once}
+use Rattle.memo_cells.proofs.ValueWords.{codes_had}
 use Rattle.memo_cells.specs.SetShown.{IsShownValue}
 use Rattle.caller_pass.specs.Knowing.{HasEnded, IsKnownValue, IsSettledAt}
 
 -- the cell of what is known
 pub known_cell : (p : Program) (f : Frame) (v : View) (i : Instance) → IsPassOf f v → (k : Knows p v i) → IsCellOf p f v i k.slot
 known_cell p f v i own k =
-    let there = (own.valued k.slot k.key k.code k.settled).0 in
+    let there = own.valued k.slot k.key k.code k.settled in
     (k.key, (own.within k.slot k.key there, there), k.stands)
 
 -- an instance that has no cell, or whose cell isn't settled, isn't known
@@ -51,25 +52,12 @@ one_cell p f v i s t own pooled a b =
     own.one_place s t b.0 (subst (λ (k : ℕ). Has v.keys (s, k)) word a.1.1) b.1.1
 
 module _ (p : Program) (f : Frame) (v : View) (same : p ≡ program_of f.system.value) (own : IsPassOf f v) where
-  -- a settled key stands for an instance whose value has the code
-  settled_code : (slot key code : ℕ) → Has v.values (slot, key, code) → (i : Instance) × StandsFor p v key i × IsCodeOf p i code
-  settled_code slot key code h = subst (λ (q : Program). (i : Instance) × StandsFor q v key i × IsCodeOf q i code) (sym same) (own.valued slot key code h).1
-
+  -- a settled code is that of the value of what its key stands for
   pub code_of : (i : Instance) (slot key code : ℕ) → StandsFor p v key i → Has v.values (slot, key, code) → IsCodeOf p i code
-  code_of i slot key code s h =
-      let of = settled_code slot key code h in
-      subst (λ (j : Instance). IsCodeOf p j code) (stands_once v own.one_key p key of.0 i of.1 s) of.2
+  code_of i slot key code s h = subst (λ (q : Program). IsCodeOf q i code) (sym same) (own.coded slot key code h i (subst (λ (q : Program). StandsFor q v key i) same s))
 
   pub has_value : (i : Instance) → Knows p v i → (w : Value) × HasValue p i w
   has_value i k = let code = code_of i k.slot k.key k.code k.stands k.settled in (code.value, code.has)
-
-  -- where the cell of an instance, as a later view sees it, is settled, the instance is known
-  pub settled_known : (w : View) (i : Instance) (slot key code : ℕ) → IsPassOf f w → IsAtLeast v w → IsCellOf p f w i slot → Has v.values (slot, key, code) → Knows p v i
-  settled_known w i slot key code own_then more cell h =
-      let of = settled_code slot key code h in
-      let word : cell.0 ≡ key = own_then.one_key slot cell.0 key cell.1.1 (more.keys slot key (own.valued slot key code h).0) in
-      let is : of.0 ≡ i = stands_once w own_then.one_key p key of.0 i (stands_later v w more p key of.0 of.1) (subst (λ (k : ℕ). StandsFor p w k i) word cell.2) in
-      record { key = key; stands = subst (λ (j : Instance). StandsFor p v key j) is of.1; slot = slot; code = code; settled = h }
 
   -- a settled code, read at the type of the instance
   pub known_value_is : (i : Instance) (slot code : ℕ) (kind : Kind) (x : CodedValue) → IsSettledAt p f v i slot code → kind ≡ kind_in p i → is_single kind ≡ true → ((n : Naming) → value_by n x ≡ value_coded n kind code) → AreElements p x → IsKnownValue p v i x
@@ -93,8 +81,8 @@ module _ (p : Program) (f : Frame) (v : View) (same : p ≡ program_of f.system.
     pub seen_code : (code : ℕ) → ((k : ℕ) → Has u.keys (slot, k) → Has v.values (slot, k, code)) → IsSettledAt p f v (instance_of p i) slot code
     seen_code code settled = record { key = its.0; there = (its.1.0, kept.keys slot its.0 its.1.1); stands = stands; settled = settled its.0 its.1.1 }
 
-    pub seen_unset : ArePooled p.texts → ((k : ℕ) → Has u.keys (slot, k) → IsUnset v k) → ¬ Knows p v (instance_of p i)
-    seen_unset pooled none = unknown_unset p f v (instance_of p i) its.0 own pooled stands (none its.0 its.1.1)
+    pub seen_unset : ArePooled p.texts → IsUnsettled u v slot → ¬ Knows p v (instance_of p i)
+    seen_unset pooled none = unknown_unset p f v (instance_of p i) its.0 own pooled stands (none.unset its.0 its.1.1)
 
 -- an instance whose cell was settled is known
 pub settled_knows : (p : Program) (f : Frame) (u v : View) (i : Instance) (slot code : ℕ) → IsAtLeast u v → IsCellOf p f u i slot → ((k : ℕ) → Has u.keys (slot, k) → Has v.values (slot, k, code)) → Knows p v i
@@ -113,9 +101,18 @@ stuck_leads p v i j ds h = met_leads p i j (halts_meets (λ k w a. a.1) h)
 pub ended_value : (p : Program) (v : View) (i : Instance) (x : CodedValue) → HasEnded p v i x → HasValue p i (value_of (text_of p) x)
 ended_value p v i x e = ended p i (value_of (text_of p) x) e.demands (ends_more (λ k w a. a.1) e.ends)
 
+-- the elements of a value have codes, once the words of a set show it
+codes_of : (p : Program) (v : View) (a : AreApproximations p v) (i : Instance) (x : Value) (k : Kind) → kind_in p i ≡ k → (is_single k ≡ false → ShowsAtLeast p v i k x) → HaveCodes p k x
+codes_of p v a i x kinds.Truth e shown = tt
+codes_of p v a i x kinds.Int e shown = tt
+codes_of p v a i x kinds.Text e shown = tt
+codes_of p v a i x (kinds.Node d) e shown = tt
+codes_of p v a i x kinds.Texts e shown = codes_had p v a i x kinds.Texts e (shown refl)
+codes_of p v a i x (kinds.Nodes d) e shown = codes_had p v a i x (kinds.Nodes d) e (shown refl)
+
 -- its code may be settled, once the words of a set show it
-pub may_settle : (p : Program) (f : Frame) (u v : View) (i : Instance) (slot code : ℕ) (kind : Kind) (x : CodedValue) → IsInstance p i → IsAtLeast u v → IsCellOf p f v i slot → HasEnded p u i x → (equations_of p).circular i ≡ false → kind ≡ kind_in p i → (is_single kind ≡ true → value_at (text_of p) kind code ≡ as_kind kind (value_of (text_of p) x)) → IsSmall kind code → code < 2 ^ 32 → (is_single kind ≡ false → ShowsAtLeast p v i kind (value_of (text_of p) x)) → MaySettle p v slot code
-may_settle p f u v i slot code kind x instance kept cell done plain kinds is small fits shown = record {
+pub may_settle : (p : Program) (f : Frame) (u v : View) (i : Instance) (slot code : ℕ) (kind : Kind) (x : CodedValue) → AreApproximations p v → IsInstance p i → IsAtLeast u v → IsCellOf p f v i slot → HasEnded p u i x → (equations_of p).circular i ≡ false → kind ≡ kind_in p i → (is_single kind ≡ true → value_at (text_of p) kind code ≡ as_kind kind (value_of (text_of p) x)) → IsSmall kind code → code < 2 ^ 32 → (is_single kind ≡ false → ShowsAtLeast p v i kind (value_of (text_of p) x)) → MaySettle p v slot code
+may_settle p f u v i slot code kind x words instance kept cell done plain kinds is small fits shown = record {
   key = cell.0;
   here = cell.1.1;
   settled = record {
@@ -128,6 +125,7 @@ may_settle p f u v i slot code kind x instance kept cell done plain kinds is sma
       coded = subst (λ (k : Kind). is_single k ≡ true → value_at (text_of p) k code ≡ as_kind k (value_of (text_of p) x)) kinds is;
       small = subst (λ (k : Kind). IsSmall k code) kinds small;
       fits = fits;
+      elements = codes_of p v words i (value_of (text_of p) x) (kind_in p i) refl (subst (λ (k : Kind). is_single k ≡ false → ShowsAtLeast p v i k (value_of (text_of p) x)) kinds shown);
     };
     shown = subst (λ (k : Kind). is_single k ≡ false → ShowsAtLeast p v i k (value_of (text_of p) x)) kinds shown;
     closed = λ j meets. knows_later u v kept p j ((ends_meets (λ k a b g h. one p k a b g.1 h) done.ends meets).1.0);

@@ -18,6 +18,7 @@ pub mod Noted
 pub mod Overfull
 pub mod Paid
 pub mod Paying
+pub mod Places
 pub mod Sealing
 pub mod Seeking
 pub mod Solved

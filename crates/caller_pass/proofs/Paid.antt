@@ -20,14 +20,15 @@ use Rattle.memo_cells.proofs.Claiming.{chain_then}
 use Rattle.memo_cells.proofs.Naming.{cell_later}
 use Rattle.circular_eval.specs.declared.local.Local.{Local}
 use Rattle.caller_pass.specs.declared.waiting.Waiter.{Waiter}
-use Rattle.caller_pass.specs.Answering.{SameWay, WayChanges, unsettled}
+use Rattle.caller_pass.specs.Answering.{SameWay, WayChanges, is_known_at, unsettled}
 use Rattle.caller_pass.specs.Waiting.{AreWaiting, IsPlaced, IsStack, IsWayOf, LooksAgain, WaitsBy, WayStays, waits, way_of}
 use Rattle.caller_pass.proofs.Falling.{left}
 use Rattle.caller_pass.proofs.Frames.{waiting_front}
-use Rattle.caller_pass.proofs.Knowing.{known_cell, one_cell, settled_known}
+use Rattle.caller_pass.proofs.Knowing.{known_cell, one_cell}
 use Rattle.memo_cells.proofs.Bits.{has_left}
 use Rattle.caller_pass.proofs.Lines.{has_last, has_snoc, start_chain, waiting_chain}
 use Rattle.caller_pass.proofs.Paying.{AreApart, IsFresh, IsStart, Pays, by_done, done, done_by, empty_of, falls_so, fresh_circular, fresh_frame, has_or_not, left_done, none_some, some_once, sorted, without}
+use Rattle.caller_pass.proofs.Places.{known_at_later, settled_known}
 use Rattle.caller_pass.proofs.Turning.{length_snoc, on_stack, waits_each}
 
 -- the starts of the local sets that are waited for below the top, where one less pays for an evaluation that wasn't made
@@ -53,15 +54,15 @@ loop_at p f v i es top stack c led back = record { on = instance_of p top.0; to 
 
 module _ (p : Program) (f : Frame) (same : p ≡ program_of f.system.value) (pooled : ArePooled p.texts) (v w : View) (own : IsPassOf f v) (then : IsPassOf f w) (kept : IsAtLeast v w) (i : Instance) (hs : List Instance) (outer : (h : Instance) → Has hs h → Chain p h i) (es : List (CodedInstance × Waiter)) (t : CodedInstance) (x : Waiter) (stack : IsStack p f v i es (t, x)) (evals budget : ℕ) (pays : Pays p v f.cells hs es (t, x) evals budget) where
   -- what counted as done does so still, where the cells of those that wait now are cells of those that waited
-  done_still : (after : List (CodedInstance × Waiter)) → ((e : CodedInstance × Waiter) → Has after e → (q : ℕ) → e.1.slot.0 ≡ q → (k c : ℕ) → Has v.values (q, k, c) → (d : CodedInstance × Waiter) × Has (es ++ (t, x) ∷ []) d × (d.1.slot.0 ≡ q)) → (q : ℕ) → done v (es ++ (t, x) ∷ []) q ≡ true → done w after q ≡ true
+  done_still : (after : List (CodedInstance × Waiter)) → ((e : CodedInstance × Waiter) → Has after e → (q : ℕ) → e.1.slot.0 ≡ q → is_known_at v q ≡ true → (d : CodedInstance × Waiter) × Has (es ++ (t, x) ∷ []) d × (d.1.slot.0 ≡ q)) → (q : ℕ) → done v (es ++ (t, x) ∷ []) q ≡ true → done w after q ≡ true
   done_still after before q h =
       let r = done_by v (es ++ (t, x) ∷ []) q h in
-      by_done w after q r.0.0 r.0.1 (kept.values q r.0.0 r.0.1 r.0.2) (λ e there is. let d = before e there q is r.0.0 r.0.1 r.0.2 in r.1 d.0 d.1 d.2)
+      by_done w after q (known_at_later v w q kept r.0) (λ e there is. let d = before e there q is r.0 in r.1 d.0 d.1 d.2)
 
   -- the one on top goes on in another state
   module _ (y : Waiter) (slot : y.slot ≡ x.slot) (next : IsStack p f w i es (t, y)) where
     still : (q : ℕ) → done v (es ++ (t, x) ∷ []) q ≡ true → done w (es ++ (t, y) ∷ []) q ≡ true
-    still = done_still (es ++ (t, y) ∷ []) (λ e h q is k c _. ⊎_elim
+    still = done_still (es ++ (t, y) ∷ []) (λ e h q is _. ⊎_elim
         (λ before. (e, has_left es ((t, x) ∷ []) e before, is))
         (λ now. ((t, x), has_last es (t, x), sym (ap (λ (s : Slot). s.0) slot) ∙ sym (ap (λ (d : CodedInstance × Waiter). d.1.slot.0) now) ∙ is))
         (has_snoc es (t, y) e h))
@@ -162,12 +163,12 @@ module _ (p : Program) (f : Frame) (same : p ≡ program_of f.system.value) (poo
       }
     where
       still_more : (q : ℕ) → done v (es ++ (t, x) ∷ []) q ≡ true → done w ((es ++ (t, y) ∷ []) ++ (n, z) ∷ []) q ≡ true
-      still_more = done_still ((es ++ (t, y) ∷ []) ++ (n, z) ∷ []) (λ e h q is k c value. ⊎_elim
+      still_more = done_still ((es ++ (t, y) ∷ []) ++ (n, z) ∷ []) (λ e h q is value. ⊎_elim
           (λ front. ⊎_elim
           (λ before. (e, has_left es ((t, x) ∷ []) e before, is))
           (λ now. ((t, x), has_last es (t, x), sym (ap (λ (s : Slot). s.0) slot) ∙ sym (ap (λ (d : CodedInstance × Waiter). d.1.slot.0) now) ∙ is))
           (has_snoc es (t, y) e front))
-          (λ now. absurd (unknown (settled_known p f v same own w (instance_of p n) z.slot.0 k c then kept next.frame.placed.slot (subst (λ (a : ℕ). Has v.values (a, k, c)) (sym is ∙ ap (λ (d : CodedInstance × Waiter). d.1.slot.0) now) value))))
+          (λ now. absurd (unknown (settled_known p f v same own w (instance_of p n) z.slot.0 then kept next.frame.placed.slot (subst (λ (a : ℕ). is_known_at v a ≡ true) (sym is ∙ ap (λ (d : CodedInstance × Waiter). d.1.slot.0) now) value))))
           (has_snoc (es ++ (t, y) ∷ []) (n, z) e h))
 
       way_on : (s : Instance) (old new : Option Local) → way_of y ≡ new → SameWay old new → (l : Local) → old ≡ Some l → instance_of p l.start ≡ s → IsStart p ((es ++ (t, y) ∷ []) ++ (n, z) ∷ []) s
@@ -273,7 +274,7 @@ module _ (p : Program) (f : Frame) (same : p ≡ program_of f.system.value) (poo
             (has_snoc ds (last.0, y) e h)
 
         still_back : (q : ℕ) → done v (es ++ (t, x) ∷ []) q ≡ true → done w (ds ++ (last.0, y) ∷ []) q ≡ true
-        still_back = done_still (ds ++ (last.0, y) ∷ []) (λ e h q at k c _. (let d = was e h in (d.0, has_left es ((t, x) ∷ []) d.0 d.1, d.2 ∙ at)))
+        still_back = done_still (ds ++ (last.0, y) ∷ []) (λ e h q at _. (let d = was e h in (d.0, has_left es ((t, x) ∷ []) d.0 d.1, d.2 ∙ at)))
 
         others_back : (d : CodedInstance × Waiter) → Has (ds ++ (last.0, y) ∷ []) d → instance_of p d.0 ≢ instance_of p t
         others_back d h at = let b = was d h in not_it b.0 b.1 (ap (instance_of p) b.3 ∙ at)
@@ -307,7 +308,7 @@ module _ (p : Program) (f : Frame) (same : p ≡ program_of f.system.value) (poo
         omega (arith, fewer, none_left, many, paid, enough, all, short)
       where
         still_none : (q : ℕ) → done v (es ++ (t, x) ∷ []) q ≡ true → done w [] q ≡ true
-        still_none = done_still [] (λ e h q at k c _. absurd h)
+        still_none = done_still [] (λ e h q at _. absurd h)
 
         not_open : (s : Instance) → (¬ Knows p w s) → Has below.starts s → ⊥
         not_open s unknown h = ⊎_elim (λ out. unknown (all_known s out)) (λ at. subst (λ l. Has l at.entry) empty at.there) (below.waited s h)
@@ -335,7 +336,7 @@ pays_first p f same v w own then kept i x unknown cell way placed hs apart outsi
     still : (q : ℕ) → done v [] q ≡ true → done w ((i, x) ∷ []) q ≡ true
     still q h =
         let r = done_by v [] q h in
-        by_done w ((i, x) ∷ []) q r.0.0 r.0.1 (kept.values q r.0.0 r.0.1 r.0.2) (λ e there at. ⊎_elim
-        (λ is. unknown (settled_known p f v same own w (instance_of p i) x.slot.0 r.0.0 r.0.1 then kept cell (subst (λ (a : ℕ). Has v.values (a, r.0.0, r.0.1)) (sym at ∙ ap (λ (d : CodedInstance × Waiter). d.1.slot.0) is) r.0.2)))
+        by_done w ((i, x) ∷ []) q (known_at_later v w q kept r.0) (λ e there at. ⊎_elim
+        (λ is. unknown (settled_known p f v same own w (instance_of p i) x.slot.0 then kept cell (subst (λ (a : ℕ). is_known_at v a ≡ true) (sym at ∙ ap (λ (d : CodedInstance × Waiter). d.1.slot.0) is) r.0)))
         absurd
         there)

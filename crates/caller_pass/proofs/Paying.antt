@@ -17,29 +17,24 @@ use Rattle.memo_cells.specs.Naming.{StandsFor}
 use Rattle.memo_cells.specs.Standing.{IsPassOf, Knows}
 use Rattle.memo_cells.specs.Views.{Has, IsAtLeast}
 use Rattle.memo_cells.proofs.Counting.{any_has, has_any}
+use Rattle.memo_cells.proofs.Deciding.{knows_or_not}
 use Rattle.memo_cells.proofs.Naming.{stands_once}
 use Rattle.circular_eval.specs.declared.local.Local.{Local}
 use Rattle.caller_pass.specs.declared.waiting.Waiter.{Waiter}
-use Rattle.caller_pass.specs.Answering.{unsettled}
+use Rattle.caller_pass.specs.Answering.{is_known_at, unsettled}
 use Rattle.caller_pass.specs.Waiting.{IsPlaced, way_of}
 use Rattle.caller_pass.proofs.Falling.{left, left_falls, left_less}
-use Rattle.caller_pass.proofs.Knowing.{known_cell, settled_known}
+use Rattle.caller_pass.proofs.Knowing.{known_cell}
+use Rattle.caller_pass.proofs.Places.{both_of, known_at, of_both, one_of, settled_known}
 
 -- the cell is seen settled, and no instance waits at it
 abbrev pub done : View → List (CodedInstance × Waiter) → ℕ → Bool
-done v es q = list_any (λ x. eqb x.0 q) v.values && not (list_any (λ e. eqb e.1.slot.0 q) es)
+done v es q = is_known_at v q && not (list_any (λ e. eqb e.1.slot.0 q) es)
 
 -- no two of them are one
 abbrev pub AreApart : List Instance → Type 0
 AreApart [] = Unit {0}
 AreApart (x ∷ xs) = (Has xs x → ⊥) × AreApart xs
-
-both_of : (a b : Bool) → (a && b) ≡ true → (a ≡ true) × (b ≡ true)
-both_of true b h = (refl, h)
-both_of false b h = cc
-
-of_both : (a b : Bool) → a ≡ true → b ≡ true → (a && b) ≡ true
-of_both a b x y = (λ i. x i && y i)
 
 not_true : (a : Bool) → not a ≡ true → a ≡ true → ⊥
 not_true true h g = cc
@@ -49,16 +44,15 @@ true_not : (a : Bool) → (a ≡ true → ⊥) → not a ≡ true
 true_not true h = absurd (h refl)
 true_not false h = refl
 
-pub by_done : (v : View) (es : List (CodedInstance × Waiter)) (q k c : ℕ) → Has v.values (q, k, c) → ((e : CodedInstance × Waiter) → Has es e → e.1.slot.0 ≢ q) → done v es q ≡ true
-by_done v es q k c h other = of_both (list_any (λ x. eqb x.0 q) v.values) (not (list_any (λ e. eqb e.1.slot.0 q) es))
-    (any_has (λ x. eqb x.0 q) v.values (q, k, c) h (eq-eqb q q refl))
+pub by_done : (v : View) (es : List (CodedInstance × Waiter)) (q : ℕ) → is_known_at v q ≡ true → ((e : CodedInstance × Waiter) → Has es e → e.1.slot.0 ≢ q) → done v es q ≡ true
+by_done v es q h other = of_both (is_known_at v q) (not (list_any (λ e. eqb e.1.slot.0 q) es))
+    h
     (true_not (list_any (λ e. eqb e.1.slot.0 q) es) (λ some. let r = has_any (λ x. eqb x.1.slot.0 q) es some in other r.0 r.1 (eqb-true r.0.1.slot.0 q r.2)))
 
-pub done_by : (v : View) (es : List (CodedInstance × Waiter)) (q : ℕ) → done v es q ≡ true → ((k c : ℕ) × Has v.values (q, k, c)) × ((e : CodedInstance × Waiter) → Has es e → e.1.slot.0 ≢ q)
+pub done_by : (v : View) (es : List (CodedInstance × Waiter)) (q : ℕ) → done v es q ≡ true → (is_known_at v q ≡ true) × ((e : CodedInstance × Waiter) → Has es e → e.1.slot.0 ≢ q)
 done_by v es q h =
-    let parts = both_of (list_any (λ x. eqb x.0 q) v.values) (not (list_any (λ e. eqb e.1.slot.0 q) es)) h in
-    let r = has_any (λ x. eqb x.0 q) v.values parts.0 in (
-      (r.0.1, r.0.2, subst (λ (y : ℕ). Has v.values (y, r.0.1, r.0.2)) (eqb-true r.0.0 q r.2) r.1),
+    let parts = both_of (is_known_at v q) (not (list_any (λ e. eqb e.1.slot.0 q) es)) h in (
+      parts.0,
       (λ e there is. not_true (list_any (λ x. eqb x.1.slot.0 q) es) parts.1 (any_has (λ x. eqb x.1.slot.0 q) es e there (eq-eqb e.1.slot.0 q is))),
     )
 
@@ -70,27 +64,11 @@ pub left_done : (v : View) (n : ℕ) → left (done v []) n ≡ unsettled v n
 left_done v zero = refl
 left_done v (suc n) =
     let rest = left_done v n in
-    ap (λ (b : Bool). (if b then 0 else 1) + left (done v []) n) (and_true (list_any (λ x. eqb x.0 n) v.values)) ∙ ap (λ (x : ℕ). (if list_any (λ y. eqb y.0 n) v.values then 0 else 1) + x) rest
+    ap (λ (b : Bool). (if b then 0 else 1) + left (done v []) n) (and_true (is_known_at v n)) ∙ ap (λ (x : ℕ). (if is_known_at v n then 0 else 1) + x) rest
   where
     and_true : (b : Bool) → (b && true) ≡ b
     and_true true = refl
     and_true false = refl
-
--- whether an instance is known is decided
-pub knows_or_not : (p : Program) (f : Frame) (v : View) (i : Instance) → p ≡ program_of f.system.value → IsPassOf f v → Knows p v i ⊎ (¬ Knows p v i)
-knows_or_not p f v i same own = among v.values (λ x h. h) (λ k. inl k) (λ none. inr (λ k. none (k.slot, k.key, k.code) k.settled k.stands))
-  where
-    its : (slot key code : ℕ) → Has v.values (slot, key, code) → (j : Instance) × StandsFor p v key j
-    its slot key code h = let of = (own.valued slot key code h).1 in (of.0, subst (λ (q : Program). StandsFor q v key of.0) (sym same) of.1)
-
-    among : {X : Type 0} (xs : List (ℕ × ℕ × ℕ)) → ((x : ℕ × ℕ × ℕ) → Has xs x → Has v.values x) → (Knows p v i → X) → (((x : ℕ × ℕ × ℕ) → Has xs x → StandsFor p v x.1 i → ⊥) → X) → X
-    among {X = X} [] within found missed = missed (λ x h s. h)
-    among {X = X} (x ∷ xs) within found missed =
-        let of = its x.0 x.1 x.2 (within x (inl refl)) in
-        elim (same_instance of.0 i) as (λ b. same_instance of.0 i ≡ b → X) [
-          | true ↦ λ e. found (record { key = x.1; stands = subst (λ (j : Instance). StandsFor p v x.1 j) (same_instance_is of.0 i e) of.1; slot = x.0; code = x.2; settled = within x (inl refl) })
-          | false ↦ λ e. among {X = X} xs (λ y h. within y (inr h)) found (λ rest. missed (λ y h s. ⊎_elim (λ is. (let stands = subst (λ (z : ℕ × ℕ × ℕ). StandsFor p v z.1 i) is s in let one = stands_once v own.one_key p x.1 of.0 i of.1 stands in let yes_same = subst (λ (j : Instance). same_instance of.0 j ≡ true) one (same_instance_self of.0) in cc)) (λ later. rest y later s) h))
-        ] refl
 
 -- whether an instance is among others
 pub has_or_not : (xs : List Instance) (i : Instance) → Has xs i ⊎ (¬ Has xs i)
@@ -158,15 +136,11 @@ sorted p f v (x ∷ xs) same own apart =
       others_apart = ((λ h. apart.0 (r.unknown x h).1), r.others_apart);
       many = omega (arith, many);
     })
-    (knows_or_not p f v x same own)
+    (knows_or_not p f v same own x)
 
 -- one more cell counts as done
 unfoldable with_one : (ℕ → Bool) → ℕ → ℕ → Bool
 with_one f s q = f q || eqb q s
-
-one_or : (a b : Bool) → (a || b) ≡ true → (a ≡ true) ⊎ (b ≡ true)
-one_or true b h = inl refl
-one_or false b h = inr h
 
 with_more : (f : ℕ → Bool) (s q : ℕ) → f q ≡ true → with_one f s q ≡ true
 unfolding with_one
@@ -178,14 +152,14 @@ with_it f s = or_right (f s) (eqb s s) (eq-eqb s s refl)
 
 with_by : (f : ℕ → Bool) (s q : ℕ) → with_one f s q ≡ true → (f q ≡ true) ⊎ (q ≡ s)
 unfolding with_one
-with_by f s q h = ⊎_elim inl (λ e. inr (eqb-true q s e)) (one_or (f q) (eqb q s) h)
+with_by f s q h = ⊎_elim inl (λ e. inr (eqb-true q s e)) (one_of (f q) (eqb q s) h)
 
 -- so many different instances came to be known, whose cells count as done then
 module _ (p : Program) (f : Frame) (w : View) (own : IsPassOf f w) (g : ℕ → Bool) where
   same_slot : (i j : Instance) (a : Knows p w i) (b : Knows p w j) → a.slot ≡ b.slot → i ≡ j
   same_slot i j a b e =
-      let first = (own.valued a.slot a.key a.code a.settled).0 in
-      let second = (own.valued b.slot b.key b.code b.settled).0 in
+      let first = own.valued a.slot a.key a.code a.settled in
+      let second = own.valued b.slot b.key b.code b.settled in
       let key : a.key ≡ b.key = own.one_key b.slot a.key b.key (subst (λ (s : ℕ). Has w.keys (s, a.key)) e first) second in
       stands_once w own.one_key p b.key i j (subst (λ (k : ℕ). StandsFor p w k i) key a.stands) b.stands
 
@@ -234,7 +208,7 @@ module _ (p : Program) (f : Frame) (same : p ≡ program_of f.system.value) (v w
   frame_apart : (e : CodedInstance × Waiter) → IsPlaced p f w e → (s : Instance) (k : Knows p w s) → instance_of p e.0 ≢ s → e.1.slot.0 ≢ k.slot
   frame_apart e placed s k other is =
       let first = subst (λ (q : ℕ). Has w.keys (q, placed.slot.0)) is placed.slot.1.1 in
-      let key : placed.slot.0 ≡ k.key = own_now.one_key k.slot placed.slot.0 k.key first (own_now.valued k.slot k.key k.code k.settled).0 in
+      let key : placed.slot.0 ≡ k.key = own_now.one_key k.slot placed.slot.0 k.key first (own_now.valued k.slot k.key k.code k.settled) in
       other (stands_once w own_now.one_key p k.key (instance_of p e.0) s (subst (λ (j : ℕ). StandsFor p w j (instance_of p e.0)) key placed.slot.2) k.stands)
 
   -- those that wait before and after, and what comes to be known
@@ -246,8 +220,8 @@ module _ (p : Program) (f : Frame) (same : p ≡ program_of f.system.value) (v w
     pub fresh_circular : (s : Instance) (k : Knows p w s) → (Knows p v s → ⊥) → (equations_of p).circular s ≡ true → IsFresh s k
     unfolding IsFresh
     fresh_circular s k new its = (
-      (λ h. let r = (done_by v before k.slot h).0 in new (settled_known p f v same own w s k.slot r.0 r.1 own_now kept (known_cell p f w s own_now k) r.2)),
-      by_done w after k.slot k.key k.code k.settled (λ e h. frame_apart e (placed e h) s k (λ is. (let plain = (placed e h).undeclared in let not_plain = ap (equations_of p).circular is in let it = its in cc))),
+      (λ h. new (settled_known p f v same own w s k.slot own_now kept (known_cell p f w s own_now k) (done_by v before k.slot h).0)),
+      by_done w after k.slot (known_at p w s k) (λ e h. frame_apart e (placed e h) s k (λ is. (let plain = (placed e h).undeclared in let not_plain = ap (equations_of p).circular is in let it = its in cc))),
     )
 
     -- one that waited, and waits no more
@@ -255,7 +229,7 @@ module _ (p : Program) (f : Frame) (same : p ≡ program_of f.system.value) (v w
     unfolding IsFresh
     fresh_frame s k e there is other = (
       (λ h. (done_by v before k.slot h).1 e there is),
-      by_done w after k.slot k.key k.code k.settled (λ d h. frame_apart d (placed d h) s k (other d h)),
+      by_done w after k.slot (known_at p w s k) (λ d h. frame_apart d (placed d h) s k (other d h)),
     )
 
     pub falls_so : (ks : List Instance) (knows : (s : Instance) → Has ks s → Knows p w s) → AreApart ks → ((q : ℕ) → done v before q ≡ true → done w after q ≡ true) → ((s : Instance) (h : Has ks s) → IsFresh s (knows s h)) → left (done w after) f.cells + length ks ≤ left (done v before) f.cells

@@ -1,5 +1,5 @@
 -- Looking at the cell of an instance through a desk: the cell is sought, and then its word is loaded.
-use Rattle.std.proofs.Common.{◌≡◌, ℕ, Option, Some, None, IfSome, IfNone, is_some, refl, sym, subst}
+use Rattle.std.proofs.Common.{◌≡◌, ℕ, false, inr, Option, Some, None, IfSome, IfNone, is_some, refl, sym, subst}
 use Rattle.equation_law.specs.declared.coding.Instance.{Instance as CodedInstance}
 use Rattle.equation_law.specs.Codes.{instance_of}
 use Rattle.equation_law.specs.Names.{Instance}
@@ -7,14 +7,16 @@ use Rattle.equation_law.specs.Systems.{program_of}
 use Rattle.equation_law.proofs.Pooled.{texts_pooled}
 use Rattle.memo_cells.specs.declared.view.Frame.{Frame}
 use Rattle.memo_cells.specs.declared.view.View.{View}
+use Rattle.memo_cells.specs.Causes.{IsLogOn, WhyUnsettled}
 use Rattle.memo_cells.specs.Naming.{IsCellOf}
 use Rattle.memo_cells.specs.Standing.{IsPassOf, Knows}
-use Rattle.memo_cells.specs.Views.{Has, IsAtLeast, IsPlain, IsUnset}
-use Rattle.memo_cells.specs.Working.{Held, ReadsOn, program_at}
+use Rattle.memo_cells.specs.Views.{Has, IsAtLeast, IsPlain, IsUnsettled}
+use Rattle.memo_cells.specs.Working.{HasCell, Held, ReadsOn, program_at}
+use Rattle.memo_cells.proofs.Causes.{found_before}
 use Rattle.memo_cells.proofs.Holding.{reads_then}
-use Rattle.memo_cells.proofs.Naming.{stands_later, stands_plain}
+use Rattle.memo_cells.proofs.Naming.{cell_later, stands_later, stands_plain}
 use Rattle.memo_cells.proofs.Ways.{slot_plain}
-use Rattle.caller_pass.specs.Knowing.{IsSettledAt, TellsSettled}
+use Rattle.caller_pass.specs.Knowing.{IsSettledAt, TellsSettled, WhyUnknown}
 use Rattle.caller_pass.proofs.Knowing.{seen_code, seen_unset, settled_knows, unknown_unset}
 
 module _ (d : Held) (f : Frame) (u v : View) (n : ℕ) (on : ReadsOn d (record { frame = f; view = u; lender = n })) (own : IsPassOf f v) (kept : IsAtLeast u v) (claims : v.claims ≡ u.claims) where
@@ -28,20 +30,30 @@ module _ (d : Held) (f : Frame) (u v : View) (n : ℕ) (on : ReadsOn d (record {
     pub finds_code : (code : ℕ) → ((k : ℕ) → Has u.keys (slot, k) → Has v.values (slot, k, code)) → IsSettledAt (program_at d) f v (instance_of (program_at d) i) slot code
     finds_code code settled = subst (λ (g : Frame). IsSettledAt (program_at d) g v (instance_of (program_at d) i) slot code) (sym on.on.cells) (seen_code (program_at d) d.frame v refl own_here u kept i slot cell code settled)
 
-    pub finds_none : ((k : ℕ) → Has u.keys (slot, k) → IsUnset v k) → ¬ Knows (program_at d) v (instance_of (program_at d) i)
+    pub finds_none : IsUnsettled u v slot → ¬ Knows (program_at d) v (instance_of (program_at d) i)
     finds_none unset = seen_unset (program_at d) d.frame v refl own_here u kept i slot cell (texts_pooled d.frame.system.value) unset
 
+  -- why it isn't
+  pub why_unsettled : (slot : ℕ) → IsLogOn d.view u → WhyUnsettled f u v slot → WhyUnsettled d.frame d.view v slot
+  why_unsettled slot log why = subst (λ (g : Frame). WhyUnsettled g d.view v slot) on.on.cells (record { word = why.word; unset = why.unset; found = found_before log why.found })
+
+  pub why_unknown : (i : CodedInstance) (slot : ℕ) → IsCellOf (program_at d) d.frame u (instance_of (program_at d) i) slot → IsLogOn d.view u → WhyUnsettled f u v slot → WhyUnknown (program_at d) d.frame d.view v (instance_of (program_at d) i)
+  why_unknown i slot cell log why = inr (slot, cell_later u v kept (program_at d) d.frame (instance_of (program_at d) i) slot cell, why_unsettled slot log why)
+
   -- the slot is that of some instance
-  pub found_cell : (slot key code : ℕ) → Has u.keys (slot, key) → ((k : ℕ) → Has u.keys (slot, k) → Has v.values (slot, k, code)) → (j : Instance) × IsCellOf (program_at d) f v j slot
-  found_cell slot key code there settled =
-      let x = own_here.valued slot key code (settled key there) in
-      subst (λ (g : Frame). (j : Instance) × IsCellOf (program_at d) g v j slot) (sym on.on.cells) (x.1.0, (key, (own_here.within slot key x.0, x.0), x.1.1))
+  pub found_cell : (slot : ℕ) → HasCell (record { frame = f; view = u; lender = n }) slot → (j : Instance) × IsCellOf (program_at d) f v j slot
+  found_cell slot has = subst (λ (g : Frame). (j : Instance) × IsCellOf (program_of g.system.value) f v j slot) on.on.cells (has.0, cell_later u v kept (program_of f.system.value) f has.0 slot has.1)
+
+-- what holds where a load found nothing settled
+pub where_none : {P : Type 0} (o : Option ℕ) → is_some o ≡ false → IfNone o P → P
+where_none None e h = h
+where_none (Some x) e h = cc
 
 -- the cell of an instance has no word of a set
 pub cell_plain : (f : Frame) (v : View) (i : Instance) (slot : ℕ) → IsPassOf f v → IsCellOf (program_of f.system.value) f v i slot → IsPlain v slot
 cell_plain f v i slot own cell = slot_plain f v slot cell.0 own cell.1 (stands_plain (program_of f.system.value) v cell.0 i cell.2)
 
 -- a load of its value word tells whether the instance is settled
-pub tells_settled : (f : Frame) (u v : View) (slot : ℕ) (code : Option ℕ) → IsPassOf f v → IsAtLeast u v → IfSome code (λ c. (k : ℕ) → Has u.keys (slot, k) → Has v.values (slot, k, c)) → IfNone code ((k : ℕ) → Has u.keys (slot, k) → IsUnset v k) → TellsSettled (program_of f.system.value) f u v slot (is_some code)
-tells_settled f u v slot None own kept known unset = λ i cell. unknown_unset (program_of f.system.value) f v i cell.0 own (texts_pooled f.system.value) (stands_later u v kept (program_of f.system.value) cell.0 i cell.2) (unset cell.0 cell.1.1)
+pub tells_settled : (f : Frame) (u v : View) (slot : ℕ) (code : Option ℕ) → IsPassOf f v → IsAtLeast u v → IfSome code (λ c. (k : ℕ) → Has u.keys (slot, k) → Has v.values (slot, k, c)) → IfNone code (IsUnsettled u v slot) → TellsSettled (program_of f.system.value) f u v slot (is_some code)
+tells_settled f u v slot None own kept known unset = λ i cell. unknown_unset (program_of f.system.value) f v i cell.0 own (texts_pooled f.system.value) (stands_later u v kept (program_of f.system.value) cell.0 i cell.2) (unset.unset cell.0 cell.1.1)
 tells_settled f u v slot (Some c) own kept known unset = λ i cell. settled_knows (program_of f.system.value) f u v i slot c kept cell known

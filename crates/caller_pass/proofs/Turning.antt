@@ -20,12 +20,13 @@ use Rattle.memo_cells.proofs.More.{at_least_itself}
 use Rattle.memo_cells.proofs.Naming.{cell_later, stands_once}
 use Rattle.circular_eval.specs.declared.local.Local.{Local}
 use Rattle.caller_pass.specs.declared.waiting.Waiter.{Waiter}
-use Rattle.caller_pass.specs.Answering.{WayChanges}
+use Rattle.caller_pass.specs.Answering.{WayChanges, is_known_at}
 use Rattle.caller_pass.specs.Waiting.{IsPlaced, IsStack, IsWayOf, waits, way_of}
 use Rattle.caller_pass.proofs.Falling.{by_one, by_value, left, left_falls, left_less, measure, not_taken, pop_keeps, taken, taken_by, turns_of}
-use Rattle.caller_pass.proofs.Knowing.{known_cell, one_cell, settled_known}
+use Rattle.caller_pass.proofs.Knowing.{known_cell, one_cell}
 use Rattle.memo_cells.proofs.Bits.{has_left}
 use Rattle.caller_pass.proofs.Lines.{has_last, has_snoc}
+use Rattle.caller_pass.proofs.Places.{known_at, known_at_later, settled_known}
 
 -- the program whose cells these are
 abbrev pub program_in : Frame → Program
@@ -44,7 +45,7 @@ length_snoc (x ∷ es) e = let rest = length_snoc es e in omega (arith, rest)
 -- what is taken stays so while the last one goes on in another state
 taken_on : (v w : View) (es : List (CodedInstance × Waiter)) (t : CodedInstance) (x y : Waiter) → IsAtLeast v w → y.slot ≡ x.slot → (q : ℕ) → taken v (es ++ (t, x) ∷ []) q ≡ true → taken w (es ++ (t, y) ∷ []) q ≡ true
 taken_on v w es t x y kept same q h = ⊎_elim
-    (λ z. by_value w (es ++ (t, y) ∷ []) q z.0 z.1 (kept.values q z.0 z.1 z.2))
+    (λ z. by_value w (es ++ (t, y) ∷ []) q (known_at_later v w q kept z))
     (λ z. subst (λ (r : ℕ). taken w (es ++ (t, y) ∷ []) r ≡ true) z.2 (⊎_elim
     (λ before. by_one w (es ++ (t, y) ∷ []) z.0 (has_left es ((t, y) ∷ []) z.0 before))
     (λ now. subst (λ (r : ℕ). taken w (es ++ (t, y) ∷ []) r ≡ true) (ap (λ (s : Slot). s.0) same ∙ ap (λ (d : CodedInstance × Waiter). d.1.slot.0) (sym now)) (by_one w (es ++ (t, y) ∷ []) (t, y) (has_last es (t, y))))
@@ -67,7 +68,7 @@ module _ (p : Program) (f : Frame) (same : p ≡ program_in f) (pooled : ArePool
   -- a cell that comes to be seen settled, of an instance that isn't on the stack
   pub falls_by : (n : Instance) → ¬ Knows p v n → ((e : CodedInstance × Waiter) → Has (es ++ (t, x) ∷ []) e → instance_of p e.0 ≢ n) → (s : ℕ) → IsCellOf p f w n s → (g : ℕ → Bool) → ((q : ℕ) → taken v (es ++ (t, x) ∷ []) q ≡ true → g q ≡ true) → g s ≡ true → left g f.cells < left (taken v (es ++ (t, x) ∷ [])) f.cells
   falls_by n unknown other s cell g more there =
-      let free = not_taken v (es ++ (t, x) ∷ []) s (λ k c h. unknown (settled_known p f v same own w n s k c then kept cell h)) (apart n s cell other) in
+      let free = not_taken v (es ++ (t, x) ∷ []) s (λ h. unknown (settled_known p f v same own w n s then kept cell h)) (apart n s cell other) in
       left_falls (taken v (es ++ (t, x) ∷ [])) g f.cells s more cell.1.0 free there
 
   -- a local set is waited for, or its start is seen sealed
@@ -88,7 +89,7 @@ module _ (p : Program) (f : Frame) (same : p ≡ program_in f) (pooled : ArePool
           let way = subst (λ o. IsWayOf p f v (instance_of p t) o) a stack.frame.way in
           let cell = known_cell p f w (instance_of p l.start) then h in
           let other : (e : CodedInstance × Waiter) → Has (es ++ (t, x) ∷ []) e → instance_of p e.0 ≢ instance_of p l.start = λ e there is. (let plain = (on_stack p f v i es (t, x) stack e there).undeclared in let not = ap (equations_of p).circular is in let yes = way.local.is_circular in cc) in
-          let falls = falls_by (instance_of p l.start) way.unknown other h.slot cell (taken w (es ++ (t, y) ∷ [])) more (by_value w (es ++ (t, y) ∷ []) h.slot h.key h.code h.settled) in
+          let falls = falls_by (instance_of p l.start) way.unknown other h.slot cell (taken w (es ++ (t, y) ∷ [])) more (by_value w (es ++ (t, y) ∷ []) h.slot (known_at p w (instance_of p l.start) h)) in
           let was : turns_of (way_of x) ≡ 0 = ap turns_of a in
           let now : turns_of (way_of y) ≡ 1 = ap turns_of b in
           omega (arith, falls, was, now)
@@ -106,7 +107,7 @@ module _ (p : Program) (f : Frame) (same : p ≡ program_in f) (pooled : ArePool
     where
       more : (q : ℕ) → taken v (es ++ (t, x) ∷ []) q ≡ true → taken w ((es ++ (t, y) ∷ []) ++ (next, z) ∷ []) q ≡ true
       more q h = ⊎_elim
-          (λ k. by_value w ((es ++ (t, y) ∷ []) ++ (next, z) ∷ []) q k.0 k.1 k.2)
+          (λ k. by_value w ((es ++ (t, y) ∷ []) ++ (next, z) ∷ []) q k)
           (λ k. subst (λ (r : ℕ). taken w ((es ++ (t, y) ∷ []) ++ (next, z) ∷ []) r ≡ true) k.2 (by_one w ((es ++ (t, y) ∷ []) ++ (next, z) ∷ []) k.0 (has_left (es ++ (t, y) ∷ []) ((next, z) ∷ []) k.0 k.1)))
           (taken_by w (es ++ (t, y) ∷ []) q (taken_on v w es t x y kept slot q h))
 
@@ -118,14 +119,14 @@ module _ (p : Program) (f : Frame) (same : p ≡ program_in f) (pooled : ArePool
 
   -- the last one is settled
   module _ (known : Knows p w (instance_of p t)) where
-    settled_there : Has w.values (x.slot.0, known.key, known.code)
+    settled_there : is_known_at w x.slot.0 ≡ true
     settled_there =
         let cell = known_cell p f w (instance_of p t) then known in
         let its = cell_later v w kept p f (instance_of p t) x.slot.0 stack.frame.placed.slot in
-        subst (λ (q : ℕ). Has w.values (q, known.key, known.code)) (one_cell p f w (instance_of p t) known.slot x.slot.0 then pooled cell its) known.settled
+        subst (λ (q : ℕ). is_known_at w q ≡ true) (one_cell p f w (instance_of p t) known.slot x.slot.0 then pooled cell its) (known_at p w (instance_of p t) known)
 
     pub less_back : left (taken w es) f.cells ≤ left (taken v (es ++ (t, x) ∷ [])) f.cells
-    less_back = left_less (taken v (es ++ (t, x) ∷ [])) (taken w es) f.cells (pop_keeps v w es (t, x) known.key known.code kept settled_there)
+    less_back = left_less (taken v (es ++ (t, x) ∷ [])) (taken w es) f.cells (pop_keeps v w es (t, x) kept settled_there)
 
     -- the one that waited for it is on top again
     pub falls_back : (ds : List (CodedInstance × Waiter)) (last : CodedInstance × Waiter) → es ≡ ds ++ last ∷ [] → (y : Waiter) → y.slot ≡ last.1.slot → measure w ds (last.0, y) f.cells < measure v es (t, x) f.cells

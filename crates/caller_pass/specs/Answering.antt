@@ -1,5 +1,5 @@
 -- The answers to an instance that is asked for.
-use Rattle.std.specs.Prelude.{◌≡◌, ℕ, zero, suc, ◌+◌, ◌*◌, ◌<◌, ◌≤◌, ◌==◌, if◌then◌else◌, true, false, List, [], ◌∷◌, ◌++◌, ◌⊎◌, Option, Some, None, Result, Ok, Err, IsOk, map}
+use Rattle.std.specs.Prelude.{◌≡◌, ℕ, zero, suc, ◌+◌, ◌*◌, ◌/◌, ◌^◌, ◌<◌, ◌≤◌, ◌==◌, ◌&&◌, ◌||◌, if◌then◌else◌, Bool, true, false, List, [], ◌∷◌, ◌++◌, ◌⊎◌, Option, Some, None, Result, Ok, Err, IsOk, map}
 use Rattle.std.specs.List.{list_any}
 use Rattle.attr_rules.specs.Rules.{is_single}
 use Rattle.equation_law.specs.declared.coding.Instance.{Instance as CodedInstance}
@@ -163,10 +163,19 @@ abbrev pub IsSameFault : CircFault → AskFault → Type 0
 IsSameFault set_fault.CellsFull fault = fault ≡ CellsFull
 IsSameFault set_fault.Memory fault = fault ≡ Memory
 
--- how many of the cells below n aren't seen settled
+-- k is the key word of an attribute with at most n arguments, on a way that is seen claimed
+abbrev pub is_way : View → ℕ → ℕ → Bool
+is_way v zero k = k / 2 ^ 48 == 2 ^ 13
+is_way v (suc n) k = (k / 2 ^ 48 == 2 ^ 13) || list_any (λ x. (k / 2 ^ 32 == 2 ^ 30 + x.0) && is_way v n x.1) v.keys
+
+-- the cell of an instance is seen settled at this place: its key is that of a query, or of an attribute with at most three arguments
+unfoldable pub is_known_at : View → ℕ → Bool
+is_known_at v q = list_any (λ x. (x.0 == q) && ((x.1 / 2 ^ 32 == 2 ^ 31) || is_way v 3 x.1)) v.values
+
+-- how many of the cells below n aren't those of instances that are seen settled
 abbrev pub unsettled : View → ℕ → ℕ
 unsettled v zero = 0
-unsettled v (suc n) = (if list_any (λ x. x.0 == n) v.values then 0 else 1) + unsettled v n
+unsettled v (suc n) = (if is_known_at v n then 0 else 1) + unsettled v n
 
 -- What settling i on demand says, with the counts of evaluations before and after. It takes some only where the value word of i wasn't settled, as it was
 -- loaded meanwhile, and then fewer than twice as many as cells came to be seen settled.

@@ -10,6 +10,7 @@ use Rattle.equation_law.specs.Loops.{HasLoop}
 use Rattle.equation_law.specs.Names.{Instance}
 use Rattle.expr_eval.specs.declared.sites.Turn.{Turn}
 use Rattle.memo_cells.specs.declared.keys.Slot.{Slot}
+use Rattle.memo_cells.specs.Causes.{WhyUnsettled}
 use Rattle.memo_cells.specs.Naming.{IsCellOf}
 use Rattle.memo_cells.specs.Standing.{Knows}
 use Rattle.memo_cells.specs.Working.{Held, IsCodedAt, IsKnown, program_at}
@@ -21,7 +22,7 @@ use Rattle.caller_pass.specs.declared.left.Left.{Left}
 use Rattle.caller_pass.specs.declared.waiting.Waiter.{Waiter}
 use Rattle.caller_pass.specs.Answering.{AnswersFinish, AnswersShow, AsksNoted, GoesThrough, LeavesOne, Solves, TakesTurn}
 use Rattle.caller_pass.specs.declared.solving.Went.{Went}
-use Rattle.caller_pass.specs.Knowing.{FindsCode, FindsValue, HasEnded, IsKnownAt, IsReadValue, TellsSettled, TurnsTo}
+use Rattle.caller_pass.specs.Knowing.{FindsCode, FindsValue, HasEnded, IsKnownAt, IsReadValue, TellsSettled, TurnsTo, WhyUnknown}
 use Rattle.caller_pass.specs.Leaving.{AreLeft}
 use Rattle.caller_pass.specs.Waiting.{AnswersWait, HasTurn, IsFrame, LooksAgain}
 
@@ -56,6 +57,14 @@ IsKnownCell d i slot = IsKnownAt (program_at d) d.frame d.view i slot
 -- where it is coded well, where its cell is seen settled, if it is
 abbrev pub FindsCodeAt : Held → Held → CodedInstance → Option (Slot × ℕ) → Type 0
 FindsCodeAt d e i found = IsCodedAt d i → FindsCode (program_at d) e.frame e.view (instance_of (program_at d) i) found
+
+-- where it is coded well, why it isn't known
+abbrev pub WhyUnknownAt : Held → Held → CodedInstance → Type 0
+WhyUnknownAt d e i = IsCodedAt d i → WhyUnknown (program_at d) d.frame d.view e.view (instance_of (program_at d) i)
+
+-- why what has its cell at this place isn't settled
+abbrev pub WhyUnsettledAt : Held → Held → ℕ → Type 0
+WhyUnsettledAt d e place = WhyUnsettled d.frame d.view e.view place
 
 -- where it is coded well, its value, if its cell is seen settled
 abbrev pub FindsValueAt : Held → Held → CodedInstance → Result (Option CodedValue) Memory → Type 0

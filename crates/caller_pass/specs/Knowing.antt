@@ -1,5 +1,5 @@
 -- What a pass knows of instances.
-use Rattle.std.specs.Prelude.{◌≡◌, ℕ, Bool, true, false, List, Option, Some, None, Result, Ok, Err}
+use Rattle.std.specs.Prelude.{◌≡◌, ◌⊎◌, ℕ, Bool, true, false, List, Option, Some, None, Result, Ok, Err}
 use Rattle.attr_rules.specs.Rules.{is_single}
 use Rattle.rag_io.specs.declared.Memory.{Memory}
 use Rattle.solutions.specs.Asking.{Ends, Halts}
@@ -15,7 +15,8 @@ use Rattle.expr_eval.specs.declared.sites.Turn.TheVariants as turns
 use Rattle.memo_cells.specs.declared.keys.Slot.{Slot}
 use Rattle.memo_cells.specs.declared.view.Frame.{Frame}
 use Rattle.memo_cells.specs.declared.view.View.{View}
-use Rattle.memo_cells.specs.Naming.{IsCellOf, StandsFor}
+use Rattle.memo_cells.specs.Causes.{WhyMissing, WhyUnsettled}
+use Rattle.memo_cells.specs.Naming.{IsCellOf, IsKeyTo, StandsFor}
 use Rattle.memo_cells.specs.Standing.{Knows}
 use Rattle.memo_cells.specs.Views.{Has, IsSlot}
 use Rattle.memo_cells.specs.Working.{IsKnown}
@@ -46,6 +47,10 @@ pub record IsSettledAt (p : Program) (f : Frame) (v : View) (i : Instance) (slot
 abbrev pub FindsCode : Program → Frame → View → Instance → Option (Slot × ℕ) → Type 0
 FindsCode p f v i (Some (slot, code)) = IsSettledAt p f v i slot.0 code
 FindsCode p f v i None = ¬ Knows p v i
+
+-- why i isn't known: a key on the way to its cell wasn't found, or its value word, as loaded in this call, wasn't settled
+abbrev pub WhyUnknown : Program → Frame → View → View → Instance → Type 0
+WhyUnknown p f v w i = ((k : ℕ) × IsKeyTo p w i k × WhyMissing f v w k) ⊎ ((s : ℕ) × IsCellOf p f w i s × WhyUnsettled f v w s)
 
 -- whether the instance whose cell is the one at this slot is settled, by a load of its value word: `v` is what was known before, and `w` what is known
 abbrev pub TellsSettled : Program → Frame → View → View → ℕ → Bool → Type 0

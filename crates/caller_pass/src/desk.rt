@@ -79,7 +79,7 @@ impl Work for Desk<'_> {
 }
 
 impl<'a> Desk<'a> {
-    ghost use Rattle.std.specs.Prelude.{◌<◌, IfNone, IfOk, IfSome, false, length, true};
+    ghost use Rattle.std.specs.Prelude.{◌≡◌, ◌<◌, IfNone, IfOk, IfSome, false, length, true};
     ghost use Rattle.attr_rules.specs.Rules.{is_single};
     ghost use Rattle.equation_law.specs.Collections.{Collection};
     ghost use Rattle.equation_law.specs.Equations.{kind_in};
@@ -90,7 +90,7 @@ impl<'a> Desk<'a> {
     ghost use Rattle.collection_attrs.specs.Surveys.{IsCollectorOf};
     ghost use Rattle.inherited_walk.specs.Sites.{FindsEquation};
     ghost use Rattle.caller_pass.specs.Noting.{IsNoted};
-    ghost use Rattle.caller_pass.specs.Holding.{FindsCodeAt, FindsValueAt, HasCellThen, HasLoopAt, IsKnownCell, IsReadValueAt, IsWalkAt, KnowsCell, TellsSettledAt};
+    ghost use Rattle.caller_pass.specs.Holding.{FindsCodeAt, FindsValueAt, HasCellThen, HasLoopAt, IsKnownCell, IsReadValueAt, IsWalkAt, KnowsCell, TellsSettledAt, WhyUnknownAt, WhyUnsettledAt};
 
     /// A pass at its cells, where nothing is noted.
     pub fn new(alloc: Global, system: &'a System, cells: &'a Cells, pass: &'a mut Pass) -> Desk<'a>
@@ -111,6 +111,7 @@ impl<'a> Desk<'a> {
     pub(crate) fn settled_code(&mut self, i: Instance) -> Option<(Slot, Code)>
         ensures on { ReadsOn self.old self.new }
         ensures known { FindsCodeAt self.old self.new i result }
+        ensures cause { IfNone result (WhyUnknownAt self.old self.new i) }
         ensures cell { IfSome result (λ x. HasCellThen self.old self.new x.0.0) }
     {
         let slot = seek_instance(self, i)?;
@@ -123,6 +124,7 @@ impl<'a> Desk<'a> {
         requires { HasCell self.old slot.0 }
         ensures on { ReadsOn self.old self.new }
         ensures told { TellsSettledAt self.old self.new slot.0 result }
+        ensures cause { (result ≡ false) → WhyUnsettledAt self.old self.new slot.0 }
     {
         self.cells.settled(self.pass, slot).is_some()
     }
@@ -146,6 +148,7 @@ impl<'a> Desk<'a> {
     ) -> Result<Option<Value>, Memory>
         ensures on { ReadsOn self.old self.new }
         ensures known { FindsValueAt self.old self.new i result }
+        ensures cause { IfOk result (λ found. IfNone found (WhyUnknownAt self.old self.new i)) }
     {
         let Some((slot, code)) = self.settled_code(i) else {
             return Ok(None);

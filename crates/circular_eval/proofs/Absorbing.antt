@@ -1,5 +1,5 @@
 -- Joining what an equation came to to the value of its member.
-use Rattle.std.proofs.Common.{◌≡◌, ℕ, ◌<◌, Option, Some, None, IsSome, Result, Ok, Err, length, slice_get, refl, sym, ap, subst, ◌∙◌}
+use Rattle.std.proofs.Common.{◌≡◌, ℕ, ◌<◌, Option, Some, None, IsSome, Result, Ok, Err, length, slice_get, inl, refl, sym, ap, subst, ◌∙◌}
 use Rattle.solutions.proofs.Runs.{ends_more}
 use Rattle.equation_law.specs.declared.coding.Instance.{Instance as CodedInstance}
 use Rattle.equation_law.specs.declared.coding.Value.{Value as CodedValue}
@@ -14,6 +14,7 @@ use Rattle.expr_eval.specs.declared.sites.Turn.TheVariants as turns
 use Rattle.memo_cells.specs.declared.keys.Slot.{Slot}
 use Rattle.memo_cells.specs.Claiming.{ClaimsKeys}
 use Rattle.memo_cells.specs.Working.{Held, program_at}
+use Rattle.memo_cells.proofs.Raising.{Higher}
 use Rattle.memo_cells.specs.SetRaising.{set_codes}
 use Rattle.circular_eval.specs.declared.advancing.CircFault.{CircFault}
 use Rattle.circular_eval.specs.declared.advancing.CircFault.TheVariants.{CellsFull, Memory}
@@ -32,7 +33,7 @@ use Rattle.circular_eval.proofs.Entries.{length_changed}
 use Rattle.circular_eval.proofs.Going.{claims_raised, fills_raised, member_chain}
 use Rattle.circular_eval.proofs.Growing.{left_risen, local_risen}
 use Rattle.circular_eval.proofs.Later.{local_later, read_later}
-use Rattle.circular_eval.proofs.Lowering.{comes, ended_typed}
+use Rattle.circular_eval.proofs.Lowering.{came_higher, comes, ended_typed}
 use Rattle.circular_eval.proofs.ValueRaised.{value_elements}
 
 none_some : (o : Option Slot) → o ≡ None → IsSome o → ⊥
@@ -86,15 +87,19 @@ module _ (s : System) (d : Held) (l : Local) (r : IsReady s d l) (number : ℕ) 
     chain : Chain p (instance_of p l.start) i
     chain = member_chain p d.frame d.view l (local_is_here s d l r) number came.entry came.at
 
+    -- a lower assignment reaches the value
+    reaches : Higher p (local_value p es) i (value_of (text_of p) x)
+    reaches = came_higher p (program_is s d l r) d.view (near_is s d l r) d.frame l.start es (local_is_here s d l r).set i member.instance member.is_circular (value_of (text_of p) x) came.comes.0.0 came.comes.0.1
+
     module _ (f : Held) (q : Result (Option CodedValue) CircFault) (raises : RaisesValue d f place x e.1.value q) where
       claims : ClaimsKeys p (instance_of p l.start) d.view f.view
-      claims = claims_raised p (instance_of p l.start) i chain d.view (near_is s d l r) member.is_circular (value_of (text_of p) x) may_rise.comes (set_codes x) (value_elements d i place x e.1.value may_rise) d.view f.view (raises.claims i may_rise)
+      claims = claims_raised p (instance_of p l.start) i chain (local_value p es) member.is_circular (value_of (text_of p) x) reaches (set_codes x) (value_elements d i place x e.1.value may_rise) d.view f.view (raises.claims i may_rise)
 
       goes : (m : Local) → IsSame l m → GoesOnWith d f l m
       goes m same = goes_same s d l r f raises.on claims m same
 
       fault_answer : (fault : CircFault) → LacksSome p d.frame f.view i (set_codes x) fault → AnswersFault p (instance_of p l.start) d.frame f.view fault
-      fault_answer CellsFull lacks = fills_raised p (instance_of p l.start) i chain d.view (near_is s d l r) member.is_circular (value_of (text_of p) x) may_rise.comes (set_codes x) (value_elements d i place x e.1.value may_rise) d.frame f.view lacks
+      fault_answer CellsFull lacks = fills_raised p (instance_of p l.start) i chain (local_value p es) member.is_circular (value_of (text_of p) x) reaches (set_codes x) (value_elements d i place x e.1.value may_rise) d.frame f.view lacks
       fault_answer Memory lacks = tt
 
       -- a fault
@@ -125,7 +130,7 @@ module _ (s : System) (d : Held) (l : Local) (r : IsReady s d l) (number : ℕ) 
         risen_goes : GoesOnWith d f l m
         risen_goes = record {
           on = raises.on;
-          local = local_risen p d.frame f.view l (local_later p d.view f.view raises.on.kept d.frame l (local_is_here s d l r)) number both came.entry came.at came.placed risen.elements risen.fits risen.shown m start need saved entries;
+          local = local_risen p d.frame f.view l (local_later p d.view f.view raises.on.kept d.frame l (local_is_here s d l r)) number both came.entry came.at came.placed risen.elements risen.fits (inl risen.shown) m start need saved entries;
           start = start;
           claims = claims;
           some = λ h. subst (λ (k : ℕ). 0 < k) (sym (ap length entries ∙ length_changed es number both)) h;

@@ -17,14 +17,14 @@ use Rattle.equation_law.specs.Reading.{Settles, Told}
 use Rattle.equation_law.specs.Systems.{program_of}
 use Rattle.equation_law.specs.Values.{Value, as_kind, default_of}
 use Rattle.equation_law.proofs.QueryValues.{value_typed}
-use Rattle.equation_law.proofs.Solution.{circular_site, one}
+use Rattle.equation_law.proofs.Solution.{circular_site}
 use Rattle.memo_cells.specs.declared.keys.Slot.{Slot}
 use Rattle.memo_cells.specs.declared.view.Frame.{Frame}
 use Rattle.memo_cells.specs.declared.view.View.{View}
 use Rattle.memo_cells.specs.Claiming.{ClaimsKeys, FillsCells}
 use Rattle.memo_cells.specs.Naming.{ClaimsKeysTo, IsCellOf, LacksCell}
 use Rattle.memo_cells.specs.Showing.{ShowsAtLeast}
-use Rattle.memo_cells.specs.Standing.{AreApproximations}
+use Rattle.memo_cells.specs.Standing.{AreApproximations, Knows}
 use Rattle.memo_cells.specs.Views.{times}
 use Rattle.memo_cells.specs.Working.{GoesOn, Held, IsKnown, TellsPass, program_at}
 use Rattle.memo_cells.specs.SetShown.{IsShownValue}
@@ -133,30 +133,27 @@ module _ (s : System) (d : Held) (l : Local) (r : IsReady s d l) where
         }
 
     -- the value that it was sealed with
-    sealed_fit : (e : Held) → GoesOn d e → (x : CodedValue) → ((w : Value) × IsKnown p e.view (instance_of p i) w × (value_of (text_of p) x ≡ as_kind (kind_in p (instance_of p i)) w)) → AreElements p x → AreApproximations p e.view → (n : Member) → n.slot ≡ None → n.value ≡ x → IsFit p d.frame e.view (instance_of p i) n
-    sealed_fit e on x known elements near n slot is =
+    sealed_fit : (e : Held) → GoesOn d e → (x : CodedValue) → ((w : Value) × IsKnown p e.view (instance_of p i) w × (value_of (text_of p) x ≡ as_kind (kind_in p (instance_of p i)) w)) → AreElements p x → (n : Member) → n.slot ≡ None → n.value ≡ x → IsFit p d.frame e.view (instance_of p i) n
+    sealed_fit e on x known elements n slot is =
         let j = instance_of p i in
         let k = kind_in p j in
         let typed : IsValue p k known.0 = value_typed p program_is j new.instance known.0 known.1.1 in
         let fits : FitsKind k known.0 = typed_fits p k known.0 (ordered_kind p j new.is_circular) typed in
         let same : value_of (text_of p) x ≡ known.0 = known.2 ∙ fits_read k known.0 fits in
-        let seen = near.settled j known.1.0 in
-        let shown : ShowsAtLeast p e.view j k known.0 = subst (λ (y : Value). ShowsAtLeast p e.view j k y) (one p j seen.0 known.0 seen.1 known.1.1) seen.2 in
+        let final : Knows p e.view j × HasValue p j (value_of (text_of p) x) = (known.1.0, subst (λ (y : Value). HasValue p j y) (sym same) known.1.1) in
         subst (λ (y : Member). IsFit p d.frame e.view j y) (λ q. record { slot = sym slot q; value = sym is q; by = n.by })
         (record {
           elements = elements;
           fits = subst (λ (y : Value). FitsKind k y) (sym same) fits;
-          shown = subst (λ (y : Value). ShowsAtLeast p e.view j k y) (sym same) shown;
-          placed = (known.1.0, subst (λ (y : Value). HasValue p j y) (sym same) known.1.1);
+          shown = inr final;
+          placed = final;
         })
 
     pub settled_fit : {W : Type 0} (held : W → Held) (y : W) (t : Told W) → TellsPass held y t → GoesOn d (held y) → (x : CodedValue) → Settles p t (instance_of p i) (Ok (Some x)) → (n : Member) → n.slot ≡ None → n.value ≡ x → IsFit p d.frame (held y).view (instance_of p i) n
     settled_fit held y t told on x settles n slot is =
         sealed_fit (held y) on x
         (settles.0.0, subst (λ (u : Program). IsKnown u (held y).view (instance_of p i) settles.0.0) (program_on d (held y) on) (told.known (instance_of p i) settles.0.0 settles.0.1), settles.0.2)
-        settles.1
-        (subst (λ (u : Program). AreApproximations u (held y).view) (program_on d (held y) on) on.own.approximations)
-        n slot is
+        settles.1 n slot is
 
     -- its cell, as it is said of what is held before and after
     pub cell_here : (e f : Held) → GoesOn d e → (k : ℕ) → IsCellOf (program_at e) e.frame f.view (instance_of (program_at e) i) k → IsCellOf p d.frame f.view (instance_of p i) k
@@ -176,7 +173,7 @@ module _ (s : System) (d : Held) (l : Local) (r : IsReady s d l) where
     pub begins_fit : (e : Held) (slot : Slot) → IsCellOf p d.frame e.view (instance_of p i) slot.0 → (x : CodedValue) → BeginsWith p e.view (instance_of p i) x → (n : Member) → n.slot ≡ Some slot → n.value ≡ x → IsFit p d.frame e.view (instance_of p i) n
     begins_fit e slot cell x shown n at is =
         subst (λ (y : Member). IsFit p d.frame e.view (instance_of p i) y) (λ q. record { slot = sym at q; value = sym is q; by = n.by })
-        (record { elements = shown.elements; fits = shown.fits; shown = shown.shown; placed = cell })
+        (record { elements = shown.elements; fits = shown.fits; shown = inl shown.shown; placed = cell })
 
 -- ---- the value that a member begins with
 

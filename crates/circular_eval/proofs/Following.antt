@@ -91,7 +91,7 @@ module _ (s : System) (d : Held) (l : Local) (r : IsReady s d l) (number : ℕ) 
     undeclared = declared_here false plain
 
     not_known : ¬ Knows p d.view j
-    not_known k = let v = (near_is s d l r).settled j k in not_read v.0 (settled (sym (as_declared p (program_is s d l r) j needed) ∙ undeclared) (k, v.1))
+    not_known k = let v = r.own.coded k.slot k.key k.code k.settled j k.stands in not_read v.value (settled (sym (as_declared p (program_is s d l r) j needed) ∙ undeclared) (k, v.has))
 
     pub need_missing : (m : Local) → m.start ≡ l.start → m.members ≡ l.members → m.need ≡ Some (number, n) → m.saved ≡ l.saved → Steps d d l m number (Ok (Some (Need n)))
     need_missing m start members need saved = record {

@@ -1,5 +1,5 @@
 -- How the steps of a local set go on from each other.
-use Rattle.std.proofs.Common.{◌≡◌, ℕ, ◌<◌, zero, suc, true, List, Option, Some, None, slice_get, inl, inr, refl, sym, ap, subst, ◌∙◌, arith}
+use Rattle.std.proofs.Common.{◌≡◌, ℕ, ◌<◌, zero, suc, true, List, Option, Some, None, slice_get, inr, refl, sym, ap, subst, ◌∙◌, arith}
 use Rattle.solutions.specs.Leading.{none}
 use Rattle.equation_law.specs.declared.coding.Instance.{Instance as CodedInstance}
 use Rattle.equation_law.specs.declared.system.System.{System}
@@ -11,15 +11,13 @@ use Rattle.equation_law.specs.Names.{Instance}
 use Rattle.equation_law.specs.Program.{Program, text_of}
 use Rattle.equation_law.specs.Systems.{program_of}
 use Rattle.equation_law.specs.Values.{Value}
-use Rattle.equation_law.proofs.Solution.{are_joins, are_rising}
 use Rattle.memo_cells.specs.declared.view.Frame.{Frame}
 use Rattle.memo_cells.specs.declared.view.View.{View}
 use Rattle.memo_cells.specs.Claiming.{ClaimsKeys, FillsCells}
-use Rattle.memo_cells.specs.Standing.{AreApproximations, ComesTo}
 use Rattle.memo_cells.specs.Views.{Has, IsAtLeast}
 use Rattle.memo_cells.specs.Working.{GoesOn, Held, program_at}
 use Rattle.memo_cells.proofs.Claiming.{chain_more, claims_same, claims_then, claims_words, fills_words}
-use Rattle.memo_cells.proofs.Raising.{higher}
+use Rattle.memo_cells.proofs.Raising.{Higher}
 use Rattle.memo_cells.proofs.Showing.{has_code_more}
 use Rattle.memo_cells.specs.SetRaising.{ClaimsWords, LacksWord}
 use Rattle.circular_eval.specs.declared.local.Local.{Local}
@@ -44,11 +42,10 @@ member_chain p f v l h k e at = led_chain p f v l.start l.members.entries h.set 
 pub claims_more : (p : Program) (i : Instance) (u v w : View) → ClaimsKeys p i u v → ClaimsKeys p i v w → IsAtLeast v w → ClaimsKeys p i u w
 claims_more p i u v w a b kept = claims_then p i i u v w none a kept b
 
--- the words of a value to which its equation comes
-module _ (p : Program) (i j : Instance) (c : Chain p i j) (u : View) (near : AreApproximations p u) (is_circular : (equations_of p).circular j ≡ true) (x : Value) (comes : ComesTo p u j x) (codes : List ℕ) (elements : (k : ℕ) → Has codes k → IsElementCode p (kind_in p j) k × (has_code (text_of p) (kind_in p j) x k ≡ true)) where
+-- the words of a value that a lower assignment reaches
+module _ (p : Program) (i j : Instance) (c : Chain p i j) (T : Instance → Value) (is_circular : (equations_of p).circular j ≡ true) (x : Value) (t : Higher p T j x) (codes : List ℕ) (elements : (k : ℕ) → Has codes k → IsElementCode p (kind_in p j) k × (has_code (text_of p) (kind_in p j) x k ≡ true)) where
   counted : (k : ℕ) → Has codes k → IsElementCode p (kind_in p j) k × HasElement p j k
   counted k among =
-      let t = higher p (are_rising p) (are_joins p) u near.values near.lower near.circular j x (inl (is_circular, comes)) in
       let e = elements k among in
       (e.0, inr (t.values, t.lower, is_circular, has_code_more (text_of p) (kind_in p j) x (t.values j) k (t.reaches is_circular) e.1))
 

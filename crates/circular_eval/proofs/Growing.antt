@@ -15,7 +15,7 @@ use Rattle.expr_eval.specs.declared.saved.Saved.{Saved}
 use Rattle.memo_cells.specs.declared.keys.Slot.{Slot}
 use Rattle.memo_cells.specs.declared.view.Frame.{Frame}
 use Rattle.memo_cells.specs.declared.view.View.{View}
-use Rattle.memo_cells.specs.Showing.{ShowsAtLeast}
+use Rattle.memo_cells.specs.Standing.{IsShown}
 use Rattle.memo_cells.proofs.More.{at_least_itself}
 use Rattle.circular_eval.specs.declared.local.Local.{Local}
 use Rattle.circular_eval.specs.declared.members.Member.{Member}
@@ -75,7 +75,7 @@ led_first p es start i (Some b) e h = absurd (let low : b < length es = h.0 in o
 pub record IsFit (p : Program) (f : Frame) (v : View) (i : Instance) (m : Member) : Type 0 where
   pub elements : AreElements p m.value
   pub fits : FitsKind (kind_in p i) (value_of (text_of p) m.value)
-  pub shown : ShowsAtLeast p v i (kind_in p i) (value_of (text_of p) m.value)
+  pub shown : IsShown p v i (value_of (text_of p) m.value)
   pub placed : IsPlaced p f v i (value_of (text_of p) m.value) m.slot
 
 module _ (p : Program) (f : Frame) (v : View) (l : Local) (h : IsLocal p f v l) where
@@ -124,7 +124,7 @@ module _ (p : Program) (f : Frame) (v : View) (l : Local) (h : IsLocal p f v l) 
     }
 
   -- one with another value
-  module _ (n : ℕ) (x : CodedValue) (d : CodedInstance × Member) (at : slice_get es n ≡ Some d) (some : IsSome d.1.slot) (elements : AreElements p x) (fits : FitsKind (kind_in p (instance_of p d.0)) (value_of (text_of p) x)) (shown : ShowsAtLeast p v (instance_of p d.0) (kind_in p (instance_of p d.0)) (value_of (text_of p) x)) where
+  module _ (n : ℕ) (x : CodedValue) (d : CodedInstance × Member) (at : slice_get es n ≡ Some d) (some : IsSome d.1.slot) (elements : AreElements p x) (fits : FitsKind (kind_in p (instance_of p d.0)) (value_of (text_of p) x)) (shown : IsShown p v (instance_of p d.0) (value_of (text_of p) x)) where
     abbrev risen : Members
     risen = with_value es n x
 

@@ -3,7 +3,6 @@ use Rattle.std.proofs.Common.{ℕ, Option, Some, None}
 use Rattle.solutions.proofs.Runs.{ends_more}
 use Rattle.equation_law.specs.declared.coding.Instance.{Instance as CodedInstance}
 use Rattle.equation_law.specs.Codes.{instance_of, value_of}
-use Rattle.equation_law.specs.Equations.{kind_in}
 use Rattle.equation_law.specs.Names.{Instance}
 use Rattle.equation_law.specs.Program.{Program, text_of}
 use Rattle.equation_law.specs.Values.{Value}
@@ -12,7 +11,7 @@ use Rattle.memo_cells.specs.declared.view.Frame.{Frame}
 use Rattle.memo_cells.specs.declared.view.View.{View}
 use Rattle.memo_cells.specs.Views.{IsAtLeast}
 use Rattle.memo_cells.proofs.Naming.{cell_later, knows_later}
-use Rattle.memo_cells.proofs.Showing.{at_least_later}
+use Rattle.memo_cells.proofs.Showing.{value_shown_later}
 use Rattle.circular_eval.specs.declared.local.Local.{Local}
 use Rattle.circular_eval.specs.declared.members.Member.{Member}
 use Rattle.circular_eval.specs.Local.{AreMembers, IsCurrent, IsLocal, IsMember, IsPlaced, Members, ReadsHere, here, settled}
@@ -31,7 +30,7 @@ module _ (p : Program) (v w : View) (more : IsAtLeast v w) where
     is_circular = h.is_circular;
     elements = h.elements;
     fits = h.fits;
-    shown = at_least_later p v w more (instance_of p e.0) (kind_in p (instance_of p e.0)) (value_of (text_of p) e.1.value) h.shown;
+    shown = value_shown_later p v w more (instance_of p e.0) (value_of (text_of p) e.1.value) h.shown;
     placed = placed_later f (instance_of p e.0) (value_of (text_of p) e.1.value) e.1.slot h.placed;
     led = h.led;
   }

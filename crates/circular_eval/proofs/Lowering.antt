@@ -1,37 +1,40 @@
 -- The values of a local set are a lower assignment, and what its evaluations come to are steps under it.
-use Rattle.std.proofs.Common.{◌≡◌, ℕ, true, false, cond, List, [], ◌∷◌, inl, inr, refl, sym, subst, ◌∙◌, Contains}
+use Rattle.std.proofs.Common.{◌≡◌, ℕ, true, false, cond, List, [], ◌∷◌, inl, inr, ⊎_elim, refl, sym, subst, ◌∙◌, Contains}
 use Rattle.std.proofs.lemmas.List.Elements.{Contains-get_or}
 use Rattle.solutions.specs.Asking.{Demands, Ends, Halts, Meets, asks, gives, here, later}
 use Rattle.solutions.specs.Leading.{Mixed, circular, fixed, present}
 use Rattle.solutions.proofs.Looping.{halts_meets, meets_under}
-use Rattle.solutions.proofs.Runs.{ends_more}
+use Rattle.solutions.proofs.Loops.{mixed_below}
+use Rattle.solutions.proofs.Lower.{raised_up, step_fits}
+use Rattle.solutions.proofs.Runs.{ends_more, val_ends}
 use Rattle.ast_grammar.specs.declared.grammar.ClassId.{ClassId}
 use Rattle.attr_rules.specs.declared.kinds.Kind.{Kind}
 use Rattle.attr_rules.specs.declared.kinds.Kind.TheVariants as kinds
 use Rattle.equation_law.specs.declared.coding.Instance.{Instance as CodedInstance}
 use Rattle.equation_law.specs.Checked.{IsInstance, IsNodeOf, IsProgram, IsValue, nodes, texts, truth}
 use Rattle.equation_law.specs.Codes.{instance_of, reference_of, value_of}
-use Rattle.equation_law.specs.Equations.{equations_of, is_ordered, kind_in}
+use Rattle.equation_law.specs.Equations.{HasValue, equations_of, is_ordered, kind_in}
 use Rattle.equation_law.specs.Keys.{IsElementCode}
-use Rattle.equation_law.specs.Loops.{Leads}
-use Rattle.equation_law.specs.Lower.{IsLower}
+use Rattle.equation_law.specs.Loops.{Leads, fits_in, join_in, order_in}
+use Rattle.equation_law.specs.Lower.{IsLower, raised_at}
 use Rattle.equation_law.specs.Names.{Instance, Reference, node_cmp, same_instance, text_cmp}
-use Rattle.equation_law.specs.Orders.{FitsKind}
+use Rattle.equation_law.specs.Orders.{FitsKind, IsAtMost}
 use Rattle.equation_law.specs.Program.{Program, text_of}
 use Rattle.equation_law.specs.Sets.{has, no_elements}
 use Rattle.equation_law.specs.Values.{Value, default_of, nodes as nodes_in, texts as texts_in}
 use Rattle.equation_law.proofs.Declared.{as_declared}
 use Rattle.equation_law.proofs.Demanded.{ended_typed as typed_end, met_instances}
 use Rattle.equation_law.proofs.Names.{same_instance_is}
-use Rattle.equation_law.proofs.Orders.{at_most_through}
+use Rattle.equation_law.proofs.Orders.{at_most_itself, at_most_through}
 use Rattle.equation_law.proofs.QueryValues.{value_typed}
 use Rattle.equation_law.proofs.Sets.{none_has}
-use Rattle.equation_law.proofs.Solution.{circular_site}
+use Rattle.equation_law.proofs.Solution.{are_joins, are_rising, below, circular_site, still_lower, values_grow}
 use Rattle.memo_cells.specs.declared.view.View.{View}
 use Rattle.memo_cells.specs.declared.view.Frame.{Frame}
-use Rattle.memo_cells.specs.Showing.{AreShown, ShowsAtLeast, ShowsCode}
-use Rattle.memo_cells.specs.Standing.{AreApproximations, ComesTo}
+use Rattle.memo_cells.specs.Showing.{ShowsAtLeast, ShowsCode}
+use Rattle.memo_cells.specs.Standing.{AreApproximations, AreShown, ComesTo, IsShown}
 use Rattle.memo_cells.specs.Views.{Has}
+use Rattle.memo_cells.proofs.Raising.{Higher}
 use Rattle.memo_cells.proofs.Showing.{not_both, shown_between}
 use Rattle.circular_eval.specs.declared.members.Member.{Member}
 use Rattle.circular_eval.specs.Local.{AreMembers, Members, ReadsHere, here as local_here, local_value, settled}
@@ -82,6 +85,21 @@ shown_typed p v near i (kinds.Nodes d) e x f l =
     subst (λ (y : Value). IsValue p (kinds.Nodes d) y) (sym f.1)
     (nodes d f.0 (λ n h. let c = l n (subst (λ (y : Value). has (nodes_in y) n ≡ true) (sym f.1) h) in subst (λ (r : Reference). IsNodeOf p d r) c.1 (shown_node p v near i d e c.0 c.2)))
 
+module _ (p : Program) (v : View) (near : AreApproximations p v) where
+  -- a value that is shown or final is at most that of the lower assignment
+  shown_below : (j : Instance) → (equations_of p).circular j ≡ true → (x : Value) → FitsKind (kind_in p j) x → IsShown p v j x → IsAtMost x (near.values j)
+  shown_below j c x fits shown = ⊎_elim (λ least. shown_between p v j (kind_in p j) x (near.values j) fits least (near.circular j c)) (λ k. near.final j c k.0 x k.1) shown
+
+  -- and what an equation comes to under such values is at most the value in the solution
+  pub comes_below : (i : Instance) → (equations_of p).circular i ≡ true → (x : Value) → ComesTo p v i x → (w : Value) → HasValue p i w → IsAtMost x w
+  comes_below i c x comes w has =
+      let e = val_ends (equations_of p) i w has in
+      values_grow p i c (Mixed (equations_of p) comes.below) (HasValue p)
+      (mixed_below (equations_of p) (order_in p) (fits_in p) (join_in p) (are_rising p) (are_joins p) comes.below (λ j y d h.
+      let s = comes.shown j d in
+      at_most_through (comes.below j) (near.values j) y (shown_below j d (comes.below j) s.0 s.1) (below p near.values near.lower j y d h)))
+      x w comes.demands e.0 comes.ends e.1
+
 -- what a computation meets can be put to what it reads
 ends_with : {A : Instance → Value → Type 0} {Q : Instance → Type 0} {c : Demands Instance Value} {x : Value} {ds : List Instance} → ((j : Instance) → Meets A c j → Q j) → Ends A c x ds → Ends (λ j w. Q j × A j w) c x ds
 ends_with q gives = gives
@@ -94,12 +112,12 @@ meets_with q (later {j = j} a m) = later (q j here, a) (meets_with (λ i k. q i 
 -- what a value of a set has to be
 pub record IsGood (p : Program) (v : View) (i : Instance) (x : Value) : Type 0 where
   pub fits : FitsKind (kind_in p i) x
-  pub shown : ShowsAtLeast p v i (kind_in p i) x
+  pub shown : IsShown p v i x
 
 module _ (p : Program) (good : IsProgram p) (v : View) (near : AreApproximations p v) (f : Frame) (start : CodedInstance) (es : Members) (set : AreMembers p f v start es) where
   bottom_good : (i : Instance) → (equations_of p).circular i ≡ true → IsGood p v i (default_of (kind_in p i))
   unfolding equations_of
-  bottom_good i c = record { fits = bottom_fits (kind_in p i) (circular_site p i c).ordered; shown = bottom_shown p v i (kind_in p i) }
+  bottom_good i c = record { fits = bottom_fits (kind_in p i) (circular_site p i c).ordered; shown = inl (bottom_shown p v i (kind_in p i)) }
 
   member_good : (e : CodedInstance × Member) → Has es e → IsGood p v (instance_of p e.0) (value_of (text_of p) e.1.value)
   member_good e h = let at = has_at es e h in let m = set.members at.0 e at.1 in record { fits = m.fits; shown = m.shown }
@@ -107,7 +125,7 @@ module _ (p : Program) (good : IsProgram p) (v : View) (near : AreApproximations
   pub values_good : (i : Instance) → (equations_of p).circular i ≡ true → IsGood p v i (local_value p es i)
   values_good = local_is p es (λ i x. (equations_of p).circular i ≡ true → IsGood p v i x) bottom_good (λ e h c. member_good e h)
 
-  -- they are shown, and so they are a lower assignment
+  -- they are shown or final, and so they are a lower assignment
   pub values_shown : AreShown p v (local_value p es)
   values_shown j c = let g = values_good j c in (g.fits, g.shown)
 
@@ -118,12 +136,15 @@ module _ (p : Program) (good : IsProgram p) (v : View) (near : AreApproximations
     fits = λ j c. (values_good j c).fits;
     below = λ j c.
         let g = values_good j c in
-        at_most_through (local_value p es j) (near.values j) (near.lower.top j) (shown_between p v j (kind_in p j) (local_value p es j) (near.values j) g.fits g.shown (near.circular j c)) (near.lower.below j c);
+        at_most_through (local_value p es j) (near.values j) (near.lower.top j) (shown_below p v near j c (local_value p es j) g.fits g.shown) (near.lower.below j c);
   }
+
+  good_typed : (j : Instance) → IsInstance p j → (x : Value) → IsGood p v j x → IsValue p (kind_in p j) x
+  good_typed j h x g = ⊎_elim (λ least. shown_typed p v near j (kind_in p j) refl x g.fits least) (λ k. value_typed p good j h x k.1) g.shown
 
   reads_typed : (j : Instance) (w : Value) → IsInstance p j → ReadsHere p v es j w → IsValue p (kind_in p j) w
   reads_typed j w h (settled d k) = value_typed p good j h w k.1
-  reads_typed j w h (local_here d r) = let g = values_good j (as_declared p good j h ∙ d) in shown_typed p v near j (kind_in p j) refl (local_value p es j) g.fits g.shown
+  reads_typed j w h (local_here d r) = good_typed j h (local_value p es j) (values_good j (as_declared p good j h ∙ d))
 
   module _ (i : Instance) (is : IsInstance p i) where
     -- all that it meets are instances of the program
@@ -148,6 +169,20 @@ module _ (p : Program) (good : IsProgram p) (v : View) (near : AreApproximations
 
     pub comes : (x : Value) (ds : List Instance) → Ends (ReadsHere p v es) ((equations_of p).equation i) x ds → ComesTo p v i x
     comes x ds e = record { below = local_value p es; shown = values_shown; demands = ds; ends = ends_mixed x ds e }
+
+    -- and a lower assignment reaches that
+    pub came_higher : (equations_of p).circular i ≡ true → (x : Value) (ds : List Instance) → Ends (ReadsHere p v es) ((equations_of p).equation i) x ds → Higher p (local_value p es) i x
+    came_higher c x ds e =
+        let T = local_value p es in
+        let ends = ends_mixed x ds e in
+        let fit : FitsKind (kind_in p i) x = step_fits (equations_of p) (order_in p) (fits_in p) (join_in p) (are_rising p) (are_joins p) T i x ds c ends in
+        let right : IsAtMost x (join_in p i (T i) x) = (are_joins p).right i (T i) x (values_lower.fits i c) fit in
+        record {
+          values = raised_at p T i x;
+          lower = still_lower p T T values_lower i c (λ j d. at_most_itself (T j)) x x ds ends fit (at_most_itself x);
+          up = λ j d. raised_up (equations_of p) (order_in p) (fits_in p) (join_in p) (are_rising p) (are_joins p) T i x fit j (values_lower.fits j d);
+          reaches = λ d. subst (λ b. IsAtMost x (cond b (join_in p i (T i) x) (T i))) (sym ((are_rising p).same_self i)) right;
+        }
 
     -- a circular instance leads to what its equation meets
     pub meets_leads : (equations_of p).circular i ≡ true → (n : Instance) → Meets (ReadsHere p v es) ((equations_of p).equation i) n → Leads p i n

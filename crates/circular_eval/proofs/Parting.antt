@@ -19,7 +19,6 @@ use Rattle.memo_cells.specs.declared.keys.Slot.{Slot}
 use Rattle.memo_cells.specs.declared.view.Frame.{Frame}
 use Rattle.memo_cells.specs.declared.view.View.{View}
 use Rattle.memo_cells.specs.Claiming.{ClaimsKeys}
-use Rattle.memo_cells.specs.Showing.{ShowsAtLeast}
 use Rattle.memo_cells.specs.Standing.{Knows}
 use Rattle.memo_cells.specs.Views.{Has}
 use Rattle.memo_cells.specs.Working.{Held, program_at}
@@ -191,7 +190,7 @@ risen_final l m n d x at there s q k e = record {
   start = s;
   members = same_risen l.members.entries m.members.entries n x e;
   some = some_risen l.members.entries m.members.entries n x e;
-  kept = λ p f v h final. let a = final d at in local_risen p f v l h n x d at there a.elements a.fits a.shown m s q k e;
+  kept = λ p f v h final. let a = final d at in local_risen p f v l h n x d at there a.elements a.fits (inr (a.known, a.has)) m s q k e;
 }
 
 -- and has it then
@@ -227,7 +226,6 @@ same_final p v es n x y same elements final e at =
     record {
       elements = elements p a.elements;
       fits = subst (λ (u : Value). FitsKind (kind_in p (instance_of p e.0)) u) q a.fits;
-      shown = subst (λ (u : Value). ShowsAtLeast p v (instance_of p e.0) (kind_in p (instance_of p e.0)) u) q a.shown;
       known = a.known;
       has = subst (λ (u : Value). HasValue p (instance_of p e.0) u) q a.has;
     }
@@ -246,7 +244,7 @@ member_final p f v l h k i x at =
     let there = at_has l.members.entries k at.entry at.at in
     let m = h.local.set.members k at.entry at.at in
     subst (λ (u : CodedInstance × CodedValue). IsFinal p v (instance_of p u.0) u.1) (λ j. (at.is j, at.value j))
-    (record { elements = m.elements; fits = m.fits; shown = m.shown; known = h.sealed.members at.entry there; has = h.sealed.values at.entry there })
+    (record { elements = m.elements; fits = m.fits; known = h.sealed.members at.entry there; has = h.sealed.values at.entry there })
 
 -- and so it is where the instance is a member of another set
 pub final_at : (p : Program) (f : Frame) (v : View) (part : Local) → IsSealedSet p f v part → (es : Members) (k number : ℕ) (i : CodedInstance) (x y : CodedValue) → IsMemberAt part.members.entries k i x → IsMemberAt es number i y → IsFinalAt p v es number x

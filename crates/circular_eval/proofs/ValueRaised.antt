@@ -1,8 +1,9 @@
 -- Raising what a value has more than another one.
-use Rattle.std.proofs.Common.{◌≡◌, ◌<◌, ◌≤◌, ℕ, ℤ, zero, suc, Bool, true, false, List, [], Option, Some, None, Result, Ok, Err, inl, refl, sym, ap, subst, ◌∙◌, arith}
+use Rattle.std.proofs.Common.{◌≡◌, ◌<◌, ◌≤◌, ℕ, ℤ, zero, suc, Bool, true, false, List, [], Option, Some, None, Result, Ok, Err, inl, ⊎_elim, refl, sym, ap, subst, ◌∙◌, arith}
 use Rattle.std.specs.Int.{bit_at}
 use Rattle.std.specs.List.{All}
 use Rattle.std.specs.Result.{IsErr, IsErrAnd}
+use Rattle.code_sets.specs.Members.{has_code as in_codes}
 use Rattle.ast_grammar.specs.declared.grammar.ClassId.{ClassId}
 use Rattle.attr_rules.specs.declared.kinds.Kind.{Kind}
 use Rattle.attr_rules.specs.declared.kinds.Kind.TheVariants as kinds
@@ -13,20 +14,20 @@ use Rattle.equation_law.specs.declared.coding.Value.TheVariants as coded
 use Rattle.equation_law.specs.declared.system.System.{System}
 use Rattle.equation_law.specs.Checked.{IsNodeOf, IsValue, int as is_int, node as is_node, nodes as are_nodes, text as is_text}
 use Rattle.equation_law.specs.Codes.{reference_of, value_of}
-use Rattle.equation_law.specs.Equations.{kind_in}
+use Rattle.equation_law.specs.Equations.{HasValue, kind_in}
 use Rattle.equation_law.specs.Keys.{IsElementCode, has_code}
 use Rattle.equation_law.specs.Names.{At, Instance, NodeName, Reference, Source}
-use Rattle.equation_law.specs.Orders.{FitsKind}
+use Rattle.equation_law.specs.Orders.{FitsKind, IsAtMost}
 use Rattle.equation_law.specs.Program.{Program, text_of}
 use Rattle.equation_law.specs.Sets.{has}
 use Rattle.equation_law.specs.Values.{Int, Node, Nodes, Text, Value}
 use Rattle.memo_cells.specs.Naming.{IsCellOf}
 use Rattle.memo_cells.specs.Showing.{IsWordSeen, ShowsAtLeast, ShowsTrue}
-use Rattle.memo_cells.specs.Standing.{HasWord, MayRaise}
+use Rattle.memo_cells.specs.Standing.{AreApproximations, HasWord, IsShown, MayRaise}
 use Rattle.memo_cells.specs.Views.{Has, times}
 use Rattle.memo_cells.specs.Working.{GoesOn, Held, IsOwn, program_at}
 use Rattle.memo_cells.proofs.Naming.{cell_later}
-use Rattle.memo_cells.proofs.Showing.{at_least_later, not_both}
+use Rattle.memo_cells.proofs.Showing.{at_least_later, has_code_more, not_both, values_shown_later}
 use Rattle.set_values.specs.CodedSets.{node_set, text_set}
 use Rattle.set_values.proofs.Coded.{holds_of}
 use Rattle.set_values.proofs.NodeCodes.{IsNode, has_node_code}
@@ -35,8 +36,10 @@ use Rattle.memo_cells.specs.SetRaising.{ClaimsWords, MayShowAll, set_codes}
 use Rattle.circular_eval.specs.declared.advancing.CircFault.{CircFault}
 use Rattle.circular_eval.specs.Rising.{AnswersRaise, AnswersSet, MayRise, RaisesSet, RaisesValue}
 use Rattle.memo_cells.proofs.Holding.{goes_itself}
+use Rattle.circular_eval.proofs.Going.{program_on}
+use Rattle.circular_eval.proofs.Lowering.{comes_below}
 use Rattle.circular_eval.proofs.Raised.{err_is, no_claims}
-use Rattle.circular_eval.proofs.Rising.{kind_of_nodes, kind_of_texts, kind_of_truth, nodes_most, nodes_risen, texts_most, texts_risen, there_code, truth_most, truth_risen}
+use Rattle.circular_eval.proofs.Rising.{code_there, kind_of_nodes, kind_of_texts, kind_of_truth, nodes_most, nodes_risen, texts_most, texts_risen, there_code, truth_most, truth_risen}
 
 -- both as they are coded
 pub as_coded : (d e : Held) (place : ℕ) (value other x y : CodedValue) (r : Result (Option CodedValue) CircFault) → value ≡ x → other ≡ y → RaisesValue d e place x y r → RaisesValue d e place value other r
@@ -149,21 +152,45 @@ module _ (d e : Held) (place : ℕ) (a b : List ℕ) (on : GoesOn d e) where
   abbrev q : Program
   q = program_at d
 
-  later_shown : (i : Instance) (k : Kind) (x : Value) → kind_in q i ≡ k → ShowsAtLeast q d.view i (kind_in q i) x → ShowsAtLeast q e.view i k x
-  later_shown i k x is h = at_least_later q d.view e.view on.kept i k x (subst (λ (j : Kind). ShowsAtLeast q d.view i j x) is h)
+  near_now : AreApproximations q e.view
+  near_now = subst (λ (u : Program). AreApproximations u e.view) (program_on d e on) on.own.approximations
+
+  -- a value is at most the other one, if that is final
+  final_most : (i : Instance) (value other : CodedValue) → MayRise d i place value other → HasValue q i (value_of (text_of q) other) → IsAtMost (value_of (text_of q) value) (value_of (text_of q) other)
+  final_most i value other may has =
+      comes_below q e.view near_now i may.is_circular (value_of (text_of q) value)
+      (record { below = may.comes.below; shown = values_shown_later q d.view e.view on.kept may.comes.below may.comes.shown; demands = may.comes.demands; ends = may.comes.ends })
+      (value_of (text_of q) other) has
+
+  -- then the other one has all codes
+  texts_had : (i : Instance) → kind_in q i ≡ kinds.Texts → MayRise d i place (coded.Texts a) (coded.Texts b) → HasValue q i (value_of (text_of q) (coded.Texts b)) → (c : ℕ) → in_codes a c ≡ true → in_codes b c ≡ true
+  texts_had i k may has c h =
+      let within = (text_element d i place a (coded.Texts b) k may.elements c (code_there a c h)).1 in
+      let more : has_code (text_of q) (kind_in q i) (value_of (text_of q) (coded.Texts b)) c ≡ true = has_code_more (text_of q) (kind_in q i) (value_of (text_of q) (coded.Texts a)) (value_of (text_of q) (coded.Texts b)) c (final_most i (coded.Texts a) (coded.Texts b) may has) within in
+      sym (has_text_code d.frame.system.value c (holds_of (IsKnown d.frame.system.value) a may.elements c h) b may.of) ∙ subst (λ (j : Kind). has_code (text_of q) j (value_of (text_of q) (coded.Texts b)) c ≡ true) k more
+
+  nodes_had : (i : Instance) (n : ClassId) → kind_in q i ≡ kinds.Nodes n → MayRise d i place (coded.Nodes a) (coded.Nodes b) → HasValue q i (value_of (text_of q) (coded.Nodes b)) → (c : ℕ) → in_codes a c ≡ true → in_codes b c ≡ true
+  nodes_had i n k may has c h =
+      let within = (node_element d i place a (coded.Nodes b) n k may.typed may.elements c (code_there a c h)).1 in
+      let more : has_code (text_of q) (kind_in q i) (value_of (text_of q) (coded.Nodes b)) c ≡ true = has_code_more (text_of q) (kind_in q i) (value_of (text_of q) (coded.Nodes a)) (value_of (text_of q) (coded.Nodes b)) c (final_most i (coded.Nodes a) (coded.Nodes b) may has) within in
+      sym (has_node_code c b may.of) ∙ subst (λ (j : Kind). has_code (text_of q) j (value_of (text_of q) (coded.Nodes b)) c ≡ true) k more
+
+  -- so the other one isn't final where it hasn't, and it is shown
+  later_shown : (i : Instance) (k : Kind) (x : Value) → kind_in q i ≡ k → (HasValue q i x → ⊥) → IsShown q d.view i x → ShowsAtLeast q e.view i k x
+  later_shown i k x is not_final h = ⊎_elim (λ least. at_least_later q d.view e.view on.kept i k x (subst (λ (j : Kind). ShowsAtLeast q d.view i j x) is least)) (λ known. absurd (not_final known.1)) h
 
   texts_answer : (i : Instance) → MayRise d i place (coded.Texts a) (coded.Texts b) → (r : Result (Option (List ℕ)) CircFault) → AnswersSet q d.frame e.view i a b r → AnswersRaise q d.frame e.view i (coded.Texts a) (coded.Texts b) (wrapped coded.Texts r)
   texts_answer i may (Ok None) h = texts_most d.frame.system.value e.view i a b may.of h
   texts_answer i may (Ok (Some both)) h =
       let k = kind_of_texts q (kind_in q i) (text_set q a) may.typed in
-      texts_risen d.frame.system.value e.view i k a b both h may.elements may.of (later_shown i kinds.Texts (value_of (text_of q) (coded.Texts b)) k may.shown)
+      texts_risen d.frame.system.value e.view i k a b both h may.elements may.of (later_shown i kinds.Texts (value_of (text_of q) (coded.Texts b)) k (λ has. not_both h.in_other (texts_had i k may has h.code h.in_set)) may.shown)
   texts_answer i may (Err fault) h = h
 
   nodes_answer : (i : Instance) → MayRise d i place (coded.Nodes a) (coded.Nodes b) → (r : Result (Option (List ℕ)) CircFault) → AnswersSet q d.frame e.view i a b r → AnswersRaise q d.frame e.view i (coded.Nodes a) (coded.Nodes b) (wrapped coded.Nodes r)
   nodes_answer i may (Ok None) h = nodes_most d.frame.system.value e.view i a b may.of h
   nodes_answer i may (Ok (Some both)) h =
       let k = kind_of_nodes q (kind_in q i) (node_set a) may.typed in
-      nodes_risen d.frame.system.value e.view i k.0 k.1 a b both h may.elements may.of (later_shown i (kinds.Nodes k.0) (value_of (text_of q) (coded.Nodes b)) k.1 may.shown)
+      nodes_risen d.frame.system.value e.view i k.0 k.1 a b both h may.elements may.of (later_shown i (kinds.Nodes k.0) (value_of (text_of q) (coded.Nodes b)) k.1 (λ has. not_both h.in_other (nodes_had i k.0 k.1 may has h.code h.in_set)) may.shown)
   nodes_answer i may (Err fault) h = h
 
 pub texts_raised : (d e : Held) (place : ℕ) (a b : List ℕ) (r : Result (Option (List ℕ)) CircFault) → RaisesSet d e place a b r → RaisesValue d e place (coded.Texts a) (coded.Texts b) (wrapped coded.Texts r)

@@ -19,8 +19,7 @@ use Rattle.memo_cells.specs.declared.keys.Slot.{Slot}
 use Rattle.memo_cells.specs.declared.view.Frame.{Frame}
 use Rattle.memo_cells.specs.declared.view.View.{View}
 use Rattle.memo_cells.specs.Naming.{IsCellOf}
-use Rattle.memo_cells.specs.Showing.{ShowsAtLeast}
-use Rattle.memo_cells.specs.Standing.{Knows}
+use Rattle.memo_cells.specs.Standing.{IsShown, Knows}
 use Rattle.memo_cells.specs.Views.{Has}
 use Rattle.memo_cells.specs.Working.{Held, IsKnown, program_at}
 use Rattle.circular_eval.specs.declared.local.Local.{Local}
@@ -98,14 +97,14 @@ abbrev pub IsLedBy : Program → Members → CodedInstance → ℕ → CodedInst
 IsLedBy p es start number i None = i ≡ start
 IsLedBy p es start number i (Some by) = (by < number) × ((e : CodedInstance × Member) × (slice_get es by ≡ Some e) × Leads p (instance_of p e.0) (instance_of p i))
 
--- a circular instance of the program with a value that the words show
+-- a circular instance of the program with a value that the words show, or that is its own where it is seen sealed
 pub record IsMember (p : Program) (f : Frame) (v : View) (es : Members) (start : CodedInstance) (number : ℕ) (e : CodedInstance × Member) : Type 0 where
   pub instance : IsInstance p (instance_of p e.0)
   pub coded : IsCoded p e.0
   pub is_circular : (equations_of p).circular (instance_of p e.0) ≡ true
   pub elements : AreElements p e.1.value
   pub fits : FitsKind (kind_in p (instance_of p e.0)) (value_of (text_of p) e.1.value)
-  pub shown : ShowsAtLeast p v (instance_of p e.0) (kind_in p (instance_of p e.0)) (value_of (text_of p) e.1.value)
+  pub shown : IsShown p v (instance_of p e.0) (value_of (text_of p) e.1.value)
   pub placed : IsPlaced p f v (instance_of p e.0) (value_of (text_of p) e.1.value) e.1.slot
   pub led : IsLedBy p es start number e.0 e.1.by
 

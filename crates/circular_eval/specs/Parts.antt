@@ -11,7 +11,6 @@ use Rattle.equation_law.specs.Orders.{FitsKind}
 use Rattle.equation_law.specs.Program.{Program, text_of}
 use Rattle.memo_cells.specs.declared.view.Frame.{Frame}
 use Rattle.memo_cells.specs.declared.view.View.{View}
-use Rattle.memo_cells.specs.Showing.{ShowsAtLeast}
 use Rattle.memo_cells.specs.Standing.{Knows}
 use Rattle.memo_cells.specs.Working.{GoesOn, Held, program_at}
 use Rattle.circular_eval.specs.declared.advancing.CircFault.{CircFault}
@@ -60,7 +59,6 @@ pub record SameMembers (es fs : Members) : Type 0 where
 pub record IsFinal (p : Program) (v : View) (i : Instance) (x : CodedValue) : Type 0 where
   pub elements : AreElements p x
   pub fits : FitsKind (kind_in p i) (value_of (text_of p) x)
-  pub shown : ShowsAtLeast p v i (kind_in p i) (value_of (text_of p) x)
   pub known : Knows p v i
   pub has : HasValue p i (value_of (text_of p) x)
 

@@ -13,7 +13,7 @@ use Rattle.memo_cells.specs.declared.view.Frame.{Frame}
 use Rattle.memo_cells.specs.declared.view.View.{View}
 use Rattle.memo_cells.specs.Naming.{IsCellOf}
 use Rattle.memo_cells.specs.Showing.{ShowsAtLeast, ShowsCode}
-use Rattle.memo_cells.specs.Standing.{ComesTo}
+use Rattle.memo_cells.specs.Standing.{ComesTo, IsShown}
 use Rattle.memo_cells.specs.Working.{GoesOn, Held, program_at}
 use Rattle.memo_cells.specs.SetRaising.{ClaimsWords, LacksWord, MayShowAll, set_codes}
 use Rattle.circular_eval.specs.declared.advancing.CircFault.{CircFault}
@@ -45,7 +45,7 @@ pub record RaisesSet (d e : Held) (place : ℕ) (set other : List ℕ) (result :
   pub answer : (i : Instance) → MayShowAll (program_at d) d.frame d.view i place set → AnswersSet (program_at d) d.frame e.view i set other result
   pub claims : (i : Instance) → MayShowAll (program_at d) d.frame d.view i place set → ClaimsWords (program_at d) d.view e.view i set
 
--- The equation of the circular instance i of this cell comes to the one value, and the words show the other one.
+-- The equation of the circular instance i of this cell comes to the one value. The words show the other one, or it is that of i, which is seen sealed.
 pub record MayRise (d : Held) (i : Instance) (place : ℕ) (value other : CodedValue) : Type 0 where
   pub cell : IsCellOf (program_at d) d.frame d.view i place
   pub instance : IsInstance (program_at d) i
@@ -55,7 +55,7 @@ pub record MayRise (d : Held) (i : Instance) (place : ℕ) (value other : CodedV
   pub elements : AreElements (program_at d) value
   pub of : AreElements (program_at d) other
   pub fits : FitsKind (kind_in (program_at d) i) (value_of (text_of (program_at d)) other)
-  pub shown : ShowsAtLeast (program_at d) d.view i (kind_in (program_at d) i) (value_of (text_of (program_at d)) other)
+  pub shown : IsShown (program_at d) d.view i (value_of (text_of (program_at d)) other)
 
 -- both joined, which is shown and is more than the other one
 pub record IsRisen (p : Program) (v : View) (i : Instance) (value other both : CodedValue) : Type 0 where

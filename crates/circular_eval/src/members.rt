@@ -8,7 +8,7 @@ use memo_cells::Slot;
 pub struct Member {
     /// Its cell, or None where it was sealed when it was met: then its value is final.
     pub(crate) slot: Option<Slot>,
-    /// A value that is at most what the words show.
+    /// A value that is at most what the words show, or the final one.
     pub(crate) value: Value,
     /// The member, by its number, that demanded it first; None for the start.
     pub(crate) by: Option<usize>,

@@ -1,5 +1,5 @@
 -- What setting bits tells a pass that has the words itself.
-use Rattle.std.proofs.Common.{◌≡◌, ◌≢◌, ℕ, true, false, ◌+◌, ◌*◌, ◌<◌, ◌≤◌, inl, inr, ⊎_elim, ◌⊎◌, List, length, get_or, set, refl, sym, ap, ◌∙◌, subst, arith, Some, get_or-set_same, get_or-set_other, length-set}
+use Rattle.std.proofs.Common.{◌≡◌, ◌≢◌, ℕ, true, false, ◌+◌, ◌*◌, ◌<◌, inl, inr, ⊎_elim, ◌⊎◌, List, [], length, get_or, set, refl, sym, ap, ◌∙◌, subst, arith, get_or-set_same, get_or-set_other, length-set}
 use mathlib.Core.Logic.{dite}
 use native.Mathlib.Decide.{ℕ_discrete}
 use Rattle.std.specs.Int.{bit_at}
@@ -17,13 +17,16 @@ use Rattle.equation_law.proofs.Solution.{are_joins, are_rising}
 use Rattle.memo_cells.specs.declared.view.Frame.{Frame}
 use Rattle.memo_cells.specs.declared.view.View.{View}
 use Rattle.memo_cells.specs.Keys.{is_set_word}
-use Rattle.memo_cells.specs.Standing.{AreWords, IsElement, IsRaised, IsSeatOf, MayAdd, MayRaiseTruth}
+use Rattle.memo_cells.specs.declared.learning.Step.TheVariants.{Value as LeftValue}
+use Rattle.memo_cells.specs.Learning.{after}
+use Rattle.memo_cells.specs.Standing.{AreWords, IsElement, IsPassOf, IsRaised, IsTold, MayAdd, MayRaiseTruth}
 use Rattle.memo_cells.specs.Steps.{BitsAdded}
 use Rattle.memo_cells.specs.Views.{IsAtLeast, knows_all}
-use Rattle.memo_cells.proofs.Alone.{coded_now, frame_is, kept_safe, kept_words, key_there, read_at, size_of, words_after}
-use Rattle.memo_cells.proofs.Facts.{bits_of_words, bits_seen, pass_of}
-use Rattle.memo_cells.proofs.Lifting.{may_add_later, may_raise_truth_later, words_know}
-use Rattle.memo_cells.proofs.Meaning.{one_there, shown_at_most, true_code}
+use Rattle.memo_cells.proofs.Alone.{coded_now, kept_safe, kept_words, key_there, read_at, words_after}
+use Rattle.memo_cells.proofs.Facts.{bits_seen, inside, least, same, value_now, value_own}
+use Rattle.memo_cells.proofs.Lifting.{may_add_later, may_raise_truth_later}
+use Rattle.memo_cells.proofs.Meaning.{one_there, settled_shown, shown_at_most, true_code}
+use Rattle.memo_cells.proofs.More.{at_least_itself}
 use Rattle.memo_cells.proofs.Naming.{stands_later, stands_once, stands_plain, word_later, word_set}
 use Rattle.memo_cells.proofs.Raising.{Higher, higher}
 use Rattle.memo_cells.proofs.Showing.{has_code_more, not_both}
@@ -59,7 +62,7 @@ module _ (f : Frame) (ts ks vs : List ℕ) (lk : length ks ≡ f.cells) (lv : le
   -- bits of a word of a set
   module _ (bits word : ℕ) (may : MayAdd p v place bits) (is_word : word ≡ bit_or (get_or vs place 0) bits) where
     grown : Higher p o.values may.of may.value
-    grown = higher p (are_rising p) (are_joins p) v o.values o.lower (λ j c. shown_at_most f ts ks vs lk lv o j (kind_in p j) refl c) may.of may.value may.may
+    grown = higher p (are_rising p) (are_joins p) v o.values o.lower (λ j c. shown_at_most f ts ks vs lk lv o j (kind_in p j) refl c) (settled_shown f ts ks vs lk lv o) may.of may.value may.may
 
     key : (may.key ≢ 0) × (place < length ks) × (get_or ks place 0 ≡ may.key)
     key = key_there f ts ks vs v refl place may.key may.here
@@ -106,18 +109,10 @@ module _ (f : Frame) (ts ks vs : List ℕ) (lk : length ks ≡ f.cells) (lv : le
           (λ ne. inl (ap (λ (y : ℕ). bit_at y n) (sym (put_same word q ne)) ∙ e)));
     }
 
-    pub add_seen : BitsAdded v (knows_all f ts ks (put word)) place bits word
-    add_seen =
-        let seen = bits_of_words f ts ks (put word) place word key.1 (omega (arith, length-set vs place word, lv, lt)) (put_here word) in
-        record {
-          seen = record { all = seen.all; only = seen.only; keys = refl; claims = refl };
-          added = λ n e. ap (λ (y : ℕ). bit_at y n) is_word ∙ or_right_bit (get_or vs place 0) bits n e;
-        }
-
   -- a circular instance that becomes true
   module _ (may : MayRaiseTruth p v place) where
     grown_true : Higher p o.values may.of may.value
-    grown_true = higher p (are_rising p) (are_joins p) v o.values o.lower (λ j c. shown_at_most f ts ks vs lk lv o j (kind_in p j) refl c) may.of may.value (inl (may.is_circular, may.comes))
+    grown_true = higher p (are_rising p) (are_joins p) v o.values o.lower (λ j c. shown_at_most f ts ks vs lk lv o j (kind_in p j) refl c) (settled_shown f ts ks vs lk lv o) may.of may.value (inl (may.is_circular, may.comes))
 
     is_true : truth (grown_true.values may.of) ≡ true
     is_true = (grown_true.reaches may.is_circular).in_truth may.is_true
@@ -157,11 +152,6 @@ module _ (f : Frame) (ts ks vs : List ℕ) (lk : length ks ≡ f.cells) (lv : le
             (λ q n lq st low e. dite (ℕ_discrete q place) (λ here. absurd (not_both is_plain (ap is_set_word (sym (at_true_key q here)) ∙ st))) (λ ne. inl (ap (λ (y : ℕ). bit_at y n) (sym (put_same 1 q ne)) ∙ e)));
       }
 
-      pub true_seen : BitsAdded v (knows_all f ts ks (put 1)) place 1 1
-      true_seen =
-          let seen = bits_of_words f ts ks (put 1) place 1 true_key.1 (omega (arith, length-set vs place 1, lv, lt)) (put_here 1) in
-          record { seen = record { all = seen.all; only = seen.only; keys = refl; claims = refl }; added = λ n e. e }
-
     -- where it is raised or sealed already, it is true
     pub true_already : get_or vs place 0 ≢ 0 → bit_at (get_or vs place 0) 0 ≡ 1
     true_already nz =
@@ -183,62 +173,80 @@ module _ (f : Frame) (ts ks vs : List ℕ) (lk : length ks ≡ f.cells) (lv : le
 pub bit_of_one : (n : ℕ) → bit_at 1 n ≡ 1 → n ≡ 0
 bit_of_one n e = dite (ℕ_discrete n 0) (λ z. z) (λ nz. let none = bit_at-pow_other 0 n nz in absurd (omega (arith, none, e)))
 
-module _ (f : Frame) (ts ks vs : List ℕ) (v : View) (is : knows_all f ts ks vs ≡ v) (lk : length ks ≡ f.cells) (lv : length vs ≡ f.cells) (o : AreWords f ts ks vs) (g : Frame) (own : v.frame ≡ Some g) where
-  same_frame : f ≡ g
-  same_frame = frame_is f ts ks vs v is g own
+-- as a pass sees it whose words these are
+module _ (f : Frame) (ks vs : List ℕ) (lk : length ks ≡ f.cells) (lv : length vs ≡ f.cells) (o : AreWords f [] ks vs) (v : View) (told : IsTold f ks vs v) (g : Frame) (own : IsPassOf g v) (place : ℕ) (lt : place < g.cells) where
+  abbrev same_frame : f ≡ g
+  same_frame = same f ks vs lk lv o v told g own place lt
 
-  told : IsAtLeast v (knows_all f ts ks vs)
-  told = words_know f ts ks vs v is
+  there : place < f.cells
+  there = inside f ks vs lk lv o v told g own place lt
 
-  -- a pass that has other value words
-  pub own_of : (ws : List ℕ) → length ws ≡ length vs → g.cells ≤ 4194304 → AreWords f ts ks ws → IsSeatOf g (knows_all f ts ks ws) ts
-  own_of ws long few a = subst (λ (h : Frame). IsSeatOf h (knows_all f ts ks ws) ts) same_frame (pass_of f ts ks ws (subst (λ (h : Frame). h.cells ≤ 4194304) (sym same_frame) few) lk (long ∙ lv) a)
+  abbrev all : View
+  all = knows_all f [] ks vs
 
-  module _ (place : ℕ) (lt : place < g.cells) where
-    there : place < f.cells
-    there = let size = size_of f ts ks vs v is g own in omega (arith, size, lt)
+  more_known : IsAtLeast v all
+  more_known = least f ks vs lk lv o v told g own place lt
 
-    module _ (bits found word : ℕ) (e : found ≡ get_or vs place found) (is_word : word ≡ bit_or found bits) (may : MayAdd (program_of g.system.value) v place bits) where
-      its : MayAdd (program_of f.system.value) (knows_all f ts ks vs) place bits
-      its = may_add_later (program_of f.system.value) v (knows_all f ts ks vs) told place bits (subst (λ (h : Frame). MayAdd (program_of h.system.value) v place bits) (sym same_frame) may)
+  found_there : (found : ℕ) → found ≡ get_or vs place found → found ≡ get_or vs place 0
+  found_there found e = e ∙ sym (read_at vs place found (omega (arith, there, lv)))
 
-      at_word : word ≡ bit_or (get_or vs place 0) bits
-      at_word = is_word ∙ ap (λ (y : ℕ). bit_or y bits) (e ∙ sym (read_at vs place found (omega (arith, there, lv))))
+  module _ (bits found word : ℕ) (e : found ≡ get_or vs place found) (is_word : word ≡ bit_or found bits) (may : MayAdd (program_of g.system.value) v place bits) where
+    its : MayAdd (program_of f.system.value) all place bits
+    its = may_add_later (program_of f.system.value) v all more_known place bits (subst (λ (h : Frame). MayAdd (program_of h.system.value) v place bits) (sym same_frame) may)
 
-      pub added_words : AreWords f ts ks (set vs place word)
-      added_words = add_words f ts ks vs lk lv o place there bits word its at_word
+    at_word : word ≡ bit_or (get_or vs place 0) bits
+    at_word = is_word ∙ ap (λ (y : ℕ). bit_or y bits) (found_there found e)
 
-      pub added_own : g.cells ≤ 4194304 → IsSeatOf g (knows_all f ts ks (set vs place word)) ts
-      added_own few = own_of (set vs place word) (length-set vs place word) few added_words
+    abbrev after_add : View
+    after_add = after v (LeftValue place found word)
 
-      pub added_more : IsAtLeast v (knows_all f ts ks (set vs place word))
-      added_more = subst (λ (y : View). IsAtLeast y (knows_all f ts ks (set vs place word))) is (add_more f ts ks vs lk lv o place there bits word its at_word)
+    pub added_words : AreWords f [] ks (set vs place word)
+    added_words = add_words f [] ks vs lk lv o place there bits word its at_word
 
-      pub added_seen : BitsAdded v (knows_all f ts ks (set vs place word)) place bits word
-      added_seen = subst (λ (y : View). BitsAdded y (knows_all f ts ks (set vs place word)) place bits word) is (add_seen f ts ks vs lk lv o place there bits word its at_word)
+    pub added_now : IsTold f ks (set vs place word) after_add
+    added_now = value_now f ks vs lk lv o v told g own place lt found word (set vs place word) (length-set vs place word ∙ lv) added_words (add_more f [] ks vs lk lv o place there bits word its at_word) (put_here f [] ks vs lk lv o place there word)
 
-    module _ (found : ℕ) (e : found ≡ get_or vs place found) (may : MayRaiseTruth (program_of g.system.value) v place) where
-      true_its : MayRaiseTruth (program_of f.system.value) (knows_all f ts ks vs) place
-      true_its = may_raise_truth_later (program_of f.system.value) v (knows_all f ts ks vs) told place (subst (λ (h : Frame). MayRaiseTruth (program_of h.system.value) v place) (sym same_frame) may)
+    pub added_own : IsPassOf g after_add
+    added_own = value_own f ks vs lk lv o v told g own place lt found word (set vs place word) (length-set vs place word ∙ lv) added_words (add_more f [] ks vs lk lv o place there bits word its at_word) (put_here f [] ks vs lk lv o place there word)
 
-      found_here : get_or vs place 0 ≡ found
-      found_here = read_at vs place found (omega (arith, there, lv)) ∙ sym e
+    pub added_seen : BitsAdded (program_of g.system.value) v after_add place bits word
+    added_seen = record {
+      seen = bits_seen f ks vs lk lv o v told g own place lt found word (set vs place word) (length-set vs place word ∙ lv) added_words (add_more f [] ks vs lk lv o place there bits word its at_word) (put_here f [] ks vs lk lv o place there word);
+      added = λ n b. ap (λ (y : ℕ). bit_at y n) is_word ∙ or_right_bit found bits n b;
+    }
 
-      module _ (z : found ≡ 0) where
-        pub raised_words : AreWords f ts ks (set vs place 1)
-        raised_words = true_words f ts ks vs lk lv o place there true_its (found_here ∙ z)
+  module _ (found left : ℕ) (e : found ≡ get_or vs place found) (may : MayRaiseTruth (program_of g.system.value) v place) where
+    true_its : MayRaiseTruth (program_of f.system.value) all place
+    true_its = may_raise_truth_later (program_of f.system.value) v all more_known place (subst (λ (h : Frame). MayRaiseTruth (program_of h.system.value) v place) (sym same_frame) may)
 
-        pub raised_own : g.cells ≤ 4194304 → IsSeatOf g (knows_all f ts ks (set vs place 1)) ts
-        raised_own few = own_of (set vs place 1) (length-set vs place 1) few raised_words
+    abbrev after_true : View
+    after_true = after v (LeftValue place found left)
 
-        pub raised_more : IsAtLeast v (knows_all f ts ks (set vs place 1))
-        raised_more = subst (λ (y : View). IsAtLeast y (knows_all f ts ks (set vs place 1))) is (true_more f ts ks vs lk lv o place there true_its (found_here ∙ z))
+    module _ (z : found ≡ 0) (is : left ≡ 1) where
+      unset_now : get_or vs place 0 ≡ 0
+      unset_now = sym (found_there found e) ∙ z
 
-        pub raised_seen : BitsAdded v (knows_all f ts ks (set vs place 1)) place 1 1
-        raised_seen = subst (λ (y : View). BitsAdded y (knows_all f ts ks (set vs place 1)) place 1 1) is (true_seen f ts ks vs lk lv o place there true_its (found_here ∙ z))
+      pub raised_words : AreWords f [] ks (set vs place left)
+      raised_words = subst (λ (y : ℕ). AreWords f [] ks (set vs place y)) (sym is) (true_words f [] ks vs lk lv o place there true_its unset_now)
 
-      pub raised_already : found ≢ 0 → BitsAdded v v place 1 found
-      raised_already nz = record {
-        seen = bits_seen f ts ks vs v is lk lv o g own place lt found e;
-        added = λ n b. ap (λ (y : ℕ × ℕ). bit_at y.0 y.1) (λ i. (sym found_here i, bit_of_one n b i)) ∙ true_already f ts ks vs lk lv o place there true_its (λ y. nz (sym found_here ∙ y));
+      raised_more : IsAtLeast all (knows_all f [] ks (set vs place left))
+      raised_more = subst (λ (y : ℕ). IsAtLeast all (knows_all f [] ks (set vs place y))) (sym is) (true_more f [] ks vs lk lv o place there true_its unset_now)
+
+      pub raised_now : IsTold f ks (set vs place left) after_true
+      raised_now = value_now f ks vs lk lv o v told g own place lt found left (set vs place left) (length-set vs place left ∙ lv) raised_words raised_more (put_here f [] ks vs lk lv o place there left)
+
+      pub raised_own : IsPassOf g after_true
+      raised_own = value_own f ks vs lk lv o v told g own place lt found left (set vs place left) (length-set vs place left ∙ lv) raised_words raised_more (put_here f [] ks vs lk lv o place there left)
+
+      pub raised_seen : BitsAdded (program_of g.system.value) v after_true place 1 left
+      raised_seen = record {
+        seen = bits_seen f ks vs lk lv o v told g own place lt found left (set vs place left) (length-set vs place left ∙ lv) raised_words raised_more (put_here f [] ks vs lk lv o place there left);
+        added = λ n b. ap (λ (y : ℕ). bit_at y n) is ∙ b;
+      }
+
+    module _ (nz : found ≢ 0) (is : left ≡ found) where
+      pub raised_already : BitsAdded (program_of g.system.value) v after_true place 1 left
+      raised_already = record {
+        seen = bits_seen f ks vs lk lv o v told g own place lt found left vs lv o (at_least_itself all) (sym (found_there found e) ∙ sym is);
+        added = λ n b. ap (λ (y : ℕ × ℕ). bit_at y.0 y.1) (λ i. ((is ∙ found_there found e) i, bit_of_one n b i)) ∙ true_already f [] ks vs lk lv o place there true_its (λ y. nz (found_there found e ∙ y));
       }

@@ -67,7 +67,7 @@ module _ (f : Frame) (ts ks vs : List ℕ) (v : View) (is : knows_all f ts ks vs
 
   -- a place without a word of a set has another key, or none
   pub plain_word : (p : ℕ) → IsPlain v p → p < length ks → is_set_word (get_or ks p 0) ≡ false
-  plain_word p plain lt = dite (ℕ_discrete (get_or ks p 0) 0) (λ z. ap is_set_word z) (λ nz. plain (get_or ks p 0) (claimed_now p (get_or ks p 0) lt (read_at ks p (get_or ks p 0) lt) nz))
+  plain_word p plain lt = ap is_set_word (key_there p plain.0 plain.1).2 ∙ plain.2
 
   -- a settled value word is known with its key
   pub valued_now : (p r k : ℕ) → p < length ks → p < length vs → r ≡ get_or vs p r → 2 ^ 63 ≤ r → is_set_word k ≡ false → Has v.keys (p, k) → Has v.values (p, k, r - 2 ^ 63)

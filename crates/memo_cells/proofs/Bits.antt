@@ -35,7 +35,7 @@ pub no_bits_below : (p k n : ℕ) → bits_below p k 0 n ≡ []
 no_bits_below p k zero = none_below p k 0
 no_bits_below p k (suc n) = let none = bit_at-zero n in skip_below p k 0 n (λ e. omega (arith, e, none)) ∙ no_bits_below p k n
 
-below_has : (p k v n b : ℕ) → b < n → bit_at v b ≡ 1 → Has (bits_below p k v n) (p, k, b)
+pub below_has : (p k v n b : ℕ) → b < n → bit_at v b ≡ 1 → Has (bits_below p k v n) (p, k, b)
 below_has p k v zero b lt e = absurd (omega arith)
 below_has p k v (suc n) b lt e =
     dite (ℕ_discrete b n)
@@ -44,7 +44,7 @@ below_has p k v (suc n) b lt e =
     let rest : Has (bits_below p k v n) (p, k, b) = below_has p k v n b (omega arith) e in
     dite (ℕ_discrete (bit_at v n) 1) (λ one. subst (λ l. Has l (p, k, b)) (sym (one_below p k v n one)) (inr rest)) (λ no. subst (λ l. Has l (p, k, b)) (sym (skip_below p k v n no)) rest))
 
-has_below : (p k v n q j b : ℕ) → Has (bits_below p k v n) (q, j, b) → (q ≡ p) × (j ≡ k) × (b < n) × (bit_at v b ≡ 1)
+pub has_below : (p k v n q j b : ℕ) → Has (bits_below p k v n) (q, j, b) → (q ≡ p) × (j ≡ k) × (b < n) × (bit_at v b ≡ 1)
 has_below p k v zero q j b h = absurd (subst (λ l. Has l (q, j, b)) (none_below p k v) h)
 has_below p k v (suc n) q j b h =
     let later : Has (bits_below p k v n) (q, j, b) → (q ≡ p) × (j ≡ k) × (b < suc n) × (bit_at v b ≡ 1) = λ r. let t = has_below p k v n q j b r in (t.0, t.1, omega (arith, t.2), t.3) in

@@ -1,5 +1,5 @@
 -- Counting the cells that are seen settled.
-use Rattle.std.proofs.Common.{◌≡◌, ◌≢◌, ℕ, zero, suc, ◌+◌, ◌-◌, ◌^◌, leb, ◌<◌, ◌≤◌, ◌⊎◌, inl, inr, ⊎_elim, Bool, true, false, ◌&&◌, ◌||◌, eqb, if◌then◌else◌, List, [], ◌∷◌, refl, sym, ap, subst, ◌∙◌, arith}
+use Rattle.std.proofs.Common.{◌≡◌, ◌≢◌, ℕ, zero, suc, ◌+◌, ◌-◌, ◌/◌, ◌^◌, leb, ◌<◌, ◌≤◌, ◌⊎◌, inl, inr, ⊎_elim, Bool, true, false, ◌&&◌, ◌||◌, eqb, ne_eqb, if◌then◌else◌, List, [], ◌∷◌, refl, sym, ap, subst, ◌∙◌, arith}
 use Rattle.std.specs.List.{list_any}
 use Rattle.std.proofs.lemmas.Bool.{eq-eqb, eqb-true, le-leb, lt-leb, or_left, or_right}
 use Rattle.equation_law.proofs.Keys.{both_ways}
@@ -10,7 +10,7 @@ use Rattle.memo_cells.specs.declared.view.View.{View}
 use Rattle.memo_cells.specs.Keys.{is_attribute}
 use Rattle.memo_cells.specs.Standing.{IsPassOf}
 use Rattle.memo_cells.specs.Steps.{KeySeen, ValueSeen}
-use Rattle.memo_cells.specs.Views.{Has, is_settled_at, settled_below}
+use Rattle.memo_cells.specs.Views.{Has, IsPlain, is_settled_at, settled_below}
 
 -- what is there is found
 pub any_has : {X : Type 0} (f : X → Bool) (xs : List X) (x : X) → Has xs x → f x ≡ true → list_any f xs ≡ true
@@ -50,17 +50,23 @@ pub not_settled : (v : View) (p : ℕ) → ((k c : ℕ) → Has v.values (p, k, 
 not_settled v p none = both_ways (is_settled_at v p) false (λ e. let r = here_settled v p e in let f = none r.0 r.1 r.2 in cc) (λ e. cc)
 
 -- what is read of a cell says which it is
-pub settled_is : (f : Frame) (u v w : View) (place key value : ℕ) → is_attribute key ≡ true → KeySeen f u v place key → ValueSeen v w place value → leb (2 ^ 63) value ≡ is_settled_at w place
+pub settled_is : (f : Frame) (u v w : View) (place key value : ℕ) → is_attribute key ≡ true → KeySeen f u v place key → ValueSeen f v w place value → leb (2 ^ 63) value ≡ is_settled_at w place
 settled_is f u v w place key value attribute seen read =
     let there : key ≢ 0 = λ z. (let e : true ≡ false = sym attribute ∙ ap is_attribute z in cc) in
     dite (dec_le (2 ^ 63) value)
     (λ high. le-leb (2 ^ 63) value high ∙ sym (settled_here w place key (value - 2 ^ 63) (read.settled high key (seen.claimed there)) attribute))
     (λ low. let less : value < 2 ^ 63 = omega arith in lt-leb (2 ^ 63) value less ∙ sym (not_settled w place (λ k c h. absurd (read.unset less k c h))))
 
+-- the cell of an attribute has no word of a set
+pub attribute_cell : (f : Frame) (u v : View) (place key : ℕ) → is_attribute key ≡ true → KeySeen f u v place key → IsPlain v place
+attribute_cell f u v place key attribute seen =
+    let kind : key / 2 ^ 61 ≢ 3 = λ e. (let no : is_attribute key ≡ false = ap (λ (n : ℕ). eqb n 1 || eqb n 2) e in cc) in
+    (key, seen.claimed (λ z. let no : is_attribute key ≡ false = ap is_attribute z in cc), ne_eqb (key / 2 ^ 61) 3 kind)
+
 pub other_is : (f : Frame) (u v : View) (place key : ℕ) → is_attribute key ≡ false → IsPassOf f v → KeySeen f u v place key → is_settled_at v place ≡ false
 other_is f u v place key other own seen =
     not_settled v place (λ k c h.
-    let here = (own.valued place k c h).0 in
+    let here = own.valued place k c h in
     dite (ℕ_discrete key 0) (λ z. absurd (seen.free z k here)) (λ there. ap is_attribute (own.one_key place k key here (seen.claimed there)) ∙ other))
 
 -- a call that learns of one cell only

@@ -1,56 +1,135 @@
 -- What the single steps tell a pass that has the words itself.
-use Rattle.std.proofs.Common.{◌≡◌, ◌≢◌, ℕ, ◌+◌, ◌<◌, ◌≤◌, ◌^◌, inl, inr, List, length, get_or, set, sym, refl, ap, ◌∙◌, subst, arith, Some, get_or-set_same, length-set}
+use Rattle.std.proofs.Common.{◌≡◌, ◌≢◌, ◌↔◌, ℕ, false, ◌+◌, ◌-◌, ◌*◌, ◌<◌, ◌≤◌, ◌^◌, ◌⊎◌, inl, inr, List, [], ◌∷◌, length, get_or, set, eqb, ne_eqb, if◌then◌else◌, sym, refl, ap, ⊎_elim, ◌∙◌, subst, arith, Option, Some, get_or-set_same, length-set}
 use Rattle.std.specs.Int.{bit_at}
 use mathlib.Core.Logic.{dite}
 use native.Mathlib.Decide.{ℕ_discrete}
 use Rattle.solutions.specs.Leading.{bottoms}
-use Rattle.equation_law.specs.Equations.{equations_of}
+use Rattle.equation_law.specs.Equations.{equations_of, kind_in}
 use Rattle.equation_law.specs.Program.{Program}
 use Rattle.equation_law.specs.Systems.{program_of}
 use Rattle.equation_law.proofs.Orders.{at_most_itself}
+use Rattle.equation_law.proofs.Pooled.{texts_pooled}
 use Rattle.equation_law.proofs.Solution.{are_rising}
 use Rattle.memo_cells.specs.declared.view.Frame.{Frame}
 use Rattle.memo_cells.specs.declared.view.View.{View}
 use Rattle.attr_rules.specs.declared.kinds.Kind.{Kind}
 use Rattle.attr_rules.specs.declared.kinds.Kind.TheVariants as kinds
+use Rattle.attr_rules.specs.Rules.{is_single}
 use Rattle.equation_law.specs.Names.{Instance}
 use Rattle.equation_law.specs.Values.{Value}
-use Rattle.memo_cells.specs.Keys.{is_set_word}
-use Rattle.memo_cells.specs.Naming.{IsFormed}
-use Rattle.memo_cells.specs.Showing.{ShowsAtMost}
-use Rattle.memo_cells.specs.Standing.{AreApproximations, AreWords, IsElement, IsFinal, IsPassOf, IsRaised, IsSeatOf, MaySettle}
+use Rattle.memo_cells.specs.declared.learning.Step.TheVariants.{Claim, Key, Value as LeftValue}
+use Rattle.memo_cells.specs.Keys.{is_set_word, start}
+use Rattle.memo_cells.specs.Learning.{after, bits_said, cells_in, values_said}
+use Rattle.memo_cells.specs.Naming.{IsFormed, IsNamed, StandsFor}
+use Rattle.memo_cells.specs.Showing.{ShowsAtMost, ShowsCode}
+use Rattle.memo_cells.specs.Standing.{AreApproximations, AreWords, IsCodeOf, IsMissing, IsPassOf, IsSeatOf, IsTold, IsValueWord, IsWordOfValue, Knows, MaySettle}
 use Rattle.memo_cells.specs.Steps.{BitsSeen, KeySeen, KeyTried, ValueSeen, ValueTried}
-use Rattle.memo_cells.specs.Views.{Has, IsAtLeast, IsPassed, IsPlain, first_view, knows_all, times, values_from, word_at}
-use Rattle.memo_cells.specs.Words.{AreOrdered}
-use Rattle.memo_cells.proofs.Alone.{claimed_now, frame_is, free_now, kept_after, kept_value, key_there, known_stands, nowhere_now, ordered_after, read_at, size_of, unset_now, valued_after, valued_now, valued_put, word_high, word_small}
-use Rattle.memo_cells.proofs.Bits.{bits_has, has_bits}
-use Rattle.memo_cells.proofs.Lifting.{may_settle_later, words_know}
-use Rattle.memo_cells.proofs.Meaning.{approximations, bit_keyed, final_at, one_there}
-use Rattle.memo_cells.proofs.Naming.{stands_plain}
-use Rattle.memo_cells.proofs.Places.{has_keys, has_values, keys_has, place_counted, places_same}
+use Rattle.memo_cells.specs.Views.{Has, IsAtLeast, IsFull, IsNowhere, IsPassed, IsPlain, first_view, key_word_at, knows_all, value_word_at}
+use Rattle.memo_cells.specs.Words.{Before}
+use Rattle.memo_cells.proofs.Alone.{free_now, kept_after, kept_value, known_stands, nowhere_now, ordered_after, read_at, unset_now, valued_after, word_high, word_small}
+use Rattle.memo_cells.proofs.Bits.{bits_has, has_bits, has_either, has_left}
+use Rattle.memo_cells.proofs.Learnt.{bits_said_has, claim_told, key_told, said_values, told_least, value_told, values_said_has, with_key_here}
+use Rattle.memo_cells.proofs.Lifting.{may_settle_later}
+use Rattle.memo_cells.proofs.Meaning.{approximations, bit_keyed, final_at, one_there, set_bits, settled_shown}
+use Rattle.memo_cells.proofs.More.{at_least_itself, at_least_then, other_later}
+use Rattle.memo_cells.proofs.Naming.{formed_later, named_later, named_plain, stands_back, stands_later, stands_once, stands_plain, word_set}
+use Rattle.memo_cells.proofs.Places.{has_keys, has_values, keys_has, place_counted}
+use Rattle.memo_cells.proofs.Showing.{approximations_before, missing_before, not_both, value_word_before}
+use Rattle.memo_cells.proofs.ValueWords.{word_of_value, word_seen, word_unseen}
 
--- a pass that has such words
-module _ (f : Frame) (ts ks vs : List ℕ) (few : f.cells ≤ 4194304) (lk : length ks ≡ f.cells) (lv : length vs ≡ f.cells) (o : AreWords f ts ks vs) where
-  pub pass_of : IsSeatOf f (knows_all f ts ks vs) ts
-  pass_of = record {
+-- the words of a program
+module _ (f : Frame) (ts ks vs : List ℕ) (lk : length ks ≡ f.cells) (lv : length vs ≡ f.cells) (o : AreWords f ts ks vs) where
+  abbrev program : Program
+  program = program_of f.system.value
+
+  abbrev all : View
+  all = knows_all f ts ks vs
+
+  -- a key stands at one place
+  once_there : (s t k : ℕ) → Has all.keys (s, k) → Has all.keys (t, k) → s ≡ t
+  once_there s t k g h =
+      let a = has_keys ks 0 s k g in
+      let b = has_keys ks 0 t k h in
+      let same = o.ordered.once a.1.0 b.1.0 (omega (arith, a.1.1, lk)) (omega (arith, b.1.1, lk)) (λ z. a.0 (sym a.1.3 ∙ z)) (a.1.3 ∙ sym b.1.3) in
+      omega (arith, a.1.2, b.1.2, same)
+
+  inside_there : (s k : ℕ) → Has all.keys (s, k) → s < f.cells
+  inside_there s k h = let t = has_keys ks 0 s k h in omega (arith, t.1.1, t.1.2, lk)
+
+  -- a key on a way stands for an instance
+  named_there : (s k a n : ℕ) (cs : List ℕ) → Has all.keys (s, k) → IsNamed all k a n cs → (i : Instance) × StandsFor program all k i
+  named_there s k a n cs h is =
+      let t = has_keys ks 0 s k h in
+      let formed : IsFormed program all k = subst (IsFormed program all) t.1.3 (o.ordered.formed_keys t.1.0 (omega (arith, t.1.1, lk)) (λ z. t.0 (sym t.1.3 ∙ z))) in
+      ⊎_elim (λ x. (x.key.prefix, x.key.stands)) (λ x. absurd (not_both (named_plain all k a n cs is) (word_set program all k x.of x.word x.key))) formed
+
+  -- the bits of a word of a set that is settled are the elements of its value there
+  value_word : (i : Instance) (w x : ℕ) → is_single (kind_in program i) ≡ false → Knows program all i → ((b : ℕ) → b < 64 → (bit_at x b ≡ 1) ↔ ShowsCode program all i (64 * w + b)) → IsWordOfValue program i w x
+  value_word i w x set known shown = let s = settled_shown f ts ks vs lk lv o i known in word_of_value program all (texts_pooled f.system.value) (approximations f ts ks vs lk lv o) i s.0 s.1 w x set s.2 shown
+
+  word_there : (place x k : ℕ) → place < f.cells → get_or vs place 0 ≡ x → Has all.keys (place, k) → IsValueWord program all k x
+  word_there place x k lt word there i w is set known =
+      let t = has_keys ks 0 place k there in
+      let here : t.1.0 ≡ place = omega (arith, t.1.2) in
+      let key : get_or ks place 0 ≡ k = ap (λ y. get_or ks y 0) (sym here) ∙ t.1.3 in
+      value_word i w x set known
+      (word_seen program all (one_there f ts ks vs lk lv o) once_there (bit_keyed f ts ks vs lk lv o) (texts_pooled f.system.value) k i w x place is there
+      (λ n few e. bits_has ks vs 0 place place k n (omega (arith, lt, lk)) (omega (arith, lt, lv)) key (set_bits k n (word_set program all k i w is) few) (ap (λ (y : ℕ). bit_at y n) word ∙ e) (omega arith))
+      (λ n h.
+      let r = has_bits ks vs 0 place k n h in
+      let at : r.0 ≡ place = omega (arith, r.3) in
+      ap (λ (y : ℕ). bit_at y n) (sym word ∙ ap (λ y. get_or vs y 0) (sym at)) ∙ r.6))
+
+  -- where no such word stands, the value has no element
+  pub word_missing : (k : ℕ) → IsNowhere all k → IsMissing program all k
+  word_missing k nowhere = record {
+    nowhere = nowhere;
+    word = λ i w is set known. value_word i w 0 set known (word_unseen program all (one_there f ts ks vs lk lv o) once_there (bit_keyed f ts ks vs lk lv o) (texts_pooled f.system.value) k i w is nowhere);
+  }
+
+  -- and that is so where other keys have all places
+  word_full : (k : ℕ) → IsFull f all k → IsValueWord program all k 0
+  word_full k full = (word_missing k (λ q has. let at = full q (inside_there q k has) in at.2 (one_there f ts ks vs lk lv o q at.0 k at.1 has))).word
+
+  -- the bits of the word at a place are known
+  pub bits_of_words : (place x : ℕ) → place < f.cells → get_or vs place 0 ≡ x → BitsSeen program all all place x
+  bits_of_words place x lt word = record {
+    all = λ k n has low one.
+        let t = has_keys ks 0 place k has in
+        let here : t.1.0 ≡ place = omega (arith, t.1.2) in
+        bits_has ks vs 0 place place k n (omega (arith, lt, lk)) (omega (arith, lt, lv)) (ap (λ y. get_or ks y 0) (sym here) ∙ t.1.3) low (ap (λ (y : ℕ). bit_at y n) word ∙ one) (omega arith);
+    only = λ k n h.
+        let t = has_bits ks vs 0 place k n h in
+        let here : t.0 ≡ place = omega (arith, t.3) in
+        ap (λ (y : ℕ). bit_at y n) (sym word ∙ ap (λ y. get_or vs y 0) (sym here)) ∙ t.6;
+    code = λ k c h. known_stands f ts ks vs all refl place x k c (omega (arith, lt, lv)) (sym word ∙ read_at vs place x (omega (arith, lt, lv))) h;
+    word = λ k has. word_there place x k lt word has;
+    keys = refl;
+    claims = refl;
+  }
+
+  -- a pass that has such words
+  pub pass_of : f.cells ≤ 4194304 → IsSeatOf f all ts
+  pass_of few = record {
     table = refl;
     frame = refl;
     few = few;
-    within = λ p k h. let t = has_keys ks 0 p k h in omega (arith, t.1.1, t.1.2, lk);
+    within = inside_there;
     one_key = one_there f ts ks vs lk lv o;
-    one_place = λ p q k g h.
-        let t = has_keys ks 0 p k g in
-        let u = has_keys ks 0 q k h in
-        let same = o.ordered.once t.1.0 u.1.0 (omega (arith, t.1.1, lk)) (omega (arith, u.1.1, lk)) (λ z. t.0 (sym t.1.3 ∙ z)) (t.1.3 ∙ sym u.1.3) in
-        omega (arith, t.1.2, u.1.2, same);
-    valued = λ p k c h.
-        let t = has_values ks vs 0 p k c h in
+    one_place = once_there;
+    named = named_there;
+    valued = λ q k c h.
+        let t = has_values ks vs 0 q k c h in
         let word = t.5 in
         let there : get_or ks t.0 0 ≢ 0 = o.ordered.keyed t.0 (omega (arith, t.2, lv)) (λ z. omega (arith, z, word)) in
-        let settled = (final_at f ts ks vs lk lv o p k c h).settled in (keys_has ks 0 t.0 p k t.1 t.4 (λ z. there (t.4 ∙ z)) t.3, (settled.of, settled.stands, settled.code));
+        keys_has ks 0 t.0 q k t.1 t.4 (λ z. there (t.4 ∙ z)) t.3;
+    coded = λ q k c h i stands.
+        let settled = (final_at f ts ks vs lk lv o q k c h).settled in
+        subst (λ (j : Instance). IsCodeOf program j c) (stands_once all (one_there f ts ks vs lk lv o) program k settled.of i settled.stands stands) settled.code;
     keyed = bit_keyed f ts ks vs lk lv o;
     approximations = approximations f ts ks vs lk lv o;
-    whole = λ e p k h. place_counted ks 0 p k h;
+    full = word_full;
+    whole = λ e q k h. place_counted ks 0 q k h;
     to_seal = refl;
   }
 
@@ -71,7 +150,7 @@ first_approximations p f = record {
   codes = λ i c h. absurd h.3;
   undeclared = λ i c d h. absurd h.3;
   truths = λ i c k h. absurd h.3;
-  settled = λ i k. absurd k.settled;
+  final = λ i c k. absurd k.settled;
 }
 
 pub first_own : (f : Frame) → f.cells ≤ 4194304 → IsPassOf f (first_view f)
@@ -82,142 +161,258 @@ first_own f few = record {
   within = λ p k h. absurd h;
   one_key = λ p j k g h. absurd h;
   one_place = λ p q k g h. absurd h;
+  named = λ s k a n cs h is. absurd h;
   valued = λ p k c h. absurd h;
+  coded = λ p k c h. absurd h;
   keyed = λ p k n h. absurd h;
   approximations = first_approximations (program_of f.system.value) f;
+  full = λ k full i w is. absurd is.there;
   whole = λ e p k h. absurd h;
   to_seal = refl;
 }
 
--- the bits of the word at a place are known
-pub bits_of_words : (f : Frame) (ts ks vs : List ℕ) (place x : ℕ) → place < length ks → place < length vs → get_or vs place 0 ≡ x → BitsSeen (knows_all f ts ks vs) (knows_all f ts ks vs) place x
-bits_of_words f ts ks vs place x lk lv word = record {
-  all = λ k n has low one.
-      let t = has_keys ks 0 place k has in
-      let here : t.1.0 ≡ place = omega (arith, t.1.2) in
-      bits_has ks vs 0 place place k n lk lv (ap (λ y. get_or ks y 0) (sym here) ∙ t.1.3) low (ap (λ (y : ℕ). bit_at y n) word ∙ one) (omega arith);
-  only = λ k n h.
-      let t = has_bits ks vs 0 place k n h in
-      let here : t.0 ≡ place = omega (arith, t.3) in
-      ap (λ (y : ℕ). bit_at y n) (sym word ∙ ap (λ y. get_or vs y 0) (sym here)) ∙ t.6;
-  keys = refl;
-  claims = refl;
-}
+-- what a pass knows stands in such words, so it is a pass of these cells
+pub told_own : (f : Frame) (ks vs : List ℕ) → length ks ≡ f.cells → length vs ≡ f.cells → AreWords f [] ks vs → f.cells ≤ 4194304 → (v : View) → IsTold f ks vs v → IsPassOf f v
+told_own f ks vs lk lv o few v told =
+    let own = pass_of f [] ks vs lk lv o few in
+    let program = program_of f.system.value in
+    let least = told_least f ks vs v told [] in
+    let u : View = knows_all f [] ks vs in
+    record {
+      table = told.table;
+      frame = told.frame;
+      few = few;
+      within = λ p k h. own.within p k (told.keys p k h);
+      one_key = λ p j k g h. own.one_key p j k (told.keys p j g) (told.keys p k h);
+      one_place = λ p q k g h. own.one_place p q k (told.keys p k g) (told.keys q k h);
+      named = λ s k a n cs h is. let it = own.named s k a n cs (told.keys s k h) (named_later v u least k a n cs is) in (it.0, stands_back u own.one_key v least program k a n cs it.0 is it.1);
+      valued = told.valued;
+      coded = λ p k c h i stands. own.coded p k c (told.values p k c h) i (stands_later v u least program k i stands);
+      keyed = told.keyed;
+      approximations = approximations_before program v u least own.approximations;
+      full = λ k full. value_word_before program v u least k 0 (own.full k (λ q lt. other_later v u k q least (full q lt)));
+      whole = λ e p k h. told.own p k (told.keys p k h);
+      to_seal = told.to_seal;
+    }
 
-module _ (f : Frame) (ts ks vs : List ℕ) (v : View) (is : knows_all f ts ks vs ≡ v) (lk : length ks ≡ f.cells) (lv : length vs ≡ f.cells) (o : AreWords f ts ks vs) (g : Frame) (own : v.frame ≡ Some g) (place : ℕ) (lt : place < g.cells) where
+-- what a pass knows stands in the words of the cells: u is what one would know that has seen all of them
+module _ (f : Frame) (ks vs : List ℕ) (lk : length ks ≡ f.cells) (lv : length vs ≡ f.cells) (o : AreWords f [] ks vs) (v : View) (told : IsTold f ks vs v) (g : Frame) (own : IsPassOf g v) (place : ℕ) (lt : place < g.cells) where
   abbrev p : Program
   p = program_of f.system.value
 
-  same : f ≡ g
-  same = frame_is f ts ks vs v is g own
+  abbrev u : View
+  u = knows_all f [] ks vs
 
-  words : AreOrdered (IsFormed p v) (IsFinal p v o.values) (IsRaised p v o.values) (IsElement p v o.values) f.cells (word_at ks) (word_at vs)
-  words = subst (λ (y : View). AreOrdered (IsFormed p y) (IsFinal p y o.values) (IsRaised p y o.values) (IsElement p y o.values) f.cells (word_at ks) (word_at vs)) is o.ordered
+  pub same : f ≡ g
+  same = let e : Some f ≡ Some g = sym told.frame ∙ own.frame in cc
 
-  inside : place < f.cells
-  inside = let size = size_of f ts ks vs v is g own in omega (arith, size, lt)
+  pub inside : place < f.cells
+  inside = let size = ap (λ (h : Frame). h.cells) same in omega (arith, size, lt)
 
-  pub key_seen : (found : ℕ) → found ≡ get_or ks place found → KeySeen g v v place found
-  key_seen found e = record {
-    claimed = λ nz. claimed_now f ts ks vs v is place found (omega (arith, inside, lk)) e nz;
-    free = λ z. free_now f ts ks vs v is place found (omega (arith, inside, lk)) e z;
-    nowhere = λ z k nz passed. nowhere_now f ts ks vs v is p lk lv o.values words place found k inside e z nz (subst (λ (h : Frame). IsPassed h v k place) (sym same) passed);
-    values = λ q k c h. h;
-    claims = refl;
-  }
+  pub few : f.cells ≤ 4194304
+  few = subst (λ (h : Frame). h.cells ≤ 4194304) (sym same) own.few
 
-  pub value_seen : IsPlain v place → (found : ℕ) → found ≡ get_or vs place found → ValueSeen v v place found
-  value_seen plain found e = record {
-    settled = λ high k has. valued_now f ts ks vs v is place found k (omega (arith, inside, lk)) (omega (arith, inside, lv)) e high (plain k has) has;
-    unset = λ low. unset_now f ts ks vs v is place found (omega (arith, inside, lv)) e low;
-    code = word_small f ts ks vs v is p lk lv o.values words place found (omega (arith, inside, lv)) e plain;
-    others = λ q k c h. inl h;
-    claims = refl;
-  }
+  pub least : IsAtLeast v u
+  least = told_least f ks vs v told []
 
-  pub bits_seen : (found : ℕ) → found ≡ get_or vs place found → BitsSeen v v place found
-  bits_seen found e =
-      let word : get_or vs place 0 ≡ found = read_at vs place found (omega (arith, inside, lv)) ∙ sym e in
-      subst (λ (y : View). BitsSeen y y place found) is (bits_of_words f ts ks vs place found (omega (arith, inside, lk)) (omega (arith, inside, lv)) word)
+  -- a pass that knows more now
+  own_now : (js ws : List ℕ) → length js ≡ f.cells → length ws ≡ f.cells → AreWords f [] js ws → (w : View) → IsTold f js ws w → IsPassOf g w
+  own_now js ws lj lw a w t = subst (λ (h : Frame). IsPassOf h w) same (told_own f js ws lj lw a few w t)
 
-  -- a key that another one keeps out
-  pub key_lost : (key found : ℕ) → found ≡ get_or ks place found → found ≢ 0 → KeyTried v v place key found
-  key_lost key found e nz = record {
-    won = λ z. absurd (nz z);
-    lost = λ _. claimed_now f ts ks vs v is place found (omega (arith, inside, lk)) e nz;
-    claims = λ q. inl refl;
-  }
+  -- ---- a key word was read
+  module _ (found : ℕ) (e : found ≡ get_or ks place found) where
+    abbrev key_after : View
+    key_after = after v (Key place found)
 
+    pub key_now : IsTold f ks vs key_after
+    key_now = key_told f ks vs v told place found (omega (arith, inside, lk)) e
+
+    pub key_own : IsPassOf g key_after
+    key_own = own_now ks vs lk lv o key_after key_now
+
+    pub key_seen : KeySeen g v key_after place found
+    key_seen = record {
+      claimed = λ nz. with_key_here place found v.keys nz;
+      free = λ z k h. free_now f [] ks vs u refl place found (omega (arith, inside, lk)) e z k (key_now.keys place k h);
+      nowhere = λ z k nz passed.
+          let seen : IsPassed f u k place = λ q way. other_later v u k q least (passed q (subst (λ (h : Frame). Before h.cells (start h.cells k) place q) same way)) in
+          let none = nowhere_now f [] ks vs u refl p lk lv o.values o.ordered place found k inside e z nz seen in
+          subst (λ (h : Frame). IsMissing (program_of h.system.value) key_after k) same (missing_before p key_after u (told_least f ks vs key_after key_now []) k (word_missing f [] ks vs lk lv o k none));
+      values = λ q k c h. h;
+      claims = refl;
+      log = refl;
+    }
+
+    -- a key that another one keeps out
+    pub key_lost : (key : ℕ) → found ≢ 0 → KeyTried v key_after place key found
+    key_lost key nz = record { won = λ z. absurd (nz z); lost = λ _. with_key_here place found v.keys nz; claims = λ q. inl refl; log = refl }
+
+  -- ---- a key was put at a free place
   module _ (key found : ℕ) (e : found ≡ get_or ks place found) (z : found ≡ 0) (nz : key ≢ 0) (formed : IsFormed (program_of g.system.value) v key) (passed : IsPassed g v key place) where
+    abbrev claim_after : View
+    claim_after = after v (Claim place key)
+
     free : get_or ks place 0 ≡ 0
     free = read_at ks place found (omega (arith, inside, lk)) ∙ sym e ∙ z
 
-    -- a key that is put at a free place
-    pub claimed_words : AreWords f ts (set ks place key) vs
+    pub claimed_words : AreWords f [] (set ks place key) vs
     claimed_words = record {
       values = o.values;
       lower = o.lower;
-      ordered = ordered_after f ts ks vs v is p lk lv o.values words place key inside free nz
-          (subst (λ (h : Frame). IsFormed (program_of h.system.value) v key) (sym same) formed) (subst (λ (h : Frame). IsPassed h v key place) (sym same) passed);
+      ordered = ordered_after f [] ks vs u refl p lk lv o.values o.ordered place key inside free nz
+          (formed_later v u least p key (subst (λ (h : Frame). IsFormed (program_of h.system.value) v key) (sym same) formed))
+          (λ q way. other_later v u key q least (passed q (subst (λ (h : Frame). Before h.cells (start h.cells key) place q) same way)));
     }
 
-    pub claimed_own : g.cells ≤ 4194304 → IsSeatOf g (knows_all f ts (set ks place key) vs) ts
-    claimed_own few = subst (λ (h : Frame). IsSeatOf h (knows_all f ts (set ks place key) vs) ts) same (pass_of f ts (set ks place key) vs (subst (λ (h : Frame). h.cells ≤ 4194304) (sym same) few) (length-set ks place key ∙ lk) lv claimed_words)
+    pub claim_now : IsTold f (set ks place key) vs claim_after
+    claim_now = claim_told f ks vs v told place key (omega (arith, inside, lk)) free nz (kept_after f [] ks vs u refl p lk lv o.values o.ordered place key inside free)
 
-    pub claimed_more : IsAtLeast v (knows_all f ts (set ks place key) vs)
-    claimed_more = kept_after f ts ks vs v is p lk lv o.values words place key inside free
+    pub claimed_own : IsPassOf g claim_after
+    claimed_own = own_now (set ks place key) vs (length-set ks place key ∙ lk) lv claimed_words claim_after claim_now
 
-    pub key_won : KeyTried v (knows_all f ts (set ks place key) vs) place key found
+    pub key_won : KeyTried v claim_after place key found
     key_won = record {
-      won = λ _. keys_has (set ks place key) 0 place place key (omega (arith, length-set ks place key, inside, lk)) (get_or-set_same ks place key 0 (omega (arith, inside, lk))) nz (omega arith);
+      won = λ _. inl refl;
       lost = λ n. absurd (n z);
-      claims = λ q.
-          dite (ℕ_discrete q place) (λ h. inr (z, h))
-          (λ apart. inl (places_same ks 0 place key q (λ h. apart (omega (arith, h))) ∙ ap (λ (y : View). times q y.claims) is));
+      claims = λ q. dite (ℕ_discrete q place) (λ h. inr (z, h)) (λ apart. inl (let none : if◌then◌else◌ {A = ℕ} (eqb q place) 1 0 ≡ 0 = ap (λ b. if◌then◌else◌ {A = ℕ} b 1 0) (ne_eqb q place apart) in omega (arith, none)));
+      log = ap (λ (x : ℕ). (key_word_at place, x) ∷ v.found) (sym z);
     }
 
-  module _ (code : ℕ) (may : MaySettle (program_of g.system.value) v place code) where
-    abbrev u : View
-    u = knows_all f ts ks vs
+  -- ---- a value word was read, or another one was put
+  module _ (found left : ℕ) (ws : List ℕ) (lw : length ws ≡ f.cells) (a : AreWords f [] ks ws) (more : IsAtLeast u (knows_all f [] ks ws)) (at : get_or ws place 0 ≡ left) where
+    abbrev value_after : View
+    value_after = after v (LeftValue place found left)
 
-    its : MaySettle p u place code
-    its = may_settle_later p v u (words_know f ts ks vs v is) place code (subst (λ (h : Frame). MaySettle (program_of h.system.value) v place code) (sym same) may)
+    abbrev later : View
+    later = knows_all f [] ks ws
 
-    -- no other key stands there, and it is of no word of a set
-    plain : IsPlain v place
-    plain k has = ap is_set_word (sym (key_there f ts ks vs v is place k has).2 ∙ (key_there f ts ks vs u refl place its.key its.here).2) ∙ stands_plain p u its.key its.settled.of its.settled.stands
+    pub value_now : IsTold f ks ws value_after
+    value_now = value_told f ks vs v told place found left ws (omega (arith, inside, lk)) (omega (arith, inside, lw)) at more
 
-    -- a value that another one keeps out
-    pub value_lost : (found : ℕ) → found ≡ get_or vs place found → found ≢ 0 → ValueTried v v place code found
-    value_lost found e nz =
-        let high = word_high f ts ks vs u refl p lk lv o.values o.ordered place code found (omega (arith, inside, lv)) e nz its in
-        record {
-          won = λ z. absurd (nz z);
-          lost = λ _. (high, λ k has. valued_now f ts ks vs v is place found k (omega (arith, inside, lk)) (omega (arith, inside, lv)) e high (plain k has) has);
-          code = word_small f ts ks vs v is p lk lv o.values words place found (omega (arith, inside, lv)) e plain;
-          stays = λ k d has. known_stands f ts ks vs v is place found k d (omega (arith, inside, lv)) e has;
+    pub value_own : IsPassOf g value_after
+    value_own = own_now ks ws lk lw a value_after value_now
+
+    -- what is known of the place
+    left_is : left ≡ get_or ws place left
+    left_is = sym at ∙ read_at ws place left (omega (arith, inside, lw))
+
+    key_plain : (k : ℕ) → IsPlain v place → Has v.keys (place, k) → is_set_word k ≡ false
+    key_plain k plain has = ap is_set_word (own.one_key place k plain.0 has plain.1) ∙ plain.2
+
+    pub is_settled : IsPlain v place → 2 ^ 63 ≤ left → (k : ℕ) → Has v.keys (place, k) → Has value_after.values (place, k, left - 2 ^ 63)
+    is_settled plain high k has = has_left (values_said place left v.keys) v.values (place, k, left - 2 ^ 63) (values_said_has place left k v.keys has high (key_plain k plain has))
+
+    pub is_unset : left < 2 ^ 63 → (k c : ℕ) → ¬ Has value_after.values (place, k, c)
+    is_unset low k c h = unset_now f [] ks ws later refl place left (omega (arith, inside, lw)) left_is low k c (value_now.values place k c h)
+
+    plain_later : IsPlain v place → IsPlain later place
+    plain_later plain = (plain.0, more.keys place plain.0 (told.keys place plain.0 plain.1), plain.2)
+
+    pub is_small : IsPlain v place → left < 2 ^ 63 + 2 ^ 32
+    is_small plain = word_small f [] ks ws later refl p lk lw a.values a.ordered place left (omega (arith, inside, lw)) left_is (plain_later plain)
+
+    pub were_others : (q k c : ℕ) → Has value_after.values (q, k, c) → Has v.values (q, k, c) ⊎ (q ≡ place)
+    were_others q k c h = ⊎_elim (λ s. inr (said_values place left q k c v.keys s).0) inl (has_either (values_said place left v.keys) v.values (q, k, c) h)
+
+    pub value_stays : (k c : ℕ) → Has v.values (place, k, c) → left ≡ c + 2 ^ 63
+    value_stays k c has = known_stands f [] ks ws later refl place left k c (omega (arith, inside, lw)) left_is (more.values place k c (told.values place k c has))
+
+    pub bits_seen : BitsSeen (program_of g.system.value) v value_after place left
+    bits_seen =
+        let seen = bits_of_words f [] ks ws lk lw a place left inside at in
+        subst (λ (h : Frame). BitsSeen (program_of h.system.value) v value_after place left) same
+        (record {
+          all = λ k n has low one. has_left (bits_said place left v.keys) v.bits (place, k, n) (bits_said_has place left k n v.keys has low one);
+          only = λ k n h. seen.only k n (value_now.bits place k n h);
+          code = value_stays;
+          word = λ k has. value_word_before p v later (at_least_then least more) k left (seen.word k (more.keys place k (told.keys place k has)));
+          keys = refl;
           claims = refl;
-        }
+        })
 
-    module _ (word found : ℕ) (e : found ≡ get_or vs place found) (z : found ≡ 0) (is_word : word ≡ code + 2 ^ 63) where
+  -- it was only read
+  module _ (found : ℕ) (e : found ≡ get_or vs place found) where
+    found_at : get_or vs place 0 ≡ found
+    found_at = read_at vs place found (omega (arith, inside, lv)) ∙ sym e
+
+    pub read_now : IsTold f ks vs (after v (LeftValue place found found))
+    read_now = value_now found found vs lv o (at_least_itself u) found_at
+
+    pub read_own : IsPassOf g (after v (LeftValue place found found))
+    read_own = value_own found found vs lv o (at_least_itself u) found_at
+
+    pub read_bits : BitsSeen (program_of g.system.value) v (after v (LeftValue place found found)) place found
+    read_bits = bits_seen found found vs lv o (at_least_itself u) found_at
+
+    pub value_seen : IsPlain v place → ValueSeen g v (after v (LeftValue place found found)) place found
+    value_seen plain = record {
+      settled = is_settled found found vs lv o (at_least_itself u) found_at plain;
+      unset = is_unset found found vs lv o (at_least_itself u) found_at;
+      code = is_small found found vs lv o (at_least_itself u) found_at plain;
+      others = were_others found found vs lv o (at_least_itself u) found_at;
+      claims = refl;
+      log = ap (λ (n : Option Frame). (value_word_at (cells_in n) place, found) ∷ v.found) own.frame;
+    }
+
+  -- ---- a value was settled, or was so already
+  module _ (code : ℕ) (may : MaySettle (program_of g.system.value) v place code) (found left : ℕ) (e : found ≡ get_or vs place found) where
+    its : MaySettle p u place code
+    its = may_settle_later p v u least place code (subst (λ (h : Frame). MaySettle (program_of h.system.value) v place code) (sym same) may)
+
+    plain : IsPlain v place
+    plain = (may.key, may.here, stands_plain (program_of g.system.value) v may.key may.settled.of may.settled.stands)
+
+    -- it was settled already
+    module _ (nz : found ≢ 0) (is : left ≡ found) where
+      left_at : get_or vs place 0 ≡ left
+      left_at = found_at found e ∙ sym is
+
+      found_high : 2 ^ 63 ≤ left
+      found_high = let high = word_high f [] ks vs u refl p lk lv o.values o.ordered place code found (omega (arith, inside, lv)) e nz its in omega (arith, high, is)
+
+      pub value_lost : ValueTried v (after v (LeftValue place found left)) place code found
+      value_lost = record {
+        won = λ z. absurd (nz z);
+        lost = λ _. (omega (arith, found_high, is), λ k has. subst (λ (y : ℕ). Has (after v (LeftValue place found left)).values (place, k, y - 2 ^ 63)) is (is_settled found left vs lv o (at_least_itself u) left_at plain found_high k has));
+        code = let small = is_small found left vs lv o (at_least_itself u) left_at plain in omega (arith, small, is);
+        stays = λ k d has. sym is ∙ value_stays found left vs lv o (at_least_itself u) left_at k d has;
+        claims = refl;
+      }
+
+      pub lost_now : IsTold f ks vs (after v (LeftValue place found left))
+      lost_now = value_now found left vs lv o (at_least_itself u) left_at
+
+    -- it is put
+    module _ (z : found ≡ 0) (is : left ≡ code + 2 ^ 63) where
+      abbrev put : List ℕ
+      put = set vs place left
+
       unset : get_or vs place 0 ≡ 0
-      unset = read_at vs place found (omega (arith, inside, lv)) ∙ sym e ∙ z
+      unset = found_at found e ∙ z
 
-      -- a value that is put where none is settled
-      pub settled_words : AreWords f ts ks (set vs place word)
-      settled_words = subst (λ (w : ℕ). AreWords f ts ks (set vs place w)) (sym is_word) (record { values = o.values; lower = o.lower; ordered = valued_after f ts ks vs u refl p lk lv o.values o.ordered place code inside unset its })
+      pub settled_words : AreWords f [] ks put
+      settled_words = subst (λ (w : ℕ). AreWords f [] ks (set vs place w)) (sym is) (record { values = o.values; lower = o.lower; ordered = valued_after f [] ks vs u refl p lk lv o.values o.ordered place code inside unset its })
 
-      pub settled_own : g.cells ≤ 4194304 → IsSeatOf g (knows_all f ts ks (set vs place word)) ts
-      settled_own few = subst (λ (h : Frame). IsSeatOf h (knows_all f ts ks (set vs place word)) ts) same (pass_of f ts ks (set vs place word) (subst (λ (h : Frame). h.cells ≤ 4194304) (sym same) few) lk (length-set vs place word ∙ lv) settled_words)
+      put_long : length put ≡ f.cells
+      put_long = length-set vs place left ∙ lv
 
-      pub settled_more : IsAtLeast v (knows_all f ts ks (set vs place word))
-      settled_more = subst (λ (y : View × ℕ). IsAtLeast y.0 (knows_all f ts ks (set vs place y.1))) (λ i. (is i, sym is_word i)) (kept_value f ts ks vs u refl p lk lv o.values o.ordered place code inside unset its)
+      put_more : IsAtLeast u (knows_all f [] ks put)
+      put_more = subst (λ (w : ℕ). IsAtLeast u (knows_all f [] ks (set vs place w))) (sym is) (kept_value f [] ks vs u refl p lk lv o.values o.ordered place code inside unset its)
 
-      pub value_won : ValueTried v (knows_all f ts ks (set vs place word)) place code found
+      put_at : get_or put place 0 ≡ left
+      put_at = get_or-set_same vs place left 0 (omega (arith, inside, lv))
+
+      pub settled_now : IsTold f ks put (after v (LeftValue place found left))
+      settled_now = value_now found left put put_long settled_words put_more put_at
+
+      pub settled_own : IsPassOf g (after v (LeftValue place found left))
+      settled_own = value_own found left put put_long settled_words put_more put_at
+
+      pub value_won : ValueTried v (after v (LeftValue place found left)) place code found
       value_won = record {
-        won = λ _ k has. subst (λ (w : ℕ). Has (values_from 0 ks (set vs place w)) (place, k, code)) (sym is_word) (valued_put f ts ks vs v is place k code (omega (arith, inside, lv)) (plain k has) has);
+        won = λ _ k has. subst (λ (y : ℕ). Has (after v (LeftValue place found left)).values (place, k, y)) (omega (arith, is)) (is_settled found left put put_long settled_words put_more put_at plain (omega (arith, is)) k has);
         lost = λ n. absurd (n z);
-        code = word_small f ts ks vs v is p lk lv o.values words place found (omega (arith, inside, lv)) e plain;
-        stays = λ k d has. known_stands f ts ks vs v is place found k d (omega (arith, inside, lv)) e has;
-        claims = ap (λ (y : View). y.claims) is;
+        code = omega (arith, z);
+        stays = λ k d has. absurd (let stands = known_stands f [] ks vs u refl place found k d (omega (arith, inside, lv)) e (told.values place k d has) in omega (arith, stands, z));
+        claims = refl;
       }

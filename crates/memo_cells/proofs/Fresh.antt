@@ -1,5 +1,5 @@
 -- Words of which none is set.
-use Rattle.std.proofs.Common.{◌≡◌, ℕ, zero, suc, [], ◌++◌, replicate, get_or, refl, ap, ◌∙◌, arith}
+use Rattle.std.proofs.Common.{◌≡◌, ℕ, zero, suc, [], ◌++◌, replicate, get_or, refl, ap, ◌∙◌, subst, arith}
 use Rattle.memo_cells.specs.declared.view.Frame.{Frame}
 use Rattle.std.specs.Int.{bit_at}
 use Rattle.std.proofs.lemmas.Nat.Bits.{bit_at-zero}
@@ -8,8 +8,9 @@ use Rattle.equation_law.specs.Equations.{equations_of}
 use Rattle.equation_law.specs.Systems.{program_of}
 use Rattle.equation_law.proofs.Orders.{at_most_itself}
 use Rattle.equation_law.proofs.Solution.{are_rising}
-use Rattle.memo_cells.specs.Standing.{AreWords}
-use Rattle.memo_cells.specs.Views.{bits_from, first_view, having_seen, keys_from, knows_all, places_from, values_from, word_at}
+use Rattle.memo_cells.specs.declared.view.View.{View}
+use Rattle.memo_cells.specs.Standing.{AreWords, IsTold}
+use Rattle.memo_cells.specs.Views.{Has, bits_from, first_view, having_seen, keys_from, knows_all, places_from, values_from, word_at}
 use Rattle.memo_cells.specs.Words.{AreOrdered}
 use Rattle.memo_cells.proofs.Bits.{more_bits, no_bits, no_bits_below}
 use Rattle.memo_cells.proofs.Places.{no_key, no_value, open_value, zero_key, zero_place}
@@ -58,4 +59,20 @@ fresh_words f m = record {
   values = (equations_of (program_of f.system.value)).bottom;
   lower = record { top = (equations_of (program_of f.system.value)).bottom; reached = bottoms; fits = λ j c. (are_rising (program_of f.system.value)).start j c; below = λ j c. at_most_itself ((equations_of (program_of f.system.value)).bottom j) };
   ordered = fresh_ordered _ _ _ _ f.cells m;
+}
+
+-- a pass that knows nothing knows nothing else than these words
+pub first_told : (f : Frame) (n : ℕ) → IsTold f (replicate n 0) (replicate n 0) (first_view f)
+first_told f n = record {
+  table = refl;
+  frame = refl;
+  share = refl;
+  keys = λ p k h. absurd h;
+  values = λ p k c h. absurd h;
+  bits = λ p k m h. absurd h;
+  valued = λ p k c h. absurd h;
+  keyed = λ p k m h. absurd h;
+  claims = λ p. omega arith;
+  own = λ p k h. absurd (subst (λ (y : View). Has y.keys (p, k)) (fresh_view f n) h);
+  to_seal = refl;
 }

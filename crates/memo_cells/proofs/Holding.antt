@@ -1,14 +1,18 @@
 -- What a reader tells that holds a pass, and that it goes on at the same cells.
-use Rattle.std.proofs.Common.{refl, sym, subst, ℕ, ◌∙◌}
-use Rattle.equation_law.specs.Names.{Instance}
+use Rattle.std.proofs.Common.{refl, sym, subst, ℕ, ◌<◌, ◌^◌, List, reverse, ◌∙◌}
+use Rattle.equation_law.specs.Names.{Instance, Query}
 use Rattle.equation_law.specs.Systems.{program_of}
 use Rattle.memo_cells.specs.declared.view.Frame.{Frame}
+use Rattle.memo_cells.specs.Causes.{WhyMissing}
+use Rattle.memo_cells.specs.Keys.{query_word}
+use Rattle.memo_cells.proofs.Causes.{missing_since}
 use Rattle.memo_cells.specs.Naming.{IsCellOf, IsFormed}
 use Rattle.memo_cells.specs.Standing.{IsPassOf}
 use Rattle.memo_cells.specs.Views.{IsFull, IsSlot}
-use Rattle.memo_cells.specs.Working.{GoesOn, Held, IsOwn, ReadsOn, TellsPass, program_at, told_by}
+use Rattle.memo_cells.specs.Working.{GoesOn, HasCell, Held, IsLogAt, IsOwn, ReadsOn, TellsPass, WhyMissingAt, program_at, told_by}
 use Rattle.memo_cells.proofs.More.{at_least_itself, at_least_then}
 use Rattle.memo_cells.proofs.Naming.{cell_later}
+use Rattle.memo_cells.proofs.Ways.{IsOnWay}
 
 -- a reader that is seen as what it holds
 pub told_pass : (d : Held) → TellsPass (λ (x : Held). x) d (told_by d)
@@ -51,3 +55,18 @@ slot_back d e w s k on h = subst (λ (f : Frame). IsSlot f w.view s k) on.cells 
 
 pub full_back : (d e w : Held) (k : ℕ) → GoesOn d e → IsFull e.frame w.view k → IsFull d.frame w.view k
 full_back d e w k on h = subst (λ (f : Frame). IsFull f w.view k) on.cells h
+
+-- a slot on the way to an attribute with arguments is that of an instance
+pub way_held : (d e : Held) (a n : ℕ) (done : List ℕ) (s : ℕ) → ReadsOn d e → IsOnWay d.frame e.view a n done s → HasCell e s
+way_held d e a n done s on way =
+    let here : IsOnWay e.frame e.view a n done s = subst (λ (f : Frame). IsOnWay f e.view a n done s) (sym on.on.cells) way in
+    let it = on.on.own.named s here.key a n (reverse done) here.slot.1 here.named in
+    (it.0, (here.key, here.slot, it.1))
+
+-- and that of a query too
+pub query_held : (d e : Held) (q s : ℕ) → q < 2 ^ 32 → ReadsOn d e → IsSlot d.frame e.view s (query_word q) → HasCell e s
+query_held d e q s small on slot = (Query q, (query_word q, subst (λ (f : Frame). IsSlot f e.view s (query_word q)) (sym on.on.cells) slot, (small, refl)))
+
+-- why a key wasn't found, for a call that began earlier
+pub missing_at : (d e w : Held) (k : ℕ) → ReadsOn d e → IsLogAt d e → WhyMissingAt e w k → WhyMissingAt d w k
+missing_at d e w k on log h = subst (λ (f : Frame). WhyMissing f d.view w.view k) on.on.cells (missing_since log h)

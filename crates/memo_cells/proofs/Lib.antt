@@ -1,13 +1,16 @@
 pub mod Adding
 pub mod Alone
 pub mod Bits
+pub mod Causes
 pub mod Claiming
 pub mod Counting
+pub mod Deciding
 pub mod Facts
 pub mod Firsts
 pub mod Fresh
 pub mod Gathered
 pub mod Holding
+pub mod Learnt
 pub mod Lifting
 pub mod Marking
 pub mod Meaning
@@ -27,4 +30,5 @@ pub mod SetValues
 pub mod SetWords
 pub mod Showing
 pub mod Telling
+pub mod ValueWords
 pub mod Ways

@@ -1,19 +1,14 @@
 -- What a pass may, the table may: a condition of a step asks of a view only what stays, so it goes over to any view that knows at least as much.
-use Rattle.std.proofs.Common.{◌≡◌, ℕ, List, inl, inr, ⊎_elim, subst}
+use Rattle.std.proofs.Common.{ℕ, List, inl, inr, ⊎_elim}
 use Rattle.equation_law.specs.Names.{Instance}
 use Rattle.equation_law.specs.Program.{Program}
 use Rattle.equation_law.specs.Values.{Value}
 use Rattle.memo_cells.specs.declared.view.Frame.{Frame}
 use Rattle.memo_cells.specs.declared.view.View.{View}
 use Rattle.memo_cells.specs.Standing.{ComesTo, Knows, MayAdd, MayRaise, MayRaiseSet, MayRaiseTruth, MaySeal, MaySettle, MayShow}
-use Rattle.memo_cells.specs.Views.{IsAtLeast, knows_all}
-use Rattle.memo_cells.proofs.More.{at_least_itself}
+use Rattle.memo_cells.specs.Views.{IsAtLeast}
 use Rattle.memo_cells.proofs.Naming.{cell_later, knows_later, stands_later, word_later}
 use Rattle.memo_cells.proofs.Showing.{settled_later, values_shown_later}
-
--- the words know what a pass knows that has them
-pub words_know : (f : Frame) (ts ks vs : List ℕ) (v : View) → knows_all f ts ks vs ≡ v → IsAtLeast v (knows_all f ts ks vs)
-words_know f ts ks vs v is = subst (λ (y : View). IsAtLeast y (knows_all f ts ks vs)) is (at_least_itself (knows_all f ts ks vs))
 
 module _ (p : Program) (v w : View) (more : IsAtLeast v w) where
   comes_later : (i : Instance) (x : Value) → ComesTo p v i x → ComesTo p w i x

@@ -1,5 +1,5 @@
 -- Words that get the mark of what is settled.
-use Rattle.std.proofs.Common.{◌≡◌, ℕ, ◌+◌, ◌<◌, ◌≤◌, ◌^◌, zero, suc, cond, inl, inr, List, [], ◌∷◌, length, get_or, refl, ap, arith}
+use Rattle.std.proofs.Common.{◌≡◌, ℕ, ◌+◌, ◌<◌, ◌≤◌, ◌^◌, zero, suc, cond, inl, inr, ⊎_elim, List, [], ◌∷◌, Some, length, get_or, slice_get, refl, sym, ap, arith}
 use mathlib.Core.Logic.{dite}
 use native.Mathlib.Decide.{dec_le}
 use Rattle.std.proofs.lemmas.Bool.{le-leb, lt-leb}
@@ -32,3 +32,14 @@ slot_left (s ∷ slots) (suc k) d lt = slot_left slots k d (omega arith)
 pub none_after : (slots : List Slot) → places_left (length slots) slots ≡ []
 none_after [] = refl
 none_after (s ∷ slots) = none_after slots
+
+-- the place of a number is that of its slot
+pub place_is : (slots : List Slot) (n : ℕ) (d : Slot) (s : ℕ) → slice_get (places slots) n ≡ Some s → s ≡ (get_or slots n d).0
+place_is [] n d s e = cc
+place_is (x ∷ slots) zero d s e = cc
+place_is (x ∷ slots) (suc n) d s e = place_is slots n d s e
+
+-- and each place has one
+pub number_of : (slots : List Slot) (s : ℕ) → Has (places slots) s → (n : ℕ) × (n < length slots) × (slice_get (places slots) n ≡ Some s)
+number_of [] s h = absurd h
+number_of (x ∷ slots) s h = ⊎_elim (λ e. (0, omega arith, ap Some (sym e))) (λ r. let t = number_of slots s r in (suc t.0, omega (arith, t.1), t.2)) h

@@ -14,7 +14,9 @@ use Rattle.equation_law.specs.Keys.{IsElementCode, has_code}
 use Rattle.equation_law.specs.Names.{Instance}
 use Rattle.equation_law.specs.Program.{Program, text_of}
 use Rattle.equation_law.specs.Systems.{program_of}
+use Rattle.equation_law.specs.Loops.{order_in}
 use Rattle.equation_law.specs.Values.{Value, as_kind, truth}
+use Rattle.equation_law.proofs.Solution.{one}
 use Rattle.memo_cells.specs.declared.view.Frame.{Frame}
 use Rattle.memo_cells.specs.declared.view.View.{View}
 use Rattle.memo_cells.specs.Keys.{is_set_word}
@@ -35,6 +37,10 @@ some_word x b e z = let none : bit_at x b ≡ 0 = ap (λ (y : ℕ). bit_at y b) 
 -- the lowest bit of each key counts
 pub some_bits : (k : ℕ) → 0 < shown_bits k
 some_bits k = elim (is_set_word k) as (λ b. 0 < (if b then 64 else 1)) [ true ↦ omega arith | false ↦ omega arith ]
+
+-- and 64 bits of that of a word of a set
+pub set_bits : (k b : ℕ) → is_set_word k ≡ true → b < 64 → b < shown_bits k
+set_bits k b set low = let all : shown_bits k ≡ 64 = ap (λ t. if◌then◌else◌ t 64 1) set in omega (arith, all, low)
 
 -- the code of a truth value
 module _ (p : Program) (i : Instance) (c : ℕ) (code : IsCodeOf p i c) (kind : kind_in p i ≡ kinds.Truth) where
@@ -164,11 +170,19 @@ module _ (f : Frame) (ts ks vs : List ℕ) (lk : length ks ≡ f.cells) (lv : le
   shown_at_least i kinds.Texts s key c e stands h code shown = subst (λ (k : Kind). ShowsAtLeast p v i k code.value) e (shown (ap is_single e))
   shown_at_least i (kinds.Nodes d) s key c e stands h code shown = subst (λ (k : Kind). ShowsAtLeast p v i k code.value) e (shown (ap is_single e))
 
-  settled_shown : (i : Instance) → Knows p v i → (x : Value) × HasValue p i x × ShowsAtLeast p v i (kind_in p i) x
+  pub settled_shown : (i : Instance) → Knows p v i → (x : Value) × HasValue p i x × ShowsAtLeast p v i (kind_in p i) x
   settled_shown i known =
       let at = (final_at known.slot known.key known.code known.settled).settled in
       let of : at.of ≡ i = stands_once v one_there p known.key at.of i at.stands known.stands in
       subst (λ (j : Instance). (x : Value) × HasValue p j x × ShowsAtLeast p v j (kind_in p j) x) of (at.code.value, at.code.has, shown_at_least at.of (kind_in p at.of) known.slot known.key known.code refl at.stands known.settled at.code at.shown)
+
+  -- the value of what is settled is at most that of the lower assignment
+  final_below : (i : Instance) → (equations_of p).circular i ≡ true → Knows p v i → (x : Value) → HasValue p i x → order_in p i x (o.values i)
+  final_below i circular known x has =
+      let final = final_at known.slot known.key known.code known.settled in
+      let of : final.settled.of ≡ i = stands_once v one_there p known.key final.settled.of i final.settled.stands known.stands in
+      let same : final.settled.code.value ≡ x = one p i final.settled.code.value x (subst (λ (j : Instance). HasValue p j final.settled.code.value) of final.settled.code.has) has in
+      subst (λ (y : Instance × Value). order_in p y.0 y.1 (o.values y.0)) (λ q. (of q, same q)) (final.lower (ap (equations_of p).circular of ∙ circular))
 
   pub approximations : AreApproximations p v
   approximations = record {
@@ -178,5 +192,5 @@ module _ (f : Frame) (ts ks vs : List ℕ) (lk : length ks ≡ f.cells) (lv : le
     codes = λ i c h. (both_shown i c h).1;
     undeclared = λ i c d h. ⊎_elim (λ a. absurd (not_both d a.0)) (λ a. a.1) (part_shown i c h);
     truths = undeclared_true;
-    settled = settled_shown;
+    final = final_below;
   }

@@ -90,7 +90,7 @@ one_set_word s w t x lw lx e = (omega (arith, lw, lx, e), omega (arith, lw, lx, 
 one_attribute : (a n b m : ℕ) → n < 2 ^ 32 → m < 2 ^ 32 → attribute_word a n ≡ attribute_word b m → (a ≡ b) × (n ≡ m)
 one_attribute a n b m ln lm e = (omega (arith, ln, lm, e), omega (arith, ln, lm, e))
 
-one_argument : (s c t d : ℕ) → c < 2 ^ 32 → d < 2 ^ 32 → argument_word s c ≡ argument_word t d → (s ≡ t) × (c ≡ d)
+pub one_argument : (s c t d : ℕ) → c < 2 ^ 32 → d < 2 ^ 32 → argument_word s c ≡ argument_word t d → (s ≡ t) × (c ≡ d)
 one_argument s c t d lc ld e = (omega (arith, lc, ld, e), omega (arith, lc, ld, e))
 
 -- the word of an attribute, with or without arguments, is that of no query
@@ -121,6 +121,20 @@ module _ (v : View) (one_key : (s j k : ℕ) → Has v.keys (s, j) → Has v.key
   stands_once p k (Attribute a r xs) (Query q) g h = absurd (named_query v k a g.node (reverse g.codes) q g.named h.1)
   stands_once p k (Query q) (Attribute b s ys) g h = absurd (named_query v k b h.node (reverse h.codes) q h.named g.1)
   stands_once p k (Query q) (Query r) g h = let same : q ≡ r = omega (arith, sym g.1 ∙ h.1) in ap Query same
+
+  -- what it stands for it stands for by a view that knows less, if that knows its way
+  pub stands_back : (less : View) → IsAtLeast less v → (p : Program) (k a n : ℕ) (cs : List ℕ) (i : Instance) → IsNamed less k a n cs → StandsFor p v k i → StandsFor p less k i
+  stands_back less more p k a n cs (Attribute b r xs) named h =
+      let one = one_name k a n b h.node cs (reverse h.codes) (named_later less v more k a n cs named) h.named in
+      record {
+        node = h.node;
+        codes = h.codes;
+        at = h.at;
+        good = h.good;
+        arguments = h.arguments;
+        named = subst (λ (y : ℕ × ℕ × List ℕ). IsNamed less k y.0 y.1 y.2) (λ j. (one.0 j, one.1 j, one.2 j)) named;
+      }
+  stands_back less more p k a n cs (Query q) named h = h
 
   -- the key of a word of a set is of one instance, and of one of its words
   pub word_of_once : (p : Program) (k : ℕ) (i j : Instance) (w x : ℕ) → IsWordOf p v k i w → IsWordOf p v k j x → (i ≡ j) × (w ≡ x)

@@ -49,7 +49,7 @@ pub zero_place : (p k : ℕ) (ks : List ℕ) → k ≡ 0 → places_from p (k �
 unfolding places_from
 zero_place p k ks e = ap (λ b. cond b (places_from (suc p) ks) (p ∷ places_from (suc p) ks)) (eq-eqb k 0 e)
 
-some_place : (p k : ℕ) (ks : List ℕ) → k ≢ 0 → places_from p (k ∷ ks) ≡ p ∷ places_from (suc p) ks
+pub some_place : (p k : ℕ) (ks : List ℕ) → k ≢ 0 → places_from p (k ∷ ks) ≡ p ∷ places_from (suc p) ks
 unfolding places_from
 some_place p k ks n = ap (λ b. cond b (places_from (suc p) ks) (p ∷ places_from (suc p) ks)) (ne_eqb k 0 n)
 
@@ -98,7 +98,7 @@ places_same (x ∷ ks) p (suc i) k q apart =
 pub either_word : {P : Type 0} (k : ℕ) → (is_set_word k ≡ true → P) → (is_set_word k ≡ false → P) → P
 either_word {P} k f g = elim (is_set_word k) as (λ b. is_set_word k ≡ b → P) [ true ↦ f | false ↦ g ] refl
 
-and_false : (b : Bool) → b && false ≡ false
+pub and_false : (b : Bool) → b && false ≡ false
 and_false true = refl
 and_false false = refl
 

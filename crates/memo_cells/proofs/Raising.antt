@@ -3,16 +3,17 @@ use Rattle.std.proofs.Common.{◌≡◌, true, cond, sym, subst, ⊎_elim}
 use Rattle.solutions.specs.Leading.{AreJoins, raised}
 use Rattle.solutions.specs.Rising.{AreRising}
 use Rattle.solutions.proofs.Lower.{raised_lower, raised_up, step_fits}
-use Rattle.equation_law.specs.Equations.{equations_of, kind_in}
+use Rattle.equation_law.specs.Equations.{HasValue, equations_of, kind_in}
 use Rattle.equation_law.specs.Loops.{fits_in, join_in, order_in}
 use Rattle.equation_law.specs.Names.{Instance}
 use Rattle.equation_law.specs.Orders.{IsAtMost, FitsKind}
 use Rattle.equation_law.specs.Program.{Program}
 use Rattle.equation_law.specs.Values.{Value}
 use Rattle.equation_law.proofs.Orders.{at_most_itself}
+use Rattle.equation_law.proofs.Solution.{one}
 use Rattle.memo_cells.specs.declared.view.View.{View}
-use Rattle.memo_cells.specs.Showing.{AreShown, ShowsAtMost}
-use Rattle.memo_cells.specs.Standing.{ComesTo, IsLowerOf, MayShow}
+use Rattle.memo_cells.specs.Showing.{ShowsAtLeast, ShowsAtMost}
+use Rattle.memo_cells.specs.Standing.{AreShown, ComesTo, IsLowerOf, IsShown, Knows, MayShow}
 use Rattle.memo_cells.proofs.Showing.{not_both, shown_between}
 
 abbrev pub Rules : Program → Type 0
@@ -21,6 +22,14 @@ Rules p = AreRising (equations_of p) (order_in p) (fits_in p)
 abbrev pub Joins : Program → Type 0
 Joins p = AreJoins (equations_of p) (order_in p) (fits_in p) (join_in p)
 
+-- all of the value of what is seen settled is shown
+abbrev pub AreSettledShown : Program → View → Type 0
+AreSettledShown p v = (i : Instance) → Knows p v i → (x : Value) × HasValue p i x × ShowsAtLeast p v i (kind_in p i) x
+
+-- then what is shown, or a value seen settled, is shown whole
+pub shown_whole : (p : Program) (v : View) → AreSettledShown p v → (i : Instance) (x : Value) → IsShown p v i x → ShowsAtLeast p v i (kind_in p i) x
+shown_whole p v all i x h = ⊎_elim (λ least. least) (λ k. let s = all i k.0 in subst (λ (y : Value). ShowsAtLeast p v i (kind_in p i) y) (one p i s.0 x s.1 k.1) s.2) h
+
 -- a lower assignment that is at least T, and at i at least x where i is circular
 pub record Higher (p : Program) (T : Instance → Value) (i : Instance) (x : Value) : Type 0 where
   pub values : Instance → Value
@@ -28,10 +37,10 @@ pub record Higher (p : Program) (T : Instance → Value) (i : Instance) (x : Val
   pub up : (j : Instance) → (equations_of p).circular j ≡ true → IsAtMost (T j) (values j)
   pub reaches : (equations_of p).circular i ≡ true → IsAtMost x (values i)
 
-module _ (p : Program) (r : Rules p) (u : Joins p) (v : View) (T : Instance → Value) (lower : IsLowerOf p T) (most : (j : Instance) → (equations_of p).circular j ≡ true → ShowsAtMost p v j (kind_in p j) (T j)) where
+module _ (p : Program) (r : Rules p) (u : Joins p) (v : View) (T : Instance → Value) (lower : IsLowerOf p T) (most : (j : Instance) → (equations_of p).circular j ≡ true → ShowsAtMost p v j (kind_in p j) (T j)) (all : AreSettledShown p v) where
   -- what is shown is at most T
   pub shown_below : (B : Instance → Value) → AreShown p v B → (j : Instance) → (equations_of p).circular j ≡ true → IsAtMost (B j) (T j)
-  shown_below B h j c = shown_between p v j (kind_in p j) (B j) (T j) (h j c).0 (h j c).1 (most j c)
+  shown_below B h j c = shown_between p v j (kind_in p j) (B j) (T j) (h j c).0 (shown_whole p v all j (B j) (h j c).1) (most j c)
 
   comes_higher : (i : Instance) (x : Value) → (equations_of p).circular i ≡ true → ComesTo p v i x → Higher p T i x
   comes_higher i x c h =

@@ -1,5 +1,5 @@
 -- Closed instances are sealed: what the words show of them is their value.
-use Rattle.std.proofs.Common.{◌≡◌, ◌≢◌, ℕ, suc, true, false, Bool, ◌+◌, ◌-◌, ◌<◌, ◌≤◌, ◌^◌, inl, inr, ⊎_elim, List, [], ◌∷◌, length, get_or, set, refl, sym, ap, ◌∙◌, subst, arith, Some, eqb, not, if◌then◌else◌, get_or-set_same, get_or-set_other, length-set}
+use Rattle.std.proofs.Common.{◌≡◌, ◌≢◌, ℕ, suc, true, false, Bool, ◌+◌, ◌-◌, ◌<◌, ◌≤◌, ◌^◌, inl, inr, ⊎_elim, List, [], ◌∷◌, length, get_or, set, slice_get, refl, sym, ap, ◌∙◌, subst, arith, Some, eqb, not, if◌then◌else◌, get_or-set_same, get_or-set_other, length-set}
 use mathlib.Core.Logic.{dite}
 use native.Mathlib.Decide.{ℕ_discrete, dec_le}
 use Rattle.std.specs.Int.{bit_at}
@@ -28,21 +28,25 @@ use Rattle.memo_cells.specs.declared.view.Frame.{Frame}
 use Rattle.memo_cells.specs.declared.view.View.{View}
 use Rattle.memo_cells.specs.Keys.{is_set_word}
 use Rattle.memo_cells.specs.Naming.{StandsFor}
-use Rattle.memo_cells.specs.Sealing.{AreSealedTo, AreSealing, SealsAll, SealsOn, SealsTo, places, places_left}
+use Rattle.memo_cells.specs.declared.learning.Step.TheVariants.{Value as LeftValue}
+use Rattle.memo_cells.specs.Learning.{after, values_said}
+use Rattle.memo_cells.specs.Sealing.{AreSealedTo, AreSealing, SealsAll, SealsOn, SealsTo, TellsNext, TellsSealed, places, places_left}
 use Rattle.memo_cells.specs.Showing.{ShowsAtLeast, ShowsTrue}
-use Rattle.memo_cells.specs.Standing.{AreWords, IsCodeOf, IsFinal, IsLowerOf, IsNoted, IsPassOf, IsRaised, IsSafe, IsSeatOf, IsSettled, IsSettledBy, Knows, MaySeal}
+use Rattle.memo_cells.specs.Standing.{AreWords, IsCodeOf, IsFinal, IsLowerOf, IsNoted, IsPassOf, IsRaised, IsSafe, IsSeatOf, IsSettled, IsSettledBy, IsTold, Knows, MaySeal}
 use Rattle.memo_cells.specs.Steps.{AreSealed, IsSealedAt}
 use Rattle.memo_cells.specs.Views.{Has, IsAtLeast, knows_all, shown_bits, with_mark}
-use Rattle.memo_cells.proofs.Alone.{frame_is, kept_words, key_there, read_at, words_after}
-use Rattle.memo_cells.proofs.Bits.{has_bits}
-use Rattle.memo_cells.proofs.Facts.{pass_of}
-use Rattle.memo_cells.proofs.Marking.{mark_high, mark_is, mark_low, none_after, slot_among, slot_left}
-use Rattle.memo_cells.proofs.Lifting.{may_seal_later, words_know}
-use Rattle.memo_cells.proofs.Meaning.{one_there, shown_at_most}
+use Rattle.memo_cells.proofs.Alone.{kept_words, key_there, read_at, words_after}
+use Rattle.memo_cells.proofs.Bits.{has_bits, has_left}
+use Rattle.memo_cells.proofs.Facts.{pass_of, told_own}
+use Rattle.memo_cells.proofs.Learnt.{least_any, told_least, value_learnt, value_told, values_said_has}
+use Rattle.memo_cells.proofs.Marking.{mark_high, mark_is, mark_low, none_after, number_of, place_is, slot_among, slot_left}
+use Rattle.memo_cells.proofs.Lifting.{may_seal_later}
+use Rattle.memo_cells.proofs.Meaning.{approximations, one_there, settled_shown, shown_at_most}
 use Rattle.memo_cells.proofs.More.{at_least_itself, at_least_then}
 use Rattle.memo_cells.proofs.Naming.{knows_later, stands_later, stands_once, stands_plain, word_once}
 use Rattle.memo_cells.proofs.Places.{values_has}
-use Rattle.memo_cells.proofs.Raising.{shown_below}
+use Rattle.memo_cells.proofs.Raising.{shown_below, shown_whole}
+use Rattle.memo_cells.proofs.ValueWords.{codes_had}
 use Rattle.memo_cells.proofs.Showing.{StaysSafe, at_least_later, not_both, noted_later, safe_later, settled_later}
 
 -- what an equation that ends by what a closed set may read meets under the solution, it meets by that
@@ -95,10 +99,14 @@ module _ (f : Frame) (slot : ℕ) (us ks vs slots : List ℕ) (sealing : AreSeal
   may = sealing.may
 
   own : IsSeatOf f v ts
-  own = pass_of f ts ks vs sealing.few lk lv o
+  own = pass_of f ts ks vs lk lv o sealing.few
+
+  -- the words show the values whole, since they do so of what is settled
+  whole_shown : (j : Instance) → (equations_of p).circular j ≡ true → ShowsAtLeast p v j (kind_in p j) (may.values j)
+  whole_shown j c = shown_whole p v (settled_shown f ts ks vs lk lv o) j (may.values j) (may.shown j c).1
 
   lower_shown : (j : Instance) → (equations_of p).circular j ≡ true → IsAtMost (may.values j) (o.values j)
-  lower_shown j c = shown_below p (are_rising p) (are_joins p) v o.values o.lower (λ i d. shown_at_most f ts ks vs lk lv o i (kind_in p i) refl d) may.values may.shown j c
+  lower_shown j c = shown_below p (are_rising p) (are_joins p) v o.values o.lower (λ i d. shown_at_most f ts ks vs lk lv o i (kind_in p i) refl d) (settled_shown f ts ks vs lk lv o) may.values may.shown j c
 
   lower_values : IsLowerOf p may.values
   lower_values = record {
@@ -140,7 +148,7 @@ module _ (f : Frame) (slot : ℕ) (us ks vs slots : List ℕ) (sealing : AreSeal
   marked_high q e high = word_here q e ∙ mark_high (get_or vs q 0) high
 
   -- at the slot stands a key of an instance
-  slot_plain : is_set_word (get_or ks slot 0) ≡ false
+  pub slot_plain : is_set_word (get_or ks slot 0) ≡ false
   slot_plain =
       let cell = (may.stands slot has_slot).2 in
       ap is_set_word (key_there f ts ks vs v refl slot cell.0 cell.1.1).2 ∙ stands_plain p v cell.0 (may.stands slot has_slot).0 cell.2
@@ -178,7 +186,7 @@ module _ (f : Frame) (slot : ℕ) (us ks vs slots : List ℕ) (sealing : AreSeal
     -- and what isn't raised isn't true
     not_raised : kind_in p i ≡ kinds.Truth → get_or vs s 0 ≡ 0 → truth (may.values i) ≡ true → ⊥
     not_raised kind z holds =
-        let shows : ShowsTrue p v i = subst (λ (t : Kind). ShowsAtLeast p v i t (may.values i)) kind (may.shown i circular).1 holds in
+        let shows : ShowsTrue p v i = subst (λ (t : Kind). ShowsAtLeast p v i t (may.values i)) kind (whole_shown i circular) holds in
         let word = word_once v own.one_key own.one_place p (texts_pooled f.system.value) shows.0 k i shows.2 stands in
         let t = has_bits ks vs 0 shows.1 shows.0 0 shows.3 in
         let same : shows.1 ≡ s = own.one_place shows.1 s k (subst (λ (y : ℕ). Has v.keys (shows.1, y)) word (own.keyed shows.1 shows.0 0 shows.3)) there in
@@ -207,7 +215,7 @@ module _ (f : Frame) (slot : ℕ) (us ks vs slots : List ℕ) (sealing : AreSeal
     abbrev code_of : IsCodeOf p i (get_or vs s 0)
     code_of =
         let both = coded_as (kind_in p i) refl (may.shown i circular).0 in
-        record { value = may.values i; has = has i m; coded = both.0; small = both.1; fits = small_code }
+        record { value = may.values i; has = has i m; coded = both.0; small = both.1; fits = small_code; elements = codes_had p v (approximations f ts ks vs lk lv o) i (may.values i) (kind_in p i) refl (whole_shown i circular) }
 
   -- what stands in the slot is settled now
   sealed_here : (q k : ℕ) → q ≡ slot → Has v.keys (q, k) → IsSealedAt w q k
@@ -234,7 +242,7 @@ module _ (f : Frame) (slot : ℕ) (us ks vs slots : List ℕ) (sealing : AreSeal
       let cell = at.2 in
       let circular = (may.holds j n).is_circular in
       ⊎_elim
-      (λ left. noted_safe i j (may.holds i m).is_circular circular (record { slot = at.0; left = left; key = cell.0; there = cell.1.1; stands = cell.2; value = may.values j; has = has j n; shown = (may.shown j circular).1 }))
+      (λ left. noted_safe i j (may.holds i m).is_circular circular (record { slot = at.0; left = left; key = cell.0; there = cell.1.1; stands = cell.2; value = may.values j; has = has j n; shown = whole_shown j circular }))
       (λ sealed. inl (knows_later v w sealed_more p j (record { key = cell.0; stands = cell.2; slot = at.0; code = sealed.0; settled = sealed.1 })))
       (sealing.each at.0 cell.0 at.1 cell.1.1)
 
@@ -256,7 +264,7 @@ module _ (f : Frame) (slot : ℕ) (us ks vs slots : List ℕ) (sealing : AreSeal
           instance = may.instances i m;
           stands = stands_later v w sealed_more p cell.0 i cell.2;
           code = code_of i m q cell.0 cell.2 there small;
-          shown = λ _. at_least_later p v w sealed_more i (kind_in p i) (may.values i) (may.shown i circular).1;
+          shown = λ _. at_least_later p v w sealed_more i (kind_in p i) (may.values i) (whole_shown i circular);
           closed = λ j meets. demand_safe i j m meets;
         };
         lower = λ c. lower_shown i c;
@@ -288,7 +296,7 @@ module _ (f : Frame) (slot : ℕ) (us ks vs slots : List ℕ) (sealing : AreSeal
       may = may_seal_later p v w sealed_more f slots may;
       each = λ q k h there. ⊎_elim (λ left. ⊎_elim (λ e. inr (sealed_here q k e there)) inl left) (λ c. inr (c.0, sealed_more.values q k c.0 c.1)) (sealing.each q k h there);
     };
-    own = pass_of f us ks ws sealing.few lk long sealed_words;
+    own = pass_of f us ks ws lk long sealed_words sealing.few;
     kept = sealed_more;
   }
 
@@ -322,38 +330,52 @@ module _ (f : Frame) (ks vs : List ℕ) (lk : length ks ≡ f.cells) (lv : lengt
 pub none_left : (f : Frame) (slots ks vs : List ℕ) → AreSealing f slots [] ks vs → (s k : ℕ) → Has slots s → Has (knows_all f [] ks vs).keys (s, k) → IsSealedAt (knows_all f [] ks vs) s k
 none_left f slots ks vs s q k h there = ⊎_elim (λ left. absurd left) (λ c. c) (s.each q k h there)
 
--- as a pass sees it that has the words
-module _ (f : Frame) (ks vs : List ℕ) (v : View) (is : knows_all f [] ks vs ≡ v) (lk : length ks ≡ f.cells) (lv : length vs ≡ f.cells) (o : AreWords f [] ks vs) (g : Frame) (own : v.frame ≡ Some g) (few : g.cells ≤ 4194304) (slots : List ℕ) (may : MaySeal (program_of g.system.value) g v slots) where
+-- as a pass sees it whose words these are
+module _ (f : Frame) (ks vs : List ℕ) (lk : length ks ≡ f.cells) (lv : length vs ≡ f.cells) (o : AreWords f [] ks vs) (v : View) (told : IsTold f ks vs v) (g : Frame) (own : IsPassOf g v) (slots : List Slot) (may : MaySeal (program_of g.system.value) g v (places slots)) where
   same : f ≡ g
-  same = frame_is f [] ks vs v is g own
+  same = let e : Some f ≡ Some g = sym told.frame ∙ own.frame in cc
 
-  its : MaySeal (program_of f.system.value) f (knows_all f [] ks vs) slots
-  its = may_seal_later (program_of f.system.value) v (knows_all f [] ks vs) (words_know f [] ks vs v is) f slots (subst (λ (h : Frame). MaySeal (program_of h.system.value) h v slots) (sym same) may)
+  its : MaySeal (program_of f.system.value) f (knows_all f [] ks vs) (places slots)
+  its = may_seal_later (program_of f.system.value) v (knows_all f [] ks vs) (told_least f ks vs v told []) f (places slots) (subst (λ (h : Frame). MaySeal (program_of h.system.value) h v (places slots)) (sym same) may)
 
   its_few : f.cells ≤ 4194304
-  its_few = subst (λ (h : Frame). h.cells ≤ 4194304) (sym same) few
+  its_few = subst (λ (h : Frame). h.cells ≤ 4194304) (sym same) own.few
 
-  pub set_noted : AreSealing g slots slots ks vs
-  set_noted = subst (λ (h : Frame). AreSealing h slots slots ks vs) same (all_noted f ks vs lk lv its_few o slots its)
+  pub set_noted : AreSealing g (places slots) (places slots) ks vs
+  set_noted = subst (λ (h : Frame). AreSealing h (places slots) (places slots) ks vs) same (all_noted f ks vs lk lv its_few o (places slots) its)
 
-  module _ (ws : List ℕ) (on : SealsOn g slots slots [] ks vs ws) where
-    its_on : SealsOn f slots slots [] ks vs ws
-    its_on = subst (λ (h : Frame). SealsOn h slots slots [] ks vs ws) (sym same) on
+  pub set_told : IsTold g ks vs v
+  set_told = subst (λ (h : Frame). IsTold h ks vs v) same told
 
+  module _ (ws : List ℕ) (on : SealsAll g slots ks vs ws) (w : View) (sealed : TellsSealed g slots (length slots) ks ws v w) where
     pub mark_words : AreWords f [] ks ws
-    mark_words = its_on.sealing.words
+    mark_words = subst (λ (h : Frame). AreWords h [] ks ws) (sym same) on.sealing.words
 
     pub mark_long : length ws ≡ f.cells
-    mark_long = its_on.sealing.long
+    mark_long = subst (λ (h : Frame). length ws ≡ h.cells) (sym same) on.sealing.long
 
-    pub mark_own : IsPassOf g (knows_all f [] ks ws)
-    mark_own = subst (λ (h : Frame). IsPassOf h (knows_all f [] ks ws)) same its_on.own
+    pub mark_told : IsTold f ks ws w
+    mark_told = subst (λ (h : Frame). IsTold h ks ws w) (sym same) sealed.told
 
-    pub mark_more : IsAtLeast v (knows_all f [] ks ws)
-    mark_more = subst (λ (y : View). IsAtLeast y (knows_all f [] ks ws)) is (at_least_then (noted_more f ks vs lk lv its_few o slots) its_on.kept)
+    pub mark_own : IsPassOf g w
+    mark_own = told_own g ks ws on.sealing.keys on.sealing.long on.sealing.words own.few w sealed.told
 
-    pub mark_sealed : AreSealed v (knows_all f [] ks ws) slots
-    mark_sealed q k h there = none_left f slots ks ws its_on.sealing q k h (mark_more.keys q k there)
+    pub mark_sealed : AreSealed v w (places slots)
+    mark_sealed s k among there = let n = number_of slots s among in sealed.sealed n.0 s k n.1 n.2 there
+
+-- none of them is sealed yet, and one more
+pub tells_none : (f : Frame) (slots : List Slot) (ks vs : List ℕ) (v : View) → IsTold f ks vs v → TellsSealed f slots 0 ks vs v v
+tells_none f slots ks vs v told = record { told = told; kept = at_least_itself v; sealed = λ n s k lt. absurd (omega (arith, lt)); claims = refl }
+
+pub tells_more : (f : Frame) (slots : List Slot) (n : ℕ) (ks vs ws : List ℕ) (v w x : View) → TellsSealed f slots n ks vs v w → TellsNext f slots n ks ws w x → TellsSealed f slots (n + 1) ks ws v x
+tells_more f slots n ks vs ws v w x before next = record {
+  told = next.told;
+  kept = at_least_then before.kept next.kept;
+  sealed = λ m s k lt at there. dite (ℕ_discrete m n)
+      (λ e. next.sealed s k (subst (λ (y : ℕ). slice_get (places slots) y ≡ Some s) e at) (before.kept.keys s k there))
+      (λ apart. let c = before.sealed m s k (omega (arith, lt, apart)) at there in (c.0, next.kept.values s k c.0 c.1));
+  claims = next.claims ∙ before.claims;
+}
 
 -- the next slot of a set gets its mark
 module _ (f : Frame) (slots : List Slot) (n : ℕ) (ks vs : List ℕ) (d : Slot) (lt : n < length slots) (s : AreSealedTo f slots n ks vs) where
@@ -379,9 +401,33 @@ module _ (f : Frame) (slots : List Slot) (n : ℕ) (ks vs : List ℕ) (d : Slot)
       let marked : word ≡ with_mark (get_or vs next.0 0) = is ∙ ap with_mark here_now in
       subst (λ (y : ℕ × ℕ). SealsTo f slots n (n + 1) ks vs (set vs y.0 y.1)) (λ i. (sym e i, sym marked i)) on_next
 
+  -- and the pass knows it
+  next_plain : is_set_word (get_or ks next.0 0) ≡ false
+  next_plain = slot_plain f next.0 (places_left (suc n) slots) ks vs (places slots) left_now (slot_among slots n d lt)
+
+  pub next_told : (v : View) → IsTold f ks vs v → (place found word : ℕ) → place ≡ next.0 → found ≡ get_or vs place found → word ≡ with_mark found → TellsNext f slots n ks (set vs place word) v (after v (LeftValue place found word))
+  next_told v told place found word e seen is =
+      let inside_now = next_inside in
+      let lw : place < length vs = omega (arith, e, inside_now) in
+      let keys = s.keys in
+      let long = s.long in
+      let high = mark_is found in
+      let more = least_any f (places_left n slots) (places_left (n + 1) slots) ks vs (set vs place word) (next_marked place found word e seen is).kept in
+      record {
+        told = value_told f ks vs v told place found word (set vs place word) (omega (arith, lw, keys, long)) (omega (arith, lw, length-set vs place word)) (get_or-set_same vs place word 0 lw) more;
+        kept = value_learnt v place found word;
+        sealed = λ t k at there.
+            let here : t ≡ place = place_is slots n d t at ∙ sym e in
+            let known : Has v.keys (place, k) = subst (λ (q : ℕ). Has v.keys (q, k)) here there in
+            let key = key_there f [] ks vs (knows_all f [] ks vs) refl place k (told.keys place k known) in
+            let plain : is_set_word k ≡ false = ap is_set_word (sym key.2 ∙ ap (λ y. get_or ks y 0) e) ∙ next_plain in
+            (word - 2 ^ 63, subst (λ (q : ℕ). Has (after v (LeftValue place found word)).values (q, k, word - 2 ^ 63)) (sym here) (has_left (values_said place word v.keys) v.values (place, k, word - 2 ^ 63) (values_said_has place word k v.keys known (omega (arith, is, high)) plain)));
+        claims = refl;
+      }
+
 -- from none to all of them
 pub seals_none : (f : Frame) (slots left ks vs : List ℕ) → AreSealing f slots left ks vs → SealsOn f slots left left ks vs vs
-seals_none f slots left ks vs s = record { sealing = s; own = pass_of f left ks vs s.few s.keys s.long s.words; kept = at_least_itself (knows_all f left ks vs) }
+seals_none f slots left ks vs s = record { sealing = s; own = pass_of f left ks vs s.keys s.long s.words s.few; kept = at_least_itself (knows_all f left ks vs) }
 
 pub seals_then : (f : Frame) (slots l m n ks us vs xs : List ℕ) → SealsOn f slots l m ks us vs → SealsOn f slots m n ks vs xs → SealsOn f slots l n ks us xs
 seals_then f slots l m n ks us vs xs a b = record { sealing = b.sealing; own = b.own; kept = at_least_then a.kept b.kept }

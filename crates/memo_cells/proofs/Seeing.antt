@@ -1,8 +1,8 @@
 -- What a word that was read says of an instance.
-use Rattle.std.proofs.Common.{◌≡◌, ◌≢◌, ◌↔◌, ℕ, true, false, ◌+◌, ◌*◌, ◌/◌, ◌%◌, ◌<◌, ◌^◌, inr, List, refl, sym, ap, ◌∙◌, subst, arith, if◌then◌else◌}
+use Rattle.std.proofs.Common.{◌≡◌, ◌≢◌, ◌↔◌, ℕ, false, ◌+◌, ◌*◌, ◌%◌, ◌<◌, ◌^◌, inr, List, refl, sym, ap, ◌∙◌, subst, arith}
 use mir.Syntax.{w64}
 use Rattle.std.specs.Int.{bit_at, trailing_zeros}
-use Rattle.std.proofs.lemmas.Nat.Bits.{bit_at-trailing_zeros, bit_at-zero, bit_at_lowest}
+use Rattle.std.proofs.lemmas.Nat.Bits.{bit_at-trailing_zeros, bit_at_lowest}
 use Rattle.attr_rules.specs.declared.kinds.Kind.{Kind}
 use Rattle.attr_rules.specs.declared.kinds.Kind.TheVariants as kinds
 use Rattle.attr_rules.specs.Rules.{is_single}
@@ -13,17 +13,18 @@ use Rattle.equation_law.specs.Names.{Instance}
 use Rattle.equation_law.specs.Program.{Program}
 use Rattle.memo_cells.specs.declared.view.Frame.{Frame}
 use Rattle.memo_cells.specs.declared.view.View.{View}
-use Rattle.memo_cells.specs.Keys.{is_set_word, set_word}
+use Rattle.memo_cells.specs.Keys.{set_word}
 use Rattle.memo_cells.specs.Naming.{IsCellOf, IsFormed, IsWordOf, StandsFor}
 use Rattle.memo_cells.specs.Showing.{IsWordSeen, ShowsCode, ShowsTrue}
 use Rattle.memo_cells.specs.Standing.{HasWord, IsPassOf, MayAdd, MayRaiseSet, MayRaiseTruth}
 use Rattle.memo_cells.specs.Steps.{BitsAdded, BitsSeen}
-use Rattle.memo_cells.specs.Views.{Has, IsAtLeast, IsNowhere, shown_bits}
+use Rattle.memo_cells.specs.Views.{Has, IsAtLeast, IsNowhere}
 use Rattle.memo_cells.proofs.Adding.{bit_of_one}
 use Rattle.memo_cells.proofs.Lifting.{may_show_later}
-use Rattle.memo_cells.proofs.Meaning.{some_bits}
+use Rattle.memo_cells.proofs.Meaning.{set_bits, some_bits}
 use Rattle.memo_cells.proofs.Naming.{set_is_word, stands_later, stands_once, word_later, word_once}
 use Rattle.memo_cells.proofs.Showing.{not_both}
+use Rattle.memo_cells.proofs.ValueWords.{word_seen, word_unseen}
 
 -- a type that has elements is that of a set
 pub element_set : (p : Program) (k : Kind) (c : ℕ) → IsElementCode p k c → is_single k ≡ false
@@ -34,10 +35,6 @@ element_set p (kinds.Node d) c h = absurd h
 element_set p kinds.Texts c h = refl
 element_set p (kinds.Nodes d) c h = refl
 
--- the bits of a word of a set
-set_bits : (k b : ℕ) → is_set_word k ≡ true → b < 64 → b < shown_bits k
-set_bits k b set low = let all : shown_bits k ≡ 64 = ap (λ t. if◌then◌else◌ t 64 1) set in omega (arith, all, low)
-
 module _ (p : Program) (f : Frame) (v : View) (own : IsPassOf f v) (pooled : ArePooled p.texts) (i : Instance) (slot : ℕ) (cell : IsCellOf p f v i slot) where
   -- the cell of an instance has one place and key
   one_cell : (k s : ℕ) → StandsFor p v k i → Has v.keys (s, k) → (k ≡ cell.0) × (s ≡ slot)
@@ -46,7 +43,7 @@ module _ (p : Program) (f : Frame) (v : View) (own : IsPassOf f v) (pooled : Are
       (key, own.one_place s slot cell.0 (subst (λ (y : ℕ). Has v.keys (s, y)) key there) cell.1.1)
 
   -- that of a truth value
-  true_seen : (u : View) (x : ℕ) → BitsSeen u v slot x → (x % 2 ≡ 1) ↔ ShowsTrue p v i
+  true_seen : (u : View) (x : ℕ) → BitsSeen p u v slot x → (x % 2 ≡ 1) ↔ ShowsTrue p v i
   true_seen u x seen =
       let low = bit_at_lowest x in (
         (λ e. (cell.0, slot, cell.2, seen.all cell.0 0 (subst (λ (l : List (ℕ × ℕ)). Has l (slot, cell.0)) seen.keys cell.1.1) (some_bits cell.0) (low ∙ e))),
@@ -57,30 +54,12 @@ module _ (p : Program) (f : Frame) (v : View) (own : IsPassOf f v) (pooled : Are
             ),
       )
 
-  pub truth_seen : (u : View) (w x : ℕ) → kind_in p i ≡ kinds.Truth → BitsSeen u v slot x → IsWordSeen p v i (kind_in p i) w (x % 2)
+  pub truth_seen : (u : View) (w x : ℕ) → kind_in p i ≡ kinds.Truth → BitsSeen p u v slot x → IsWordSeen p v i (kind_in p i) w (x % 2)
   truth_seen u w x kind seen = subst (λ (k : Kind). IsWordSeen p v i k w (x % 2)) (sym kind) (omega arith, true_seen u x seen)
 
   -- the key of a word of its set
   pub word_key : (w : ℕ) → slot < 2 ^ 29 → w < 2 ^ 32 → IsWordOf p v (set_word slot w) i w
   word_key w low small = record { slot = slot; key = cell.0; there = cell.1.1; stands = cell.2; low = low; small = small; is = refl }
-
-  one_word_key : (k w : ℕ) → IsWordOf p v k i w → k ≡ set_word slot w
-  one_word_key k w h = h.is ∙ ap (λ (s : ℕ). set_word s w) (one_cell h.key h.slot h.stands h.there).1
-
-  -- each of the bits of a word of its set
-  code_seen : (w x b : ℕ) → slot < 2 ^ 29 → w < 2 ^ 32 → b < 64 → ((bit_at x b ≡ 1) → (s : ℕ) × Has v.bits (s, set_word slot w, b)) → ((s : ℕ) → Has v.bits (s, set_word slot w, b) → bit_at x b ≡ 1) → (bit_at x b ≡ 1) ↔ ShowsCode p v i (64 * w + b)
-  code_seen w x b low small few all only =
-      let word : (64 * w + b) / 64 ≡ w = omega (arith, few) in
-      let bit : (64 * w + b) % 64 ≡ b = omega (arith, few) in (
-        (λ e.
-            let at = all e in
-            subst (λ (y : ℕ × ℕ). (k s : ℕ) × IsWordOf p v k i y.0 × Has v.bits (s, k, y.1)) (λ j. (sym word j, sym bit j)) (set_word slot w, at.0, word_key w low small, at.1)
-            ),
-        (λ h.
-            let at : (k s : ℕ) × IsWordOf p v k i w × Has v.bits (s, k, b) = subst (λ (y : ℕ × ℕ). (k s : ℕ) × IsWordOf p v k i y.0 × Has v.bits (s, k, y.1)) (λ j. (word j, bit j)) h in
-            only at.1 (subst (λ (k : ℕ). Has v.bits (at.1, k, b)) (one_word_key at.0 w at.2) at.3)
-            ),
-      )
 
   by_set : (k : Kind) (w x : ℕ) → is_single k ≡ false → ((b : ℕ) → b < 64 → (bit_at x b ≡ 1) ↔ ShowsCode p v i (64 * w + b)) → IsWordSeen p v i k w x
   by_set kinds.Truth w x e h = absurd (not_both e refl)
@@ -90,18 +69,13 @@ module _ (p : Program) (f : Frame) (v : View) (own : IsPassOf f v) (pooled : Are
   by_set kinds.Texts w x e h = h
   by_set (kinds.Nodes d) w x e h = h
 
-  pub set_seen : (u : View) (w x place : ℕ) → is_single (kind_in p i) ≡ false → slot < 2 ^ 29 → w < 2 ^ 32 → Has u.keys (place, set_word slot w) → Has v.keys (place, set_word slot w) → BitsSeen u v place x → IsWordSeen p v i (kind_in p i) w x
+  pub set_seen : (u : View) (w x place : ℕ) → is_single (kind_in p i) ≡ false → slot < 2 ^ 29 → w < 2 ^ 32 → Has u.keys (place, set_word slot w) → Has v.keys (place, set_word slot w) → BitsSeen p u v place x → IsWordSeen p v i (kind_in p i) w x
   set_seen u w x place set low small before after seen =
       by_set (kind_in p i) w x set
-      (λ b few. code_seen w x b low small few (λ e. (place, seen.all (set_word slot w) b before (set_bits (set_word slot w) b (set_is_word slot w low small) few) e))
-      (λ s h.
-      let same = own.one_place s place (set_word slot w) (own.keyed s (set_word slot w) b h) after in
-      seen.only (set_word slot w) b (subst (λ (y : ℕ). Has v.bits (y, set_word slot w, b)) same h)))
+      (word_seen p v own.one_key own.one_place own.keyed pooled (set_word slot w) i w x place (word_key w low small) after (λ n few e. seen.all (set_word slot w) n before (set_bits (set_word slot w) n (set_is_word slot w low small) few) e) (λ n h. seen.only (set_word slot w) n h))
 
   pub none_seen : (w : ℕ) → is_single (kind_in p i) ≡ false → slot < 2 ^ 29 → w < 2 ^ 32 → IsNowhere v (set_word slot w) → IsWordSeen p v i (kind_in p i) w 0
-  none_seen w set low small nowhere =
-      by_set (kind_in p i) w 0 set
-      (λ b few. code_seen w 0 b low small few (λ e. let none = bit_at-zero b in absurd (omega (arith, none, e))) (λ s h. absurd (nowhere s (own.keyed s (set_word slot w) b h))))
+  none_seen w set low small nowhere = by_set (kind_in p i) w 0 set (word_unseen p v own.one_key own.one_place own.keyed pooled (set_word slot w) i w (word_key w low small) nowhere)
 
 -- some bit of a number that isn't 0 is set
 pub some_bit : (x : ℕ) → x ≢ 0 → x < 2 ^ 64 → (b : ℕ) × (b < 64) × (bit_at x b ≡ 1)
@@ -141,7 +115,7 @@ module _ (p : Program) (f : Frame) (u : View) where
           let key = own.one_key slot cell.0 k cell.1.1 (kept.keys slot k there) in
           stands_once v own.one_key p k i j (subst (λ (y : ℕ). StandsFor p v y i) key cell.2) (stands_later u v kept p k j stands)
 
-      pub has_truth : (slot x : ℕ) → MayRaiseTruth p u slot → BitsAdded u v slot 1 x → HasWord p f v slot 0 1 (x % 2)
+      pub has_truth : (slot x : ℕ) → MayRaiseTruth p u slot → BitsAdded p u v slot 1 x → HasWord p f v slot 0 1 (x % 2)
       has_truth slot x may added = record {
         seen = λ i cell. let same = same_there slot may.key i may.of may.here may.stands cell in truth_seen p f v own pooled i slot cell u 0 x (ap (kind_in p) same ∙ may.kind) added.seen;
         added = λ b e.
@@ -152,7 +126,7 @@ module _ (p : Program) (f : Frame) (u : View) where
             ap (bit_at (x % 2)) zero ∙ omega (arith, low, half, one);
       }
 
-      pub has_set : (t : View) (slot w bits place x : ℕ) → slot < 2 ^ 29 → w < 2 ^ 32 → bits ≢ 0 → bits < 2 ^ 64 → MayRaiseSet p u slot w bits → Has t.keys (place, set_word slot w) → IsAtLeast t v → BitsAdded t v place bits x → HasWord p f v slot w bits x
+      pub has_set : (t : View) (slot w bits place x : ℕ) → slot < 2 ^ 29 → w < 2 ^ 32 → bits ≢ 0 → bits < 2 ^ 64 → MayRaiseSet p u slot w bits → Has t.keys (place, set_word slot w) → IsAtLeast t v → BitsAdded p t v place bits x → HasWord p f v slot w bits x
       has_set t slot w bits place x low small nz fits may there more added = record {
         seen = λ i cell.
             let same = same_there slot may.key i may.of may.here may.stands cell in

@@ -1,23 +1,19 @@
 -- What the words show, as a value.
-use Rattle.std.proofs.Common.{◌≡◌, ◌↔◌, ℕ, zero, suc, true, false, Bool, ◌+◌, ◌<◌, ◌≤◌, List, Some, length, map, refl, sym, ap, ◌∙◌, subst, arith}
+use Rattle.std.proofs.Common.{◌≡◌, ◌↔◌, ℕ, zero, suc, true, ◌+◌, ◌<◌, ◌≤◌, List, length, map, eqb, refl, sym, ap, ◌∙◌, subst, arith}
+use Rattle.std.proofs.lemmas.Bool.{eq-eqb, eqb-true}
 use Rattle.std.specs.Cmp.Lexicographic.{nat_list_cmp_total}
-use Rattle.std.specs.List.{slice_get}
 use Rattle.std.proofs.lemmas.Cmp.{eq_by_cmp_equiv, nat_cmp_total}
 use Rattle.std.proofs.lemmas.Map.Views.{All-from_any}
-use Rattle.std.proofs.lemmas.Option.{slice_get_within}
 use Rattle.code_sets.specs.Members.{has_code}
-use Rattle.solutions.proofs.Lower.{lower_below}
 use Rattle.rag_io.specs.Pool.{ArePooled}
 use Rattle.ast_grammar.specs.declared.grammar.ClassId.{ClassId}
-use Rattle.tree_arena.specs.Nodes.{Node}
 use Rattle.attr_rules.specs.declared.kinds.Kind.{Kind}
 use Rattle.attr_rules.specs.declared.kinds.Kind.TheVariants as kinds
 use Rattle.equation_law.specs.declared.coding.Value.TheVariants as coded
 use Rattle.equation_law.specs.Checked.{IsNodeOf, at, null}
 use Rattle.equation_law.specs.Codes.{nodes_of, reference_of}
-use Rattle.equation_law.specs.Equations.{HasValue, equations_of, kind_in}
+use Rattle.equation_law.specs.Equations.{HasValue, kind_in}
 use Rattle.equation_law.specs.Keys.{IsElementCode, has_code as has_element}
-use Rattle.equation_law.specs.Loops.{fits_in, join_in, order_in}
 use Rattle.equation_law.specs.Names.{Instance, Null, Reference, Source, node_cmp, text_cmp}
 use Rattle.equation_law.specs.Orders.{FitsKind}
 use Rattle.equation_law.specs.Program.{Program, text_of}
@@ -25,18 +21,15 @@ use Rattle.equation_law.specs.Sets.{has, set_of}
 use Rattle.equation_law.specs.Spans.{IsBelow, class_below}
 use Rattle.equation_law.specs.Values.{Nodes, Texts, Truth, Value, as_kind, has_node, nodes, texts, truth}
 use Rattle.equation_law.proofs.Keys.{both_ways}
-use Rattle.equation_law.proofs.Lists.{some_of}
 use Rattle.equation_law.proofs.Names.{code_anti, node_anti}
 use Rattle.equation_law.proofs.Orders.{node_total}
 use Rattle.equation_law.proofs.Sets.{same_parts}
-use Rattle.equation_law.proofs.Solution.{are_joins, are_rising, one}
-use Rattle.memo_cells.specs.declared.view.Frame.{Frame}
 use Rattle.memo_cells.specs.declared.view.View.{View}
 use Rattle.memo_cells.specs.Showing.{ShowsAtLeast, ShowsAtMost, ShowsCode, ShowsTrue}
-use Rattle.memo_cells.specs.Standing.{AreApproximations, Knows}
+use Rattle.memo_cells.specs.Standing.{AreApproximations, HaveCodes, IsWordOfValue, Knows}
 use Rattle.memo_cells.specs.Views.{IsAtLeast}
 use Rattle.memo_cells.proofs.Showing.{true_later}
-use Rattle.memo_cells.proofs.Telling.{shown_in}
+use Rattle.memo_cells.proofs.ValueWords.{shown_in}
 use Rattle.memo_cells.specs.SetShown.{AreCodesShown, IsShownValue}
 use Rattle.memo_cells.proofs.SetMembers.{node_code, node_in, text_code, text_in}
 
@@ -60,37 +53,25 @@ reference_in : (cs : List ℕ) (c : ℕ) → 0 < c → has_code cs c ≡ true �
 reference_in cs zero some e = absurd (omega (arith, some))
 reference_in cs (suc k) some e = node_in cs (suc k) (Source k) refl e
 
-module _ (p : Program) (before now : View) (kept : IsAtLeast before now) (a : AreApproximations p before) (b : AreApproximations p now) (f : Frame) (pooled : ArePooled p.texts) (i : Instance) where
-  -- what is shown to be true is true
-  true_in : (w : Value) → HasValue p i w → kind_in p i ≡ kinds.Truth → ShowsTrue p now i → truth w ≡ true
-  true_in w has kind h =
-      elim ((equations_of p).circular i) as (λ t. (equations_of p).circular i ≡ t → truth w ≡ true) [
-        | true ↦ λ e.
-            let low = lower_below (equations_of p) (order_in p) (fits_in p) (join_in p) (are_rising p) (are_joins p) b.values b.lower i w e has in
-            let most : ShowsTrue p now i → truth (b.values i) ≡ true = subst (λ (k : Kind). ShowsAtMost p now i k (b.values i)) kind (b.circular i e) in
-            low.in_truth (most h)
-        | false ↦ λ e. let s = b.truths i e kind h in ap truth (one p i w s.0 has s.1) ∙ s.2
-      ] refl
+module _ (p : Program) (before now : View) (kept : IsAtLeast before now) (a : AreApproximations p before) (b : AreApproximations p now) (pooled : ArePooled p.texts) (i : Instance) where
+  truth_settled : (r : ℕ) → kind_in p i ≡ kinds.Truth → IsWordOfValue p i 0 r → (w : Value) × HasValue p i w × (Truth (eqb r 1) ≡ as_kind (kind_in p i) w)
+  truth_settled r kind word =
+      let tells = word.tells kind in
+      let same : eqb r 1 ≡ truth word.value = both_ways (eqb r 1) (truth word.value) (λ e. tells.0 (eqb-true r 1 e)) (λ e. eq-eqb r 1 (tells.1 e)) in
+      (word.value, word.has, subst (λ (k : Kind). Truth (eqb r 1) ≡ as_kind k word.value) (sym kind) (ap Truth same))
 
-  truth_settled : (t : Bool) → kind_in p i ≡ kinds.Truth → ((t ≡ true) ↔ ShowsTrue p now i) → Knows p before i → (w : Value) × HasValue p i w × (Truth t ≡ as_kind (kind_in p i) w)
-  truth_settled t kind shows known =
-      let s = a.settled i known in
-      let least : ShowsAtLeast p before i kinds.Truth s.0 = subst (λ (k : Kind). ShowsAtLeast p before i k s.0) kind s.2 in
-      let same : t ≡ truth s.0 = both_ways t (truth s.0) (λ e. true_in s.0 s.1 kind (shows.0 e)) (λ e. shows.1 (true_later p before now kept i (least e))) in
-      (s.0, s.1, subst (λ (k : Kind). Truth t ≡ as_kind k s.0) (sym kind) (ap Truth same))
-
-  pub truth_shown : (t : Bool) → kind_in p i ≡ kinds.Truth → ((t ≡ true) ↔ ShowsTrue p now i) → IsShownValue p before now i (coded.Truth t)
-  truth_shown t kind shows = record {
+  pub truth_shown : (r : ℕ) → kind_in p i ≡ kinds.Truth → ((eqb r 1 ≡ true) ↔ ShowsTrue p now i) → (Knows p before i → IsWordOfValue p i 0 r) → IsShownValue p before now i (coded.Truth (eqb r 1))
+  truth_shown r kind shows word = record {
     elements = tt;
-    fits = subst (λ (k : Kind). FitsKind k (Truth t)) (sym kind) (t, refl);
-    shown = subst (λ (k : Kind). ShowsAtLeast p now i k (Truth t)) (sym kind) shows.0;
-    all = subst (λ (k : Kind). ShowsAtMost p before i k (Truth t)) (sym kind) (λ h. shows.1 (true_later p before now kept i h));
-    settled = truth_settled t kind shows;
+    fits = subst (λ (k : Kind). FitsKind k (Truth (eqb r 1))) (sym kind) (eqb r 1, refl);
+    shown = subst (λ (k : Kind). ShowsAtLeast p now i k (Truth (eqb r 1))) (sym kind) shows.0;
+    all = subst (λ (k : Kind). ShowsAtMost p before i k (Truth (eqb r 1))) (sym kind) (λ h. shows.1 (true_later p before now kept i h));
+    settled = λ k. truth_settled r kind (word k);
   }
 
   -- the value of i has the element of a code that is shown
   element_in : (k : Kind) → kind_in p i ≡ k → (w : Value) → HasValue p i w → (c : ℕ) → ShowsCode p now i c → has_element (text_of p) k w c ≡ true
-  element_in k kind w has c h = subst (λ (l : Kind). has_element (text_of p) l w c ≡ true) kind (shown_in p f now pooled b i w has c h)
+  element_in k kind w has c h = subst (λ (l : Kind). has_element (text_of p) l w c ≡ true) kind (shown_in p now pooled b i w has c h)
 
   -- a code that was shown is of an element of the type
   element_code : (k : Kind) → kind_in p i ≡ k → (c : ℕ) → ShowsCode p before i c → IsElementCode p k c
@@ -103,17 +84,18 @@ module _ (p : Program) (before now : View) (kept : IsAtLeast before now) (a : Ar
 
     texts_settled : Knows p before i → (w : Value) × HasValue p i w × (Texts (set_of {R = text_cmp} (map (text_of p) cs)) ≡ as_kind (kind_in p i) w)
     texts_settled known =
-        let s = a.settled i known in
-        let least : ShowsAtLeast p before i kinds.Texts s.0 = subst (λ (k : Kind). ShowsAtLeast p before i k s.0) kind s.2 in
-        let same = same_parts {R = text_cmp} nat_list_cmp_total code_anti (set_of {R = text_cmp} (map (text_of p) cs)) (texts s.0)
+        let s = codes.settled known in
+        let elements : HaveCodes p kinds.Texts s.value = subst (λ (k : Kind). HaveCodes p k s.value) kind s.elements in
+        let same = same_parts {R = text_cmp} nat_list_cmp_total code_anti (set_of {R = text_cmp} (map (text_of p) cs)) (texts s.value)
         (λ t e.
         let c = text_code (text_of p) cs t e in
-        subst (λ (u : List ℕ). has (texts s.0) u ≡ true) c.2 (element_in kinds.Texts kind s.0 s.1 c.0 (codes.shown c.0 c.1)))
+        subst (λ (u : List ℕ). has (texts s.value) u ≡ true) c.2 (element_in kinds.Texts kind s.value s.has c.0 (codes.shown c.0 c.1)))
         (λ t e.
-        let c = least t e in
-        let there = codes.all c.0 (omega arith) (element_code kinds.Texts kind c.0 c.2) c.2 in
-        subst (λ (u : List ℕ). has (set_of {R = text_cmp} (map (text_of p) cs)) u ≡ true) c.1 (text_in (text_of p) cs c.0 there)) in
-        (s.0, s.1, subst (λ (k : Kind). Texts (set_of {R = text_cmp} (map (text_of p) cs)) ≡ as_kind k s.0) (sym kind) (ap Texts same))
+        let c = elements t e in
+        let element : has_element (text_of p) kinds.Texts s.value c.0 ≡ true = subst (λ (u : List ℕ). has (texts s.value) u ≡ true) (sym c.2) e in
+        let there = s.all c.0 (omega arith) (let low : c.0 < length p.texts = c.1 in low) (subst (λ (k : Kind). IsElementCode p k c.0) (sym kind) c.1) (subst (λ (k : Kind). has_element (text_of p) k s.value c.0 ≡ true) (sym kind) element) in
+        subst (λ (u : List ℕ). has (set_of {R = text_cmp} (map (text_of p) cs)) u ≡ true) c.2 (text_in (text_of p) cs c.0 there)) in
+        (s.value, s.has, subst (λ (k : Kind). Texts (set_of {R = text_cmp} (map (text_of p) cs)) ≡ as_kind k s.value) (sym kind) (ap Texts same))
 
     pub texts_shown : IsShownValue p before now i (coded.Texts cs)
     texts_shown = record {
@@ -138,16 +120,18 @@ module _ (p : Program) (before now : View) (kept : IsAtLeast before now) (a : Ar
 
     nodes_settled : Knows p before i → (w : Value) × HasValue p i w × (Nodes (set_of {R = node_cmp} (nodes_of cs)) ≡ as_kind (kind_in p i) w)
     nodes_settled known =
-        let s = a.settled i known in
-        let least : ShowsAtLeast p before i (kinds.Nodes d) s.0 = subst (λ (k : Kind). ShowsAtLeast p before i k s.0) kind s.2 in
-        let same = same_parts {R = node_cmp} node_total node_anti (set_of {R = node_cmp} (nodes_of cs)) (nodes s.0)
+        let s = codes.settled known in
+        let elements : HaveCodes p (kinds.Nodes d) s.value = subst (λ (k : Kind). HaveCodes p k s.value) kind s.elements in
+        let same = same_parts {R = node_cmp} node_total node_anti (set_of {R = node_cmp} (nodes_of cs)) (nodes s.value)
         (λ n e.
         let c = node_code cs n e in
-        subst (λ (r : Reference). has_node (nodes s.0) r ≡ true) c.2 (element_in (kinds.Nodes d) kind s.0 s.1 c.0 (codes.shown c.0 c.1)))
+        subst (λ (r : Reference). has_node (nodes s.value) r ≡ true) c.2 (element_in (kinds.Nodes d) kind s.value s.has c.0 (codes.shown c.0 c.1)))
         (λ n e.
-        let c = least n e in
-        node_in cs c.0 n c.1 (code_there c.0 c.2)) in
-        (s.0, s.1, subst (λ (k : Kind). Nodes (set_of {R = node_cmp} (nodes_of cs)) ≡ as_kind k s.0) (sym kind) (ap Nodes same))
+        let c = elements n e in
+        let element : has_element (text_of p) (kinds.Nodes d) s.value c.0 ≡ true = subst (λ (r : Reference). has_node (nodes s.value) r ≡ true) (sym c.2) e in
+        let lies = node_between p d first end c.0 (reference_of c.0) span refl c.1.0 c.1.1 in
+        node_in cs c.0 n c.2 (s.all c.0 lies.0 lies.1 (subst (λ (k : Kind). IsElementCode p k c.0) (sym kind) c.1) (subst (λ (k : Kind). has_element (text_of p) k s.value c.0 ≡ true) (sym kind) element))) in
+        (s.value, s.has, subst (λ (k : Kind). Nodes (set_of {R = node_cmp} (nodes_of cs)) ≡ as_kind k s.value) (sym kind) (ap Nodes same))
 
     pub nodes_shown : IsShownValue p before now i (coded.Nodes cs)
     nodes_shown = record {

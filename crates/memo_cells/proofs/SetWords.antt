@@ -23,7 +23,7 @@ use Rattle.memo_cells.proofs.Lifting.{may_show_later}
 use Rattle.memo_cells.proofs.Naming.{cell_later, word_later}
 use Rattle.memo_cells.proofs.Seeing.{element_set}
 use Rattle.memo_cells.proofs.Showing.{shown_later}
-use Rattle.memo_cells.proofs.Telling.{codes_seen}
+use Rattle.memo_cells.proofs.ValueWords.{codes_seen}
 use Rattle.memo_cells.specs.SetRaising.{ClaimsWords, HasBits, IsWordWith, LacksWord, MayShowAll, ShowsAll}
 
 -- the first of some elements, and the others

@@ -13,8 +13,8 @@ use Rattle.equation_law.specs.Values.{Value, has_node, nodes, texts, truth}
 use Rattle.equation_law.proofs.Orders.{at_most_through}
 use Rattle.equation_law.proofs.Sets.{empty_part}
 use Rattle.memo_cells.specs.declared.view.View.{View}
-use Rattle.memo_cells.specs.Showing.{AreShown, ShowsAtLeast, ShowsAtMost, ShowsCode, ShowsTrue}
-use Rattle.memo_cells.specs.Standing.{IsElement, IsFinal, IsNoted, IsPart, IsRaised, IsSafe, IsSettledBy}
+use Rattle.memo_cells.specs.Showing.{ShowsAtLeast, ShowsAtMost, ShowsCode, ShowsTrue}
+use Rattle.memo_cells.specs.Standing.{AreApproximations, AreShown, IsElement, IsFinal, IsMissing, IsNoted, IsPart, IsRaised, IsSafe, IsSettledBy, IsShown, IsValueWord}
 use Rattle.memo_cells.specs.Views.{Has, IsAtLeast}
 use Rattle.memo_cells.proofs.Naming.{knows_later, stands_later, word_later}
 
@@ -86,11 +86,41 @@ module _ (p : Program) (v w : View) (more : IsAtLeast v w) where
   pub safe_later : ((s : ℕ) → Has v.to_seal s → Has w.to_seal s) → StaysSafe p v w
   safe_later stay i j h = ⊎_elim (λ k. inl (knows_later v w more p j k)) (λ n. inr (n.0, n.1, noted_later j n.2 (stay n.2.slot n.2.left))) h
 
+  -- what a view that knows less shows is at most what is shown
+  at_most_before : (i : Instance) (k : Kind) (x : Value) → ShowsAtMost p w i k x → ShowsAtMost p v i k x
+  at_most_before i kinds.Truth x m = λ h. m (true_later i h)
+  at_most_before i kinds.Int x m = tt
+  at_most_before i kinds.Text x m = tt
+  at_most_before i (kinds.Node d) x m = tt
+  at_most_before i kinds.Texts x m = λ c h. m c (shown_later i c h)
+  at_most_before i (kinds.Nodes d) x m = λ c h. m c (shown_later i c h)
+
+  pub approximations_before : AreApproximations p w → AreApproximations p v
+  approximations_before a = record {
+    values = a.values;
+    lower = a.lower;
+    circular = λ i c. at_most_before i (kind_in p i) (a.values i) (a.circular i c);
+    codes = λ i c h. a.codes i c (shown_later i c h);
+    undeclared = λ i c d h. a.undeclared i c d (shown_later i c h);
+    truths = λ i d k h. a.truths i d k (true_later i h);
+    final = λ i c k. a.final i c (knows_later v w more p i k);
+  }
+
+  -- what is missing for one that knows more is missing
+  pub value_word_before : (k x : ℕ) → IsValueWord p w k x → IsValueWord p v k x
+  value_word_before k x h i n is set known = h i n (word_later v w more p k i n is) set (knows_later v w more p i known)
+
+  pub missing_before : (k : ℕ) → IsMissing p w k → IsMissing p v k
+  missing_before k h = record { nowhere = λ q has. h.nowhere q (more.keys q k has); word = value_word_before k 0 h.word }
+
   abbrev pub settled_later : (S U : Instance → Instance → Type 0) (k c : ℕ) (h : IsSettledBy p v S k c) → ((j : Instance) → S h.of j → U h.of j) → IsSettledBy p w U k c
   settled_later S U k c h safe = record { of = h.of; instance = h.instance; stands = stands_later v w more p k h.of h.stands; code = h.code; shown = λ s. at_least_later h.of (kind_in p h.of) h.code.value (h.shown s); closed = λ j d. safe j (h.closed j d) }
 
+  pub value_shown_later : (i : Instance) (x : Value) → IsShown p v i x → IsShown p w i x
+  value_shown_later i x h = ⊎_elim (λ least. inl (at_least_later i (kind_in p i) x least)) (λ k. inr (knows_later v w more p i k.0, k.1)) h
+
   pub values_shown_later : (B : Instance → Value) → AreShown p v B → AreShown p w B
-  values_shown_later B h j c = ((h j c).0, at_least_later j (kind_in p j) (B j) (h j c).1)
+  values_shown_later B h j c = ((h j c).0, value_shown_later j (B j) (h j c).1)
 
   -- under a greater lower assignment too
   module _ (T U : Instance → Value) (below : (j : Instance) → (equations_of p).circular j ≡ true → IsAtMost (T j) (U j)) where

@@ -1,35 +1,33 @@
 -- What is raised, and the word that is answered, by the type of the instance.
-use Rattle.std.proofs.Common.{◌≡◌, ◌≢◌, ◌↔◌, ℕ, true, false, Bool, ◌+◌, ◌*◌, ◌%◌, ◌<◌, ◌^◌, Result, OnErr, ⊎_elim, [], length, get_or, refl, sym, ap, ◌∙◌, subst}
+use Rattle.std.proofs.Common.{◌≡◌, ◌≢◌, ◌↔◌, ℕ, true, false, Bool, ◌+◌, ◌*◌, ◌%◌, ◌<◌, ◌^◌, Result, OnErr, ⊎_elim, refl, sym, ap, ◌∙◌, subst, arith}
 use Rattle.std.specs.Int.{bit_at}
-use Rattle.std.proofs.lemmas.Option.{slice_get-get_or}
-use Rattle.solutions.proofs.Lower.{lower_below}
 use Rattle.attr_rules.specs.declared.kinds.Kind.{Kind}
 use Rattle.attr_rules.specs.declared.kinds.Kind.TheVariants as kinds
 use Rattle.attr_rules.specs.Rules.{is_single}
 use Rattle.attr_rules.specs.Types.{truth_kind}
 use Rattle.rag_io.specs.Pool.{ArePooled}
-use Rattle.rag_io.proofs.Numbers.{same_number}
-use Rattle.equation_law.specs.Codes.{reference_of}
-use Rattle.equation_law.specs.Equations.{HasValue, equations_of, kind_in}
-use Rattle.equation_law.specs.Keys.{IsElementCode, has_code}
-use Rattle.equation_law.specs.Loops.{fits_in, join_in, order_in}
-use Rattle.equation_law.specs.Names.{At, Instance, Null, Reference}
+use Rattle.equation_law.specs.Equations.{HasValue, kind_in}
+use Rattle.equation_law.specs.Keys.{has_code}
+use Rattle.equation_law.specs.Names.{Instance}
 use Rattle.equation_law.specs.Program.{Program, text_of}
 use Rattle.equation_law.specs.Systems.{program_of}
-use Rattle.equation_law.specs.Values.{Value, has_node, nodes}
-use Rattle.equation_law.proofs.Keys.{one_reference}
-use Rattle.equation_law.proofs.Solution.{are_joins, are_rising, one}
+use Rattle.equation_law.specs.Values.{Value}
+use Rattle.equation_law.proofs.Pooled.{texts_pooled}
+use Rattle.equation_law.proofs.Solution.{one}
 use Rattle.memo_cells.specs.declared.view.Frame.{Frame}
 use Rattle.memo_cells.specs.declared.view.View.{View}
-use Rattle.memo_cells.specs.Naming.{IsCellOf}
-use Rattle.memo_cells.specs.Showing.{IsWordSeen, ShowsAtLeast, ShowsAtMost, ShowsCode}
-use Rattle.memo_cells.specs.Standing.{AreApproximations, HasWord, IsPassOf, IsWordOfValue, Knows, MayRaise, MayRaiseSet, MayRaiseTruth}
+use Rattle.memo_cells.specs.Keys.{set_word}
+use Rattle.memo_cells.specs.Naming.{IsCellOf, IsWordOf, StandsFor}
+use Rattle.memo_cells.specs.Showing.{IsWordSeen}
+use Rattle.memo_cells.specs.Standing.{HasWord, IsCodeOf, IsPassOf, IsWordOfValue, Knows, MayRaise, MayRaiseSet, MayRaiseTruth}
 use Rattle.memo_cells.specs.Steps.{BitsSeen}
-use Rattle.memo_cells.specs.Views.{IsAtLeast}
+use Rattle.memo_cells.specs.Views.{Has, IsAtLeast}
 use Rattle.memo_cells.proofs.Lifting.{may_raise_set_later, may_raise_truth_later}
-use Rattle.memo_cells.proofs.Naming.{knows_later}
+use Rattle.memo_cells.proofs.Meaning.{code_true, true_code}
+use Rattle.memo_cells.proofs.More.{at_least_then}
+use Rattle.memo_cells.proofs.Naming.{stands_later, word_once}
 use Rattle.memo_cells.proofs.Seeing.{raised_kind, same_there, truth_seen}
-use Rattle.memo_cells.proofs.Showing.{has_code_more, not_both}
+use Rattle.memo_cells.proofs.Showing.{not_both}
 use Rattle.memo_cells.proofs.Ways.{on_err}
 
 pub kind_of_truth : (k : Kind) → truth_kind k ≡ true → k ≡ kinds.Truth
@@ -85,73 +83,65 @@ module _ (p : Program) (f : Frame) (u v : View) (kept : IsAtLeast u v) (own : Is
   pub kind_told : (i : Instance) → IsCellOf p f v i slot → b ≡ truth_kind (kind_in p i)
   kind_told i at = told cell.0 cell.1 ∙ ap (λ (j : Instance). truth_kind (kind_in p j)) (sym (same_there p f u v kept own pooled slot cell.1.0 i cell.0 cell.1.1.1 cell.1.2 at))
 
-  pub word_of_truth : (t : View) (w x : ℕ) → b ≡ true → BitsSeen t v slot x → (i : Instance) → IsCellOf p f v i slot → IsWordSeen p v i (kind_in p i) w (x % 2)
-  word_of_truth t w x e seen i at = truth_seen p f v own pooled i slot at t w x (kind_of_truth (kind_in p i) (sym (kind_told i at) ∙ e)) seen
+  pub kind_true : b ≡ true → (i : Instance) → IsCellOf p f v i slot → kind_in p i ≡ kinds.Truth
+  kind_true e i at = kind_of_truth (kind_in p i) (sym (kind_told i at) ∙ e)
+
+  pub kind_other : b ≡ false → (i : Instance) → IsCellOf p f v i slot → truth_kind (kind_in p i) ≡ false
+  kind_other e i at = sym (kind_told i at) ∙ e
+
+  pub word_of_truth : (t : View) (w x : ℕ) → b ≡ true → BitsSeen p t v slot x → (i : Instance) → IsCellOf p f v i slot → IsWordSeen p v i (kind_in p i) w (x % 2)
+  word_of_truth t w x e seen i at = truth_seen p f v own pooled i slot at t w x (kind_true e i at) seen
 
   pub word_of_other : (w x : ℕ) → b ≡ false → ((i : Instance) → IsCellOf p f v i slot → is_single (kind_in p i) ≡ false → IsWordSeen p v i (kind_in p i) w x) → (i : Instance) → IsCellOf p f v i slot → IsWordSeen p v i (kind_in p i) w x
   word_of_other w x e seen i at = other_seen p v i (kind_in p i) w x (sym (kind_told i at) ∙ e) (seen i at)
 
--- a code of an element is the only one
-same_text : (p : Program) (pooled : ArePooled p.texts) (c d : ℕ) → c < length p.texts → d < length p.texts → text_of p c ≡ text_of p d → c ≡ d
-same_text p pooled c d v w e = (same_number p.texts c d (get_or p.texts c []) (get_or p.texts d []) pooled (slice_get-get_or p.texts c [] v) (slice_get-get_or p.texts d [] w)).0 e
+-- What a call loaded is a word of the value of what was seen settled before: u is what it knew first, t just before the load, and v then.
+module _ (f : Frame) (u t v : View) (kept : IsAtLeast u t) (more : IsAtLeast t v) (own : IsPassOf f v) (i : Instance) (known : Knows (program_of f.system.value) u i) (slot : ℕ) (cell : IsCellOf (program_of f.system.value) f v i slot) where
+  abbrev p : Program
+  p = program_of f.system.value
 
-node_shown : (p : Program) (v : View) (i : Instance) (d : _) (x : Value) (c : ℕ) (r : Reference) → reference_of c ≡ r → ShowsAtLeast p v i (kinds.Nodes d) x → has_node (nodes x) r ≡ true → ShowsCode p v i c
-node_shown p v i d x c Null e least h = cc
-node_shown p v i d x c (At n) e least h = let s = least n h in subst (λ (k : ℕ). ShowsCode p v i k) (one_reference s.0 c (s.1 ∙ sym e)) s.2
+  -- what was known stands in the slot
+  its_code : (x : ℕ) → BitsSeen p t v slot x → IsCodeOf p i known.code × (x ≡ known.code + 2 ^ 63)
+  its_code x seen =
+      let before : Has t.values (known.slot, known.key, known.code) = kept.values known.slot known.key known.code known.settled in
+      let now : Has v.values (known.slot, known.key, known.code) = more.values known.slot known.key known.code before in
+      let stands : StandsFor p v known.key i = stands_later u v (at_least_then kept more) p known.key i known.stands in
+      let key : known.key ≡ cell.0 = word_once v own.one_key own.one_place p (texts_pooled f.system.value) known.key cell.0 i stands cell.2 in
+      let place : known.slot ≡ slot = own.one_place known.slot slot cell.0 (subst (λ (y : ℕ). Has v.keys (known.slot, y)) key (own.valued known.slot known.key known.code now)) cell.1.1 in
+      (own.coded known.slot known.key known.code now i stands, seen.code known.key known.code (subst (λ (s : ℕ). Has t.values (s, known.key, known.code)) place before))
 
-at_most_code : (p : Program) (v : View) (i : Instance) (k : Kind) (y : Value) (c : ℕ) → ShowsAtMost p v i k y → IsElementCode p k c → ShowsCode p v i c → has_code (text_of p) k y c ≡ true
-at_most_code p v i kinds.Truth y c most code h = absurd code
-at_most_code p v i kinds.Int y c most code h = absurd code
-at_most_code p v i kinds.Text y c most code h = absurd code
-at_most_code p v i (kinds.Node d) y c most code h = absurd code
-at_most_code p v i kinds.Texts y c most code h = most c h
-at_most_code p v i (kinds.Nodes d) y c most code h = most c h
+  -- so it is known which key a word of its set has
+  pub known_key : (w : ℕ) → slot < 2 ^ 29 → w < 2 ^ 32 → IsPassOf f u → IsWordOf p t (set_word slot w) i w
+  known_key w low small first =
+      let stands : StandsFor p v known.key i = stands_later u v (at_least_then kept more) p known.key i known.stands in
+      let key : known.key ≡ cell.0 = word_once v own.one_key own.one_place p (texts_pooled f.system.value) known.key cell.0 i stands cell.2 in
+      let there : Has t.keys (known.slot, known.key) = kept.keys known.slot known.key (first.valued known.slot known.key known.code known.settled) in
+      let place : known.slot ≡ slot = own.one_place known.slot slot cell.0 (subst (λ (y : ℕ). Has v.keys (known.slot, y)) key (more.keys known.slot known.key there)) cell.1.1 in
+      record { slot = slot; key = known.key; there = subst (λ (s : ℕ). Has t.keys (s, known.key)) place there; stands = stands_later u t kept p known.key i known.stands; low = low; small = small; is = refl }
 
--- the bits of a word that is seen of a set
-pub codes_seen : (p : Program) (v : View) (i : Instance) (k : Kind) (w x : ℕ) → is_single k ≡ false → IsWordSeen p v i k w x → (b : ℕ) → b < 64 → (bit_at x b ≡ 1) ↔ ShowsCode p v i (64 * w + b)
-codes_seen p v i kinds.Truth w x e h = absurd (not_both e refl)
-codes_seen p v i kinds.Int w x e h = absurd (not_both e refl)
-codes_seen p v i kinds.Text w x e h = absurd (not_both e refl)
-codes_seen p v i (kinds.Node d) w x e h = absurd (not_both e refl)
-codes_seen p v i kinds.Texts w x e h = h
-codes_seen p v i (kinds.Nodes d) w x e h = h
-
-module _ (p : Program) (f : Frame) (v : View) (pooled : ArePooled p.texts) (a : AreApproximations p v) (i : Instance) (x : Value) (has : HasValue p i x) where
-  -- what is shown is in the value
-  pub shown_in : (c : ℕ) → ShowsCode p v i c → has_code (text_of p) (kind_in p i) x c ≡ true
-  shown_in c h =
-      elim ((equations_of p).circular i) as (λ b. (equations_of p).circular i ≡ b → has_code (text_of p) (kind_in p i) x c ≡ true) [
-        | true ↦ λ e.
-            let low = lower_below (equations_of p) (order_in p) (fits_in p) (join_in p) (are_rising p) (are_joins p) a.values a.lower i x e has in
-            has_code_more (text_of p) (kind_in p i) (a.values i) x c low (at_most_code p v i (kind_in p i) (a.values i) c (a.circular i e) (a.codes i c h) h)
-        | false ↦ λ e. let s = a.undeclared i c e h in subst (λ (y : Value). has_code (text_of p) (kind_in p i) y c ≡ true) (one p i s.0 x s.1 has) s.2
-      ] refl
-
-  -- and what is in the value is shown, once it is settled
-  in_shown : (k : Kind) → kind_in p i ≡ k → ShowsAtLeast p v i k x → (c : ℕ) → IsElementCode p k c → has_code (text_of p) k x c ≡ true → ShowsCode p v i c
-  in_shown kinds.Truth e least c code h = absurd code
-  in_shown kinds.Int e least c code h = absurd code
-  in_shown kinds.Text e least c code h = absurd code
-  in_shown (kinds.Node d) e least c code h = absurd code
-  in_shown kinds.Texts e least c code h =
-      let s = least (text_of p c) h in
-      let its : IsElementCode p kinds.Texts s.0 = subst (λ (k : Kind). IsElementCode p k s.0) e (a.codes i s.0 s.2) in
-      subst (λ (d : ℕ). ShowsCode p v i d) (same_text p pooled s.0 c its code s.1) s.2
-  in_shown (kinds.Nodes d) e least c code h = node_shown p v i d x c (reference_of c) refl least h
-
-  word_of_value : (w word : ℕ) → ShowsAtLeast p v i (kind_in p i) x → IsWordSeen p v i (kind_in p i) w word → IsWordOfValue p i w word
-  word_of_value w word least seen = record {
-    value = x;
-    has = has;
-    bits = λ set b low code.
-        let shown = codes_seen p v i (kind_in p i) w word set seen b low in (
-          (λ e. shown_in (64 * w + b) (shown.0 e)),
-          (λ h. shown.1 (in_shown (kind_in p i) refl least (64 * w + b) code h)),
+  -- of a truth value
+  pub truth_known : (w x : ℕ) → kind_in p i ≡ kinds.Truth → BitsSeen p t v slot x → IsWordOfValue p i w (x % 2)
+  truth_known w x kind seen =
+      let its = its_code x seen in
+      record {
+        value = its.0.value;
+        has = its.0.has;
+        bits = λ set. absurd (not_both set (ap is_single kind));
+        tells = λ _. (
+          (λ e. code_true p i known.code its.0 kind (let at = its.1 in omega (arith, e, at))),
+          (λ e. let one = true_code p i known.code its.0 kind e in let at = its.1 in omega (arith, one, at)),
         );
-  }
+      }
 
--- the word of a settled instance is that of its value
-pub settled_word : (f : Frame) (u v : View) (kept : IsAtLeast u v) (own : IsPassOf f v) (pooled : ArePooled (program_of f.system.value).texts) (i : Instance) (w word : ℕ) → Knows (program_of f.system.value) u i → IsWordSeen (program_of f.system.value) v i (kind_in (program_of f.system.value) i) w word → IsWordOfValue (program_of f.system.value) i w word
-settled_word f u v kept own pooled i w word known seen =
-    let s = own.approximations.settled i (knows_later u v kept (program_of f.system.value) i known) in
-    word_of_value (program_of f.system.value) f v pooled own.approximations i s.0 s.1 w word s.2 seen
+-- of a value that is no set, and no truth value
+pub other_known : (p : Program) (i : Instance) (w x : ℕ) → truth_kind (kind_in p i) ≡ false → (is_single (kind_in p i) ≡ false → IsWordOfValue p i w x) → (y : Value) × HasValue p i y → IsWordOfValue p i w x
+other_known p i w x other set has = record {
+  value = has.0;
+  has = has.1;
+  bits = λ e b low code. let h = set e in subst (λ (y : Value). (bit_at x b ≡ 1) ↔ (has_code (text_of p) (kind_in p i) y (64 * w + b) ≡ true)) (one p i h.value has.0 h.has has.1) (h.bits e b low code);
+  tells = λ kind. absurd (not_both other (ap truth_kind kind));
+}
+
+-- what is known has a value
+pub known_value : (f : Frame) (v : View) (own : IsPassOf f v) (i : Instance) → Knows (program_of f.system.value) v i → (y : Value) × HasValue (program_of f.system.value) i y
+known_value f v own i k = let c = own.coded k.slot k.key k.code k.settled i k.stands in (c.value, c.has)

@@ -1,5 +1,5 @@
 -- The way to the cell of an instance: a key for the attribute at the node, and one for each argument.
-use Rattle.std.proofs.Common.{◌≡◌, false, ℕ, zero, suc, ◌+◌, ◌<◌, ◌^◌, Some, None, Option, IfNone, Result, Ok, Err, OnErr, slice_get, take, drop, length, List, [], ◌∷◌, ◌++◌, reverse, refl, sym, ap, ◌∙◌, subst, arith, inl, inr, ⊎_elim}
+use Rattle.std.proofs.Common.{◌≡◌, false, ℕ, zero, suc, ◌+◌, ◌<◌, ◌^◌, Some, None, Option, IfNone, IfSome, Result, Ok, Err, OnErr, slice_get, take, drop, length, List, [], ◌∷◌, ◌++◌, reverse, refl, sym, ap, ◌∙◌, subst, arith, inl, inr, ⊎_elim}
 use Rattle.std.proofs.lemmas.List.{append_assoc, append-nil, reverse-append}
 use Rattle.std.proofs.lemmas.Option.{slice_get_within}
 use Rattle.rag_io.specs.Pool.{ArePooled}
@@ -40,7 +40,7 @@ pub record IsOnWay (f : Frame) (v : View) (a n : ℕ) (done : List ℕ) (s : ℕ
 
 -- a slot of such a key has no word of a set
 pub slot_plain : (f : Frame) (v : View) (s k : ℕ) → IsPassOf f v → IsSlot f v s k → is_set_word k ≡ false → IsPlain v s
-slot_plain f v s k own at plain j has = ap is_set_word (own.one_key s j k has at.1) ∙ plain
+slot_plain f v s k own at plain = (k, at.1, plain)
 
 pub way_plain : (f : Frame) (v : View) (a n : ℕ) (done : List ℕ) (s : ℕ) → IsPassOf f v → IsOnWay f v a n done s → IsPlain v s
 way_plain f v a n done s own h = slot_plain f v s h.key own h.slot (named_plain v h.key a n (reverse done) h.named)
@@ -164,6 +164,29 @@ module _ (f : Frame) (v w : View) (a n : ℕ) (xs : Args) (place s : ℕ) (way :
       → (t : ℕ) → ¬ IsCellOf p f w (Attribute a (reference_of n) (arguments_at (text_of p) (attribute_parameters p a) (codes_in xs))) t
   nowhere_on c at p pooled own-later good none =
       nowhere_next f w a n p pooled own-later xs good (take place (codes_in xs)) (drop (suc place) (codes_in xs)) s c (take_more (codes_in xs) place c at).1 (way_later f v w a n (take place (codes_in xs)) s more way) none
+
+-- with all codes it is the cell of the attribute
+take_all : (cs : List ℕ) (k : ℕ) → slice_get cs k ≡ None → take k cs ≡ cs
+take_all [] zero e = refl
+take_all [] (suc k) e = refl
+take_all (x ∷ cs) zero e = cc
+take_all (x ∷ cs) (suc k) e = ap (λ (l : List ℕ). x ∷ l) (take_all cs k e)
+
+pub way_ends : (p : Program) (f : Frame) (v : View) (a n : ℕ) (xs : Args) (place s : ℕ) → AreCodes p (attribute_parameters p a) (codes_in xs) → slice_get (codes_in xs) place ≡ None → IsOnWay f v a n (take place (codes_in xs)) s → IsCellOf p f v (Attribute a (reference_of n) (arguments_at (text_of p) (attribute_parameters p a) (codes_in xs))) s
+way_ends p f v a n xs place s good none way = (
+  way.key,
+  way.slot,
+  record { node = n; codes = codes_in xs; at = refl; good = good; arguments = refl; named = subst (λ (cs : List ℕ). IsNamed v way.key a n (reverse cs)) (take_all (codes_in xs) place none) way.named },
+)
+
+-- what follows where a call finds something, or nothing
+pub some_then : {X : Type 0} {P Q : X → Type 0} (o : Option X) → ((x : X) → P x → Q x) → IfSome o P → IfSome o Q
+some_then None more h = tt
+some_then (Some x) more h = more x h
+
+pub none_then : {X P Q : Type 0} (o : Option X) → (P → Q) → IfNone o P → IfNone o Q
+none_then None more h = more h
+none_then (Some x) more h = tt
 
 -- what holds where a call fails, or finds nothing
 pub if_none : {X : Type 0} {P : Type 0} (o : Option X) → P → IfNone o P

@@ -1,5 +1,7 @@
+pub mod Causes
 pub mod Claiming
 pub mod Keys
+pub mod Learning
 pub mod Naming
 pub mod Sealing
 pub mod SetRaising

@@ -1,10 +1,11 @@
 -- The words while the slots of a set are sealed one after the other.
-use Rattle.std.specs.Prelude.{◌≡◌, ℕ, ◌≤◌, ◌⊎◌, List, [], drop, length, map}
+use Rattle.std.specs.Prelude.{◌≡◌, ℕ, ◌<◌, ◌≤◌, ◌⊎◌, List, [], Some, drop, length, map, slice_get}
 use Rattle.equation_law.specs.Systems.{program_of}
 use Rattle.memo_cells.specs.declared.keys.Slot.{Slot}
 use Rattle.memo_cells.specs.declared.view.Frame.{Frame}
-use Rattle.memo_cells.specs.Standing.{AreWords, IsSeatOf, MaySeal}
+use Rattle.memo_cells.specs.Standing.{AreWords, IsSeatOf, IsTold, MaySeal}
 use Rattle.memo_cells.specs.Steps.{IsSealedAt}
+use Rattle.memo_cells.specs.declared.view.View.{View}
 use Rattle.memo_cells.specs.Views.{Has, IsAtLeast, knows_all}
 
 -- the places of these slots
@@ -42,3 +43,17 @@ SealsTo f set n m ks vs ws = SealsOn f (places set) (places_left n set) (places_
 -- all of them are, of which none was
 abbrev pub SealsAll : Frame → List Slot → List ℕ → List ℕ → List ℕ → Type 0
 SealsAll f set ks vs ws = SealsOn f (places set) (places set) [] ks vs ws
+
+-- A pass that knew v knows w now, which stands in these words: what stands in the slot of this number is seen settled.
+pub record TellsNext (f : Frame) (set : List Slot) (number : ℕ) (ks vs : List ℕ) (v w : View) : Type 0 where
+  pub told : IsTold f ks vs w
+  pub kept : IsAtLeast v w
+  pub sealed : (s k : ℕ) → slice_get (places set) number ≡ Some s → Has v.keys (s, k) → IsSealedAt w s k
+  pub claims : w.claims ≡ v.claims
+
+-- the same of the first so many of them
+pub record TellsSealed (f : Frame) (set : List Slot) (count : ℕ) (ks vs : List ℕ) (v w : View) : Type 0 where
+  pub told : IsTold f ks vs w
+  pub kept : IsAtLeast v w
+  pub sealed : (number s k : ℕ) → number < count → slice_get (places set) number ≡ Some s → Has v.keys (s, k) → IsSealedAt w s k
+  pub claims : w.claims ≡ v.claims

@@ -7,6 +7,7 @@ use Rattle.code_sets.specs.Members.{has_code}
 use Rattle.equation_law.specs.declared.coding.Value.{Value as CodedValue}
 use Rattle.equation_law.specs.Codes.{AreElements, value_of}
 use Rattle.equation_law.specs.Equations.{HasValue, is_ordered, kind_in}
+use Rattle.equation_law.specs.Keys.{IsElementCode, has_code as has_element}
 use Rattle.equation_law.specs.Names.{Instance}
 use Rattle.equation_law.specs.Orders.{FitsKind}
 use Rattle.equation_law.specs.Program.{Program, text_of}
@@ -14,7 +15,7 @@ use Rattle.equation_law.specs.Values.{Value, as_kind}
 use Rattle.memo_cells.specs.declared.view.View.{View}
 use Rattle.memo_cells.specs.Naming.{IsCellOf}
 use Rattle.memo_cells.specs.Showing.{ShowsAtLeast, ShowsAtMost, ShowsCode}
-use Rattle.memo_cells.specs.Standing.{Knows}
+use Rattle.memo_cells.specs.Standing.{HaveCodes, Knows}
 use Rattle.memo_cells.specs.Working.{Held, program_at}
 
 -- the code c lies in this word, from one code on, below another, and has its bit there
@@ -34,12 +35,21 @@ pub record AddsWord (word bits from to : ℕ) (before after : List ℕ) : Type 0
   pub added : (c : ℕ) → IsInWord word bits from to c → has_code after c ≡ true
   pub only : (c : ℕ) → has_code after c ≡ true → (has_code before c ≡ true) ⊎ IsInWord word bits from to c
 
--- These codes lie from one code on, below another, and the words of i show each. All such codes are among them that the words showed before.
+-- the elements of the value of i have codes, and those from one code on, below another, are among these
+pub record AreSettledCodes (p : Program) (i : Instance) (from to : ℕ) (cs : List ℕ) : Type 0 where
+  pub value : Value
+  pub has : HasValue p i value
+  pub elements : HaveCodes p (kind_in p i) value
+  pub all : (c : ℕ) → from ≤ c → c < to → IsElementCode p (kind_in p i) c → has_element (text_of p) (kind_in p i) value c ≡ true → has_code cs c ≡ true
+
+-- These codes lie from one code on, below another, and the words of i show each. All such codes are among them that the words showed before, and where i
+-- was seen settled, all those of its value.
 pub record AreCodesShown (p : Program) (before now : View) (i : Instance) (from to : ℕ) (cs : List ℕ) : Type 0 where
   pub least : (c : ℕ) → has_code cs c ≡ true → from ≤ c
   pub below : (c : ℕ) → has_code cs c ≡ true → c < to
   pub shown : (c : ℕ) → has_code cs c ≡ true → ShowsCode p now i c
   pub all : (c : ℕ) → from ≤ c → c < to → ShowsCode p before i c → has_code cs c ≡ true
+  pub settled : Knows p before i → AreSettledCodes p i from to cs
 
 -- The value x is of the type of i, at least what the words showed before, and at most what they show now. Where the pass knew i as settled before, it is the value in the
 -- solution.

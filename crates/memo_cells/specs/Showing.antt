@@ -4,9 +4,7 @@ use Rattle.std.specs.Int.{bit_at}
 use Rattle.attr_rules.specs.declared.kinds.Kind.{Kind}
 use Rattle.attr_rules.specs.declared.kinds.Kind.TheVariants as kinds
 use Rattle.equation_law.specs.Codes.{reference_of}
-use Rattle.equation_law.specs.Equations.{equations_of, kind_in}
 use Rattle.equation_law.specs.Names.{At, Instance, NodeName}
-use Rattle.equation_law.specs.Orders.{FitsKind}
 use Rattle.equation_law.specs.Program.{Program, text_of}
 use Rattle.equation_law.specs.Sets.{has}
 use Rattle.equation_law.specs.Values.{Value, has_node, nodes, texts, truth}
@@ -48,7 +46,3 @@ IsWordSeen p v i kinds.Text w x = Unit {0}
 IsWordSeen p v i (kinds.Node d) w x = Unit {0}
 IsWordSeen p v i kinds.Texts w x = (b : ℕ) → b < 64 → (bit_at x b ≡ 1) ↔ ShowsCode p v i (64 * w + b)
 IsWordSeen p v i (kinds.Nodes d) w x = (b : ℕ) → b < 64 → (bit_at x b ≡ 1) ↔ ShowsCode p v i (64 * w + b)
-
--- these values of the circular instances are at most what the words show
-abbrev pub AreShown : Program → View → (Instance → Value) → Type 0
-AreShown p v B = (j : Instance) → (equations_of p).circular j ≡ true → FitsKind (kind_in p j) (B j) × ShowsAtLeast p v j (kind_in p j) (B j)

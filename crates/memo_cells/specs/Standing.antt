@@ -4,24 +4,27 @@ use Rattle.std.specs.Int.{bit_at}
 use Rattle.solutions.specs.Asking.{Ends, Meets}
 use Rattle.solutions.specs.Leading.{Holds, IsLower, Mixed, Read}
 use Rattle.solutions.specs.Rounds.{is_in}
+use Rattle.attr_rules.specs.declared.kinds.Kind.{Kind}
 use Rattle.attr_rules.specs.declared.kinds.Kind.TheVariants as kinds
 use Rattle.attr_rules.specs.Rules.{is_single}
 use Rattle.attr_rules.specs.Types.{truth_kind}
 use Rattle.equation_law.specs.declared.system.System.{System}
 use Rattle.equation_law.specs.Checked.{IsInstance}
-use Rattle.equation_law.specs.Codes.{IsSmall, value_at}
+use Rattle.equation_law.specs.Codes.{IsSmall, reference_of, value_at}
 use Rattle.equation_law.specs.Equations.{HasValue, equations_of, kind_in}
 use Rattle.equation_law.specs.Keys.{IsElementCode, has_code}
 use Rattle.equation_law.specs.Loops.{fits_in, join_in, order_in}
-use Rattle.equation_law.specs.Names.{Instance}
+use Rattle.equation_law.specs.Names.{At, Instance, NodeName}
+use Rattle.equation_law.specs.Orders.{FitsKind}
 use Rattle.equation_law.specs.Program.{Program, text_of}
 use Rattle.equation_law.specs.Systems.{program_of}
-use Rattle.equation_law.specs.Values.{Value, as_kind, truth}
+use Rattle.equation_law.specs.Sets.{has}
+use Rattle.equation_law.specs.Values.{Value, as_kind, nodes, texts, truth}
 use Rattle.memo_cells.specs.declared.view.Frame.{Frame}
 use Rattle.memo_cells.specs.declared.view.View.{View}
-use Rattle.memo_cells.specs.Naming.{IsCellOf, IsFormed, IsWordOf, StandsFor}
-use Rattle.memo_cells.specs.Showing.{AreShown, IsWordSeen, ShowsAtLeast, ShowsAtMost, ShowsCode, ShowsTrue}
-use Rattle.memo_cells.specs.Views.{Has, first_view, knows_all, times, word_at}
+use Rattle.memo_cells.specs.Naming.{IsCellOf, IsFormed, IsNamed, IsWordOf, StandsFor}
+use Rattle.memo_cells.specs.Showing.{IsWordSeen, ShowsAtLeast, ShowsAtMost, ShowsCode, ShowsTrue}
+use Rattle.memo_cells.specs.Views.{Has, IsFull, IsNowhere, bits_from, first_view, keys_from, knows_all, places_from, times, values_from, word_at}
 use Rattle.memo_cells.specs.Words.{AreOrdered}
 
 -- the cell of i is seen settled
@@ -32,13 +35,47 @@ pub record Knows (p : Program) (v : View) (i : Instance) : Type 0 where
   pub code : ℕ
   pub settled : Has v.values (slot, key, code)
 
--- c is the code of the value that i has in the solution; that of a set is 0
+-- each element of a set of this type has a code
+abbrev pub HaveCodes : Program → Kind → Value → Type 0
+HaveCodes p kinds.Truth x = Unit {0}
+HaveCodes p kinds.Int x = Unit {0}
+HaveCodes p kinds.Text x = Unit {0}
+HaveCodes p (kinds.Node d) x = Unit {0}
+HaveCodes p kinds.Texts x = (t : List ℕ) → has (texts x) t ≡ true → (c : ℕ) × IsElementCode p kinds.Texts c × (text_of p c ≡ t)
+HaveCodes p (kinds.Nodes d) x = (n : NodeName) → has (nodes x) n ≡ true → (c : ℕ) × IsElementCode p (kinds.Nodes d) c × (reference_of c ≡ At n)
+
+-- c is the code of the value that i has in the solution; that of a set is 0, and its elements have codes
 pub record IsCodeOf (p : Program) (i : Instance) (c : ℕ) : Type 0 where
   pub value : Value
   pub has : HasValue p i value
   pub coded : is_single (kind_in p i) ≡ true → value_at (text_of p) (kind_in p i) c ≡ as_kind (kind_in p i) value
   pub small : IsSmall (kind_in p i) c
   pub fits : c < 2 ^ 32
+  pub elements : HaveCodes p (kind_in p i) value
+
+-- the words show x of i, or i is seen settled, and x is its value
+abbrev pub IsShown : Program → View → Instance → Value → Type 0
+IsShown p v i x = ShowsAtLeast p v i (kind_in p i) x ⊎ (Knows p v i × HasValue p i x)
+
+-- these values of the circular instances are at most what the words show, or theirs where they are seen settled
+abbrev pub AreShown : Program → View → (Instance → Value) → Type 0
+AreShown p v B = (j : Instance) → (equations_of p).circular j ≡ true → FitsKind (kind_in p j) (B j) × IsShown p v j (B j)
+
+-- x is the w-th word of the value of i, if that is a set, and tells a truth value
+pub record IsWordOfValue (p : Program) (i : Instance) (w x : ℕ) : Type 0 where
+  pub value : Value
+  pub has : HasValue p i value
+  pub bits : is_single (kind_in p i) ≡ false → (b : ℕ) → b < 64 → IsElementCode p (kind_in p i) (64 * w + b) → (bit_at x b ≡ 1) ↔ (has_code (text_of p) (kind_in p i) value (64 * w + b) ≡ true)
+  pub tells : kind_in p i ≡ kinds.Truth → (x ≡ 1) ↔ (truth value ≡ true)
+
+-- where k is the key of the w-th word of a set that is seen settled, x is that word of its value
+abbrev pub IsValueWord : Program → View → ℕ → ℕ → Type 0
+IsValueWord p v k x = (i : Instance) (w : ℕ) → IsWordOf p v k i w → is_single (kind_in p i) ≡ false → Knows p v i → IsWordOfValue p i w x
+
+-- The key isn't seen claimed; where it is that of a word of a set that is seen settled, no element of its value lies there.
+pub record IsMissing (p : Program) (v : View) (k : ℕ) : Type 0 where
+  pub nowhere : IsNowhere v k
+  pub word : IsValueWord p v k 0
 
 -- the cell of i has still to be sealed, and the words show the value of i
 pub record IsNoted (p : Program) (v : View) (i : Instance) : Type 0 where
@@ -73,7 +110,8 @@ abbrev pub IsLowerOf : Program → (Instance → Value) → Type 0
 IsLowerOf p T = IsLower (equations_of p) (order_in p) (fits_in p) (join_in p) T
 
 -- What the words show of circular instances is at most the values of one lower assignment, and of a set they show elements. What they show of an undeclared set is part of
--- its value, and nothing where it has none; an undeclared truth value that they show is true. All of the value of a settled instance is shown, if it is a set or a truth value.
+-- its value, and nothing where it has none; an undeclared truth value that they show is true. The value of a circular instance that is seen settled is at most that of the
+-- assignment.
 pub record AreApproximations (p : Program) (v : View) : Type 0 where
   pub values : Instance → Value
   pub lower : IsLowerOf p values
@@ -81,11 +119,12 @@ pub record AreApproximations (p : Program) (v : View) : Type 0 where
   pub codes : (i : Instance) (c : ℕ) → ShowsCode p v i c → IsElementCode p (kind_in p i) c
   pub undeclared : (i : Instance) (c : ℕ) → (equations_of p).circular i ≡ false → ShowsCode p v i c → (x : Value) × HasValue p i x × (has_code (text_of p) (kind_in p i) x c ≡ true)
   pub truths : (i : Instance) → (equations_of p).circular i ≡ false → kind_in p i ≡ kinds.Truth → ShowsTrue p v i → (x : Value) × HasValue p i x × (truth x ≡ true)
-  pub settled : (i : Instance) → Knows p v i → (x : Value) × HasValue p i x × ShowsAtLeast p v i (kind_in p i) x
+  pub final : (i : Instance) → (equations_of p).circular i ≡ true → Knows p v i → (x : Value) → HasValue p i x → order_in p i x (values i)
 
--- A pass of these cells that has these slots still to seal: what it knows stands in one table, where a place has one key and a key one place,
--- and what is settled codes the value of what its key stands for. What the words show are approximations. One that has the whole share
--- claimed all of them.
+-- A pass of these cells that has these slots still to seal: what it knows stands in one table, where a place has one key and a key one place. A key
+-- whose way is seen claimed stands for an instance, and what is settled codes the value of each instance that its key stands for. What the words show
+-- are approximations, and where other keys have all the cells than one of a word of a settled set, its value has nothing there. One that has the whole
+-- share claimed all that it knows.
 pub record IsSeatOf (f : Frame) (v : View) (left : List ℕ) : Type 0 where
   pub table : v.table ≡ f.table
   pub frame : v.frame ≡ Some f
@@ -93,9 +132,12 @@ pub record IsSeatOf (f : Frame) (v : View) (left : List ℕ) : Type 0 where
   pub within : (p k : ℕ) → Has v.keys (p, k) → p < f.cells
   pub one_key : (p j k : ℕ) → Has v.keys (p, j) → Has v.keys (p, k) → j ≡ k
   pub one_place : (p q k : ℕ) → Has v.keys (p, k) → Has v.keys (q, k) → p ≡ q
-  pub valued : (p k c : ℕ) → Has v.values (p, k, c) → Has v.keys (p, k) × ((i : Instance) × StandsFor (program_of f.system.value) v k i × IsCodeOf (program_of f.system.value) i c)
+  pub named : (s k a n : ℕ) (cs : List ℕ) → Has v.keys (s, k) → IsNamed v k a n cs → (i : Instance) × StandsFor (program_of f.system.value) v k i
+  pub valued : (p k c : ℕ) → Has v.values (p, k, c) → Has v.keys (p, k)
+  pub coded : (p k c : ℕ) → Has v.values (p, k, c) → (i : Instance) → StandsFor (program_of f.system.value) v k i → IsCodeOf (program_of f.system.value) i c
   pub keyed : (p k n : ℕ) → Has v.bits (p, k, n) → Has v.keys (p, k)
   pub approximations : AreApproximations (program_of f.system.value) v
+  pub full : (k : ℕ) → IsFull f v k → IsValueWord (program_of f.system.value) v k 0
   pub whole : v.share ≡ 2 ^ 62 → (p k : ℕ) → Has v.keys (p, k) → times p v.claims ≢ 0
   pub to_seal : v.to_seal ≡ left
 
@@ -191,11 +233,9 @@ IsOfSet f v place = (i : Instance) → IsCellOf (program_of f.system.value) f v 
 abbrev pub ClaimsForSet : Frame → View → View → ℕ → Type 0
 ClaimsForSet f v w place = (i : Instance) → IsCellOf (program_of f.system.value) f w i place → truth_kind (kind_in (program_of f.system.value) i) ≡ true → w.claims ≡ v.claims
 
--- x is the w-th word of the value of i, if that is a set
-pub record IsWordOfValue (p : Program) (i : Instance) (w x : ℕ) : Type 0 where
-  pub value : Value
-  pub has : HasValue p i value
-  pub bits : is_single (kind_in p i) ≡ false → (b : ℕ) → b < 64 → IsElementCode p (kind_in p i) (64 * w + b) → (bit_at x b ≡ 1) ↔ (has_code (text_of p) (kind_in p i) value (64 * w + b) ≡ true)
+-- where it was seen settled, x is that word of its value
+abbrev pub HasKnownWordOfSet : Frame → View → View → ℕ → ℕ → ℕ → Type 0
+HasKnownWordOfSet f before now place w x = (i : Instance) → IsCellOf (program_of f.system.value) f now i place → is_single (kind_in (program_of f.system.value) i) ≡ false → Knows (program_of f.system.value) before i → IsWordOfValue (program_of f.system.value) i w x
 
 -- where what has its cell at this place was seen settled, x is the w-th word of its value
 abbrev pub HasKnownWord : Frame → View → View → ℕ → ℕ → ℕ → Type 0
@@ -243,3 +283,17 @@ pub record AreWords (f : Frame) (ts ks vs : List ℕ) : Type 0 where
   pub values : Instance → Value
   pub lower : IsLowerOf (program_of f.system.value) values
   pub ordered : AreOrdered (IsFormed (program_of f.system.value) (knows_all f ts ks vs)) (IsFinal (program_of f.system.value) (knows_all f ts ks vs) values) (IsRaised (program_of f.system.value) (knows_all f ts ks vs) values) (IsElement (program_of f.system.value) (knows_all f ts ks vs) values) f.cells (word_at ks) (word_at vs)
+
+-- All that a pass knows stands in the words of these cells: it has the whole share, and each key that stands there it claimed itself.
+pub record IsTold (f : Frame) (ks vs : List ℕ) (v : View) : Type 0 where
+  pub table : v.table ≡ f.table
+  pub frame : v.frame ≡ Some f
+  pub share : v.share ≡ 2 ^ 62
+  pub keys : (p k : ℕ) → Has v.keys (p, k) → Has (keys_from 0 ks) (p, k)
+  pub values : (p k c : ℕ) → Has v.values (p, k, c) → Has (values_from 0 ks vs) (p, k, c)
+  pub bits : (p k n : ℕ) → Has v.bits (p, k, n) → Has (bits_from 0 ks vs) (p, k, n)
+  pub valued : (p k c : ℕ) → Has v.values (p, k, c) → Has v.keys (p, k)
+  pub keyed : (p k n : ℕ) → Has v.bits (p, k, n) → Has v.keys (p, k)
+  pub claims : (p : ℕ) → times p v.claims ≤ times p (places_from 0 ks)
+  pub own : (p k : ℕ) → Has (keys_from 0 ks) (p, k) → times p v.claims ≢ 0
+  pub to_seal : v.to_seal ≡ []

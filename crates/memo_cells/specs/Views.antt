@@ -54,6 +54,13 @@ bits_from p (k ∷ ks) (v ∷ vs) = bits_below p k v (shown_bits k) ++ bits_from
 abbrev pub with_mark : ℕ → ℕ
 with_mark v = if nat_le (2 ^ 63) v then v else v + 2 ^ 63
 
+-- The words of the table: two counters and 4,096 rows of 17 words, then a key word for each of n cells, and then their value words.
+abbrev pub key_word_at : ℕ → ℕ
+key_word_at p = 69634 + p
+
+abbrev pub value_word_at : ℕ → ℕ → ℕ
+value_word_at n p = 69634 + n + p
+
 -- so many cells of a system, in the only table that there is
 abbrev pub framed : Snapshot System → ℕ → Frame
 framed system cells = record { table = 0; system = system; cells = cells }
@@ -117,9 +124,9 @@ IsOtherIn v k a b = (q : ℕ) → a ≤ q → q < b → IsOther v k q
 abbrev pub IsLedTo : Frame → View → ℕ → ℕ → ℕ → Type 0
 IsLedTo f v k a b = (p q : ℕ) → a ≤ p → p < b → Before f.cells (start f.cells k) p q → ((a ≤ q) × (q < p)) ⊎ IsOther v k q
 
--- the place has no word of a set, by what is seen claimed
+-- some key is seen claimed at the place, and it isn't of a word of a set
 abbrev pub IsPlain : View → ℕ → Type 0
-IsPlain v p = (k : ℕ) → Has v.keys (p, k) → is_set_word k ≡ false
+IsPlain v p = (k : ℕ) × Has v.keys (p, k) × (is_set_word k ≡ false)
 
 -- the key isn't seen claimed
 abbrev pub IsNowhere : View → ℕ → Type 0
@@ -128,6 +135,10 @@ IsNowhere v k = (q : ℕ) → ¬ Has v.keys (q, k)
 -- it isn't seen settled
 abbrev pub IsUnset : View → ℕ → Type 0
 IsUnset v k = (q c : ℕ) → ¬ Has v.values (q, k, c)
+
+-- none of the keys that were seen claimed at the place is seen settled now
+pub record IsUnsettled (v w : View) (p : ℕ) : Type 0 where
+  pub unset : (k : ℕ) → Has v.keys (p, k) → IsUnset w k
 
 -- what a call claimed is a cell of the key k
 abbrev pub ClaimsOnly : View → View → ℕ → Type 0

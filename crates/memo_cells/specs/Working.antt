@@ -14,10 +14,11 @@ use Rattle.memo_cells.specs.declared.keys.Slot.{Slot}
 use Rattle.memo_cells.specs.declared.view.Frame.{Frame}
 use Rattle.memo_cells.specs.declared.view.View.{View}
 use Rattle.memo_cells.specs.Claiming.{ClaimsKeys}
-use Rattle.memo_cells.specs.Naming.{ClaimsKeysTo, IsCellOf, IsFormed, LacksCell}
-use Rattle.memo_cells.specs.Standing.{ClaimsForSet, HasKnownWord, HasWord, IsOfSet, IsPassOf, Knows, MayRaise, MaySeal, MaySettle, ShowsWord}
+use Rattle.memo_cells.specs.Causes.{IsLogOn, WhyMissing}
+use Rattle.memo_cells.specs.Naming.{ClaimsKeysTo, IsCellOf, IsFormed, IsKeyTo, LacksCell}
+use Rattle.memo_cells.specs.Standing.{ClaimsForSet, HasKnownWord, HasWord, IsMissing, IsOfSet, IsPassOf, Knows, MayRaise, MaySeal, MaySettle, ShowsWord}
 use Rattle.memo_cells.specs.Steps.{AreSealed}
-use Rattle.memo_cells.specs.Views.{ClaimsOnly, Has, IsAtLeast, IsFull, IsNowhere, IsPlain, IsSlot}
+use Rattle.memo_cells.specs.Views.{ClaimsOnly, IsAtLeast, IsFull, IsPlain, IsSlot}
 
 -- what such a reader holds: the cells, what the pass knows, and the reference through which the pass is held
 pub record Held : Type 0 where
@@ -57,17 +58,21 @@ pub record ReadsOn (d e : Held) : Type 0 where
 abbrev pub IsSlotAt : Held → Held → ℕ → ℕ → Type 0
 IsSlotAt d e s k = IsSlot d.frame e.view s k
 
--- some key has its slot at this place
-abbrev pub HasKeyAt : Held → ℕ → Type 0
-HasKeyAt d s = (k : ℕ) × Has d.view.keys (s, k)
-
 -- this place has no word of a set
 abbrev pub IsPlainAt : Held → ℕ → Type 0
 IsPlainAt d s = IsPlain d.view s
 
--- the key is claimed nowhere
-abbrev pub IsNowhereAt : Held → ℕ → Type 0
-IsNowhereAt d k = IsNowhere d.view k
+-- the key is missing now
+abbrev pub IsMissingAt : Held → Held → ℕ → Type 0
+IsMissingAt d e k = IsMissing (program_at d) e.view k
+
+-- why it wasn't found
+abbrev pub WhyMissingAt : Held → Held → ℕ → Type 0
+WhyMissingAt d e k = WhyMissing d.frame d.view e.view k
+
+-- e is d later, by what the steps found
+abbrev pub IsLogAt : Held → Held → Type 0
+IsLogAt d e = IsLogOn d.view e.view
 
 -- it is the key of a cell of the program, by the keys that are seen claimed
 abbrev pub IsFormedAt : Held → ℕ → Type 0
@@ -120,6 +125,10 @@ FindsCell d e i found = IsCodedAt d i → IfSome found (λ s. IsCellAt d e i s.0
 -- where it finds none, its cell is seen claimed nowhere
 abbrev pub MissesCell : Held → Held → CodedInstance → Option Slot → Type 0
 MissesCell d e i found = IsCodedAt d i → IfNone found ((s : ℕ) → ¬ IsCellAt d e i s)
+
+-- why: for a key on the way to it
+abbrev pub WhyNoCell : Held → Held → CodedInstance → Option Slot → Type 0
+WhyNoCell d e i found = IsCodedAt d i → IfNone found ((k : ℕ) × IsKeyTo (program_at d) e.view (instance_of (program_at d) i) k × WhyMissing d.frame d.view e.view k)
 
 -- the cell of some instance is seen claimed at this place
 abbrev pub HasCell : Held → ℕ → Type 0

@@ -1,15 +1,19 @@
 // What callers do with the cells.
 ghost use Rattle.std.specs.Prelude.{◌≡◌, ◌<◌, ◌≤◌, ℕ, IfOk, IfSome, IfNone, OnErr, replicate};
 ghost use Rattle.equation_law.specs.Systems.{program_of};
+ghost use Rattle.memo_cells.specs.Causes.{IsLogOn, WhyMissing, WhyUnsettled};
 ghost use Rattle.memo_cells.specs.Keys.{Fits, key_word};
+ghost use Rattle.memo_cells.specs.Learning.{forgotten};
 ghost use Rattle.memo_cells.specs.Naming.{IsFormed};
-ghost use Rattle.memo_cells.specs.Standing.{AreNew, IsPassOf, MaySettle};
-ghost use Rattle.memo_cells.specs.Views.{ClaimsOnly, Has, IsAtLeast, IsFull, IsNowhere, IsPlain, IsSlot, IsUnset, settled_below};
+ghost use Rattle.memo_cells.specs.Standing.{AreNew, IsMissing, IsPassOf, MaySettle};
+ghost use Rattle.memo_cells.specs.Views.{ClaimsOnly, Has, IsAtLeast, IsFull, IsPlain, IsSlot, IsUnsettled, settled_below};
 
 use crate::cells::{Cells, Pass};
 use crate::keys::{Key, Slot, start_of};
+use crate::learning::{Step, learn};
 use crate::probe::Search;
 use crate::truths::{truths_of_attributes, truths_of_queries};
+use crate::view::nothing_known;
 use equation_law::{Code, System};
 use rag_io::Memory;
 use std::alloc::Global;
@@ -45,6 +49,7 @@ impl Cells {
             values,
             size: cells,
             system: Snapshot::of(system),
+            known: nothing_known(alloc, Snapshot::of(system), cells),
         };
         Ok((kept, pass))
     }
@@ -78,15 +83,17 @@ impl Cells {
         Err(CellsFull)
     }
 
-    /// The one slot of a key, or None exactly where it isn't claimed. It claims nothing.
+    /// The one slot of a key, or None where it isn't claimed: never for a key that the pass has seen claimed. It claims nothing.
     pub fn seek(&self, pass: &mut Pass, key: Key) -> Option<Slot>
         requires own { IsPassOf self.now pass.old }
         requires slot { Fits key }
         ensures own { IsPassOf self.now pass.new }
         ensures kept { IsAtLeast pass.old pass.new }
         ensures slot { IfSome result (λ s. IsSlot self.now pass.new s.0 (key_word key)) }
-        ensures none { IfNone result (IsNowhere pass.new (key_word key)) }
+        ensures none { IfNone result (IsMissing (program_of self.now.system.value) pass.new (key_word key)) }
+        ensures cause { IfNone result (WhyMissing self.now pass.old pass.new (key_word key)) }
         ensures claims { pass.new.claims ≡ pass.old.claims }
+        ensures log { IsLogOn pass.old pass.new }
     {
         let word = key.word();
         let first = start_of(self.size, word);
@@ -101,7 +108,8 @@ impl Cells {
         }
     }
 
-    /// The code that stands in a slot for good, or None exactly where none is settled there. It needs a slot that has no word of a set.
+    /// The code that stands in a slot for good, or None where none is settled there: never where the pass has seen it settled. It needs a slot
+    /// whose key the pass knows, and not a word of a set.
     pub fn settled(&self, pass: &mut Pass, slot: Slot) -> Option<Code>
         requires own { IsPassOf self.now pass.old }
         requires slot { slot.0 < self.now.cells }
@@ -109,8 +117,10 @@ impl Cells {
         ensures own { IsPassOf self.now pass.new }
         ensures kept { IsAtLeast pass.old pass.new }
         ensures known { IfSome result (λ c. (k : ℕ) → Has pass.old.keys (slot.0, k) → Has pass.new.values (slot.0, k, c)) }
-        ensures none { IfNone result ((k : ℕ) → Has pass.old.keys (slot.0, k) → IsUnset pass.new k) }
+        ensures none { IfNone result (IsUnsettled pass.old pass.new slot.0) }
+        ensures cause { IfNone result (WhyUnsettled self.now pass.old pass.new slot.0) }
         ensures claims { pass.new.claims ≡ pass.old.claims }
+        ensures log { IsLogOn pass.old pass.new }
     {
         let word = self.look_value(pass, slot.0);
         if word < 1 << 63 {
@@ -137,6 +147,16 @@ impl Cells {
         }
         (found - (1 << 63)) as u32
     }
+
+    /// Forgets what the pass has read of the words, as one that comes to them anew. They stay as they are, and it stays the owner of what it claimed.
+    pub fn forget(&self, pass: &mut Pass)
+        requires own { IsPassOf self.now pass.old }
+        ensures own { IsPassOf self.now pass.new }
+        ensures forgot { pass.new ≡ forgotten pass.old }
+    {
+        learn(&mut pass.known, &Step::Forget);
+    }
+
     /// How many cells of attributes are settled, those of queries aside. It reads each cell once.
     pub fn settled_count(&self, pass: &mut Pass) -> u32
         requires own { IsPassOf self.now pass.old }

@@ -1,6 +1,6 @@
 // The cells and their passes.
 
-use crate::view::Frame;
+use crate::view::{Frame, View};
 use equation_law::System;
 use std::marker::Model;
 use std::snapshot::Snapshot;
@@ -32,13 +32,14 @@ impl Model for Cells {
     ghost invariant = { λ c. (0 < c.size) × AreTruths (program_of c.system.value) c.attributes.items c.queries.items };
 }
 
-/// What one caller knows of the cells.
+/// One caller's token. The words stand in it, and what it knows of them: that is told by its own steps, and no byte stands for it.
 #[derive(Drop)]
 pub struct Pass {
     pub(crate) keys: Vec<u64>,
     pub(crate) values: Vec<u64>,
     pub(crate) size: u32,
     pub(crate) system: Snapshot<System>,
+    pub(crate) known: Snapshot<View>,
 }
 
 impl Model for Pass {
@@ -46,14 +47,14 @@ impl Model for Pass {
     ghost use Rattle.std.specs.Coded.{codes};
     ghost use Rattle.attr_rules.specs.contracts.expression.TExpr as expressions;
     ghost use Rattle.memo_cells.specs.declared.view.View.{View};
-    ghost use Rattle.memo_cells.specs.Standing.{AreWords};
-    ghost use Rattle.memo_cells.specs.Views.{framed, knows_all};
+    ghost use Rattle.memo_cells.specs.Standing.{AreWords, IsTold};
+    ghost use Rattle.memo_cells.specs.Views.{framed};
 
     ghost Value = { View };
 
     ghost coded = { Prim.hlevel (codes, expressions.the_row.coded) };
 
-    ghost view = { λ p. knows_all (framed p.system p.size) [] p.keys.items p.values.items };
+    ghost view = { λ p. p.known.value };
 
-    ghost invariant = { λ p. (0 < p.size) × (length p.keys.items ≡ p.size) × (length p.values.items ≡ p.size) × AreWords (framed p.system p.size) [] p.keys.items p.values.items };
+    ghost invariant = { λ p. (0 < p.size) × (length p.keys.items ≡ p.size) × (length p.values.items ≡ p.size) × AreWords (framed p.system p.size) [] p.keys.items p.values.items × IsTold (framed p.system p.size) p.keys.items p.values.items p.known.value };
 }

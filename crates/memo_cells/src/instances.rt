@@ -1,7 +1,7 @@
 // The cells of instances: one key for the attribute at the node, and one for each argument.
 ghost use Rattle.std.specs.Prelude.{◌<◌, IfOk, IfSome, OnErr};
 ghost use Rattle.equation_law.specs.declared.coding.Instance.TheVariants.{Attr as attribute_at};
-ghost use Rattle.memo_cells.specs.Working.{ClaimsKeysAt, FindsCell, GoesOn, HasKeyAt, IsCellAt, IsCodedAt, IsInstanceAt, IsOwn, IsPlainAt, LacksCellAt, MissesCell, ReadsOn};
+ghost use Rattle.memo_cells.specs.Working.{ClaimsKeysAt, FindsCell, GoesOn, HasCell, IsCellAt, IsCodedAt, IsInstanceAt, IsLogAt, IsOwn, IsPlainAt, LacksCellAt, MissesCell, ReadsOn, WhyNoCell};
 
 use crate::calls::CellsFull;
 use crate::keys::{Key, Slot};
@@ -55,9 +55,11 @@ fn seek_attribute<W: Words>(work: &mut W, attr: AttrId, node: NodeRef, args: Arg
     ensures on { ReadsOn (W.held work.old) (W.held work.new) }
     ensures slot { FindsCell (W.held work.old) (W.held work.new) (attribute_at attr node args) result }
     ensures none { MissesCell (W.held work.old) (W.held work.new) (attribute_at attr node args) result }
+    ensures cause { WhyNoCell (W.held work.old) (W.held work.new) (attribute_at attr node args) result }
+    ensures log { IsLogAt (W.held work.old) (W.held work.new) }
     ensures place { IfSome result (λ s. s.0 < (W.held work.old).frame.cells) }
     ensures plain { IfSome result (λ s. IsPlainAt (W.held work.new) s.0) }
-    ensures key { IfSome result (λ s. HasKeyAt (W.held work.new) s.0) }
+    ensures cell { IfSome result (λ s. HasCell (W.held work.new) s.0) }
 {
     let mut slot = work.seek(Key::Inst { attr, node })?;
     let mut place = 0;
@@ -68,14 +70,17 @@ fn seek_attribute<W: Words>(work: &mut W, attr: AttrId, node: NodeRef, args: Arg
     Some(slot)
 }
 
-/// The one slot of a well coded instance, or None exactly where it isn't claimed. It claims nothing.
+/// The one slot of a well coded instance, or None where it isn't claimed: never for one whose cell was seen claimed. It claims nothing. A slot that is
+/// found is that of some instance, if this one isn't well coded.
 pub fn seek_instance<W: Words>(work: &mut W, i: Instance) -> Option<Slot>
     ensures on { ReadsOn (W.held work.old) (W.held work.new) }
     ensures slot { FindsCell (W.held work.old) (W.held work.new) i result }
     ensures none { MissesCell (W.held work.old) (W.held work.new) i result }
+    ensures cause { WhyNoCell (W.held work.old) (W.held work.new) i result }
+    ensures log { IsLogAt (W.held work.old) (W.held work.new) }
     ensures place { IfSome result (λ s. s.0 < (W.held work.old).frame.cells) }
     ensures plain { IfSome result (λ s. IsPlainAt (W.held work.new) s.0) }
-    ensures key { IfSome result (λ s. HasKeyAt (W.held work.new) s.0) }
+    ensures cell { IfSome result (λ s. HasCell (W.held work.new) s.0) }
 {
     match i {
         Instance::Attr { attr, node, args } => seek_attribute(work, attr, node, args),

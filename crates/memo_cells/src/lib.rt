@@ -6,6 +6,7 @@ mod calls;
 mod cells;
 mod instances;
 mod keys;
+mod learning;
 mod probe;
 mod set_raising;
 mod set_showing;

@@ -1,6 +1,7 @@
 // The search for a key: place by place from where its hash leads, round the table.
 ghost use Rattle.std.specs.Prelude.{◌≡◌, ◌≢◌, ◌<◌, ◌≤◌, ◌⊎◌, ℕ, MatchOption};
 ghost use Rattle.equation_law.specs.Systems.{program_of};
+ghost use Rattle.memo_cells.specs.Causes.{IsLogOn};
 ghost use Rattle.memo_cells.specs.Naming.{IsFormed};
 ghost use Rattle.memo_cells.specs.Standing.{IsPassOf};
 ghost use Rattle.memo_cells.specs.Steps.{IsSearched};
@@ -70,8 +71,9 @@ impl Cells {
         requires led { IsLedTo self.now pass.old key from to }
         ensures own { IsPassOf self.now pass.new }
         ensures kept { IsAtLeast pass.old pass.new }
-        ensures searched { IsSearched self.now pass.new key from to result }
+        ensures searched { IsSearched self.now pass.old pass.new key from to result }
         ensures claims { pass.new.claims ≡ pass.old.claims }
+        ensures log { IsLogOn pass.old pass.new }
     {
         for place in from..to {
             let seen = self.look_key(pass, place);

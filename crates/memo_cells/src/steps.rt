@@ -2,13 +2,16 @@
 ghost use Rattle.std.specs.Prelude.{◌≡◌, ◌≢◌, ◌+◌, ◌<◌, length, map};
 ghost use Rattle.equation_law.specs.Systems.{program_of};
 ghost use Rattle.memo_cells.specs.Naming.{IsFormed};
-ghost use Rattle.memo_cells.specs.Sealing.{AreSealedTo, SealsAll, SealsTo};
-ghost use Rattle.memo_cells.specs.Standing.{IsPassOf, MayAdd, MayRaiseTruth, MaySeal, MaySettle};
+ghost use Rattle.memo_cells.specs.Sealing.{AreSealedTo, SealsAll, SealsTo, TellsNext, TellsSealed};
+ghost use Rattle.memo_cells.specs.Standing.{IsPassOf, IsTold, MayAdd, MayRaiseTruth, MaySeal, MaySettle};
 ghost use Rattle.memo_cells.specs.Steps.{AreSealed, BitsAdded, BitsSeen, KeySeen, KeyTried, ValueSeen, ValueTried};
 ghost use Rattle.memo_cells.specs.Views.{IsAtLeast, IsPassed, IsPlain, with_mark};
 
 use crate::cells::{Cells, Pass};
 use crate::keys::Slot;
+use crate::learning::{Step, learn};
+use crate::view::View;
+use std::snapshot::Snapshot;
 
 impl Cells {
     /// The key word of a place.
@@ -19,7 +22,9 @@ impl Cells {
         ensures kept { IsAtLeast pass.old pass.new }
         ensures seen { KeySeen self.now pass.old pass.new place result }
     {
-        pass.keys[place as usize]
+        let found = pass.keys[place as usize];
+        learn(&mut pass.known, &Step::Key { place, found });
+        found
     }
 
     /// Puts a key at a place where none stands, and answers what stood there: 0, or the key that keeps the place.
@@ -33,10 +38,13 @@ impl Cells {
         ensures tried { KeyTried pass.old pass.new place key result }
     {
         let found = pass.keys[place as usize];
-        if found == 0 {
-            pass.keys[place as usize] = key;
+        if found != 0 {
+            learn(&mut pass.known, &Step::Key { place, found });
+            return found;
         }
-        found
+        pass.keys[place as usize] = key;
+        learn(&mut pass.known, &Step::Claim { place, key });
+        0
     }
 
     /// The value word of a place that has no word of a set: a settled one has bit 63.
@@ -46,9 +54,12 @@ impl Cells {
         requires plain { IsPlain pass.old place }
         ensures own { IsPassOf self.now pass.new }
         ensures kept { IsAtLeast pass.old pass.new }
-        ensures seen { ValueSeen pass.old pass.new place result }
+        ensures seen { ValueSeen self.now pass.old pass.new place result }
     {
-        pass.values[place as usize]
+        let found = pass.values[place as usize];
+        let left = found;
+        learn(&mut pass.known, &Step::Value { place, found, left });
+        found
     }
 
     /// Settles the value word of a place where it isn't settled, and answers what stood there: 0, or the word that stays.
@@ -61,10 +72,15 @@ impl Cells {
         ensures tried { ValueTried pass.old pass.new place code result }
     {
         let found = pass.values[place as usize];
-        if found == 0 {
-            pass.values[place as usize] = u64::from(code) + (1 << 63);
+        if found != 0 {
+            let left = found;
+            learn(&mut pass.known, &Step::Value { place, found, left });
+            return found;
         }
-        found
+        let left = u64::from(code) + (1 << 63);
+        pass.values[place as usize] = left;
+        learn(&mut pass.known, &Step::Value { place, found, left });
+        0
     }
 
     /// The value word of a place, for its bits.
@@ -73,9 +89,12 @@ impl Cells {
         requires place { place < self.now.cells }
         ensures own { IsPassOf self.now pass.new }
         ensures kept { IsAtLeast pass.old pass.new }
-        ensures seen { BitsSeen pass.old pass.new place result }
+        ensures seen { BitsSeen (program_of self.now.system.value) pass.old pass.new place result }
     {
-        pass.values[place as usize]
+        let found = pass.values[place as usize];
+        let left = found;
+        learn(&mut pass.known, &Step::Value { place, found, left });
+        found
     }
 
     /// Sets bits in a word of a set, and answers the word with them.
@@ -85,11 +104,13 @@ impl Cells {
         requires may { MayAdd (program_of self.now.system.value) pass.old place bits }
         ensures own { IsPassOf self.now pass.new }
         ensures kept { IsAtLeast pass.old pass.new }
-        ensures added { BitsAdded pass.old pass.new place bits result }
+        ensures added { BitsAdded (program_of self.now.system.value) pass.old pass.new place bits result }
     {
-        let before = pass.values[place as usize];
-        pass.values[place as usize] = before | bits;
-        before | bits
+        let found = pass.values[place as usize];
+        let left = found | bits;
+        pass.values[place as usize] = left;
+        learn(&mut pass.known, &Step::Value { place, found, left });
+        left
     }
 
     /// Sets bit 0 of the value word of a circular instance, and answers the word with it.
@@ -99,14 +120,18 @@ impl Cells {
         requires may { MayRaiseTruth (program_of self.now.system.value) pass.old place }
         ensures own { IsPassOf self.now pass.new }
         ensures kept { IsAtLeast pass.old pass.new }
-        ensures added { BitsAdded pass.old pass.new place 1 result }
+        ensures added { BitsAdded (program_of self.now.system.value) pass.old pass.new place 1 result }
     {
-        let seen = pass.values[place as usize];
-        if seen == 0 {
-            pass.values[place as usize] = 1;
-            return 1;
+        let found = pass.values[place as usize];
+        if found != 0 {
+            let left = found;
+            learn(&mut pass.known, &Step::Value { place, found, left });
+            return found;
         }
-        seen
+        let left = 1;
+        pass.values[place as usize] = left;
+        learn(&mut pass.known, &Step::Value { place, found, left });
+        left
     }
 
     /// Sets bit 63 of the value word of each slot: what is raised there is final. All of them are noted, and sealed one after the other.
@@ -118,27 +143,47 @@ impl Cells {
         ensures sealed { AreSealed pass.old pass.new (map (λ s. s.0) set.now) }
         ensures claims { pass.new.claims ≡ pass.old.claims }
     {
-        self.mark_all(&pass.keys, &mut pass.values, set);
+        self.mark_all(&pass.keys, &mut pass.values, &mut pass.known, set);
     }
 
     // Sets bit 63 of the value words of these slots, one after the other.
-    fn mark_all(&self, keys: &Vec<u64>, words: &mut Vec<u64>, set: &[Slot])
+    fn mark_all(
+        &self,
+        keys: &Vec<u64>,
+        words: &mut Vec<u64>,
+        known: &mut Snapshot<View>,
+        set: &[Slot],
+    )
         requires noted { AreSealedTo self.now set.now 0 keys.now.items words.old.items }
+        requires told { IsTold self.now keys.now.items words.old.items known.old.value }
         ensures sealed { SealsAll self.now set.now keys.now.items words.old.items words.new.items }
+        ensures told { TellsSealed self.now set.now (length set.now) keys.now.items words.new.items known.old.value known.new.value }
     {
         for number in 0..set.len() {
-            self.mark_one(keys, words, set, number);
+            self.mark_one(keys, words, known, set, number);
         }
     }
 
     // Sets bit 63 of the value word of one of them. Those before it are sealed, and those behind it are left to seal.
-    fn mark_one(&self, _keys: &Vec<u64>, words: &mut Vec<u64>, set: &[Slot], number: usize)
+    fn mark_one(
+        &self,
+        _keys: &Vec<u64>,
+        words: &mut Vec<u64>,
+        known: &mut Snapshot<View>,
+        set: &[Slot],
+        number: usize,
+    )
         requires number { number < length set.now }
         requires noted { AreSealedTo self.now set.now number _keys.now.items words.old.items }
+        requires told { IsTold self.now _keys.now.items words.old.items known.old.value }
         ensures sealed { SealsTo self.now set.now number (number + 1) _keys.now.items words.old.items words.new.items }
+        ensures told { TellsNext self.now set.now number _keys.now.items words.new.items known.old.value known.new.value }
     {
-        let place = set[number].0 as usize;
-        words[place] = with_mark(words[place]);
+        let place = set[number].0;
+        let found = words[place as usize];
+        let left = with_mark(found);
+        words[place as usize] = left;
+        learn(known, &Step::Value { place, found, left });
     }
 }
 

@@ -1,6 +1,9 @@
 // What a pass knows.
+ghost use Rattle.std.specs.Prelude.{◌≡◌};
+ghost use Rattle.memo_cells.specs.Views.{first_view, framed};
 
 use equation_law::System;
+use std::alloc::Global;
 use std::collections::LinkedList;
 use std::snapshot::Snapshot;
 
@@ -12,7 +15,8 @@ pub struct Frame {
     pub cells: u64,
 }
 
-/// What a pass knows and has done. Contracts speak of it, and no value of it is made.
+/// What a pass knows and has done. Contracts speak of it; at run time that of a first pass alone is made, and nothing reads it.
+#[derive(Drop)]
 pub struct View {
     /// The number of its table.
     pub table: u64,
@@ -48,4 +52,41 @@ pub struct View {
     pub to_seal: LinkedList<u64>,
     /// The queries that it drew.
     pub draws: LinkedList<u64>,
+}
+
+// What a pass of so many cells of a system knows at first: nothing.
+fn first_view(alloc: Global, system: Snapshot<System>, cells: u32) -> View
+    ensures { result ≡ first_view (framed system cells) }
+{
+    View {
+        table: 0,
+        frame: Some(Frame {
+            table: 0,
+            system,
+            cells: u64::from(cells),
+        }),
+        share: 1 << 62,
+        keys: LinkedList::new(alloc),
+        values: LinkedList::new(alloc),
+        bits: LinkedList::new(alloc),
+        claims: LinkedList::new(alloc),
+        found: LinkedList::new(alloc),
+        trees: 0,
+        queries: 0,
+        held: None,
+        written: LinkedList::new(alloc),
+        rows: LinkedList::new(alloc),
+        spare: None,
+        given_up: LinkedList::new(alloc),
+        to_seal: LinkedList::new(alloc),
+        draws: LinkedList::new(alloc),
+    }
+}
+
+/// What is known of it by a first pass. It takes no memory.
+pub(crate) fn nothing_known(alloc: Global, system: Snapshot<System>, cells: u32) -> Snapshot<View>
+    ensures { result.value ≡ first_view (framed system cells) }
+{
+    let first = first_view(alloc, system, cells);
+    Snapshot::of(&first)
 }

@@ -4,7 +4,7 @@ ghost use Rattle.equation_law.specs.Names.{Instance};
 ghost use Rattle.equation_law.specs.Systems.{program_of};
 ghost use Rattle.memo_cells.specs.Keys.{set_word};
 ghost use Rattle.memo_cells.specs.Naming.{IsCellOf};
-ghost use Rattle.memo_cells.specs.Standing.{ClaimsForSet, HasKnownWord, HasWord, IsOfSet, IsPassOf, MayRaise, MayRaiseSet, MayRaiseTruth, MaySeal, ShowsWord, ShowsWordOfSet};
+ghost use Rattle.memo_cells.specs.Standing.{ClaimsForSet, HasKnownWord, HasKnownWordOfSet, HasWord, IsOfSet, IsPassOf, MayRaise, MayRaiseSet, MayRaiseTruth, MaySeal, ShowsWord, ShowsWordOfSet};
 ghost use Rattle.memo_cells.specs.Steps.{AreSealed};
 ghost use Rattle.memo_cells.specs.Views.{ClaimsOnly, IsAtLeast, IsFull};
 
@@ -71,6 +71,7 @@ impl Cells {
         ensures own { IsPassOf self.now pass.new }
         ensures kept { IsAtLeast pass.old pass.new }
         ensures word { ShowsWordOfSet self.now pass.new slot.0 word result }
+        ensures settled { HasKnownWordOfSet self.now pass.old pass.new slot.0 word result }
         ensures claims { pass.new.claims ≡ pass.old.claims }
     {
         match self.seek(pass, Key::Word { slot, word }) {

@@ -14,7 +14,7 @@ use Rattle.memo_cells.specs.Showing.{ShowsAtLeast}
 use Rattle.memo_cells.specs.Standing.{Knows, MaySettle}
 use Rattle.memo_cells.specs.Working.{GoesOn, Held, program_at}
 use Rattle.memo_cells.proofs.Claiming.{claims_same, claims_then}
-use Rattle.memo_cells.proofs.Holding.{goes_then}
+use Rattle.memo_cells.proofs.Holding.{goes_then, own_then}
 use Rattle.memo_cells.proofs.Naming.{cell_later}
 use Rattle.solutions.specs.Leading.{none}
 use Rattle.caller_pass.specs.Noting.{IsNoted}
@@ -31,7 +31,7 @@ settle-requires-clause-code c =
     let on = c.in_ok-show.ensures.on in
     let kinds = subst (λ (s : System). c.kind_of-kind.result ≡ kind_in (program_of s) (instance_of (program_of s) c.args.i)) (sym c.desk.invariant.1 ∙ ap (λ (x : Held). x.frame.system.value) c.desk.view_is ∙ ap (λ (g : Frame). g.system.value) on.cells) c.kind_of-kind.ensures in
     subst (λ (g : Frame). MaySettle (program_of g.system.value) e.view c.args.slot.0 c.code.result) (sym on.cells)
-    (may_settle p d.frame d.view e.view i c.args.slot.0 c.code.result c.kind_of-kind.result c.args.value.now c.requires.instance on.kept (cell_later d.view e.view on.kept p d.frame i c.args.slot.0 c.requires.slot) c.requires.ended c.requires.undeclared kinds (c.code.ensures.value (source_names (text_of p)) (first_text d.frame.system.value)) c.code.ensures.small c.code.type_inv
+    (may_settle p d.frame d.view e.view i c.args.slot.0 c.code.result c.kind_of-kind.result c.args.value.now (own_then d e on).approximations c.requires.instance on.kept (cell_later d.view e.view on.kept p d.frame i c.args.slot.0 c.requires.slot) c.requires.ended c.requires.undeclared kinds (c.code.ensures.value (source_names (text_of p)) (first_text d.frame.system.value)) c.code.ensures.small c.code.type_inv
     (λ single. subst (λ (k : Kind). ShowsAtLeast p e.view i k (value_of (text_of p) c.args.value.now)) (sym kinds) (c.in_ok-show.ensures.answer (ap is_single (sym kinds) ∙ single))))
 
 pub note_set-requires : goal.note_set-requires

@@ -7,7 +7,7 @@ use Rattle.memo_cells.proofs.set_showing.value_shown.Goals as goal
 
 pub returns-in-Truth-clause-shown : goal.returns-in-Truth-clause-shown
 returns-in-Truth-clause-shown g c = λ i cell kind ordered.
-    truth_value (g.W.Words.held c.args.work.now) (g.W.Words.held c.word.new.self) c.requires.own c.word.ensures.on i c.args.slot.0 c.word.result c.word.ensures.word cell (kind ∙ c.in-Truth.is)
+    truth_value (g.W.Words.held c.args.work.now) (g.W.Words.held c.word.new.self) c.requires.own c.word.ensures.on i c.args.slot.0 c.word.result c.word.ensures.word c.word.ensures.settled cell (kind ∙ c.in-Truth.is)
 
 pub returns-in_ok-codes_shown-in-Texts-clause-shown : goal.returns-in_ok-codes_shown-in-Texts-clause-shown
 returns-in_ok-codes_shown-in-Texts-clause-shown g c = λ i cell kind ordered.

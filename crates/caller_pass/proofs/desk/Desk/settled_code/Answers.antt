@@ -1,14 +1,16 @@
-use Rattle.std.proofs.Common.{ℕ, ◌<◌, Option, sym, ap, subst, ◌∙◌}
+use Rattle.std.proofs.Common.{ℕ, ◌<◌, inl, Option, sym, ap, subst, ◌∙◌}
 use Rattle.equation_law.specs.Codes.{instance_of}
 use Rattle.memo_cells.specs.declared.keys.Slot.{Slot}
 use Rattle.memo_cells.specs.declared.view.Frame.{Frame}
+use Rattle.memo_cells.specs.Causes.{IsLogOn}
 use Rattle.memo_cells.specs.Naming.{IsCellOf}
-use Rattle.memo_cells.specs.Views.{Has, IsPlain}
-use Rattle.memo_cells.specs.Working.{Held, ReadsOn, program_at}
+use Rattle.memo_cells.proofs.Ways.{if_none}
+use Rattle.memo_cells.specs.Views.{IsPlain}
+use Rattle.memo_cells.specs.Working.{HasCell, Held, ReadsOn, program_at}
 use Rattle.memo_cells.proofs.Holding.{own_then}
 use Rattle.caller_pass.specs.Knowing.{FindsCode}
 use Rattle.caller_pass.proofs.Knowing.{unknown_nowhere}
-use Rattle.caller_pass.proofs.Seeking.{finds_code, finds_none, found_cell, looked_on}
+use Rattle.caller_pass.proofs.Seeking.{finds_code, finds_none, found_cell, looked_on, why_unknown}
 use Rattle.caller_pass.proofs.Keeping.{notes_later}
 use Rattle.caller_pass.proofs.desk.Desk.settled_code.Goals as goal
 
@@ -65,5 +67,17 @@ returns-clause-cell c =
     let d = c.args.self.now in
     let x = c.self.inside in
     let on = subst (λ (h : Held). ReadsOn d h) (sym c.self.view_is) c.seek_instance.ensures.on in
-    let k = subst (λ (h : Held). (k : ℕ) × Has h.view.keys (c.in_ok-slot.slot.0, k)) (sym c.self.view_is) c.in_ok-slot.ensures.key in
-    found_cell d x.cells.now x.pass.now c.settled.new.pass x.pass.ghost_name on c.settled.ensures.own c.settled.ensures.kept c.settled.ensures.claims c.in_ok-slot.slot.0 k.0 c.in_ok-code.code k.1 c.in_ok-code.ensures.known
+    let has = subst (λ (h : Held). HasCell h c.in_ok-slot.slot.0) (sym c.self.view_is) c.in_ok-slot.ensures.cell in
+    found_cell d x.cells.now x.pass.now c.settled.new.pass x.pass.ghost_name on c.settled.ensures.own c.settled.ensures.kept c.settled.ensures.claims c.in_ok-slot.slot.0 has
+
+pub returns-in_err-slot-clause-cause : goal.returns-in_err-slot-clause-cause
+returns-in_err-slot-clause-cause c = if_none c.from_residual.result (λ good. inl (c.in_err-slot.ensures.cause good))
+
+pub returns-in_err-code-clause-cause : goal.returns-in_err-code-clause-cause
+returns-in_err-code-clause-cause c = if_none c.from_residual-in_err-code.result (λ good.
+    let d = c.args.self.now in
+    let x = c.self.inside in
+    let on = subst (λ (h : Held). ReadsOn d h) (sym c.self.view_is) c.seek_instance.ensures.on in
+    let cell = subst (λ (h : Held). IsCellOf (program_at d) d.frame h.view (instance_of (program_at d) c.args.i) c.in_ok-slot.slot.0) (sym c.self.view_is) (c.in_ok-slot.ensures.slot good) in
+    let log = subst (λ (h : Held). IsLogOn d.view h.view) (sym c.self.view_is) c.seek_instance.ensures.log in
+    why_unknown d x.cells.now x.pass.now c.settled.new.pass x.pass.ghost_name on c.settled.ensures.own c.settled.ensures.kept c.settled.ensures.claims c.args.i c.in_ok-slot.slot.0 cell log c.in_err-code.ensures.cause)

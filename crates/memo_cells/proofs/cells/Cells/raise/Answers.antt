@@ -6,6 +6,9 @@ use Rattle.memo_cells.proofs.More.{at_least_then}
 use Rattle.memo_cells.proofs.Showing.{not_both}
 use Rattle.memo_cells.proofs.cells.Cells.raise.Goals as goal
 
+pub is_of_truth-requires-clause-cell : goal.is_of_truth-requires-clause-cell
+is_of_truth-requires-clause-cell c = ⊎_elim (λ a. (a.0.of, (a.0.key, (c.requires.slot, a.0.here), a.0.stands))) (λ a. (a.of, (a.key, (c.requires.slot, a.here), a.stands))) c.requires.may
+
 pub raise_truth-requires-clause-may : goal.raise_truth-requires-clause-may
 raise_truth-requires-clause-may c = (raises_truth (program_of c.args.self.now.system.value) c.args.self.now c.args.pass.now c.is_of_truth.new.pass c.is_of_truth.ensures.kept c.args.slot.0 c.args.word c.args.bits c.requires.slot c.requires.some (search rules) c.is_of_truth.result c.is_of_truth.ensures.truth c.if-is_of_truth.true c.requires.may).0
 
