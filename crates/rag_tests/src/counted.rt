@@ -39,7 +39,8 @@ fn counted<L: Ledger>(
     (query, value, evals.count().saturating_sub(before))
 }
 
-// The first of these queries, asked for in turn, that gives something else or takes another number of evaluations.
+// The first of these queries, asked for in turn, that gives something else or takes another number of evaluations. Each is asked for by a pass that has
+// read nothing of the words so far: it finds what was claimed and settled before.
 fn other_count<L: Ledger>(
     alloc: Global,
     system: &System,
@@ -53,6 +54,7 @@ fn other_count<L: Ledger>(
     requires own { IsPassOf cells.now pass.old }
 {
     for row in rows {
+        cells.forget(pass);
         let found = counted(alloc, system, cells, pass, row.0, evals);
         if found != *row {
             return Some(found);
