@@ -1,5 +1,5 @@
 -- What asking for an instance says, at each way out.
-use Rattle.std.proofs.Common.{◌≡◌, ℕ, inl, inr, ⊎_elim, true, false, ◌||◌, List, [], ◌∷◌, ◌++◌, map, Result, Ok, Err, refl, ap, sym, subst, ◌∙◌, arith}
+use Rattle.std.proofs.Common.{◌≡◌, ℕ, ◌⊎◌, inl, inr, ⊎_elim, true, false, ◌||◌, List, [], ◌∷◌, ◌++◌, map, Result, Ok, Err, refl, ap, sym, subst, ◌∙◌, arith}
 use Rattle.std.specs.List.{list_any}
 use Rattle.std.specs.Result.{IsErr, IsErrAnd}
 use Rattle.attr_rules.specs.declared.kinds.Kind.{Kind}
@@ -19,16 +19,18 @@ use Rattle.equation_law.proofs.Keys.{key_is}
 use Rattle.equation_law.proofs.QueryValues.{value_typed}
 use Rattle.memo_cells.specs.declared.view.Frame.{Frame}
 use Rattle.memo_cells.specs.declared.view.View.{View}
+use Rattle.memo_cells.specs.Causes.{IsLogOn}
 use Rattle.memo_cells.specs.Claiming.{ClaimsKeys}
 use Rattle.memo_cells.specs.Naming.{LacksCell}
 use Rattle.memo_cells.specs.Standing.{Knows}
 use Rattle.memo_cells.specs.Views.{Has, IsAtLeast}
+use Rattle.memo_cells.proofs.Causes.{log_itself}
 use Rattle.memo_cells.proofs.Claiming.{claims_same, claims_then}
 use Rattle.memo_cells.proofs.More.{at_least_itself}
 use Rattle.caller_pass.specs.declared.faults.AskFault.{AskFault}
 use Rattle.caller_pass.specs.declared.faults.AskFault.TheVariants.{CellsFull, Circular, Memory}
 use Rattle.caller_pass.specs.declared.waiting.Waiter.{Waiter}
-use Rattle.caller_pass.specs.Answering.{AnswersFault, AnswersNoted, AnswersSolve, Asks, AsksNoted, EndsAtLoop, IsCircular, IsLoop, Solves, StopsAt}
+use Rattle.caller_pass.specs.Answering.{AnswersFault, AnswersNoted, AnswersSolve, Asks, AsksNoted, EndsAtLoop, IsCircular, IsLoop, Solves, StopsAt, WasUnsettled}
 use Rattle.caller_pass.specs.Knowing.{IsKnownValue}
 use Rattle.caller_pass.specs.Noting.{MayNote}
 use Rattle.caller_pass.specs.Waiting.{AnswersWait}
@@ -67,6 +69,7 @@ asked_known p f v w i x n good instance k claims = record {
   circular = λ h. absurd h;
   claims = claims_same p i v w claims;
   known = λ _. (tt, refl);
+  loads = inl refl;
   cost = λ _. inl refl;
 }
 
@@ -74,14 +77,14 @@ asked_known p f v w i x n good instance k claims = record {
 pub asked_unread : (p : Program) (f : Frame) (v w : View) (i : Instance) (n : ℕ) (r : Result CodedValue AskFault) → IsErr r × IsErrAnd r (λ e. e ≡ Memory) → is_single (kind_in p i) ≡ false → w.claims ≡ v.claims → AsksNoted p f v w i n n r
 asked_unread p f v w i n (Ok x) h set claims = let missing = h.0 in cc
 asked_unread p f v w i n (Err e) h set claims = subst (λ (d : AskFault). AsksNoted p f v w i n n (Err d)) (sym h.1)
-    (record { answer = tt; circular = λ no. absurd no; claims = claims_same p i v w claims; known = λ _. (set, refl); cost = λ ok. cc })
+    (record { answer = tt; circular = λ no. absurd no; claims = claims_same p i v w claims; known = λ _. (set, refl); loads = inl refl; cost = λ ok. cc })
 
 -- what was read before counts too
-pub solves_before : (p : Program) (f : Frame) (v u w : View) (i : Instance) (m n : ℕ) (r : Result Unit AskFault) → IsAtLeast v u → u.claims ≡ v.claims → IsAtLeast u w → Solves p f u w i m n r → Solves p f v w i m n r
-solves_before p f v u w i m n r kept quiet later h = record {
+pub solves_before : (p : Program) (f : Frame) (v u w : View) (i : Instance) (m n : ℕ) (r : Result Unit AskFault) → IsAtLeast v u → IsLogOn v u → u.claims ≡ v.claims → IsAtLeast u w → Solves p f u w i m n r → Solves p f v w i m n r
+solves_before p f v u w i m n r kept log quiet later h = record {
   answer = h.answer;
   claims = claims_then p i i v u w none (claims_same p i v u quiet) later h.claims;
-  loads = ⊎_elim inl (λ was. inr (was_within p v u w w i kept (at_least_itself w) was)) h.loads;
+  loads = ⊎_elim inl (λ was. inr (was_within p f v u w w i kept log (at_least_itself w) (log_itself w) was)) h.loads;
   cost = λ ok. ⊎_elim inl (λ few. inr (let less = unsettled_less v u f.cells kept in omega (arith, few, less))) (h.cost ok);
 }
 
@@ -91,10 +94,13 @@ module _ (p : Program) (f : Frame) (v u w : View) (i : Instance) (m n : ℕ) (un
   asked_fault e s is (Ok x) h solved = let missing = h.0 in cc
   asked_fault e s is (Err d) h solved =
       let answer = subst (λ (x : AskFault). StopsAt p f w i x) (sym h.1) (subst (λ (y : Result Unit AskFault). AnswersSolve p f w i y) is solved.answer) in
-      record { answer = answer; circular = circular_loop CodedValue p f w i d answer; claims = solved.claims; known = λ k. absurd (unknown k); cost = λ ok. cc }
+      record { answer = answer; circular = circular_loop CodedValue p f w i d answer; claims = solved.claims; known = λ k. absurd (unknown k); loads = solved.loads; cost = λ ok. cc }
 
   -- it is settled, and its value is read
-  module _ (done : Unit {0}) (solved : Solves p f v u i m n (Ok done)) (kept : IsAtLeast u w) (quiet : w.claims ≡ u.claims) where
+  module _ (done : Unit {0}) (solved : Solves p f v u i m n (Ok done)) (kept : IsAtLeast u w) (log : IsLogOn u w) (quiet : w.claims ≡ u.claims) where
+    loads_all : (n ≡ m) ⊎ WasUnsettled p f v w i
+    loads_all = ⊎_elim inl (λ was. inr (was_within p f v v u w i (at_least_itself v) (log_itself v) kept log was)) solved.loads
+
     claims_all : ClaimsKeys p i v w
     claims_all = claims_then p i i v u w none solved.claims kept (claims_same p i u w quiet)
 
@@ -104,29 +110,30 @@ module _ (p : Program) (f : Frame) (v u w : View) (i : Instance) (m n : ℕ) (un
       circular = λ h. absurd h;
       claims = claims_all;
       known = λ k. absurd (unknown k);
+      loads = loads_all;
       cost = λ ok. ⊎_elim inl (λ few. inr (let less = unsettled_less u w f.cells kept in omega (arith, few, less))) (solved.cost ok);
     }
 
     pub asked_memory : (r : Result CodedValue AskFault) → IsErr r × IsErrAnd r (λ e. e ≡ Memory) → AsksNoted p f v w i m n r
     asked_memory (Ok x) h = let missing = h.0 in cc
     asked_memory (Err e) h = subst (λ (d : AskFault). AsksNoted p f v w i m n (Err d)) (sym h.1)
-        (record { answer = tt; circular = λ no. absurd no; claims = claims_all; known = λ k. absurd (unknown k); cost = λ ok. cc })
+        (record { answer = tt; circular = λ no. absurd no; claims = claims_all; known = λ k. absurd (unknown k); loads = loads_all; cost = λ ok. cc })
 
 -- ---- what is asked without notes
 
 -- a chain that is whole, or a fault in its place
 module _ (p : Program) (f : Frame) (v w : View) (i : Instance) (m n : ℕ) where
   pub asks_whole : (on : CodedInstance) (chain : List CodedInstance) (e : AskFault) → AsksNoted p f v w i m n (Err (Circular on chain)) → AnswersFault p f w i e → Asks p f v w i m n (Err e)
-  asks_whole on chain e h a = record { answer = a; circular = λ _. h.circular tt; claims = h.claims; known = λ k. absurd (h.known k).0; cost = λ ok. cc }
+  asks_whole on chain e h a = record { answer = a; circular = λ _. h.circular tt; claims = h.claims; known = λ k. absurd (h.known k).0; loads = h.loads; cost = λ ok. cc }
 
   pub asks_value : (x : CodedValue) → AsksNoted p f v w i m n (Ok x) → Asks p f v w i m n (Ok x)
-  asks_value x h = record { answer = h.answer; circular = h.circular; claims = h.claims; known = h.known; cost = h.cost }
+  asks_value x h = record { answer = h.answer; circular = h.circular; claims = h.claims; known = h.known; loads = h.loads; cost = h.cost }
 
   pub asks_full : AsksNoted p f v w i m n (Err CellsFull) → Asks p f v w i m n (Err CellsFull)
-  asks_full h = record { answer = h.answer; circular = h.circular; claims = h.claims; known = h.known; cost = h.cost }
+  asks_full h = record { answer = h.answer; circular = h.circular; claims = h.claims; known = h.known; loads = h.loads; cost = h.cost }
 
   pub asks_memory : AsksNoted p f v w i m n (Err Memory) → Asks p f v w i m n (Err Memory)
-  asks_memory h = record { answer = h.answer; circular = h.circular; claims = h.claims; known = h.known; cost = h.cost }
+  asks_memory h = record { answer = h.answer; circular = h.circular; claims = h.claims; known = h.known; loads = h.loads; cost = h.cost }
 
   -- what the loop of an answer says of the instances in its chain
   pub may_note : (r : Result CodedValue AskFault) → AsksNoted p f v w i m n r → MayNote p r

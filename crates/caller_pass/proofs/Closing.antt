@@ -10,12 +10,16 @@ use Rattle.equation_law.specs.Program.{Program}
 use Rattle.equation_law.specs.Systems.{program_of}
 use Rattle.memo_cells.specs.declared.view.Frame.{Frame}
 use Rattle.memo_cells.specs.declared.view.View.{View}
+use Rattle.memo_cells.specs.Causes.{IsLogOn, WhyUnsettled}
 use Rattle.memo_cells.specs.Claiming.{ClaimsKeys}
+use Rattle.memo_cells.specs.Naming.{IsCellOf}
 use Rattle.memo_cells.specs.Standing.{IsPassOf, Knows}
 use Rattle.memo_cells.specs.Views.{IsAtLeast}
+use Rattle.memo_cells.proofs.Causes.{log_itself, log_then}
 use Rattle.memo_cells.proofs.Claiming.{claims_same, claims_then}
 use Rattle.memo_cells.proofs.Deciding.{knows_or_not}
 use Rattle.memo_cells.proofs.More.{at_least_itself, at_least_then}
+use Rattle.memo_cells.proofs.Naming.{knows_later}
 use Rattle.circular_eval.specs.declared.advancing.CircFault.{CircFault}
 use Rattle.circular_eval.specs.declared.advancing.CircFault.TheVariants as set_fault
 use Rattle.circular_eval.specs.declared.local.Local.{Local}
@@ -77,30 +81,33 @@ module _ (p : Program) (f : Frame) (same : p ≡ program_of f.system.value) (v w
 pub record IsClosing (p : Program) (f : Frame) (v w : View) (i : Instance) (before now : ℕ) : Type 0 where
   pub own : IsPassOf f w
   pub kept : IsAtLeast v w
+  pub log : IsLogOn v w
   pub claims : ClaimsKeys p i v w
-  pub loads : (now ≡ before) ⊎ WasUnsettled p v w i
+  pub loads : (now ≡ before) ⊎ WasUnsettled p f v w i
   pub cost : now + 2 * unsettled w f.cells ≤ before + 2 * unsettled v f.cells
   pub known : Knows p w i → (now ≡ before) ⊎ (now + 2 * unsettled w f.cells < before + 2 * unsettled v f.cells)
 
 -- its cell was claimed
-pub closing_first : (p : Program) (f : Frame) (v w : View) (i : Instance) (evals : ℕ) → IsPassOf f w → IsAtLeast v w → ClaimsKeys p i v w → IsClosing p f v w i evals evals
-closing_first p f v w i evals own kept claims = record {
+pub closing_first : (p : Program) (f : Frame) (v w : View) (i : Instance) (evals : ℕ) → IsPassOf f w → IsAtLeast v w → IsLogOn v w → ClaimsKeys p i v w → IsClosing p f v w i evals evals
+closing_first p f v w i evals own kept log claims = record {
   own = own;
   kept = kept;
+  log = log;
   claims = claims;
   loads = inl refl;
   cost = (let less = unsettled_less v w f.cells kept in omega (arith, less));
   known = λ k. inl refl;
 }
 
-module _ (p : Program) (f : Frame) (same : p ≡ program_of f.system.value) (v w u : View) (i : Instance) (before now : ℕ) (c : IsClosing p f v w i before now) (own : IsPassOf f u) (kept : IsAtLeast w u) where
+module _ (p : Program) (f : Frame) (same : p ≡ program_of f.system.value) (v w u : View) (i : Instance) (before now : ℕ) (c : IsClosing p f v w i before now) (own : IsPassOf f u) (kept : IsAtLeast w u) (log : IsLogOn w u) where
   -- it was looked whether i is sealed
   pub closing_looked : u.claims ≡ w.claims → IsClosing p f v u i before now
   closing_looked quiet = record {
     own = own;
     kept = at_least_then c.kept kept;
+    log = log_then c.log log;
     claims = claims_then p i i v w u none c.claims kept (claims_same p i w u quiet);
-    loads = ⊎_elim inl (λ was. inr (was_within p v v w u i (at_least_itself v) kept was)) c.loads;
+    loads = ⊎_elim inl (λ was. inr (was_within p f v v w u i (at_least_itself v) (log_itself v) kept log was)) c.loads;
     cost = (let cost = c.cost in let less = unsettled_less w u f.cells kept in omega (arith, cost, less));
     known = λ k. ⊎_elim
         (λ yet. ⊎_elim inl (λ cost. inr (let less = unsettled_less w u f.cells kept in omega (arith, cost, less))) (c.known yet))
@@ -108,15 +115,19 @@ module _ (p : Program) (f : Frame) (same : p ≡ program_of f.system.value) (v w
         (knows_or_not p f w same c.own i);
   }
 
-  -- the set went on, where i wasn't sealed
-  module _ (unknown : ¬ Knows p w i) (after : ℕ) (r : Result Unit AskFault) (h : ClosesMore p f w u i now after r) where
-    was_unsettled : WasUnsettled p v u i
-    was_unsettled = record { loaded = w; later = c.kept; kept = kept; unsettled = unknown }
+  -- the set went on, where i wasn't sealed: its value word was loaded just before
+  module _ (slot : ℕ) (cell : IsCellOf p f w i slot) (why : WhyUnsettled f v w slot) (unknown : ¬ Knows p w i) (after : ℕ) (r : Result Unit AskFault) (h : ClosesMore p f w u i now after r) where
+    was_looked : WasUnsettled p f v w i
+    was_looked = record { unknown = λ k. unknown (knows_later v w c.kept p i k); slot = slot; cell = cell; why = why }
+
+    was_unsettled : WasUnsettled p f v u i
+    was_unsettled = was_within p f v v w u i (at_least_itself v) (log_itself v) kept log was_looked
 
     pub closing_more : IsOk r → IsClosing p f v u i before after
     closing_more ok = record {
       own = own;
       kept = at_least_then c.kept kept;
+      log = log_then c.log log;
       claims = claims_then p i i v w u none c.claims kept h.claims;
       loads = inr was_unsettled;
       cost = (let cost = c.cost in let more = h.cost ok in omega (arith, cost, more));

@@ -14,14 +14,16 @@ use Rattle.equation_law.specs.Systems.{program_of}
 use Rattle.equation_law.proofs.Solution.{loopless}
 use Rattle.memo_cells.specs.declared.view.Frame.{Frame}
 use Rattle.memo_cells.specs.declared.view.View.{View}
+use Rattle.memo_cells.specs.Causes.{IsLogOn}
 use Rattle.memo_cells.specs.Claiming.{ClaimsKeys}
 use Rattle.memo_cells.specs.Naming.{ClaimsKeysTo, IsCellOf}
 use Rattle.memo_cells.specs.Standing.{IsPassOf, Knows}
 use Rattle.memo_cells.specs.Views.{Has, IsAtLeast}
 use Rattle.memo_cells.specs.Working.{Held, IsKnown, program_at}
+use Rattle.memo_cells.proofs.Causes.{found_before, found_later, log_itself, log_then}
 use Rattle.memo_cells.proofs.Claiming.{chain_then, claims_same, claims_then, claims_to, fills_more, fills_to}
 use Rattle.memo_cells.proofs.More.{at_least_itself, at_least_then}
-use Rattle.memo_cells.proofs.Naming.{knows_later}
+use Rattle.memo_cells.proofs.Naming.{cell_later, knows_later}
 use Rattle.circular_eval.specs.declared.local.Local.{Local}
 use Rattle.caller_pass.specs.declared.faults.AskFault.{AskFault}
 use Rattle.caller_pass.specs.declared.faults.AskFault.TheVariants.{CellsFull, Circular, Memory}
@@ -41,8 +43,13 @@ use Rattle.caller_pass.proofs.Paying.{AreApart, Pays}
 use Rattle.caller_pass.proofs.Turning.{falls_back, falls_further, falls_more, length_snoc}
 
 -- what was unsettled between two times was so between others around them
-pub was_within : (p : Program) (a b c d : View) (i : Instance) → IsAtLeast a b → IsAtLeast c d → WasUnsettled p b c i → WasUnsettled p a d i
-was_within p a b c d i before after h = record { loaded = h.loaded; later = at_least_then before h.later; kept = at_least_then h.kept after; unsettled = h.unsettled }
+pub was_within : (p : Program) (f : Frame) (a b c d : View) (i : Instance) → IsAtLeast a b → IsLogOn a b → IsAtLeast c d → IsLogOn c d → WasUnsettled p f b c i → WasUnsettled p f a d i
+was_within p f a b c d i before prior after since h = record {
+  unknown = λ k. h.unknown (knows_later a b before p i k);
+  slot = h.slot;
+  cell = cell_later c d after p f i h.slot h.cell;
+  why = record { word = h.why.word; unset = h.why.unset; found = found_later (found_before prior h.why.found) since };
+}
 
 -- different circular instances that lead to i; neither they nor i are known
 pub record IsOuter (p : Program) (v : View) (i : Instance) (hs : List Instance) : Type 0 where
@@ -57,16 +64,18 @@ pub record IsOuter (p : Program) (v : View) (i : Instance) (hs : List Instance) 
 pub record IsSolving (p : Program) (f : Frame) (v w : View) (i : Instance) (es : List (CodedInstance × Waiter)) (top : CodedInstance × Waiter) (before now : ℕ) : Type 0 where
   pub own : IsPassOf f w
   pub kept : IsAtLeast v w
+  pub log : IsLogOn v w
   pub stack : IsStack p f w i es top
   pub claims : ClaimsKeys p i v w
-  pub loads : ((now ≡ before) × (es ≡ [])) ⊎ WasUnsettled p v w i
+  pub loads : ((now ≡ before) × (es ≡ [])) ⊎ WasUnsettled p f v w i
   pub paid : (hs : List Instance) → IsOuter p v i hs → HasLoop p i ⊎ Pays p w f.cells hs es top now (before + 2 * unsettled v f.cells)
 
 -- a turn of t with an evaluation, by the cells of which it was
 pub record WentThrough (p : Program) (f : Frame) (w u : View) (t : CodedInstance) (x y : Waiter) (before after : ℕ) (r : Result Went AskFault) : Type 0 where
   pub own : IsPassOf f u
   pub kept : IsAtLeast w u
-  pub was : WasUnsettled p w u (instance_of p t)
+  pub log : IsLogOn w u
+  pub was : WasUnsettled p f w u (instance_of p t)
   pub claims : ClaimsKeys p (instance_of p t) w u
   pub slot : y.slot ≡ x.slot
   pub left : IsLeft f.system.value (IsKnown p u) (instance_of p t) y.left
@@ -79,6 +88,7 @@ through d e f t x y before after r is h =
     record {
       own = subst (λ (c : Frame). IsPassOf c e.view) g.through.on.cells g.through.on.own;
       kept = g.through.on.kept;
+      log = g.through.on.log;
       was = g.was;
       claims = g.through.claims;
       slot = g.through.slot;
@@ -91,9 +101,10 @@ through d e f t x y before after r is h =
 pub record CameSettled (p : Program) (f : Frame) (w u : View) (t : CodedInstance) (x : Waiter) (before after : ℕ) : Type 0 where
   pub own : IsPassOf f u
   pub kept : IsAtLeast w u
+  pub log : IsLogOn w u
   pub claims : ClaimsKeys p (instance_of p t) w u
   pub known : Knows p u (instance_of p t)
-  pub evals : (after ≡ before) ⊎ ((after ≡ before + 1) × (way_of x ≡ None) × WasUnsettled p w u (instance_of p t))
+  pub evals : (after ≡ before) ⊎ ((after ≡ before + 1) × (way_of x ≡ None) × WasUnsettled p f w u (instance_of p t))
 
 pub came_settled : (d e : Held) (f : Frame) (t : CodedInstance) (x y : Waiter) (before after : ℕ) (r : Result Went AskFault) → d.frame ≡ f → r ≡ Ok Settled → TakesTurn (program_at d) d e t x y before after r → CameSettled (program_of f.system.value) f d.view e.view t x before after
 came_settled d e f t x y before after r is went turn =
@@ -101,11 +112,11 @@ came_settled d e f t x y before after r is went turn =
     ⊎_elim
     (λ h.
     let g = subst (λ (g : Frame). FindsSettled (program_of g.system.value) (record { frame = g; view = d.view; lender = d.lender }) e t before after r) is h in
-    record { own = subst (λ (c : Frame). IsPassOf c e.view) g.read.on.cells g.read.on.own; kept = g.read.on.kept; claims = claims_same p (instance_of p t) d.view e.view g.read.claims; known = g.known; evals = inl g.evals })
+    record { own = subst (λ (c : Frame). IsPassOf c e.view) g.read.on.cells g.read.on.own; kept = g.read.on.kept; log = g.read.on.log; claims = claims_same p (instance_of p t) d.view e.view g.read.claims; known = g.known; evals = inl g.evals })
     (λ h.
     let g = through d e f t x y before after r is h in
     let settled = subst (λ (z : Result Went AskFault). AnswersStep p f e.view (instance_of p t) (way_of x) (way_of y) z) went g.answer in
-    record { own = g.own; kept = g.kept; claims = g.claims; known = settled.0; evals = inr (g.evals, settled.1, g.was) })
+    record { own = g.own; kept = g.kept; log = g.log; claims = g.claims; known = settled.0; evals = inr (g.evals, settled.1, g.was) })
     turn
 
 -- where none waits, the one on top is the one that was asked for
@@ -116,7 +127,7 @@ only_one p f v i es t x stack empty =
     ap (λ (e : CodedInstance × Waiter). instance_of p e.0) first ∙ stack.is
 
 -- a fault that is handed on
-pub solve_fault : (p : Program) (f : Frame) (v w : View) (i : Instance) (before after : ℕ) (e : AskFault) (r : Result Unit AskFault) → IsErr r × IsErrAnd r (λ x. x ≡ e) → ClaimsKeys p i v w → (after ≡ before) ⊎ WasUnsettled p v w i → StopsAt p f w i e → Solves p f v w i before after r
+pub solve_fault : (p : Program) (f : Frame) (v w : View) (i : Instance) (before after : ℕ) (e : AskFault) (r : Result Unit AskFault) → IsErr r × IsErrAnd r (λ x. x ≡ e) → ClaimsKeys p i v w → (after ≡ before) ⊎ WasUnsettled p f v w i → StopsAt p f w i e → Solves p f v w i before after r
 solve_fault p f v w i before after e (Ok x) h claims loads a = let none = h.0 in cc
 solve_fault p f v w i before after e (Err d) h claims loads a = record { answer = subst (λ (y : AskFault). StopsAt p f w i y) (sym h.1) a; claims = claims; loads = loads; cost = λ ok. cc }
 
@@ -130,12 +141,13 @@ waited_loop p f g v u i (e ∷ es) t x y on line stack waiting lines why plain =
     subst (λ (j : Instance). EndsAtLoop p j (instance_of p on) line) (ap (λ (d : CodedInstance × Waiter). instance_of p d.0) first ∙ stack.is) (met_loop p e (es ++ (t, y) ∷ []) on line (lines g u waiting) why plain)
 
 -- before the first turn
-pub begun : (p : Program) (f : Frame) (v w : View) → p ≡ program_of f.system.value → IsPassOf f v → IsPassOf f w → IsAtLeast v w → (i : CodedInstance) (x : Waiter) → IsInstance p (instance_of p i) → IsCoded p i → (equations_of p).circular (instance_of p i) ≡ false → IsCellOf p f w (instance_of p i) x.slot.0 → way_of x ≡ None → x.left ≡ None → ClaimsKeysTo p v w (instance_of p i) → (evals : ℕ) → IsSolving p f v w (instance_of p i) [] (i, x) evals evals
-begun p f v w same own then kept i x instance coded plain cell way fresh claims evals =
+pub begun : (p : Program) (f : Frame) (v w : View) → p ≡ program_of f.system.value → IsPassOf f v → IsPassOf f w → IsAtLeast v w → IsLogOn v w → (i : CodedInstance) (x : Waiter) → IsInstance p (instance_of p i) → IsCoded p i → (equations_of p).circular (instance_of p i) ≡ false → IsCellOf p f w (instance_of p i) x.slot.0 → way_of x ≡ None → x.left ≡ None → ClaimsKeysTo p v w (instance_of p i) → (evals : ℕ) → IsSolving p f v w (instance_of p i) [] (i, x) evals evals
+begun p f v w same own then kept log i x instance coded plain cell way fresh claims evals =
     let placed : IsPlaced p f w (i, x) = record { instance = instance; coded = coded; undeclared = plain; slot = cell; left = none_left _ _ _ x.left fresh } in
     record {
       own = then;
       kept = kept;
+      log = log;
       stack = stack_one p f w i x placed way;
       claims = claims_to p (instance_of p i) v w claims;
       loads = inl (refl, refl);
@@ -147,10 +159,10 @@ module _ {p : Program} {f : Frame} {v w : View} {i : Instance} {es : List (Coded
   reached = top_reached p f w i es (t, x) s.stack
 
   -- what was asked for was loaded with this turn, or before it
-  was_asked : (u : View) → IsAtLeast w u → WasUnsettled p w u (instance_of p t) → WasUnsettled p v u i
-  was_asked u kept was = ⊎_elim
-      (λ first. subst (λ (j : Instance). WasUnsettled p v u j) (only_one p f w i es t x s.stack first.1) (was_within p v w u u (instance_of p t) s.kept (at_least_itself u) was))
-      (λ before. was_within p v v w u i (at_least_itself v) kept before)
+  was_asked : (u : View) → IsAtLeast w u → IsLogOn w u → WasUnsettled p f w u (instance_of p t) → WasUnsettled p f v u i
+  was_asked u kept log was = ⊎_elim
+      (λ first. subst (λ (j : Instance). WasUnsettled p f v u j) (only_one p f w i es t x s.stack first.1) (was_within p f v w u u (instance_of p t) s.kept s.log (at_least_itself u) (log_itself u) was))
+      (λ before. was_within p f v v w u i (at_least_itself v) (log_itself v) kept log before)
       s.loads
 
 module _ {p : Program} {f : Frame} {v w u : View} {i : Instance} {es : List (CodedInstance × Waiter)} {t : CodedInstance} {x y : Waiter} {before now after : ℕ} {r : Result Went AskFault} (same : p ≡ program_of f.system.value) (pooled : ArePooled p.texts) (s : IsSolving p f v w i es (t, x) before now) (g : WentThrough p f w u t x y now after r) where
@@ -160,8 +172,8 @@ module _ {p : Program} {f : Frame} {v w u : View} {i : Instance} {es : List (Cod
   pub kept_now : IsAtLeast v u
   kept_now = at_least_then s.kept g.kept
 
-  pub was_now : WasUnsettled p v u i
-  was_now = was_asked s u g.kept g.was
+  pub was_now : WasUnsettled p f v u i
+  was_now = was_asked s u g.kept g.log g.was
 
   -- a fault
   pub step_fault : (e : AskFault) → AnswersStep p f u (instance_of p t) (way_of x) (way_of y) (Err e) → StopsAt p f u i e
@@ -184,6 +196,7 @@ module _ {p : Program} {f : Frame} {v w u : View} {i : Instance} {es : List (Cod
     went_further = record {
       own = g.own;
       kept = kept_now;
+      log = log_then s.log g.log;
       stack = stack_further;
       claims = claims_now;
       loads = inr was_now;
@@ -201,12 +214,12 @@ module _ {p : Program} {f : Frame} {v w u : View} {i : Instance} {es : List (Cod
     next_reached : Chain p i (instance_of p n)
     next_reached = chain_then p (reached s) (waits_chain p f u (instance_of p t) (way_of y) (instance_of p n) next.waits)
 
-    module _ {o : View} (own : IsPassOf f o) (later : IsAtLeast u o) (claims : ClaimsKeysTo p u o (instance_of p n)) where
+    module _ {o : View} (own : IsPassOf f o) (later : IsAtLeast u o) (log : IsLogOn u o) (claims : ClaimsKeysTo p u o (instance_of p n)) where
       pub claims_more : ClaimsKeys p i v o
       claims_more = claims_then p i (instance_of p n) v u o next_reached claims_now later (claims_to p (instance_of p n) u o claims)
 
-      pub was_more : WasUnsettled p v o i
-      was_more = was_within p v v u o i (at_least_itself v) later was_now
+      pub was_more : WasUnsettled p f v o i
+      was_more = was_within p f v v u o i (at_least_itself v) (log_itself v) later log was_now
 
       -- a fault
       pub wait_fault : (new : List (CodedInstance × Waiter)) (e : AskFault) → AnswersWait p f o (es ++ (t, y) ∷ []) n new (Err e) → StopsAt p f o i e
@@ -231,6 +244,7 @@ module _ {p : Program} {f : Frame} {v w u : View} {i : Instance} {es : List (Cod
         went_next = record {
           own = own;
           kept = at_least_then kept_now later;
+          log = log_then (log_then s.log g.log) log;
           stack = stack_next;
           claims = claims_more;
           loads = inr was_more;
@@ -254,17 +268,17 @@ module _ {p : Program} {f : Frame} {v w u : View} {i : Instance} {es : List (Cod
   all_kept : IsAtLeast v u
   all_kept = at_least_then s.kept g.kept
 
-  all_loads : (after ≡ before) ⊎ WasUnsettled p v u i
+  all_loads : (after ≡ before) ⊎ WasUnsettled p f v u i
   all_loads = ⊎_elim
-      (λ none_more. ⊎_elim (λ first. inl (none_more ∙ first.0)) (λ was. inr (was_within p v v w u i (at_least_itself v) g.kept was)) s.loads)
-      (λ more. inr (was_asked s u g.kept more.2))
+      (λ none_more. ⊎_elim (λ first. inl (none_more ∙ first.0)) (λ was. inr (was_within p f v v w u i (at_least_itself v) (log_itself v) g.kept g.log was)) s.loads)
+      (λ more. inr (was_asked s u g.kept g.log more.2))
       g.evals
 
   cheap : (after ≡ now) ⊎ ((after ≡ now + 1) × (way_of x ≡ None))
   cheap = ⊎_elim inl (λ more. inr (more.0, more.1)) g.evals
 
   -- the one that waited for it is on top again
-  module _ {o : View} (own : IsPassOf f o) (later : IsAtLeast u o) (quiet : o.claims ≡ u.claims) (ds : List (CodedInstance × Waiter)) (last : CodedInstance × Waiter) (is : es ≡ ds ++ last ∷ []) (free : waits ds last.0 ≡ false) (z : Waiter) (looks : LooksAgain p o last.1 z) where
+  module _ {o : View} (own : IsPassOf f o) (later : IsAtLeast u o) (log : IsLogOn u o) (quiet : o.claims ≡ u.claims) (ds : List (CodedInstance × Waiter)) (last : CodedInstance × Waiter) (is : es ≡ ds ++ last ∷ []) (free : waits ds last.0 ≡ false) (z : Waiter) (looks : LooksAgain p o last.1 z) where
     then_kept : IsAtLeast w o
     then_kept = at_least_then g.kept later
 
@@ -275,16 +289,17 @@ module _ {p : Program} {f : Frame} {v w u : View} {i : Instance} {es : List (Cod
     stack_back = stack_fewer p f w o then_kept i es t x s.stack ds last is free z looks
 
     -- one waits, so what was asked for was loaded before
-    was_back : WasUnsettled p v o i
+    was_back : WasUnsettled p f v o i
     was_back = ⊎_elim
         (λ first. let none : length es ≡ 0 = ap length first.1 in let some = ap length is ∙ length_snoc ds last in absurd (omega (arith, none, some)))
-        (λ was. was_within p v v w o i (at_least_itself v) then_kept was)
+        (λ was. was_within p f v v w o i (at_least_itself v) (log_itself v) then_kept (log_then g.log log) was)
         s.loads
 
     pub went_back : IsSolving p f v o i ds (last.0, z) before after
     went_back = record {
       own = own;
       kept = at_least_then all_kept later;
+      log = log_then (log_then s.log g.log) log;
       stack = stack_back;
       claims = claims_then p i i v u o none all_claims later (claims_same p i u o quiet);
       loads = inr was_back;
@@ -299,9 +314,6 @@ module _ {p : Program} {f : Frame} {v w u : View} {i : Instance} {es : List (Cod
     all_known : Knows p u i
     all_known = subst (λ (j : Instance). Knows p u j) (only_one p f w i es t x s.stack empty) g.known
 
-    not_before : WasUnsettled p v u i → ¬ Knows p v i
-    not_before was k = was.unsettled (knows_later v was.loaded was.later p i k)
-
     -- so it has no loop
     total : (hs : List Instance) → IsOuter p v i hs → ((h : Instance) → Has hs h → Knows p u h) → after + 2 * unsettled u f.cells + length hs < before + 2 * unsettled v f.cells
     total hs out outer_known = ⊎_elim
@@ -309,9 +321,9 @@ module _ {p : Program} {f : Frame} {v w u : View} {i : Instance} {es : List (Cod
         (λ pays. pays_all p f same pooled w u s.own g.own g.kept i hs out.leads es t x s.stack now (before + 2 * unsettled v f.cells) pays g.known after cheap empty outer_known)
         (s.paid hs out)
 
-    few : WasUnsettled p v u i → after + 2 * unsettled u f.cells < before + 2 * unsettled v f.cells
+    few : WasUnsettled p f v u i → after + 2 * unsettled u f.cells < before + 2 * unsettled v f.cells
     few was =
-        let cost = total [] (record { inner = not_before was; apart = tt; unknown = λ h there. absurd there; are_circular = λ h there. absurd there; leads = λ h there. absurd there }) (λ h there. absurd there) in
+        let cost = total [] (record { inner = was.unknown; apart = tt; unknown = λ h there. absurd there; are_circular = λ h there. absurd there; leads = λ h there. absurd there }) (λ h there. absurd there) in
         omega (arith, cost)
 
     pub solved_all : (done : Unit {0}) → Solves p f v u i before after (Ok done)
@@ -322,7 +334,7 @@ module _ {p : Program} {f : Frame} {v w u : View} {i : Instance} {es : List (Cod
         (λ none_more. let falls = unsettled_falls p f same v u own g.own all_kept h unknown later in omega (arith, none_more, falls))
         (λ was.
         let one : IsOuter p v i (h ∷ []) = record {
-          inner = not_before was;
+          inner = was.unknown;
           apart = ((λ no. no), tt);
           unknown = λ j there. ⊎_elim (λ at. subst (λ (k : Instance). ¬ Knows p v k) (sym at) unknown) absurd there;
           are_circular = λ j there. ⊎_elim (λ at. subst (λ (k : Instance). (equations_of p).circular k ≡ true) (sym at) its) absurd there;

@@ -7,9 +7,11 @@ use Rattle.equation_law.specs.Codes.{IsCoded, instance_of}
 use Rattle.equation_law.specs.Equations.{equations_of}
 use Rattle.equation_law.specs.Systems.{program_of}
 use Rattle.memo_cells.specs.declared.view.Frame.{Frame}
+use Rattle.memo_cells.specs.Causes.{WhyUnsettled}
 use Rattle.memo_cells.specs.Naming.{ClaimsKeysTo, IsCellOf}
 use Rattle.memo_cells.specs.Standing.{IsPassOf, Knows}
 use Rattle.memo_cells.specs.Working.{GoesOn, Held, ReadsOn, program_at}
+use Rattle.memo_cells.proofs.Causes.{found_before, log_then}
 use Rattle.memo_cells.proofs.Claiming.{claims_to}
 use Rattle.memo_cells.proofs.Holding.{own_then}
 use Rattle.memo_cells.proofs.More.{at_least_then}
@@ -42,7 +44,7 @@ module _ {o d : Held} (i : CodedInstance) (before : ℕ) (on : GoesOn o d) (clai
     start = start;
     cell = cell;
     local = local (program_at o) o.frame d.view instance coded is_circular;
-    closing = closing_first (program_at o) o.frame o.view d.view (instance_of (program_at o) i) before (own_then o d on) on.kept (claims_to (program_at o) (instance_of (program_at o) i) o.view d.view claims);
+    closing = closing_first (program_at o) o.frame o.view d.view (instance_of (program_at o) i) before (own_then o d on) on.kept on.log (claims_to (program_at o) (instance_of (program_at o) i) o.view d.view claims);
   }
 
   -- want of memory before the first turn
@@ -60,11 +62,11 @@ module _ {o d : Held} {i : CodedInstance} {l : Local} {slot before now : ℕ} (s
     start = s.start;
     cell = cell_later d.view e.view read.on.kept (program_at o) o.frame (instance_of (program_at o) i) slot s.cell;
     local = local_later (program_at o) d.view e.view read.on.kept o.frame l s.local;
-    closing = closing_looked (program_at o) o.frame refl o.view d.view e.view (instance_of (program_at o) i) before now s.closing (subst (λ (f : Frame). IsPassOf f e.view) s.cells (own_then d e read.on)) read.on.kept read.claims;
+    closing = closing_looked (program_at o) o.frame refl o.view d.view e.view (instance_of (program_at o) i) before now s.closing (subst (λ (f : Frame). IsPassOf f e.view) s.cells (own_then d e read.on)) read.on.kept read.on.log read.claims;
   }
 
   pub looked_on : GoesOn o e
-  looked_on = record { cells = cells_now; lender = read.on.lender ∙ s.lender; own = read.on.own; kept = looked.closing.kept }
+  looked_on = record { cells = cells_now; lender = read.on.lender ∙ s.lender; own = read.on.own; kept = looked.closing.kept; log = looked.closing.log }
 
   told_at : (b : Bool) → r ≡ b → TellsSettled (program_at o) o.frame d.view e.view slot b
   told_at b is = subst (λ (f : Frame). TellsSettled (program_of f.system.value) f d.view e.view slot b) s.cells (subst (λ (c : Bool). TellsSettled (program_at d) d.frame d.view e.view slot c) is told)
@@ -74,9 +76,14 @@ module _ {o d : Held} {i : CodedInstance} {l : Local} {slot before now : ℕ} (s
   is_closed sealed done = closed (program_at o) o.frame o.view e.view (instance_of (program_at o) i) before now looked.closing (told_at true sealed (instance_of (program_at o) i) s.cell) done
 
   -- it goes on
-  module _ (goes_on : r ≡ false) where
+  module _ (goes_on : r ≡ false) (cause : r ≡ false → WhyUnsettled d.frame d.view e.view slot) where
     missing : ¬ Knows (program_at o) e.view (instance_of (program_at o) i)
     missing = told_at false goes_on (instance_of (program_at o) i) s.cell
+
+    why : WhyUnsettled o.frame o.view e.view slot
+    why =
+        let loaded = subst (λ (f : Frame). WhyUnsettled f d.view e.view slot) s.cells (cause goes_on) in
+        record { word = loaded.word; unset = loaded.unset; found = found_before s.closing.log loaded.found }
 
     pub more_program : IsProgram (program_at o) → IsProgram (program_at e)
     more_program good = subst (λ (f : Frame). IsProgram (program_of f.system.value)) (sym cells_now) good
@@ -95,10 +102,10 @@ module _ {o d : Held} {i : CodedInstance} {l : Local} {slot before now : ℕ} (s
       own_then_now = subst (λ (f : Frame). IsPassOf f g.view) cells_now (own_then e g on)
 
       pub more_on : GoesOn o g
-      more_on = record { cells = on.cells ∙ cells_now; lender = on.lender ∙ looked.lender; own = on.own; kept = at_least_then looked.closing.kept on.kept }
+      more_on = record { cells = on.cells ∙ cells_now; lender = on.lender ∙ looked.lender; own = on.own; kept = at_least_then looked.closing.kept on.kept; log = log_then looked.closing.log on.log }
 
       pub more_fault : {f : AskFault} → q ≡ Err f → {all : Result Unit AskFault} → IsErr all × IsErrAnd all (λ x. x ≡ f) → Solves (program_at o) o.frame o.view g.view (instance_of (program_at o) i) before after all
-      more_fault {f} is {all} h = closing_fault (program_at o) o.frame refl o.view e.view g.view (instance_of (program_at o) i) before now looked.closing own_then_now on.kept missing after q its f is all h
+      more_fault {f} is {all} h = closing_fault (program_at o) o.frame refl o.view e.view g.view (instance_of (program_at o) i) before now looked.closing own_then_now on.kept on.log slot looked.cell why missing after q its f is all h
 
       pub more_sealing : {m : Local} → IsLocal (program_at e) e.frame g.view m × (m.start ≡ l.start) → IsOk q → IsSealing o g i m slot before after
       more_sealing {m} local ok = record {
@@ -107,7 +114,7 @@ module _ {o d : Held} {i : CodedInstance} {l : Local} {slot before now : ℕ} (s
         start = local.1 ∙ s.start;
         cell = cell_later e.view g.view on.kept (program_at o) o.frame (instance_of (program_at o) i) slot looked.cell;
         local = subst (λ (f : Frame). IsLocal (program_of f.system.value) f g.view m) cells_now local.0;
-        closing = closing_more (program_at o) o.frame refl o.view e.view g.view (instance_of (program_at o) i) before now looked.closing own_then_now on.kept missing after q its ok;
+        closing = closing_more (program_at o) o.frame refl o.view e.view g.view (instance_of (program_at o) i) before now looked.closing own_then_now on.kept on.log slot looked.cell why missing after q its ok;
       }
 
       pub more_falls : IsOk q → unsettled g.view o.frame.cells < unsettled d.view o.frame.cells

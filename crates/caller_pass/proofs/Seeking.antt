@@ -19,9 +19,9 @@ use Rattle.memo_cells.proofs.Ways.{slot_plain}
 use Rattle.caller_pass.specs.Knowing.{IsSettledAt, TellsSettled, WhyUnknown}
 use Rattle.caller_pass.proofs.Knowing.{seen_code, seen_unset, settled_knows, unknown_unset}
 
-module _ (d : Held) (f : Frame) (u v : View) (n : ℕ) (on : ReadsOn d (record { frame = f; view = u; lender = n })) (own : IsPassOf f v) (kept : IsAtLeast u v) (claims : v.claims ≡ u.claims) where
+module _ (d : Held) (f : Frame) (u v : View) (n : ℕ) (on : ReadsOn d (record { frame = f; view = u; lender = n })) (own : IsPassOf f v) (kept : IsAtLeast u v) (log : IsLogOn u v) (claims : v.claims ≡ u.claims) where
   pub looked_on : ReadsOn d (record { frame = f; view = v; lender = n })
-  looked_on = reads_then d (record { frame = f; view = u; lender = n }) (record { frame = f; view = v; lender = n }) on (record { on = record { cells = refl; lender = refl; own = own; kept = kept }; claims = claims })
+  looked_on = reads_then d (record { frame = f; view = u; lender = n }) (record { frame = f; view = v; lender = n }) on (record { on = record { cells = refl; lender = refl; own = own; kept = kept; log = log }; claims = claims })
 
   own_here : IsPassOf d.frame v
   own_here = subst (λ (g : Frame). IsPassOf g v) on.on.cells own
@@ -34,11 +34,11 @@ module _ (d : Held) (f : Frame) (u v : View) (n : ℕ) (on : ReadsOn d (record {
     finds_none unset = seen_unset (program_at d) d.frame v refl own_here u kept i slot cell (texts_pooled d.frame.system.value) unset
 
   -- why it isn't
-  pub why_unsettled : (slot : ℕ) → IsLogOn d.view u → WhyUnsettled f u v slot → WhyUnsettled d.frame d.view v slot
-  why_unsettled slot log why = subst (λ (g : Frame). WhyUnsettled g d.view v slot) on.on.cells (record { word = why.word; unset = why.unset; found = found_before log why.found })
+  pub why_unsettled : (slot : ℕ) → WhyUnsettled f u v slot → WhyUnsettled d.frame d.view v slot
+  why_unsettled slot why = subst (λ (g : Frame). WhyUnsettled g d.view v slot) on.on.cells (record { word = why.word; unset = why.unset; found = found_before on.on.log why.found })
 
-  pub why_unknown : (i : CodedInstance) (slot : ℕ) → IsCellOf (program_at d) d.frame u (instance_of (program_at d) i) slot → IsLogOn d.view u → WhyUnsettled f u v slot → WhyUnknown (program_at d) d.frame d.view v (instance_of (program_at d) i)
-  why_unknown i slot cell log why = inr (slot, cell_later u v kept (program_at d) d.frame (instance_of (program_at d) i) slot cell, why_unsettled slot log why)
+  pub why_unknown : (i : CodedInstance) (slot : ℕ) → IsCellOf (program_at d) d.frame u (instance_of (program_at d) i) slot → WhyUnsettled f u v slot → WhyUnknown (program_at d) d.frame d.view v (instance_of (program_at d) i)
+  why_unknown i slot cell why = inr (slot, cell_later u v kept (program_at d) d.frame (instance_of (program_at d) i) slot cell, why_unsettled slot why)
 
   -- the slot is that of some instance
   pub found_cell : (slot : ℕ) → HasCell (record { frame = f; view = u; lender = n }) slot → (j : Instance) × IsCellOf (program_at d) f v j slot

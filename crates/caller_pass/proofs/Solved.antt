@@ -11,6 +11,7 @@ use Rattle.memo_cells.specs.declared.view.Frame.{Frame}
 use Rattle.memo_cells.specs.Naming.{ClaimsKeysTo, IsCellOf, LacksCell}
 use Rattle.memo_cells.specs.Standing.{IsPassOf}
 use Rattle.memo_cells.specs.Working.{GoesOn, Held, IsOwn, ReadsOn, program_at}
+use Rattle.memo_cells.proofs.Causes.{log_then}
 use Rattle.memo_cells.proofs.Claiming.{claims_to, fills_to}
 use Rattle.memo_cells.proofs.More.{at_least_then}
 use Rattle.caller_pass.specs.declared.faults.AskFault.{AskFault}
@@ -44,7 +45,7 @@ first_turn {o} {d} {i} {s} before own on instance coded plain cell claims es emp
       cells = on.cells;
       lender = on.lender;
       solving = subst (λ (l : List (CodedInstance × Waiter)). IsSolving p o.frame o.view d.view (instance_of p i) l (i, record { slot = s; way = None; left = None }) before before) (sym empty)
-          (begun p o.frame o.view d.view refl own (own_then o d on) on.kept i (record { slot = s; way = None; left = None }) instance coded plain cell refl refl claims before);
+          (begun p o.frame o.view d.view refl own (own_then o d on) on.kept on.log i (record { slot = s; way = None; left = None }) instance coded plain cell refl refl claims before);
     }
 
 -- a turn goes on at the same cells
@@ -69,7 +70,7 @@ module _ {o d : Held} {i : CodedInstance} {es : List (CodedInstance × Waiter)} 
     cells_then = goes.cells ∙ t.cells
 
     pub turn_on : GoesOn o e
-    turn_on = record { cells = cells_then; lender = goes.lender ∙ t.lender; own = goes.own; kept = at_least_then t.solving.kept goes.kept }
+    turn_on = record { cells = cells_then; lender = goes.lender ∙ t.lender; own = goes.own; kept = at_least_then t.solving.kept goes.kept; log = log_then t.solving.log goes.log }
 
     -- where it didn't end settled, it was evaluated
     went : (r ≡ Ok Settled → ⊥) → WentThrough (program_at o) o.frame d.view e.view top x y now after r
@@ -119,25 +120,25 @@ module _ {o d : Held} {i : CodedInstance} {es : List (CodedInstance × Waiter)} 
         claims_next = subst (λ (f : Frame). ClaimsKeysTo (program_of f.system.value) e.view g.view (instance_of (program_of f.system.value) n)) cells_then claims
 
         pub wait_on : GoesOn o g
-        wait_on = record { cells = then_on.cells ∙ cells_then; lender = then_on.lender ∙ goes.lender ∙ t.lender; own = then_on.own; kept = at_least_then (at_least_then t.solving.kept goes.kept) then_on.kept }
+        wait_on = record { cells = then_on.cells ∙ cells_then; lender = then_on.lender ∙ goes.lender ∙ t.lender; own = then_on.own; kept = at_least_then (at_least_then t.solving.kept goes.kept) then_on.kept; log = log_then (log_then t.solving.log goes.log) then_on.log }
 
         pub wait_failed : (new : List (CodedInstance × Waiter)) (w : Result Waiter AskFault) (f : AskFault) {s : Result Unit AskFault} → AnswersWait (program_at e) e.frame g.view (es ++ (top, y) ∷ []) n new w → w ≡ Err f → IsErr s × IsErrAnd s (λ z. z ≡ f) → Solves (program_at o) o.frame o.view g.view (instance_of (program_at o) i) before after s
         wait_failed new w f {s} answer fault h =
             let p = program_at o in
             let a = subst (λ (k : Frame). AnswersWait (program_of k.system.value) k g.view (es ++ (top, y) ∷ []) n new (Err f)) cells_then (subst (λ (z : Result Waiter AskFault). AnswersWait (program_at e) e.frame g.view (es ++ (top, y) ∷ []) n new z) fault answer) in
-            solve_fault p o.frame o.view g.view (instance_of p i) before after f s h (claims_more refl good.texts t.solving went_need n next.0 next.1 own_now then_on.kept claims_next)
-            (inr (was_more refl good.texts t.solving went_need n next.0 next.1 own_now then_on.kept claims_next))
-            (wait_fault refl good.texts t.solving went_need n next.0 next.1 own_now then_on.kept claims_next new f a)
+            solve_fault p o.frame o.view g.view (instance_of p i) before after f s h (claims_more refl good.texts t.solving went_need n next.0 next.1 own_now then_on.kept then_on.log claims_next)
+            (inr (was_more refl good.texts t.solving went_need n next.0 next.1 own_now then_on.kept then_on.log claims_next))
+            (wait_fault refl good.texts t.solving went_need n next.0 next.1 own_now then_on.kept then_on.log claims_next new f a)
 
         module _ (new : List (CodedInstance × Waiter)) (z : Waiter) (answer : AnswersWait (program_at e) e.frame g.view (es ++ (top, y) ∷ []) n new (Ok z)) where
           cell : IsCellOf (program_at o) o.frame g.view (instance_of (program_at o) n) z.slot.0
           cell = subst (λ (k : Frame). IsCellOf (program_of k.system.value) k g.view (instance_of (program_of k.system.value) n) z.slot.0) cells_then answer.1
 
           pub turn_next : IsTurn o g i new n z before after
-          turn_next = record { cells = then_on.cells ∙ cells_then; lender = then_on.lender ∙ goes.lender ∙ t.lender; solving = went_more refl good.texts t.solving went_need n next.0 next.1 own_now then_on.kept claims_next z cell answer.2 answer.3 answer.4 new answer.0 }
+          turn_next = record { cells = then_on.cells ∙ cells_then; lender = then_on.lender ∙ goes.lender ∙ t.lender; solving = went_more refl good.texts t.solving went_need n next.0 next.1 own_now then_on.kept then_on.log claims_next z cell answer.2 answer.3 answer.4 new answer.0 }
 
           pub turn_next_falls : measure g.view new (n, z) o.frame.cells < measure d.view es (top, x) o.frame.cells
-          turn_next_falls = fell_more refl good.texts t.solving went_need n next.0 next.1 own_now then_on.kept claims_next z cell answer.2 answer.3 answer.4 new answer.0
+          turn_next_falls = fell_more refl good.texts t.solving went_need n next.0 next.1 own_now then_on.kept then_on.log claims_next z cell answer.2 answer.3 answer.4 new answer.0
 
     -- it is settled
     module _ (is : r ≡ Ok Settled) where
@@ -158,7 +159,7 @@ module _ {o d : Held} {i : CodedInstance} {es : List (CodedInstance × Waiter)} 
         looks_back = subst (λ (f : Frame). LooksAgain (program_of f.system.value) g.view last.1 z) cells_then looks
 
         pub turn_back : IsTurn o g i ds last.0 z before after
-        turn_back = record { cells = read.on.cells ∙ cells_then; lender = read.on.lender ∙ goes.lender ∙ t.lender; solving = went_back refl good.texts t.solving settled own_back read.on.kept read.claims ds last was free z looks_back }
+        turn_back = record { cells = read.on.cells ∙ cells_then; lender = read.on.lender ∙ goes.lender ∙ t.lender; solving = went_back refl good.texts t.solving settled own_back read.on.kept read.on.log read.claims ds last was free z looks_back }
 
         pub turn_back_falls : measure g.view ds (last.0, z) o.frame.cells < measure d.view es (top, x) o.frame.cells
-        turn_back_falls = fell_back refl good.texts t.solving settled own_back read.on.kept read.claims ds last was free z looks_back
+        turn_back_falls = fell_back refl good.texts t.solving settled own_back read.on.kept read.on.log read.claims ds last was free z looks_back

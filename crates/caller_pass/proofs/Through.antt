@@ -13,14 +13,17 @@ use Rattle.equation_law.specs.Names.{Instance}
 use Rattle.equation_law.specs.Program.{Program}
 use Rattle.equation_law.specs.Systems.{program_of}
 use Rattle.expr_eval.specs.declared.sites.Turn.TheVariants as turns
+use Rattle.memo_cells.specs.Causes.{WhyUnsettled}
 use Rattle.memo_cells.specs.declared.view.Frame.{Frame}
 use Rattle.memo_cells.specs.declared.view.View.{View}
 use Rattle.memo_cells.specs.Claiming.{ClaimsKeys}
 use Rattle.memo_cells.specs.Naming.{IsCellOf}
 use Rattle.memo_cells.specs.Standing.{Knows}
 use Rattle.memo_cells.specs.Working.{GoesOn, Held, IsKnown, ReadsOn, program_at}
+use Rattle.memo_cells.proofs.Causes.{log_itself}
 use Rattle.memo_cells.proofs.Claiming.{claims_same, claims_then}
-use Rattle.memo_cells.proofs.Naming.{cell_later}
+use Rattle.memo_cells.proofs.More.{at_least_itself}
+use Rattle.memo_cells.proofs.Naming.{cell_later, knows_later}
 use Rattle.circular_eval.specs.declared.advancing.CircFault.{CircFault}
 use Rattle.circular_eval.specs.declared.local.Local.{Local}
 use Rattle.circular_eval.specs.Advancing.{AnswersFault as AnswersCircular, IsMissing}
@@ -37,6 +40,7 @@ use Rattle.caller_pass.specs.Knowing.{HasEnded, TellsSettled, TurnsTo}
 use Rattle.caller_pass.specs.Leaving.{IsLeft}
 use Rattle.caller_pass.specs.Waiting.{HasTurn, HasWay, IsFrame, IsWayOf, way_of}
 use Rattle.caller_pass.proofs.Frames.{placed_later}
+use Rattle.caller_pass.proofs.Going.{was_within}
 use Rattle.caller_pass.proofs.Leaving.{left_known}
 use Rattle.memo_cells.proofs.Holding.{goes_then, own_then}
 use Rattle.caller_pass.proofs.Stepping.{err_is, finish_step, local_fault, memory_step, next_local, next_need, way_need}
@@ -177,7 +181,7 @@ module _ {d e : Held} {i : CodedInstance} {x : Waiter} (frame : IsFrame (program
   found_settled settled n = record { read = read; known = told_at true settled (instance_of (program_at d) i) frame.placed.slot; went = refl; evals = refl }
 
   -- it wasn't
-  module _ (missing : b ≡ false) where
+  module _ (missing : b ≡ false) (cause : b ≡ false → WhyUnsettled d.frame d.view e.view x.slot.0) where
     unsettled : ¬ Knows (program_at d) e.view (instance_of (program_at d) i)
     unsettled = told_at false missing (instance_of (program_at d) i) frame.placed.slot
 
@@ -202,7 +206,13 @@ module _ {d e : Held} {i : CodedInstance} {x : Waiter} (frame : IsFrame (program
         let p = program_at d in
         let k = subst (λ (f : Frame). GoesThrough (program_of f.system.value) (record { frame = f; view = e.view; lender = e.lender }) g i x y before after r) read.on.cells h in
         record {
-          was = record { loaded = e.view; later = read.on.kept; kept = h.on.kept; unsettled = unsettled };
+          was = was_within p d.frame d.view d.view e.view g.view (instance_of p i) (at_least_itself d.view) (log_itself d.view) h.on.kept h.on.log
+              (record {
+                unknown = λ k. unsettled (knows_later d.view e.view read.on.kept p (instance_of p i) k);
+                slot = x.slot.0;
+                cell = cell_later d.view e.view read.on.kept p d.frame (instance_of p i) x.slot.0 frame.placed.slot;
+                why = cause missing;
+              });
           through = record {
             on = goes_then d e g read.on h.on;
             claims = claims_then p (instance_of p i) (instance_of p i) d.view e.view g.view none (claims_same p (instance_of p i) d.view e.view read.claims) h.on.kept k.claims;

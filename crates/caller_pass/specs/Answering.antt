@@ -12,10 +12,11 @@ use Rattle.equation_law.specs.Names.{Instance}
 use Rattle.equation_law.specs.Program.{Program, text_of}
 use Rattle.memo_cells.specs.declared.view.Frame.{Frame}
 use Rattle.memo_cells.specs.declared.view.View.{View}
+use Rattle.memo_cells.specs.Causes.{WhyUnsettled}
 use Rattle.memo_cells.specs.Claiming.{ClaimsKeys, FillsCells}
+use Rattle.memo_cells.specs.Naming.{IsCellOf}
 use Rattle.memo_cells.specs.Showing.{ShowsAtLeast}
 use Rattle.memo_cells.specs.Standing.{Knows}
-use Rattle.memo_cells.specs.Views.{IsAtLeast}
 use Rattle.memo_cells.specs.Working.{GoesOn, Held, IsKnown, ReadsOn, program_at}
 use Rattle.circular_eval.specs.declared.advancing.CircFault.{CircFault}
 use Rattle.circular_eval.specs.declared.advancing.CircFault.TheVariants as set_fault
@@ -131,12 +132,12 @@ pub record GoesThrough (p : Program) (d e : Held) (i : CodedInstance) (old new :
   pub answer : AnswersStep p d.frame e.view (instance_of p i) (way_of old) (way_of new) result
   pub evals : after ≡ before + 1
 
--- the value word of i was loaded meanwhile, and wasn't settled: `v` is what was known before, and `w` what is known
-pub record WasUnsettled (p : Program) (v w : View) (i : Instance) : Type 0 where
-  pub loaded : View
-  pub later : IsAtLeast v loaded
-  pub kept : IsAtLeast loaded w
-  pub unsettled : ¬ Knows p loaded i
+-- i wasn't known, and the value word of its cell, as loaded in this call, wasn't settled: `v` is what was known before, and `w` what is known
+pub record WasUnsettled (p : Program) (f : Frame) (v w : View) (i : Instance) : Type 0 where
+  pub unknown : ¬ Knows p v i
+  pub slot : ℕ
+  pub cell : IsCellOf p f w i slot
+  pub why : WhyUnsettled f v w slot
 
 -- the value word of i was settled, as its turn loaded it: the turn ends there
 pub record FindsSettled (p : Program) (d e : Held) (i : CodedInstance) (before after : ℕ) (result : Result Went AskFault) : Type 0 where
@@ -147,7 +148,7 @@ pub record FindsSettled (p : Program) (d e : Held) (i : CodedInstance) (before a
 
 -- it wasn't, as its turn loaded it, and there is one evaluation more
 pub record Evaluates (p : Program) (d e : Held) (i : CodedInstance) (old new : Waiter) (before after : ℕ) (result : Result Went AskFault) : Type 0 where
-  pub was : WasUnsettled p d.view e.view (instance_of p i)
+  pub was : WasUnsettled p d.frame d.view e.view (instance_of p i)
   pub through : GoesThrough p d e i old new before after result
 
 -- A turn of i, which begins with a load of its value word. The count of evaluations rises only where that wasn't settled.
@@ -182,7 +183,7 @@ unsettled v (suc n) = (if is_known_at v n then 0 else 1) + unsettled v n
 pub record Solves (p : Program) (f : Frame) (v w : View) (i : Instance) (before after : ℕ) (result : Result Unit AskFault) : Type 0 where
   pub answer : AnswersSolve p f w i result
   pub claims : ClaimsKeys p i v w
-  pub loads : (after ≡ before) ⊎ WasUnsettled p v w i
+  pub loads : (after ≡ before) ⊎ WasUnsettled p f v w i
   pub cost : IsOk result → (after ≡ before) ⊎ (after + 2 * unsettled w f.cells < before + 2 * unsettled v f.cells)
 
 -- A circular instance that leads to i came to be seen settled, and its cell is left to pay for one evaluation more.
@@ -228,6 +229,7 @@ pub record Asks (p : Program) (f : Frame) (v w : View) (i : Instance) (before af
   pub circular : IsCircular result → HasLoop p i
   pub claims : ClaimsKeys p i v w
   pub known : Knows p v i → AnswersKnown p i result × (after ≡ before)
+  pub loads : (after ≡ before) ⊎ WasUnsettled p f v w i
   pub cost : IsOk result → (after ≡ before) ⊎ (after + 2 * unsettled w f.cells < before + 2 * unsettled v f.cells)
 
 -- What asking for i says where the caller may have noted that instances have loops: the same, but for the chain of `Circular`.
@@ -236,4 +238,5 @@ pub record AsksNoted (p : Program) (f : Frame) (v w : View) (i : Instance) (befo
   pub circular : IsCircular result → HasLoop p i
   pub claims : ClaimsKeys p i v w
   pub known : Knows p v i → AnswersKnown p i result × (after ≡ before)
+  pub loads : (after ≡ before) ⊎ WasUnsettled p f v w i
   pub cost : IsOk result → (after ≡ before) ⊎ (after + 2 * unsettled w f.cells < before + 2 * unsettled v f.cells)

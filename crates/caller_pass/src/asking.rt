@@ -4,6 +4,7 @@ ghost use Rattle.equation_law.specs.declared.coding.Instance.{Instance as CodedI
 ghost use Rattle.equation_law.specs.Checked.{IsInstance, IsProgram};
 ghost use Rattle.equation_law.specs.Codes.{IsCoded, instance_of};
 ghost use Rattle.equation_law.specs.Systems.{program_of};
+ghost use Rattle.memo_cells.specs.Causes.{IsLogOn};
 ghost use Rattle.memo_cells.specs.Standing.{IsPassOf};
 ghost use Rattle.memo_cells.specs.Views.{Has, IsAtLeast};
 ghost use Rattle.memo_cells.specs.Working.{GoesOn, IsCodedAt, IsInstanceAt, IsOwn};
@@ -85,6 +86,7 @@ fn ask_at<L: Ledger>(
     requires coded { IsCoded (program_of system.now) i.now }
     ensures own { IsPassOf cells.now pass.new }
     ensures kept { IsAtLeast pass.old pass.new }
+    ensures log { IsLogOn pass.old pass.new }
     ensures notes { IsNotebookOf system.now pass.new result.1 }
     ensures asked { AsksNoted (program_of system.now) cells.now pass.old pass.new (instance_of (program_of system.now) i.now) evals.old evals.new result.0 }
 {
@@ -120,6 +122,7 @@ fn ask_alone<L: Ledger>(
     requires coded { IsCoded (program_of system.now) i.now }
     ensures own { IsPassOf cells.now pass.new }
     ensures kept { IsAtLeast pass.old pass.new }
+    ensures log { IsLogOn pass.old pass.new }
     ensures asked { AsksNoted (program_of system.now) cells.now pass.old pass.new (instance_of (program_of system.now) i.now) evals.old evals.new result }
 {
     let mut notes = Notebook::new(alloc, system);
@@ -178,6 +181,7 @@ pub fn ask<L: Ledger>(
     requires coded { IsCoded (program_of system.now) i.now }
     ensures own { IsPassOf cells.now pass.new }
     ensures kept { IsAtLeast pass.old pass.new }
+    ensures log { IsLogOn pass.old pass.new }
     ensures asked { Asks (program_of system.now) cells.now pass.old pass.new (instance_of (program_of system.now) i.now) evals.old evals.new result }
 {
     match ask_alone(alloc, system, cells, pass, i, evals) {
@@ -207,6 +211,7 @@ pub fn ask_noted<L: Ledger>(
     requires coded { IsCoded (program_of system.now) i.now }
     ensures own { IsPassOf cells.now pass.new }
     ensures kept { IsAtLeast pass.old pass.new }
+    ensures log { IsLogOn pass.old pass.new }
     ensures notes { IsNotebookOf system.now pass.new notes.new }
     ensures asked { AsksNoted (program_of system.now) cells.now pass.old pass.new (instance_of (program_of system.now) i.now) evals.old evals.new result }
 {

@@ -5,11 +5,11 @@ use Rattle.equation_law.specs.Systems.{program_of}
 use Rattle.memo_cells.specs.declared.view.Frame.{Frame}
 use Rattle.memo_cells.specs.Causes.{WhyMissing}
 use Rattle.memo_cells.specs.Keys.{query_word}
-use Rattle.memo_cells.proofs.Causes.{missing_since}
+use Rattle.memo_cells.proofs.Causes.{log_itself, log_then, missing_since}
 use Rattle.memo_cells.specs.Naming.{IsCellOf, IsFormed}
 use Rattle.memo_cells.specs.Standing.{IsPassOf}
 use Rattle.memo_cells.specs.Views.{IsFull, IsSlot}
-use Rattle.memo_cells.specs.Working.{GoesOn, HasCell, Held, IsLogAt, IsOwn, ReadsOn, TellsPass, WhyMissingAt, program_at, told_by}
+use Rattle.memo_cells.specs.Working.{GoesOn, HasCell, Held, IsOwn, ReadsOn, TellsPass, WhyMissingAt, program_at, told_by}
 use Rattle.memo_cells.proofs.More.{at_least_itself, at_least_then}
 use Rattle.memo_cells.proofs.Naming.{cell_later}
 use Rattle.memo_cells.proofs.Ways.{IsOnWay}
@@ -24,17 +24,17 @@ told_pass d = record {
   can = λ i w k. k;
   may = λ i w k. k;
   keeps = λ x k. k;
-  itself = λ own. record { on = record { cells = refl; lender = refl; own = own; kept = at_least_itself d.view }; claims = refl };
+  itself = λ own. record { on = record { cells = refl; lender = refl; own = own; kept = at_least_itself d.view; log = log_itself d.view }; claims = refl };
 }
 
 pub own_then : (d e : Held) → GoesOn d e → IsPassOf d.frame e.view
 own_then d e on = subst (λ (f : Frame). IsPassOf f e.view) on.cells on.own
 
 pub goes_itself : (d : Held) → IsOwn d → GoesOn d d
-goes_itself d own = record { cells = refl; lender = refl; own = own; kept = at_least_itself d.view }
+goes_itself d own = record { cells = refl; lender = refl; own = own; kept = at_least_itself d.view; log = log_itself d.view }
 
 pub goes_then : (a b c : Held) → GoesOn a b → GoesOn b c → GoesOn a c
-goes_then a b c x y = record { cells = y.cells ∙ x.cells; lender = y.lender ∙ x.lender; own = y.own; kept = at_least_then x.kept y.kept }
+goes_then a b c x y = record { cells = y.cells ∙ x.cells; lender = y.lender ∙ x.lender; own = y.own; kept = at_least_then x.kept y.kept; log = log_then x.log y.log }
 
 pub reads_itself : (d : Held) → IsOwn d → ReadsOn d d
 reads_itself d own = record { on = goes_itself d own; claims = refl }
@@ -68,5 +68,5 @@ pub query_held : (d e : Held) (q s : ℕ) → q < 2 ^ 32 → ReadsOn d e → IsS
 query_held d e q s small on slot = (Query q, (query_word q, subst (λ (f : Frame). IsSlot f e.view s (query_word q)) (sym on.on.cells) slot, (small, refl)))
 
 -- why a key wasn't found, for a call that began earlier
-pub missing_at : (d e w : Held) (k : ℕ) → ReadsOn d e → IsLogAt d e → WhyMissingAt e w k → WhyMissingAt d w k
-missing_at d e w k on log h = subst (λ (f : Frame). WhyMissing f d.view w.view k) on.on.cells (missing_since log h)
+pub missing_at : (d e w : Held) (k : ℕ) → ReadsOn d e → WhyMissingAt e w k → WhyMissingAt d w k
+missing_at d e w k on h = subst (λ (f : Frame). WhyMissing f d.view w.view k) on.on.cells (missing_since on.on.log h)

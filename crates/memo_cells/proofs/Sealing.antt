@@ -37,6 +37,7 @@ use Rattle.memo_cells.specs.Steps.{AreSealed, IsSealedAt}
 use Rattle.memo_cells.specs.Views.{Has, IsAtLeast, knows_all, shown_bits, with_mark}
 use Rattle.memo_cells.proofs.Alone.{kept_words, key_there, read_at, words_after}
 use Rattle.memo_cells.proofs.Bits.{has_bits, has_left}
+use Rattle.memo_cells.proofs.Causes.{log_itself, log_one, log_then}
 use Rattle.memo_cells.proofs.Facts.{pass_of, told_own}
 use Rattle.memo_cells.proofs.Learnt.{least_any, told_least, value_learnt, value_told, values_said_has}
 use Rattle.memo_cells.proofs.Marking.{mark_high, mark_is, mark_low, none_after, number_of, place_is, slot_among, slot_left}
@@ -365,12 +366,13 @@ module _ (f : Frame) (ks vs : List ℕ) (lk : length ks ≡ f.cells) (lv : lengt
 
 -- none of them is sealed yet, and one more
 pub tells_none : (f : Frame) (slots : List Slot) (ks vs : List ℕ) (v : View) → IsTold f ks vs v → TellsSealed f slots 0 ks vs v v
-tells_none f slots ks vs v told = record { told = told; kept = at_least_itself v; sealed = λ n s k lt. absurd (omega (arith, lt)); claims = refl }
+tells_none f slots ks vs v told = record { told = told; kept = at_least_itself v; log = log_itself v; sealed = λ n s k lt. absurd (omega (arith, lt)); claims = refl }
 
 pub tells_more : (f : Frame) (slots : List Slot) (n : ℕ) (ks vs ws : List ℕ) (v w x : View) → TellsSealed f slots n ks vs v w → TellsNext f slots n ks ws w x → TellsSealed f slots (n + 1) ks ws v x
 tells_more f slots n ks vs ws v w x before next = record {
   told = next.told;
   kept = at_least_then before.kept next.kept;
+  log = log_then before.log next.log;
   sealed = λ m s k lt at there. dite (ℕ_discrete m n)
       (λ e. next.sealed s k (subst (λ (y : ℕ). slice_get (places slots) y ≡ Some s) e at) (before.kept.keys s k there))
       (λ apart. let c = before.sealed m s k (omega (arith, lt, apart)) at there in (c.0, next.kept.values s k c.0 c.1));
@@ -416,6 +418,7 @@ module _ (f : Frame) (slots : List Slot) (n : ℕ) (ks vs : List ℕ) (d : Slot)
       record {
         told = value_told f ks vs v told place found word (set vs place word) (omega (arith, lw, keys, long)) (omega (arith, lw, length-set vs place word)) (get_or-set_same vs place word 0 lw) more;
         kept = value_learnt v place found word;
+        log = log_one refl;
         sealed = λ t k at there.
             let here : t ≡ place = place_is slots n d t at ∙ sym e in
             let known : Has v.keys (place, k) = subst (λ (q : ℕ). Has v.keys (q, k)) here there in

@@ -3,6 +3,7 @@ use Rattle.std.specs.Prelude.{◌≡◌, ℕ, ◌<◌, ◌≤◌, ◌⊎◌, Lis
 use Rattle.equation_law.specs.Systems.{program_of}
 use Rattle.memo_cells.specs.declared.keys.Slot.{Slot}
 use Rattle.memo_cells.specs.declared.view.Frame.{Frame}
+use Rattle.memo_cells.specs.Causes.{IsLogOn}
 use Rattle.memo_cells.specs.Standing.{AreWords, IsSeatOf, IsTold, MaySeal}
 use Rattle.memo_cells.specs.Steps.{IsSealedAt}
 use Rattle.memo_cells.specs.declared.view.View.{View}
@@ -48,6 +49,7 @@ SealsAll f set ks vs ws = SealsOn f (places set) (places set) [] ks vs ws
 pub record TellsNext (f : Frame) (set : List Slot) (number : ℕ) (ks vs : List ℕ) (v w : View) : Type 0 where
   pub told : IsTold f ks vs w
   pub kept : IsAtLeast v w
+  pub log : IsLogOn v w
   pub sealed : (s k : ℕ) → slice_get (places set) number ≡ Some s → Has v.keys (s, k) → IsSealedAt w s k
   pub claims : w.claims ≡ v.claims
 
@@ -55,5 +57,6 @@ pub record TellsNext (f : Frame) (set : List Slot) (number : ℕ) (ks vs : List 
 pub record TellsSealed (f : Frame) (set : List Slot) (count : ℕ) (ks vs : List ℕ) (v w : View) : Type 0 where
   pub told : IsTold f ks vs w
   pub kept : IsAtLeast v w
+  pub log : IsLogOn v w
   pub sealed : (number s k : ℕ) → number < count → slice_get (places set) number ≡ Some s → Has v.keys (s, k) → IsSealedAt w s k
   pub claims : w.claims ≡ v.claims

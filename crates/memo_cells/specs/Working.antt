@@ -42,12 +42,13 @@ IsOwn d = IsPassOf d.frame d.view
 abbrev pub IsKnown : Program → View → Instance → Value → Type 0
 IsKnown p v i w = Knows p v i × HasValue p i w
 
--- e is d later: the same cells and reference, and a pass of these cells that knows at least what it knew
+-- e is d later: the same cells and reference, and a pass of these cells that knows at least what it knew, by what its steps found since
 pub record GoesOn (d e : Held) : Type 0 where
   pub cells : e.frame ≡ d.frame
   pub lender : e.lender ≡ d.lender
   pub own : IsOwn e
   pub kept : IsAtLeast d.view e.view
+  pub log : IsLogOn d.view e.view
 
 -- it claimed nothing since
 pub record ReadsOn (d e : Held) : Type 0 where
@@ -69,10 +70,6 @@ IsMissingAt d e k = IsMissing (program_at d) e.view k
 -- why it wasn't found
 abbrev pub WhyMissingAt : Held → Held → ℕ → Type 0
 WhyMissingAt d e k = WhyMissing d.frame d.view e.view k
-
--- e is d later, by what the steps found
-abbrev pub IsLogAt : Held → Held → Type 0
-IsLogAt d e = IsLogOn d.view e.view
 
 -- it is the key of a cell of the program, by the keys that are seen claimed
 abbrev pub IsFormedAt : Held → ℕ → Type 0

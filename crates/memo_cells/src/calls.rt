@@ -68,6 +68,7 @@ impl Cells {
         requires key { IsFormed (program_of self.now.system.value) pass.old (key_word key) }
         ensures own { IsPassOf self.now pass.new }
         ensures kept { IsAtLeast pass.old pass.new }
+        ensures log { IsLogOn pass.old pass.new }
         ensures slot { IfOk result (λ s. IsSlot self.now pass.new s.0 (key_word key)) }
         ensures full { OnErr result (IsFull self.now pass.new (key_word key)) }
         ensures claims { ClaimsOnly pass.old pass.new (key_word key) }
@@ -137,6 +138,7 @@ impl Cells {
         requires code { MaySettle (program_of self.now.system.value) pass.old slot.0 code }
         ensures own { IsPassOf self.now pass.new }
         ensures kept { IsAtLeast pass.old pass.new }
+        ensures log { IsLogOn pass.old pass.new }
         ensures known { (k : ℕ) → Has pass.old.keys (slot.0, k) → Has pass.new.values (slot.0, k, result) }
         ensures stays { (k c : ℕ) → Has pass.old.values (slot.0, k, c) → result ≡ c }
         ensures claims { pass.new.claims ≡ pass.old.claims }

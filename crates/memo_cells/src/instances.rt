@@ -1,7 +1,7 @@
 // The cells of instances: one key for the attribute at the node, and one for each argument.
 ghost use Rattle.std.specs.Prelude.{◌<◌, IfOk, IfSome, OnErr};
 ghost use Rattle.equation_law.specs.declared.coding.Instance.TheVariants.{Attr as attribute_at};
-ghost use Rattle.memo_cells.specs.Working.{ClaimsKeysAt, FindsCell, GoesOn, HasCell, IsCellAt, IsCodedAt, IsInstanceAt, IsLogAt, IsOwn, IsPlainAt, LacksCellAt, MissesCell, ReadsOn, WhyNoCell};
+ghost use Rattle.memo_cells.specs.Working.{ClaimsKeysAt, FindsCell, GoesOn, HasCell, IsCellAt, IsCodedAt, IsInstanceAt, IsOwn, IsPlainAt, LacksCellAt, MissesCell, ReadsOn, WhyNoCell};
 
 use crate::calls::CellsFull;
 use crate::keys::{Key, Slot};
@@ -56,7 +56,6 @@ fn seek_attribute<W: Words>(work: &mut W, attr: AttrId, node: NodeRef, args: Arg
     ensures slot { FindsCell (W.held work.old) (W.held work.new) (attribute_at attr node args) result }
     ensures none { MissesCell (W.held work.old) (W.held work.new) (attribute_at attr node args) result }
     ensures cause { WhyNoCell (W.held work.old) (W.held work.new) (attribute_at attr node args) result }
-    ensures log { IsLogAt (W.held work.old) (W.held work.new) }
     ensures place { IfSome result (λ s. s.0 < (W.held work.old).frame.cells) }
     ensures plain { IfSome result (λ s. IsPlainAt (W.held work.new) s.0) }
     ensures cell { IfSome result (λ s. HasCell (W.held work.new) s.0) }
@@ -77,7 +76,6 @@ pub fn seek_instance<W: Words>(work: &mut W, i: Instance) -> Option<Slot>
     ensures slot { FindsCell (W.held work.old) (W.held work.new) i result }
     ensures none { MissesCell (W.held work.old) (W.held work.new) i result }
     ensures cause { WhyNoCell (W.held work.old) (W.held work.new) i result }
-    ensures log { IsLogAt (W.held work.old) (W.held work.new) }
     ensures place { IfSome result (λ s. s.0 < (W.held work.old).frame.cells) }
     ensures plain { IfSome result (λ s. IsPlainAt (W.held work.new) s.0) }
     ensures cell { IfSome result (λ s. HasCell (W.held work.new) s.0) }

@@ -30,6 +30,7 @@ impl Cells {
         requires passed { IsPassed self.now pass.old key place }
         ensures own { IsPassOf self.now pass.new }
         ensures kept { IsAtLeast pass.old pass.new }
+        ensures log { IsLogOn pass.old pass.new }
         ensures held { (result ≢ 0) × Has pass.new.keys (place, result) }
         ensures claims { ClaimsOnly pass.old pass.new key }
     {
@@ -52,6 +53,7 @@ impl Cells {
         requires led { IsLedTo self.now pass.old key from to }
         ensures own { IsPassOf self.now pass.new }
         ensures kept { IsAtLeast pass.old pass.new }
+        ensures log { IsLogOn pass.old pass.new }
         ensures probed { MatchOption result (IsOtherIn pass.new key from to) (λ p. IsSlot self.now pass.new p key) }
         ensures claims { ClaimsOnly pass.old pass.new key }
     {

@@ -1,6 +1,7 @@
 // The single steps on the words: each reads or writes one.
 ghost use Rattle.std.specs.Prelude.{◌≡◌, ◌≢◌, ◌+◌, ◌<◌, length, map};
 ghost use Rattle.equation_law.specs.Systems.{program_of};
+ghost use Rattle.memo_cells.specs.Causes.{IsLogOn};
 ghost use Rattle.memo_cells.specs.Naming.{IsFormed};
 ghost use Rattle.memo_cells.specs.Sealing.{AreSealedTo, SealsAll, SealsTo, TellsNext, TellsSealed};
 ghost use Rattle.memo_cells.specs.Standing.{IsPassOf, IsTold, MayAdd, MayRaiseTruth, MaySeal, MaySettle};
@@ -69,6 +70,7 @@ impl Cells {
         requires code { MaySettle (program_of self.now.system.value) pass.old place code }
         ensures own { IsPassOf self.now pass.new }
         ensures kept { IsAtLeast pass.old pass.new }
+        ensures log { IsLogOn pass.old pass.new }
         ensures tried { ValueTried pass.old pass.new place code result }
     {
         let found = pass.values[place as usize];
@@ -89,6 +91,7 @@ impl Cells {
         requires place { place < self.now.cells }
         ensures own { IsPassOf self.now pass.new }
         ensures kept { IsAtLeast pass.old pass.new }
+        ensures log { IsLogOn pass.old pass.new }
         ensures seen { BitsSeen (program_of self.now.system.value) pass.old pass.new place result }
     {
         let found = pass.values[place as usize];
@@ -104,6 +107,7 @@ impl Cells {
         requires may { MayAdd (program_of self.now.system.value) pass.old place bits }
         ensures own { IsPassOf self.now pass.new }
         ensures kept { IsAtLeast pass.old pass.new }
+        ensures log { IsLogOn pass.old pass.new }
         ensures added { BitsAdded (program_of self.now.system.value) pass.old pass.new place bits result }
     {
         let found = pass.values[place as usize];
@@ -120,6 +124,7 @@ impl Cells {
         requires may { MayRaiseTruth (program_of self.now.system.value) pass.old place }
         ensures own { IsPassOf self.now pass.new }
         ensures kept { IsAtLeast pass.old pass.new }
+        ensures log { IsLogOn pass.old pass.new }
         ensures added { BitsAdded (program_of self.now.system.value) pass.old pass.new place 1 result }
     {
         let found = pass.values[place as usize];
@@ -140,6 +145,7 @@ impl Cells {
         requires may { MaySeal (program_of self.now.system.value) self.now pass.old (map (λ s. s.0) set.now) }
         ensures own { IsPassOf self.now pass.new }
         ensures kept { IsAtLeast pass.old pass.new }
+        ensures log { IsLogOn pass.old pass.new }
         ensures sealed { AreSealed pass.old pass.new (map (λ s. s.0) set.now) }
         ensures claims { pass.new.claims ≡ pass.old.claims }
     {

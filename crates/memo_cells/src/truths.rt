@@ -4,6 +4,7 @@ ghost use Rattle.attr_equations.specs.Kept.{rules_in};
 ghost use Rattle.attr_rules.specs.Types.{truth_kind};
 ghost use Rattle.equation_law.specs.Names.{Instance};
 ghost use Rattle.equation_law.specs.Systems.{program_of};
+ghost use Rattle.memo_cells.specs.Causes.{IsLogOn};
 ghost use Rattle.memo_cells.specs.Naming.{IsCellOf, IsFirstKey};
 ghost use Rattle.memo_cells.specs.Standing.{IsPassOf};
 ghost use Rattle.memo_cells.specs.Truths.{TellsTruth};
@@ -71,6 +72,7 @@ impl Cells {
         requires cell { (i : Instance) × IsCellOf (program_of self.now.system.value) self.now pass.old i slot.0 }
         ensures own { IsPassOf self.now pass.new }
         ensures kept { IsAtLeast pass.old pass.new }
+        ensures log { IsLogOn pass.old pass.new }
         ensures first { (i : Instance) → IsCellOf (program_of self.now.system.value) self.now pass.old i slot.0 → IsFirstKey i result }
         ensures claims { pass.new.claims ≡ pass.old.claims }
     {
@@ -90,6 +92,7 @@ impl Cells {
         requires cell { (i : Instance) × IsCellOf (program_of self.now.system.value) self.now pass.old i slot.0 }
         ensures own { IsPassOf self.now pass.new }
         ensures kept { IsAtLeast pass.old pass.new }
+        ensures log { IsLogOn pass.old pass.new }
         ensures truth { TellsTruth self.now pass.old slot.0 result }
         ensures claims { pass.new.claims ≡ pass.old.claims }
     {

@@ -2,6 +2,7 @@
 ghost use Rattle.std.specs.Prelude.{◌≡◌, ◌≢◌, ◌<◌, map, IfOk, OnErr};
 ghost use Rattle.equation_law.specs.Names.{Instance};
 ghost use Rattle.equation_law.specs.Systems.{program_of};
+ghost use Rattle.memo_cells.specs.Causes.{IsLogOn};
 ghost use Rattle.memo_cells.specs.Keys.{set_word};
 ghost use Rattle.memo_cells.specs.Naming.{IsCellOf};
 ghost use Rattle.memo_cells.specs.Standing.{ClaimsForSet, HasKnownWord, HasKnownWordOfSet, HasWord, IsOfSet, IsPassOf, MayRaise, MayRaiseSet, MayRaiseTruth, MaySeal, ShowsWord, ShowsWordOfSet};
@@ -21,6 +22,7 @@ impl Cells {
         requires some { bits ≢ 0 }
         ensures own { IsPassOf self.now pass.new }
         ensures kept { IsAtLeast pass.old pass.new }
+        ensures log { IsLogOn pass.old pass.new }
         ensures raised { IfOk result (λ x. HasWord (program_of self.now.system.value) self.now pass.new slot.0 word bits x) }
         ensures full { OnErr result (IsFull self.now pass.new (set_word slot.0 word)) }
         ensures claims { ClaimsOnly pass.old pass.new (set_word slot.0 word) }
@@ -36,6 +38,7 @@ impl Cells {
         requires may { MayRaiseTruth (program_of self.now.system.value) pass.old slot.0 }
         ensures own { IsPassOf self.now pass.new }
         ensures kept { IsAtLeast pass.old pass.new }
+        ensures log { IsLogOn pass.old pass.new }
         ensures raised { HasWord (program_of self.now.system.value) self.now pass.new slot.0 0 1 result }
         ensures claims { pass.new.claims ≡ pass.old.claims }
     {
@@ -51,6 +54,7 @@ impl Cells {
         requires some { bits ≢ 0 }
         ensures own { IsPassOf self.now pass.new }
         ensures kept { IsAtLeast pass.old pass.new }
+        ensures log { IsLogOn pass.old pass.new }
         ensures raised { IfOk result (λ x. HasWord (program_of self.now.system.value) self.now pass.new slot.0 word bits x) }
         ensures full { OnErr result (IsFull self.now pass.new (set_word slot.0 word)) }
         ensures set { OnErr result (IsOfSet self.now pass.new slot.0) }
@@ -70,6 +74,7 @@ impl Cells {
         requires slot { slot.0 < self.now.cells }
         ensures own { IsPassOf self.now pass.new }
         ensures kept { IsAtLeast pass.old pass.new }
+        ensures log { IsLogOn pass.old pass.new }
         ensures word { ShowsWordOfSet self.now pass.new slot.0 word result }
         ensures settled { HasKnownWordOfSet self.now pass.old pass.new slot.0 word result }
         ensures claims { pass.new.claims ≡ pass.old.claims }
@@ -86,6 +91,7 @@ impl Cells {
         requires cell { (i : Instance) × IsCellOf (program_of self.now.system.value) self.now pass.old i slot.0 }
         ensures own { IsPassOf self.now pass.new }
         ensures kept { IsAtLeast pass.old pass.new }
+        ensures log { IsLogOn pass.old pass.new }
         ensures word { ShowsWord self.now pass.new slot.0 word result }
         ensures settled { HasKnownWord self.now pass.old pass.new slot.0 word result }
         ensures claims { pass.new.claims ≡ pass.old.claims }
@@ -103,6 +109,7 @@ impl Cells {
         requires may { MaySeal (program_of self.now.system.value) self.now pass.old (map (λ s. s.0) set.now) }
         ensures own { IsPassOf self.now pass.new }
         ensures kept { IsAtLeast pass.old pass.new }
+        ensures log { IsLogOn pass.old pass.new }
         ensures sealed { AreSealed pass.old pass.new (map (λ s. s.0) set.now) }
         ensures claims { pass.new.claims ≡ pass.old.claims }
     {

@@ -1,7 +1,7 @@
 // What a reader does that holds a pass.
 ghost use Rattle.std.specs.Prelude.{◌≢◌, ◌<◌, IfNone, IfOk, IfSome, OnErr, map};
 ghost use Rattle.memo_cells.specs.Keys.{Fits, key_word, set_word};
-ghost use Rattle.memo_cells.specs.Working.{AreSealedAt, ClaimsForSetAt, ClaimsOnlyAt, GoesOn, HasCell, HasKnownWordAt, HasWordAt, IsFormedAt, IsFullAt, IsLogAt, IsMissingAt, IsOfSetAt, IsOwn, IsSlotAt, MayRaiseAt, MaySealAt, ReadsOn, ShowsWordAt, WhyMissingAt};
+ghost use Rattle.memo_cells.specs.Working.{AreSealedAt, ClaimsForSetAt, ClaimsOnlyAt, GoesOn, HasCell, HasKnownWordAt, HasWordAt, IsFormedAt, IsFullAt, IsMissingAt, IsOfSetAt, IsOwn, IsSlotAt, MayRaiseAt, MaySealAt, ReadsOn, ShowsWordAt, WhyMissingAt};
 
 use crate::calls::CellsFull;
 use crate::keys::{Key, Slot};
@@ -19,8 +19,7 @@ pub trait Words {
         ensures on { ReadsOn (held self.old) (held self.new) }
         ensures slot { IfSome result (λ s. IsSlotAt (held self.old) (held self.new) s.0 (key_word key)) }
         ensures none { IfNone result (IsMissingAt (held self.old) (held self.new) (key_word key)) }
-        ensures cause { IfNone result (WhyMissingAt (held self.old) (held self.new) (key_word key)) }
-        ensures log { IsLogAt (held self.old) (held self.new) };
+        ensures cause { IfNone result (WhyMissingAt (held self.old) (held self.new) (key_word key)) };
 
     /// A word of what is shown of a slot's instance.
     fn word(&mut self, slot: Slot, word: u32) -> u64

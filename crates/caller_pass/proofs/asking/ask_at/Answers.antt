@@ -5,6 +5,7 @@ use Rattle.equation_law.specs.Codes.{IsCoded, instance_of}
 use Rattle.equation_law.specs.Systems.{program_of}
 use Rattle.memo_cells.specs.declared.view.Frame.{Frame}
 use Rattle.memo_cells.specs.declared.view.View.{View}
+use Rattle.memo_cells.specs.Causes.{IsLogOn}
 use Rattle.memo_cells.specs.Standing.{IsPassOf}
 use Rattle.memo_cells.specs.Views.{IsAtLeast}
 use Rattle.memo_cells.specs.Working.{Held}
@@ -30,6 +31,9 @@ returns-clause-own g c = subst (λ (v : View). IsPassOf c.args.cells.now v) (sym
 
 pub returns-clause-kept : goal.returns-clause-kept
 returns-clause-kept g c = subst (λ (v : View). IsAtLeast c.args.pass.now v) (sym ((c.pass-1.given.1 (sym (ap (λ (h : Held). h.lender) c.desk.view_is ∙ c.answer-came.ensures.on.lender))) ∙ ap (λ (h : Held). h.view) c.desk.view_is)) c.answer-came.ensures.on.kept
+
+pub returns-clause-log : goal.returns-clause-log
+returns-clause-log g c = subst (λ (v : View). IsLogOn c.args.pass.now v) (sym ((c.pass-1.given.1 (sym (ap (λ (h : Held). h.lender) c.desk.view_is ∙ c.answer-came.ensures.on.lender))) ∙ ap (λ (h : Held). h.view) c.desk.view_is)) c.answer-came.ensures.on.log
 
 pub returns-clause-notes : goal.returns-clause-notes
 returns-clause-notes g c =

@@ -35,28 +35,28 @@ is_settled-requires g c =
     subst (λ (f : Frame). (i : Instance) × IsCellOf (program_of f.system.value) f c.closing.desk.view i c.in_ok-slot.slot.0) (sym c.closing.invariant.cells) (instance_of (program_at c.args.desk.now) c.args.i, c.closing.invariant.cell)
 
 pub close_more-requires-clause-program : goal.close_more-requires-clause-program
-close_more-requires-clause-program g c = more_program c.closing.invariant c.is_settled.ensures.on c.is_settled.result c.is_settled.ensures.told c.closing-test.true c.requires.program
+close_more-requires-clause-program g c = more_program c.closing.invariant c.is_settled.ensures.on c.is_settled.result c.is_settled.ensures.told c.closing-test.true c.is_settled.ensures.cause c.requires.program
 
 pub close_more-requires-clause-own : goal.close_more-requires-clause-own
 close_more-requires-clause-own g c = c.is_settled.ensures.on.on.own
 
 pub close_more-requires-clause-local : goal.close_more-requires-clause-local
-close_more-requires-clause-local g c = more_local c.closing.invariant c.is_settled.ensures.on c.is_settled.result c.is_settled.ensures.told c.closing-test.true
+close_more-requires-clause-local g c = more_local c.closing.invariant c.is_settled.ensures.on c.is_settled.result c.is_settled.ensures.told c.closing-test.true c.is_settled.ensures.cause
 
 pub close_more-requires-clause-unknown : goal.close_more-requires-clause-unknown
-close_more-requires-clause-unknown g c = more_unknown c.closing.invariant c.is_settled.ensures.on c.is_settled.result c.is_settled.ensures.told c.closing-test.true
+close_more-requires-clause-unknown g c = more_unknown c.closing.invariant c.is_settled.ensures.on c.is_settled.result c.is_settled.ensures.told c.closing-test.true c.is_settled.ensures.cause
 
 pub closing-smaller : goal.closing-smaller
-closing-smaller g c = more_falls c.closing.invariant c.is_settled.ensures.on c.is_settled.result c.is_settled.ensures.told c.closing-test.true c.in_ok-close_more.ensures.on c.in_ok-close_more.ensures.more refl
+closing-smaller g c = more_falls c.closing.invariant c.is_settled.ensures.on c.is_settled.result c.is_settled.ensures.told c.closing-test.true c.is_settled.ensures.cause c.in_ok-close_more.ensures.on c.in_ok-close_more.ensures.more refl
 
 pub closing-preserved : goal.closing-preserved
-closing-preserved g c = more_sealing c.closing.invariant c.is_settled.ensures.on c.is_settled.result c.is_settled.ensures.told c.closing-test.true c.in_ok-close_more.ensures.on c.in_ok-close_more.ensures.more c.in_ok-close_more.ensures.local refl
+closing-preserved g c = more_sealing c.closing.invariant c.is_settled.ensures.on c.is_settled.result c.is_settled.ensures.told c.closing-test.true c.is_settled.ensures.cause c.in_ok-close_more.ensures.on c.in_ok-close_more.ensures.more c.in_ok-close_more.ensures.local refl
 
 pub returns-in_err-close_more-clause-on : goal.returns-in_err-close_more-clause-on
-returns-in_err-close_more-clause-on g c = more_on c.closing.invariant c.is_settled.ensures.on c.is_settled.result c.is_settled.ensures.told c.closing-test.true c.in_err-close_more.ensures.on c.in_err-close_more.ensures.more
+returns-in_err-close_more-clause-on g c = more_on c.closing.invariant c.is_settled.ensures.on c.is_settled.result c.is_settled.ensures.told c.closing-test.true c.is_settled.ensures.cause c.in_err-close_more.ensures.on c.in_err-close_more.ensures.more
 
 pub returns-in_err-close_more-clause-solved : goal.returns-in_err-close_more-clause-solved
-returns-in_err-close_more-clause-solved g c = more_fault c.closing.invariant c.is_settled.ensures.on c.is_settled.result c.is_settled.ensures.told c.closing-test.true c.in_err-close_more.ensures.on c.in_err-close_more.ensures.more refl c.from_residual-in_err-close_more.ensures
+returns-in_err-close_more-clause-solved g c = more_fault c.closing.invariant c.is_settled.ensures.on c.is_settled.result c.is_settled.ensures.told c.closing-test.true c.is_settled.ensures.cause c.in_err-close_more.ensures.on c.in_err-close_more.ensures.more refl c.from_residual-in_err-close_more.ensures
 
 pub returns-clause-on : goal.returns-clause-on
 returns-clause-on g c = looked_on c.closing.invariant c.is_settled.ensures.on c.is_settled.result c.is_settled.ensures.told

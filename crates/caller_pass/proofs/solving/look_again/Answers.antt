@@ -1,17 +1,14 @@
-use Rattle.std.proofs.Common.{Some, refl, sym, ap, subst, ◌∙◌}
-use Rattle.memo_cells.specs.Working.{Held, IsOwn, ReadsOn, program_at}
-use Rattle.memo_cells.proofs.More.{at_least_itself}
+use Rattle.std.proofs.Common.{Some, sym, ap, subst, ◌∙◌}
+use Rattle.memo_cells.specs.Working.{Held, ReadsOn, program_at}
+use Rattle.memo_cells.proofs.Holding.{reads_itself}
 use Rattle.caller_pass.specs.Waiting.{unboxed}
 use Rattle.caller_pass.proofs.Frames.{looked_known}
 use Rattle.caller_pass.proofs.solving.look_again.Goals.{in-None, in-Some}
 use Rattle.caller_pass.proofs.solving.look_again.Goals as goal
 
-still : (d : Held) → IsOwn d → ReadsOn d d
-still d own = record { on = record { cells = refl; lender = refl; own = own; kept = at_least_itself d.view }; claims = refl }
-
 pub returns-else-known-clause-on : goal.returns-else-known-clause-on
 returns-else-known-clause-on c = elim c.match-waiter.branch [
-  | in-None w ↦ subst (λ (d : Held). ReadsOn c.args.desk.now d) (sym w.desk-is) (still c.args.desk.now c.requires.own)
+  | in-None w ↦ subst (λ (d : Held). ReadsOn c.args.desk.now d) (sym w.desk-is) (reads_itself c.args.desk.now c.requires.own)
   | in-Some w ↦ subst (λ (d : Held). ReadsOn c.args.desk.now d) (sym w.desk-is) w.settled_code.ensures.on
 ]
 

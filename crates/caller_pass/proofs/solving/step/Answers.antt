@@ -12,10 +12,10 @@ returns-then-is_settled g c = record { went = inl (found_settled c.requires.fram
 
 pub evaluate-requires : goal.evaluate-requires
 evaluate-requires g c = record {
-  program = program_loaded c.requires.frame c.is_settled.ensures.on c.is_settled.result c.is_settled.ensures.told c.if-is_settled.false c.requires.program;
-  turn = turn_loaded c.requires.frame c.is_settled.ensures.on c.is_settled.result c.is_settled.ensures.told c.if-is_settled.false;
-  unsettled = unsettled_loaded c.requires.frame c.is_settled.ensures.on c.is_settled.result c.is_settled.ensures.told c.if-is_settled.false;
+  program = program_loaded c.requires.frame c.is_settled.ensures.on c.is_settled.result c.is_settled.ensures.told c.if-is_settled.false c.is_settled.ensures.cause c.requires.program;
+  turn = turn_loaded c.requires.frame c.is_settled.ensures.on c.is_settled.result c.is_settled.ensures.told c.if-is_settled.false c.is_settled.ensures.cause;
+  unsettled = unsettled_loaded c.requires.frame c.is_settled.ensures.on c.is_settled.result c.is_settled.ensures.told c.if-is_settled.false c.is_settled.ensures.cause;
 }
 
 pub returns : goal.returns
-returns g c = record { went = inr (evaluated c.requires.frame c.is_settled.ensures.on c.is_settled.result c.is_settled.ensures.told c.if-is_settled.false c.evaluate.ensures.went) }
+returns g c = record { went = inr (evaluated c.requires.frame c.is_settled.ensures.on c.is_settled.result c.is_settled.ensures.told c.if-is_settled.false c.is_settled.ensures.cause c.evaluate.ensures.went) }

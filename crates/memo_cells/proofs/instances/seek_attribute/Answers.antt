@@ -5,7 +5,6 @@ use Rattle.equation_law.proofs.Pooled.{texts_pooled}
 use Rattle.memo_cells.specs.Keys.{argument_word, attribute_word}
 use Rattle.memo_cells.specs.Working.{program_at}
 use Rattle.memo_cells.proofs.Holding.{missing_at, own_then, reads_then, slot_back, way_held}
-use Rattle.memo_cells.proofs.Causes.{log_then}
 use Rattle.memo_cells.proofs.Naming.{key_later}
 use Rattle.memo_cells.proofs.More.{at_least_itself}
 use Rattle.memo_cells.proofs.Ways.{fits, if_none, key_next, key_on_way, nowhere_first, nowhere_on, place_less, way_ends, way_next, way_plain}
@@ -17,7 +16,6 @@ returns-in_err-slot-clause-none g c = λ coded. if_none c.from_residual.result (
 pub loop-code-init : goal.loop-code-init
 loop-code-init g c = record {
   on = c.seek.ensures.on;
-  log = c.seek.ensures.log;
   few = search rules;
   way = record { key = attribute_word c.args.attr.0 c.args.node.0; slot = c.in_ok-slot.ensures.slot; named = (search rules, search rules, refl) };
 }
@@ -40,7 +38,6 @@ loop-code-smaller g c = let less = place_less (g.W.Words.held c.args.work.now).f
 pub loop-code-preserved : goal.loop-code-preserved
 loop-code-preserved g c = record {
   on = reads_then (g.W.Words.held c.args.work.now) (g.W.Words.held c.loop-code.work) (g.W.Words.held c.seek-in-Some.new.self) c.loop-code.invariant.on c.seek-in-Some.ensures.on;
-  log = log_then c.loop-code.invariant.log c.seek-in-Some.ensures.log;
   few = let less = place_less (g.W.Words.held c.args.work.now).frame (g.W.Words.held c.loop-code.work).view (g.W.Words.held c.loop-code.work).view c.args.attr.0 c.args.node.0 c.args.args c.loop-code.place c.loop-code.slot.0 c.loop-code.invariant.way (own_then (g.W.Words.held c.args.work.now) (g.W.Words.held c.loop-code.work) c.loop-code.invariant.on.on) (at_least_itself (g.W.Words.held c.loop-code.work).view) c.in-Some.code 0 (search rules) (sym c.in-Some.ensures) in omega (arith, less);
   way = way_next (g.W.Words.held c.args.work.now).frame (g.W.Words.held c.loop-code.work).view (g.W.Words.held c.seek-in-Some.new.self).view c.args.attr.0 c.args.node.0 c.args.args c.loop-code.place c.loop-code.slot.0 c.loop-code.invariant.way (own_then (g.W.Words.held c.args.work.now) (g.W.Words.held c.loop-code.work) c.loop-code.invariant.on.on) c.seek-in-Some.ensures.on.on.kept c.in-Some.code c.in_ok-slot-2.slot.0 (search rules) (sym c.in-Some.ensures) (slot_back (g.W.Words.held c.args.work.now) (g.W.Words.held c.loop-code.work) (g.W.Words.held c.seek-in-Some.new.self) c.in_ok-slot-2.slot.0 (argument_word c.loop-code.slot.0 c.in-Some.code) c.loop-code.invariant.on.on c.in_ok-slot-2.ensures.slot);
 }
@@ -66,15 +63,9 @@ returns-in_err-slot-2-clause-cause g c = λ coded.
     let k = argument_word c.loop-code.slot.0 c.in-Some.code in
     let next = key_next d.frame e.view e.view c.args.attr.0 c.args.node.0 c.args.args c.loop-code.place c.loop-code.slot.0 c.loop-code.invariant.way (own_then d e c.loop-code.invariant.on.on) (at_least_itself e.view) c.in-Some.code 0 (search rules) (sym c.in-Some.ensures) (program_at d) coded.1 in
     if_none c.from_residual-in_err-slot-2.result
-    (k, key_later e.view w.view c.seek-in-Some.ensures.on.on.kept (program_at d) (instance_of (program_at d) (attribute_at c.args.attr c.args.node c.args.args)) k next, missing_at d e w k c.loop-code.invariant.on c.loop-code.invariant.log c.in_err-slot-2.ensures.cause)
-
-pub returns-in_err-slot-2-clause-log : goal.returns-in_err-slot-2-clause-log
-returns-in_err-slot-2-clause-log g c = log_then c.loop-code.invariant.log c.seek-in-Some.ensures.log
+    (k, key_later e.view w.view c.seek-in-Some.ensures.on.on.kept (program_at d) (instance_of (program_at d) (attribute_at c.args.attr c.args.node c.args.args)) k next, missing_at d e w k c.loop-code.invariant.on c.in_err-slot-2.ensures.cause)
 
 pub returns-clause-slot : goal.returns-clause-slot
 returns-clause-slot g c = λ coded.
     let d = g.W.Words.held c.args.work.now in
     way_ends (program_at d) d.frame (g.W.Words.held c.loop-code.work).view c.args.attr.0 c.args.node.0 c.args.args c.loop-code.place c.loop-code.slot.0 coded.1 (search rules) c.loop-code.invariant.way
-
-pub returns-clause-log : goal.returns-clause-log
-returns-clause-log g c = c.loop-code.invariant.log

@@ -1,14 +1,13 @@
 -- The slot is that of the attribute with the arguments so far.
 use Rattle.std.proofs.Common.{length, take, ◌-◌, ◌≤◌}
 use Rattle.equation_law.specs.Codes.{codes_in}
-use Rattle.memo_cells.specs.Working.{IsLogAt, ReadsOn}
+use Rattle.memo_cells.specs.Working.{ReadsOn}
 use Rattle.memo_cells.proofs.Ways.{IsOnWay}
 use Rattle.memo_cells.proofs.instances.seek_attribute.Given as goal
 
 abbrev pub invariant-loop-code : goal.invariant-loop-code
 invariant-loop-code g l = record {
   on : ReadsOn (g.W.Words.held l.fn.work) (g.W.Words.held l.work);
-  log : IsLogAt (g.W.Words.held l.fn.work) (g.W.Words.held l.work);
   few : l.place ≤ length (codes_in l.args);
   way : IsOnWay (g.W.Words.held l.fn.work).frame (g.W.Words.held l.work).view l.fn.attr.0 l.fn.node.0 (take l.place (codes_in l.args)) l.slot.0;
 }

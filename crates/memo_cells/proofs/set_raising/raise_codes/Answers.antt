@@ -1,4 +1,5 @@
 use Rattle.std.proofs.Common.{rules, sym, subst}
+use Rattle.memo_cells.proofs.Holding.{goes_then}
 use Rattle.memo_cells.proofs.Ways.{on_err}
 use Rattle.memo_cells.proofs.SetWords.{RaisesFirst, bits_some, both_on, claims_now, claims_words, lacks_now, lacks_word, raise_may, raised_all, raises_next}
 use Rattle.memo_cells.proofs.set_raising.raise_codes.Goals as goal
@@ -36,3 +37,6 @@ returns-clause-shown g c = raised_all (g.W.Words.held c.args.work.now) (g.W.Word
 
 pub returns-clause-claims : goal.returns-clause-claims
 returns-clause-claims g c = λ i all. claims_now (g.W.Words.held c.args.work.now) (g.W.Words.held c.loop-code.work) c.loop-code.invariant.on i c.args.codes.now (c.loop-code.invariant.claims i all)
+
+pub returns-in_err-raise-clause-on : goal.returns-in_err-raise-clause-on
+returns-in_err-raise-clause-on g c = goes_then (g.W.Words.held c.args.work.now) (g.W.Words.held c.loop-code.work) (g.W.Words.held c.raise.new.self) c.loop-code.invariant.on c.raise.ensures.on

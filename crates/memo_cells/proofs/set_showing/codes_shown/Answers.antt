@@ -1,5 +1,5 @@
 use Rattle.std.proofs.Common.{rules, ◌/◌, subst, sym, ℕ, List}
-use Rattle.memo_cells.proofs.Holding.{cell_on}
+use Rattle.memo_cells.proofs.Holding.{cell_on, reads_then}
 use Rattle.memo_cells.specs.SetShown.{AddsWord, AreCodesShownAt}
 use Rattle.memo_cells.specs.Working.{program_at}
 use Rattle.memo_cells.proofs.SetReading.{ReadsBelow, adds_none, none_shown, reads_next, reads_none, shown_all}
@@ -31,3 +31,6 @@ loop-word-preserved g c =
       | then-bits-ne0+in_ok-add_word w ↦ subst (λ (l : List ℕ). AddsWord c.loop-word.word c.word-bits.result c.args.from c.args.to c.loop-word.codes l) (sym w.codes-is) w.in_ok-add_word.ensures
       | else-bits-ne0 w ↦ subst (λ (y : ℕ × List ℕ). AddsWord c.loop-word.word y.0 c.args.from c.args.to c.loop-word.codes y.1) (λ i. (sym w.if-bits-ne0.false i, sym w.codes-is i)) (adds_none c.loop-word.word c.args.from c.args.to c.loop-word.codes)
     ])
+
+pub returns-in_err-add_word-clause-on : goal.returns-in_err-add_word-clause-on
+returns-in_err-add_word-clause-on g c = reads_then (g.W.Words.held c.args.work.now) (g.W.Words.held c.loop-word.work) (g.W.Words.held c.word-bits.new.self) c.loop-word.invariant.on c.word-bits.ensures.on

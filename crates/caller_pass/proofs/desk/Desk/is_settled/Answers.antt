@@ -1,7 +1,5 @@
 use Rattle.std.proofs.Common.{Bool, is_some, sym, subst, ◌∙◌}
 use Rattle.memo_cells.specs.Working.{HasCell, Held, IsOwn, ReadsOn, program_at}
-use Rattle.memo_cells.specs.Causes.{IsLogOn}
-use Rattle.memo_cells.proofs.Causes.{log_itself}
 use Rattle.memo_cells.proofs.Holding.{reads_itself}
 use Rattle.caller_pass.specs.Knowing.{TellsSettled}
 use Rattle.caller_pass.proofs.Keeping.{notes_later}
@@ -25,7 +23,7 @@ returns-clause-on c =
     let d = c.args.self.now in
     let x = c.self.inside in
     let on = subst (λ (h : Held). ReadsOn d h) (sym c.self.view_is) (reads_itself d (subst (λ (h : Held). IsOwn h) c.self.view_is c.self.invariant.0.0)) in
-    looked_on d x.cells.now x.pass.now c.settled.new.pass x.pass.ghost_name on c.settled.ensures.own c.settled.ensures.kept c.settled.ensures.claims
+    looked_on d x.cells.now x.pass.now c.settled.new.pass x.pass.ghost_name on c.settled.ensures.own c.settled.ensures.kept c.settled.ensures.log c.settled.ensures.claims
 
 pub returns-clause-told : goal.returns-clause-told
 returns-clause-told c =
@@ -39,5 +37,4 @@ returns-clause-cause c = λ no.
     let d = c.args.self.now in
     let x = c.self.inside in
     let on = subst (λ (h : Held). ReadsOn d h) (sym c.self.view_is) (reads_itself d (subst (λ (h : Held). IsOwn h) c.self.view_is c.self.invariant.0.0)) in
-    let log = subst (λ (h : Held). IsLogOn h.view x.pass.now) c.self.view_is (log_itself x.pass.now) in
-    why_unsettled d x.cells.now x.pass.now c.settled.new.pass x.pass.ghost_name on c.settled.ensures.own c.settled.ensures.kept c.settled.ensures.claims c.args.slot.0 log (where_none c.settled.result (sym c.is_some.ensures ∙ no) c.settled.ensures.cause)
+    why_unsettled d x.cells.now x.pass.now c.settled.new.pass x.pass.ghost_name on c.settled.ensures.own c.settled.ensures.kept c.settled.ensures.log c.settled.ensures.claims c.args.slot.0 (where_none c.settled.result (sym c.is_some.ensures ∙ no) c.settled.ensures.cause)

@@ -2,7 +2,6 @@ use Rattle.std.proofs.Common.{ℕ, ◌<◌, inl, Option, sym, ap, subst, ◌∙�
 use Rattle.equation_law.specs.Codes.{instance_of}
 use Rattle.memo_cells.specs.declared.keys.Slot.{Slot}
 use Rattle.memo_cells.specs.declared.view.Frame.{Frame}
-use Rattle.memo_cells.specs.Causes.{IsLogOn}
 use Rattle.memo_cells.specs.Naming.{IsCellOf}
 use Rattle.memo_cells.proofs.Ways.{if_none}
 use Rattle.memo_cells.specs.Views.{IsPlain}
@@ -38,7 +37,7 @@ returns-in_err-code-clause-on c =
     let d = c.args.self.now in
     let x = c.self.inside in
     let on = subst (λ (h : Held). ReadsOn d h) (sym c.self.view_is) c.seek_instance.ensures.on in
-    looked_on d x.cells.now x.pass.now c.settled.new.pass x.pass.ghost_name on c.settled.ensures.own c.settled.ensures.kept c.settled.ensures.claims
+    looked_on d x.cells.now x.pass.now c.settled.new.pass x.pass.ghost_name on c.settled.ensures.own c.settled.ensures.kept c.settled.ensures.log c.settled.ensures.claims
 
 pub returns-in_err-code-clause-known : goal.returns-in_err-code-clause-known
 returns-in_err-code-clause-known c = λ good.
@@ -46,21 +45,21 @@ returns-in_err-code-clause-known c = λ good.
     let x = c.self.inside in
     let on = subst (λ (h : Held). ReadsOn d h) (sym c.self.view_is) c.seek_instance.ensures.on in
     subst (λ (o : Option (Slot × ℕ)). FindsCode (program_at d) x.cells.now c.settled.new.pass (instance_of (program_at d) c.args.i) o) (sym c.from_residual-in_err-code.ensures)
-    (finds_none d x.cells.now x.pass.now c.settled.new.pass x.pass.ghost_name on c.settled.ensures.own c.settled.ensures.kept c.settled.ensures.claims c.args.i c.in_ok-slot.slot.0 (subst (λ (h : Held). IsCellOf (program_at d) d.frame h.view (instance_of (program_at d) c.args.i) c.in_ok-slot.slot.0) (sym c.self.view_is) (c.in_ok-slot.ensures.slot good)) c.in_err-code.ensures.none)
+    (finds_none d x.cells.now x.pass.now c.settled.new.pass x.pass.ghost_name on c.settled.ensures.own c.settled.ensures.kept c.settled.ensures.log c.settled.ensures.claims c.args.i c.in_ok-slot.slot.0 (subst (λ (h : Held). IsCellOf (program_at d) d.frame h.view (instance_of (program_at d) c.args.i) c.in_ok-slot.slot.0) (sym c.self.view_is) (c.in_ok-slot.ensures.slot good)) c.in_err-code.ensures.none)
 
 pub returns-clause-on : goal.returns-clause-on
 returns-clause-on c =
     let d = c.args.self.now in
     let x = c.self.inside in
     let on = subst (λ (h : Held). ReadsOn d h) (sym c.self.view_is) c.seek_instance.ensures.on in
-    looked_on d x.cells.now x.pass.now c.settled.new.pass x.pass.ghost_name on c.settled.ensures.own c.settled.ensures.kept c.settled.ensures.claims
+    looked_on d x.cells.now x.pass.now c.settled.new.pass x.pass.ghost_name on c.settled.ensures.own c.settled.ensures.kept c.settled.ensures.log c.settled.ensures.claims
 
 pub returns-clause-known : goal.returns-clause-known
 returns-clause-known c = λ good.
     let d = c.args.self.now in
     let x = c.self.inside in
     let on = subst (λ (h : Held). ReadsOn d h) (sym c.self.view_is) c.seek_instance.ensures.on in
-    finds_code d x.cells.now x.pass.now c.settled.new.pass x.pass.ghost_name on c.settled.ensures.own c.settled.ensures.kept c.settled.ensures.claims c.args.i c.in_ok-slot.slot.0 (subst (λ (h : Held). IsCellOf (program_at d) d.frame h.view (instance_of (program_at d) c.args.i) c.in_ok-slot.slot.0) (sym c.self.view_is) (c.in_ok-slot.ensures.slot good)) c.in_ok-code.code c.in_ok-code.ensures.known
+    finds_code d x.cells.now x.pass.now c.settled.new.pass x.pass.ghost_name on c.settled.ensures.own c.settled.ensures.kept c.settled.ensures.log c.settled.ensures.claims c.args.i c.in_ok-slot.slot.0 (subst (λ (h : Held). IsCellOf (program_at d) d.frame h.view (instance_of (program_at d) c.args.i) c.in_ok-slot.slot.0) (sym c.self.view_is) (c.in_ok-slot.ensures.slot good)) c.in_ok-code.code c.in_ok-code.ensures.known
 
 pub returns-clause-cell : goal.returns-clause-cell
 returns-clause-cell c =
@@ -68,7 +67,7 @@ returns-clause-cell c =
     let x = c.self.inside in
     let on = subst (λ (h : Held). ReadsOn d h) (sym c.self.view_is) c.seek_instance.ensures.on in
     let has = subst (λ (h : Held). HasCell h c.in_ok-slot.slot.0) (sym c.self.view_is) c.in_ok-slot.ensures.cell in
-    found_cell d x.cells.now x.pass.now c.settled.new.pass x.pass.ghost_name on c.settled.ensures.own c.settled.ensures.kept c.settled.ensures.claims c.in_ok-slot.slot.0 has
+    found_cell d x.cells.now x.pass.now c.settled.new.pass x.pass.ghost_name on c.settled.ensures.own c.settled.ensures.kept c.settled.ensures.log c.settled.ensures.claims c.in_ok-slot.slot.0 has
 
 pub returns-in_err-slot-clause-cause : goal.returns-in_err-slot-clause-cause
 returns-in_err-slot-clause-cause c = if_none c.from_residual.result (λ good. inl (c.in_err-slot.ensures.cause good))
@@ -79,5 +78,4 @@ returns-in_err-code-clause-cause c = if_none c.from_residual-in_err-code.result 
     let x = c.self.inside in
     let on = subst (λ (h : Held). ReadsOn d h) (sym c.self.view_is) c.seek_instance.ensures.on in
     let cell = subst (λ (h : Held). IsCellOf (program_at d) d.frame h.view (instance_of (program_at d) c.args.i) c.in_ok-slot.slot.0) (sym c.self.view_is) (c.in_ok-slot.ensures.slot good) in
-    let log = subst (λ (h : Held). IsLogOn d.view h.view) (sym c.self.view_is) c.seek_instance.ensures.log in
-    why_unknown d x.cells.now x.pass.now c.settled.new.pass x.pass.ghost_name on c.settled.ensures.own c.settled.ensures.kept c.settled.ensures.claims c.args.i c.in_ok-slot.slot.0 cell log c.in_err-code.ensures.cause)
+    why_unknown d x.cells.now x.pass.now c.settled.new.pass x.pass.ghost_name on c.settled.ensures.own c.settled.ensures.kept c.settled.ensures.log c.settled.ensures.claims c.args.i c.in_ok-slot.slot.0 cell c.in_err-code.ensures.cause)

@@ -1,11 +1,13 @@
 use Rattle.std.proofs.Common.{set, refl, sym, subst, ◌∙◌, length-set}
 use Rattle.equation_law.specs.Systems.{program_of}
 use Rattle.memo_cells.specs.declared.view.View.{View}
+use Rattle.memo_cells.specs.Causes.{IsLogOn}
 use Rattle.memo_cells.specs.Standing.{IsPassOf, IsTold, MayRaiseTruth}
 use Rattle.memo_cells.specs.Steps.{BitsAdded}
 use Rattle.memo_cells.specs.Views.{IsAtLeast, framed}
 use Rattle.memo_cells.proofs.Adding.{raised_already, raised_now, raised_own, raised_seen, raised_words}
 use Rattle.memo_cells.proofs.Facts.{read_now, read_own}
+use Rattle.memo_cells.proofs.Causes.{log_one}
 use Rattle.memo_cells.proofs.Learnt.{own_inside, step_told, value_learnt}
 use Rattle.memo_cells.proofs.cells.Cells.add_truth.Goals as goal
 
@@ -24,6 +26,9 @@ returns-then-found-ne0-clause-own c = subst (λ (y : View). IsPassOf c.args.self
 pub returns-then-found-ne0-clause-kept : goal.returns-then-found-ne0-clause-kept
 returns-then-found-ne0-clause-kept c = step_told IsAtLeast c.pass.view_is c.learn.ensures (value_learnt c.pass.inside.known.value c.args.place c.index-found.result.now c.index-found.result.now)
 
+pub returns-then-found-ne0-clause-log : goal.returns-then-found-ne0-clause-log
+returns-then-found-ne0-clause-log c = step_told IsLogOn c.pass.view_is c.learn.ensures (log_one refl)
+
 pub returns-then-found-ne0-clause-added : goal.returns-then-found-ne0-clause-added
 returns-then-found-ne0-clause-added c = step_told (λ u w. BitsAdded (program_of c.args.self.now.system.value) u w c.args.place 1 c.index-found.result.now) c.pass.view_is c.learn.ensures (raised_already (framed c.pass.inside.system c.pass.inside.size) c.pass.inside.keys.items c.pass.inside.values.items c.pass.invariant.1 c.pass.invariant.2 c.pass.invariant.3 c.pass.inside.known.value c.pass.invariant.4 c.args.self.now (own_inside c.pass.view_is c.requires.own) c.args.place c.requires.place c.index-found.result.now c.index-found.result.now c.index-found.ensures (subst (λ (y : View). MayRaiseTruth (program_of c.args.self.now.system.value) y c.args.place) (sym c.pass.view_is) c.requires.may) c.if-found-ne0.true refl)
 
@@ -41,6 +46,9 @@ returns-clause-own c = subst (λ (y : View). IsPassOf c.args.self.now y) (sym c.
 
 pub returns-clause-kept : goal.returns-clause-kept
 returns-clause-kept c = step_told IsAtLeast c.pass.view_is c.learn-2.ensures (value_learnt c.pass.inside.known.value c.args.place c.index-found.result.now 1)
+
+pub returns-clause-log : goal.returns-clause-log
+returns-clause-log c = step_told IsLogOn c.pass.view_is c.learn-2.ensures (log_one refl)
 
 pub returns-clause-added : goal.returns-clause-added
 returns-clause-added c = step_told (λ u w. BitsAdded (program_of c.args.self.now.system.value) u w c.args.place 1 1) c.pass.view_is c.learn-2.ensures (raised_seen (framed c.pass.inside.system c.pass.inside.size) c.pass.inside.keys.items c.pass.inside.values.items c.pass.invariant.1 c.pass.invariant.2 c.pass.invariant.3 c.pass.inside.known.value c.pass.invariant.4 c.args.self.now (own_inside c.pass.view_is c.requires.own) c.args.place c.requires.place c.index-found.result.now 1 c.index-found.ensures (subst (λ (y : View). MayRaiseTruth (program_of c.args.self.now.system.value) y c.args.place) (sym c.pass.view_is) c.requires.may) c.if-found-ne0.false refl)

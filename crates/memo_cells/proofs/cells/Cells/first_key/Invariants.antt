@@ -2,6 +2,7 @@
 use Rattle.std.proofs.Common.{◌≡◌, ◌-◌}
 use Rattle.equation_law.specs.Names.{Instance}
 use Rattle.equation_law.specs.Systems.{program_of}
+use Rattle.memo_cells.specs.Causes.{IsLogOn}
 use Rattle.memo_cells.specs.Naming.{IsCellOf}
 use Rattle.memo_cells.specs.Standing.{IsPassOf}
 use Rattle.memo_cells.specs.Views.{IsAtLeast}
@@ -12,6 +13,7 @@ abbrev pub invariant-loop-done : goal.invariant-loop-done
 invariant-loop-done l = record {
   own : IsPassOf l.self l.pass;
   kept : IsAtLeast l.fn.pass l.pass;
+  log : IsLogOn l.fn.pass l.pass;
   behind : (i : Instance) → IsCellOf (program_of l.self.system.value) l.self l.fn.pass i l.fn.slot.0 → IsBehind l.pass i l.word (3 - l._done);
   claims : l.pass.claims ≡ l.fn.pass.claims;
 }

@@ -1,6 +1,7 @@
 use Rattle.std.proofs.Common.{ℕ, inl, inr, ⊎_elim, ap, subst, sym, ◌∙◌}
 use Rattle.equation_law.specs.Systems.{program_of}
 use Rattle.memo_cells.specs.Views.{Has, times}
+use Rattle.memo_cells.proofs.Causes.{log_one, log_then}
 use Rattle.memo_cells.proofs.More.{at_least_then, claims_none, other_later}
 use Rattle.memo_cells.proofs.Naming.{formed_later}
 use Rattle.memo_cells.proofs.cells.Cells.hold.Goals as goal
@@ -27,3 +28,12 @@ pub returns-clause-claims : goal.returns-clause-claims
 returns-clause-claims c = λ q. ⊎_elim (λ e. inl (e ∙ ap (times q) c.look_key-seen.ensures.seen.claims))
     (λ h. inr (subst (λ (p : ℕ). Has c.try_key-found.new.pass.keys (p, c.args.key)) (sym h.1) (c.try_key-found.ensures.tried.won h.0)))
     (c.try_key-found.ensures.tried.claims q)
+
+pub returns-then-seen-ne0-clause-log : goal.returns-then-seen-ne0-clause-log
+returns-then-seen-ne0-clause-log c = log_one c.look_key-seen.ensures.seen.log
+
+pub returns-then-found-ne0-clause-log : goal.returns-then-found-ne0-clause-log
+returns-then-found-ne0-clause-log c = log_then (log_one {w = c.look_key-seen.new.pass} c.look_key-seen.ensures.seen.log) (log_one {w = c.try_key-found.new.pass} c.try_key-found.ensures.tried.log)
+
+pub returns-clause-log : goal.returns-clause-log
+returns-clause-log c = log_then (log_one {w = c.look_key-seen.new.pass} c.look_key-seen.ensures.seen.log) (log_one {w = c.try_key-found.new.pass} c.try_key-found.ensures.tried.log)

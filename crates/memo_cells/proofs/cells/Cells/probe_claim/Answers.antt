@@ -1,5 +1,6 @@
 use Rattle.std.proofs.Common.{rules}
 use Rattle.equation_law.specs.Systems.{program_of}
+use Rattle.memo_cells.proofs.Causes.{log_then}
 use Rattle.memo_cells.proofs.More.{at_least_then, claims_then, others_more, passed_on}
 use Rattle.memo_cells.proofs.Naming.{formed_later}
 use Rattle.memo_cells.proofs.cells.Cells.probe_claim.Goals as goal
@@ -23,4 +24,8 @@ loop-place-preserved c = (
   at_least_then c.loop-place.invariant.1 c.hold.ensures.kept,
   others_more c.loop-place.pass c.hold.new.pass c.args.key c.args.from c.loop-place.place c.hold.result c.loop-place.invariant.2 c.hold.ensures.kept c.hold.ensures.held.1 c.hold.ensures.held.0 c.if-hold-key.false,
   claims_then c.args.pass.now c.loop-place.pass c.hold.new.pass c.args.key c.loop-place.invariant.3 c.hold.ensures.claims c.hold.ensures.kept,
+  log_then c.loop-place.invariant.4 c.hold.ensures.log,
 )
+
+pub returns-then-hold-key-clause-log : goal.returns-then-hold-key-clause-log
+returns-then-hold-key-clause-log c = log_then c.loop-place.invariant.4 c.hold.ensures.log

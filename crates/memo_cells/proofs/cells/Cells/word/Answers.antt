@@ -1,5 +1,6 @@
 use Rattle.equation_law.specs.Systems.{program_of}
 use Rattle.equation_law.proofs.Pooled.{texts_pooled}
+use Rattle.memo_cells.proofs.Causes.{log_then}
 use Rattle.memo_cells.proofs.More.{at_least_then}
 use Rattle.memo_cells.proofs.Naming.{knows_later}
 use Rattle.memo_cells.proofs.Telling.{kind_other, kind_true, known_value, other_known, truth_known, word_of_other, word_of_truth}
@@ -25,3 +26,9 @@ returns-else-is_of_truth-clause-settled c = λ i at known.
     other_known program i c.args.word c.word_of_set.result
     (kind_other program c.args.self.now c.args.pass.now c.word_of_set.new.pass kept c.word_of_set.ensures.own (texts_pooled c.args.self.now.system.value) c.args.slot.0 c.is_of_truth.result c.is_of_truth.ensures.truth c.requires.cell c.if-is_of_truth.false i at)
     (λ set. c.word_of_set.ensures.settled i at set before) (known_value c.args.self.now c.args.pass.now c.requires.own i known)
+
+pub returns-then-is_of_truth-clause-log : goal.returns-then-is_of_truth-clause-log
+returns-then-is_of_truth-clause-log c = log_then c.is_of_truth.ensures.log c.look_bits.ensures.log
+
+pub returns-else-is_of_truth-clause-log : goal.returns-else-is_of_truth-clause-log
+returns-else-is_of_truth-clause-log c = log_then c.is_of_truth.ensures.log c.word_of_set.ensures.log

@@ -2,6 +2,7 @@ use Rattle.std.proofs.Common.{rules}
 use Rattle.equation_law.specs.Systems.{program_of}
 use Rattle.equation_law.proofs.Pooled.{texts_pooled}
 use Rattle.memo_cells.specs.Keys.{set_word}
+use Rattle.memo_cells.proofs.Causes.{log_then}
 use Rattle.memo_cells.proofs.More.{at_least_itself}
 use Rattle.memo_cells.proofs.Naming.{knows_later}
 use Rattle.memo_cells.proofs.Seeing.{none_seen, set_seen}
@@ -27,3 +28,6 @@ returns-in-None-clause-settled c = λ i cell set known.
     c.in-None.ensures.none.word i c.args.word
     (known_key c.args.self.now c.args.pass.now c.seek.new.pass c.seek.new.pass c.seek.ensures.kept (at_least_itself c.seek.new.pass) c.seek.ensures.own i known c.args.slot.0 cell c.args.word (search rules) (search rules) c.requires.own)
     set (knows_later c.args.pass.now c.seek.new.pass c.seek.ensures.kept program i known)
+
+pub returns-in-Some-clause-log : goal.returns-in-Some-clause-log
+returns-in-Some-clause-log c = log_then c.seek.ensures.log c.look_bits.ensures.log
