@@ -19,7 +19,7 @@ ghost use Rattle.aspect_items.specs.Expressions.{Variable as Named, seen_expr, s
 
 use aspect_items::{Expr, Name, Operator, Quantifier};
 use ast_grammar::{ClassId, Grammar};
-use attr_rules::{Kind, Params, TArgs, TExpr, ValueType};
+use attr_rules::{Kind, Params, TArgs, TExpr, TextId, ValueType};
 use attr_scope::{Member, Scope, Variable, check_class, no_params};
 use broken_rules::{Earliest, Rule};
 use expr_typing::{
@@ -644,7 +644,7 @@ fn type_expr(
         Expr::Null(_) => Ok(typed(NULL, TExpr::Null)),
         Expr::This(_) => Ok(this_of(scope)),
         Expr::Int(place, number) => Ok(type_literal(stands, *place, *number, faults)),
-        Expr::Text(_, number) => Ok(typed(TEXT, TExpr::Text(*number))),
+        Expr::Text(_, number) => Ok(typed(TEXT, TExpr::Text(TextId(*number)))),
         Expr::Variable(name) => Ok(type_variable(scope, name, faults)),
         Expr::Quantified(form, _, name, range, body) => {
             type_quantified(alloc, scope, *form, name, range, body, faults)

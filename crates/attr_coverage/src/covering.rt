@@ -6,7 +6,7 @@ ghost use Rattle.attr_coverage.specs.CoveringKept.{Adds, AreListed, Grows, mark_
 ghost use Rattle.attr_coverage.specs.Dispatched.{AddsHanging, ForTargets, MarksUncovered};
 
 use ast_grammar::{ClassId, Component, Grammar, Shape};
-use attr_rules::{AttrId, Dispatch};
+use attr_rules::{AttrId, Dispatch, Part};
 use rag_io::Memory;
 use std::alloc::Global;
 
@@ -54,9 +54,9 @@ fn is_covered(
     dispatch: &Dispatch,
     first: Option<AttrId>,
     class: ClassId,
-    component: u32,
+    component: Part,
 ) -> bool
-    ensures { ForTargets grammar.now dispatch.now (λ targets. result ≡ is_covered_for grammar.now targets first class.0 component) }
+    ensures { ForTargets grammar.now dispatch.now (λ targets. result ≡ is_covered_for grammar.now targets first class.0 component.0) }
 {
     match first {
         None => false,
@@ -72,10 +72,10 @@ fn is_open(
     dispatch: &Dispatch,
     first: Option<AttrId>,
     class: ClassId,
-    k: u32,
+    k: Part,
     component: &Component,
 ) -> bool
-    ensures { ForTargets grammar.now dispatch.now (λ targets. result ≡ is_open_at grammar.now targets first class k component.now.shape) }
+    ensures { ForTargets grammar.now dispatch.now (λ targets. result ≡ is_open_at grammar.now targets first class k.0 component.now.shape) }
 {
     is_for_nodes(component.shape) && !is_covered(grammar, dispatch, first, class, k)
 }
@@ -134,7 +134,7 @@ impl Found {
     {
         for k in 0..grammar.arity(class) {
             let component = grammar.component(class, k);
-            if is_open(grammar, dispatch, first, class, k, component) {
+            if is_open(grammar, dispatch, first, class, Part(k), component) {
                 self.add_below(grammar, component.class)?;
             }
         }

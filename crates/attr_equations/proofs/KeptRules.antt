@@ -6,7 +6,7 @@ use Rattle.std.proofs.lemmas.List.Quantifiers.{position-Some}
 use Rattle.superclasses.specs.Superclasses.{upwards}
 use Rattle.attr_rules.specs.declared.dispatch.Dispatch.{Dispatch}
 use Rattle.attr_rules.specs.declared.dispatch.Reach.{Reach}
-use Rattle.attr_rules.specs.declared.dispatch.Reach.TheVariants.{Own, Component as AtComponent, Children}
+use Rattle.attr_rules.specs.declared.dispatch.Reach.TheVariants.{Own, Children}
 use Rattle.attr_rules.specs.declared.dispatch.Target.{Target}
 use Rattle.attr_rules.specs.declared.kinds.AttrId.{AttrId}
 use Rattle.attr_rules.specs.declared.kinds.EqId.{EqId}
@@ -14,7 +14,7 @@ use Rattle.attr_equations.specs.declared.rules.KeptEquation.{KeptEquation}
 use Rattle.attr_rules.specs.Dispatching.{Dispatches}
 use Rattle.attr_equations.specs.KeptEquations.{equation_in, kept_target}
 use Rattle.attr_rules.specs.RowsKept.{at_row}
-use Rattle.attr_rules.specs.Rules.{covering_equation, equation_at, first_of_line, is_target, nearest_equation, number_of_attribute, number_of_equation, own_covering, own_equation, target_in}
+use Rattle.attr_rules.specs.Rules.{at_component, covering_equation, equation_at, first_of_line, is_target, nearest_equation, number_of_attribute, number_of_equation, own_covering, own_equation, target_in}
 
 same_targets : (equations : List KeptEquation) → map kept_target equations ≡ map target_in (map equation_in equations)
 same_targets [] = refl
@@ -35,7 +35,7 @@ at_within (t ∷ targets) c r a e is = (position-Some (is_target c r a) (t ∷ t
 
 own_within : (targets : List Target) (k a c e : ℕ) → own_covering targets k a c ≡ Some e → e < length targets
 own_within targets k a c e is =
-    or_within (length targets) e (equation_at targets c (AtComponent k) a) (equation_at targets c Children a) (at_within targets c (AtComponent k) a e) (at_within targets c Children a e) is
+    or_within (length targets) e (equation_at targets c (at_component k) a) (equation_at targets c Children a) (at_within targets c (at_component k) a e) (at_within targets c Children a e) is
 
 -- so is the equation that is found by its number
 number_within : (n : ℕ) (f : ℕ → Option ℕ) (line : List ℕ) (o : Option EqId) → ((c e : ℕ) → f c ≡ Some e → e < n) → option_map number_of_equation o ≡ first_of_line f line → IfSome o (λ e. e.0 < n)

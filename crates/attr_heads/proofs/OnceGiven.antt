@@ -13,7 +13,7 @@ use Rattle.attr_heads.proofs.TargetsClean.{given_once}
 
 reach_itself : (r : Reach) → same_reach r r ≡ true
 reach_itself Own = refl
-reach_itself (AtComponent k) = eq-eqb k k refl
+reach_itself (AtComponent k) = eq-eqb k.0 k.0 refl
 reach_itself Children = refl
 
 target_itself : (t : Target) → is_target t.class.0 t.reach t.attribute.0 t ≡ true

@@ -15,7 +15,7 @@ use Rattle.attr_rules.specs.declared.dispatch.Reach.{Reach}
 use Rattle.attr_rules.specs.declared.dispatch.Reach.TheVariants.{Own, Component as AtComponent, Children}
 use Rattle.attr_rules.specs.declared.dispatch.Target.{Target}
 use Rattle.attr_rules.specs.declared.kinds.Attr.{Attr}
-use Rattle.attr_rules.specs.Rules.{Attribute, GivesValue, attribute_named, declared_at, declared_of, first_inherited, first_of_name, is_for_nodes, is_inherited}
+use Rattle.attr_rules.specs.Rules.{Attribute, GivesValue, at_component, attribute_named, declared_at, declared_of, first_inherited, first_of_name, is_for_nodes, is_inherited}
 use Rattle.aspect_items.specs.Expressions.{Name}
 use Rattle.aspect_items.specs.Items.{Signature}
 use Rattle.attr_scope.specs.Classes.{class_broken}
@@ -31,7 +31,7 @@ use Rattle.attr_scope.proofs.AttributesFound.{named_has}
 -- Nodes of the class have what a path leads to.
 abbrev pub IsReached : List Class → ℕ → Reach → Type 0
 IsReached g c Own = Unit {0}
-IsReached g c (AtComponent k) = (x : Component) × (component_at g c k ≡ Some x) × (is_for_nodes x.shape ≡ true)
+IsReached g c (AtComponent k) = (x : Component) × (component_at g c k.0 ≡ Some x) × (is_for_nodes x.shape ≡ true)
 IsReached g c Children = Unit {0}
 
 -- A path leads to the first inherited attribute of a name.
@@ -65,22 +65,22 @@ IsPath (AtComponent k) = Unit {0}
 IsPath Children = Unit {0}
 
 module _ (g : List Class) (c : ℕ) where
-  component_there : (k n : ℕ) → node_component g c n ≡ Some k → IsReached g c (AtComponent k)
+  component_there : (k n : ℕ) → node_component g c n ≡ Some k → IsReached g c (at_component k)
   component_there k n e =
       let at = and_then_from (if_for_nodes n) (component_at g c n) k e in
       let x = at.0 in
-      elim (is_for_nodes x.shape) as (λ b. is_for_nodes x.shape ≡ b → (if b then Some n else None) ≡ Some k → IsReached g c (AtComponent k)) [
-        | true ↦ λ nodes same. (let here : n ≡ k = cc in subst (λ m. IsReached g c (AtComponent m)) here (x, at.1, nodes))
+      elim (is_for_nodes x.shape) as (λ b. is_for_nodes x.shape ≡ b → (if b then Some n else None) ≡ Some k → IsReached g c (at_component k)) [
+        | true ↦ λ nodes same. (let here : n ≡ k = cc in subst (λ m. IsReached g c (at_component m)) here (x, at.1, nodes))
         | false ↦ λ nodes same. absurd (cc)
       ] refl at.2
 
   reach_there : (name : List ℕ) (r : Reach) → reach_named g c name ≡ Some r → IsPath r × IsReached g c r
   reach_there name r e =
       let component = option_and_then (node_component_named g c) (behind (codes "get") name) in
-      elim (bytes_eq name (codes "getChild")) as (λ b. (if b then Some Children else option_map AtComponent component) ≡ Some r → IsPath r × IsReached g c r) [
+      elim (bytes_eq name (codes "getChild")) as (λ b. (if b then Some Children else option_map at_component component) ≡ Some r → IsPath r × IsReached g c r) [
         | true ↦ λ h. (let same : Children ≡ r = cc in subst (λ q. IsPath q × IsReached g c q) same (tt, tt))
         | false ↦ λ h. (
-            let k = some_from AtComponent component r h in
+            let k = some_from at_component component r h in
             let named = and_then_from (node_component_named g c) (behind (codes "get") name) k.0 k.1 in
             let number = and_then_from (node_component g c) (component_named g c named.0) k.0 named.2 in
             subst (λ q. IsPath q × IsReached g c q) k.2 (tt, component_there k.0 number.0 number.2)

@@ -12,7 +12,7 @@ use Rattle.attr_rules.specs.declared.dispatch.Reach.{Reach}
 use Rattle.attr_rules.specs.declared.dispatch.Reach.TheVariants.{Own, Component as AtComponent, Children}
 use Rattle.attr_rules.specs.declared.kinds.Kind.TheVariants as kinds
 use Rattle.attr_rules.specs.Accessors.{behind}
-use Rattle.attr_rules.specs.Rules.{is_for_nodes}
+use Rattle.attr_rules.specs.Rules.{at_component, is_for_nodes}
 use Rattle.attr_rules.specs.declared.types.ValueType.TheVariants as types
 use Rattle.aspect_items.specs.Items.{Parameter, Signature}
 use Rattle.attr_heads.specs.Parameters.{is_other_type, parameter_type}
@@ -31,7 +31,7 @@ node_component_named g c x = option_and_then (node_component g c) (component_nam
 
 -- `getX()` leads from nodes of a class to what hangs at the component X, and `getChild()` to whatever hangs at them
 abbrev pub reach_named : List Class → ℕ → List ℕ → Option Reach
-reach_named g c name = if bytes_eq name (codes "getChild") then Some Children else option_map AtComponent (option_and_then (node_component_named g c) (behind (codes "get") name))
+reach_named g c name = if bytes_eq name (codes "getChild") then Some Children else option_map at_component (option_and_then (node_component_named g c) (behind (codes "get") name))
 
 -- an equation without a path is for the nodes of the class
 abbrev pub reach_of : List Class → Option ℕ → Option Signature → Option Reach
@@ -53,7 +53,7 @@ is_list_component (Some x) = is_list_shape x.shape
 -- a path to the elements of a list may have an index
 abbrev pub has_index : List Class → ℕ → Reach → Bool
 has_index g c Own = false
-has_index g c (AtComponent k) = is_list_component (component_at g c k)
+has_index g c (AtComponent k) = is_list_component (component_at g c k.0)
 has_index g c Children = false
 
 -- the name of the index: that of the parameter, and where there is none the empty name, which is no name in an expression

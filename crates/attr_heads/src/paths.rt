@@ -12,7 +12,7 @@ ghost use Rattle.aspect_items.specs.Items.{seen_parameter, seen_signature};
 use crate::parameters::is_other_type;
 use aspect_items::{Parameter, Signature};
 use ast_grammar::{ClassId, Grammar, Shape};
-use attr_rules::{Kind, Reach, ValueType};
+use attr_rules::{Kind, Part, Reach, ValueType};
 use attr_scope::{Variable, type_written};
 use broken_rules::{Earliest, Rule};
 use rag_io::Memory;
@@ -51,15 +51,15 @@ fn reach_named(grammar: &Grammar, class: ClassId, name: &[u8]) -> Option<Reach>
     }
     let component = name.strip_prefix(b"get".as_slice())?;
     let number = node_component(grammar, class, component)?;
-    Some(Reach::Component(number))
+    Some(Reach::Component(Part(number)))
 }
 
 // The component is a list.
-fn is_list(grammar: &Grammar, class: ClassId, component: u32) -> bool
+fn is_list(grammar: &Grammar, class: ClassId, component: Part) -> bool
     requires { class.0 < length grammar.now }
-    ensures { result ≡ is_list_component (component_at grammar.now class.0 component) }
+    ensures { result ≡ is_list_component (component_at grammar.now class.0 component.0) }
 {
-    component < grammar.arity(class) && grammar.component(class, component).shape == Shape::List
+    component.0 < grammar.arity(class) && grammar.component(class, component.0).shape == Shape::List
 }
 
 // A path to the elements of a list may have an index.

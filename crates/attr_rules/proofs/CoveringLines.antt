@@ -10,11 +10,11 @@ use Rattle.ast_grammar.proofs.Positions.{position_none}
 use Rattle.superclasses.specs.Superclasses.{line_of, line_up, superclass_of, upwards}
 use Rattle.attr_rules.specs.declared.covering.Covering.{Covering}
 use Rattle.attr_rules.specs.declared.dispatch.Reach.{Reach}
-use Rattle.attr_rules.specs.declared.dispatch.Reach.TheVariants.{Component as AtComponent, Children}
+use Rattle.attr_rules.specs.declared.dispatch.Reach.TheVariants.{Children}
 use Rattle.attr_rules.specs.declared.dispatch.Target.{Target}
 use Rattle.attr_rules.specs.declared.kinds.EqId.{EqId}
 use Rattle.attr_rules.specs.Dispatching.{AddsClass, AreCovered, AreOwnPaths, CoversUpwards, IsTarget, covered_by, covered_in, covering_in, number_among, number_for, number_in}
-use Rattle.attr_rules.specs.Rules.{equation_at, first_of_line, is_target, own_covering}
+use Rattle.attr_rules.specs.Rules.{at_component, equation_at, first_of_line, is_target, own_covering}
 use Rattle.attr_rules.proofs.Dispatched.{no_line, other_attribute, other_class}
 use Rattle.attr_rules.proofs.FirstPlaces.{or_none}
 use Rattle.attr_rules.proofs.NearestRows.{or_assoc}
@@ -27,8 +27,8 @@ module _ (s : List (Option ℕ)) (own : List (Vec (Target × EqId) Global)) (cla
     pub each : (k a : ℕ) → option_or (covered_by c k a) (first_of_line (covering_in own k a) (line_up left s above)) ≡ first_of_line (covering_in own k a) (upwards s class)
 
   -- what a class in the lists has
-  here : (c k a : ℕ) (paths : Vec (Target × EqId) Global) → slice_get own c ≡ Some paths → option_or (number_for paths.items (AtComponent k) a) (number_for paths.items Children a) ≡ covering_in own k a c
-  here c k a paths e = sym (ap (λ o. option_or (number_among o (AtComponent k) a) (number_among o Children a)) e)
+  here : (c k a : ℕ) (paths : Vec (Target × EqId) Global) → slice_get own c ≡ Some paths → option_or (number_for paths.items (at_component k) a) (number_for paths.items Children a) ≡ covering_in own k a c
+  here c k a paths e = sym (ap (λ o. option_or (number_among o (at_component k) a) (number_among o Children a)) e)
 
   pub gathers_first : (paths : Vec (Target × EqId) Global) (nothing first : Covering) {left : ℕ} {above : Option ℕ} → slice_get own class ≡ Some paths → length nothing.children.items ≡ attributes → ((k a : ℕ) → covered_by nothing k a ≡ None)
       → AddsClass paths.items nothing first → left ≡ length s → above ≡ superclass_of s class → Gathers left above first
@@ -38,7 +38,7 @@ module _ (s : List (Option ℕ)) (own : List (Vec (Target × EqId) Global)) (cla
     each = λ k a.
         let f : ℕ → Option ℕ = covering_in own k a in
         let is : covered_by first k a ≡ f class =
-        adds.each k a ∙ ap (λ o. option_or o (option_or (number_for paths.items (AtComponent k) a) (number_for paths.items Children a))) (none k a) ∙ here class k a paths held in
+        adds.each k a ∙ ap (λ o. option_or o (option_or (number_for paths.items (at_component k) a) (number_for paths.items Children a))) (none k a) ∙ here class k a paths held in
         ap (λ o. option_or o (first_of_line f (line_up left s above))) is ∙ ap (λ o. option_or (f class) (first_of_line f (line_up left s o))) up ∙ ap (λ n. option_or (f class) (first_of_line f (line_up n s (superclass_of s class)))) all;
   }
 
@@ -55,7 +55,7 @@ module _ (s : List (Option ℕ)) (own : List (Vec (Target × EqId) Global)) (cla
       wide = adds.long ∙ so_far.wide;
       each = λ k a.
           let rest = first_of_line (covering_in own k a) (line_up left s up) in
-          ap (λ o. option_or o rest) (adds.each k a) ∙ or_assoc (covered_by before k a) (option_or (number_for paths.items (AtComponent k) a) (number_for paths.items Children a)) rest
+          ap (λ o. option_or o rest) (adds.each k a) ∙ or_assoc (covered_by before k a) (option_or (number_for paths.items (at_component k) a) (number_for paths.items Children a)) rest
           ∙ ap (λ o. option_or (covered_by before k a) (option_or o rest)) (here number k a paths held) ∙ at_next k a;
     }
 
@@ -64,7 +64,7 @@ module _ (s : List (Option ℕ)) (own : List (Vec (Target × EqId) Global)) (cla
       wide = so_far.wide;
       each = λ k a.
           let rest = first_of_line (covering_in own k a) (line_up left s up) in
-          let none : covering_in own k a number ≡ None = ap (λ o. option_or (number_among o (AtComponent k) a) (number_among o Children a)) past in
+          let none : covering_in own k a number ≡ None = ap (λ o. option_or (number_among o (at_component k) a) (number_among o Children a)) past in
           ap (λ o. option_or (covered_by before k a) (option_or o rest)) (sym none) ∙ at_next k a;
     }
 
@@ -105,7 +105,7 @@ module _ (s : List (Option ℕ)) (attributes : ℕ) (targets : List Target) (ins
   no_equation class r a past = position_none (is_target class r a) targets (λ k d h. other_class (length s) attributes a class r past _ (inside k d h))
 
   same_own : (k a c : ℕ) → covering_in own k a c ≡ own_covering targets k a c
-  same_own k a c i = option_or (owns.each c (AtComponent k) a refl i) (owns.each c Children a refl i)
+  same_own k a c i = option_or (owns.each c (at_component k) a refl i) (owns.each c Children a refl i)
 
   pub covers_all : {coverings : List Covering} → CoversEach s own (length own) coverings → AreCovered s targets coverings
   covers_all {coverings} covers class k a = elim (cases_lt class (length s)) [
@@ -113,7 +113,7 @@ module _ (s : List (Option ℕ)) (attributes : ℕ) (targets : List Target) (ins
         let t = there coverings class (omega (arith, h, covers.long, owns.long)) in
         ap (λ o. covered_in o k a) t.1 ∙ covers.each class t.0 t.1 k a ∙ ap (λ (f : ℕ → Option ℕ). first_of_line f (upwards s class)) (λ i c. same_own k a c i)
     | inr h ↦
-        let nothing : own_covering targets k a class ≡ None = λ i. option_or (no_equation class (AtComponent k) a h i) (no_equation class Children a h i) in
+        let nothing : own_covering targets k a class ≡ None = λ i. option_or (no_equation class (at_component k) a h i) (no_equation class Children a h i) in
         ap (λ o. covered_in o k a) (slice_get_past coverings class (omega (arith, h, covers.long, owns.long)))
         ∙ sym (ap (λ o. option_or o (first_of_line (own_covering targets k a) (line_of s class))) nothing ∙ ap (first_of_line (own_covering targets k a)) (no_line s class h))
   ]

@@ -13,9 +13,10 @@ use Rattle.attr_rules.specs.declared.dispatch.Reach.{Reach}
 use Rattle.attr_rules.specs.declared.dispatch.Reach.TheVariants.{Own, Component as AtComponent, Children}
 use Rattle.attr_rules.specs.declared.dispatch.Target.{Target}
 use Rattle.attr_rules.specs.declared.kinds.EqId.{EqId}
+use Rattle.attr_rules.specs.declared.kinds.Part.{Part}
 use Rattle.attr_rules.specs.Dispatching.{KeepsFirst, KeepsNamed, component_in, kept_for, number_for, number_of_place}
 use Rattle.attr_rules.specs.RowsKept.{at_place, with_first}
-use Rattle.attr_rules.specs.Rules.{number_of_equation, same_reach}
+use Rattle.attr_rules.specs.Rules.{at_component, number_of_equation, same_reach}
 use Rattle.attr_rules.proofs.FirstPlaces.{first_other, first_same, length-with_first, map_or, or_none}
 use Rattle.attr_rules.proofs.NearestRows.{or_assoc}
 
@@ -63,28 +64,28 @@ unwrapped (Some x) e = refl
 module _ {S : Type 0} (children : List (Option EqId)) (paths : List (Target × EqId)) (i : ℕ) (d : Target × EqId) (t : Target) (e : EqId) (within : i < length paths) (is : get_or paths i d ≡ (t, e)) (first before : HashMap Key EqId S)
     (so_far : KeepsNamed children (take i paths) first before) where
   -- the next equation is for a component, or for other nodes
-  pub named_taken : (j : ℕ) (x : EqId) (after : HashMap Key EqId S) → t.reach ≡ AtComponent j → x ≡ unwrap_or (at_place children t.attribute.0) e → KeepsFirst (record { component = j; attribute = t.attribute.0 }) x before after
+  pub named_taken : (j : Part) (x : EqId) (after : HashMap Key EqId S) → t.reach ≡ AtComponent j → x ≡ unwrap_or (at_place children t.attribute.0) e → KeepsFirst (record { component = j; attribute = t.attribute }) x before after
       → KeepsNamed children (take (i + 1) paths) first after
   named_taken j x after at nearest keeps k a =
       let nearer = number_of_place children a in
-      let b : Bool = (j == k) && (t.attribute.0 == a) in
-      let here : is_for (AtComponent k) a t ≡ b = ap (λ r. same_reach r (AtComponent k) && (t.attribute.0 == a)) at in
+      let b : Bool = (j.0 == k) && (t.attribute.0 == a) in
+      let here : is_for (at_component k) a t ≡ b = ap (λ r. same_reach r (at_component k) && (t.attribute.0 == a)) at in
       keeps k a ∙ ap (λ o. option_or o (cond b (Some x.0) None)) (so_far k a)
-      ∙ one_more (kept_for first.entries k a) nearer (number_for (take i paths) (AtComponent k) a) b e.0 x.0 (λ h.
-      ap (λ n. option_or (number_of_place children n) (Some e.0)) (sym (eqb-true t.attribute.0 a (and_parts (j == k) (t.attribute.0 == a) h).1)) ∙ unwrapped (at_place children t.attribute.0) e ∙ ap (λ (y : EqId). Some y.0) (sym nearest))
-      ∙ ap (λ c. option_or (kept_for first.entries k a) (option_and_then (λ y. option_or nearer (Some y)) (option_or (number_for (take i paths) (AtComponent k) a) (cond c (Some e.0) None)))) (sym here)
-      ∙ ap (λ o. option_or (kept_for first.entries k a) (option_and_then (λ y. option_or nearer (Some y)) o)) (sym (number_more paths i d t e (AtComponent k) a within is))
+      ∙ one_more (kept_for first.entries k a) nearer (number_for (take i paths) (at_component k) a) b e.0 x.0 (λ h.
+      ap (λ n. option_or (number_of_place children n) (Some e.0)) (sym (eqb-true t.attribute.0 a (and_parts (j.0 == k) (t.attribute.0 == a) h).1)) ∙ unwrapped (at_place children t.attribute.0) e ∙ ap (λ (y : EqId). Some y.0) (sym nearest))
+      ∙ ap (λ c. option_or (kept_for first.entries k a) (option_and_then (λ y. option_or nearer (Some y)) (option_or (number_for (take i paths) (at_component k) a) (cond c (Some e.0) None)))) (sym here)
+      ∙ ap (λ o. option_or (kept_for first.entries k a) (option_and_then (λ y. option_or nearer (Some y)) o)) (sym (number_more paths i d t e (at_component k) a within is))
 
-  pub named_passed : ((k : ℕ) → same_reach t.reach (AtComponent k) ≡ false) → KeepsNamed children (take (i + 1) paths) first before
+  pub named_passed : ((k : ℕ) → same_reach t.reach (at_component k) ≡ false) → KeepsNamed children (take (i + 1) paths) first before
   named_passed other k a =
-      so_far k a ∙ ap (λ o. option_or (kept_for first.entries k a) (option_and_then (λ y. option_or (number_of_place children a) (Some y)) o)) (sym (number_passed paths i d t e (AtComponent k) a within is (other k)))
+      so_far k a ∙ ap (λ o. option_or (kept_for first.entries k a) (option_and_then (λ y. option_or (number_of_place children a) (Some y)) o)) (sym (number_passed paths i d t e (at_component k) a within is (other k)))
 
-named_in : (r : Reach) (j : ℕ) → component_in r ≡ Some j → r ≡ AtComponent j
+named_in : (r : Reach) (j : Part) → component_in r ≡ Some j → r ≡ AtComponent j
 named_in Own j e = absurd cc
 named_in (AtComponent k) j e = let same : k ≡ j = cc in ap AtComponent same
 named_in Children j e = absurd cc
 
-not_named : (r : Reach) → component_in r ≡ None → (k : ℕ) → same_reach r (AtComponent k) ≡ false
+not_named : (r : Reach) → component_in r ≡ None → (k : ℕ) → same_reach r (at_component k) ≡ false
 not_named Own e k = refl
 not_named (AtComponent j) e k = absurd cc
 not_named Children e k = refl
@@ -94,10 +95,10 @@ is_children Own e = absurd cc
 is_children (AtComponent k) e = absurd cc
 is_children Children e = refl
 
-module _ {S : Type 0} (children : List (Option EqId)) (paths : List (Target × EqId)) (i : ℕ) (d : Target × EqId) {o : Option ℕ} (within : i < length paths) (component : o ≡ component_in (get_or paths i d).0.reach) (first before : HashMap Key EqId S)
+module _ {S : Type 0} (children : List (Option EqId)) (paths : List (Target × EqId)) (i : ℕ) (d : Target × EqId) {o : Option Part} (within : i < length paths) (component : o ≡ component_in (get_or paths i d).0.reach) (first before : HashMap Key EqId S)
     {after : HashMap Key EqId S} (so_far : KeepsNamed children (take i paths) first before) where
-  pub named_more : (j : ℕ) (x : EqId) {later : HashMap Key EqId S} {nearer : Option EqId} → o ≡ Some j → nearer ≡ at_place children (get_or paths i d).0.attribute.0 → x ≡ unwrap_or nearer (get_or paths i d).1
-      → KeepsFirst (record { component = j; attribute = (get_or paths i d).0.attribute.0 }) x before later → after ≡ later → KeepsNamed children (take (i + 1) paths) first after
+  pub named_more : (j : Part) (x : EqId) {later : HashMap Key EqId S} {nearer : Option EqId} → o ≡ Some j → nearer ≡ at_place children (get_or paths i d).0.attribute.0 → x ≡ unwrap_or nearer (get_or paths i d).1
+      → KeepsFirst (record { component = j; attribute = (get_or paths i d).0.attribute }) x before later → after ≡ later → KeepsNamed children (take (i + 1) paths) first after
   named_more j x {later} {nearer} is near unwraps keeps same =
       subst (KeepsNamed children (take (i + 1) paths) first) (sym same)
       (named_taken children paths i d (get_or paths i d).0 (get_or paths i d).1 within refl first before so_far j x later (named_in (get_or paths i d).0.reach j (sym component ∙ is)) (unwraps ∙ ap (λ p. unwrap_or p (get_or paths i d).1) near) keeps)

@@ -6,4 +6,4 @@ use Rattle.attr_rules.specs.declared.accessors.Found.{Found}
 
 abbrev pub Finds : List Class → ℕ → List ℕ → Option Found → Type 0
 Finds g c name None = component_named g c name ≡ None
-Finds g c name (Some f) = (component_named g c name ≡ Some f.number) × (option_map nameless (component_at g c f.number) ≡ Some f.component)
+Finds g c name (Some f) = (component_named g c name ≡ Some f.number.0) × (option_map nameless (component_at g c f.number.0) ≡ Some f.component)

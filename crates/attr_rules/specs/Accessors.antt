@@ -50,7 +50,7 @@ of_list a shapes.Int = None
 of_list a shapes.Truth = None
 
 abbrev pub reading : ℕ → ClassId → Access → Accessor
-reading k c a = record { component = k; class = c; access = a }
+reading k c a = record { component = record { 0 = k }; class = c; access = a }
 
 abbrev pub accessor_on : (Shape → Option Access) → ℕ → Component → Option Accessor
 accessor_on f k x = option_map (reading k x.class) (f x.shape)

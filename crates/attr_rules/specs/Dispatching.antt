@@ -14,8 +14,9 @@ use Rattle.attr_rules.specs.declared.dispatch.Target.{Target}
 use Rattle.ast_grammar.specs.declared.grammar.ClassId.{ClassId}
 use Rattle.attr_rules.specs.declared.kinds.AttrId.{AttrId}
 use Rattle.attr_rules.specs.declared.kinds.EqId.{EqId}
+use Rattle.attr_rules.specs.declared.kinds.Part.{Part}
 use Rattle.attr_rules.specs.RowsKept.{at_place, at_row, with_first}
-use Rattle.attr_rules.specs.Rules.{covering_equation, equation_at, first_of_line, is_target, nearest_equation, number_of_equation, own_equation, same_reach}
+use Rattle.attr_rules.specs.Rules.{at_component, covering_equation, equation_at, first_of_line, is_target, nearest_equation, number_of_equation, own_equation, same_reach}
 
 -- the number of the equation at a place
 abbrev pub number_at : List (Vec (Option EqId) Global) → ℕ → ℕ → Option ℕ
@@ -56,7 +57,7 @@ pub record IsTarget (classes attributes : ℕ) (t : Target) : Type 0 where
   pub attribute : t.attribute.0 < attributes
 
 -- the component at which nodes hang
-abbrev pub component_in : Reach → Option ℕ
+abbrev pub component_in : Reach → Option Part
 component_in Own = None
 component_in (AtComponent k) = Some k
 component_in Children = None
@@ -85,11 +86,11 @@ pub record AreOwnPaths (classes : ℕ) (targets : List Target) (lists : List (Ve
 
 -- the number of the equation that is kept for a component and an attribute
 abbrev pub kept_for : List (Key × EqId) → ℕ → ℕ → Option ℕ
-kept_for named k a = option_map number_of_equation (lookup (λ (key : Key). (key.component == k) && (key.attribute == a)) named)
+kept_for named k a = option_map number_of_equation (lookup (λ (key : Key). (key.component.0 == k) && (key.attribute.0 == a)) named)
 
 -- an equation is kept for a component and an attribute, unless one is kept for the same; all else stays
 abbrev pub KeepsFirst : {S : Type 0} → Key → EqId → HashMap Key EqId S → HashMap Key EqId S → Type 0
-KeepsFirst key e before after = (k a : ℕ) → kept_for after.entries k a ≡ option_or (kept_for before.entries k a) (if (key.component == k) && (key.attribute == a) then Some e.0 else None)
+KeepsFirst key e before after = (k a : ℕ) → kept_for after.entries k a ≡ option_or (kept_for before.entries k a) (if (key.component.0 == k) && (key.attribute.0 == a) then Some e.0 else None)
 
 -- the number of the equation at the place of an attribute
 abbrev pub number_of_place : List (Option EqId) → ℕ → Option ℕ
@@ -99,7 +100,7 @@ number_of_place row a = option_map number_of_equation (at_place row a)
 -- every child, it is kept in their place.
 abbrev pub KeepsNamed : {S : Type 0} → List (Option EqId) → List (Target × EqId) → HashMap Key EqId S → HashMap Key EqId S → Type 0
 KeepsNamed children paths before after = (k a : ℕ)
-    → kept_for after.entries k a ≡ option_or (kept_for before.entries k a) (option_and_then (λ e. option_or (number_of_place children a) (Some e)) (number_for paths (AtComponent k) a))
+    → kept_for after.entries k a ≡ option_or (kept_for before.entries k a) (option_and_then (λ e. option_or (number_of_place children a) (Some e)) (number_for paths (at_component k) a))
 
 -- the number of the equation that covers what hangs at a component: the one that is kept for it, or else the one for every child
 abbrev pub covered_by : Covering → ℕ → ℕ → Option ℕ
@@ -108,7 +109,7 @@ covered_by c k a = option_or (kept_for c.named k a) (number_of_place c.children.
 -- the equations of one class more cover what nothing covered, those for the component before those for every child
 pub record AddsClass (paths : List (Target × EqId)) (before after : Covering) : Type 0 where
   pub long : length after.children.items ≡ length before.children.items
-  pub each : (k a : ℕ) → covered_by after k a ≡ option_or (covered_by before k a) (option_or (number_for paths (AtComponent k) a) (number_for paths Children a))
+  pub each : (k a : ℕ) → covered_by after k a ≡ option_or (covered_by before k a) (option_or (number_for paths (at_component k) a) (number_for paths Children a))
 
 -- those of the paths for every child are put at the places where nothing stands yet
 abbrev pub PutsChildren : List (Target × EqId) → List (Option EqId) → List (Option EqId) → Type 0
@@ -116,7 +117,7 @@ PutsChildren paths before after = (a : ℕ) → number_of_place after a ≡ opti
 
 -- the equation of exactly this class that covers, by those of each class
 abbrev pub covering_in : List (Vec (Target × EqId) Global) → ℕ → ℕ → ℕ → Option ℕ
-covering_in own k a class = option_or (number_in own class (AtComponent k) a) (number_in own class Children a)
+covering_in own k a class = option_or (number_in own class (at_component k) a) (number_in own class Children a)
 
 -- what covers is that of the nearest class that has something, from this one upwards
 abbrev pub CoversUpwards : List (Option ℕ) → List (Vec (Target × EqId) Global) → ℕ → Covering → Type 0

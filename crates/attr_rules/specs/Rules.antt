@@ -81,13 +81,17 @@ most_parameters = 3
 abbrev pub attribute_named : List (Option ℕ) → List Attribute → ClassId → List ℕ → Option ℕ
 attribute_named superclasses attributes class name = position (λ a. is_below superclasses class.0 a.declared.class.0 && bytes_eq a.name name) attributes
 
+-- what hangs at the component of this number
+abbrev pub at_component : ℕ → Reach
+at_component k = AtComponent (record { 0 = k })
+
 -- two are for the same nodes
 abbrev pub same_reach : Reach → Reach → Bool
 same_reach Own Own = true
 same_reach Own (AtComponent k) = false
 same_reach Own Children = false
 same_reach (AtComponent j) Own = false
-same_reach (AtComponent j) (AtComponent k) = j == k
+same_reach (AtComponent j) (AtComponent k) = j.0 == k.0
 same_reach (AtComponent j) Children = false
 same_reach Children Own = false
 same_reach Children (AtComponent k) = false
@@ -106,7 +110,7 @@ own_equation targets a class = equation_at targets class Own a
 
 -- the equation of exactly this class that covers what hangs at a component: one for the component comes before one for every child
 abbrev pub own_covering : List Target → ℕ → ℕ → ℕ → Option ℕ
-own_covering targets k a class = option_or (equation_at targets class (AtComponent k) a) (equation_at targets class Children a)
+own_covering targets k a class = option_or (equation_at targets class (at_component k) a) (equation_at targets class Children a)
 
 -- what the first of some classes that has something has
 abbrev pub first_of_line : (ℕ → Option ℕ) → List ℕ → Option ℕ

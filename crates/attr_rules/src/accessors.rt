@@ -5,7 +5,7 @@ ghost use Rattle.attr_rules.specs.Accessors as spec;
 ghost use Rattle.attr_rules.specs.Accessors.{is_spelled};
 ghost use Rattle.attr_rules.specs.AccessorSteps.{Finds};
 
-use crate::kinds::Kind;
+use crate::kinds::{Kind, Part};
 use crate::types::ValueType;
 use ast_grammar::{ClassId, Component, Grammar, Shape};
 
@@ -41,7 +41,7 @@ impl Access {
 /// An accessor of a class: the number of the component, the class of a child there or of the elements, and what is read.
 #[derive(Clone, Copy, Debug, PartialEq, Eq)]
 pub struct Accessor {
-    pub component: u32,
+    pub component: Part,
     pub class: ClassId,
     pub access: Access,
 }
@@ -77,7 +77,7 @@ fn got(shape: Shape) -> Option<Access>
 // The component of a class by its name, with its number.
 #[derive(Clone, Copy, Debug)]
 struct Found {
-    number: u32,
+    number: Part,
     component: Component,
 }
 
@@ -89,13 +89,13 @@ fn component_named(grammar: &Grammar, class: ClassId, name: &[u8]) -> Option<Fou
     }
     let number = grammar.find_component(class, name)?;
     Some(Found {
-        number,
+        number: Part(number),
         component: *grammar.component(class, number),
     })
 }
 
 fn reading(found: Found, access: Option<Access>) -> Option<Accessor>
-    ensures { result ≡ option_map (spec.reading found.number found.component.class) access }
+    ensures { result ≡ option_map (spec.reading found.number.0 found.component.class) access }
 {
     Some(Accessor {
         component: found.number,

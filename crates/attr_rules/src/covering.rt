@@ -8,7 +8,7 @@ ghost use Rattle.attr_rules.specs.RowsKept.{at_place};
 ghost use Rattle.attr_rules.specs.Rules.{number_of_equation};
 
 use crate::dispatch::Target;
-use crate::kinds::{AttrId, EqId};
+use crate::kinds::{AttrId, EqId, Part};
 use crate::rows::{at_place, put_first};
 use ast_grammar::Grammar;
 use rag_io::Memory;
@@ -19,8 +19,8 @@ use std::marker::Model;
 /// A component and an attribute, as a key.
 #[derive(Clone, Copy, Debug, PartialEq, Eq, Hash)]
 pub struct Key {
-    pub component: u32,
-    pub attribute: u16,
+    pub component: Part,
+    pub attribute: AttrId,
 }
 
 /// Equations, each kept for a component and an attribute.
@@ -74,7 +74,7 @@ fn keep_named(
             let nearer = at_place(children, target.attribute.0 as usize);
             let key = Key {
                 component,
-                attribute: target.attribute.0,
+                attribute: target.attribute,
             };
             keep_first(named, key, nearer.unwrap_or(equation))?;
         }
@@ -145,12 +145,12 @@ impl Covering {
     }
 
     /// The equation that covers what hangs at a component. It takes constant time.
-    pub(crate) fn find(&self, component: u32, attribute: AttrId) -> Option<EqId>
-        ensures { option_map number_of_equation result ≡ covered_by self.now component attribute.0 }
+    pub(crate) fn find(&self, component: Part, attribute: AttrId) -> Option<EqId>
+        ensures { option_map number_of_equation result ≡ covered_by self.now component.0 attribute.0 }
     {
         let key = Key {
             component,
-            attribute: attribute.0,
+            attribute,
         };
         let named = self.named.equations.get(&key).copied();
         named.or_else(|| at_place(&self.children, attribute.0 as usize))

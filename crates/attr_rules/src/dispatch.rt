@@ -7,7 +7,7 @@ ghost use Rattle.attr_rules.specs.Rules.{number_of_equation};
 ghost use Rattle.attr_rules.specs.RowsKept.{at_row};
 
 use crate::covering::Covering;
-use crate::kinds::{AttrId, EqId};
+use crate::kinds::{AttrId, EqId, Part};
 use crate::paths::own_paths;
 use crate::rows::{at_row, put_first};
 use ast_grammar::{ClassId, Grammar};
@@ -19,7 +19,7 @@ use std::alloc::Global;
 #[derive(Clone, Copy, Debug, PartialEq, Eq, Hash)]
 pub enum Reach {
     Own,
-    Component(u32),
+    Component(Part),
     Children,
 }
 
@@ -49,7 +49,7 @@ impl Reach {
     }
 
     /// The component, if it is what hangs at one.
-    pub(crate) fn component(self) -> Option<u32>
+    pub(crate) fn component(self) -> Option<Part>
         ensures { result ≡ component_in self }
     {
         match self {
@@ -217,8 +217,8 @@ impl Dispatch {
     /// The equation with a path that covers what hangs at a component of nodes of a class, for the first inherited attribute of a name, or
     /// None where there is none: that of the nearest class, from this one upwards, and in a class one for the component before one for
     /// every child. It takes constant time.
-    pub fn find_covering(&self, class: ClassId, component: u32, attribute: AttrId) -> Option<EqId>
-        ensures { FindsCovering self.now class component attribute (option_map number_of_equation result) }
+    pub fn find_covering(&self, class: ClassId, component: Part, attribute: AttrId) -> Option<EqId>
+        ensures { FindsCovering self.now class component.0 attribute (option_map number_of_equation result) }
     {
         let covering = self.coverings.get(class.0 as usize)?;
         covering.find(component, attribute)

@@ -1,5 +1,5 @@
 // Typed expressions.
-use crate::kinds::{AttrId, Kind};
+use crate::kinds::{AttrId, Kind, Part, TextId};
 use ast_grammar::ClassId;
 use rag_io::Place;
 use std::alloc::Global;
@@ -47,7 +47,7 @@ pub enum TExpr {
     /// An integer literal.
     Int(i32),
     /// A text, by its number in the pool.
-    Text(u32),
+    Text(TextId),
     /// `null`, no node.
     Null,
     /// `empty`, the set without elements.
@@ -59,16 +59,16 @@ pub enum TExpr {
     /// `@k`, the source node of this number. It stands in queries alone.
     Source(u32),
     /// The child of a receiver at the component of this number, or the optional child: null where there is none.
-    Child(u32, Box<TExpr>),
+    Child(Part, Box<TExpr>),
     /// The element of a receiver's list at the component of this number, and its place in the list, from 0: null where
     /// the list has none there.
-    Element(u32, Box<TExpr>, Box<TExpr>),
+    Element(Part, Box<TExpr>, Box<TExpr>),
     /// How many elements a receiver's list has at the component of this number.
-    Count(u32, Box<TExpr>),
+    Count(Part, Box<TExpr>),
     /// Whether a receiver has the optional child at the component of this number.
-    Has(u32, Box<TExpr>),
+    Has(Part, Box<TExpr>),
     /// The token of a receiver, read at this type, at the component of this number.
-    Token(Kind, u32, Box<TExpr>),
+    Token(Kind, Part, Box<TExpr>),
     /// The call of an attribute, with the place of its name, on a receiver, with arguments.
     Call(AttrId, Place, Box<TExpr>, TArgs),
     /// `(C) e`: the node where it is of the class or below, and null else.
@@ -76,13 +76,13 @@ pub enum TExpr {
     /// `e instanceof C`: whether there is a node, and it is of the class or below.
     InstanceOf(ClassId, Box<TExpr>),
     /// `any`, `all` or `first` over a receiver's list at the component of this number, with the condition, in which variable 0 is the element.
-    Quantified(Quantifier, u32, Box<TExpr>, Box<TExpr>),
+    Quantified(Quantifier, Part, Box<TExpr>, Box<TExpr>),
     /// `any` or `all` over the elements of a set, nodes in the order of their names and texts in that of their bytes, with the condition, in
     /// which variable 0 is the element.
     QuantifiedSet(Quantifier, Box<TExpr>, Box<TExpr>),
     /// `each` over a receiver's list at the component of this number: the union of the sets that the body, in which variable 0 is the element,
     /// says at the elements; the union is of this type.
-    Each(Kind, u32, Box<TExpr>, Box<TExpr>),
+    Each(Kind, Part, Box<TExpr>, Box<TExpr>),
     /// `each` over the elements of a set, in their order.
     EachOfSet(Kind, Box<TExpr>, Box<TExpr>),
     /// `union`, `inter` or `minus` of two sets, which gives a set of this type.

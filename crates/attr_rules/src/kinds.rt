@@ -11,6 +11,14 @@ pub struct AttrId(pub u16);
 #[derive(Clone, Copy, Debug, PartialEq, Eq)]
 pub struct EqId(pub u32);
 
+/// The place of a component among those of its class, from 0: those of the superclass come first.
+#[derive(Clone, Copy, Debug, PartialEq, Eq, Hash)]
+pub struct Part(pub u32);
+
+/// The number of a text in the pool.
+#[derive(Clone, Copy, Debug, PartialEq, Eq, Hash)]
+pub struct TextId(pub u32);
+
 /// A type: `boolean`, `int`, `String`, a class, a set of texts, or a set of nodes of a class.
 #[derive(Clone, Copy, Debug, PartialEq, Eq)]
 pub enum Kind {

@@ -21,7 +21,7 @@ IsRead access.Element s = s ≡ shapes.List
 -- An accessor of a class reads one of its components.
 pub record IsAccessor (g : List Class) (c : ℕ) (x : Accessor) : Type 0 where
   pub component : Component
-  pub found : component_at g c x.component ≡ Some component
+  pub found : component_at g c x.component.0 ≡ Some component
   pub class : x.class ≡ component.class
   pub shaped : IsRead x.access component.shape
 

@@ -125,7 +125,7 @@ module _ (circular : ℕ → Bool) where
 
   call_made : (o : Option member.Member) (at : Place) (e : Expression) (es : Arguments) → IsMade e → AreMade es → IsMade (call_said o at e es)
   call_made None at e es p q = refl
-  call_made (Some (members.Reads x)) at e es p q = read_made x.access x.component e (first_in es) p (first_made es q)
+  call_made (Some (members.Reads x)) at e es p q = read_made x.access x.component.0 e (first_in es) p (first_made es q)
   call_made (Some (members.Calls a)) at e es p q = and_from (is_well_made circular (with_both circular e)) (are_well_made circular (all_with_both circular es)) p q
 
   one_made : (f : SetForm) (a : Expression) → IsMade a → IsMade (one_said f a)

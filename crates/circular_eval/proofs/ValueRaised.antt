@@ -261,7 +261,7 @@ node_fits p _ x r (is_node c _ e) f = elim f [ ]
 pub not_single : (p : Program) (k : Kind) (value other : CodedValue) → IsValue p k (value_of (text_of p) value) → FitsKind k (value_of (text_of p) other) → ((a : Bool) → value ≡ coded.Truth a → ⊥) → ((a : List ℕ) → value ≡ coded.Texts a → ⊥) → ((a : List ℕ) → value ≡ coded.Nodes a → ⊥) → ⊥
 not_single p k (coded.Truth a) other typed fits x y z = x a refl
 not_single p k (coded.Int a) other typed fits x y z = int_fits p k (value_of (text_of p) other) a typed fits
-not_single p k (coded.Text a) other typed fits x y z = text_fits p k (value_of (text_of p) other) (text_of p a) typed fits
+not_single p k (coded.Text a) other typed fits x y z = text_fits p k (value_of (text_of p) other) (text_of p a.0) typed fits
 not_single p k (coded.Node a) other typed fits x y z = node_fits p k (value_of (text_of p) other) (reference_of a.0) typed fits
 not_single p k (coded.Texts a) other typed fits x y z = y a refl
 not_single p k (coded.Nodes a) other typed fits x y z = z a refl

@@ -11,10 +11,10 @@ use Rattle.superclasses.specs.Superclasses.{is_sub as is_below, upwards}
 use Rattle.ast_grammar.specs.declared.grammar.ClassId.{ClassId}
 use Rattle.ast_grammar.specs.Grammar.{IsClass, is_sub}
 use Rattle.attr_rules.specs.declared.dispatch.Reach.{Reach}
-use Rattle.attr_rules.specs.declared.dispatch.Reach.TheVariants.{Own, Component, Children}
+use Rattle.attr_rules.specs.declared.dispatch.Reach.TheVariants.{Own, Children}
 use Rattle.attr_rules.specs.declared.dispatch.Target.{Target}
 use Rattle.attr_rules.specs.declared.kinds.Attr.{Attr}
-use Rattle.attr_rules.specs.Rules.{Equation, RuleSet, Uncovered, attribute_at, below, covering_equation, covering_number, equation_at, first_of_line, first_of_name, is_inherited, is_target, nearest_equation, own_covering, own_equation, root, same_reach, target_in}
+use Rattle.attr_rules.specs.Rules.{Equation, RuleSet, Uncovered, at_component, attribute_at, below, covering_equation, covering_number, equation_at, first_of_line, first_of_name, is_inherited, is_target, nearest_equation, own_covering, own_equation, root, same_reach, target_in}
 use Rattle.tree_arena.specs.Nodes.{Node as TreeNode, component_in, parent_in}
 use Rattle.tree_arena.specs.Terms.{HasFew, IsTree}
 use Rattle.tree_arena.proofs.Seen.{hung_at}
@@ -108,7 +108,7 @@ covers r a c k e h =
       attribute = q.3;
       above = subst (λ (x : ℕ). is_below r.superclasses c.0 x ≡ true) (sym q.2) near.1;
     } in
-    or_either (Covers r a c e) (equation_at targets near.0 (Component k) name.0) (equation_at targets near.0 Children name.0) e (found (Component k)) (found Children) near.2
+    or_either (Covers r a c e) (equation_at targets near.0 (at_component k) name.0) (equation_at targets near.0 Children name.0) e (found (at_component k)) (found Children) near.2
 
 -- each parent in a tree has a smaller number
 abbrev pub Falls : List TreeNode → Type 0

@@ -80,11 +80,11 @@ key_is (coded.Attr a n xs) (coded.Attr b m ys) e =
     (λ i. coded.Attr (record { 0 = eqb-true a.0 b.0 one.0 i }) (record { 0 = eqb-true n.0 m.0 two.0 i }) (args_is xs ys two.1 i))
 key_is (coded.Attr a n xs) (coded.Query q) e = cc
 key_is (coded.Query p) (coded.Attr b m ys) e = cc
-key_is (coded.Query p) (coded.Query q) e = ap coded.Query (eqb-true p q e)
+key_is (coded.Query p) (coded.Query q) e = ap (λ k. coded.Query (record { 0 = k })) (eqb-true p.0 q.0 e)
 
 pub key_self : (a : CodedInstance) → equality.ghosts.eq a a ≡ true
 key_self (coded.Attr a n xs) = (λ i. eq-eqb a.0 a.0 refl i && (eq-eqb n.0 n.0 refl i && args_self xs i))
-key_self (coded.Query q) = eq-eqb q q refl
+key_self (coded.Query q) = eq-eqb q.0 q.0 refl
 
 -- what an argument holds
 abbrev truth_in : Argument → Bool
@@ -174,7 +174,7 @@ module _ (p : Program) (pooled : ArePooled p.texts) where
       (λ i. coded.Attr (record { 0 = attribute i }) (record { 0 = node i }) (one_row xs ys v.0 w.0 codes i))
   one_key (coded.Attr a n xs) (coded.Query q) v w e = cc
   one_key (coded.Query q) (coded.Attr b m ys) v w e = cc
-  one_key (coded.Query q) (coded.Query r) v w e = cc
+  one_key (coded.Query q) (coded.Query r) v w e = let same : q.0 ≡ r.0 = cc in ap (λ k. coded.Query (record { 0 = k })) same
 
   -- well coded instances are equal where they stand for one instance
   pub key_same : (a b : CodedInstance) → IsCoded p a → IsCoded p b → equality.ghosts.eq a b ≡ same_instance (instance_of p a) (instance_of p b)

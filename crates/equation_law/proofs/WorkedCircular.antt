@@ -7,14 +7,14 @@ use Rattle.superclasses.specs.Superclasses.{line_of}
 use Rattle.ast_grammar.specs.declared.grammar.Shape.TheVariants as shapes
 use Rattle.ast_grammar.specs.Grammar.{Class, superclasses_of}
 use Rattle.attr_rules.specs.declared.dispatch.Reach.{Reach}
-use Rattle.attr_rules.specs.declared.dispatch.Reach.TheVariants.{Own, Component}
+use Rattle.attr_rules.specs.declared.dispatch.Reach.TheVariants.{Own}
 use Rattle.attr_rules.specs.declared.expression.SetOperator.TheVariants.{Union}
 use Rattle.attr_rules.specs.declared.kinds.Attr.{Attr}
 use Rattle.attr_rules.specs.declared.kinds.Kind.TheVariants as kinds
 use Rattle.attr_rules.specs.declared.kinds.Sort.TheVariants.{Syn, Inh}
 use Rattle.attr_rules.specs.declared.kinds.Start.TheVariants.{Plain, False, Empty}
 use Rattle.attr_rules.specs.Expression.{Expression, Truth as TruthLiteral, This, Child, Call, no_more, EachOfSet, Not, Or, OrBoth, Sets, Single, Variable}
-use Rattle.attr_rules.specs.Rules.{Equation, no_params, plain_attribute}
+use Rattle.attr_rules.specs.Rules.{Equation, at_component, no_params, plain_attribute}
 use Rattle.solutions.specs.Asking.{Demands, Ends, Gives, Needs, asks, gives, here, next}
 use Rattle.solutions.specs.Rounds.{Graph, IsStable, inner_rounds, is_in, outer_rounds, over}
 use Rattle.solutions.specs.Leading.{bottoms, circular, more, none, undeclared}
@@ -173,8 +173,8 @@ ring = record {
         record { name = codes "all"; declared = record { class = record { 0 = 1 }; sort = Syn; kind = kinds.Nodes (record { 0 = 1 }); params = no_params; circular = true; start = Empty }; collecting = None } ∷
         [];
     equations =
-        equation_at 0 (Component 0) 0 (Child 1 This) ∷
-        equation_at 0 (Component 1) 0 (Child 0 This) ∷
+        equation_at 0 (at_component 0) 0 (Child 1 This) ∷
+        equation_at 0 (at_component 1) 0 (Child 0 This) ∷
         equation_at 1 Own 1 (Sets Union (kinds.Nodes (record { 0 = 1 })) (Single (call 0)) (Call 1 (record { line = 1; column = 1 }) (call 0) no_more)) ∷
         equation_at 1 Own 2 (Sets Union (kinds.Nodes (record { 0 = 1 })) (Single (call 0)) (EachOfSet (kinds.Nodes (record { 0 = 1 })) (call 2) next_of_element)) ∷
         [];

@@ -6,13 +6,13 @@ use Rattle.ast_grammar.specs.declared.grammar.Shape.TheVariants as shapes
 use Rattle.ast_grammar.specs.Grammar.{Class, superclasses_of}
 use Rattle.tree_arena.specs.Nodes.{Node as TreeNode}
 use Rattle.attr_rules.specs.declared.dispatch.Reach.{Reach}
-use Rattle.attr_rules.specs.declared.dispatch.Reach.TheVariants.{Component, Children}
+use Rattle.attr_rules.specs.declared.dispatch.Reach.TheVariants.{Children}
 use Rattle.attr_rules.specs.declared.expression.Operator.TheVariants.{Add}
 use Rattle.attr_rules.specs.declared.kinds.Kind.TheVariants as kinds
 use Rattle.attr_rules.specs.declared.kinds.Sort.TheVariants.{Inh}
 use Rattle.attr_rules.specs.declared.kinds.Start.TheVariants.{Plain}
 use Rattle.attr_rules.specs.Expression.{Binary, Expression, Int as IntLiteral, Variable}
-use Rattle.attr_rules.specs.Rules.{Attribute, Equation, Uncovered, below, no_params, root}
+use Rattle.attr_rules.specs.Rules.{Attribute, Equation, Uncovered, at_component, below, no_params, root}
 use Rattle.equation_law.specs.Equations.{InstanceEquation, OfSite, equation_of}
 use Rattle.equation_law.specs.Names.{At, Source}
 use Rattle.equation_law.specs.Program.{Program, at_source}
@@ -46,7 +46,7 @@ abbrev of_program : Equation
 of_program = at_children 0 Children (IntLiteral (pos 1))
 
 abbrev of_statements : Equation
-of_statements = at_children 1 (Component 0) (Binary Add (Variable 0) (IntLiteral (pos 10)))
+of_statements = at_children 1 (at_component 0) (Binary Add (Variable 0) (IntLiteral (pos 10)))
 
 abbrev of_block : Equation
 of_block = at_children 1 Children (IntLiteral (pos 2))

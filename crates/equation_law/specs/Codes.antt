@@ -51,14 +51,14 @@ nodes_by nodes (suc k ∷ cs) = nodes k ∷ nodes_by nodes cs
 abbrev pub single_by : Naming → Single → Value
 single_by n (single.Truth b) = Truth b
 single_by n (single.Int z) = Int z
-single_by n (single.Text k) = Text (n.text k)
+single_by n (single.Text k) = Text (n.text k.0)
 single_by n (single.Node m) = Node (reference_by n.node m.0)
 
 -- a value, by a naming
 abbrev pub value_by : Naming → CodedValue → Value
 value_by n (coded.Truth b) = Truth b
 value_by n (coded.Int z) = Int z
-value_by n (coded.Text k) = Text (n.text k)
+value_by n (coded.Text k) = Text (n.text k.0)
 value_by n (coded.Node m) = Node (reference_by n.node m.0)
 value_by n (coded.Texts cs) = Texts (set_of (map n.text cs))
 value_by n (coded.Nodes cs) = Nodes (set_of (nodes_by n.node cs))
@@ -128,7 +128,7 @@ arguments_of p a xs = arguments_for p (source_names (text_of p)) a xs
 -- the instance that a coded one stands for, by a naming
 abbrev pub instance_by : Program → Naming → CodedInstance → Instance
 instance_by p n (coded_instance.Attr a m xs) = Attribute a.0 (reference_by n.node m.0) (arguments_for p n a.0 xs)
-instance_by p n (coded_instance.Query q) = Query q
+instance_by p n (coded_instance.Query q) = Query q.0
 
 abbrev pub instance_of : Program → CodedInstance → Instance
 instance_of p i = instance_by p (source_names (text_of p)) i

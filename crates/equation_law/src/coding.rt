@@ -6,7 +6,7 @@ ghost use Rattle.equation_law.specs.Codes.{IsSmall, Naming, reference_by, refere
 ghost use Rattle.equation_law.specs.Equations.{source_or_null};
 ghost use Rattle.equation_law.specs.Values.{as_kind, default_of, int, node, text, truth};
 
-use attr_rules::{AttrId, EqId, Kind};
+use attr_rules::{AttrId, EqId, Kind, TextId};
 use code_sets::{Code, Codes};
 use rag_io::Memory;
 use std::alloc::Global;
@@ -14,6 +14,10 @@ use std::alloc::Global;
 /// A node: 0 is null, and one more than its number is a source node.
 #[derive(Clone, Copy, Debug, PartialEq, Eq, Hash)]
 pub struct NodeRef(pub u32);
+
+/// The number of a query: queries are numbered from 0 in their order.
+#[derive(Clone, Copy, Debug, PartialEq, Eq, Hash)]
+pub struct QueryId(pub u32);
 
 /// The arguments of an instance, at most three: how many there are, and their codes. The codes past the count are 0.
 #[derive(Clone, Copy, Debug, PartialEq, Eq, Hash)]
@@ -32,7 +36,7 @@ pub enum Instance {
         node: NodeRef,
         args: Args,
     },
-    Query(u32),
+    Query(QueryId),
 }
 
 /// A value that is no set. A text is its number in the pool; the empty text has the number 0. The code of such a value is 0 or 1 for a boolean,
@@ -41,7 +45,7 @@ pub enum Instance {
 pub enum Single {
     Truth(bool),
     Int(i32),
-    Text(u32),
+    Text(TextId),
     Node(NodeRef),
 }
 
@@ -50,7 +54,7 @@ pub enum Single {
 pub enum Value {
     Truth(bool),
     Int(i32),
-    Text(u32),
+    Text(TextId),
     Node(NodeRef),
     Texts(Codes),
     Nodes(Codes),
@@ -227,12 +231,12 @@ impl Value {
     }
 
     /// The number of the text; of a value of another type, that of the empty one.
-    pub fn text(&self) -> u32
-        ensures { (n : Naming) → n.text 0 ≡ [] → n.text result ≡ text (value_by n self.now) }
+    pub fn text(&self) -> TextId
+        ensures { (n : Naming) → n.text 0 ≡ [] → n.text result.0 ≡ text (value_by n self.now) }
     {
         match self {
             Value::Text(number) => *number,
-            _ => 0,
+            _ => TextId(0),
         }
     }
 
@@ -320,7 +324,7 @@ impl Value {
         match kind {
             Kind::Truth => Value::Truth(false),
             Kind::Int => Value::Int(0),
-            Kind::Text => Value::Text(0),
+            Kind::Text => Value::Text(TextId(0)),
             Kind::Node(_) => Value::Node(NodeRef(0)),
             Kind::Texts => Value::Texts(Codes::none(alloc)),
             Kind::Nodes(_) => Value::Nodes(Codes::none(alloc)),
@@ -335,7 +339,7 @@ impl Value {
         match kind {
             Kind::Truth => u32::from(self.truth()),
             Kind::Int => self.int().cast_unsigned(),
-            Kind::Text => self.text(),
+            Kind::Text => self.text().0,
             Kind::Node(_) => self.node().0,
             Kind::Texts | Kind::Nodes(_) => 0,
         }
@@ -349,7 +353,7 @@ impl Value {
         match kind {
             Kind::Truth => Value::Truth(code != 0),
             Kind::Int => Value::Int(code.cast_signed()),
-            Kind::Text => Value::Text(code),
+            Kind::Text => Value::Text(TextId(code)),
             Kind::Node(_) => Value::Node(NodeRef(code)),
             Kind::Texts => Value::Texts(Codes::none(alloc)),
             Kind::Nodes(_) => Value::Nodes(Codes::none(alloc)),

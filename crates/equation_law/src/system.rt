@@ -6,6 +6,7 @@ ghost use Rattle.rag_io.specs.Pool.{ArePooled};
 ghost use Rattle.equation_law.specs.Program.{most_replies};
 ghost use Rattle.equation_law.specs.Spans.{AreSpans, IsBelow, IsSpan};
 
+use crate::coding::QueryId;
 use crate::spans::{Span, Spans, spans_of};
 use ast_grammar::{ClassId, Grammar};
 use attr_equations::Rules;
@@ -130,10 +131,10 @@ impl System {
     }
 
     /// A query by its number.
-    pub fn query(&self, n: u32) -> &QueryEq
-        requires { n < length (program_of self.now).queries }
-        ensures { slice_get (program_of self.now).queries n ≡ Some (query_of result.now) }
+    pub fn query(&self, n: QueryId) -> &QueryEq
+        requires { n.0 < length (program_of self.now).queries }
+        ensures { slice_get (program_of self.now).queries n.0 ≡ Some (query_of result.now) }
     {
-        &self.queries.list[n as usize]
+        &self.queries.list[n.0 as usize]
     }
 }

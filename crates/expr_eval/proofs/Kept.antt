@@ -13,7 +13,7 @@ same_single (singles.Truth true) (singles.Truth false) h = cc
 same_single (singles.Truth false) (singles.Truth true) h = cc
 same_single (singles.Truth false) (singles.Truth false) h = refl
 same_single (singles.Int a) (singles.Int b) h = ap singles.Int ((Decides-int_eq a b).0 h)
-same_single (singles.Text a) (singles.Text b) h = ap singles.Text (eqb-true a b h)
+same_single (singles.Text a) (singles.Text b) h = ap (λ k. singles.Text (record { 0 = k })) (eqb-true a.0 b.0 h)
 same_single (singles.Node a) (singles.Node b) h = λ i. singles.Node (record { 0 = eqb-true a.0 b.0 h i })
 same_single _ _ h = cc
 

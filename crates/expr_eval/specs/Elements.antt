@@ -17,7 +17,7 @@ use Rattle.expr_eval.specs.Evaluating.{read_at, texts_in, world_in}
 
 -- the element at a place, by where elements come from
 abbrev pub element_from : System → Origin → ℕ → Value
-element_from s (origins.List n k) i = Node (element_at (world_in s) k (reference_of n.0) (pos i))
+element_from s (origins.List n k) i = Node (element_at (world_in s) k.0 (reference_of n.0) (pos i))
 element_from s (origins.Set xs) i = named (map (single_of (texts_in s)) xs) i
 
 abbrev pub element_in : System → Elements → ℕ → Value

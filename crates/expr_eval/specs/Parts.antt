@@ -82,7 +82,7 @@ IsMadeOfOne s e part whole = value_in s whole ≡ made_of_one (world_in s) e (va
 
 -- the type at which a form reads a token, the token's component, and the part that gives the node
 abbrev pub token_read : TExpr → Option (Kind × ℕ × TExpr)
-token_read (kept.Token' t k p a) = Some (t, k, a)
+token_read (kept.Token' t k p a) = Some (t, k.0, a)
 token_read _ = None
 
 -- the parts of a form that makes its value of those of two
@@ -131,7 +131,7 @@ is_further _ = false
 abbrev pub AreParts : TExpr → Parts → Type 0
 AreParts e parts.Leaf = is_leaf (expression_of e) ≡ true
 AreParts e (parts.One a) = part_of e ≡ Some a.now
-AreParts e (parts.Token t k a) = token_read e ≡ Some (t.now, k.now, a.now)
+AreParts e (parts.Token t k a) = token_read e ≡ Some (t.now, k.now.0, a.now)
 AreParts e (parts.Two a b) = parts_of e ≡ Some (a.now, b.now)
 AreParts e (parts.Over a b) = range_and_body e ≡ Some (a.now, b.now)
 AreParts e parts.Further = is_further (expression_of e) ≡ true

@@ -13,7 +13,7 @@ ghost use Rattle.equation_law.specs.Values.{Node};
 ghost use Rattle.expr_eval.specs.Evaluating.{texts_in, world_in};
 
 use ast_grammar::ClassId;
-use attr_rules::Kind;
+use attr_rules::{Kind, Part};
 use equation_law::{NodeRef, Single, System, Value};
 use rag_io::Memory;
 use set_values::elements;
@@ -33,22 +33,22 @@ pub(crate) fn source(system: &System, number: u32) -> Value
 }
 
 /// The node that hangs at a place of a component of a node, or null where there is none.
-fn child_at(tree: &Tree, node: u32, k: u32, i: u32) -> NodeRef
-    ensures { reference_of result.0 ≡ source_or_null (child_in tree.now node k i) }
+fn child_at(tree: &Tree, node: u32, k: Part, i: u32) -> NodeRef
+    ensures { reference_of result.0 ≡ source_or_null (child_in tree.now node k.0 i) }
 {
     if node >= tree.len() {
         return NodeRef(0);
     }
-    NodeRef::of_source(tree.child(node, k, i))
+    NodeRef::of_source(tree.child(node, k.0, i))
 }
 
 /// How many nodes hang at a component of a node.
 #[tactic(auto, using(crate::proofs::Trees::none_counted))]
-fn count_at(tree: &Tree, node: u32, k: u32) -> u32
-    ensures { result ≡ count_in tree.now node k }
+fn count_at(tree: &Tree, node: u32, k: Part) -> u32
+    ensures { result ≡ count_in tree.now node k.0 }
 {
     if node < tree.len() {
-        tree.count(node, k)
+        tree.count(node, k.0)
     } else {
         0
     }
@@ -56,18 +56,18 @@ fn count_at(tree: &Tree, node: u32, k: u32) -> u32
 
 /// The code of the token of a node at a component, 0 where the component is no token, or None where there is no such node or component.
 #[tactic(auto, using(crate::proofs::Trees::no_code_past, crate::proofs::Trees::no_code_behind))]
-fn code_at(tree: &Tree, node: u32, k: u32) -> Option<u32>
-    ensures { result ≡ token_in tree.now node k }
+fn code_at(tree: &Tree, node: u32, k: Part) -> Option<u32>
+    ensures { result ≡ token_in tree.now node k.0 }
 {
-    if node >= tree.len() || k >= tree.components(node) {
+    if node >= tree.len() || k.0 >= tree.components(node) {
         return None;
     }
-    Some(tree.token(node, k))
+    Some(tree.token(node, k.0))
 }
 
 /// The child, or the optional child, of a receiver at a component, or null.
-pub(crate) fn child(system: &System, k: u32, receiver: NodeRef) -> NodeRef
-    ensures { reference_of result.0 ≡ child_on (world_in system.now) k (reference_of receiver.0) }
+pub(crate) fn child(system: &System, k: Part, receiver: NodeRef) -> NodeRef
+    ensures { reference_of result.0 ≡ child_on (world_in system.now) k.0 (reference_of receiver.0) }
 {
     match receiver.source() {
         Some(node) => child_at(system.tree(), node, k, 0),
@@ -76,15 +76,15 @@ pub(crate) fn child(system: &System, k: u32, receiver: NodeRef) -> NodeRef
 }
 
 /// Whether a receiver has a child at a component; null has none.
-pub(crate) fn has(system: &System, k: u32, receiver: NodeRef) -> bool
-    ensures { result ≡ is_there (child_on (world_in system.now) k (reference_of receiver.0)) }
+pub(crate) fn has(system: &System, k: Part, receiver: NodeRef) -> bool
+    ensures { result ≡ is_there (child_on (world_in system.now) k.0 (reference_of receiver.0)) }
 {
     child(system, k, receiver).source().is_some()
 }
 
 /// The element of a receiver's list at a place, or null where the list doesn't have that place.
-pub(crate) fn element(system: &System, k: u32, receiver: NodeRef, place: i32) -> NodeRef
-    ensures { reference_of result.0 ≡ element_on (world_in system.now) k (reference_of receiver.0) place }
+pub(crate) fn element(system: &System, k: Part, receiver: NodeRef, place: i32) -> NodeRef
+    ensures { reference_of result.0 ≡ element_on (world_in system.now) k.0 (reference_of receiver.0) place }
 {
     match (receiver.source(), u32::try_from(place)) {
         (Some(node), Ok(place)) => child_at(system.tree(), node, k, place),
@@ -93,8 +93,8 @@ pub(crate) fn element(system: &System, k: u32, receiver: NodeRef, place: i32) ->
 }
 
 /// The element of a node's list at a place, or null where there is none.
-fn listed_at(system: &System, owner: NodeRef, k: u32, place: usize) -> NodeRef
-    ensures { reference_of result.0 ≡ element_on (world_in system.now) k (reference_of owner.0) (pos place) }
+fn listed_at(system: &System, owner: NodeRef, k: Part, place: usize) -> NodeRef
+    ensures { reference_of result.0 ≡ element_on (world_in system.now) k.0 (reference_of owner.0) (pos place) }
 {
     let Some(node) = owner.source() else {
         return NodeRef(0);
@@ -140,7 +140,7 @@ impl Singles {
 /// Where elements come from: the list of a node at a component, or a set, of which they are taken.
 #[derive(Drop)]
 pub(crate) enum Origin {
-    List(NodeRef, u32),
+    List(NodeRef, Part),
     Set(Singles),
 }
 
@@ -159,8 +159,8 @@ impl Elements {
     ghost use Rattle.expr_eval.specs.Elements.{element_in, elements_in};
 
     /// The list of a node at a component. Null has no elements.
-    pub(crate) fn of(system: &System, component: u32, owner: NodeRef) -> Elements
-        ensures { elements_in system.now result ≡ elements_on (world_in system.now) component (reference_of owner.0) }
+    pub(crate) fn of(system: &System, component: Part, owner: NodeRef) -> Elements
+        ensures { elements_in system.now result ≡ elements_on (world_in system.now) component.0 (reference_of owner.0) }
     {
         let count = match owner.source() {
             Some(node) => count_at(system.tree(), node, component),
@@ -221,8 +221,8 @@ pub(crate) fn cast(system: &System, class: ClassId, node: NodeRef) -> NodeRef
 }
 
 /// How many elements a receiver's list has; on null there are none.
-pub(crate) fn count(system: &System, k: u32, receiver: NodeRef) -> i32
-    ensures { result ≡ count_on (world_in system.now) k (reference_of receiver.0) }
+pub(crate) fn count(system: &System, k: Part, receiver: NodeRef) -> i32
+    ensures { result ≡ count_on (world_in system.now) k.0 (reference_of receiver.0) }
 {
     match receiver.source() {
         Some(node) => count_at(system.tree(), node, k).cast_signed(),
@@ -242,8 +242,8 @@ fn decoded(alloc: Global, kind: Kind, code: Option<u32>) -> Value
 }
 
 /// The token of a receiver at a component, read at a type; on null it is the type's default. Neither demands anything.
-pub(crate) fn token(alloc: Global, system: &System, kind: Kind, k: u32, receiver: NodeRef) -> Value
-    ensures value { Gives (value_of (texts_in system.now) result) ≡ token_on (world_in system.now) kind k (reference_of receiver.0) }
+pub(crate) fn token(alloc: Global, system: &System, kind: Kind, k: Part, receiver: NodeRef) -> Value
+    ensures value { Gives (value_of (texts_in system.now) result) ≡ token_on (world_in system.now) kind k.0 (reference_of receiver.0) }
     ensures coded { (p : Program) → AreElements p result }
 {
     match receiver.source() {

@@ -11,7 +11,7 @@ ghost use Rattle.expr_eval.specs.Bound.{AreArguments};
 ghost use Rattle.expr_eval.specs.Evaluating.{texts_in};
 
 use crate::evaluation::parameters;
-use attr_rules::{AttrId, Kind, Params};
+use attr_rules::{AttrId, Kind, Params, TextId};
 use equation_law::{Args, Code, EqSite, NodeRef, Single, System};
 use rag_io::Memory;
 use std::alloc::Global;
@@ -30,7 +30,7 @@ fn argument(kind: Kind, code: Code) -> Single
     match kind {
         Kind::Truth => Single::Truth(code != 0),
         Kind::Int => integer(code),
-        Kind::Text => Single::Text(code),
+        Kind::Text => Single::Text(TextId(code)),
         Kind::Node(_) => Single::Node(NodeRef(code)),
         Kind::Texts | Kind::Nodes(_) => Single::Truth(false),
     }

@@ -17,7 +17,7 @@ ghost use Rattle.expr_eval.specs.Saved.{AreRanged, IsFirst, Stands, TakesIn, beg
 use crate::accessors::{Elements, token};
 use crate::parts::{Parts, make_both, make_whole, parts_of, put_leaf};
 use crate::saved::{Making, Saved, Stand, making_of};
-use attr_rules::{AttrId, Kind, Params, Quantifier, SetOperator, TArgs, TExpr};
+use attr_rules::{AttrId, Kind, Params, Part, Quantifier, SetOperator, TArgs, TExpr, TextId};
 use equation_law::{Args, Code, Instance, NodeRef, Reader, Single, System, Value};
 use rag_io::Memory;
 use set_values::set_operate;
@@ -112,12 +112,12 @@ fn is_text(kind: Kind) -> bool
 }
 
 /// The number of a text, which is that of the empty one for a number that no text has.
-fn known_text(system: &System, number: u32) -> Code
+fn known_text(system: &System, number: TextId) -> Code
     ensures within { result < length (program_of system.now).texts }
-    ensures text { texts_in system.now result ≡ texts_in system.now number }
+    ensures text { texts_in system.now result ≡ texts_in system.now number.0 }
 {
-    if number < system.pool().len() {
-        number
+    if number.0 < system.pool().len() {
+        number.0
     } else {
         0
     }
@@ -187,13 +187,13 @@ fn call<R: Reader>(
 fn put_token<R: Reader>(
     context: &Context<'_>,
     kind: Kind,
-    component: u32,
+    component: Part,
     node: NodeRef,
     reader: &mut R,
     came: &mut Result<Value, Halt>,
 )
     requires { IsSound (program_of context.now.system.now) (R.tells reader.old) }
-    ensures { TokenReads (program_of context.now.system.now) (R.tells reader.old) (R.tells reader.new) kind component node.0 came.new }
+    ensures { TokenReads (program_of context.now.system.now) (R.tells reader.old) (R.tells reader.new) kind component.0 node.0 came.new }
 {
     *came = Ok(token(context.alloc, context.system, kind, component, node));
 }

@@ -10,22 +10,26 @@ ghost use Rattle.equation_law.specs.Names.{same_reference};
 ghost use Rattle.equation_law.specs.Values.{Int, Truth, int, truth};
 ghost use Rattle.expr_eval.specs.Evaluating.{value_in};
 
-use attr_rules::Operator;
+use attr_rules::{Operator, TextId};
 use equation_law::{NodeRef, System, Value};
 use rag_io::Pool;
 
 /// The number of a text; one that no text has counts as that of the empty text.
-fn known(pool: &Pool, number: u32) -> u32
-    ensures text { slice_index_or pool.now result [] ≡ slice_index_or pool.now number [] }
-    ensures within { result < length pool.now }
+fn known(pool: &Pool, number: TextId) -> TextId
+    ensures text { slice_index_or pool.now result.0 [] ≡ slice_index_or pool.now number.0 [] }
+    ensures within { result.0 < length pool.now }
     ensures pooled { ArePooled pool.now }
 {
-    if number < pool.len() { number } else { 0 }
+    if number.0 < pool.len() {
+        number
+    } else {
+        TextId(0)
+    }
 }
 
 /// Whether two texts are equal, which are told apart by their numbers.
-fn same_text(pool: &Pool, left: u32, right: u32) -> bool
-    ensures { result ≡ bytes_eq (slice_index_or pool.now left []) (slice_index_or pool.now right []) }
+fn same_text(pool: &Pool, left: TextId, right: TextId) -> bool
+    ensures { result ≡ bytes_eq (slice_index_or pool.now left.0 []) (slice_index_or pool.now right.0 []) }
 {
     known(pool, left) == known(pool, right)
 }

@@ -10,7 +10,7 @@ ghost use Rattle.expr_eval.specs.Parts.{AreParts, IsMade, IsMadeOfOne, IsMadeOfT
 use crate::accessors::{cast, child, count, element, has, is_of, source};
 use crate::evaluation::{Context, Halt};
 use crate::operators::operate;
-use attr_rules::{Kind, TExpr};
+use attr_rules::{Kind, Part, TExpr};
 use code_sets::Codes;
 use equation_law::{NodeRef, Value};
 use rag_io::Memory;
@@ -24,7 +24,7 @@ pub(crate) enum Parts<'a> {
     /// One part.
     One(&'a TExpr),
     /// The token of a node that one part gives: the type at which it is read, and its component. It may demand something itself.
-    Token(&'a Kind, &'a u32, &'a TExpr),
+    Token(&'a Kind, &'a Part, &'a TExpr),
     /// Two parts, of which the first is evaluated first.
     Two(&'a TExpr, &'a TExpr),
     /// What its elements come from, and what it says at each of them.

@@ -16,7 +16,7 @@ use crate::binding::names_of;
 use crate::evaluation::{Context, Halt, attribute_kind, meaning};
 use crate::saved::Saved;
 use attr_rules::{AttrId, EqId, Kind};
-use equation_law::{Args, EqSite, Instance, NodeRef, Reader, System, Value};
+use equation_law::{Args, EqSite, Instance, NodeRef, QueryId, Reader, System, Value};
 use inherited_walk::find_equation;
 use rag_io::Memory;
 use std::alloc::Global;
@@ -43,10 +43,10 @@ impl Turn {
 }
 
 /// The type of a query's values; of one that isn't there, `boolean`.
-fn query_kind(system: &System, query: u32) -> Kind
-    ensures { result ≡ kind_in (program_of system.now) (Query query) }
+fn query_kind(system: &System, query: QueryId) -> Kind
+    ensures { result ≡ kind_in (program_of system.now) (Query query.0) }
 {
-    if query < system.replies() {
+    if query.0 < system.replies() {
         system.query(query).kind()
     } else {
         Kind::Truth
@@ -142,13 +142,13 @@ pub fn evaluate<R: Reader>(
 fn asked<'a, R: Reader>(
     alloc: Global,
     system: &'a System,
-    query: u32,
+    query: QueryId,
     reader: &mut R,
     saved: &mut Saved<'a>,
 ) -> Result<Turn, Memory>
-    requires query { query < length (program_of system.now).queries }
+    requires query { query.0 < length (program_of system.now).queries }
     requires ready { IsReady (program_of system.now) (state system.now (R.tells reader.old) saved.old) }
-    ensures { ResumesQuery system.now (R.tells reader.old) saved.old (R.tells reader.new) saved.new query result }
+    ensures { ResumesQuery system.now (R.tells reader.old) saved.old (R.tells reader.new) saved.new query.0 result }
 {
     let context = Context {
         alloc,
@@ -172,12 +172,12 @@ fn asked<'a, R: Reader>(
 pub fn evaluate_query<R: Reader>(
     alloc: Global,
     system: &System,
-    query: u32,
+    query: QueryId,
     reader: &mut R,
 ) -> Result<Turn, Memory>
-    requires query { query < length (program_of system.now).queries }
+    requires query { query.0 < length (program_of system.now).queries }
     requires sound { IsSound (program_of system.now) (R.tells reader.old) }
-    ensures { EvaluatesQuery (program_of system.now) (R.tells reader.old) (R.tells reader.new) query result }
+    ensures { EvaluatesQuery (program_of system.now) (R.tells reader.old) (R.tells reader.new) query.0 result }
 {
     let mut saved = Saved::new(alloc);
     asked(alloc, system, query, reader, &mut saved)
@@ -264,14 +264,14 @@ fn evaluate_attribute<'a, R: Reader>(
 fn evaluate_asked<'a, R: Reader>(
     alloc: Global,
     system: &'a System,
-    query: u32,
+    query: QueryId,
     reader: &mut R,
     saved: &mut Saved<'a>,
 ) -> Result<Turn, Memory>
     requires { IsReady (program_of system.now) (state system.now (R.tells reader.old) saved.old) }
     ensures { ResumesInstance system.now (R.tells reader.old) saved.old (R.tells reader.new) saved.new (query_at query) result }
 {
-    if query >= system.replies() {
+    if query.0 >= system.replies() {
         return Ok(Turn::Done(Value::Node(NodeRef(0))));
     }
     let turn = asked(alloc, system, query, reader, saved)?;

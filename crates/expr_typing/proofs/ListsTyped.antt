@@ -48,20 +48,20 @@ pub record IsListed (N : Names) (r : Expression) (o : Option Accessor) : Type 0 
   pub class : ClassId
   pub owner : HasType N r (of_class class)
   pub component : Component
-  pub found : component_at N.grammar class.0 list.component ≡ Some component
+  pub found : component_at N.grammar class.0 list.component.0 ≡ Some component
   pub of : list.class ≡ component.class
   pub shaped : component.shape ≡ shapes.List
 
 module _ (s : Scope) (is_scope : IsScope s) (N : Names) (same : N.grammar ≡ s.grammar) (r : Expression) (es : said.Arguments) where
   module _ (c : ClassId) (owner : HasType N r (of_class c)) where
-    listed_read : (k : ℕ) (class : ClassId) (a : Access) (n : ℕ) → IsAccessor s.grammar c.0 (record { component = k; class = class; access = a }) → (length (arguments_of a) == n) ≡ true → is_some (type_read a class) ≡ false
-        → IsListed N (read a k r (first_in es)) (list_called n (members.Reads (record { component = k; class = class; access = a })))
+    listed_read : (k : ℕ) (class : ClassId) (a : Access) (n : ℕ) → IsAccessor s.grammar c.0 (record { component = record { 0 = k }; class = class; access = a }) → (length (arguments_of a) == n) ≡ true → is_some (type_read a class) ≡ false
+        → IsListed N (read a k r (first_in es)) (list_called n (members.Reads (record { component = record { 0 = k }; class = class; access = a })))
     listed_read k class access.Child n x count none = absurd (cc)
     listed_read k class (access.Token t) n x count none = absurd (cc)
     listed_read k class access.Has n x count none = absurd (cc)
     listed_read k class access.Count n x count none = absurd (cc)
     listed_read k class access.Elements n x count none =
-        let list : Accessor = record { component = k; class = class; access = access.Elements } in
+        let list : Accessor = record { component = record { 0 = k }; class = class; access = access.Elements } in
         record {
           list = list;
           is = ap (λ b. if b then Some list else None) count;
@@ -75,7 +75,7 @@ module _ (s : Scope) (is_scope : IsScope s) (N : Names) (same : N.grammar ≡ s.
     listed_read k class access.Element n x count none = absurd (cc)
 
     listed_member : (m : Member) (p : Place) (n : ℕ) → IsMember s c m → (length (arguments_wanted s m) == n) ≡ true → is_some (type_called s m) ≡ false → IsListed N (call_said (Some m) p r es) (list_called n m)
-    listed_member (members.Reads x) p n is count none = listed_read x.component x.class x.access n is count none
+    listed_member (members.Reads x) p n is count none = listed_read x.component.0 x.class x.access n is count none
     listed_member (members.Calls a) p n is count none =
         let typed : type_called s (members.Calls a) ≡ Some (kind_declared is.attribute) = ap (option_map kind_declared) is.declared in
         absurd (let both : true ≡ false = sym (ap is_some typed) ∙ none in cc)

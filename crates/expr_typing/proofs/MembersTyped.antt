@@ -96,11 +96,11 @@ module _ (s : Scope) (is_scope : IsScope s) where
   member_found c name n m e = either_found c name n (accessor_of s.grammar c.0 name n) (attribute_in s name c) m refl refl e
 
   module _ (node : ℕ → Option ClassId) (this : Option ClassId) (c : ClassId) (r : Expression) (es : Arguments) (receiver : HasType (names_at s node this) r (of_class c)) where
-    of_its_class : {a : Access} (k : ℕ) (class : ClassId) (e : Expression) (x : IsAccessor s.grammar c.0 (record { component = k; class = class; access = a })) → HasType (names_at s node this) e (of_class x.component.class) → HasType (names_at s node this) e (of_class class)
+    of_its_class : {a : Access} (k : ℕ) (class : ClassId) (e : Expression) (x : IsAccessor s.grammar c.0 (record { component = record { 0 = k }; class = class; access = a })) → HasType (names_at s node this) e (of_class x.component.class) → HasType (names_at s node this) e (of_class class)
     of_its_class k class e x typed = subst (λ d. HasType (names_at s node this) e (of_class d)) (sym x.class) typed
 
     -- what an accessor reads is typed
-    read_typed : (k : ℕ) (class : ClassId) (a : Access) (n : ℕ) → IsAccessor s.grammar c.0 (record { component = k; class = class; access = a }) → is_elements a ≡ false → (length (arguments_of a) == n) ≡ true
+    read_typed : (k : ℕ) (class : ClassId) (a : Access) (n : ℕ) → IsAccessor s.grammar c.0 (record { component = record { 0 = k }; class = class; access = a }) → is_elements a ≡ false → (length (arguments_of a) == n) ≡ true
         → IsPassed (names_at s node this) (arguments_of a) n es → IsTyped (names_at s node this) (type_read a class) (read a k r (first_in es))
     read_typed k class access.Child n x list count argument =
         of_type (names_at s node this) (of_class class) (said.Child k r) (of_its_class k class (said.Child k r) x (typing.child c k x.component receiver x.found x.shaped))
@@ -122,7 +122,7 @@ module _ (s : Scope) (is_scope : IsScope s) where
     -- what a member says is typed
     pub member_says : (m : Member) (p : Place) (n : ℕ) → IsMember s c m → is_list m ≡ false → (length (arguments_wanted s m) == n) ≡ true → IsPassed (names_at s node this) (arguments_wanted s m) n es
         → IsTyped (names_at s node this) (type_called s m) (call_said (Some m) p r es)
-    member_says (members.Reads x) p n is list count argument = read_typed x.component x.class x.access n is list count argument
+    member_says (members.Reads x) p n is list count argument = read_typed x.component.0 x.class x.access n is list count argument
     member_says (members.Calls a) p n is list count argument = called_typed a p is (argument.passed (eqb-true (length (arguments_wanted s (members.Calls a))) n count))
 
     member_typed : (o : Option Member) (name : Name) (n : ℕ) (first : Place) → member_of s name.text n c ≡ o → member_broken s false o name n first ≡ [] → IsPassed (names_at s node this) (wanted_for s o n) n es

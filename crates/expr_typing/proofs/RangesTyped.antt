@@ -71,16 +71,16 @@ module _ (N : Names) (e : Expression) where
           let typed = inside body in
           let set = set_there u f typed.type typed.is none in
           union_typed (elements.OfList l.list) typed.type (set_is u typed.type typed.is set)
-          (typing.each (kept_kind typed.type) l.class l.list.component l.component typed.type l.owner l.found l.shaped typed.typed set refl)
+          (typing.each (kept_kind typed.type) l.class l.list.component.0 l.component typed.type l.owner l.found l.shaped typed.typed set refl)
       over_list forms.Any body none =
-          of_type N (types.Of kinds.Truth) (said.Quantified quantifiers.Any l.list.component e b)
-          (typing.quantified quantifiers.Any l.class l.list.component l.component l.owner l.found l.shaped (wanted_truth inner u f b (inside body) none))
+          of_type N (types.Of kinds.Truth) (said.Quantified quantifiers.Any l.list.component.0 e b)
+          (typing.quantified quantifiers.Any l.class l.list.component.0 l.component l.owner l.found l.shaped (wanted_truth inner u f b (inside body) none))
       over_list forms.All body none =
-          of_type N (types.Of kinds.Truth) (said.Quantified quantifiers.All l.list.component e b)
-          (typing.quantified quantifiers.All l.class l.list.component l.component l.owner l.found l.shaped (wanted_truth inner u f b (inside body) none))
+          of_type N (types.Of kinds.Truth) (said.Quantified quantifiers.All l.list.component.0 e b)
+          (typing.quantified quantifiers.All l.class l.list.component.0 l.component l.owner l.found l.shaped (wanted_truth inner u f b (inside body) none))
       over_list forms.First body none =
-          let found = typing.quantified quantifiers.First l.class l.list.component l.component l.owner l.found l.shaped (wanted_truth inner u f b (inside body) none) in
-          of_type N (of_class l.list.class) (said.Quantified quantifiers.First l.list.component e b) (subst (λ c. HasType N (said.Quantified quantifiers.First l.list.component e b) (of_class c)) (sym l.of) found)
+          let found = typing.quantified quantifiers.First l.class l.list.component.0 l.component l.owner l.found l.shaped (wanted_truth inner u f b (inside body) none) in
+          of_type N (of_class l.list.class) (said.Quantified quantifiers.First l.list.component.0 e b) (subst (λ c. HasType N (said.Quantified quantifiers.First l.list.component.0 e b) (of_class c)) (sym l.of) found)
 
     module _ (t : ValueType) (k : Kind) (set : HasType N e t) (of : elements_of t ≡ Some k) where
       over_set : (q : Quantifier) → is_none (set_over q t) ≡ false → Body (Some (elements.OfSet k)) → body_misfit N.grammar q u f ≡ [] → Form q (Some (elements.OfSet k))

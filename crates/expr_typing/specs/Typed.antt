@@ -153,7 +153,7 @@ read access.Elements k e i = e
 read access.Element k e i = said.Element k e i
 
 abbrev pub read_by : Accessor → Expression → Expression → Expression
-read_by x e i = read x.access x.component e i
+read_by x e i = read x.access x.component.0 e i
 
 -- what it says that takes no argument: the same, whatever stood in place of one
 abbrev pub SaysAlone : Accessor → Expression → Expression → Type 0
@@ -201,13 +201,13 @@ joined signs.Or a b = said.Or a b
 
 -- what a condition over some elements says, with what has the list, or the set
 abbrev pub condition_over : kept_quantifier.Quantifier → Elements → Expression → Expression → Expression
-condition_over q (elements.OfList x) e b = said.Quantified q x.component e b
+condition_over q (elements.OfList x) e b = said.Quantified q x.component.0 e b
 condition_over q (elements.OfSet k) e b = said.QuantifiedSet q e b
 
 -- what `each` says, whose body is a set of a type, where that is known
 abbrev pub union_over : Option ValueType → Elements → Expression → Expression → Expression
 union_over None o e b = said.Null
-union_over (Some t) (elements.OfList x) e b = said.Each (kept_kind t) x.component e b
+union_over (Some t) (elements.OfList x) e b = said.Each (kept_kind t) x.component.0 e b
 union_over (Some t) (elements.OfSet k) e b = said.EachOfSet (kept_kind t) e b
 
 abbrev pub said_over : Quantifier → Option ValueType → Elements → Expression → Expression → Expression

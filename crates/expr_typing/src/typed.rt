@@ -10,7 +10,7 @@ ghost use Rattle.expr_typing.specs.Typed.{SaysAlone, arguments_in, call_said, fi
 use crate::standing::Prefix;
 use aspect_items::Operator as Sign;
 use ast_grammar::{ClassId, Grammar};
-use attr_rules::{Access, Accessor, Kind, Operator, TArgs, TExpr, ValueType, common};
+use attr_rules::{Access, Accessor, Kind, Operator, Part, TArgs, TExpr, ValueType, common};
 use attr_scope::Member;
 use rag_io::{Memory, Place};
 use std::alloc::Global;
@@ -168,8 +168,8 @@ pub fn type_of_class(class: Option<ClassId>) -> Option<ValueType>
 }
 
 // The element of a receiver's list at a place.
-fn element(alloc: Global, k: u32, receiver: TExpr, place: TExpr) -> Result<TExpr, Memory>
-    ensures { IfOk result (λ e. expression_of e ≡ said.Element k (expression_of receiver) (expression_of place)) }
+fn element(alloc: Global, k: Part, receiver: TExpr, place: TExpr) -> Result<TExpr, Memory>
+    ensures { IfOk result (λ e. expression_of e ≡ said.Element k.0 (expression_of receiver) (expression_of place)) }
 {
     let (receiver, place) = both_boxed(alloc, receiver, place)?;
     Ok(TExpr::Element(k, receiver, place))

@@ -9,7 +9,7 @@ ghost use Rattle.equation_law.specs.Program.{declared_of};
 ghost use Rattle.equation_law.specs.Systems.{program_of};
 ghost use Rattle.inherited_walk.specs.Sites.{FindsEquation, IsFound, index_values};
 
-use attr_rules::{AttrId, Reach};
+use attr_rules::{AttrId, Part, Reach};
 use equation_law::{Args, EqSite, NodeRef, System};
 
 /// Whether an attribute is inherited; one that isn't declared is not.
@@ -68,7 +68,7 @@ pub(crate) fn covering(
     let tree = system.tree();
     let rules = system.rules();
     let class = tree.class_of(parent);
-    let equation = rules.inh_equation(class, tree.hangs_by(node), attr)?;
+    let equation = rules.inh_equation(class, Part(tree.hangs_by(node)), attr)?;
     Some(EqSite {
         equation,
         node: NodeRef::of_source(Some(parent)),

@@ -21,7 +21,7 @@ abbrev pub key_word : Key → ℕ
 key_word (Inst a n) = attribute_word a.0 n.0
 key_word (Arg s c) = argument_word s.0 c
 key_word (Word s w) = set_word s.0 w
-key_word (Query q) = query_word q
+key_word (Query q) = query_word q.0
 
 -- the key is of an attribute, with or without arguments
 abbrev pub is_attribute : ℕ → Bool

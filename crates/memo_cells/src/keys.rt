@@ -3,7 +3,7 @@ ghost use Rattle.std.specs.Prelude.{◌≡◌, ◌≢◌, ◌<◌};
 ghost use Rattle.memo_cells.specs.Keys.{Fits, is_attribute, is_set_word, key_word, start};
 
 use attr_rules::AttrId;
-use equation_law::{Code, NodeRef};
+use equation_law::{Code, NodeRef, QueryId};
 
 /// The place of a cell in the table, from 0 to the number of cells less one.
 #[derive(Clone, Copy, Debug, PartialEq, Eq, Hash)]
@@ -20,7 +20,7 @@ pub enum Key {
     /// One word of the set of what stands in a slot, below 2^29: it has the elements whose codes are 64 times its number and up to 63 more.
     Word { slot: Slot, word: u32 },
     /// A query, by its number.
-    Query(u32),
+    Query(QueryId),
 }
 
 impl Key {
@@ -38,7 +38,7 @@ impl Key {
                 + u64::from(node.0),
             Key::Arg { slot, code } => (1 << 62) + u64::from(slot.0) * (1 << 32) + u64::from(code),
             Key::Word { slot, word } => (3 << 61) + u64::from(slot.0) * (1 << 32) + u64::from(word),
-            Key::Query(query) => (1 << 63) + u64::from(query),
+            Key::Query(query) => (1 << 63) + u64::from(query.0),
         }
     }
 }

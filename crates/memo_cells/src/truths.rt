@@ -14,7 +14,7 @@ use crate::cells::{Cells, Pass};
 use crate::keys::Slot;
 use attr_equations::Rules;
 use attr_rules::{AttrId, Kind};
-use equation_law::System;
+use equation_law::{QueryId, System};
 use rag_io::Memory;
 use std::alloc::Global;
 
@@ -49,7 +49,7 @@ pub(crate) fn truths_of_queries(alloc: Global, system: &System) -> Result<Vec<bo
 {
     let mut list = Vec::new(alloc);
     for query in 0..system.replies() {
-        push(&mut list, is_truth(system.query(query).kind()))?;
+        push(&mut list, is_truth(system.query(QueryId(query)).kind()))?;
     }
     Ok(list)
 }

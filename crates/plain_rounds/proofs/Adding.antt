@@ -33,12 +33,12 @@ one_more texts xs ys n rest e =
     ap (λ zs. map (name_in texts) zs ++ rest) e ∙ ap (λ zs. zs ++ rest) (map-append (name_in texts) xs (n ∷ [])) ∙ append_assoc (map (name_in texts) xs) (name_in texts n ∷ []) rest
 
 -- a query more
-pub query_listed : (texts : ℕ → List ℕ) (xs ys : List Name) (qs : List Asked) (k : ℕ) (all : List Instance) → k < length qs → ys ≡ xs ++ listed.Query k ∷ [] → map (name_in texts) xs ++ query_instances (drop k qs) k ≡ all → map (name_in texts) ys ++ query_instances (drop (k + 1) qs) (k + 1) ≡ all
+pub query_listed : (texts : ℕ → List ℕ) (xs ys : List Name) (qs : List Asked) (k : ℕ) (all : List Instance) → k < length qs → ys ≡ xs ++ listed.Query (record { 0 = k }) ∷ [] → map (name_in texts) xs ++ query_instances (drop k qs) k ≡ all → map (name_in texts) ys ++ query_instances (drop (k + 1) qs) (k + 1) ≡ all
 query_listed texts xs ys qs k all h e i =
     let none : Asked = record { body = Truth false; kind = kinds.Truth } in
     let d = drop_at qs k (get_or qs k none) (slice_get-get_or qs k none h) in
     let r : query_instances (drop k qs) k ≡ Query k ∷ query_instances (drop (k + 1) qs) (k + 1) = ap (λ zs. query_instances zs k) d ∙ ap (λ j. Query k ∷ query_instances (drop (k + 1) qs) j) (sym (add-one k)) in
-    one_more texts xs ys (listed.Query k) (query_instances (drop (k + 1) qs) (k + 1)) e ∙ ap (λ zs. map (name_in texts) xs ++ zs) (sym r) ∙ i
+    one_more texts xs ys (listed.Query (record { 0 = k })) (query_instances (drop (k + 1) qs) (k + 1)) e ∙ ap (λ zs. map (name_in texts) xs ++ zs) (sym r) ∙ i
 
 module _ (texts : ℕ → List ℕ) (s : List (Option ℕ)) (tree : List Node) (class : ClassId) where
   -- the node is of the class or of a subclass

@@ -87,5 +87,5 @@ module _ (p : Program) (q : CodedInstance) (a : AttrId) (n : NodeRef) (xs : Args
       of_code b (g ∙ sym (ap (λ x. x && (is_ordered (kind_in p i) && last)) declared ∙ ap (λ x. x && last) ordered))
 
 -- a query isn't circular
-pub no_query : (p : Program) (q : CodedInstance) (n : ℕ) → q ≡ coded.Query n → false ≡ (equations_of p).circular (instance_of p q)
-no_query p q n is = circular_is p (instance_of p (coded.Query n)) ∙ ap (λ (x : CodedInstance). (equations_of p).circular (instance_of p x)) (sym is)
+pub no_query : (p : Program) (q : CodedInstance) (n : ℕ) → q ≡ coded.Query (record { 0 = n }) → false ≡ (equations_of p).circular (instance_of p q)
+no_query p q n is = circular_is p (instance_of p (coded.Query (record { 0 = n }))) ∙ ap (λ (x : CodedInstance). (equations_of p).circular (instance_of p x)) (sym is)

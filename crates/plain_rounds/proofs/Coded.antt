@@ -80,7 +80,7 @@ module _ (p : Program) where
       let there = class_there p k d.class (class_of p k) refl (sym is ∙ t) in
       (of_attribute d there.class e there.of there.below h.0, (h.1, subst (λ (ks : List Kind). AreCodes p ks (codes_in r)) (sym kinds) h.2), (λ i. Attribute a (m i) ((ap (λ (ks : List Kind). arguments_at (text_of p) ks (codes_in r)) kinds ∙ h.3) i)))
 
-  pub query_coded : (q : ℕ) → q < length p.queries → CodesInstance p (Query q) (Some (coded.Query q))
+  pub query_coded : (q : ℕ) → q < length p.queries → CodesInstance p (Query q) (Some (coded.Query (record { 0 = q })))
   query_coded q h = let there = query_there p.queries q h in (of_query there.0 there.1, tt, refl)
     where
       query_there : (qs : List Asked) (k : ℕ) → k < length qs → (e : Asked) × (slice_get qs k ≡ Some e)

@@ -27,7 +27,7 @@ reference_named (names.Source n) = At (Source n)
 abbrev pub argument_named : (ℕ → List ℕ) → NamedArg → Argument
 argument_named texts (arguments.Truth b) = OfTruth b
 argument_named texts (arguments.Int z) = OfInt z
-argument_named texts (arguments.Text n) = OfText (texts n)
+argument_named texts (arguments.Text n) = OfText (texts n.0)
 argument_named texts (arguments.Node n) = OfNode (reference_named n)
 
 -- arguments by their names, by the texts of a program
@@ -40,7 +40,7 @@ instance_named texts i = Attribute i.attr.0 (reference_named i.node) (map (argum
 
 abbrev pub name_in : (ℕ → List ℕ) → Name → Instance
 name_in texts (listed.Attribute i) = instance_named texts i
-name_in texts (listed.Query q) = Query q
+name_in texts (listed.Query q) = Query q.0
 
 -- the instances of some names, by the texts of a program
 abbrev pub instances_named : Program → List Name → List Instance

@@ -18,7 +18,7 @@ abbrev pub standing : Program → List CodedInstance → List (Option NamedValue
 standing p names values = assigned (map (instance_of p) names) (map (option_map (value_in (text_of p))) values)
 
 abbrev pub name_at : List CodedInstance → ℕ → CodedInstance
-name_at names k = slice_index_or names k (coded.Query 0)
+name_at names k = slice_index_or names k (coded.Query (record { 0 = 0 }))
 
 -- the k-th instance and the k-th value
 abbrev pub named : Program → List CodedInstance → ℕ → Instance

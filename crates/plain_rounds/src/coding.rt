@@ -15,8 +15,8 @@ use crate::listing::is_of;
 use crate::naming::{Name, NamedArg, NamedInstance};
 use crate::values::NodeName;
 use ast_grammar::ClassId;
-use attr_rules::{Kind, Params};
-use equation_law::{Args, Code, Instance, NodeRef, System, Value};
+use attr_rules::{Kind, Params, TextId};
+use equation_law::{Args, Code, Instance, NodeRef, QueryId, System, Value};
 use rag_io::Memory;
 use std::alloc::Global;
 
@@ -46,12 +46,12 @@ fn node_code(system: &System, class: ClassId, node: NodeName) -> Option<Code>
 }
 
 /// The number of a text, which is that of the empty one for a number that no text has.
-fn text_code(system: &System, number: u32) -> Code
+fn text_code(system: &System, number: TextId) -> Code
     ensures within { result < length (program_of system.now).texts }
-    ensures text { text_of (program_of system.now) result ≡ text_of (program_of system.now) number }
+    ensures text { text_of (program_of system.now) result ≡ text_of (program_of system.now) number.0 }
 {
-    if number < system.pool().len() {
-        number
+    if number.0 < system.pool().len() {
+        number.0
     } else {
         0
     }
@@ -109,10 +109,10 @@ fn attribute_code(system: &System, name: &NamedInstance) -> Option<Instance>
 }
 
 /// The code of a query, where the system has it.
-fn query_code(system: &System, query: u32) -> Option<Instance>
-    ensures { CodesInstance (program_of system.now) (Query query) result }
+fn query_code(system: &System, query: QueryId) -> Option<Instance>
+    ensures { CodesInstance (program_of system.now) (Query query.0) result }
 {
-    if query < system.replies() {
+    if query.0 < system.replies() {
         Some(Instance::Query(query))
     } else {
         None

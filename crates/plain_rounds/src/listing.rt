@@ -14,7 +14,7 @@ use crate::naming::{Name, NamedArgs, NamedInstance};
 use crate::values::NodeName;
 use ast_grammar::{ClassId, Grammar};
 use attr_rules::{Attr, AttrId};
-use equation_law::System;
+use equation_law::{QueryId, System};
 use rag_io::Memory;
 use std::alloc::Global;
 use tree_arena::Tree;
@@ -105,7 +105,7 @@ pub(crate) fn push_queries(names: &mut Vec<Name>, system: &System) -> Result<(),
     ensures few { length names.new.items ≤ length names.old.items + most_replies }
 {
     for query in 0..system.replies() {
-        push(names, Name::Query(query))?;
+        push(names, Name::Query(QueryId(query)))?;
     }
     Ok(())
 }

@@ -2,7 +2,8 @@
 ghost use Rattle.std.specs.Prelude.{◌≡◌, ◌≤◌, length};
 
 use crate::values::NodeName;
-use attr_rules::AttrId;
+use attr_rules::{AttrId, TextId};
+use equation_law::QueryId;
 use std::marker::Model;
 
 /// An argument of a call: a truth value, an integer, a text by its number in the pool, or a node by its name.
@@ -10,7 +11,7 @@ use std::marker::Model;
 pub enum NamedArg {
     Truth(bool),
     Int(i32),
-    Text(u32),
+    Text(TextId),
     Node(NodeName),
 }
 
@@ -60,5 +61,5 @@ pub struct NamedInstance {
 #[derive(Drop)]
 pub(crate) enum Name {
     Attribute(NamedInstance),
-    Query(u32),
+    Query(QueryId),
 }

@@ -4,6 +4,7 @@ ghost use Rattle.equation_law.specs.Codes.{reference_of};
 ghost use Rattle.equation_law.specs.Values.{Truth, Int, Text, Node};
 ghost use Rattle.plain_rounds.specs.Named.{value_in, reference_named, IsNoTruth, IsNoInt, IsNoText, IsNoNode};
 
+use attr_rules::TextId;
 use equation_law::{NodeRef, Value};
 use rag_io::Memory;
 
@@ -58,8 +59,8 @@ impl NamedValue {
     }
 
     /// The number of the text in the pool, or None exactly where the value is of another kind.
-    pub fn text(&self) -> Option<u32>
-        ensures { (texts : ℕ → List ℕ) → MatchOption result (IsNoText (value_in texts self.now)) (λ n. value_in texts self.now ≡ Text (texts n)) }
+    pub fn text(&self) -> Option<TextId>
+        ensures { (texts : ℕ → List ℕ) → MatchOption result (IsNoText (value_in texts self.now)) (λ n. value_in texts self.now ≡ Text (texts n.0)) }
     {
         match &self.value {
             Value::Text(number) => Some(*number),

@@ -16,7 +16,7 @@ reference_text (At n) = node_text n
 abbrev pub single_text : (ℕ → List ℕ) → Single → List ℕ
 single_text texts (single.Truth b) = truth_text b
 single_text texts (single.Int z) = signed_decimal z
-single_text texts (single.Text n) = quoted (texts n)
+single_text texts (single.Text n) = quoted (texts n.0)
 single_text texts (single.Node n) = reference_text (reference_of n.0)
 
 -- the text of an element, behind a comma and a space where others stand before it

@@ -8,6 +8,7 @@ ghost use Rattle.equation_law.specs.Systems.{program_of};
 ghost use Rattle.query_lang.specs.Replies.{AddsReply, AddsText, in_braces, joined, truth_text};
 ghost use Rattle.query_lang.specs.Singles.{element_text, reference_text, single_text};
 
+use attr_rules::TextId;
 use equation_law::{NodeRef, Single, System, Value};
 use rag_io::{Memory, push_quoted};
 use set_values::elements;
@@ -37,18 +38,18 @@ fn add_int(alloc: Global, text: &mut Vec<u8>, int: i32) -> Result<(), Memory>
 }
 
 // The text of a number; of a number that no text has, the empty one.
-fn text_of(system: &System, number: u32) -> &[u8]
-    ensures { result.now ≡ text_in (program_of system.now) number }
+fn text_of(system: &System, number: TextId) -> &[u8]
+    ensures { result.now ≡ text_in (program_of system.now) number.0 }
 {
-    if number < system.pool().len() {
-        system.pool().get(number)
+    if number.0 < system.pool().len() {
+        system.pool().get(number.0)
     } else {
         &[]
     }
 }
 
-fn add_text(system: &System, text: &mut Vec<u8>, number: u32) -> Result<(), Memory>
-    ensures { OnOk result (text.new.items ≡ text.old.items ++ quoted (text_in (program_of system.now) number)) }
+fn add_text(system: &System, text: &mut Vec<u8>, number: TextId) -> Result<(), Memory>
+    ensures { OnOk result (text.new.items ≡ text.old.items ++ quoted (text_in (program_of system.now) number.0)) }
 {
     push_quoted(text, text_of(system, number))
 }

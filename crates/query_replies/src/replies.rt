@@ -12,7 +12,7 @@ ghost use Rattle.query_replies.specs.Replies.{AreReplies};
 ghost use Rattle.query_replies.specs.Replies.{AddsAnswer};
 
 use caller_pass::{AskFault, Notebook, Steps, ask_noted};
-use equation_law::{Instance, System};
+use equation_law::{Instance, QueryId, System};
 use memo_cells::{Cells, Pass};
 use query_lang::add_reply;
 use rag_io::{Gate, Memory};
@@ -55,7 +55,7 @@ fn add_answer<L: Ledger>(
     cells: &Cells,
     pass: &mut Pass,
     notes: &mut Notebook,
-    query: u32,
+    query: QueryId,
     text: &mut Vec<u8>,
     evals: &mut Steps<L>,
 ) -> Result<(), ReplyFault>
@@ -63,13 +63,13 @@ fn add_answer<L: Ledger>(
     requires same { cells.now.system.value ≡ system.now }
     requires own { IsPassOf cells.now pass.old }
     requires notes { IsNotebookOf system.now pass.old notes.old }
-    requires query { query < length (program_of system.now).queries }
+    requires query { query.0 < length (program_of system.now).queries }
     ensures own { IsPassOf cells.now pass.new }
     ensures kept { IsAtLeast pass.old pass.new }
     ensures notes { IsNotebookOf system.now pass.new notes.new }
-    ensures claims { ClaimsKeys (program_of system.now) (Query query) pass.old pass.new }
-    ensures line { OnOk result (AddsAnswer (program_of system.now) query text.old.items text.new.items) }
-    ensures full { result ≡ Err ReplyFault.Cells → FillsCells (program_of system.now) (Query query) cells.now pass.new }
+    ensures claims { ClaimsKeys (program_of system.now) (Query query.0) pass.old pass.new }
+    ensures line { OnOk result (AddsAnswer (program_of system.now) query.0 text.old.items text.new.items) }
+    ensures full { result ≡ Err ReplyFault.Cells → FillsCells (program_of system.now) (Query query.0) cells.now pass.new }
 {
     let asked = Instance::Query(query);
     match ask_noted(alloc, system, cells, pass, notes, &asked, evals) {
@@ -102,7 +102,14 @@ fn add_answers<L: Ledger, G: Gate>(
     let mut text = Vec::new(alloc);
     'replies: for query in 0..system.replies() {
         add_answer(
-            alloc, system, cells, pass, &mut notes, query, &mut text, &mut evals,
+            alloc,
+            system,
+            cells,
+            pass,
+            &mut notes,
+            QueryId(query),
+            &mut text,
+            &mut evals,
         )?;
         gate.reached(0, query);
     }

@@ -4,7 +4,7 @@ ghost use Rattle.memo_cells.specs.Standing.{IsPassOf};
 
 use crate::programs::{Texts, system_said};
 use attr_rules::AttrId;
-use equation_law::{Code, NodeRef, System, Value};
+use equation_law::{Code, NodeRef, QueryId, System, Value};
 use memo_cells::{Cells, Key, Pass, Slot, codes_of};
 use program_reader::Refusal;
 use rag_io::Memory;
@@ -66,8 +66,8 @@ fn claim_query(
     if query >= system.replies() {
         return None;
     }
-    let before = cells.seek(pass, Key::Query(query));
-    let slot = cells.claim(pass, Key::Query(query)).ok()?;
+    let before = cells.seek(pass, Key::Query(QueryId(query)));
+    let slot = cells.claim(pass, Key::Query(QueryId(query))).ok()?;
     let settled = cells.settled(pass, slot);
     Some((before, slot, settled, cells.word(pass, slot, 0)))
 }

@@ -9,7 +9,7 @@ use crate::demand::asked;
 use crate::programs::{Texts, system_said};
 use crate::sweeps::{Counting, first_circular};
 use caller_pass::{Desk, Steps, ask};
-use equation_law::{Instance, Single, System};
+use equation_law::{Instance, QueryId, Single, System};
 use memo_cells::{Cells, Pass};
 use program_reader::Refusal;
 use rag_io::Memory;
@@ -184,7 +184,7 @@ fn circular_asked(alloc: Global, system: &System) -> Result<Option<Instance>, Me
         desk: Desk::new(alloc, system, &cells, &mut pass),
         demands: 0,
     };
-    first_circular(alloc, system, &mut work, Instance::Query(0))
+    first_circular(alloc, system, &mut work, Instance::Query(QueryId(0)))
 }
 
 // How many evaluations it takes to ask twice for the circular instance that the first query leads to.

@@ -7,7 +7,7 @@ ghost use Rattle.memo_cells.specs.Standing.{IsPassOf, Knows};
 
 use crate::programs::{Long, NOTHING, Texts, long_text, system_said};
 use caller_pass::{AskFault, Steps, ask};
-use equation_law::{Instance, Single, System};
+use equation_law::{Instance, QueryId, Single, System};
 use memo_cells::{Cells, Pass};
 use program_reader::Refusal;
 use query_replies::{ReplyFault, reply_lines};
@@ -41,7 +41,8 @@ pub(crate) fn asked<L: Ledger>(
     if query >= system.replies() {
         return (None, false);
     }
-    match ask(alloc, system, cells, pass, &Instance::Query(query), evals) {
+    let i = Instance::Query(QueryId(query));
+    match ask(alloc, system, cells, pass, &i, evals) {
         Ok(value) => (value.single(), false),
         Err(AskFault::CellsFull) => (None, true),
         Err(_) => (None, false),
@@ -208,7 +209,7 @@ fn asked_twice<L: Ledger>(
 {
     let (cells, mut pass) = Cells::new(alloc, system, 1024)?;
     let mut evals = Steps::<L>::new(blank);
-    let i = Instance::Query(0);
+    let i = Instance::Query(QueryId(0));
     match ask(alloc, system, &cells, &mut pass, &i, &mut evals) {
         Ok(value) => {
             let again = ask_again(alloc, system, &cells, &mut pass, &i, &mut evals);

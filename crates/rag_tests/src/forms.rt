@@ -5,10 +5,10 @@ ghost use Rattle.equation_law.specs.Program.{most_replies};
 use crate::programs::{grammar_of, tree_of};
 use ast_grammar::{ClassId, Grammar};
 use attr_equations::Rules;
-use attr_rules::{Attributes, Dispatch, Kind, Operator, QueryEq, SetOperator, TExpr};
+use attr_rules::{Attributes, Dispatch, Kind, Operator, Part, QueryEq, SetOperator, TExpr, TextId};
 use broken_rules::ReadFault;
 use code_sets::Codes;
-use equation_law::{Instance, NodeRef, Queries, Reader, Single, System, Value};
+use equation_law::{Instance, NodeRef, Queries, QueryId, Reader, Single, System, Value};
 use expr_eval::{Turn, evaluate_query};
 use rag_io::Memory;
 use set_values::{set_operate, size};
@@ -59,7 +59,7 @@ type Failed = AllocFailed<TExpr>;
 
 // The set of one text.
 fn single(alloc: Global, text: u32) -> Result<Box<TExpr>, Failed> {
-    let text = Box::new(alloc, TExpr::Text(text))?;
+    let text = Box::new(alloc, TExpr::Text(TextId(text)))?;
     Box::new(alloc, TExpr::Single(text))
 }
 
@@ -68,7 +68,7 @@ fn of_texts(alloc: Global, form: &Form, first: u32, second: u32) -> Result<TExpr
     match form {
         Form::Contains => {
             let set = single(alloc, first)?;
-            let other = Box::new(alloc, TExpr::Text(second))?;
+            let other = Box::new(alloc, TExpr::Text(TextId(second)))?;
             Ok(TExpr::Contains(set, other))
         }
         Form::Both => {
@@ -78,8 +78,8 @@ fn of_texts(alloc: Global, form: &Form, first: u32, second: u32) -> Result<TExpr
             Ok(TExpr::Size(Box::new(alloc, both)?))
         }
         _ => {
-            let text = Box::new(alloc, TExpr::Text(first))?;
-            let other = Box::new(alloc, TExpr::Text(second))?;
+            let text = Box::new(alloc, TExpr::Text(TextId(first)))?;
+            let other = Box::new(alloc, TExpr::Text(TextId(second)))?;
             Ok(TExpr::Binary(Operator::Equal, text, other))
         }
     }
@@ -89,16 +89,16 @@ fn expression(alloc: Global, form: &Form, k: u32, n: u32) -> Result<TExpr, Faile
     let owner = Box::new(alloc, TExpr::Source(n))?;
     match form {
         Form::Same | Form::Contains | Form::Both => of_texts(alloc, form, k, n),
-        Form::Child => Ok(TExpr::Child(k, owner)),
-        Form::Has => Ok(TExpr::Has(k, owner)),
+        Form::Child => Ok(TExpr::Child(Part(k), owner)),
+        Form::Has => Ok(TExpr::Has(Part(k), owner)),
         Form::Element(place) => {
             let place = Box::new(alloc, TExpr::Int(*place))?;
-            Ok(TExpr::Element(k, owner, place))
+            Ok(TExpr::Element(Part(k), owner, place))
         }
-        Form::Count => Ok(TExpr::Count(k, owner)),
-        Form::Token(kind) => Ok(TExpr::Token(*kind, k, owner)),
+        Form::Count => Ok(TExpr::Count(Part(k), owner)),
+        Form::Token(kind) => Ok(TExpr::Token(*kind, Part(k), owner)),
         Form::Each => {
-            let each = TExpr::Each(Kind::Texts, k, owner, single(alloc, 1)?);
+            let each = TExpr::Each(Kind::Texts, Part(k), owner, single(alloc, 1)?);
             Ok(TExpr::Size(Box::new(alloc, each)?))
         }
         Form::Cast(class) => Ok(TExpr::Cast(*class, owner)),
@@ -137,10 +137,10 @@ const FORMS: [(Form, u32, u32, Single); 34] = [
     (Form::Count, 0, 1, Single::Int(0)),
     (Form::Count, 3, 1, Single::Int(0)),
     (Form::Count, 3, 9, Single::Int(0)),
-    (Form::Token(Kind::Text), 1, 2, Single::Text(2)),
+    (Form::Token(Kind::Text), 1, 2, Single::Text(TextId(2))),
     (Form::Token(Kind::Int), 0, 0, Single::Int(0)),
     (Form::Token(Kind::Int), 3, 1, Single::Int(0)),
-    (Form::Token(Kind::Text), 1, 9, Single::Text(0)),
+    (Form::Token(Kind::Text), 1, 9, Single::Text(TextId(0))),
     (Form::Each, 3, 0, Single::Int(1)),
     (Form::Each, 3, 1, Single::Int(0)),
     (Form::Cast(ClassId(1)), 0, 9, NULL),
@@ -183,7 +183,7 @@ fn system_of(alloc: Global, queries: Vec<QueryEq>) -> Result<System, ReadFault>
 // The first of these expressions that has another value.
 fn other_form(alloc: Global, system: &System) -> Result<Option<u32>, Memory> {
     for query in 0..system.replies() {
-        let turn = evaluate_query(alloc, system, query, &mut Nothing)?;
+        let turn = evaluate_query(alloc, system, QueryId(query), &mut Nothing)?;
         let is_value = match (&turn, FORMS.get(query as usize)) {
             (Turn::Done(value), Some((_, _, _, want))) => value.single() == Some(*want),
             _ => false,
@@ -241,7 +241,10 @@ fn kept_query() -> (Kind, bool) {
 
 #[test]
 fn other_values_have_no_elements(rt: HostRuntime) {
-    let sizes = (size(&Value::Text(1)), size(&Value::Node(NodeRef(1))));
+    let sizes = (
+        size(&Value::Text(TextId(1))),
+        size(&Value::Node(NodeRef(1))),
+    );
     let found = (other_pair(rt.alloc()), sizes, kept_query());
     assert_eq!(rt; found, (Ok(None), (0, 0), (Kind::Node(ClassId(3)), true)));
 }

@@ -9,8 +9,8 @@ use crate::programs::grammar_of;
 use ast_grammar::{ClassId, Grammar};
 use attr_equations::{KeptEquation, Rules};
 use attr_rules::{
-    Attr, AttrId, Attributes, Dispatch, EqId, Kind, NamedAttr, Params, Reach, Sort, Start, TExpr,
-    Target, ValueType, accessor_of, is_spelled,
+    Attr, AttrId, Attributes, Dispatch, EqId, Kind, NamedAttr, Params, Part, Reach, Sort, Start,
+    TExpr, Target, ValueType, accessor_of, is_spelled,
 };
 use broken_rules::ReadFault;
 use std::alloc::{AllocError, Global};
@@ -89,7 +89,7 @@ const TARGETS: [Target; 8] = [
     },
     Target {
         class: ClassId(0),
-        reach: Reach::Component(0),
+        reach: Reach::Component(Part(0)),
         attribute: AttrId(1),
     },
     Target {
@@ -99,17 +99,17 @@ const TARGETS: [Target; 8] = [
     },
     Target {
         class: ClassId(2),
-        reach: Reach::Component(1),
+        reach: Reach::Component(Part(1)),
         attribute: AttrId(1),
     },
     Target {
         class: ClassId(0),
-        reach: Reach::Component(0),
+        reach: Reach::Component(Part(0)),
         attribute: AttrId(3),
     },
     Target {
         class: ClassId(0),
-        reach: Reach::Component(0),
+        reach: Reach::Component(Part(0)),
         attribute: AttrId(1),
     },
     Target {
@@ -283,7 +283,7 @@ const NUMBERED: [(u16, u32, u16, Numbered); 23] = [
 fn other_number(rules: &Rules) -> Option<(u16, u32, u16)> {
     for (class, component, attribute, want) in &NUMBERED {
         let (at, of) = (ClassId(*class), AttrId(*attribute));
-        let covering = rules.inh_equation(at, *component, of);
+        let covering = rules.inh_equation(at, Part(*component), of);
         let own = rules.syn_equation(at, of);
         let first = rules.attributes().first_of_name(of);
         if (covering, own, first) != *want {

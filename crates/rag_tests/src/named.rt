@@ -5,7 +5,7 @@ ghost use Rattle.equation_law.specs.Systems.{program_of};
 
 use crate::forms::Nothing;
 use crate::programs::{Texts, system_said};
-use attr_rules::{AttrId, EqId};
+use attr_rules::{AttrId, EqId, TextId};
 use broken_rules::ReadFault;
 use collection_attrs::is_collection;
 use equation_law::{Args, EqSite, Instance, NodeRef, System, Value};
@@ -42,7 +42,7 @@ const ROOT: NodeName = NodeName::Source(0);
 const SECOND: NodeName = NodeName::Source(2);
 
 // What a value is, by its accessors.
-type Seen = (Option<bool>, Option<i32>, Option<u32>, Option<NodeName>);
+type Seen = (Option<bool>, Option<i32>, Option<TextId>, Option<NodeName>);
 
 // An instance: an attribute, a node and arguments.
 type Row = (AttrId, NodeName, &'static [NamedArg]);
@@ -53,9 +53,9 @@ const INSTANCES: [Row; 10] = [
     (D, ROOT, &[NamedArg::Int(1)]),
     (D, ROOT, &[NamedArg::Int(0)]),
     (D, ROOT, &[NamedArg::Int(3)]),
-    (T, ROOT, &[NamedArg::Text(1)]),
-    (T, ROOT, &[NamedArg::Text(0)]),
-    (T, ROOT, &[NamedArg::Text(9)]),
+    (T, ROOT, &[NamedArg::Text(TextId(1))]),
+    (T, ROOT, &[NamedArg::Text(TextId(0))]),
+    (T, ROOT, &[NamedArg::Text(TextId(9))]),
     (N, ROOT, &[NamedArg::Node(SECOND)]),
     (N, ROOT, &[NamedArg::Node(NodeName::Null)]),
     (B, ROOT, &[NamedArg::Truth(true), NamedArg::Int(2)]),
@@ -67,9 +67,9 @@ const VALUES: [(u32, Seen); 10] = [
     (3, (None, Some(1), None, None)),
     (4, (None, Some(0), None, None)),
     (5, (None, None, None, None)),
-    (6, (None, None, Some(2), None)),
-    (7, (None, None, Some(0), None)),
-    (8, (None, None, Some(0), None)),
+    (6, (None, None, Some(TextId(2)), None)),
+    (7, (None, None, Some(TextId(0)), None)),
+    (8, (None, None, Some(TextId(0)), None)),
     (9, (None, None, None, Some(SECOND))),
     (10, (None, None, None, Some(NodeName::Null))),
     (11, (Some(true), None, None, None)),

@@ -12,7 +12,7 @@ use attr_rules::AttrId;
 use caller_pass::{Desk, Steps, ask};
 use circular_eval::{CircTurn, Local, advance};
 use collection_attrs::is_collection;
-use equation_law::{Args, Instance, NodeRef, Reader, System, Value};
+use equation_law::{Args, Instance, NodeRef, QueryId, Reader, System, Value};
 use expr_eval::{Saved, Turn, is_declared, resume_instance};
 use memo_cells::{Cells, CellsFull, Key, Slot, Words, Work};
 use program_reader::Refusal;
@@ -187,7 +187,7 @@ fn go_on_twice<L: Ledger>(
     }
     let (cells, mut pass) = Cells::new(alloc, system, 65536)?;
     let mut evals = Steps::<L>::new(blank);
-    let known = Instance::Query(0);
+    let known = Instance::Query(QueryId(0));
     if ask(alloc, system, &cells, &mut pass, &known, &mut evals).is_err() {
         return Ok(None);
     }
@@ -195,7 +195,7 @@ fn go_on_twice<L: Ledger>(
         desk: Desk::new(alloc, system, &cells, &mut pass),
         demands: 0,
     };
-    let asked = Instance::Query(1);
+    let asked = Instance::Query(QueryId(1));
     let Some(start) = first_circular(alloc, system, &mut work, asked)? else {
         return Ok(None);
     };

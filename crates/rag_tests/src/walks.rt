@@ -10,7 +10,7 @@ use crate::sweeps::Counting;
 use attr_rules::AttrId;
 use caller_pass::{Desk, Steps, ask};
 use collection_attrs::{Offers, Survey, collector_of, root_of};
-use equation_law::{Args, Instance, NodeRef, System};
+use equation_law::{Args, Instance, NodeRef, QueryId, System};
 use expr_eval::{Saved, Turn};
 use memo_cells::Cells;
 use program_reader::Refusal;
@@ -114,7 +114,7 @@ fn known_first<L: Ledger>(
     }
     let (cells, mut pass) = Cells::new(alloc, system, 65536)?;
     let mut evals = Steps::<L>::new(blank);
-    let known = Instance::Query(0);
+    let known = Instance::Query(QueryId(0));
     if ask(alloc, system, &cells, &mut pass, &known, &mut evals).is_err() {
         return Ok(None);
     }

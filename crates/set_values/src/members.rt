@@ -9,18 +9,19 @@ ghost use Rattle.equation_law.specs.Systems.{program_of};
 ghost use Rattle.equation_law.specs.Values as spec;
 ghost use Rattle.set_values.specs.CodedSets.{WhereCoded, nodes_set, text_set};
 
+use attr_rules::TextId;
 use code_sets::{Code, Codes};
 use equation_law::{NodeRef, System, Value};
 use rag_io::Memory;
 use std::alloc::Global;
 
 /// The number of a text, which is that of the empty one for a number that no text has.
-pub fn known_text(system: &System, number: Code) -> Code
+pub fn known_text(system: &System, number: TextId) -> Code
     ensures within { result < length (program_of system.now).texts }
-    ensures text { text_of (program_of system.now) result ≡ text_of (program_of system.now) number }
+    ensures text { text_of (program_of system.now) result ≡ text_of (program_of system.now) number.0 }
 {
-    if number < system.pool().len() {
-        number
+    if number.0 < system.pool().len() {
+        number.0
     } else {
         0
     }
@@ -39,9 +40,9 @@ pub fn single_set(alloc: Global, system: &System, value: &Value) -> Result<Value
 }
 
 /// Whether a text is one of some texts.
-fn has_text(system: &System, codes: &Codes, number: Code) -> bool
+fn has_text(system: &System, codes: &Codes, number: TextId) -> bool
     requires { All (λ c. c < length (program_of system.now).texts) codes.now }
-    ensures { result ≡ has (text_set (program_of system.now) codes.now) (text_of (program_of system.now) number) }
+    ensures { result ≡ has (text_set (program_of system.now) codes.now) (text_of (program_of system.now) number.0) }
 {
     codes.has(known_text(system, number))
 }

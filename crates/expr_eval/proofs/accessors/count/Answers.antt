@@ -13,5 +13,5 @@ returns-in-Some c =
     let system = c.args.system.now in
     let n = c.count_at.result in
     ap (λ (z : ℤ). to_z w32 (of_z w32 z)) c.cast_signed.ensures ∙ ap (to_z w32) (of_z-to_z w32 n c.count_at.type_inv) ∙ signed n c.count_at.type_inv
-    ∙ ap (λ (m : ℕ). int_wrap w32 (pos m)) (c.count_at.ensures ∙ ap (λ (nodes : List Node). count_in nodes c.in-Some.node c.args.k) c.tree.ensures)
-    ∙ ap (count_at (world_in system) c.args.k) c.in-Some.ensures
+    ∙ ap (λ (m : ℕ). int_wrap w32 (pos m)) (c.count_at.ensures ∙ ap (λ (nodes : List Node). count_in nodes c.in-Some.node c.args.k.0) c.tree.ensures)
+    ∙ ap (count_at (world_in system) c.args.k.0) c.in-Some.ensures

@@ -10,5 +10,5 @@ use Rattle.expr_eval.proofs.operators.equal.Goals as goal
 pub returns-in-Text : goal.returns-in-Text
 returns-in-Text c =
     let texts = texts_in c.args.system.now in
-    c.same_text.ensures ∙ ap (λ (pool : List (List ℕ)). bytes_eq (get_or pool c.in-Text.number []) (get_or pool c.text.result [])) c.pool.ensures
-    ∙ ap (bytes_eq (texts c.in-Text.number)) (c.text.ensures (source_names texts) (first_text c.args.system.now)) ∙ ap (λ v. equal (value_of texts v) (value_of texts c.args.right.now)) (sym c.in-Text.is)
+    c.same_text.ensures ∙ ap (λ (pool : List (List ℕ)). bytes_eq (get_or pool c.in-Text.number.0 []) (get_or pool c.text.result.0 [])) c.pool.ensures
+    ∙ ap (bytes_eq (texts c.in-Text.number.0)) (c.text.ensures (source_names texts) (first_text c.args.system.now)) ∙ ap (λ v. equal (value_of texts v) (value_of texts c.args.right.now)) (sym c.in-Text.is)

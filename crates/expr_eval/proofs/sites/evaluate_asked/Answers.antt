@@ -8,15 +8,15 @@ use Rattle.expr_eval.proofs.Found.{asked_evaluated, failed, none_evaluated, past
 use Rattle.expr_eval.proofs.sites.evaluate_asked.Goals as goal
 
 pub returns-then-query-replies : goal.returns-then-query-replies
-returns-then-query-replies g c = let p = program_of c.args.system.now in none_evaluated p _ (Query c.args.query) _ c.requires refl (past_query p c.args.query (omega (arith, c.replies.ensures.number, c.if-query-replies.true))) refl
+returns-then-query-replies g c = let p = program_of c.args.system.now in none_evaluated p _ (Query c.args.query.0) _ c.requires refl (past_query p c.args.query.0 (omega (arith, c.replies.ensures.number, c.if-query-replies.true))) refl
 
 pub returns : goal.returns
 returns g c =
-    asked_evaluated (program_of c.args.system.now) _ _ c.args.query (query_of c.query.result.now) c.kind.result c.in_ok-turn.turn c.read_as.result (first_text c.args.system.now) c.query.ensures c.kind.ensures
+    asked_evaluated (program_of c.args.system.now) _ _ c.args.query.0 (query_of c.query.result.now) c.kind.result c.in_ok-turn.turn c.read_as.result (first_text c.args.system.now) c.query.ensures c.kind.ensures
     (c.in_ok-turn.ensures (query_of c.query.result.now) c.query.ensures) c.read_as.ensures
 
 pub returns-in_err-turn : goal.returns-in_err-turn
 returns-in_err-turn g c =
     let p = program_of c.args.system.now in
-    let q = there p.queries c.args.query (omega (arith, c.replies.ensures.number, c.if-query-replies.false)) in
+    let q = there p.queries c.args.query.0 (omega (arith, c.replies.ensures.number, c.if-query-replies.false)) in
     failed p _ _ _ _ (c.in_err-turn.ensures q.0 q.1).kept c.from_residual.ensures.0

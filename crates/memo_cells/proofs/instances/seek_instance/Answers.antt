@@ -15,11 +15,11 @@ returns-in-Attr-clause-none g c =
     subst (λ (i : CodedInstance). IsCoded (program_at d) i → IfNone c.seek_attribute.result ((s : ℕ) → ¬ IsCellOf (program_at d) d.frame e.view (instance_of (program_at d) i) s)) (sym c.in-Attr.is) c.seek_attribute.ensures.none
 
 pub returns-in-Query-clause-cell : goal.returns-in-Query-clause-cell
-returns-in-Query-clause-cell g c = some_then c.seek.result (λ slot at. query_held (g.W.Words.held c.args.work.now) (g.W.Words.held c.seek.new.self) c.in-Query.query slot.0 (search rules) c.seek.ensures.on at) c.seek.ensures.slot
+returns-in-Query-clause-cell g c = some_then c.seek.result (λ slot at. query_held (g.W.Words.held c.args.work.now) (g.W.Words.held c.seek.new.self) c.in-Query.query.0 slot.0 (search rules) c.seek.ensures.on at) c.seek.ensures.slot
 
 pub returns-in-Query-clause-cause : goal.returns-in-Query-clause-cause
 returns-in-Query-clause-cause g c =
     let d = g.W.Words.held c.args.work.now in
     let e = g.W.Words.held c.seek.new.self in
     subst (λ (i : CodedInstance). WhyNoCell d e i c.seek.result) (sym c.in-Query.is)
-    (λ coded. none_then c.seek.result (λ why. (query_word c.in-Query.query, query_key (program_at d) e.view c.in-Query.query (search rules), why)) c.seek.ensures.cause)
+    (λ coded. none_then c.seek.result (λ why. (query_word c.in-Query.query.0, query_key (program_at d) e.view c.in-Query.query.0 (search rules), why)) c.seek.ensures.cause)

@@ -7,7 +7,7 @@ use Rattle.plain_rounds.proofs.circular.is_circular.Goals as goal
 use Rattle.plain_rounds.proofs.circular.is_circular.Goals.{then-is_circular, else-is_circular}
 
 pub returns-in-Query : goal.returns-in-Query
-returns-in-Query c = no_query (program_of c.args.system.now) c.args.name.now c.in-Query.field-0 c.in-Query.is
+returns-in-Query c = no_query (program_of c.args.system.now) c.args.name.now c.in-Query.field-0.0 c.in-Query.is
 
 pub returns-then-is_ordered : goal.returns-then-is_ordered
 returns-then-is_ordered c =

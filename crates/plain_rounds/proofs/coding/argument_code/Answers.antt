@@ -26,7 +26,7 @@ returns-in-Int-Int c =
 pub returns-in-Text-Text : goal.returns-in-Text-Text
 returns-in-Text-Text c =
     let p = program_of c.args.system.now in
-    at_kind p c.args.kind _ c.args.argument _ (Some c.text_code.result) c.in-Text-Text.is-0 c.in-Text-Text.is-1 (text_argument p (pooled_in c.args.system.now) c.text_code.result c.in-Text-Text.number c.text_code.ensures.within c.text_code.ensures.text)
+    at_kind p c.args.kind _ c.args.argument _ (Some c.text_code.result) c.in-Text-Text.is-0 c.in-Text-Text.is-1 (text_argument p (pooled_in c.args.system.now) c.text_code.result c.in-Text-Text.number.0 c.text_code.ensures.within c.text_code.ensures.text)
 
 pub returns-in-Node-Node : goal.returns-in-Node-Node
 returns-in-Node-Node c =

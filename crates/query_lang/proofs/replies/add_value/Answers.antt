@@ -23,7 +23,7 @@ returns-in-Int c =
 pub returns-in-Text : goal.returns-in-Text
 returns-in-Text c =
     let texts = text_in (program_of c.args.system.now) in
-    text_added c.add_text.result (value_of texts c.args.value.now) (Text (texts c.in-Text.number)) _ c.args.text.now.items c.add_text.new.text.items (ap (value_of texts) c.in-Text.is) (of_text (texts c.in-Text.number)) c.add_text.ensures
+    text_added c.add_text.result (value_of texts c.args.value.now) (Text (texts c.in-Text.number.0)) _ c.args.text.now.items c.add_text.new.text.items (ap (value_of texts) c.in-Text.is) (of_text (texts c.in-Text.number.0)) c.add_text.ensures
 
 pub returns-in-Node : goal.returns-in-Node
 returns-in-Node c =

@@ -12,7 +12,7 @@ pub returns-in-Texts : goal.returns-in-Texts
 returns-in-Texts c = λ n h.
     let system = c.args.system.now in
     let codes = c.in-Texts.codes in
-    let named = λ (f : ℕ → List ℕ). has (set_of {R = text_cmp} (map f codes)) (f c.text.result) in
+    let named = λ (f : ℕ → List ℕ). has (set_of {R = text_cmp} (map f codes)) (f c.text.result.0) in
     c.has_text.ensures
     ∙ ap named (sym h.texts)
     ∙ ap (has (set_of {R = text_cmp} (map n.text codes))) (c.text.ensures n (first_text_by system h))
