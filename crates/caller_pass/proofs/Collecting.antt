@@ -11,7 +11,7 @@ use Rattle.equation_law.specs.Systems.{program_of}
 use Rattle.equation_law.specs.Values.{Value}
 use Rattle.equation_law.proofs.Sites.{demanded_of_collection}
 use Rattle.expr_eval.specs.declared.sites.Turn.{Turn}
-use Rattle.expr_eval.specs.Evaluating.{Evaluates}
+use Rattle.expr_eval.specs.BySources.{EvaluatesSources}
 use Rattle.memo_cells.specs.Working.{Held, IsKnown, program_at, told_by}
 use Rattle.collection_attrs.specs.declared.collectors.Collector.{Collector}
 use Rattle.collection_attrs.specs.declared.surveys.Survey.{Survey}
@@ -41,8 +41,8 @@ pub walk_known : (p : Program) (e : Held) (w : Walk) → p ≡ program_at e → 
 walk_known p e w same h = subst (λ (q : Program). IsWalk q (IsKnown (program_at e) e.view) w) same h
 
 -- what going on says of its equation
-pub collected : (p : Program) (i : Instance) (c : Collection) (r : Result Turn Memory) (d x y e : Held) → collection_of p i ≡ Some c → x ≡ d → e ≡ y → Evaluates p (told_by x) (told_by y) (collection_demands (world_of p) c) r → Evaluates p (told_by d) (told_by e) ((equations_of p).equation i) r
+pub collected : (p : Program) (i : Instance) (c : Collection) (r : Result Turn Memory) (d x y e : Held) → collection_of p i ≡ Some c → x ≡ d → e ≡ y → EvaluatesSources p (told_by x) (told_by y) (collection_demands (world_of p) c) r → EvaluatesSources p (told_by d) (told_by e) ((equations_of p).equation i) r
 collected p i c r d x y e is before after h =
-    let one = subst (λ (z : Held). Evaluates p (told_by z) (told_by y) (collection_demands (world_of p) c) r) before h in
-    let two = subst (λ (z : Held). Evaluates p (told_by d) (told_by z) (collection_demands (world_of p) c) r) (sym after) one in
-    subst (λ (m : Demands Instance Value). Evaluates p (told_by d) (told_by e) m r) (sym (demanded_of_collection p i c is)) two
+    let one = subst (λ (z : Held). EvaluatesSources p (told_by z) (told_by y) (collection_demands (world_of p) c) r) before h in
+    let two = subst (λ (z : Held). EvaluatesSources p (told_by d) (told_by z) (collection_demands (world_of p) c) r) (sym after) one in
+    subst (λ (m : Demands Instance Value). EvaluatesSources p (told_by d) (told_by e) m r) (sym (demanded_of_collection p i c is)) two

@@ -10,14 +10,13 @@ use Rattle.memo_cells.specs.declared.view.View.{View}
 use Rattle.memo_cells.specs.Naming.{IsCellOf}
 use Rattle.memo_cells.specs.Standing.{Knows}
 use Rattle.memo_cells.specs.Views.{Has, IsAtLeast}
-use Rattle.memo_cells.specs.Working.{IsKnown}
 use Rattle.memo_cells.proofs.Naming.{cell_later}
 use Rattle.circular_eval.specs.declared.local.Local.{Local}
 use Rattle.circular_eval.proofs.Later.{local_later}
 use Rattle.caller_pass.specs.declared.left.Left.{Left}
 use Rattle.caller_pass.specs.declared.waiting.Waiter.{Waiter}
 use Rattle.caller_pass.specs.Knowing.{FindsCode}
-use Rattle.caller_pass.specs.Leaving.{IsLeft}
+use Rattle.caller_pass.specs.Leaving.{IsLeft, reads_known}
 use Rattle.caller_pass.specs.Waiting.{AreWaiting, IsFrame, IsPlaced, IsStack, IsWay, IsWayOf, LooksAgain, WaitsBy, WayStays, waits, way_of}
 use Rattle.caller_pass.proofs.Knowing.{found_knows}
 use Rattle.caller_pass.proofs.Leaving.{left_known}
@@ -63,13 +62,13 @@ last_starts [] t x y first rest e = let same : (t, x) ≡ first = cc in ((t, y),
 last_starts (z ∷ es) t x y first rest e = let same : z ≡ first = cc in (z, es ++ (t, y) ∷ [], refl, ap (λ z. z.0) same)
 
 module _ (p : Program) (f : Frame) (v w : View) (kept : IsAtLeast v w) (i : Instance) (es : List (CodedInstance × Waiter)) (t : CodedInstance) (x : Waiter) (stack : IsStack p f v i es (t, x)) where
-  placed_now : (y : Waiter) → y.slot ≡ x.slot → IsLeft f.system.value (IsKnown p w) (instance_of p t) y.left → IsPlaced p f w (t, y)
+  placed_now : (y : Waiter) → y.slot ≡ x.slot → IsLeft f.system.value (reads_known p w) (instance_of p t) y.left → IsPlaced p f w (t, y)
   placed_now y same left =
       let h = placed_later p f v w kept (t, x) stack.frame.placed in
       record { instance = h.instance; coded = h.coded; undeclared = h.undeclared; slot = subst (λ (s : Slot). IsCellOf p f w (instance_of p t) s.0) (sym same) h.slot; left = left }
 
   -- it goes on in another state
-  pub stack_on : (y : Waiter) → y.slot ≡ x.slot → IsLeft f.system.value (IsKnown p w) (instance_of p t) y.left → IsWayOf p f w (instance_of p t) (way_of y) → IsStack p f w i es (t, y)
+  pub stack_on : (y : Waiter) → y.slot ≡ x.slot → IsLeft f.system.value (reads_known p w) (instance_of p t) y.left → IsWayOf p f w (instance_of p t) (way_of y) → IsStack p f w i es (t, y)
   stack_on y same left way =
       let begun = last_starts es t x y stack.first stack.rest stack.starts in
       record {
@@ -84,7 +83,7 @@ module _ (p : Program) (f : Frame) (v w : View) (kept : IsAtLeast v w) (i : Inst
       }
 
   -- it waits, and another one is on top
-  pub stack_more : (u : View) → IsAtLeast w u → (y : Waiter) → y.slot ≡ x.slot → IsLeft f.system.value (IsKnown p w) (instance_of p t) y.left → (next : CodedInstance) (z : Waiter) → WaitsBy p f w (instance_of p t) (way_of y) (instance_of p next) → IsFrame p f u (next, z) → waits (es ++ (t, y) ∷ []) next ≡ false → IsStack p f u i (es ++ (t, y) ∷ []) (next, z)
+  pub stack_more : (u : View) → IsAtLeast w u → (y : Waiter) → y.slot ≡ x.slot → IsLeft f.system.value (reads_known p w) (instance_of p t) y.left → (next : CodedInstance) (z : Waiter) → WaitsBy p f w (instance_of p t) (way_of y) (instance_of p next) → IsFrame p f u (next, z) → waits (es ++ (t, y) ∷ []) next ≡ false → IsStack p f u i (es ++ (t, y) ∷ []) (next, z)
   stack_more u later y same left next z w' frame other =
       let begun = last_starts es t x y stack.first stack.rest stack.starts in
       let more = snoc_starts es (t, y) begun.0 begun.1 (next, z) begun.2 in
@@ -115,7 +114,7 @@ module _ (p : Program) (f : Frame) (v w : View) (kept : IsAtLeast v w) (i : Inst
         placed = λ e h. placed_later p f v w kept e (stack.placed e (subst (λ l. Has l e) (sym is) (has_left ds (last ∷ []) e h)));
         waiting = front.0;
         frame = record {
-          placed = record { instance = its.instance; coded = its.coded; undeclared = its.undeclared; slot = subst (λ (s : Slot). IsCellOf p f w (instance_of p last.0) s.0) (sym looks.slot) its.slot; left = subst (λ (o : Option Left). IsLeft f.system.value (IsKnown p w) (instance_of p last.0) o) (sym looks.left) its.left };
+          placed = record { instance = its.instance; coded = its.coded; undeclared = its.undeclared; slot = subst (λ (s : Slot). IsCellOf p f w (instance_of p last.0) s.0) (sym looks.slot) its.slot; left = subst (λ (o : Option Left). IsLeft f.system.value (reads_known p w) (instance_of p last.0) o) (sym looks.left) its.left };
           way = way_on (way_of last.1) (way_of y) looks.way front.1;
         };
         other = other;

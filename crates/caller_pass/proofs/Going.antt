@@ -19,7 +19,7 @@ use Rattle.memo_cells.specs.Claiming.{ClaimsKeys}
 use Rattle.memo_cells.specs.Naming.{ClaimsKeysTo, IsCellOf}
 use Rattle.memo_cells.specs.Standing.{IsPassOf, Knows}
 use Rattle.memo_cells.specs.Views.{Has, IsAtLeast}
-use Rattle.memo_cells.specs.Working.{Held, IsKnown, program_at}
+use Rattle.memo_cells.specs.Working.{Held, program_at}
 use Rattle.memo_cells.proofs.Causes.{found_before, found_later, log_itself, log_then}
 use Rattle.memo_cells.proofs.Claiming.{chain_then, claims_same, claims_then, claims_to, fills_more, fills_to}
 use Rattle.memo_cells.proofs.More.{at_least_itself, at_least_then}
@@ -31,7 +31,7 @@ use Rattle.caller_pass.specs.declared.solving.Went.{Went}
 use Rattle.caller_pass.specs.declared.solving.Went.TheVariants.{Settled}
 use Rattle.caller_pass.specs.declared.waiting.Waiter.{Waiter}
 use Rattle.caller_pass.specs.Answering.{AnswersStep, EndsAtLoop, Evaluates, FindsSettled, IsNext, LeavesOne, SameWay, Solves, StopsAt, TakesTurn, WasUnsettled, WayChanges, unsettled}
-use Rattle.caller_pass.specs.Leaving.{IsLeft}
+use Rattle.caller_pass.specs.Leaving.{IsLeft, reads_known}
 use Rattle.caller_pass.specs.Waiting.{AnswersWait, AreWaiting, IsLineTo, IsPlaced, IsStack, IsWayOf, LooksAgain, waits, way_of}
 use Rattle.caller_pass.proofs.Falling.{measure, unsettled_falls}
 use Rattle.caller_pass.proofs.Frames.{stack_fewer, stack_more, stack_on, stack_one, waiting_later, waiting_more}
@@ -78,7 +78,7 @@ pub record WentThrough (p : Program) (f : Frame) (w u : View) (t : CodedInstance
   pub was : WasUnsettled p f w u (instance_of p t)
   pub claims : ClaimsKeys p (instance_of p t) w u
   pub slot : y.slot ≡ x.slot
-  pub left : IsLeft f.system.value (IsKnown p u) (instance_of p t) y.left
+  pub left : IsLeft f.system.value (reads_known p u) (instance_of p t) y.left
   pub answer : AnswersStep p f u (instance_of p t) (way_of x) (way_of y) r
   pub evals : after ≡ before + 1
 

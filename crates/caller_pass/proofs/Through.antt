@@ -19,7 +19,7 @@ use Rattle.memo_cells.specs.declared.view.View.{View}
 use Rattle.memo_cells.specs.Claiming.{ClaimsKeys}
 use Rattle.memo_cells.specs.Naming.{IsCellOf}
 use Rattle.memo_cells.specs.Standing.{Knows}
-use Rattle.memo_cells.specs.Working.{GoesOn, Held, IsKnown, ReadsOn, program_at}
+use Rattle.memo_cells.specs.Working.{GoesOn, Held, ReadsOn, program_at}
 use Rattle.memo_cells.proofs.Causes.{log_itself}
 use Rattle.memo_cells.proofs.Claiming.{claims_same, claims_then}
 use Rattle.memo_cells.proofs.More.{at_least_itself}
@@ -37,7 +37,7 @@ use Rattle.caller_pass.specs.declared.solving.Went.TheVariants.{Further, Need, S
 use Rattle.caller_pass.specs.declared.waiting.Waiter.{Waiter}
 use Rattle.caller_pass.specs.Answering.{AnswersFinish, AnswersStep, Evaluates, FindsSettled, GoesThrough, IsNext, IsSameFault, SameWay, WayChanges}
 use Rattle.caller_pass.specs.Knowing.{HasEnded, TellsSettled, TurnsTo}
-use Rattle.caller_pass.specs.Leaving.{IsLeft}
+use Rattle.caller_pass.specs.Leaving.{IsLeft, reads_known}
 use Rattle.caller_pass.specs.Waiting.{HasTurn, HasWay, IsFrame, IsWayOf, way_of}
 use Rattle.caller_pass.proofs.Frames.{placed_later}
 use Rattle.caller_pass.proofs.Going.{was_within}
@@ -95,7 +95,7 @@ module _ (d e : Held) (i : CodedInstance) (x : Waiter) (l : Local) (b : Box Loca
   }
 
 -- its equation was evaluated
-module _ (d e : Held) (i : CodedInstance) (x : Waiter) (way : way_of x ≡ None) (good : IsProgram (program_at d)) (turn : HasTurn (program_at d) d.frame d.view (i, x)) (on : ReadsOn d e) (before after : ℕ) (evals : after ≡ before + 1) (m : Option Left) (told : IsLeft d.frame.system.value (IsKnown (program_at d) e.view) (instance_of (program_at d) i) m) where
+module _ (d e : Held) (i : CodedInstance) (x : Waiter) (way : way_of x ≡ None) (good : IsProgram (program_at d)) (turn : HasTurn (program_at d) d.frame d.view (i, x)) (on : ReadsOn d e) (before after : ℕ) (evals : after ≡ before + 1) (m : Option Left) (told : IsLeft d.frame.system.value (reads_known (program_at d) e.view) (instance_of (program_at d) i) m) where
   turn_claims : ClaimsKeys (program_at d) (instance_of (program_at d) i) d.view e.view
   turn_claims = claims_same (program_at d) (instance_of (program_at d) i) d.view e.view on.claims
 

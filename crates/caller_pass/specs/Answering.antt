@@ -17,7 +17,7 @@ use Rattle.memo_cells.specs.Claiming.{ClaimsKeys, FillsCells}
 use Rattle.memo_cells.specs.Naming.{IsCellOf}
 use Rattle.memo_cells.specs.Showing.{ShowsAtLeast}
 use Rattle.memo_cells.specs.Standing.{Knows}
-use Rattle.memo_cells.specs.Working.{GoesOn, Held, IsKnown, ReadsOn, program_at}
+use Rattle.memo_cells.specs.Working.{GoesOn, Held, ReadsOn, program_at}
 use Rattle.circular_eval.specs.declared.advancing.CircFault.{CircFault}
 use Rattle.circular_eval.specs.declared.advancing.CircFault.TheVariants as set_fault
 use Rattle.circular_eval.specs.declared.local.Local.{Local}
@@ -27,7 +27,7 @@ use Rattle.caller_pass.specs.declared.faults.AskFault.TheVariants.{CellsFull, Ci
 use Rattle.caller_pass.specs.declared.solving.Went.{Went}
 use Rattle.caller_pass.specs.declared.solving.Went.TheVariants.{Further, Need, Settled}
 use Rattle.caller_pass.specs.declared.waiting.Waiter.{Waiter}
-use Rattle.caller_pass.specs.Leaving.{IsLeft}
+use Rattle.caller_pass.specs.Leaving.{IsLeft, reads_known}
 use Rattle.caller_pass.specs.Waiting.{IsWay, WaitsBy, way_of}
 
 -- the chain begins with i, each later member is led to by the one before, and `on`, which isn't circular, stands there twice
@@ -128,7 +128,7 @@ pub record GoesThrough (p : Program) (d e : Held) (i : CodedInstance) (old new :
   pub on : GoesOn d e
   pub claims : ClaimsKeys p (instance_of p i) d.view e.view
   pub slot : new.slot ≡ old.slot
-  pub left : IsLeft d.frame.system.value (IsKnown (program_at d) e.view) (instance_of p i) new.left
+  pub left : IsLeft d.frame.system.value (reads_known (program_at d) e.view) (instance_of p i) new.left
   pub answer : AnswersStep p d.frame e.view (instance_of p i) (way_of old) (way_of new) result
   pub evals : after ≡ before + 1
 

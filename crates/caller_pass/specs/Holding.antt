@@ -23,7 +23,7 @@ use Rattle.caller_pass.specs.declared.waiting.Waiter.{Waiter}
 use Rattle.caller_pass.specs.Answering.{AnswersFinish, AnswersShow, AsksNoted, GoesThrough, LeavesOne, Solves, TakesTurn}
 use Rattle.caller_pass.specs.declared.solving.Went.{Went}
 use Rattle.caller_pass.specs.Knowing.{FindsCode, FindsValue, HasEnded, IsKnownAt, IsReadValue, TellsSettled, TurnsTo, WhyUnknown}
-use Rattle.caller_pass.specs.Leaving.{AreLeft}
+use Rattle.caller_pass.specs.Leaving.{AreLeft, reads_known}
 use Rattle.caller_pass.specs.Waiting.{AnswersWait, HasTurn, IsFrame, LooksAgain}
 
 -- the program of the cells is one that was checked
@@ -84,11 +84,11 @@ IsWalkAt d w = IsWalk (program_at d) (IsKnown (program_at d) d.view) w
 
 -- what an evaluation of its equation left behind is so, by what the pass knew
 abbrev pub AreLeftAt : Held → CodedInstance → Left → Type 0
-AreLeftAt d i l = AreLeft d.frame.system.value (IsKnown (program_at d) d.view) (instance_of (program_at d) i) l
+AreLeftAt d i l = AreLeft d.frame.system.value (reads_known (program_at d) d.view) (instance_of (program_at d) i) l
 
 -- by what the pass knows
 abbrev pub AreLeftNow : Held → Held → CodedInstance → Left → Type 0
-AreLeftNow d e i l = AreLeft d.frame.system.value (IsKnown (program_at d) e.view) (instance_of (program_at d) i) l
+AreLeftNow d e i l = AreLeft d.frame.system.value (reads_known (program_at d) e.view) (instance_of (program_at d) i) l
 
 -- what its equation comes to under what the pass knows
 abbrev pub TurnsToAt : Held → Held → CodedInstance → Result Turn Memory → Type 0

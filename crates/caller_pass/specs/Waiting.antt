@@ -16,14 +16,13 @@ use Rattle.memo_cells.specs.declared.view.View.{View}
 use Rattle.memo_cells.specs.Naming.{IsCellOf, LacksCell}
 use Rattle.memo_cells.specs.Standing.{Knows}
 use Rattle.memo_cells.specs.Views.{Has}
-use Rattle.memo_cells.specs.Working.{IsKnown}
 use Rattle.circular_eval.specs.declared.local.Local.{Local}
 use Rattle.circular_eval.specs.Advancing.{AreLed, IsPath}
 use Rattle.circular_eval.specs.Local.{IsLocal}
 use Rattle.caller_pass.specs.declared.faults.AskFault.{AskFault}
 use Rattle.caller_pass.specs.declared.faults.AskFault.TheVariants.{CellsFull, Circular, Memory}
 use Rattle.caller_pass.specs.declared.waiting.Waiter.{Waiter}
-use Rattle.caller_pass.specs.Leaving.{IsLeft}
+use Rattle.caller_pass.specs.Leaving.{IsLeft, reads_known}
 
 abbrev pub unboxed : Option (Box Local) → Option Local
 unboxed None = None
@@ -57,7 +56,7 @@ pub record IsPlaced (p : Program) (f : Frame) (v : View) (e : CodedInstance × W
   pub coded : IsCoded p e.0
   pub undeclared : (equations_of p).circular (instance_of p e.0) ≡ false
   pub slot : IsCellOf p f v (instance_of p e.0) e.1.slot.0
-  pub left : IsLeft f.system.value (IsKnown p v) (instance_of p e.0) e.1.left
+  pub left : IsLeft f.system.value (reads_known p v) (instance_of p e.0) e.1.left
 
 -- it is to be evaluated next, or the local set that it waits for is to go on
 pub record IsFrame (p : Program) (f : Frame) (v : View) (e : CodedInstance × Waiter) : Type 0 where

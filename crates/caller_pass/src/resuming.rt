@@ -1,6 +1,6 @@
 // Going on with the equation of an instance: an expression, or a collection.
 ghost use Rattle.std.specs.Prelude.{◌≡◌, IfNone, IfSome, None};
-ghost use Rattle.expr_eval.specs.Sites.{EvaluatesInstance};
+ghost use Rattle.expr_eval.specs.BySources.{EvaluatesSourceInstance};
 ghost use Rattle.collection_attrs.specs.Surveys.{IsNew, SaysCollection};
 ghost use Rattle.equation_law.specs.Codes.{IsCoded, instance_of};
 ghost use Rattle.equation_law.specs.Equations.{collection_of};
@@ -28,11 +28,11 @@ fn resume_single<'a>(
 ) -> Result<Turn, Memory>
     requires same { IsForSystem desk.old system.now }
     requires sound { IsSound (program_of system.now) (told_by desk.old) }
-    requires saved { AreSaved system.now (told_by desk.old).has saved.old }
+    requires saved { AreSaved system.now (told_by desk.old) saved.old }
     requires coded { IsCoded (program_of system.now) i }
     requires single { collection_of (program_of system.now) (instance_of (program_of system.now) i) ≡ None }
-    ensures evaluates { EvaluatesInstance (program_of system.now) (told_by desk.old) (told_by desk.new) i result }
-    ensures saved { AreSaved system.now (told_by desk.new).has saved.new }
+    ensures evaluates { EvaluatesSourceInstance (program_of system.now) (told_by desk.old) (told_by desk.new) i result }
+    ensures saved { AreSaved system.now (told_by desk.new) saved.new }
 {
     match i {
         Instance::Attr { attr, node, args } => {
@@ -66,10 +66,10 @@ fn resume_collection<'a>(
 ) -> Result<Turn, Memory>
     requires same { IsForSystem desk.old system.now }
     requires sound { IsSound (program_of system.now) (told_by desk.old) }
-    requires left { AreLeft system.now (told_by desk.old).has (instance_of (program_of system.now) i) left.old }
+    requires left { AreLeft system.now (told_by desk.old) (instance_of (program_of system.now) i) left.old }
     requires collection { SaysCollection (program_of system.now) i of }
-    ensures evaluates { EvaluatesInstance (program_of system.now) (told_by desk.old) (told_by desk.new) i result }
-    ensures left { AreLeft system.now (told_by desk.new).has (instance_of (program_of system.now) i) left.new }
+    ensures evaluates { EvaluatesSourceInstance (program_of system.now) (told_by desk.old) (told_by desk.new) i result }
+    ensures left { AreLeft system.now (told_by desk.new) (instance_of (program_of system.now) i) left.new }
 {
     let Some(root) = desk.root_for(of) else {
         let none = Survey::new(alloc, system, of);
@@ -93,10 +93,10 @@ pub(crate) fn resume<'a>(
 ) -> Result<Turn, Memory>
     requires same { IsForSystem desk.old system.now }
     requires sound { IsSound (program_of system.now) (told_by desk.old) }
-    requires left { AreLeft system.now (told_by desk.old).has (instance_of (program_of system.now) i) left.old }
+    requires left { AreLeft system.now (told_by desk.old) (instance_of (program_of system.now) i) left.old }
     requires coded { IsCoded (program_of system.now) i }
-    ensures evaluates { EvaluatesInstance (program_of system.now) (told_by desk.old) (told_by desk.new) i result }
-    ensures left { AreLeft system.now (told_by desk.new).has (instance_of (program_of system.now) i) left.new }
+    ensures evaluates { EvaluatesSourceInstance (program_of system.now) (told_by desk.old) (told_by desk.new) i result }
+    ensures left { AreLeft system.now (told_by desk.new) (instance_of (program_of system.now) i) left.new }
 {
     match collector_of(system, &i) {
         Some(of) => resume_collection(alloc, system, i, of, desk, left),

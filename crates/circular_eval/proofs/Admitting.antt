@@ -7,17 +7,18 @@ use Rattle.equation_law.specs.declared.coding.Instance.{Instance as CodedInstanc
 use Rattle.equation_law.specs.declared.coding.Value.{Value as CodedValue}
 use Rattle.equation_law.specs.declared.system.System.{System}
 use Rattle.equation_law.specs.Checked.{IsProgram, IsValue, nodes, texts, truth}
-use Rattle.equation_law.specs.Codes.{AreElements, instance_of, value_of}
+use Rattle.equation_law.specs.Codes.{AreElements, instance_by, instance_of, value_of}
 use Rattle.equation_law.specs.Equations.{HasValue, equations_of, is_ordered, kind_in}
 use Rattle.equation_law.specs.Loops.{Chain}
 use Rattle.equation_law.specs.Names.{Instance}
 use Rattle.equation_law.specs.Orders.{FitsKind}
 use Rattle.equation_law.specs.Program.{Program, text_of}
-use Rattle.equation_law.specs.Reading.{Settles, Told}
+use Rattle.equation_law.specs.Reading.{ReadsSources, Settles, Told}
 use Rattle.equation_law.specs.Systems.{program_of}
 use Rattle.equation_law.specs.Values.{Value, as_kind, default_of}
 use Rattle.equation_law.proofs.QueryValues.{value_typed}
 use Rattle.equation_law.proofs.Solution.{circular_site}
+use Rattle.equation_law.proofs.Sources.{sources_settle}
 use Rattle.memo_cells.specs.declared.keys.Slot.{Slot}
 use Rattle.memo_cells.specs.declared.view.Frame.{Frame}
 use Rattle.memo_cells.specs.declared.view.View.{View}
@@ -149,11 +150,13 @@ module _ (s : System) (d : Held) (l : Local) (r : IsReady s d l) where
           placed = final;
         })
 
-    pub settled_fit : {W : Type 0} (held : W → Held) (y : W) (t : Told W) → TellsPass held y t → GoesOn d (held y) → (x : CodedValue) → Settles p t (instance_of p i) (Ok (Some x)) → (n : Member) → n.slot ≡ None → n.value ≡ x → IsFit p d.frame (held y).view (instance_of p i) n
+    pub settled_fit : {W : Type 0} (held : W → Held) (y : W) (t : Told W) → TellsPass held y t → GoesOn d (held y) → (x : CodedValue) → Settles p t (λ m. instance_by p m i) (Ok (Some x)) → (n : Member) → n.slot ≡ None → n.value ≡ x → IsFit p d.frame (held y).view (instance_of p i) n
     settled_fit held y t told on x settles n slot is =
+        let there = subst (λ (u : Program). ReadsSources u t) (program_on d (held y) on) told.sources in
+        let read = sources_settle p t (λ m. instance_by p m i) there (Ok (Some x)) settles in
         sealed_fit (held y) on x
-        (settles.0.0, subst (λ (u : Program). IsKnown u (held y).view (instance_of p i) settles.0.0) (program_on d (held y) on) (told.known (instance_of p i) settles.0.0 settles.0.1), settles.0.2)
-        settles.1 n slot is
+        (read.0.0, subst (λ (u : Program). IsKnown u (held y).view (instance_of p i) read.0.0) (program_on d (held y) on) (told.known (instance_of p i) read.0.0 read.0.1), read.0.2)
+        read.1 n slot is
 
     -- its cell, as it is said of what is held before and after
     pub cell_here : (e f : Held) → GoesOn d e → (k : ℕ) → IsCellOf (program_at e) e.frame f.view (instance_of (program_at e) i) k → IsCellOf p d.frame f.view (instance_of p i) k

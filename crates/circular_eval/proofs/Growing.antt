@@ -20,14 +20,14 @@ use Rattle.memo_cells.proofs.More.{at_least_itself}
 use Rattle.circular_eval.specs.declared.local.Local.{Local}
 use Rattle.circular_eval.specs.declared.members.Member.{Member}
 use Rattle.circular_eval.specs.Left.{code_bound, left, member_bound, room, rooms}
-use Rattle.circular_eval.specs.Local.{AreMembers, IsLedBy, IsLocal, IsMember, IsKept, IsNeedOf, IsNumberOf, IsPlaced, Members, ReadsHere, with_value}
+use Rattle.circular_eval.specs.Local.{AreMembers, IsKept, IsLedBy, IsLocal, IsMember, IsNeedOf, IsNumberOf, IsPlaced, Members, reads_here, with_value}
 use Rattle.circular_eval.specs.Visiting.{IsNew}
 use Rattle.circular_eval.proofs.Entries.{at_either, at_has, at_more, changed_at, length_changed, length_more, rooms_less, rooms_more, stays_at}
 use Rattle.circular_eval.proofs.Left.{missing_most, product_less}
 use Rattle.circular_eval.proofs.Resuming.{kept_on, still_more}
 
 -- one with the same members and needs
-pub local_kept : (p : Program) (f : Frame) (v : View) (l m : Local) → m.start ≡ l.start → m.members.entries ≡ l.members.entries → m.need ≡ l.need → IsKept f.system.value (ReadsHere p v m.members.entries) m.saved → IsLocal p f v l → IsLocal p f v m
+pub local_kept : (p : Program) (f : Frame) (v : View) (l m : Local) → m.start ≡ l.start → m.members.entries ≡ l.members.entries → m.need ≡ l.need → IsKept f.system.value (reads_here p v m.members.entries) m.saved → IsLocal p f v l → IsLocal p f v m
 local_kept p f v l m s e n saved h = record {
   instance = subst (λ (i : CodedInstance). IsInstance p (instance_of p i)) (sym s) h.instance;
   coded = subst (λ (i : CodedInstance). IsCoded p i) (sym s) h.coded;
@@ -39,11 +39,11 @@ local_kept p f v l m s e n saved h = record {
 
 -- and what is kept is the same
 pub local_same : (p : Program) (f : Frame) (v : View) (l m : Local) → m.start ≡ l.start → m.members.entries ≡ l.members.entries → m.need ≡ l.need → m.saved ≡ l.saved → IsLocal p f v l → IsLocal p f v m
-local_same p f v l m s e n k h = local_kept p f v l m s e n (subst (λ (x : Members × Option Saved). IsKept f.system.value (ReadsHere p v x.0) x.1) (λ i. (sym e i, sym k i)) h.saved) h
+local_same p f v l m s e n k h = local_kept p f v l m s e n (subst (λ (x : Members × Option Saved). IsKept f.system.value (reads_here p v x.0) x.1) (λ i. (sym e i, sym k i)) h.saved) h
 
 -- or nothing is kept
 pub local_free : (p : Program) (f : Frame) (v : View) (l m : Local) → m.start ≡ l.start → m.members.entries ≡ l.members.entries → m.need ≡ l.need → m.saved ≡ None → IsLocal p f v l → IsLocal p f v m
-local_free p f v l m s e n k h = local_kept p f v l m s e n (subst (λ (o : Option Saved). IsKept f.system.value (ReadsHere p v m.members.entries) o) (sym k) tt) h
+local_free p f v l m s e n k h = local_kept p f v l m s e n (subst (λ (o : Option Saved). IsKept f.system.value (reads_here p v m.members.entries) o) (sym k) tt) h
 
 -- who leads to a member
 led_more : (p : Program) (es : Members) (x : CodedInstance × Member) (start : CodedInstance) (number : ℕ) (i : CodedInstance) (by : Option ℕ) → IsLedBy p es start number i by → IsLedBy p (es ++ x ∷ []) start number i by
@@ -120,7 +120,7 @@ module _ (p : Program) (f : Frame) (v : View) (l : Local) (h : IsLocal p f v l) 
       is_circular = subst (λ (k : CodedInstance). (equations_of p).circular (instance_of p k) ≡ true) (sym s) h.is_circular;
       set = subst (λ (x : CodedInstance × Members). AreMembers p f v x.0 x.1) (λ j. (sym s j, sym e j)) (record { first = first_more; members = members_at; different = different_more });
       need = subst (λ (x : Members × Option (ℕ × CodedInstance)). IsNeedOf p x.0 x.1) (λ j. (sym e j, sym q j)) (need_more p es (i, m) l.need h.need);
-      saved = subst (λ (x : Members × Option Saved). IsKept f.system.value (ReadsHere p v x.0) x.1) (λ j. (sym e j, sym k j)) (kept_on p v v (at_least_itself v) es more (still_more p es (i, m)) f.system.value l.saved h.saved);
+      saved = subst (λ (x : Members × Option Saved). IsKept f.system.value (reads_here p v x.0) x.1) (λ j. (sym e j, sym k j)) (kept_on p v v (at_least_itself v) es more (still_more p es (i, m)) f.system.value l.saved h.saved);
     }
 
   -- one with another value
@@ -171,7 +171,7 @@ module _ (p : Program) (f : Frame) (v : View) (l : Local) (h : IsLocal p f v l) 
       is_circular = subst (λ (k : CodedInstance). (equations_of p).circular (instance_of p k) ≡ true) (sym s) h.is_circular;
       set = subst (λ (u : CodedInstance × Members). AreMembers p f v u.0 u.1) (λ j. (sym s j, sym e j)) (record { first = first_risen; members = members_risen; different = λ a b i y z. h.set.different a b i (number_before a i y) (number_before b i z) });
       need = subst (λ (u : Members × Option (ℕ × CodedInstance)). IsNeedOf p u.0 u.1) (λ j. (sym e j, sym q j)) (need_changed p es n x l.need h.need);
-      saved = subst (λ (o : Option Saved). IsKept f.system.value (ReadsHere p v m.members.entries) o) (sym k) tt;
+      saved = subst (λ (o : Option Saved). IsKept f.system.value (reads_here p v m.members.entries) o) (sym k) tt;
     }
 
 -- one with another need
@@ -184,7 +184,7 @@ local_needs p f v l m k n e at leads s q need saved h =
       is_circular = subst (λ (i : CodedInstance). (equations_of p).circular (instance_of p i) ≡ true) (sym s) h.is_circular;
       set = subst (λ (x : CodedInstance × Members). AreMembers p f v x.0 x.1) (λ i. (sym s i, sym same i)) h.set;
       need = subst (λ (x : Members × Option (ℕ × CodedInstance)). IsNeedOf p x.0 x.1) (λ i. (sym same i, sym need i)) (e, at, leads);
-      saved = subst (λ (x : Members × Option Saved). IsKept f.system.value (ReadsHere p v x.0) x.1) (λ i. (sym same i, sym saved i)) h.saved;
+      saved = subst (λ (x : Members × Option Saved). IsKept f.system.value (reads_here p v x.0) x.1) (λ i. (sym same i, sym saved i)) h.saved;
     }
 
 -- less is left then

@@ -5,26 +5,30 @@ use Rattle.attr_rules.specs.declared.kinds.Kind.TheVariants as kinds
 use Rattle.rag_io.specs.declared.Memory.{Memory}
 use Rattle.equation_law.specs.declared.coding.Value.{Value as CodedValue}
 use Rattle.equation_law.specs.declared.system.System.{System}
-use Rattle.equation_law.specs.Codes.{AreElements, value_of}
+use Rattle.equation_law.specs.Codes.{AreElements, source_names, value_of}
 use Rattle.equation_law.specs.Equations.{is_declared, kind_in}
 use Rattle.equation_law.specs.Names.{Instance}
 use Rattle.equation_law.specs.Orders.{FitsKind}
 use Rattle.equation_law.specs.Program.{Program, text_of}
-use Rattle.equation_law.specs.Reading.{Grows, IsSound, Settles, Told}
+use Rattle.equation_law.specs.Reading.{Grows, IsSound, SettlesSources, Told}
 use Rattle.equation_law.specs.Systems.{program_of}
 use Rattle.equation_law.specs.Values.{Value, as_kind}
 use Rattle.equation_law.proofs.Solution.{one}
+use Rattle.expr_eval.specs.declared.saved.Saved.{Saved}
+use Rattle.expr_eval.specs.Saved.{AreSaved}
+use Rattle.expr_eval.proofs.Growing.{saved_more}
 use Rattle.memo_cells.specs.declared.view.Frame.{Frame}
 use Rattle.memo_cells.specs.declared.view.View.{View}
 use Rattle.memo_cells.specs.Working.{Held, IsKnown, IsOwn, ReadsOn, TellsPass, program_at}
+use Rattle.memo_cells.proofs.Holding.{sources_only}
 use Rattle.memo_cells.proofs.Showing.{not_both}
-use Rattle.circular_eval.specs.Local.{AreKept, IsMemberOf, MayRead, Members, ReadsHere, here, local_value, present, settled, solved}
+use Rattle.circular_eval.specs.Local.{AreKept, IsMemberOf, MayRead, Members, ReadsHere, here, local_value, present, reads_here, settled, solved}
 use Rattle.circular_eval.specs.Looking.{told_here}
 use Rattle.circular_eval.proofs.Later.{read_later}
 
 -- a work is a reader for the program of its cells
 pub work_sound : {W : Type 0} (held : W → Held) (x : W) (r : Told W) → TellsPass held x r → IsSound (program_at (held x)) r
-work_sound held x r t = record { for = t.for; within = λ i v h. t.may i v (t.known i v h).1; one_value = λ i v w a b. one (program_at (held x)) i v w (t.can i v a) (t.can i w b) }
+work_sound held x r t = record { for = t.for; within = λ i v h. t.may i v (t.known i v h).1; one_value = λ i v w a b. one (program_at (held x)) i v w (t.can i v a) (t.can i w b); named = t.named }
 
 -- what reads with it goes on
 pub work_reads : {W : Type 0} (held : W → Held) (x y : W) (r s : Told W) → TellsPass held x r → TellsPass held y s → IsOwn (held x) → Grows (program_at (held x)) r s → ReadsOn (held x) (held y)
@@ -36,7 +40,7 @@ known_read d (settled n k) = k
 known_read d (here n k) = absurd (not_both d n)
 
 -- what it answers of an undeclared instance is what the evaluation reads
-pub read_settled : {W S : Type 0} (held : W → Held) (y : W) (r : Told W) → TellsPass held y r → (s : System) (es : Members) (keeps : S → Type 0) (i : Instance) (result : Result (Option CodedValue) Memory) → is_declared (program_at (held y)) i ≡ false → Settles (program_at (held y)) r i result → Settles (program_at (held y)) (told_here (held y) s es keeps) i result
+pub read_settled : {W S : Type 0} (held : W → Held) (y : W) (r : Told W) → TellsPass held y r → (s : System) (es : Members) (keeps : S → Type 0) (i : Instance) (result : Result (Option CodedValue) Memory) → is_declared (program_at (held y)) i ≡ false → SettlesSources (program_at (held y)) r i result → SettlesSources (program_at (held y)) (told_here (held y) s es keeps) i result
 read_settled held y r t s es keeps i (Ok (Some v)) d (a, e) = ((a.0, settled d (t.known i a.0 a.1), a.2), e)
 read_settled held y r t s es keeps i (Ok None) d a = λ w h. a w (t.has i w (known_read d h))
 read_settled held y r t s es keeps i (Err m) d a = tt
@@ -51,7 +55,7 @@ fits_read kinds.Texts x f = ap (as_kind kinds.Texts) f.1 ∙ sym f.1
 fits_read (kinds.Nodes c) x f = ap (as_kind (kinds.Nodes c)) f.1 ∙ sym f.1
 
 -- a member is read with its value
-pub read_member : {S : Type 0} (d : Held) (s : System) (es : Members) (keeps : S → Type 0) (i : Instance) (x : CodedValue) → is_declared (program_at d) i ≡ true → IsMemberOf (program_at d) es i → local_value (program_at d) es i ≡ value_of (text_of (program_at d)) x → FitsKind (kind_in (program_at d) i) (value_of (text_of (program_at d)) x) → AreElements (program_at d) x → Settles (program_at d) (told_here d s es keeps) i (Ok (Some x))
+pub read_member : {S : Type 0} (d : Held) (s : System) (es : Members) (keeps : S → Type 0) (i : Instance) (x : CodedValue) → is_declared (program_at d) i ≡ true → IsMemberOf (program_at d) es i → local_value (program_at d) es i ≡ value_of (text_of (program_at d)) x → FitsKind (kind_in (program_at d) i) (value_of (text_of (program_at d)) x) → AreElements (program_at d) x → SettlesSources (program_at d) (told_here d s es keeps) i (Ok (Some x))
 read_member d s es keeps i x e m is fits elements = ((local_value (program_at d) es i, here e m, sym (ap (as_kind (kind_in (program_at d) i)) is ∙ fits_read (kind_in (program_at d) i) (value_of (text_of (program_at d)) x) fits)), elements)
 
 none_read : {p : Program} {v : View} {es : Members} {i : Instance} {w : Value} → is_declared p i ≡ true → ¬ IsMemberOf p es i → ReadsHere p v es i w → ⊥
@@ -59,7 +63,7 @@ none_read e none (settled n k) = not_both n e
 none_read e none (here n m) = none m
 
 -- one that is no member isn't read
-pub read_absent : {S : Type 0} (d : Held) (s : System) (es : Members) (keeps : S → Type 0) (i : Instance) → is_declared (program_at d) i ≡ true → ¬ IsMemberOf (program_at d) es i → Settles (program_at d) (told_here d s es keeps) i (Ok None)
+pub read_absent : {S : Type 0} (d : Held) (s : System) (es : Members) (keeps : S → Type 0) (i : Instance) → is_declared (program_at d) i ≡ true → ¬ IsMemberOf (program_at d) es i → SettlesSources (program_at d) (told_here d s es keeps) i (Ok None)
 read_absent d s es keeps i e none = λ w h. none_read e none h
 
 -- what may be read of an instance is one value
@@ -75,7 +79,7 @@ may_read (here n k) = present n
 
 -- an evaluation under a local set has a sound reader
 pub here_sound : {S : Type 0} (d : Held) (s : System) (es : Members) (keeps : S → Type 0) (p : Program) → p ≡ program_at d → d.frame.system.value ≡ s → IsOwn d → AreKept p es → IsSound p (told_here d s es keeps)
-here_sound d s es keeps p e same own kept = record { for = (e, same, own, kept); within = λ i v h. may_read h; one_value = λ i v w a b. read_once a b }
+here_sound d s es keeps p e same own kept = record { for = (e, same, own, kept); within = λ i v h. may_read h; one_value = λ i v w a b. read_once a b; named = λ n is. sources_only p n (is ∙ ap (λ (q : Program). source_names (text_of q)) (sym e)) }
 
 -- and goes on with one, where what is held goes on
 pub here_grows : {S : Type 0} (d e : Held) (s : System) (es : Members) (keeps more : S → Type 0) → ReadsOn d e → ((x : S) → keeps x → more x) → (p : Program) → IsSound p (told_here d s es keeps) → Grows p (told_here d s es keeps) (told_here e s es more)
@@ -86,8 +90,17 @@ here_grows d e s es keeps more on kept p sound =
       values = λ i v h. subst (λ (q : Program). ReadsHere q e.view es i v) (sym same) (read_later (program_at d) d.view e.view on.on.kept es i v h);
       bound = λ i v h. subst (λ (q : Program). MayRead q es i v) same h;
       kept = kept;
+      names = λ n is. is ∙ ap (λ (q : Program). source_names (text_of q)) same;
+      sources = λ is. is ∙ ap (λ (q : Program). source_names (text_of q)) (sym same);
     }
 
 -- where nothing is read, it is the same
 pub here_same : {S : Type 0} (d : Held) (s : System) (es : Members) (keeps : S → Type 0) (p : Program) → IsSound p (told_here d s es keeps) → Grows p (told_here d s es keeps) (told_here d s es keeps)
-here_same d s es keeps p sound = record { sound = sound; values = λ i v h. h; bound = λ i v h. h; kept = λ x h. h }
+here_same d s es keeps p sound = record { sound = sound; values = λ i v h. h; bound = λ i v h. h; kept = λ x h. h; names = λ n is. is; sources = λ is. is }
+
+-- what is saved is so whatever a reader kept
+pub saved_there : {S : Type 0} (d : Held) (s : System) (es : Members) (keeps : S → Type 0) (q : System) (x : Saved) → AreSaved q (reads_here (program_at d) d.view es) x → AreSaved q (told_here d s es keeps) x
+saved_there d s es keeps q x h = saved_more {r = reads_here (program_at d) d.view es} {t = told_here d s es keeps} (λ i v r. r) (λ n is. is) x h
+
+pub saved_here : {S : Type 0} (d : Held) (s : System) (es : Members) (keeps : S → Type 0) (q : System) (x : Saved) → AreSaved q (told_here d s es keeps) x → AreSaved q (reads_here (program_at d) d.view es) x
+saved_here d s es keeps q x h = saved_more {r = told_here d s es keeps} {t = reads_here (program_at d) d.view es} (λ i v r. r) (λ n is. is) x h

@@ -32,7 +32,7 @@ use Rattle.circular_eval.specs.declared.advancing.CircTurn.TheVariants as turn
 use Rattle.circular_eval.specs.declared.local.Local.{Local}
 use Rattle.circular_eval.specs.declared.members.Member.{Member}
 use Rattle.circular_eval.specs.Advancing.{AnswersFault, AnswersTurn}
-use Rattle.circular_eval.specs.Local.{AreMembers, IsKept, IsLedBy, IsLocal, IsMember, IsMemberOf, IsNeedOf, IsNumberOf, IsPlaced, Members, ReadsHere, StillMembers, local_value, with_value}
+use Rattle.circular_eval.specs.Local.{AreMembers, IsKept, IsLedBy, IsLocal, IsMember, IsMemberOf, IsNeedOf, IsNumberOf, IsPlaced, Members, StillMembers, local_value, reads_here, with_value}
 use Rattle.circular_eval.specs.Parts.{AnswersPart, IsFinal, IsFinalAt, IsSealedAt, IsSealedSet, SameMembers, SealsMember, SealsPart, Settles, Takes, unsealed_at, without_slot}
 use Rattle.circular_eval.specs.Sealed.{IsMemberAt}
 use Rattle.circular_eval.specs.Visiting.{Advances, GoesOnWith, IsReady}
@@ -150,7 +150,7 @@ module _ (p : Program) (f : Frame) (v : View) (l : Local) (h : IsLocal p f v l) 
     is_circular = subst (λ (u : CodedInstance). (equations_of p).circular (instance_of p u) ≡ true) (sym s) h.is_circular;
     set = subst (λ (u : CodedInstance × Members). AreMembers p f v u.0 u.1) (λ j. (sym s j, sym e j)) (record { first = first_shut; members = members_shut; different = λ a b i y z. h.set.different a b i (number_shut a i y) (number_shut b i z) });
     need = subst (λ (u : Members × Option (ℕ × CodedInstance)). IsNeedOf p u.0 u.1) (λ j. (sym e j, sym q j)) (need_shut p es n l.need h.need);
-    saved = subst (λ (u : Members × Option Saved). IsKept f.system.value (ReadsHere p v u.0) u.1) (λ j. (sym e j, sym k j)) (kept_on p v v (at_least_itself v) es shut (still_shut p es n) f.system.value l.saved h.saved);
+    saved = subst (λ (u : Members × Option Saved). IsKept f.system.value (reads_here p v u.0) u.1) (λ j. (sym e j, sym k j)) (kept_on p v v (at_least_itself v) es shut (still_shut p es n) f.system.value l.saved h.saved);
   }
 
 some_shut : (es fs : Members) (n : ℕ) → fs ≡ without_slot es n → 0 < length es → 0 < length fs

@@ -28,7 +28,7 @@ use Rattle.circular_eval.specs.declared.visiting.Visited.{Visited}
 use Rattle.circular_eval.specs.declared.visiting.Visited.TheVariants.{Changed, Need, Same}
 use Rattle.circular_eval.specs.Advancing.{AnswersFault, IsMissing}
 use Rattle.circular_eval.specs.Left.{left}
-use Rattle.circular_eval.specs.Local.{AreKept, IsKept, Members, ReadsHere, StillMembers}
+use Rattle.circular_eval.specs.Local.{AreKept, IsKept, Members, StillMembers, reads_here}
 use Rattle.circular_eval.specs.Looking.{AreSavedHere, ComesHere, ComesTo}
 use Rattle.worklists.specs.Waiting.{due_count}
 use Rattle.circular_eval.specs.Visiting.{AnswersStep, AnswersVisit, ComesAt, GoesOnWith, IsConfirmed, IsReady, KeepsSaved, Passes, Stays, Steps, Visits}
@@ -87,12 +87,12 @@ step_saved s e f m n number x r (Ok (Some Changed)) h saved = tt
 step_saved s e f m n number x r (Ok (Some Same)) h saved = tt
 step_saved s e f m n number x r (Ok (Some (Need q))) h saved =
     let es = m.members.entries in
-    subst (λ (u : Members). AreSaved s (ReadsHere (program_of s) f.view u) x) (sym h.answer.1) (saved_on (program_of s) e.view f.view h.goes.on.kept es es (still_itself (program_of s) es) s x saved)
+    subst (λ (u : Members). AreSaved s (reads_here (program_of s) f.view u) x) (sym h.answer.1) (saved_on (program_of s) e.view f.view h.goes.on.kept es es (still_itself (program_of s) es) s x saved)
 step_saved s e f m n number x r (Ok None) h saved =
     saved_on (program_of s) e.view f.view h.goes.on.kept m.members.entries n.members.entries (subst (λ (q : Program). StillMembers q m.members.entries n.members.entries) (ap program_of r.same) h.answer.1) s x saved
 
 -- which member is next, and what is kept, changes nothing of the members
-goes_kept : (d e : Held) (l m o : Local) → o.start ≡ m.start → o.members ≡ m.members → o.need ≡ m.need → IsKept d.frame.system.value (ReadsHere (program_at d) e.view o.members.entries) o.saved → GoesOnWith d e l m → GoesOnWith d e l o
+goes_kept : (d e : Held) (l m o : Local) → o.start ≡ m.start → o.members ≡ m.members → o.need ≡ m.need → IsKept d.frame.system.value (reads_here (program_at d) e.view o.members.entries) o.saved → GoesOnWith d e l m → GoesOnWith d e l o
 goes_kept d e l m o start members need saved h =
     let entries : o.members.entries ≡ m.members.entries = ap (λ x. x.entries) members in
     record {
@@ -106,7 +106,7 @@ goes_kept d e l m o start members need saved h =
 pub goes_looked : (d e : Held) (l m o : Local) → o.start ≡ m.start → o.members ≡ m.members → o.need ≡ m.need → o.saved ≡ m.saved → GoesOnWith d e l m → GoesOnWith d e l o
 goes_looked d e l m o start members need saved h =
     goes_kept d e l m o start members need
-    (subst (λ (x : Members × Option Saved). IsKept d.frame.system.value (ReadsHere (program_at d) e.view x.0) x.1) (λ i. (ap (λ x. x.entries) (sym members) i, sym saved i)) h.local.saved)
+    (subst (λ (x : Members × Option Saved). IsKept d.frame.system.value (reads_here (program_at d) e.view x.0) x.1) (λ i. (ap (λ x. x.entries) (sym members) i, sym saved i)) h.local.saved)
     h
 
 -- a visit, so far: nothing changed in the set, or members were added
@@ -150,11 +150,11 @@ visit_from d f l m n number y start members due h =
     }
 
 -- what it goes on with
-pub taken_saved : (s : System) (d : Held) (l m : Local) → IsReady s d l → m.members ≡ l.members → (x : Saved) → SavesNothing x ⊎ (l.saved ≡ Some x) → AreSaved s (ReadsHere (program_of s) d.view m.members.entries) x
+pub taken_saved : (s : System) (d : Held) (l m : Local) → IsReady s d l → m.members ≡ l.members → (x : Saved) → SavesNothing x ⊎ (l.saved ≡ Some x) → AreSaved s (reads_here (program_of s) d.view m.members.entries) x
 taken_saved s d l m r members x (inl none) = none_saved x none
 taken_saved s d l m r members x (inr is) =
-    let here : IsKept s (ReadsHere (program_of s) d.view l.members.entries) l.saved = subst (λ (q : System). IsKept q (ReadsHere (program_of s) d.view l.members.entries) l.saved) r.same r.local.saved in
-    subst (λ (u : Members × Option Saved). IsKept s (ReadsHere (program_of s) d.view u.0) u.1) (λ i. (ap (λ x. x.entries) (sym members) i, is i)) here
+    let here : IsKept s (reads_here (program_of s) d.view l.members.entries) l.saved = subst (λ (q : System). IsKept q (reads_here (program_of s) d.view l.members.entries) l.saved) r.same r.local.saved in
+    subst (λ (u : Members × Option Saved). IsKept s (reads_here (program_of s) d.view u.0) u.1) (λ i. (ap (λ x. x.entries) (sym members) i, is i)) here
 
 pub visit_ready : (s : System) (d e : Held) (l m : Local) (b : Bool) → IsReady s d l → IsVisited d e l m b → IsReady s e m
 visit_ready s d e l m b r h = ready_then s d e l m r h.goes
@@ -174,13 +174,13 @@ module _ (d e f : Held) (l m n : Local) (number : ℕ) (b : Bool) (h : IsVisited
   pub visit_fault : (fault : CircFault) → Steps e f m n number (Err fault) → (y : Result Visited CircFault) → y ≡ Err fault → Visits d f l n number y
   visit_fault fault v y is = subst (λ (z : Result Visited CircFault). Visits d f l n number z) (sym is) (record { goes = with_then d e f l m n h.goes v.goes; answer = subst (λ (u : CodedInstance). AnswersFault (program_at d) (instance_of (program_at d) u) d.frame f.view fault) h.goes.start (step_back (Err fault) v) })
 
-  pub visit_need : (s : System) → IsReady s d l → (q : CodedInstance) → Steps e f m n number (Ok (Some (Need q))) → (o : Local) (x : Saved) → o.start ≡ n.start → o.members ≡ n.members → o.need ≡ n.need → o.saved ≡ Some x → AreSaved s (ReadsHere (program_of s) f.view n.members.entries) x → Visits d f l o number (Ok (Need q))
+  pub visit_need : (s : System) → IsReady s d l → (q : CodedInstance) → Steps e f m n number (Ok (Some (Need q))) → (o : Local) (x : Saved) → o.start ≡ n.start → o.members ≡ n.members → o.need ≡ n.need → o.saved ≡ Some x → AreSaved s (reads_here (program_of s) f.view n.members.entries) x → Visits d f l o number (Ok (Need q))
   visit_need s r q v o x start members need kept saved =
       let missing : IsMissing (program_at d) f.view n q = (step_back (Ok (Some (Need q))) v).0 in
-      let here : AreSaved d.frame.system.value (ReadsHere (program_at d) f.view n.members.entries) x = subst (λ (z : System). AreSaved z (ReadsHere (program_of z) f.view n.members.entries) x) (sym r.same) saved in
+      let here : AreSaved d.frame.system.value (reads_here (program_at d) f.view n.members.entries) x = subst (λ (z : System). AreSaved z (reads_here (program_of z) f.view n.members.entries) x) (sym r.same) saved in
       record {
         goes = goes_kept d f l n o start members need
-            (subst (λ (u : Members × Option Saved). IsKept d.frame.system.value (ReadsHere (program_at d) f.view u.0) u.1) (λ i. (ap (λ x. x.entries) (sym members) i, sym kept i)) here)
+            (subst (λ (u : Members × Option Saved). IsKept d.frame.system.value (reads_here (program_at d) f.view u.0) u.1) (λ i. (ap (λ x. x.entries) (sym members) i, sym kept i)) here)
             (with_then d e f l m n h.goes v.goes);
         answer = record {
           instance = missing.instance;

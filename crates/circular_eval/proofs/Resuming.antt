@@ -16,7 +16,7 @@ use Rattle.memo_cells.proofs.Bits.{has_left}
 use Rattle.memo_cells.proofs.Naming.{knows_later}
 use Rattle.memo_cells.proofs.Showing.{not_both}
 use Rattle.circular_eval.specs.declared.members.Member.{Member}
-use Rattle.circular_eval.specs.Local.{IsKept, IsMemberOf, Members, ReadsHere, StillMembers, here, local_value, settled}
+use Rattle.circular_eval.specs.Local.{IsKept, IsMemberOf, Members, ReadsHere, StillMembers, here, local_value, reads_here, settled}
 
 -- an entry that isn't the first one is behind it
 pub other_entry : (p : Program) (d e : CodedInstance × Member) (es : Members) (j : Instance) → Has (d ∷ es) e → instance_of p e.0 ≡ j → same_instance j (instance_of p d.0) ≡ false → Has es e
@@ -45,9 +45,9 @@ module _ (p : Program) (v w : View) (more : IsAtLeast v w) (es fs : Members) (st
   read_more j x (here d m) = subst (λ (y : Value). ReadsHere p w fs j y) (still.values j m) (here d (still.members j m))
 
   -- and so does what is saved
-  pub saved_on : (s : System) (x : Saved) → AreSaved s (ReadsHere p v es) x → AreSaved s (ReadsHere p w fs) x
-  saved_on s x h = saved_more read_more x h
+  pub saved_on : (s : System) (x : Saved) → AreSaved s (reads_here p v es) x → AreSaved s (reads_here p w fs) x
+  saved_on s x h = saved_more {r = reads_here p v es} {t = reads_here p w fs} read_more (λ n is. is) x h
 
-  pub kept_on : (s : System) (o : Option Saved) → IsKept s (ReadsHere p v es) o → IsKept s (ReadsHere p w fs) o
+  pub kept_on : (s : System) (o : Option Saved) → IsKept s (reads_here p v es) o → IsKept s (reads_here p w fs) o
   kept_on s None h = tt
   kept_on s (Some x) h = saved_on s x h

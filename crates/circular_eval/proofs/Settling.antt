@@ -7,19 +7,21 @@ use Rattle.rag_io.specs.declared.Memory.{Memory}
 use Rattle.equation_law.specs.declared.coding.Instance.{Instance as CodedInstance}
 use Rattle.equation_law.specs.declared.coding.Value.{Value as CodedValue}
 use Rattle.equation_law.specs.declared.system.System.{System}
-use Rattle.equation_law.specs.Codes.{AreElements, IsCoded, instance_of, value_of}
+use Rattle.equation_law.specs.Codes.{AreElements, IsCoded, Naming, instance_by, instance_of, source_names, value_of}
 use Rattle.equation_law.specs.Equations.{equations_of, is_declared, kind_in}
 use Rattle.equation_law.specs.Names.{Instance, same_instance}
 use Rattle.equation_law.specs.Orders.{FitsKind}
 use Rattle.equation_law.specs.Program.{Program, text_of}
-use Rattle.equation_law.specs.Reading.{IsSound, SettledBy, Settles, Told}
+use Rattle.equation_law.specs.Reading.{IsSound, SettledBy, Settles, SettlesSources, Told}
 use Rattle.equation_law.specs.Systems.{program_of}
 use Rattle.equation_law.specs.Values.{Value}
 use Rattle.equation_law.proofs.Names.{same_instance_is}
 use Rattle.equation_law.proofs.Pooled.{texts_pooled}
+use Rattle.equation_law.proofs.Sources.{settles_by, sources_settle}
 use Rattle.expr_eval.specs.declared.sites.Turn.{Turn}
 use Rattle.expr_eval.specs.declared.sites.Turn.TheVariants as turns
 use Rattle.expr_eval.specs.Evaluating.{AnswersTurn}
+use Rattle.expr_eval.specs.Sites.{instance_reads}
 use Rattle.memo_cells.specs.Working.{Held, IsOwn, ReadsOn, TellsPass, program_at}
 use Rattle.circular_eval.specs.Local.{AreKept, IsMemberOf, Members, ReadsHere, local_value}
 use Rattle.circular_eval.specs.Looking.{ComesTo, told_here}
@@ -27,9 +29,9 @@ use Rattle.circular_eval.proofs.Going.{program_on}
 use Rattle.circular_eval.proofs.Resuming.{other_entry}
 use Rattle.circular_eval.proofs.Looking.{here_grows, here_same, read_absent, read_member, read_settled, work_reads, work_sound}
 
-settles_err : {S : Type 0} (p : Program) (s : Told S) (i : Instance) (r : Result (Option CodedValue) Memory) → IsErr r → Settles p s i r
-settles_err p s i (Ok x) e = cc
-settles_err p s i (Err m) e = tt
+settles_err : {S : Type 0} (p : Program) (s : Told S) (at : Naming → Instance) (r : Result (Option CodedValue) Memory) → IsErr r → Settles p s at r
+settles_err p s at (Ok x) e = cc
+settles_err p s at (Err m) e = tt
 
 -- the value of a member is of its type
 local_fits : (p : Program) (es : Members) (j : Instance) → AreKept p es → IsMemberOf p es j → FitsKind (kind_in p j) (local_value p es j)
@@ -40,11 +42,15 @@ local_fits p (d ∷ es) j kept (e, there, is) =
       | false ↦ λ h. local_fits p es j (λ x q. kept x (inr q)) (e, other_entry p d e es j there is h, is)
     ] refl
 
+-- an answer by the names of source nodes, by which alone the reader is read
+here_settles : {S : Type 0} (d : Held) (s : System) (es : Members) (keeps : S → Type 0) (i : CodedInstance) (result : Result (Option CodedValue) Memory) (p : Program) → p ≡ program_at d → SettlesSources (program_at d) (told_here d s es keeps) (instance_of (program_at d) i) result → Settles p (told_here d s es keeps) (λ n. instance_by p n i) result
+here_settles d s es keeps i result p same h = subst (λ (q : Program). Settles q (told_here d s es keeps) (λ n. instance_by q n i) result) (sym same) (settles_by (program_at d) (told_here d s es keeps) (λ n. instance_by (program_at d) n i) (λ n is. is) result h)
+
 -- where memory is wanting
 pub same_settles : {S : Type 0} (d : Held) (s : System) (es : Members) (keeps : S → Type 0) (i : CodedInstance) (r : Result (Option CodedValue) Memory) → IsErr r → SettledBy (told_here d s es keeps) (told_here d s es keeps) i r
 same_settles d s es keeps i r e = record {
   kept = λ p sound. here_same d s es keeps p sound;
-  answer = λ p sound coded. settles_err p (told_here d s es keeps) (instance_of p i) r e;
+  answer = λ p sound coded. settles_err p (told_here d s es keeps) (λ n. instance_by p n i) r e;
 }
 
 -- what reads with a work goes on
@@ -62,9 +68,10 @@ work_settles held x y r t a b s es keeps more goes i result e h = record {
       let same : p ≡ program_at (held y) = sound.for.0 ∙ sym (program_on (held x) (held y) on.on) in
       let here : program_of s ≡ program_at (held y) = sym (ap program_of sound.for.1) ∙ sym (program_on (held x) (held y) on.on) in
       let work = work_sound held x r a in
-      let told : Settles p t (instance_of p i) result = h.answer p (subst (λ (q : Program). IsSound q r) (sym sound.for.0) work) coded in
-      subst (λ (q : Program). Settles q (told_here (held y) s es more) (instance_of q i) result) (sym same)
-      (read_settled held y t b s es more (instance_of (program_at (held y)) i) result (subst (λ (q : Program). is_declared q (instance_of q i) ≡ false) here e) (subst (λ (q : Program). Settles q t (instance_of q i) result) same told));
+      let told : Settles p t (λ n. instance_by p n i) result = h.answer p (subst (λ (q : Program). IsSound q r) (sym sound.for.0) work) coded in
+      let told_there = sources_settle (program_at (held y)) t (λ n. instance_by (program_at (held y)) n i) b.sources result (subst (λ (q : Program). Settles q t (λ n. instance_by q n i) result) same told) in
+      here_settles (held y) s es more i result p same
+      (read_settled held y t b s es more (instance_of (program_at (held y)) i) result (subst (λ (q : Program). is_declared q (instance_of q i) ≡ false) here e) told_there);
 }
 
 -- of a member, its value
@@ -76,7 +83,7 @@ member_settles d s es keeps i x e member is elements = record {
       let kept : AreKept (program_at d) es = subst (λ (u : Program). AreKept u es) sound.for.0 sound.for.3 in
       let coded_here : IsCoded (program_at d) i = subst (λ (u : Program). IsCoded u i) sound.for.0 coded in
       let value = is (program_at d) (texts_pooled d.frame.system.value) coded_here kept in
-      subst (λ (u : Program). Settles u (told_here d s es keeps) (instance_of u i) (Ok (Some x))) (sym sound.for.0)
+      here_settles d s es keeps i (Ok (Some x)) p sound.for.0
       (read_member d s es keeps (instance_of (program_at d) i) x (subst (λ (u : Program). is_declared u (instance_of u i) ≡ true) q e) (member (program_at d)) value
       (subst (λ (y : Value). FitsKind (kind_in (program_at d) (instance_of (program_at d) i)) y) value (local_fits (program_at d) es (instance_of (program_at d) i) kept (member (program_at d)))) (elements (program_at d) kept));
 }
@@ -89,11 +96,15 @@ none_settles d s es keeps i e none = record {
       let q : program_of s ≡ program_at d = sym (ap program_of sound.for.1) in
       let kept : AreKept (program_at d) es = subst (λ (u : Program). AreKept u es) sound.for.0 sound.for.3 in
       let coded_here : IsCoded (program_at d) i = subst (λ (u : Program). IsCoded u i) sound.for.0 coded in
-      subst (λ (u : Program). Settles u (told_here d s es keeps) (instance_of u i) (Ok None)) (sym sound.for.0)
+      here_settles d s es keeps i (Ok None) p sound.for.0
       (read_absent d s es keeps (instance_of (program_at d) i) (subst (λ (u : Program). is_declared u (instance_of u i) ≡ true) q e) (none (program_at d) (texts_pooled d.frame.system.value) coded_here kept));
 }
 
 -- what an evaluation came to, by what was read at its end
-pub came_to : {S : Type 0} (p : Program) (e : Held) (s : System) (es : Members) (keeps : S → Type 0) (i : Instance) (turn : Turn) → p ≡ program_at e → AnswersTurn p (told_here e s es keeps) ((equations_of p).equation i) (Ok turn) → ComesTo p e.view es i turn
-came_to p e s es keeps i (turns.Done x) is a = ((a.demands, subst (λ (q : Program). Ends (ReadsHere q e.view es) ((equations_of p).equation i) (value_of (text_of p) x) a.demands) (sym is) a.ends), a.coded)
-came_to p e s es keeps i (turns.Need n) is a = ((a.demands, subst (λ (q : Program). Halts (ReadsHere q e.view es) ((equations_of p).equation i) (instance_of p n) a.demands) (sym is) a.halts), a.coded)
+pub came_to : {S : Type 0} (p : Program) (e : Held) (s : System) (es : Members) (keeps : S → Type 0) (i : CodedInstance) (turn : Turn) → p ≡ program_at e → AnswersTurn p (told_here e s es keeps) (instance_reads p i) (Ok turn) → ComesTo p e.view es (instance_of p i) turn
+came_to p e s es keeps i (turns.Done x) is a =
+    let came = a.comes (source_names (text_of p)) (ap (λ (q : Program). source_names (text_of q)) is) in
+    ((came.0, subst (λ (q : Program). Ends (ReadsHere q e.view es) ((equations_of p).equation (instance_of p i)) (value_of (text_of p) x) came.0) (sym is) came.1), a.coded)
+came_to p e s es keeps i (turns.Need n) is a =
+    let wanted = a.wants (source_names (text_of p)) (ap (λ (q : Program). source_names (text_of q)) is) in
+    ((wanted.0, subst (λ (q : Program). Halts (ReadsHere q e.view es) ((equations_of p).equation (instance_of p i)) (instance_of p n) wanted.0) (sym is) wanted.1), a.coded)

@@ -12,6 +12,7 @@ use Rattle.equation_law.specs.Loops.{Leads, order_in}
 use Rattle.equation_law.specs.Names.{Instance, same_instance}
 use Rattle.equation_law.specs.Orders.{FitsKind}
 use Rattle.equation_law.specs.Program.{Program, text_of}
+use Rattle.equation_law.specs.Reading.{Told}
 use Rattle.equation_law.specs.Values.{Value}
 use Rattle.expr_eval.specs.declared.saved.Saved.{Saved}
 use Rattle.expr_eval.specs.Saved.{AreSaved}
@@ -21,7 +22,7 @@ use Rattle.memo_cells.specs.declared.view.View.{View}
 use Rattle.memo_cells.specs.Naming.{IsCellOf}
 use Rattle.memo_cells.specs.Standing.{IsShown, Knows}
 use Rattle.memo_cells.specs.Views.{Has}
-use Rattle.memo_cells.specs.Working.{Held, IsKnown, program_at}
+use Rattle.memo_cells.specs.Working.{Held, IsKnown, NamesSources, program_at}
 use Rattle.circular_eval.specs.declared.local.Local.{Local}
 use Rattle.circular_eval.specs.declared.members.Member.{Member}
 
@@ -74,6 +75,10 @@ pub data ReadsHere (p : Program) (v : View) (es : Members) : Instance → Value 
   settled : {j : Instance} {w : Value} → is_declared p j ≡ false → IsKnown p v j w → ReadsHere p v es j w
   here : {j : Instance} → is_declared p j ≡ true → IsMemberOf p es j → ReadsHere p v es j (local_value p es j)
 
+-- a reader of that alone
+abbrev pub reads_here : Program → View → Members → Told Unit
+reads_here p v es = record { for = λ q. q ≡ p; has = ReadsHere p v es; can = MayRead p es; keeps = λ u. Unit {0}; names = NamesSources p }
+
 -- the number of a member, which is j
 pub record IsNumberOf (p : Program) (es : Members) (j : Instance) (number : ℕ) : Type 0 where
   pub entry : CodedInstance × Member
@@ -124,10 +129,10 @@ abbrev pub IsNeedOf : Program → Members → Option (ℕ × CodedInstance) → 
 IsNeedOf p es None = Unit {0}
 IsNeedOf p es (Some (number, n)) = (e : CodedInstance × Member) × (slice_get es number ≡ Some e) × Leads p (instance_of p e.0) (instance_of p n)
 
--- what an evaluation left behind is so, by the values of an assignment
-abbrev pub IsKept : System → (Instance → Value → Type 0) → Option Saved → Type 0
-IsKept s A None = Unit {0}
-IsKept s A (Some x) = AreSaved s A x
+-- what an evaluation left behind is so, by what a reader has
+abbrev pub IsKept : System → Told Unit → Option Saved → Type 0
+IsKept s t None = Unit {0}
+IsKept s t (Some x) = AreSaved s t x
 
 -- a local set of a circular instance of the program, under what a pass of the cells knows
 pub record IsLocal (p : Program) (f : Frame) (v : View) (l : Local) : Type 0 where
@@ -136,7 +141,7 @@ pub record IsLocal (p : Program) (f : Frame) (v : View) (l : Local) : Type 0 whe
   pub is_circular : (equations_of p).circular (instance_of p l.start) ≡ true
   pub set : AreMembers p f v l.start l.members.entries
   pub need : IsNeedOf p l.members.entries l.need
-  pub saved : IsKept f.system.value (ReadsHere p v l.members.entries) l.saved
+  pub saved : IsKept f.system.value (reads_here p v l.members.entries) l.saved
 
 -- the same under what is held
 abbrev pub IsLocalAt : Held → Local → Type 0

@@ -14,9 +14,9 @@ use Rattle.expr_eval.specs.declared.sites.Turn.{Turn}
 use Rattle.expr_eval.specs.declared.sites.Turn.TheVariants as turns
 use Rattle.expr_eval.specs.Saved.{AreSaved}
 use Rattle.memo_cells.specs.declared.view.View.{View}
-use Rattle.memo_cells.specs.Working.{Held, IsForSystem, IsOwn, program_at}
+use Rattle.memo_cells.specs.Working.{Held, IsForSystem, IsOwn, NamesSources, program_at}
 use Rattle.circular_eval.specs.declared.local.Local.{Local}
-use Rattle.circular_eval.specs.Local.{AreKept, MayRead, Members, ReadsHere}
+use Rattle.circular_eval.specs.Local.{AreKept, MayRead, Members, ReadsHere, reads_here}
 
 -- over what a work holds and the members of a set
 abbrev pub told_here : {S : Type 0} → Held → System → Members → (S → Type 0) → Told S
@@ -25,6 +25,7 @@ told_here d s es keeps = record {
   has = ReadsHere (program_at d) d.view es;
   can = MayRead (program_at d) es;
   keeps = keeps;
+  names = NamesSources (program_at d);
 }
 
 -- what the equation of i came to under the values of the set
@@ -38,4 +39,4 @@ ComesHere d l i turn = ComesTo (program_at d) d.view l.members.entries (instance
 
 -- what an evaluation over the system s left behind is so, by what is held and under the values of a local set
 abbrev pub AreSavedHere : System → Held → Local → Saved → Type 0
-AreSavedHere s d l x = AreSaved s (ReadsHere (program_of s) d.view l.members.entries) x
+AreSavedHere s d l x = AreSaved s (reads_here (program_of s) d.view l.members.entries) x

@@ -1,5 +1,5 @@
 -- What comes of an offer, by what its parts come to.
-use Rattle.std.proofs.Common.{◌≡◌, ℕ, true, false, List, Option, Ok, Some, None, slice_get, subst, sym}
+use Rattle.std.proofs.Common.{◌≡◌, ℕ, true, false, List, Ok, Some, None, slice_get, subst, sym}
 use Rattle.solutions.specs.Asking.{Demands, Ends, Halts}
 use Rattle.attr_rules.specs.Rules.{Contribution}
 use Rattle.equation_law.specs.declared.coding.Instance.{Instance as CodedInstance}
@@ -13,18 +13,18 @@ use Rattle.equation_law.specs.Reading.{Told}
 use Rattle.equation_law.specs.Values.{Value, node, truth}
 use Rattle.expr_eval.specs.declared.sites.Turn.{Turn}
 use Rattle.expr_eval.specs.declared.sites.Turn.TheVariants as turns
-use Rattle.expr_eval.specs.Evaluating.{AnswersTurn, Evaluates, Given, Stopped}
+use Rattle.expr_eval.specs.BySources.{AnswersSources, EvaluatesSources, GivenSources, StoppedSources}
 use Rattle.collection_attrs.specs.Passed.{IsPassed, met, unmet}
 use Rattle.collection_attrs.specs.Walks.{IsOfferStuck, condition, receiver}
 
 -- ---- what an evaluation that has answered says
 
-module _ {S : Type 0} {p : Program} {r s : Told S} {d : Demands Instance Value} {t : Turn} (e : Evaluates p r s d (Ok t)) where
-  pub given : {v : CodedValue} → t ≡ turns.Done v → Given p s d v
-  given is = subst (λ (u : Turn). AnswersTurn p s d (Ok u)) is e.answer
+module _ {S : Type 0} {p : Program} {r s : Told S} {d : Demands Instance Value} {t : Turn} (e : EvaluatesSources p r s d (Ok t)) where
+  pub given : {v : CodedValue} → t ≡ turns.Done v → GivenSources p s d v
+  given is = subst (λ (u : Turn). AnswersSources p s d (Ok u)) is e.answer
 
-  pub stopped : {i : CodedInstance} → t ≡ turns.Need i → Stopped p s d i
-  stopped is = subst (λ (u : Turn). AnswersTurn p s d (Ok u)) is e.answer
+  pub stopped : {i : CodedInstance} → t ≡ turns.Need i → StoppedSources p s d i
+  stopped is = subst (λ (u : Turn). AnswersSources p s d (Ok u)) is e.answer
 
 -- ---- the offer of the contribution with a number, at a node
 

@@ -9,8 +9,9 @@ use Rattle.attr_rules.specs.Rules.{Contribution}
 use Rattle.tree_arena.specs.Nodes.{end_in}
 use Rattle.equation_law.specs.declared.coding.Value.{Value as CodedValue}
 use Rattle.expr_eval.specs.declared.sites.Turn.TheVariants as turns
-use Rattle.expr_eval.specs.Evaluating.{Evaluates, Given}
-use Rattle.expr_eval.proofs.Forms.{gives_value, grows_self}
+use Rattle.expr_eval.specs.BySources.{EvaluatesSources, GivenSources}
+use Rattle.expr_eval.proofs.BySources.{gives_source}
+use Rattle.expr_eval.proofs.Forms.{grows_self}
 use Rattle.equation_law.specs.Codes.{AreElements, value_of}
 use Rattle.equation_law.specs.Collections.{Collection, Offer, collection_demands, combine, fresh, gathered}
 use Rattle.equation_law.specs.Equations.{offers_below, world_of}
@@ -134,10 +135,10 @@ fitted p A {c = c} is s t w (inl e) h = (subst (IsSurveyed p A c) (sym e.0) h, (
 fitted p A is s t w (inr new) h = (survey_new p A is new, (let none = new.taken in omega (arith, none)))
 
 -- where nothing is offered it has the fresh value
-pub rootless : {S : Type 0} {p : Program} {r : Told S} {of : Collector} {c : Collection} {s : Survey} → IsSound p r → IsCollectorOf p of c → c.offers ≡ [] → IsNew p of s → (v : CodedValue) → v ≡ s.so_far → Evaluates p r r (collection_demands (world_of p) c) (Ok (turns.Done v))
+pub rootless : {S : Type 0} {p : Program} {r : Told S} {of : Collector} {c : Collection} {s : Survey} → IsSound p r → IsCollectorOf p of c → c.offers ≡ [] → IsNew p of s → (v : CodedValue) → v ≡ s.so_far → EvaluatesSources p r r (collection_demands (world_of p) c) (Ok (turns.Done v))
 rootless {p = p} {r = r} {c = c} sound is none new v same =
     let value : value_of (text_of p) v ≡ fresh c.method c.kind = ap (value_of (text_of p)) same ∙ new.so_far ∙ sym (λ i. fresh (is.method i) (is.kind i)) in
     record {
       kept = grows_self sound;
-      answer = subst (λ (os : List Offer). Given p r (gathered (world_of p) c.method c.kind (At c.node) (fresh c.method c.kind) os) v) (sym none) (gives_value value (subst (AreElements p) (sym same) new.coded));
+      answer = subst (λ (os : List Offer). GivenSources p r (gathered (world_of p) c.method c.kind (At c.node) (fresh c.method c.kind) os) v) (sym none) (gives_source value (subst (AreElements p) (sym same) new.coded));
     }

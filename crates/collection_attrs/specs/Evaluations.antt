@@ -17,7 +17,7 @@ use Rattle.equation_law.specs.Program.{Program, text_of}
 use Rattle.equation_law.specs.Reading.{Told}
 use Rattle.equation_law.specs.Values.{Value}
 use Rattle.expr_eval.specs.declared.sites.Turn.{Turn}
-use Rattle.expr_eval.specs.Evaluating.{Evaluates}
+use Rattle.expr_eval.specs.BySources.{EvaluatesSources}
 use Rattle.collection_attrs.specs.declared.collectors.Collector.{Collector}
 use Rattle.collection_attrs.specs.Surveys.{ForCollector, IsCondition}
 
@@ -37,9 +37,9 @@ ComesTo p A c v = (demands : List Instance) × Ends A (collection_demands (world
 abbrev pub IsStuckAt : Program → (Instance → Value → Type 0) → Collector → CodedInstance → Type 0
 IsStuckAt p A of j = IsCoded p j × ForCollector p of (λ c. (demands : List Instance) × Halts A (collection_demands (world_of p) c) (instance_of p j) demands)
 
--- the answer says what an expression comes to at a node
+-- the answer says what an expression comes to at a node, by the names of source nodes
 abbrev pub EvaluatesAt : {S : Type 0} → Program → Told S → Told S → Expression → ℕ → Result Turn NoMemory → Type 0
-EvaluatesAt p r s e node result = Evaluates p r s (meaning_of (world_of p) e (place_at node)) result
+EvaluatesAt p r s e node result = EvaluatesSources p r s (meaning_of (world_of p) e (place_at node)) result
 
 -- so it does of the expression of this code
 abbrev pub EvaluatesBody : {S : Type 0} → Program → Told S → Told S → EqId → ℕ → Result Turn NoMemory → Type 0
@@ -51,4 +51,4 @@ EvaluatesCondition p r s guard node result = (e : Expression) → IsCondition p 
 
 -- the answer says what a collection comes to
 abbrev pub EvaluatesCollection : {S : Type 0} → Program → Told S → Told S → Collector → Result Turn NoMemory → Type 0
-EvaluatesCollection p r s of result = ForCollector p of (λ c. Evaluates p r s (collection_demands (world_of p) c) result)
+EvaluatesCollection p r s of result = ForCollector p of (λ c. EvaluatesSources p r s (collection_demands (world_of p) c) result)

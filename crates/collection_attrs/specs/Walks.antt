@@ -1,6 +1,6 @@
 -- The walk over what is offered to a collection in the subtree of a root, shared by the collection's instances at all nodes, and how far one of
 -- them has gone in it.
-use Rattle.std.specs.Prelude.{◌≡◌, ℕ, zero, suc, ◌+◌, ◌^◌, ◌<◌, ◌≤◌, true, false, List, [], ◌∷◌, ◌++◌, Option, Some, None, length, slice_get, take}
+use Rattle.std.specs.Prelude.{◌≡◌, ℕ, suc, ◌+◌, ◌^◌, ◌<◌, ◌≤◌, true, false, List, [], ◌∷◌, ◌++◌, Option, Some, None, length, slice_get, take}
 use Rattle.solutions.specs.Asking.{Ends, Halts}
 use Rattle.attr_rules.specs.Rules.{Contribution}
 use Rattle.tree_arena.specs.Nodes.{end_in}

@@ -1,7 +1,7 @@
 // What comes of an offer: its condition is evaluated, and where that is true, its receiver.
 ghost use Rattle.std.specs.Prelude.{◌+◌, ◌^◌, ◌<◌, IfOk, IfSome, length};
 ghost use Rattle.attr_rules.specs.Rules.{bodies};
-ghost use Rattle.equation_law.specs.Reading.{Grows, IsSound};
+ghost use Rattle.equation_law.specs.Reading.{Grows, IsSound, ReadsSources};
 ghost use Rattle.equation_law.specs.Systems.{program_of};
 ghost use Rattle.expr_eval.specs.Saved.{AreSaved};
 ghost use Rattle.collection_attrs.specs.Evaluations.{EvaluatesBody, EvaluatesCondition};
@@ -36,9 +36,10 @@ pub(crate) fn evaluate_part<'a, R: Reader>(
     requires known { expression.0 < length (bodies (program_of system.now).rules) }
     requires few { node + 1 < 2 ^ 32 }
     requires sound { IsSound (program_of system.now) (R.tells reader.old) }
-    requires saved { AreSaved system.now (R.tells reader.old).has saved.old }
+    requires sources { ReadsSources (program_of system.now) (R.tells reader.old) }
+    requires saved { AreSaved system.now (R.tells reader.old) saved.old }
     ensures evaluates { EvaluatesBody (program_of system.now) (R.tells reader.old) (R.tells reader.new) expression node result }
-    ensures saved { AreSaved system.now (R.tells reader.new).has saved.new }
+    ensures saved { AreSaved system.now (R.tells reader.new) saved.new }
 {
     let at = NodeRef::of_source(Some(node));
     let turn = resume_body(alloc, system, expression, at, reader, saved)?;
@@ -60,9 +61,10 @@ fn condition<'a, R: Reader>(
     requires known { IfSome guard (λ e. e.0 < length (bodies (program_of system.now).rules)) }
     requires few { node + 1 < 2 ^ 32 }
     requires sound { IsSound (program_of system.now) (R.tells reader.old) }
-    requires saved { AreSaved system.now (R.tells reader.old).has saved.old }
+    requires sources { ReadsSources (program_of system.now) (R.tells reader.old) }
+    requires saved { AreSaved system.now (R.tells reader.old) saved.old }
     ensures evaluates { EvaluatesCondition (program_of system.now) (R.tells reader.old) (R.tells reader.new) guard node result }
-    ensures saved { AreSaved system.now (R.tells reader.new).has saved.new }
+    ensures saved { AreSaved system.now (R.tells reader.new) saved.new }
 {
     match guard {
         Some(expression) => evaluate_part(alloc, system, expression, node, reader, saved),
@@ -82,10 +84,11 @@ pub(crate) fn weigh<'a, R: Reader>(
     requires known { number < length (program_of system.now).rules.contributions }
     requires few { node + 1 < 2 ^ 32 }
     requires sound { IsSound (program_of system.now) (R.tells reader.old) }
-    requires saved { AreSaved system.now (R.tells reader.old).has saved.old }
+    requires sources { ReadsSources (program_of system.now) (R.tells reader.old) }
+    requires saved { AreSaved system.now (R.tells reader.old) saved.old }
     ensures kept { Grows (program_of system.now) (R.tells reader.old) (R.tells reader.new) }
     ensures weighed { IfOk result (IsWeighedAt (program_of system.now) (R.tells reader.new).has number node) }
-    ensures saved { AreSaved system.now (R.tells reader.new).has saved.new }
+    ensures saved { AreSaved system.now (R.tells reader.new) saved.new }
 {
     let contribution = system.rules().contribution(number);
     match condition(alloc, system, contribution.guard, node, reader, saved)? {

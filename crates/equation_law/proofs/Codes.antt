@@ -1,11 +1,13 @@
 -- Namings, and codes of 32 bits that stand for integers.
-use Rattle.std.proofs.Common.{◌≡◌, ℕ, zero, suc, ◌+◌, ◌<◌, ◌^◌, ℤ, pos, length, unsigned_abs, arith, ap, ◌∙◌, refl, sym}
+use Rattle.std.proofs.Common.{◌≡◌, ℕ, zero, suc, ◌+◌, ◌<◌, ◌≤◌, ◌^◌, ℤ, pos, Option, Some, None, IfSome, List, [], length, unsigned_abs, arith, ap, ◌∙◌, refl, sym, subst, inl, inr}
 use Rattle.std.specs.Int.{cast_signed, int_wrap}
 use Rattle.std.proofs.Math.Nat.{mod-eq_of_lt}
+use Rattle.std.proofs.lemmas.Bool.{cases_lt}
 use Rattle.std.proofs.lemmas.Int.{int_rem_euclid_is}
 use mir.Syntax.{w32}
-use Rattle.equation_law.specs.Codes.{IsNamingOf, Naming, reference_by, source_names}
-use Rattle.equation_law.specs.Names.{At, Source}
+use Rattle.equation_law.specs.Codes.{IsNamingOf, Naming, reference_by, reference_of, source_names}
+use Rattle.equation_law.specs.Equations.{source_or_null}
+use Rattle.equation_law.specs.Names.{At, NodeName, Null, Source}
 use Rattle.equation_law.specs.Program.{Program, text_of}
 
 -- a code wraps to its two's complement
@@ -36,3 +38,29 @@ one_reference {n = n} h (suc a) (suc b) same = ap suc (h.one_code a b (at_node s
 -- and no source node of the program is made
 pub sources_named_by : {p : Program} {n : Naming} → IsNamingOf p n → (k : ℕ) → k < length p.tree → reference_by n.node (suc k) ≡ At (Source k)
 sources_named_by h k within = ap At (h.sources k within)
+
+-- a code past the tree stands for no source node of the program
+pub past_tree : {p : Program} {n : Naming} → IsNamingOf p n → (k : ℕ) → length p.tree ≤ k → (j : ℕ) × (length p.tree ≤ j) × (n.node k ≡ Source j)
+past_tree {p} {n} h k past = of (n.node k) refl
+  where
+    of : (x : NodeName) → n.node k ≡ x → (j : ℕ) × (length p.tree ≤ j) × (n.node k ≡ Source j)
+    of (Source j) e = elim (cases_lt j (length p.tree)) [
+      | inl w ↦ absurd (let same = h.one_code k j (e ∙ sym (h.sources j w)) in omega (arith, same, w, past))
+      | inr w ↦ (j, w, e)
+    ]
+
+-- the code of a source node of the program, or of null, stands for it by each naming for the program
+pub source_by : {p : Program} {n : Naming} → IsNamingOf p n → (o : Option ℕ) → IfSome o (λ k. k < length p.tree) → (c : ℕ) → reference_of c ≡ source_or_null o → reference_by n.node c ≡ source_or_null o
+source_by h None within zero e = refl
+source_by h None within (suc c) e = cc
+source_by h (Some k) within zero e = cc
+source_by {n = n} h (Some k) within (suc c) e = let same : c ≡ k = cc in ap (λ j. At (n.node j)) same ∙ ap At (h.sources k within)
+
+-- the node of a code by a naming, from the number that it has as a source node
+pub null_by : (nodes : ℕ → NodeName) (c : ℕ) → Null ≡ reference_of c → reference_by nodes c ≡ Null
+null_by nodes zero e = refl
+null_by nodes (suc c) e = cc
+
+pub node_by : (nodes : ℕ → NodeName) (k c : ℕ) → At (Source k) ≡ reference_of c → reference_by nodes c ≡ At (nodes k)
+node_by nodes k zero e = cc
+node_by nodes k (suc c) e = let same : c ≡ k = cc in ap (λ j. At (nodes j)) same

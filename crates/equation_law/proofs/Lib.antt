@@ -27,6 +27,7 @@ pub mod Sets
 pub mod SetsOrder
 pub mod Sites
 pub mod Solution
+pub mod Sources
 mod Spanned
 pub mod Subtree
 pub mod Typed

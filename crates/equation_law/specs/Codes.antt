@@ -1,5 +1,6 @@
 -- What codes stand for.
 use Rattle.std.specs.Prelude.{ℕ, ◌≡◌, zero, suc, pos, ◌<◌, ◌≤◌, ◌^◌, not, ◌==◌, List, [], ◌∷◌, All, length, map, take}
+use Rattle.std.specs.declared.cmp.Ordering.TheVariants.{Less}
 use Rattle.std.specs.Int.{int_wrap}
 use mir.Syntax.{w32}
 use Rattle.attr_rules.specs.declared.kinds.Kind.{Kind}
@@ -11,7 +12,7 @@ use Rattle.equation_law.specs.declared.coding.Value.{Value as CodedValue}
 use Rattle.equation_law.specs.declared.coding.Value.TheVariants as coded
 use Rattle.equation_law.specs.declared.coding.Single.{Single}
 use Rattle.equation_law.specs.declared.coding.Single.TheVariants as single
-use Rattle.equation_law.specs.Names.{Argument, At, Attribute, Instance, NodeName, Null, Query, Reference, Source}
+use Rattle.equation_law.specs.Names.{Argument, At, Attribute, Instance, NodeName, Null, Query, Reference, Source, node_cmp}
 use Rattle.equation_law.specs.Program.{Program, attribute_parameters, text_of}
 use Rattle.equation_law.specs.Values.{Int, Node, Nodes, Text, Texts, Truth, Value, as_argument, default_of}
 use Rattle.equation_law.specs.Sets.{set_of}
@@ -31,6 +32,14 @@ pub record IsNamingOf (p : Program) (n : Naming) : Type 0 where
 -- it holds by each naming for the program, whatever was made
 abbrev pub ByEachNaming : Program → (Naming → Type 0) → Type 0
 ByEachNaming p holds = (n : Naming) → IsNamingOf p n → holds n
+
+-- the nodes of its codes rise in the order of names
+abbrev pub IsInOrder : Naming → Type 0
+IsInOrder n = (j k : ℕ) → j < k → node_cmp (n.node j) (n.node k) ≡ Less
+
+-- it holds by each naming for the program whose codes are in the order of their nodes
+abbrev pub ByEachOrder : Program → (Naming → Type 0) → Type 0
+ByEachOrder p holds = (n : Naming) → IsNamingOf p n → IsInOrder n → holds n
 
 -- these texts, and source nodes alone: the naming where nothing was made
 abbrev pub source_names : (ℕ → List ℕ) → Naming
@@ -75,14 +84,6 @@ single_of texts v = single_by (source_names texts) v
 
 abbrev pub value_of : (ℕ → List ℕ) → CodedValue → Value
 value_of texts v = value_by (source_names texts) v
-
--- the value that a coded one stands for in a program
-abbrev pub stands_for : Program → CodedValue → Value
-stands_for p v = value_of (text_of p) v
-
--- the values that coded ones stand for there, which are no sets
-abbrev pub stand_for : Program → List Single → List Value
-stand_for p vs = map (single_of (text_of p)) vs
 
 -- The elements of a set are coded well: each text is one of the program, and none is null. Then each element has one code.
 abbrev pub AreElements : Program → CodedValue → Type 0

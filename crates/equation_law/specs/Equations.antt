@@ -67,10 +67,11 @@ count_of p (Source n) k = count_in p.tree n k
 abbrev pub is_of_class : Program → ClassId → NodeName → Bool
 is_of_class p c (Source k) = is_below p.grammar (class_of p k) c
 
--- the value that a code stands for, by the texts; a missing one is the type's default
+-- the value that a token's code stands for, by the texts; a missing one is the type's default, and no token is a node
 abbrev pub decoded : (ℕ → List ℕ) → Kind → Option ℕ → Value
 decoded texts t None = default_of t
-decoded texts t (Some c) = value_at texts t c
+decoded texts (kinds.Node c) (Some v) = Node Null
+decoded texts t (Some v) = value_at texts t v
 
 -- a token of a source node stands in the tree, and demands nothing
 abbrev pub token_of : Program → Kind → NodeName → ℕ → Demands Instance Value

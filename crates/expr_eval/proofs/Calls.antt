@@ -1,51 +1,67 @@
 -- What a call on a receiver comes to, and the token of one.
 use Rattle.std.proofs.Common.{◌≡◌, ℕ, zero, suc, List, [], ◌∷◌, Option, Some, None, Result, Ok, Err, refl, sym, ap, subst, ◌∙◌}
+use Rattle.attr_rules.specs.declared.kinds.AttrId.{AttrId}
 use Rattle.attr_rules.specs.declared.kinds.Kind.{Kind}
-use Rattle.solutions.specs.Asking.{Ends, Gives, Halts, asks, at, gives}
+use Rattle.solutions.specs.Asking.{Ends, Gives, asks, at, gives}
 use Rattle.equation_law.specs.declared.coding.Args.{Args}
 use Rattle.equation_law.specs.declared.coding.Instance.{Instance as CodedInstance}
+use Rattle.equation_law.specs.declared.coding.Instance.TheVariants as coded_instance
+use Rattle.equation_law.specs.declared.coding.NodeRef.{NodeRef}
 use Rattle.equation_law.specs.declared.coding.Value.{Value as CodedValue}
-use Rattle.equation_law.specs.Codes.{AreElements, IsCoded, arguments_of, instance_of, reference_of, value_of}
+use Rattle.equation_law.specs.Codes.{AreElements, IsCoded, Naming, arguments_for, instance_by, reference_by, value_by}
 use Rattle.equation_law.specs.Equations.{attribute_kind, kind_in, world_of}
 use Rattle.equation_law.specs.Meaning.{call_at, demand, token_at}
-use Rattle.equation_law.specs.Names.{Argument, Attribute, Instance, Reference}
-use Rattle.equation_law.specs.Program.{Program, text_of}
-use Rattle.equation_law.specs.Reading.{Grows, IsSound, Settles, Told}
-use Rattle.equation_law.specs.Values.{as_kind, default_of}
+use Rattle.equation_law.specs.Names.{At, Attribute, Instance}
+use Rattle.equation_law.specs.Program.{Program}
+use Rattle.equation_law.specs.Reading.{ByEachIn, Grows, HasNone, HasThere, IsSound, Settles, Told}
+use Rattle.equation_law.specs.Values.{Value, as_kind, default_of}
 use Rattle.expr_eval.specs.declared.evaluation.Halt.{Halt}
 use Rattle.expr_eval.specs.declared.evaluation.Halt.TheVariants.{Need}
-use Rattle.expr_eval.specs.Evaluating.{Answers, CallReads, DemandReads, Given, TokenReads}
-use Rattle.expr_eval.proofs.Forms.{gives_value, grows_self}
+use Rattle.expr_eval.specs.Evaluating.{Answers, AreValues, CallReads, Comes, DemandReads, TokenReads, Wants, demand_of}
+use Rattle.expr_eval.proofs.Forms.{answers_as, gives_value, grows_self}
 
-module _ {S : Type 0} (p : Program) (r : Told S) (a : ℕ) (xs : Args) where
+module _ {S : Type 0} (p : Program) (r : Told S) (attr : AttrId) (xs : Args) where
   -- on null it is the default of the type
-  pub call_null : (n : ℕ) (x : CodedValue) (k : Kind) → IsSound p r → n ≡ 0 → k ≡ attribute_kind p a → value_of (text_of p) x ≡ default_of k → AreElements p x → CallReads p r r a n xs (Ok x)
-  call_null n x k sound null kind e good = record {
+  pub call_null : (m : ℕ) (x : CodedValue) (k : Kind) → IsSound p r → m ≡ 0 → k ≡ attribute_kind p attr.0 → ByEachIn r (λ n. value_by n x ≡ default_of k) → AreElements p x → CallReads p r r attr.0 m xs (Ok x)
+  call_null m x k sound null kind e good = record {
     kept = grows_self sound;
-    is = λ vs are. subst (λ (o : Reference). Answers p r (call_at (world_of p) a o vs) (Ok x)) (ap reference_of (sym null)) (gives_value (e ∙ ap default_of kind) good);
+    is = λ vs are. subst (λ (o : ℕ). Answers p r (λ n. call_at (world_of p) attr.0 (reference_by n.node o) (vs n)) (Ok x)) (sym null) (gives_value (λ n at. e n at ∙ ap default_of kind) good);
   }
 
+  at_node : (n : Naming) (m : ℕ) → (m ≡ 0 → ⊥) → (vs : List Value) → AreValues p n attr.0 xs vs → demand (attribute_kind p attr.0) (Attribute attr.0 (reference_by n.node m) (arguments_for p n attr.0 xs)) ≡ call_at (world_of p) attr.0 (reference_by n.node m) vs
+  at_node n zero there vs are = absurd (there refl)
+  at_node n (suc m) there vs are = ap (λ zs. demand (attribute_kind p attr.0) (Attribute attr.0 (At (n.node m)) zs)) are
+
   -- at a node it is the value of the attribute there
-  pub call_there : (s : Told S) (n : ℕ) (res : Result CodedValue Halt) → (n ≡ 0 → ⊥) → DemandReads p r s (Attribute a (reference_of n) (arguments_of p a xs)) res → CallReads p r s a n xs res
-  call_there s zero res there h = absurd (there refl)
-  call_there s (suc n) res there h = record {
+  pub call_there : (s : Told S) (node : NodeRef) (res : Result CodedValue Halt) → (node.0 ≡ 0 → ⊥) → DemandReads p r s (coded_instance.Attr attr node xs) res → CallReads p r s attr.0 node.0 xs res
+  call_there s node res there h = record {
     kept = h.kept;
-    is = λ vs are. subst (λ (zs : List Argument). Answers p s (demand (attribute_kind p a) (Attribute a (reference_of (suc n)) zs)) res) are h.is;
+    is = λ vs are. answers_as p s (demand_of p (coded_instance.Attr attr node xs)) (λ n. call_at (world_of p) attr.0 (reference_by n.node node.0) (vs n)) res (λ n at. at_node n node.0 there (vs n) (are n at)) h.is;
   }
 
 -- a token that demands nothing
-pub token_given : {S : Type 0} {p : Program} {r : Told S} {t : Kind} {k n : ℕ} {x : CodedValue} → IsSound p r → Gives (value_of (text_of p) x) ≡ token_at (world_of p) t k (reference_of n) → AreElements p x → TokenReads p r r t k n (Ok x)
-token_given {p = p} {r = r} {x = x} sound is good = record { kept = grows_self sound; is = subst (λ c. Given p r c x) is (gives_value refl good) }
+pub token_given : {S : Type 0} {p : Program} {r : Told S} {t : Kind} {k m : ℕ} {x : CodedValue} → IsSound p r → ((n : Naming) → r.names n → Gives (value_by n x) ≡ token_at (world_of p) t k (reference_by n.node m)) → AreElements p x → TokenReads p r r t k m (Ok x)
+token_given {p = p} {r = r} {t = t} {k = k} {m = m} {x = x} sound is good = record {
+  kept = grows_self sound;
+  is = answers_as p r (λ n. Gives (value_by n x)) (λ n. token_at (world_of p) t k (reference_by n.node m)) (Ok x) is (gives_value (λ n at. refl) good);
+}
 
-module _ {S : Type 0} (p : Program) (r s : Told S) (grows : Grows p r s) (i : Instance) where
-  -- the value that the reader has
-  pub settled : (v : CodedValue) (o : Option CodedValue) → o ≡ Some v → Settles p s i (Ok o) → DemandReads p r s i (Ok v)
-  settled v o is g =
-      let h = subst (λ (x : Option CodedValue). Settles p s i (Ok x)) is g in
-      record { kept = grows; is = record { demands = i ∷ []; ends = asks h.0.1 (subst (λ x. Ends s.has (Gives (as_kind (kind_in p i) h.0.0)) x []) (sym h.0.2) gives); coded = h.1 } }
+module _ {S : Type 0} (p : Program) (s : Told S) (i : Instance) where
+  -- the value that a reader has
+  there : (v : Value) → HasThere p s i v → Comes s.has (demand (kind_in p i) i) v
+  there v h = (i ∷ [], asks h.1 (subst (λ x. Ends s.has (Gives (as_kind (kind_in p i) h.0)) x []) (sym h.2) gives))
 
   -- it has none
-  pub needed : (n : CodedInstance) (o : Option CodedValue) → i ≡ instance_of p n → IsCoded p n → o ≡ None → Settles p s i (Ok o) → DemandReads p r s i (Err (Need n))
-  needed n o same coded is g =
-      let h = subst (λ (x : Option CodedValue). Settles p s i (Ok x)) is g in
-      record { kept = grows; is = record { demands = []; halts = subst (λ j. Halts s.has (demand (kind_in p i) i) j []) same (at h); coded = coded } }
+  none_there : HasNone s i → Wants s.has (demand (kind_in p i) i) i
+  none_there h = ([], at h)
+
+module _ {S : Type 0} (p : Program) (r s : Told S) (grows : Grows p r s) (i : CodedInstance) where
+  pub settled : (v : CodedValue) (o : Option CodedValue) → o ≡ Some v → Settles p s (λ n. instance_by p n i) (Ok o) → DemandReads p r s i (Ok v)
+  settled v o is g =
+      let h = subst (λ (x : Option CodedValue). Settles p s (λ n. instance_by p n i) (Ok x)) is g in
+      record { kept = grows; is = record { comes = λ n at. there p s (instance_by p n i) (value_by n v) (h.0 n at); coded = h.1 } }
+
+  pub needed : (o : Option CodedValue) → IsCoded p i → o ≡ None → Settles p s (λ n. instance_by p n i) (Ok o) → DemandReads p r s i (Err (Need i))
+  needed o coded is g =
+      let h = subst (λ (x : Option CodedValue). Settles p s (λ n. instance_by p n i) (Ok x)) is g in
+      record { kept = grows; is = record { wants = λ n at. none_there p s (instance_by p n i) (h n at); coded = coded } }

@@ -12,16 +12,17 @@ use Rattle.attr_rules.specs.Types.{parameter_kinds, text_kind}
 use Rattle.solutions.proofs.Runs.{ends_more}
 use Rattle.equation_law.specs.declared.coding.Args.{Args}
 use Rattle.equation_law.specs.declared.coding.Value.{Value as CodedValue}
-use Rattle.equation_law.specs.Codes.{AreCodes, IsCode, IsRow, IsSmall, arguments_at, codes_in, value_at, value_of}
+use Rattle.equation_law.specs.Codes.{AreCodes, ByEachNaming, IsCode, IsRow, IsSmall, Naming, arguments_by, codes_in, value_by, value_coded}
 use Rattle.equation_law.specs.Equations.{world_of}
-use Rattle.equation_law.specs.Meaning.{Place, with_arguments}
-use Rattle.equation_law.specs.Program.{Program, text_of}
+use Rattle.equation_law.specs.Meaning.{with_arguments}
+use Rattle.equation_law.specs.Program.{Program}
 use Rattle.equation_law.specs.Values.{Value, as_argument, as_arguments, as_kind}
 use Rattle.expr_eval.specs.declared.evaluation.Halt.{Halt}
 use Rattle.expr_eval.specs.declared.evaluation.Halt.TheVariants.{Need, Memory}
-use Rattle.expr_eval.specs.Evaluating.{end, more}
+use Rattle.expr_eval.specs.Evaluating.{Places, end, more}
 use Rattle.expr_eval.specs.Reads.{ArgumentsRead, IsReady, Reads, State}
-use Rattle.expr_eval.proofs.Forms.{advances_self, advances_then, halts_first, halts_next}
+use Rattle.expr_eval.proofs.Forms.{advances_self, advances_then, naming_in, wants_first, wants_next}
+use Rattle.expr_eval.proofs.Growing.{comes_more}
 
 -- a code of another type than that of texts
 pub small_code : (p : Program) (k : Kind) (c : ℕ) → text_kind k ≡ false → IsSmall k c → c < 2 ^ 32 → IsCode p k c
@@ -41,13 +42,13 @@ text_is kinds.Texts e = cc
 text_is (kinds.Nodes d) e = cc
 
 -- the code of an argument; no argument is a set
-pub coded_argument : (texts : ℕ → List ℕ) (k : Kind) (c : ℕ) (v : Value) → (is_single k ≡ true → value_at texts k c ≡ as_kind k v) → as_argument k (value_at texts k c) ≡ as_argument k v
-coded_argument texts kinds.Truth c v h = ap (as_argument kinds.Truth) (h refl)
-coded_argument texts kinds.Int c v h = ap (as_argument kinds.Int) (h refl)
-coded_argument texts kinds.Text c v h = ap (as_argument kinds.Text) (h refl)
-coded_argument texts (kinds.Node d) c v h = ap (as_argument (kinds.Node d)) (h refl)
-coded_argument texts kinds.Texts c v h = refl
-coded_argument texts (kinds.Nodes d) c v h = refl
+pub coded_argument : (n : Naming) (k : Kind) (c : ℕ) (v : Value) → (is_single k ≡ true → value_coded n k c ≡ as_kind k v) → as_argument k (value_coded n k c) ≡ as_argument k v
+coded_argument n kinds.Truth c v h = ap (as_argument kinds.Truth) (h refl)
+coded_argument n kinds.Int c v h = ap (as_argument kinds.Int) (h refl)
+coded_argument n kinds.Text c v h = ap (as_argument kinds.Text) (h refl)
+coded_argument n (kinds.Node d) c v h = ap (as_argument (kinds.Node d)) (h refl)
+coded_argument n kinds.Texts c v h = refl
+coded_argument n (kinds.Nodes d) c v h = refl
 
 module _ (p : Program) where
   -- no codes are always few enough
@@ -55,9 +56,9 @@ module _ (p : Program) where
   no_codes [] = tt
   no_codes (k ∷ ks) = tt
 
-  no_arguments : (ks : List Kind) → arguments_at (text_of p) ks [] ≡ as_arguments ks []
-  no_arguments [] = refl
-  no_arguments (k ∷ ks) = refl
+  no_arguments : (n : Naming) (ks : List Kind) → arguments_by n ks [] ≡ as_arguments ks []
+  no_arguments n [] = refl
+  no_arguments n (k ∷ ks) = refl
 
   codes_few : (ks : List Kind) (cs : List ℕ) → AreCodes p ks cs → length cs ≤ length ks
   codes_few [] [] h = omega arith
@@ -98,7 +99,7 @@ room_behind p ps xs {k} {ks} first rest row codes =
     let behind = ap length rest in
     omega (arith, few, count, all, one, behind)
 
-module _ {S : Type 0} {p : Program} {place : Place} where
+module _ {S : Type 0} {p : Program} {place : Places} where
   -- arguments that are kept in this form
   pub said_arguments : {r s : State S} {ks : List Kind} {a b : TArgs} {res : Result Args Halt} → a ≡ b → ArgumentsRead p r s place ks (arguments_of b) res → ArgumentsRead p r s place ks (arguments_of a) res
   said_arguments {r = r} {s = s} {ks = ks} {res = res} h x = subst (λ y. ArgumentsRead p r s place ks (arguments_of y) res) (sym h) x
@@ -118,26 +119,26 @@ module _ {S : Type 0} {p : Program} {place : Place} where
   none_given {ks = ks} xs sound row none = record {
     kept = advances_self sound;
     is = record {
-      values = [];
-      collects = end;
+      values = λ n. [];
+      collects = λ n at. end;
       row = row;
       codes = subst (AreCodes p ks) (sym none) (no_codes p ks);
-      are = ap (arguments_at (text_of p) ks) none ∙ no_arguments p ks;
+      are = λ n at. ap (arguments_by n ks) none ∙ no_arguments p n ks;
     };
   }
 
   -- the first has no value, or one behind it
   pub first_halts : {r s : State S} {ks : List Kind} {e : Expression} {es : Arguments} {h : Halt} → Reads p r s place e (Err h) → ArgumentsRead p r s place ks (argument e es) (Err h)
-  first_halts {es = es} {h = Need i} a = record { kept = a.kept; is = record { stopped = λ f. (a.is.demands, halts_first (λ v. with_arguments (world_of p) es place (λ vs. f (v ∷ vs))) a.is.halts); coded = a.is.coded } }
+  first_halts {s = s} {es = es} {h = Need i} a = record { kept = a.kept; is = record { stopped = λ n at f. wants_first (λ v. with_arguments (world_of p) es (place n) (λ vs. f (v ∷ vs))) (a.is.wants n at); coded = a.is.coded } }
   first_halts {h = Memory} a = record { kept = a.kept; is = tt }
 
   pub rest_halts : {r m s : State S} {ks ls : List Kind} {e : Expression} {es : Arguments} {v : CodedValue} {h : Halt} → Reads p r m place e (Ok v) → ArgumentsRead p m s place ls es (Err h) → ArgumentsRead p r s place ks (argument e es) (Err h)
-  rest_halts {es = es} {v = v} {h = Need i} a b = record {
+  rest_halts {s = s} {es = es} {v = v} {h = Need i} a b = record {
     kept = advances_then a.kept b.kept;
     is = record {
-      stopped = λ f.
-          let stopped = b.is.stopped (λ vs. f (value_of (text_of p) v ∷ vs)) in
-          (a.is.demands ++ stopped.0, halts_next (λ w. with_arguments (world_of p) es place (λ vs. f (w ∷ vs))) (ends_more b.kept.values a.is.ends) stopped.1);
+      stopped = λ n at f.
+          let first = comes_more b.kept.values (a.is.comes n (b.kept.names n at)) in
+          wants_next (λ w. with_arguments (world_of p) es (place n) (λ vs. f (w ∷ vs))) first (b.is.stopped n at (λ vs. f (value_by n v ∷ vs)));
       coded = b.is.coded;
     };
   }
@@ -145,17 +146,17 @@ module _ {S : Type 0} {p : Program} {place : Place} where
 
   -- all have values, and there is a parameter for the first
   pub one_given : {r m s : State S} {ls : List Kind} {e : Expression} {es : Arguments} {v : CodedValue} {k : Kind} {c : ℕ} {xs : Args} (ks : List Kind) (ys : Args) → Some k ≡ slice_get ks 0 → ls ≡ drop 1 ks → Reads p r m place e (Ok v) → ArgumentsRead p m s place ls es (Ok xs)
-      → IsCode p k c → as_argument k (value_at (text_of p) k c) ≡ as_argument k (value_of (text_of p) v) → IsRow ys → codes_in ys ≡ c ∷ codes_in xs → ArgumentsRead p r s place ks (argument e es) (Ok ys)
+      → IsCode p k c → ByEachNaming p (λ n. as_argument k (value_coded n k c) ≡ as_argument k (value_by n v)) → IsRow ys → codes_in ys ≡ c ∷ codes_in xs → ArgumentsRead p r s place ks (argument e es) (Ok ys)
   one_given {r = r} {s = s} {ls = ls} {e = e} {es = es} {v = v} {k = k} {c = c} {xs = xs} ks ys first rest a b code value row codes =
       let whole : k ∷ ls ≡ ks = ap (λ zs. k ∷ zs) rest ∙ sym (first_and_rest ks k first) in
       subst (λ zs. ArgumentsRead p r s place zs (argument e es) (Ok ys)) whole (record {
         kept = advances_then a.kept b.kept;
         is = record {
-          values = value_of (text_of p) v ∷ b.is.values;
-          collects = more (ends_more b.kept.values a.is.ends) b.is.collects;
+          values = λ n. value_by n v ∷ b.is.values n;
+          collects = λ n at. more (ends_more b.kept.values (a.is.comes n (b.kept.names n at)).1) (b.is.collects n at);
           row = row;
           codes = subst (AreCodes p (k ∷ ls)) (sym codes) (code, b.is.codes);
-          are = ap (arguments_at (text_of p) (k ∷ ls)) codes ∙ (λ i. value i ∷ b.is.are i);
+          are = λ n at. (let named = naming_in b.kept n at in ap (arguments_by n (k ∷ ls)) codes ∙ (λ i. value n named.0 i ∷ b.is.are n at i));
         };
       })
 
@@ -166,10 +167,10 @@ module _ {S : Type 0} {p : Program} {place : Place} where
       subst (λ zs. ArgumentsRead p r s place zs (argument e es) (Ok ys)) (sym (nothing_first ks none)) (record {
         kept = advances_then a.kept b.kept;
         is = record {
-          values = value_of (text_of p) v ∷ b.is.values;
-          collects = more (ends_more b.kept.values a.is.ends) b.is.collects;
+          values = λ n. value_by n v ∷ b.is.values n;
+          collects = λ n at. more (ends_more b.kept.values (a.is.comes n (b.kept.names n at)).1) (b.is.collects n at);
           row = row;
           codes = subst (AreCodes p []) (sym codes) tt;
-          are = refl;
+          are = λ n at. refl;
         };
       })

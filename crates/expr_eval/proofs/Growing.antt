@@ -6,14 +6,15 @@ use Rattle.attr_rules.specs.declared.expression.Quantifier.TheVariants.{Any, All
 use Rattle.attr_rules.specs.declared.kinds.Kind.{Kind}
 use Rattle.attr_rules.specs.Expression.{Expression}
 use Rattle.equation_law.specs.declared.system.System.{System}
-use Rattle.equation_law.specs.Meaning.{Place}
 use Rattle.equation_law.specs.Names.{Instance}
+use Rattle.equation_law.specs.Reading.{ByEachIn, Told}
 use Rattle.equation_law.specs.Values.{Value}
 use Rattle.expr_eval.specs.declared.accessors.Elements.{Elements}
 use Rattle.expr_eval.specs.declared.saved.Making.{Making}
 use Rattle.expr_eval.specs.declared.saved.Making.TheVariants.{Joins, Tests}
 use Rattle.expr_eval.specs.declared.saved.Saved.{Saved}
 use Rattle.expr_eval.specs.declared.saved.Stand.{Stand}
+use Rattle.expr_eval.specs.Evaluating.{Comes, Places}
 use Rattle.expr_eval.specs.Going.{Joined, Passed, Sought, Went, found, further, joined, more, none, nothing, nowhere, seeks}
 use Rattle.expr_eval.specs.Saved.{AreSaved, HasGone, IsRanged, Stands}
 
@@ -41,12 +42,16 @@ module _ {A B : Instance → Value → Type 0} (g : (i : Instance) (v : Value) �
   gone_more element f count (Tests First) n v h = sought_more g h
   gone_more element f count (Joins t) n v h = joined_more g h
 
-  pub stands_more : {s : System} {place : Place} {m : Making} {b : Expression} {list : Elements} {stand : Stand} → Stands s A place m b list stand → Stands s B place m b list stand
-  stands_more {m = m} h = record { gone = gone_more _ _ _ m _ _ h.gone; within = h.within; coded = h.coded }
+pub comes_more : {A B : Instance → Value → Type 0} → ((i : Instance) (v : Value) → A i v → B i v) → {c : Demands Instance Value} {v : Value} → Comes A c v → Comes B c v
+comes_more g h = (h.0, ends_more g h.1)
 
-  pub ranged_more : {s : System} {place : Place} {e : Expression} {list : Elements} → IsRanged s A place e list → IsRanged s B place e list
-  ranged_more h = record { value = h.value; demands = h.demands; ends = ends_more g h.ends; are = h.are }
+module _ {S T : Type 0} {r : Told S} {t : Told T} (g : (i : Instance) (v : Value) → r.has i v → t.has i v) (names : ByEachIn t r.names) where
+  pub stands_more : {s : System} {place : Places} {m : Making} {b : Expression} {list : Elements} {stand : Stand} → Stands s r place m b list stand → Stands s t place m b list stand
+  stands_more {m = m} h = record { gone = λ n at. gone_more g _ _ _ m _ _ (h.gone n (names n at)); within = h.within; coded = h.coded }
+
+  pub ranged_more : {s : System} {place : Places} {e : Expression} {list : Elements} → IsRanged s r place e list → IsRanged s t place e list
+  ranged_more h = λ n at. let one = h n (names n at) in record { value = one.value; comes = comes_more g one.comes; are = one.are }
 
   -- what is saved stays so
-  pub saved_more : {s : System} (x : Saved) → AreSaved s A x → AreSaved s B x
+  pub saved_more : {s : System} (x : Saved) → AreSaved s r x → AreSaved s t x
   saved_more x h = λ going kept. let one = h going kept in record { names = one.names; room = one.room; ranged = ranged_more one.ranged; stands = stands_more one.stands }

@@ -1,4 +1,6 @@
+pub mod Accessed
 pub mod Bound
+pub mod BySources
 pub mod Calls
 pub mod Forms
 pub mod Found

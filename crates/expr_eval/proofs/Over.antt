@@ -40,6 +40,17 @@ done_within count (Tests First) n w h = by (truth w)
     by false = omega (arith, h)
 done_within count (Joins t) n w h = omega (arith, h)
 
+-- each element that is gone over is done with
+pub done_further : (count : ℕ) (m : Making) (n : ℕ) (w : Value) → n < count → n < done m count n w
+done_further count (Tests Any) n w h = omega arith
+done_further count (Tests All) n w h = omega arith
+done_further count (Tests First) n w h = by (truth w)
+  where
+    by : (b : Bool) → n < cond b count (n + 1)
+    by true = h
+    by false = omega arith
+done_further count (Joins t) n w h = omega arith
+
 -- before the first
 pub gone_begun : (A : Instance → Value → Type 0) (element : ℕ → Value) (f : Value → Demands Instance Value) (count : ℕ) (m : Making) → HasGone A element f count m 0 (begun m)
 gone_begun A element f count (Tests Any) = (false, refl, nowhere)

@@ -7,14 +7,13 @@ use Rattle.equation_law.specs.declared.coding.Single.TheVariants as singles
 use Rattle.equation_law.specs.declared.coding.Value.{Value as CodedValue}
 use Rattle.equation_law.specs.declared.coding.Value.TheVariants as coded
 use Rattle.equation_law.specs.declared.system.System.{System}
-use Rattle.equation_law.specs.Codes.{AreElements, Naming, single_by, source_names, value_of}
+use Rattle.equation_law.specs.Codes.{AreElements, Naming, single_by, value_by}
 use Rattle.equation_law.specs.Meaning.{named, operate}
-use Rattle.equation_law.specs.Program.{Program, text_of}
+use Rattle.equation_law.specs.Program.{Program}
 use Rattle.equation_law.specs.Values.{Int, Node, Nodes, Text, Texts, Truth, Value}
 use Rattle.expr_eval.specs.declared.accessors.Origin.{Origin}
 use Rattle.expr_eval.specs.declared.accessors.Origin.TheVariants as origins
 use Rattle.expr_eval.specs.Elements.{element_from}
-use Rattle.expr_eval.specs.Evaluating.{texts_in}
 
 abbrev pub is_plain : Value → Bool
 is_plain (Truth b) = true
@@ -24,13 +23,13 @@ is_plain (Node n) = true
 is_plain (Texts s) = false
 is_plain (Nodes s) = false
 
-pub plain_coded : (p : Program) (v : CodedValue) (w : Value) → value_of (text_of p) v ≡ w → is_plain w ≡ true → AreElements p v
-plain_coded p (coded.Truth b) w e h = tt
-plain_coded p (coded.Int z) w e h = tt
-plain_coded p (coded.Text n) w e h = tt
-plain_coded p (coded.Node n) w e h = tt
-plain_coded p (coded.Texts cs) w e h = absurd (let none : false ≡ true = ap is_plain e ∙ h in cc)
-plain_coded p (coded.Nodes cs) w e h = absurd (let none : false ≡ true = ap is_plain e ∙ h in cc)
+pub plain_coded : (p : Program) (n : Naming) (v : CodedValue) (w : Value) → value_by n v ≡ w → is_plain w ≡ true → AreElements p v
+plain_coded p n (coded.Truth b) w e h = tt
+plain_coded p n (coded.Int z) w e h = tt
+plain_coded p n (coded.Text k) w e h = tt
+plain_coded p n (coded.Node k) w e h = tt
+plain_coded p n (coded.Texts cs) w e h = absurd (let none : false ≡ true = ap is_plain e ∙ h in cc)
+plain_coded p n (coded.Nodes cs) w e h = absurd (let none : false ≡ true = ap is_plain e ∙ h in cc)
 
 pub operate_plain : (o : Operator) (v w : Value) → is_plain (operate o v w) ≡ true
 operate_plain Add v w = refl
@@ -53,6 +52,6 @@ named_plain n [] k = refl
 named_plain n (s ∷ names) zero = single_plain n s
 named_plain n (s ∷ names) (suc k) = named_plain n names k
 
-pub element_plain : (s : System) (o : Origin) (i : ℕ) → is_plain (element_from s o i) ≡ true
-element_plain s (origins.List n k) i = refl
-element_plain s (origins.Set xs) i = named_plain (source_names (texts_in s)) xs i
+pub element_plain : (n : Naming) (s : System) (o : Origin) (i : ℕ) → is_plain (element_from n s o i) ≡ true
+element_plain n s (origins.List m k) i = refl
+element_plain n s (origins.Set xs) i = named_plain n xs i

@@ -11,12 +11,12 @@ use Rattle.equation_law.specs.declared.coding.NodeRef.{NodeRef}
 use Rattle.equation_law.specs.declared.coding.Single.{Single as CodedSingle}
 use Rattle.equation_law.specs.declared.coding.Value.{Value as CodedValue}
 use Rattle.equation_law.specs.declared.system.System.{System}
-use Rattle.equation_law.specs.Codes.{AreElements, instance_of, value_of}
+use Rattle.equation_law.specs.Codes.{AreElements, ByEachNaming, Naming, instance_by, single_by, source_names, value_by}
 use Rattle.equation_law.specs.Equations.{world_of}
-use Rattle.equation_law.specs.Meaning.{Place, with_name}
+use Rattle.equation_law.specs.Meaning.{Place}
 use Rattle.equation_law.specs.Names.{Instance}
-use Rattle.equation_law.specs.Program.{Program, text_of}
-use Rattle.equation_law.specs.Reading.{Told}
+use Rattle.equation_law.specs.Program.{Program}
+use Rattle.equation_law.specs.Reading.{ByEachIn, IsSound, Told}
 use Rattle.equation_law.specs.Systems.{program_of}
 use Rattle.equation_law.specs.Values.{Value}
 use Rattle.expr_eval.specs.declared.accessors.Elements.{Elements}
@@ -28,10 +28,10 @@ use Rattle.expr_eval.specs.declared.saved.Making.{Making}
 use Rattle.expr_eval.specs.declared.saved.Saved.{Saved}
 use Rattle.expr_eval.specs.declared.saved.Stand.{Stand}
 use Rattle.expr_eval.specs.Elements.{Rooms, element_in, elements_in, read_with}
-use Rattle.expr_eval.specs.Evaluating.{Answers, Given, Stopped, is_over_form, place_in, place_kept, read_at, texts_in, world_in}
-use Rattle.expr_eval.specs.Reads.{Advances, GoesOver, IsStood, Reads, ReadsStand, State, state}
-use Rattle.expr_eval.specs.Saved.{AddsOne, AreSaved, HasGone, IsFirst, IsGoing, IsRanged, IsTaken, Loses, Stands, begun, body_of, done, made, making_of, over, range_of, ranged}
-use Rattle.expr_eval.proofs.Forms.{advances_then, behind_value, part_err}
+use Rattle.expr_eval.specs.Evaluating.{Answers, Comes, Given, Places, Stopped, Wants, is_over_form, place_in, places_kept, read_at, reads_at}
+use Rattle.expr_eval.specs.Reads.{Advances, GoesOver, IsStood, Reads, ReadsStand, State, places_with, reads_with, state}
+use Rattle.expr_eval.specs.Saved.{AddsOne, AreRanged, AreSaved, HasGone, IsFirst, IsGoing, IsRanged, IsTaken, Loses, RangesBy, Stands, TakesIn, begun, body_of, done, made, making_of, over, range_of, ranged}
+use Rattle.expr_eval.proofs.Forms.{advances_then, answers_as, comes_next, naming_in, part_err, wants_next}
 use Rattle.expr_eval.proofs.Growing.{stands_more}
 use Rattle.expr_eval.proofs.Over.{done_within, gone_begun, gone_ends, gone_further, gone_halts}
 
@@ -51,82 +51,88 @@ over_part p place _ h = cc
 abbrev said_over : System → Place → Expression → Value → Demands Instance Value
 said_over s place e v = over (making_of e) (ranged (world_of (program_of s)) e v) (read_with (program_of s) place (body_of e))
 
-module _ {S : Type 0} (s : System) {r t : State S} (place : Place) (e : Expression) (form : is_over_form e ≡ true) where
+-- what it demands is this
+whole_of : {S : Type 0} (s : System) (t : Told S) (place : Places) (e : Expression) → is_over_form e ≡ true → (res : Result CodedValue Halt) → Answers (program_of s) t (λ n. next (read_at (program_of s) (place n) (range_of e)) (said_over s (place n) e)) res → Answers (program_of s) t (reads_at (program_of s) place e) res
+whole_of s t place e form res a = answers_as (program_of s) t (λ n. next (read_at (program_of s) (place n) (range_of e)) (said_over s (place n) e)) (reads_at (program_of s) place e) res (λ n at. sym (over_part (program_of s) (place n) e form)) a
+
+module _ {S : Type 0} (s : System) {r t : State S} (place : Places) (e : Expression) (form : is_over_form e ≡ true) where
   -- all elements are done with
-  pub over_ends : (x : CodedValue) {list : Elements} {stand : Stand} → Advances (program_of s) r t → IsRanged s t.told.has place e list → Stands s t.told.has place (making_of e) (body_of e) list stand → stand.next ≡ list.count → value_of (text_of (program_of s)) x ≡ value_of (text_of (program_of s)) stand.so_far → AreElements (program_of s) x → Reads (program_of s) r t place e (Ok x)
-  over_ends x {list} {stand} kept range stands all same coded =
-      let f : Value → Demands Instance Value = read_with (program_of s) place (body_of e) in
-      let whole = gone_ends (element_in s list) f list.count (making_of e) stand.next (value_of (text_of (program_of s)) stand.so_far) all stands.gone in
-      let there = subst (λ v. Ends t.told.has (over (making_of e) (elements_in s list) f) v whole.0) (sym same) whole.1 in
-      let ends = subst (λ xs. Ends t.told.has (over (making_of e) xs f) (value_of (text_of (program_of s)) x) whole.0) range.are there in
-      record {
-        kept = kept;
-        is = subst (λ c. Answers (program_of s) t.told c (Ok x)) (sym (over_part (program_of s) place e form)) (behind_value (program_of s) t.told (read_at (program_of s) place (range_of e)) range.value (said_over s place e) (Ok x) range.ends (record { demands = whole.0; ends = ends; coded = coded }));
-      }
+  pub over_ends : (x : CodedValue) {list : Elements} {stand : Stand} → Advances (program_of s) r t → IsRanged s t.told place e list → Stands s t.told place (making_of e) (body_of e) list stand → stand.next ≡ list.count → ((n : Naming) → value_by n x ≡ value_by n stand.so_far) → AreElements (program_of s) x → Reads (program_of s) r t place e (Ok x)
+  over_ends x {list} {stand} kept range stands all same coded = record { kept = kept; is = whole_of s t.told place e form (Ok x) (record { comes = λ n at. by n at (range n at); coded = coded }) }
+    where
+      by : (n : Naming) → t.told.names n → RangesBy s t.told n (place n) e list → Comes t.told.has (next (read_at (program_of s) (place n) (range_of e)) (said_over s (place n) e)) (value_by n x)
+      by n at one =
+          let f : Value → Demands Instance Value = read_with (program_of s) (place n) (body_of e) in
+          let whole = gone_ends (element_in n s list) f list.count (making_of e) stand.next (value_by n stand.so_far) all (stands.gone n at) in
+          let there = subst (λ v. Ends t.told.has (over (making_of e) (elements_in n s list) f) v whole.0) (sym (same n)) whole.1 in
+          let ends = subst (λ xs. Ends t.told.has (over (making_of e) xs f) (value_by n x) whole.0) one.are there in
+          comes_next (said_over s (place n) e) one.comes (whole.0, ends)
 
   -- a demand at one of them has no value
-  pub over_halts : (i : CodedInstance) {list : Elements} {stand : Stand} → Advances (program_of s) r t → IsRanged s t.told.has place e list → Stands s t.told.has place (making_of e) (body_of e) list stand → stand.next < list.count → Stopped (program_of s) t.told (read_with (program_of s) place (body_of e) (element_in s list stand.next)) i → Reads (program_of s) r t place e (Err (Need i))
-  over_halts i {list} {stand} kept range stands within stopped =
-      let f : Value → Demands Instance Value = read_with (program_of s) place (body_of e) in
-      let whole = gone_halts (element_in s list) f list.count (making_of e) stand.next (value_of (text_of (program_of s)) stand.so_far) within stands.gone stopped.halts in
-      let halts = subst (λ xs. Halts t.told.has (over (making_of e) xs f) (instance_of (program_of s) i) whole.0) range.are whole.1 in
-      record {
-        kept = kept;
-        is = subst (λ c. Answers (program_of s) t.told c (Err (Need i))) (sym (over_part (program_of s) place e form)) (behind_value (program_of s) t.told (read_at (program_of s) place (range_of e)) range.value (said_over s place e) (Err (Need i)) range.ends (record { demands = whole.0; halts = halts; coded = stopped.coded }));
-      }
+  pub over_halts : (i : CodedInstance) {list : Elements} {stand : Stand} → Advances (program_of s) r t → IsRanged s t.told place e list → Stands s t.told place (making_of e) (body_of e) list stand → stand.next < list.count
+      → Stopped (program_of s) t.told (reads_with s place (body_of e) (λ n. element_in n s list stand.next)) i → Reads (program_of s) r t place e (Err (Need i))
+  over_halts i {list} {stand} kept range stands within stopped = record { kept = kept; is = whole_of s t.told place e form (Err (Need i)) (record { wants = λ n at. by n at (range n at); coded = stopped.coded }) }
+    where
+      by : (n : Naming) → t.told.names n → RangesBy s t.told n (place n) e list → Wants t.told.has (next (read_at (program_of s) (place n) (range_of e)) (said_over s (place n) e)) (instance_by (program_of s) n i)
+      by n at one =
+          let f : Value → Demands Instance Value = read_with (program_of s) (place n) (body_of e) in
+          let whole = gone_halts (element_in n s list) f list.count (making_of e) stand.next (value_by n stand.so_far) within (stands.gone n at) (stopped.wants n at).1 in
+          let halts = subst (λ xs. Halts t.told.has (over (making_of e) xs f) (instance_by (program_of s) n i) whole.0) one.are whole.1 in
+          wants_next (said_over s (place n) e) one.comes (whole.0, halts)
 
 -- what a form that is kept so makes, and what it says
 pub makes_by : {m : Making} {a b : TExpr} → m ≡ making_of (expression_of a) → a ≡ b → making_of (expression_of b) ≡ m
 makes_by h same = sym (h ∙ ap (λ x. making_of (expression_of x)) same)
 
-pub stands_by : {s : System} {A : Instance → Value → Type 0} {place : Place} {m n : Making} {b d : Expression} {list : Elements} {stand : Stand} → m ≡ n → b ≡ d → Stands s A place m b list stand → Stands s A place n d list stand
-stands_by {s} {A} {place} {m} {n} {b} {d} {list} {stand} x y h = subst (λ o. Stands s A place n o list stand) y (subst (λ o. Stands s A place o b list stand) x h)
+pub stands_by : {S : Type 0} {s : System} {t : Told S} {place : Places} {m n : Making} {b d : Expression} {list : Elements} {stand : Stand} → m ≡ n → b ≡ d → Stands s t place m b list stand → Stands s t place n d list stand
+stands_by {s = s} {t = t} {place = place} {m = m} {n = n} {b = b} {d = d} {list = list} {stand = stand} x y h = subst (λ o. Stands s t place n o list stand) y (subst (λ o. Stands s t place o b list stand) x h)
 
-pub over_by : {S : Type 0} {s : System} {r t : State S} {place : Place} {m n : Making} {b d : Expression} {list : Elements} {stand : Stand} {res : Result Unit Halt} → m ≡ n → b ≡ d → GoesOver s r t place m b list stand res → GoesOver s r t place n d list stand res
+pub over_by : {S : Type 0} {s : System} {r t : State S} {place : Places} {m n : Making} {b d : Expression} {list : Elements} {stand : Stand} {res : Result Unit Halt} → m ≡ n → b ≡ d → GoesOver s r t place m b list stand res → GoesOver s r t place n d list stand res
 over_by {s = s} {r = r} {t = t} {place = place} {m = m} {n = n} {b = b} {d = d} {list = list} {stand = stand} {res = res} x y h = subst (λ o. GoesOver s r t place n o list stand res) y (subst (λ o. GoesOver s r t place o b list stand res) x h)
 
 -- behind one more element
-pub stands_further : {s : System} {A : Instance → Value → Type 0} {place : Place} {m : Making} {b : Expression} {list : Elements} {now : Stand} (then : Stand) (w : Value) {ds : List Instance} → Stands s A place m b list now → now.next < list.count → Ends A (read_with (program_of s) place b (element_in s list now.next)) w ds → then.next ≡ done m list.count now.next w
-    → value_of (texts_in s) then.so_far ≡ made m (element_in s list now.next) (value_of (texts_in s) now.so_far) w → AreElements (program_of s) then.so_far → Stands s A place m b list then
-stands_further {s} {A} {place} {m} {b} {list} {now} then w h within ends next value coded =
-    let element = element_in s list in
-    let f : Value → Demands Instance Value = read_with (program_of s) place b in
-    let gone = gone_further element f list.count m now.next (value_of (texts_in s) now.so_far) w within h.gone ends in
-    let counted = subst (λ n. HasGone A element f list.count m n (made m (element now.next) (value_of (texts_in s) now.so_far) w)) (sym next) gone in
-    record {
-      gone = subst (λ v. HasGone A element f list.count m then.next v) (sym value) counted;
-      within = subst (λ n. n ≤ list.count) (sym next) (done_within list.count m now.next w within);
-      coded = coded;
-    }
+stands_further : {S : Type 0} {s : System} {t : Told S} {place : Places} {m : Making} {b : Expression} {list : Elements} {now : Stand} (then : Stand) (w : Naming → Value) → Stands s t place m b list now → now.next < list.count
+    → ByEachIn t (λ n. Comes t.has (read_with (program_of s) (place n) b (element_in n s list now.next)) (w n)) → then.next ≤ list.count → ((n : Naming) → then.next ≡ done m list.count now.next (w n))
+    → ByEachIn t (λ n. value_by n then.so_far ≡ made m (element_in n s list now.next) (value_by n now.so_far) (w n)) → AreElements (program_of s) then.so_far → Stands s t place m b list then
+stands_further {s = s} {t = t} {place = place} {m = m} {b = b} {list = list} {now = now} then w h within ends few next value coded = record {
+  gone = λ n at.
+      let element = element_in n s list in
+      let f : Value → Demands Instance Value = read_with (program_of s) (place n) b in
+      let gone = gone_further element f list.count m now.next (value_by n now.so_far) (w n) within (h.gone n at) (ends n at).1 in
+      let counted = subst (λ k. HasGone t.has element f list.count m k (made m (element now.next) (value_by n now.so_far) (w n))) (sym (next n)) gone in
+      subst (λ v. HasGone t.has element f list.count m then.next v) (sym (value n at)) counted;
+  within = few;
+  coded = coded;
+}
 
 -- before the first element
-pub stands_begun : {s : System} {A : Instance → Value → Type 0} {place : Place} {m : Making} {b : Expression} {list : Elements} (stand : Stand) → stand.next ≡ 0 → value_of (texts_in s) stand.so_far ≡ begun m → AreElements (program_of s) stand.so_far → Stands s A place m b list stand
-stands_begun {s} {A} {place} {m} {b} {list} stand none value coded =
-    let element = element_in s list in
-    let f : Value → Demands Instance Value = read_with (program_of s) place b in
-    let counted = subst (λ n. HasGone A element f list.count m n (begun m)) (sym none) (gone_begun A element f list.count m) in
-    record {
-      gone = subst (λ v. HasGone A element f list.count m stand.next v) (sym value) counted;
-      within = subst (λ n. n ≤ list.count) (sym none) (omega arith);
-      coded = coded;
-    }
+stands_begun : {S : Type 0} {s : System} {t : Told S} {place : Places} {m : Making} {b : Expression} {list : Elements} (stand : Stand) → stand.next ≡ 0 → ByEachIn t (λ n. value_by n stand.so_far ≡ begun m) → AreElements (program_of s) stand.so_far → Stands s t place m b list stand
+stands_begun {s = s} {t = t} {place = place} {m = m} {b = b} {list = list} stand none value coded = record {
+  gone = λ n at.
+      let element = element_in n s list in
+      let f : Value → Demands Instance Value = read_with (program_of s) (place n) b in
+      let counted = subst (λ k. HasGone t.has element f list.count m k (begun m)) (sym none) (gone_begun t.has element f list.count m) in
+      subst (λ v. HasGone t.has element f list.count m stand.next v) (sym (value n at)) counted;
+  within = subst (λ n. n ≤ list.count) (sym none) (omega arith);
+  coded = coded;
+}
 
 -- what its elements come from has no value
-pub range_stops : {S : Type 0} (s : System) {r t : State S} (place : Place) (names : List CodedSingle) (e : Expression) {h : Halt} → is_over_form e ≡ true → Reads (program_of s) r t place (range_of e) (Err h) → ReadsStand s r t place names (making_of e) e (body_of e) (Err h)
-range_stops s {t = t} place names e {h = h} form a = record {
+pub range_stops : {S : Type 0} (s : System) {r t : State S} (place : Places) (names : List CodedSingle) (e : Expression) {h : Halt} → is_over_form e ≡ true → Reads (program_of s) r t place (range_of e) (Err h) → ReadsStand s r t place names (making_of e) e (body_of e) (Err h)
+range_stops s {r = r} {t = t} place names e {h = h} form a = record {
   kept = a.kept;
-  is = subst (λ c. Answers (program_of s) t.told c (Err h)) (sym (over_part (program_of s) place e form)) (part_err (program_of s) t.told (read_at (program_of s) place (range_of e)) (said_over s place e) h a.is);
+  is = whole_of s t.told place e form (Err h) (part_err (program_of s) t.told (reads_at (program_of s) place (range_of e)) (λ n. said_over s (place n) e) h a.is);
 }
 
 -- its elements are known, and it stands before the first of them
-pub stood_first : {S : Type 0} (c : Context) (e : Expression) {r t : State S} {v : CodedValue} {stood : Elements × Stand} → Reads (program_of c.system.now) r t (place_in c) (range_of e) (Ok v) → elements_in c.system.now stood.0 ≡ ranged (world_in c.system.now) e (value_of (texts_in c.system.now) v)
+pub stood_first : {S : Type 0} (c : Context) (e : Expression) {r t : State S} {v : CodedValue} {stood : Elements × Stand} → Reads (program_of c.system.now) r t (place_in c) (range_of e) (Ok v) → AreRanged c.system.now e v stood.0
     → IsFirst c e stood.1 → ReadsStand c.system.now r t (place_in c) c.names.now (making_of e) e (body_of e) (Ok stood)
 stood_first c e {v = v} {stood = stood} a are first = record {
   kept = a.kept;
   is = record {
     room = first.room;
-    ranged = record { value = value_of (texts_in c.system.now) v; demands = a.is.demands; ends = a.is.ends; are = are };
-    stands = stands_begun stood.1 first.next first.so_far first.coded;
+    ranged = λ n at. let named = naming_in a.kept n at in record { value = value_by n v; comes = a.is.comes n at; are = are n named.0 named.1 };
+    stands = stands_begun stood.1 first.next (λ n at. first.so_far n (naming_in a.kept n at).0) first.coded;
   };
 }
 
@@ -139,70 +145,83 @@ one_room x y = ap behind_first (sym x.1 ∙ y.1)
     behind_first (v ∷ vs) = vs
 
 -- where a form stands, as it was saved
-pub taken : {A : Instance → Value → Type 0} (c : Context) (e : Expression) (x : Saved) {found : Elements × Stand} → AreSaved c.system.now A x → IsTaken c e x found → IsStood c.system.now A (place_in c) c.names.now (making_of e) e (body_of e) found.0 found.1
-taken {A} c e x {found = found} all h =
+pub taken : {S : Type 0} {t : Told S} (c : Context) (e : Expression) (x : Saved) {found : Elements × Stand} → AreSaved c.system.now t x → IsTaken c e x found → IsStood c.system.now t (place_in c) c.names.now (making_of e) e (body_of e) found.0 found.1
+taken {t = t} c e x {found = found} all h =
     let s = c.system.now in
     let g = h.0 in
     let one = all g h.1 in
     let names : one.names ≡ c.names.now = one_room one.room h.2.names in
-    let place : place_kept (texts_in s) g.this.0 one.names ≡ place_in c = (λ i. place_kept (texts_in s) (ap (λ (n : NodeRef). n.0) h.2.this i) (names i)) in
-    let ranged = subst (λ o. IsRanged s A o (expression_of g.form.now) g.list) place one.ranged in
-    let stands = subst (λ o. Stands s A o (making_of (expression_of g.form.now)) (body_of (expression_of g.form.now)) g.list g.stand) place one.stands in
-    let ranged_here = subst (λ f. IsRanged s A (place_in c) f g.list) h.2.form ranged in
-    let stands_here = subst (λ f. Stands s A (place_in c) (making_of f) (body_of f) g.list g.stand) h.2.form stands in
+    let place : places_kept g.this.0 one.names ≡ place_in c = (λ i. places_kept (ap (λ (n : NodeRef). n.0) h.2.this i) (names i)) in
+    let ranged = subst (λ (o : Places). IsRanged s t o (expression_of g.form.now) g.list) place one.ranged in
+    let stands = subst (λ (o : Places). Stands s t o (making_of (expression_of g.form.now)) (body_of (expression_of g.form.now)) g.list g.stand) place one.stands in
+    let ranged_here = subst (λ f. IsRanged s t (place_in c) f g.list) h.2.form ranged in
+    let stands_here = subst (λ f. Stands s t (place_in c) (making_of f) (body_of f) g.list g.stand) h.2.form stands in
     record {
       room = subst (λ (st : Stand). Rooms c.names.now st.names.items) h.4 h.2.names;
-      ranged = subst (λ l. IsRanged s A (place_in c) e l) h.3 ranged_here;
-      stands = subst (λ st. Stands s A (place_in c) (making_of e) (body_of e) found.0 st) h.4 (subst (λ l. Stands s A (place_in c) (making_of e) (body_of e) l g.stand) h.3 stands_here);
+      ranged = subst (λ l. IsRanged s t (place_in c) e l) h.3 ranged_here;
+      stands = subst (λ st. Stands s t (place_in c) (making_of e) (body_of e) found.0 st) h.4 (subst (λ l. Stands s t (place_in c) (making_of e) (body_of e) l g.stand) h.3 stands_here);
     }
 
 module _ {S : Type 0} {p : Program} {q : State S} {s : System} {r : Told S} {x : Saved} where
   -- less is saved
   pub loses : (y : Saved) → Advances p q (state s r x) → Loses x y → Advances p q (state s r y)
-  loses y h less = record { sound = record { sound = h.sound.sound; saved = λ g kept. h.sound.saved g (less g kept) }; values = h.values; bound = h.bound; kept = h.kept }
+  loses y h less = record { sound = record { sound = h.sound.sound; saved = λ g kept. h.sound.saved g (less g kept) }; values = h.values; bound = h.bound; kept = h.kept; names = h.names; sources = h.sources }
 
   -- one more is saved
-  pub puts : (y : Saved) (one : Going) → Advances p q (state s r x) → AddsOne x y one → IsGoing s r.has one → Advances p q (state s r y)
-  puts y one h more is = record { sound = record { sound = h.sound.sound; saved = λ g kept. of g (more g kept) }; values = h.values; bound = h.bound; kept = h.kept }
+  pub puts : (y : Saved) (one : Going) → Advances p q (state s r x) → AddsOne x y one → IsGoing s r one → Advances p q (state s r y)
+  puts y one h more is = record { sound = record { sound = h.sound.sound; saved = λ g kept. of g (more g kept) }; values = h.values; bound = h.bound; kept = h.kept; names = h.names; sources = h.sources }
     where
-      of : (g : Going) → Contains x.goings.items g ⊎ (g ≡ one) → IsGoing s r.has g
+      of : (g : Going) → Contains x.goings.items g ⊎ (g ≡ one) → IsGoing s r g
       of g (inl there) = h.sound.saved g there
-      of g (inr same) = subst (IsGoing s r.has) (sym same) is
+      of g (inr same) = subst (IsGoing s r) (sym same) is
 
 -- what is saved of a form that stands so
-pub going_is : (c : Context) (form : Bor TExpr) (list : Elements) (stand : Stand) {A : Instance → Value → Type 0} → Rooms c.names.now stand.names.items → IsRanged c.system.now A (place_in c) (expression_of form.now) list
-    → Stands c.system.now A (place_in c) (making_of (expression_of form.now)) (body_of (expression_of form.now)) list stand → IsGoing c.system.now A (record { form = form; this = c.this; list = list; stand = stand })
+pub going_is : {S : Type 0} {t : Told S} (c : Context) (form : Bor TExpr) (list : Elements) (stand : Stand) → Rooms c.names.now stand.names.items → IsRanged c.system.now t (place_in c) (expression_of form.now) list
+    → Stands c.system.now t (place_in c) (making_of (expression_of form.now)) (body_of (expression_of form.now)) list stand → IsGoing c.system.now t (record { form = form; this = c.this; list = list; stand = stand })
 going_is c form list stand room ranged stands = record { names = c.names.now; room = room; ranged = ranged; stands = stands }
 
-module _ {S : Type 0} {s : System} {r m t : State S} {place : Place} {making : Making} {b : Expression} {list : Elements} where
+module _ {S : Type 0} {r m t : State S} {making : Making} {b : Expression} {list : Elements} where
   -- what is said at the next element has no value
-  pub stops_at : (h : Halt) (x : Value) (now then : Stand) → Advances (program_of s) r m → Stands s m.told.has place making b list now → now.next < list.count → then.next ≡ now.next → then.so_far ≡ now.so_far → x ≡ element_in s list now.next → Reads (program_of s) m t (with_name place x) b (Err h) → GoesOver s r t place making b list then (Err h)
-  stops_at (Need i) x now then before stands within next so_far is a =
-      let f : Value → Demands Instance Value = read_with (program_of s) place b in
-      let more = stands_more a.kept.values stands in
-      let gone = subst (λ v. HasGone t.told.has (element_in s list) f list.count making now.next (value_of (texts_in s) v)) (sym so_far) more.gone in
+  pub stops_at : (c : Context) (h : Halt) (x : CodedSingle) (now then : Stand) → Advances (program_of c.system.now) r m → Stands c.system.now m.told (place_in c) making b list now → now.next < list.count → then.next ≡ now.next → then.so_far ≡ now.so_far
+      → ByEachNaming (program_of c.system.now) (λ n. single_by n x ≡ element_in n c.system.now list now.next) → Reads (program_of c.system.now) m t (places_with c x) b (Err h) → GoesOver c.system.now r t (place_in c) making b list then (Err h)
+  stops_at c (Need i) x now then before stands within next so_far is a =
+      let s = c.system.now in
+      let p = program_of s in
+      let more : Stands s t.told (place_in c) making b list now = stands_more a.kept.values a.kept.names stands in
+      let same : ByEachIn t.told (λ n. single_by n x ≡ element_in n s list then.next) = λ n at. is n (naming_in a.kept n at).0 ∙ ap (element_in n s list) (sym next) in
       record {
         kept = advances_then before a.kept;
         is = (
           record {
-            gone = subst (λ n. HasGone t.told.has (element_in s list) f list.count making n (value_of (texts_in s) then.so_far)) (sym next) gone;
+            gone = λ n at.
+                let element = element_in n s list in
+                let f : Value → Demands Instance Value = read_with p (place_in c n) b in
+                let gone = subst (λ (v : CodedValue). HasGone t.told.has element f list.count making now.next (value_by n v)) (sym so_far) (more.gone n at) in
+                subst (λ k. HasGone t.told.has element f list.count making k (value_by n then.so_far)) (sym next) gone;
             within = subst (λ n. n ≤ list.count) (sym next) more.within;
-            coded = subst (AreElements (program_of s)) (sym so_far) more.coded;
+            coded = subst (AreElements p) (sym so_far) more.coded;
           },
           subst (λ n. n < list.count) (sym next) within,
-          subst (λ n. Stopped (program_of s) t.told (f (element_in s list n)) i) (sym next) (subst (λ y. Stopped (program_of s) t.told (f y) i) is a.is),
+          answers_as p t.told (reads_with s (place_in c) b (λ n. single_by n x)) (reads_with s (place_in c) b (λ n. element_in n s list then.next)) (Err (Need i)) (λ n at. ap (read_with p (place_in c n) b) (same n at)) a.is,
         );
       }
-  stops_at Memory x now then before stands within next so_far is a = record { kept = advances_then before a.kept; is = tt }
+  stops_at c Memory x now then before stands within next so_far is a = record { kept = advances_then before a.kept; is = tt }
 
 -- a fault by its value
-pub halted : {S : Type 0} {s : System} {r t : State S} {place : Place} {making : Making} {b : Expression} {list : Elements} {stand : Stand} {h k : Halt} → h ≡ k → GoesOver s r t place making b list stand (Err h) → GoesOver s r t place making b list stand (Err k)
+pub halted : {S : Type 0} {s : System} {r t : State S} {place : Places} {making : Making} {b : Expression} {list : Elements} {stand : Stand} {h k : Halt} → h ≡ k → GoesOver s r t place making b list stand (Err h) → GoesOver s r t place making b list stand (Err k)
 halted {s = s} {r = r} {t = t} {place = place} {making = making} {b = b} {list = list} {stand = stand} same a = subst (λ h. GoesOver s r t place making b list stand (Err h)) same a
 
 -- what is said at the next element was taken in
-pub taken_in : {S : Type 0} {s : System} {t : Told S} {place : Place} {m : Making} {b : Expression} {list : Elements} {now : Stand} (then : Stand) (x : Value) (said : CodedValue) → x ≡ element_in s list now.next → Stands s t.has place m b list now → now.next < list.count → Given (program_of s) t (read_with (program_of s) place b x) said
-    → then.next ≡ done m list.count now.next (value_of (texts_in s) said) → value_of (texts_in s) then.so_far ≡ made m x (value_of (texts_in s) now.so_far) (value_of (texts_in s) said) → AreElements (program_of s) then.so_far → Stands s t.has place m b list then
-taken_in {s = s} {t = t} {place = place} {m = m} {b = b} {list = list} {now = now} then x said is h within given next value coded =
-    let w = value_of (texts_in s) said in
-    let ends = subst (λ y. Ends t.has (read_with (program_of s) place b y) w given.demands) is given.ends in
-    stands_further then w h within ends next (value ∙ ap (λ y. made m y (value_of (texts_in s) now.so_far) w) is) coded
+pub taken_in : {S : Type 0} {t : Told S} {m : Making} {b : Expression} {list : Elements} {now : Stand} (c : Context) (then : Stand) (x : CodedSingle) (said : CodedValue) → IsSound (program_of c.system.now) t → ByEachNaming (program_of c.system.now) (λ n. single_by n x ≡ element_in n c.system.now list now.next)
+    → Stands c.system.now t (place_in c) m b list now → now.next < list.count → Given (program_of c.system.now) t (reads_at (program_of c.system.now) (places_with c x) b) said → ((n : Naming) → then.next ≡ done m list.count now.next (value_by n said))
+    → TakesIn c.system.now m x said now.so_far then.so_far → AreElements (program_of c.system.now) then.so_far → Stands c.system.now t (place_in c) m b list then
+taken_in {t = t} {m = m} {b = b} {list = list} {now = now} c then x said sound is h within given next value coded =
+    let s = c.system.now in
+    let p = program_of s in
+    let here : ByEachIn t (λ n. single_by n x ≡ element_in n s list now.next) = λ n at. is n (sound.named n at).0 in
+    let ends : ByEachIn t (λ n. Comes t.has (read_with p (place_in c n) b (element_in n s list now.next)) (value_by n said)) = λ n at. subst (λ y. Comes t.has (read_with p (place_in c n) b y) (value_by n said)) (here n at) (given.comes n at) in
+    let few = subst (λ k. k ≤ list.count) (sym (next any_names)) (done_within list.count m now.next (value_by any_names said) within) in
+    stands_further then (λ n. value_by n said) h within ends few next (λ n at. value n (sound.named n at).0 ∙ ap (λ y. made m y (value_by n now.so_far) (value_by n said)) (here n at)) coded
+  where
+    any_names : Naming
+    any_names = source_names (λ k. [])

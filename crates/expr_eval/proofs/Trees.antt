@@ -33,6 +33,10 @@ child_within : (nodes : List Node) (n k i m : ℕ) → child_in nodes n k i ≡ 
 child_within [] n k i m h = absurd (let none : slice_get [] i ≡ None = slice_get_past {X = ℕ} [] i (omega arith) in cc)
 child_within (x ∷ nodes) n k i m h = let w = from_within 1 nodes n k i m h in omega (arith, w)
 
+pub child_inside : (nodes : List Node) (n k i : ℕ) (o : Option ℕ) → o ≡ child_in nodes n k i → IfSome o (λ m. m < length nodes)
+child_inside nodes n k i None e = tt
+child_inside nodes n k i (Some m) e = child_within nodes n k i m (sym e)
+
 -- so it has a code
 pub child_fits : (nodes : List Node) (n k i : ℕ) (o : Option ℕ) → length nodes < 2 ^ 32 → o ≡ child_in nodes n k i → IfSome o (λ m. m + 1 < 2 ^ 32)
 child_fits nodes n k i None few e = tt

@@ -1,38 +1,63 @@
 -- The elements of a list or a set that is gone over.
 use Rattle.std.specs.Prelude.{◌≡◌, ℕ, pos, Bool, true, false, ◌&&◌, ◌||◌, List, ◌∷◌, map}
 use Rattle.std.specs.List.{range_with_len}
+use Rattle.attr_rules.specs.declared.kinds.Kind.{Kind}
+use Rattle.attr_rules.specs.declared.kinds.Kind.TheVariants as kinds
 use Rattle.attr_rules.specs.Expression.{Expression}
-use Rattle.solutions.specs.Asking.{Demands}
+use Rattle.solutions.specs.Asking.{Demands, Gives}
 use Rattle.equation_law.specs.declared.coding.Single.{Single as CodedSingle}
+use Rattle.equation_law.specs.declared.coding.Value.{Value as CodedValue}
 use Rattle.equation_law.specs.declared.system.System.{System}
-use Rattle.equation_law.specs.Codes.{reference_of, single_of}
-use Rattle.equation_law.specs.Meaning.{Place, element_at, named, with_name}
-use Rattle.equation_law.specs.Names.{Instance}
+use Rattle.equation_law.specs.Codes.{ByEachNaming, Naming, reference_by, single_by, value_by}
+use Rattle.equation_law.specs.Meaning.{Place, element_at, elements_at, named, token_at, with_name}
+use Rattle.equation_law.specs.Names.{Instance, Reference}
 use Rattle.equation_law.specs.Program.{Program}
+use Rattle.equation_law.specs.Systems.{program_of}
 use Rattle.equation_law.specs.Values.{Value, Node}
 use Rattle.expr_eval.specs.declared.accessors.Elements.{Elements}
 use Rattle.expr_eval.specs.declared.accessors.Origin.{Origin}
 use Rattle.expr_eval.specs.declared.accessors.Origin.TheVariants as origins
-use Rattle.expr_eval.specs.Evaluating.{read_at, texts_in, world_in}
+use Rattle.expr_eval.specs.Evaluating.{read_at, world_in}
 
--- the element at a place, by where elements come from
-abbrev pub element_from : System → Origin → ℕ → Value
-element_from s (origins.List n k) i = Node (element_at (world_in s) k.0 (reference_of n.0) (pos i))
-element_from s (origins.Set xs) i = named (map (single_of (texts_in s)) xs) i
+-- the element at a place by a naming, by where elements come from
+abbrev pub element_from : Naming → System → Origin → ℕ → Value
+element_from n s (origins.List m k) i = Node (element_at (world_in s) k.0 (reference_by n.node m.0) (pos i))
+element_from n s (origins.Set xs) i = named (map (single_by n) xs) i
 
-abbrev pub element_in : System → Elements → ℕ → Value
-element_in s e i = element_from s e.origin i
+abbrev pub element_in : Naming → System → Elements → ℕ → Value
+element_in n s e i = element_from n s e.origin i
 
 -- so many of them from the i-th on
-abbrev pub elements_from : System → Elements → ℕ → ℕ → List Value
-elements_from s e i n = map (element_in s e) (range_with_len i n)
+abbrev pub elements_from : Naming → System → Elements → ℕ → ℕ → List Value
+elements_from n s e i m = map (element_in n s e) (range_with_len i m)
 
-abbrev pub elements_in : System → Elements → List Value
-elements_in s e = elements_from s e 0 e.count
+abbrev pub elements_in : Naming → System → Elements → List Value
+elements_in n s e = elements_from n s e 0 e.count
+
+-- these are the elements of the list of a node, by its code, at a component
+abbrev pub AreListed : System → ℕ → ℕ → Elements → Type 0
+AreListed s k m list = ByEachNaming (program_of s) (λ n. elements_in n s list ≡ elements_at (world_in s) k (reference_by n.node m))
+
+-- this is the token of a node, by its code, at a component, read at a type; it demands nothing
+abbrev pub IsToken : System → Kind → ℕ → ℕ → CodedValue → Type 0
+IsToken s t k m v = ByEachNaming (program_of s) (λ n. Gives (value_by n v) ≡ token_at (world_in s) t k (reference_by n.node m))
 
 -- a value stands in front of the names
 abbrev pub Rooms : List CodedSingle → List CodedSingle → Type 0
 Rooms names more = (v : CodedSingle) × (more ≡ v ∷ names)
+
+-- what is reached from the node for which the first code stands is that for which the second does, by each naming
+abbrev pub LeadsTo : Program → (Reference → Reference) → ℕ → ℕ → Type 0
+LeadsTo p reach from to = ByEachNaming p (λ n. reference_by n.node to ≡ reach (reference_by n.node from))
+
+-- the type of the nodes of a class
+abbrev pub node_kind : Kind → Bool
+node_kind kinds.Truth = false
+node_kind kinds.Int = false
+node_kind kinds.Text = false
+node_kind (kinds.Node c) = true
+node_kind kinds.Texts = false
+node_kind (kinds.Nodes c) = false
 
 -- whether all hold, or any
 abbrev pub put : Bool → Bool → Bool → Bool

@@ -1,4 +1,5 @@
 pub mod Bound
+pub mod BySources
 pub mod Elements
 pub mod Evaluating
 pub mod Going

@@ -10,18 +10,19 @@ use Rattle.attr_rules.specs.declared.expression.TExpr.TheVariants as kept
 use Rattle.equation_law.specs.declared.coding.Value.{Value as CodedValue}
 use Rattle.equation_law.specs.declared.coding.Value.TheVariants as coded
 use Rattle.equation_law.specs.declared.system.System.{System}
-use Rattle.equation_law.specs.Codes.{AreElements, Naming, value_by, value_of}
+use Rattle.equation_law.specs.Codes.{AreElements, ByEachNaming, Naming, value_by}
 use Rattle.equation_law.specs.Meaning.{Place, World, cast_to, child_at, count_at, element_at, is_instance, is_there, named, operate}
 use Rattle.equation_law.specs.Names.{Null as NoNode}
-use Rattle.equation_law.specs.Program.{Program, text_of}
+use Rattle.equation_law.specs.Program.{Program}
 use Rattle.equation_law.specs.Sets.{no_elements}
+use Rattle.equation_law.specs.Systems.{program_of}
 use Rattle.equation_law.specs.Values.{Value, Truth, Int, Text, Node, Nodes, contains, int, node, set_operate, single, size_of, truth}
 use Rattle.expr_eval.specs.declared.evaluation.Context.{Context}
 use Rattle.expr_eval.specs.declared.evaluation.Halt.{Halt}
 use Rattle.expr_eval.specs.declared.evaluation.Halt.TheVariants.{Memory}
 use Rattle.expr_eval.specs.declared.parts.Parts.{Parts}
 use Rattle.expr_eval.specs.declared.parts.Parts.TheVariants as parts
-use Rattle.expr_eval.specs.Evaluating.{place_in, value_in, world_in}
+use Rattle.expr_eval.specs.Evaluating.{place_in, world_in}
 
 -- a form without parts
 abbrev pub is_leaf : Expression → Bool
@@ -46,9 +47,9 @@ leaf_value W place (Variable k) = named place.names k
 leaf_value W place (SourceNode k) = Node (W.source k)
 leaf_value W place _ = Node NoNode
 
--- its value in a context
-abbrev pub leaf_in : Context → Expression → Value
-leaf_in c e = leaf_value (world_in c.system.now) (place_in c) e
+-- its value in a context, by what codes stand for
+abbrev pub leaf_in : Context → Expression → Naming → Value
+leaf_in c e n = leaf_value (world_in c.system.now) (place_in c n) e
 
 -- the part of a form that makes its value of that of one part
 abbrev pub part_of : TExpr → Option TExpr
@@ -78,7 +79,7 @@ made_of_one W _ v = v
 
 -- a form makes the second value of the first, which is that of its part
 abbrev pub IsMadeOfOne : System → Expression → CodedValue → CodedValue → Type 0
-IsMadeOfOne s e part whole = value_in s whole ≡ made_of_one (world_in s) e (value_in s part)
+IsMadeOfOne s e part whole = ByEachNaming (program_of s) (λ n. value_by n whole ≡ made_of_one (world_in s) e (value_by n part))
 
 -- the type at which a form reads a token, the token's component, and the part that gives the node
 abbrev pub token_read : TExpr → Option (Kind × ℕ × TExpr)
@@ -105,11 +106,11 @@ made_of_two W _ v w = v
 
 -- a form makes the third value of the first two, which are those of its parts
 abbrev pub IsMadeOfTwo : System → Expression → CodedValue → CodedValue → CodedValue → Type 0
-IsMadeOfTwo s e first second whole = value_in s whole ≡ made_of_two (world_in s) e (value_in s first) (value_in s second)
+IsMadeOfTwo s e first second whole = ByEachNaming (program_of s) (λ n. value_by n whole ≡ made_of_two (world_in s) e (value_by n first) (value_by n second))
 
 -- the third set is what an operator on sets of a type makes of the first two
 abbrev pub IsCombined : System → SetOperator → Kind → CodedValue → CodedValue → CodedValue → Type 0
-IsCombined s o t left right both = value_in s both ≡ set_operate o t (value_in s left) (value_in s right)
+IsCombined s o t left right both = ByEachNaming (program_of s) (λ n. value_by n both ≡ set_operate o t (value_by n left) (value_by n right))
 
 -- what the elements of a form over elements come from, and what it says at them
 abbrev pub range_and_body : TExpr → Option (TExpr × TExpr)
@@ -136,19 +137,19 @@ AreParts e (parts.Two a b) = parts_of e ≡ Some (a.now, b.now)
 AreParts e (parts.Over a b) = range_and_body e ≡ Some (a.now, b.now)
 AreParts e parts.Further = is_further (expression_of e) ≡ true
 
--- this value is made, unless there is not enough memory for it
-abbrev pub IsMade : Program → Value → Result CodedValue Halt → Type 0
-IsMade p w (Ok x) = (value_of (text_of p) x ≡ w) × AreElements p x
+-- this value is made, by what codes stand for, unless there is not enough memory for it
+abbrev pub IsMade : Program → (Naming → Value) → Result CodedValue Halt → Type 0
+IsMade p w (Ok x) = ByEachNaming p (λ n. value_by n x ≡ w n) × AreElements p x
 IsMade p w (Err k) = k ≡ Memory
 
 -- what is made of the value of a part, if it has one; why it has none is handed on
 abbrev pub OneMakes : Program → (Value → Value) → Result CodedValue Halt → Result CodedValue Halt → Type 0
-OneMakes p f (Ok v) whole = IsMade p (f (value_of (text_of p) v)) whole
+OneMakes p f (Ok v) whole = IsMade p (λ n. f (value_by n v)) whole
 OneMakes p f (Err h) whole = whole ≡ Err h
 
 -- the same of two parts, of which the first has a value
 abbrev pub TwoMake : Program → (Value → Value → Value) → Result CodedValue Halt → Result CodedValue Halt → Result CodedValue Halt → Type 0
-TwoMake p f (Ok v) (Ok w) whole = IsMade p (f (value_of (text_of p) v) (value_of (text_of p) w)) whole
+TwoMake p f (Ok v) (Ok w) whole = IsMade p (λ n. f (value_by n v) (value_by n w)) whole
 TwoMake p f (Ok v) (Err h) whole = whole ≡ Err h
 TwoMake p f (Err h) second whole = Unit {0}
 

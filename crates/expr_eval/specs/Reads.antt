@@ -9,15 +9,15 @@ use Rattle.attr_rules.specs.Expression.{Arguments, Call, Expression, If, argumen
 use Rattle.attr_rules.specs.Types.{parameter_kinds}
 use Rattle.rag_io.specs.declared.Memory.{Memory as NoMemory}
 use Rattle.rag_io.specs.declared.Place.{Place as TextPlace}
-use Rattle.solutions.specs.Asking.{Demands}
 use Rattle.equation_law.specs.declared.coding.Args.{Args}
 use Rattle.equation_law.specs.declared.coding.Single.{Single as CodedSingle}
 use Rattle.equation_law.specs.declared.coding.Value.{Value as CodedValue}
 use Rattle.equation_law.specs.declared.system.System.{System}
-use Rattle.equation_law.specs.Meaning.{Place, with_name}
+use Rattle.equation_law.specs.Codes.{Naming, single_by}
+use Rattle.equation_law.specs.Meaning.{with_name}
 use Rattle.equation_law.specs.Names.{Instance}
 use Rattle.equation_law.specs.Program.{Program}
-use Rattle.equation_law.specs.Reading.{IsSound, Told}
+use Rattle.equation_law.specs.Reading.{ByEachIn, IsSound, ReadsSources, Told}
 use Rattle.equation_law.specs.Systems.{program_of}
 use Rattle.equation_law.specs.Values.{Value}
 use Rattle.expr_eval.specs.declared.accessors.Elements.{Elements}
@@ -29,7 +29,7 @@ use Rattle.expr_eval.specs.declared.saved.Saved.{Saved}
 use Rattle.expr_eval.specs.declared.saved.Stand.{Stand}
 use Rattle.expr_eval.specs.declared.sites.Turn.{Turn}
 use Rattle.expr_eval.specs.Elements.{Rooms, element_in, read_with}
-use Rattle.expr_eval.specs.Evaluating.{Answers, AnswersArguments, AnswersTurn, Stopped, place_in, read_at, single_in}
+use Rattle.expr_eval.specs.Evaluating.{Answers, AnswersArguments, AnswersTurn, Asks, Places, Stopped, place_in, reads_at}
 use Rattle.expr_eval.specs.Saved.{AreSaved, IsRanged, Stands, body_of, making_of}
 
 -- what an evaluation goes by: what its reader tells, and what is saved
@@ -44,53 +44,63 @@ state s r x = record { system = s; told = r; saved = x }
 -- the reader is for the program and never has two values, and all that is saved is so by the values that it has
 pub record IsReady {S : Type 0} (p : Program) (r : State S) : Type 0 where
   pub sound : IsSound p r.told
-  pub saved : AreSaved r.system r.told.has r.saved
+  pub saved : AreSaved r.system r.told r.saved
 
--- the reader keeps what it has and comes to have no other values than it might; all that is saved is so
+-- the reader keeps what it has and comes to have no other values than it might, and it may be read by what it might before; all that is saved is so
 pub record Advances {S : Type 0} (p : Program) (r s : State S) : Type 0 where
   pub sound : IsReady p s
   pub values : (i : Instance) (v : Value) → r.told.has i v → s.told.has i v
   pub bound : (i : Instance) (v : Value) → s.told.can i v → r.told.can i v
   pub kept : (x : S) → r.told.keeps x → s.told.keeps x
+  pub names : ByEachIn s.told r.told.names
+  pub sources : ReadsSources p r.told → ReadsSources p s.told
 
 -- the answer to an expression, by what the reader has at the end
-pub record Reads {S : Type 0} (p : Program) (r s : State S) (place : Place) (e : Expression) (result : Result CodedValue Halt) : Type 0 where
+pub record Reads {S : Type 0} (p : Program) (r s : State S) (place : Places) (e : Expression) (result : Result CodedValue Halt) : Type 0 where
   pub kept : Advances p r s
-  pub is : Answers p s.told (read_at p place e) result
+  pub is : Answers p s.told (reads_at p place e) result
 
 -- the answer to the arguments of a call
-pub record ArgumentsRead {S : Type 0} (p : Program) (r s : State S) (place : Place) (ks : List Kind) (es : Arguments) (result : Result Args Halt) : Type 0 where
+pub record ArgumentsRead {S : Type 0} (p : Program) (r s : State S) (place : Places) (ks : List Kind) (es : Arguments) (result : Result Args Halt) : Type 0 where
   pub kept : Advances p r s
   pub is : AnswersArguments p s.told place ks es result
 
 -- the elements of a form, and where it stands; there is room for one name more
-pub record IsStood (s : System) (A : Instance → Value → Type 0) (place : Place) (names : List CodedSingle) (m : Making) (e b : Expression) (list : Elements) (stand : Stand) : Type 0 where
+pub record IsStood {S : Type 0} (s : System) (t : Told S) (place : Places) (names : List CodedSingle) (m : Making) (e b : Expression) (list : Elements) (stand : Stand) : Type 0 where
   pub room : Rooms names stand.names.items
-  pub ranged : IsRanged s A place e list
-  pub stands : Stands s A place m b list stand
+  pub ranged : IsRanged s t place e list
+  pub stands : Stands s t place m b list stand
 
-abbrev pub AnswersStand : {S : Type 0} → System → Told S → Place → List CodedSingle → Making → Expression → Expression → Result (Elements × Stand) Halt → Type 0
-AnswersStand s t place names m e b (Ok (list, stand)) = IsStood s t.has place names m e b list stand
-AnswersStand s t place names m e b (Err h) = Answers (program_of s) t (read_at (program_of s) place e) (Err h)
+abbrev pub AnswersStand : {S : Type 0} → System → Told S → Places → List CodedSingle → Making → Expression → Expression → Result (Elements × Stand) Halt → Type 0
+AnswersStand s t place names m e b (Ok (list, stand)) = IsStood s t place names m e b list stand
+AnswersStand s t place names m e b (Err h) = Answers (program_of s) t (reads_at (program_of s) place e) (Err h)
 
-pub record ReadsStand {S : Type 0} (s : System) (r t : State S) (place : Place) (names : List CodedSingle) (m : Making) (e b : Expression) (result : Result (Elements × Stand) Halt) : Type 0 where
+pub record ReadsStand {S : Type 0} (s : System) (r t : State S) (place : Places) (names : List CodedSingle) (m : Making) (e b : Expression) (result : Result (Elements × Stand) Halt) : Type 0 where
   pub kept : Advances (program_of s) r t
   pub is : AnswersStand s t.told place names m e b result
 
+-- what a form demands at an element, by what codes stand for
+abbrev pub reads_with : System → Places → Expression → (Naming → Value) → Asks
+reads_with s place b element = λ n. read_with (program_of s) (place n) b (element n)
+
 -- a form went over the elements that were left: it stands behind all of them, or before one at which a demand has no value
-abbrev pub AnswersOver : {S : Type 0} → System → Told S → Place → Making → Expression → Elements → Stand → Result Unit Halt → Type 0
-AnswersOver s t place m b list stand (Ok u) = Stands s t.has place m b list stand × (stand.next ≡ list.count)
-AnswersOver s t place m b list stand (Err (Need i)) = Stands s t.has place m b list stand × (stand.next < list.count) × Stopped (program_of s) t (read_with (program_of s) place b (element_in s list stand.next)) i
+abbrev pub AnswersOver : {S : Type 0} → System → Told S → Places → Making → Expression → Elements → Stand → Result Unit Halt → Type 0
+AnswersOver s t place m b list stand (Ok u) = Stands s t place m b list stand × (stand.next ≡ list.count)
+AnswersOver s t place m b list stand (Err (Need i)) = Stands s t place m b list stand × (stand.next < list.count) × Stopped (program_of s) t (reads_with s place b (λ n. element_in n s list stand.next)) i
 AnswersOver s t place m b list stand (Err Memory) = Unit {0}
 
-pub record GoesOver {S : Type 0} (s : System) (r t : State S) (place : Place) (m : Making) (b : Expression) (list : Elements) (stand : Stand) (result : Result Unit Halt) : Type 0 where
+pub record GoesOver {S : Type 0} (s : System) (r t : State S) (place : Places) (m : Making) (b : Expression) (list : Elements) (stand : Stand) (result : Result Unit Halt) : Type 0 where
   pub kept : Advances (program_of s) r t
   pub is : AnswersOver s t.told place m b list stand result
 
 -- what a turn says of some demands that goes on with what is saved
-pub record Resumes {S : Type 0} (p : Program) (r s : State S) (c : Demands Instance Value) (result : Result Turn NoMemory) : Type 0 where
+pub record Resumes {S : Type 0} (p : Program) (r s : State S) (c : Asks) (result : Result Turn NoMemory) : Type 0 where
   pub kept : Advances p r s
   pub answer : AnswersTurn p s.told c result
+
+-- the place of a context, with an element in front of the names
+abbrev pub places_with : Context → CodedSingle → Places
+places_with c element = λ n. with_name (place_in c n) (single_by n element)
 
 -- The same in a context: r and x are what the reader tells and what is saved before the call, and s and y are these behind it.
 module _ {S : Type 0} (c : Context) (r : Told S) (x : Saved) (s : Told S) (y : Saved) where
@@ -100,7 +110,7 @@ module _ {S : Type 0} (c : Context) (r : Told S) (x : Saved) (s : Told S) (y : S
 
   -- a form is read at an element, which stands in front of the names
   abbrev pub ReadsAt : CodedSingle → TExpr → Result CodedValue Halt → Type 0
-  ReadsAt element e result = Reads (program_of c.system.now) (state c.system.now r x) (state c.system.now s y) (with_name (place_in c) (single_in c.system.now element)) (expression_of e) result
+  ReadsAt element e result = Reads (program_of c.system.now) (state c.system.now r x) (state c.system.now s y) (places_with c element) (expression_of e) result
 
   -- a call is read, wherever it is written
   abbrev pub ReadsCall : AttrId → TExpr → TArgs → Result CodedValue Halt → Type 0
@@ -125,5 +135,5 @@ module _ {S : Type 0} (c : Context) (r : Told S) (x : Saved) (s : Told S) (y : S
   GoesOverIn m body list stand result = GoesOver c.system.now (state c.system.now r x) (state c.system.now s y) (place_in c) m (expression_of body) list stand result
 
 -- the same of a turn over a system, which goes on with what is saved
-abbrev pub ResumesIn : {S : Type 0} → System → Told S → Saved → Told S → Saved → Demands Instance Value → Result Turn NoMemory → Type 0
+abbrev pub ResumesIn : {S : Type 0} → System → Told S → Saved → Told S → Saved → Asks → Result Turn NoMemory → Type 0
 ResumesIn system r x s y c result = Resumes (program_of system) (state system r x) (state system s y) c result

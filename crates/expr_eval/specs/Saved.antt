@@ -4,13 +4,14 @@ use Rattle.std.specs.List.{Contains}
 use Rattle.attr_rules.specs.declared.expression.Quantifier.TheVariants.{Any, All, First}
 use Rattle.attr_rules.specs.declared.expression.SetOperator.TheVariants.{Union}
 use Rattle.attr_rules.specs.Expression.{Expression, Quantified, QuantifiedSet, Each, EachOfSet, expression_of}
-use Rattle.solutions.specs.Asking.{Demands, Ends}
+use Rattle.solutions.specs.Asking.{Demands}
 use Rattle.equation_law.specs.declared.coding.Single.{Single as CodedSingle}
 use Rattle.equation_law.specs.declared.coding.Value.{Value as CodedValue}
 use Rattle.equation_law.specs.declared.system.System.{System}
-use Rattle.equation_law.specs.Codes.{AreElements, value_of}
+use Rattle.equation_law.specs.Codes.{AreElements, ByEachNaming, ByEachOrder, Naming, single_by, value_by}
 use Rattle.equation_law.specs.Meaning.{Place, World, elements_at, over_elements, united}
 use Rattle.equation_law.specs.Names.{Instance, Null}
+use Rattle.equation_law.specs.Reading.{ByEachIn, Told}
 use Rattle.equation_law.specs.Systems.{program_of}
 use Rattle.equation_law.specs.Values.{Node, Truth, Value, default_of, elements_of, node, set_operate, truth}
 use Rattle.expr_eval.specs.declared.accessors.Elements.{Elements}
@@ -21,7 +22,7 @@ use Rattle.expr_eval.specs.declared.saved.Making.TheVariants.{Joins, Tests}
 use Rattle.expr_eval.specs.declared.saved.Saved.{Saved}
 use Rattle.expr_eval.specs.declared.saved.Stand.{Stand}
 use Rattle.expr_eval.specs.Elements.{Rooms, element_in, elements_in, put, read_with}
-use Rattle.expr_eval.specs.Evaluating.{place_kept, read_at, single_in, texts_in, value_in, world_in}
+use Rattle.expr_eval.specs.Evaluating.{Comes, Places, places_kept, read_at, world_in}
 use Rattle.expr_eval.specs.Going.{Joined, Sought, Went}
 
 -- what a form over elements makes of what is said at them
@@ -56,9 +57,9 @@ ranged W (Each t k e b) v = elements_at W k (node v)
 ranged W (EachOfSet t e b) v = elements_of v
 ranged W _ v = []
 
--- these are its elements, which come from this value
+-- these are its elements, which come from this value; those of a set stand in the order of their codes
 abbrev pub AreRanged : System → Expression → CodedValue → Elements → Type 0
-AreRanged s e from list = elements_in s list ≡ ranged (world_in s) e (value_in s from)
+AreRanged s e from list = ByEachOrder (program_of s) (λ n. elements_in n s list ≡ ranged (world_in s) e (value_by n from))
 
 -- what is demanded at the elements
 abbrev pub over : Making → List Value → (Value → Demands Instance Value) → Demands Instance Value
@@ -81,7 +82,7 @@ made (Joins t) x v w = set_operate Union t v w
 
 -- what is said at an element is taken in: from the value before it, it makes the one behind it
 abbrev pub TakesIn : System → Making → CodedSingle → CodedValue → CodedValue → CodedValue → Type 0
-TakesIn s m element said before behind = value_in s behind ≡ made m (single_in s element) (value_in s before) (value_in s said)
+TakesIn s m element said before behind = ByEachNaming (program_of s) (λ n. value_by n behind ≡ made m (single_by n element) (value_by n before) (value_by n said))
 
 -- how many of so many elements are done with behind the n-th: `first` has no need of those behind one at which the condition is true
 abbrev pub done : Making → ℕ → ℕ → Value → ℕ
@@ -95,9 +96,9 @@ HasGone A element f count (Tests All) n v = (b : Bool) × (v ≡ Truth b) × Wen
 HasGone A element f count (Tests First) n v = Sought A element f count n v
 HasGone A element f count (Joins t) n v = Joined A element f t n v
 
--- a form that says b at these elements stands so
-pub record Stands (s : System) (A : Instance → Value → Type 0) (place : Place) (m : Making) (b : Expression) (list : Elements) (stand : Stand) : Type 0 where
-  pub gone : HasGone A (element_in s list) (read_with (program_of s) place b) list.count m stand.next (value_of (texts_in s) stand.so_far)
+-- a form that says b at these elements stands so, by each naming by which the reader may be read
+pub record Stands {S : Type 0} (s : System) (t : Told S) (place : Places) (m : Making) (b : Expression) (list : Elements) (stand : Stand) : Type 0 where
+  pub gone : ByEachIn t (λ n. HasGone t.has (element_in n s list) (read_with (program_of s) (place n) b) list.count m stand.next (value_by n stand.so_far))
   pub within : stand.next ≤ list.count
   pub coded : AreElements (program_of s) stand.so_far
 
@@ -105,26 +106,28 @@ pub record Stands (s : System) (A : Instance → Value → Type 0) (place : Plac
 pub record IsFirst (c : Context) (e : Expression) (stand : Stand) : Type 0 where
   pub room : Rooms c.names.now stand.names.items
   pub next : stand.next ≡ 0
-  pub so_far : value_of (texts_in c.system.now) stand.so_far ≡ begun (making_of e)
+  pub so_far : ByEachNaming (program_of c.system.now) (λ n. value_by n stand.so_far ≡ begun (making_of e))
   pub coded : AreElements (program_of c.system.now) stand.so_far
 
--- these are the elements that a form goes over
-pub record IsRanged (s : System) (A : Instance → Value → Type 0) (place : Place) (e : Expression) (list : Elements) : Type 0 where
+-- these are the elements that a form goes over, by a naming
+pub record RangesBy {S : Type 0} (s : System) (t : Told S) (n : Naming) (place : Place) (e : Expression) (list : Elements) : Type 0 where
   pub value : Value
-  pub demands : List Instance
-  pub ends : Ends A (read_at (program_of s) place (range_of e)) value demands
-  pub are : elements_in s list ≡ ranged (world_in s) e value
+  pub comes : Comes t.has (read_at (program_of s) place (range_of e)) value
+  pub are : elements_in n s list ≡ ranged (world_in s) e value
+
+abbrev pub IsRanged : {S : Type 0} → System → Told S → Places → Expression → Elements → Type 0
+IsRanged s t place e list = ByEachIn t (λ n. RangesBy s t n (place n) e list)
 
 -- a form has gone so far at a place; the first of the names that are kept stands in front of those of the place
-pub record IsGoing (s : System) (A : Instance → Value → Type 0) (g : Going) : Type 0 where
+pub record IsGoing {S : Type 0} (s : System) (t : Told S) (g : Going) : Type 0 where
   pub names : List CodedSingle
   pub room : Rooms names g.stand.names.items
-  pub ranged : IsRanged s A (place_kept (texts_in s) g.this.0 names) (expression_of g.form.now) g.list
-  pub stands : Stands s A (place_kept (texts_in s) g.this.0 names) (making_of (expression_of g.form.now)) (body_of (expression_of g.form.now)) g.list g.stand
+  pub ranged : IsRanged s t (places_kept g.this.0 names) (expression_of g.form.now) g.list
+  pub stands : Stands s t (places_kept g.this.0 names) (making_of (expression_of g.form.now)) (body_of (expression_of g.form.now)) g.list g.stand
 
--- all that is saved is so, by the values of an assignment
-abbrev pub AreSaved : System → (Instance → Value → Type 0) → Saved → Type 0
-AreSaved s A saved = (g : Going) → Contains saved.goings.items g → IsGoing s A g
+-- all that is saved is so, by what a reader has
+abbrev pub AreSaved : {S : Type 0} → System → Told S → Saved → Type 0
+AreSaved s t saved = (g : Going) → Contains saved.goings.items g → IsGoing s t g
 
 abbrev pub SavesNothing : Saved → Type 0
 SavesNothing saved = saved.goings.items ≡ []

@@ -6,25 +6,23 @@ use Rattle.attr_rules.specs.declared.kinds.Kind.{Kind}
 use Rattle.attr_rules.specs.Expression.{Expression, Null as NullLiteral}
 use Rattle.attr_rules.specs.Queries.{Query as Asked}
 use Rattle.attr_rules.specs.Rules.{Equation, body_at}
-use Rattle.solutions.specs.Asking.{Demands}
 use Rattle.equation_law.specs.declared.coding.EqSite.{EqSite}
 use Rattle.equation_law.specs.declared.coding.Instance.{Instance as CodedInstance}
 use Rattle.equation_law.specs.declared.coding.Value.{Value as CodedValue}
 use Rattle.equation_law.specs.declared.system.System.{System}
-use Rattle.equation_law.specs.Codes.{AreElements, Naming, instance_of, value_by}
+use Rattle.equation_law.specs.Codes.{AreElements, Naming, instance_by, value_by}
 use Rattle.equation_law.specs.Equations.{equations_of, place_at}
 use Rattle.inherited_walk.specs.Sites.{site_place}
-use Rattle.equation_law.specs.Names.{Instance}
-use Rattle.equation_law.specs.Program.{Program, text_of}
+use Rattle.equation_law.specs.Program.{Program}
 use Rattle.equation_law.specs.Reading.{Told}
 use Rattle.equation_law.specs.Systems.{program_of}
-use Rattle.equation_law.specs.Values.{Value, as_kind}
+use Rattle.equation_law.specs.Values.{as_kind}
 use Rattle.expr_eval.specs.declared.evaluation.Halt.{Halt}
 use Rattle.expr_eval.specs.declared.evaluation.Halt.TheVariants.{Need, Memory}
 use Rattle.expr_eval.specs.declared.saved.Saved.{Saved}
 use Rattle.expr_eval.specs.declared.sites.Turn.{Turn}
 use Rattle.expr_eval.specs.declared.sites.Turn.TheVariants as turns
-use Rattle.expr_eval.specs.Evaluating.{Evaluates, place_kept, read_at}
+use Rattle.expr_eval.specs.Evaluating.{Asks, Evaluates, places_kept, reads_at}
 use Rattle.expr_eval.specs.Reads.{ResumesIn}
 
 abbrev pub expression_or_null : Option Expression → Expression
@@ -32,16 +30,16 @@ expression_or_null None = NullLiteral
 expression_or_null (Some e) = e
 
 -- what an equation demands that is read for an attribute
-abbrev pub site_reads : Program → ℕ → EqSite → Demands Instance Value
-site_reads p a s = read_at p (site_place p a s) (expression_or_null (body_at p.rules s.equation.0))
+abbrev pub site_reads : Program → ℕ → EqSite → Asks
+site_reads p a s = reads_at p (λ n. site_place p n a s) (expression_or_null (body_at p.rules s.equation.0))
 
 -- what a query demands, which is read at the root
-abbrev pub query_reads : Program → Asked → Demands Instance Value
-query_reads p q = read_at p (place_at 0) q.body
+abbrev pub query_reads : Program → Asked → Asks
+query_reads p q = reads_at p (λ n. place_at 0) q.body
 
 -- what the equation of an instance demands
-abbrev pub instance_reads : Program → CodedInstance → Demands Instance Value
-instance_reads p i = (equations_of p).equation (instance_of p i)
+abbrev pub instance_reads : Program → CodedInstance → Asks
+instance_reads p i = λ n. (equations_of p).equation (instance_by p n i)
 
 -- What a turn says, by what the reader tells before the call and behind it.
 module _ {S : Type 0} (p : Program) (r s : Told S) where
@@ -55,7 +53,7 @@ module _ {S : Type 0} (p : Program) (r s : Told S) where
 
   -- of an expression of the rules by its number, read at a node without names
   abbrev pub EvaluatesBody : ℕ → ℕ → Result Turn NoMemory → Type 0
-  EvaluatesBody k node result = (e : Expression) → body_at p.rules k ≡ Some e → Evaluates p r s (read_at p (place_kept (text_of p) node []) e) result
+  EvaluatesBody k node result = (e : Expression) → body_at p.rules k ≡ Some e → Evaluates p r s (reads_at p (places_kept node []) e) result
 
   -- of an instance
   abbrev pub EvaluatesInstance : CodedInstance → Result Turn NoMemory → Type 0

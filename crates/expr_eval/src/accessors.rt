@@ -1,16 +1,16 @@
 // Accessors of the components of a node.
-ghost use Rattle.std.specs.Prelude.{◌≡◌, ℕ, pos, List, []};
-ghost use Rattle.solutions.specs.Asking.{Gives};
-ghost use Rattle.tree_arena.specs.Nodes.{child_in, count_in, token_in};
-ghost use Rattle.equation_law.specs.Codes.{reference_of, value_of};
-ghost use Rattle.equation_law.specs.Equations.{source_or_null, source_of};
+ghost use Rattle.std.specs.Prelude.{◌≡◌, pos, []};
+ghost use Rattle.tree_arena.specs.Nodes.{token_in};
+ghost use Rattle.equation_law.specs.Codes.{ByEachNaming, ByEachOrder, Naming, reference_by, value_by};
+ghost use Rattle.equation_law.specs.Equations.{count_of, element_of, source_of};
 ghost use Rattle.equation_law.specs.Equations as spec;
-ghost use Rattle.equation_law.specs.Meaning.{cast_to, child_at as child_on, count_at as count_on, element_at as element_on, is_instance, is_there, token_at as token_on};
+ghost use Rattle.equation_law.specs.Meaning.{cast_to, child_at as child_on, count_at as count_on, element_at as element_on, is_instance, is_there};
 ghost use Rattle.equation_law.specs.Systems.{program_of};
 ghost use Rattle.equation_law.specs.Codes.{AreElements};
 ghost use Rattle.equation_law.specs.Program.{Program};
 ghost use Rattle.equation_law.specs.Values.{Node};
-ghost use Rattle.expr_eval.specs.Evaluating.{texts_in, world_in};
+ghost use Rattle.expr_eval.specs.Elements.{IsToken, LeadsTo, node_kind};
+ghost use Rattle.expr_eval.specs.Evaluating.{world_in};
 
 use ast_grammar::ClassId;
 use attr_rules::{Kind, Part};
@@ -23,7 +23,7 @@ use tree_arena::Tree;
 
 /// The source node of a number, or null where the tree has none.
 pub(crate) fn source(system: &System, number: u32) -> Value
-    ensures { value_of (texts_in system.now) result ≡ Node (source_of (program_of system.now) number) }
+    ensures { ByEachNaming (program_of system.now) (λ n. value_by n result ≡ Node (source_of (program_of system.now) number)) }
 {
     if number < system.tree().len() {
         Value::Node(NodeRef::of_source(Some(number)))
@@ -32,21 +32,22 @@ pub(crate) fn source(system: &System, number: u32) -> Value
     }
 }
 
-/// The node that hangs at a place of a component of a node, or null where there is none.
-fn child_at(tree: &Tree, node: u32, k: Part, i: u32) -> NodeRef
-    ensures { reference_of result.0 ≡ source_or_null (child_in tree.now node k.0 i) }
+/// The node that hangs at a place of a component of a node, or null where there is none. Past the tree no node has any.
+fn child_at(system: &System, node: u32, k: Part, i: u32) -> NodeRef
+    ensures { let p = program_of system.now in ByEachNaming p (λ n. reference_by n.node result.0 ≡ element_of p (n.node node) k.0 (pos i)) }
 {
+    let tree = system.tree();
     if node >= tree.len() {
         return NodeRef(0);
     }
     NodeRef::of_source(tree.child(node, k.0, i))
 }
 
-/// How many nodes hang at a component of a node.
-#[tactic(auto, using(crate::proofs::Trees::none_counted))]
-fn count_at(tree: &Tree, node: u32, k: Part) -> u32
-    ensures { result ≡ count_in tree.now node k.0 }
+/// How many nodes hang at a component of a node. Past the tree no node has any.
+fn count_at(system: &System, node: u32, k: Part) -> u32
+    ensures { let p = program_of system.now in ByEachNaming p (λ n. result ≡ count_of p (n.node node) k.0) }
 {
+    let tree = system.tree();
     if node < tree.len() {
         tree.count(node, k.0)
     } else {
@@ -67,43 +68,42 @@ fn code_at(tree: &Tree, node: u32, k: Part) -> Option<u32>
 
 /// The child, or the optional child, of a receiver at a component, or null.
 pub(crate) fn child(system: &System, k: Part, receiver: NodeRef) -> NodeRef
-    ensures { reference_of result.0 ≡ child_on (world_in system.now) k.0 (reference_of receiver.0) }
+    ensures { LeadsTo (program_of system.now) (child_on (world_in system.now) k.0) receiver.0 result.0 }
 {
     match receiver.source() {
-        Some(node) => child_at(system.tree(), node, k, 0),
+        Some(node) => child_at(system, node, k, 0),
         None => NodeRef(0),
     }
 }
 
 /// Whether a receiver has a child at a component; null has none.
 pub(crate) fn has(system: &System, k: Part, receiver: NodeRef) -> bool
-    ensures { result ≡ is_there (child_on (world_in system.now) k.0 (reference_of receiver.0)) }
+    ensures { ByEachNaming (program_of system.now) (λ n. result ≡ is_there (child_on (world_in system.now) k.0 (reference_by n.node receiver.0))) }
 {
     child(system, k, receiver).source().is_some()
 }
 
 /// The element of a receiver's list at a place, or null where the list doesn't have that place.
 pub(crate) fn element(system: &System, k: Part, receiver: NodeRef, place: i32) -> NodeRef
-    ensures { reference_of result.0 ≡ element_on (world_in system.now) k.0 (reference_of receiver.0) place }
+    ensures { LeadsTo (program_of system.now) (λ r. element_on (world_in system.now) k.0 r place) receiver.0 result.0 }
 {
     match (receiver.source(), u32::try_from(place)) {
-        (Some(node), Ok(place)) => child_at(system.tree(), node, k, place),
+        (Some(node), Ok(place)) => child_at(system, node, k, place),
         _ => NodeRef(0),
     }
 }
 
 /// The element of a node's list at a place, or null where there is none.
 fn listed_at(system: &System, owner: NodeRef, k: Part, place: usize) -> NodeRef
-    ensures { reference_of result.0 ≡ element_on (world_in system.now) k.0 (reference_of owner.0) (pos place) }
+    ensures { LeadsTo (program_of system.now) (λ r. element_on (world_in system.now) k.0 r (pos place)) owner.0 result.0 }
 {
     let Some(node) = owner.source() else {
         return NodeRef(0);
     };
-    let tree = system.tree();
-    if place >= tree.len() as usize {
+    if place >= system.tree().len() as usize {
         return NodeRef(0);
     }
-    child_at(tree, node, k, place as u32)
+    child_at(system, node, k, place as u32)
 }
 
 /// Single values in a row.
@@ -153,17 +153,16 @@ pub(crate) struct Elements {
 
 impl Elements {
     ghost use Rattle.std.specs.Prelude.{IfOk};
-    ghost use Rattle.equation_law.specs.Codes.{single_of};
-    ghost use Rattle.equation_law.specs.Meaning.{elements_at as elements_on};
+    ghost use Rattle.equation_law.specs.Codes.{single_by};
     ghost use Rattle.equation_law.specs.Values.{elements_of};
-    ghost use Rattle.expr_eval.specs.Elements.{element_in, elements_in};
+    ghost use Rattle.expr_eval.specs.Elements.{AreListed, element_in, elements_in};
 
     /// The list of a node at a component. Null has no elements.
     pub(crate) fn of(system: &System, component: Part, owner: NodeRef) -> Elements
-        ensures { elements_in system.now result ≡ elements_on (world_in system.now) component.0 (reference_of owner.0) }
+        ensures { AreListed system.now component.0 owner.0 result }
     {
         let count = match owner.source() {
-            Some(node) => count_at(system.tree(), node, component),
+            Some(node) => count_at(system, node, component),
             None => 0,
         };
         Elements {
@@ -175,7 +174,7 @@ impl Elements {
     /// The elements of a set. What is no set has none.
     pub(crate) fn of_set(alloc: Global, system: &System, set: &Value) -> Result<Elements, Memory>
         requires { AreElements (program_of system.now) set.now }
-        ensures { IfOk result (λ all. elements_in system.now all ≡ elements_of (value_of (texts_in system.now) set.now)) }
+        ensures { IfOk result (λ all. ByEachOrder (program_of system.now) (λ n. elements_in n system.now all ≡ elements_of (value_by n set.now))) }
     {
         let values = elements(alloc, system, set)?;
         let count = values.len();
@@ -187,7 +186,7 @@ impl Elements {
 
     /// An element by its place, or null where there is none.
     pub(crate) fn get(&self, system: &System, place: usize) -> Single
-        ensures { single_of (texts_in system.now) result ≡ element_in system.now self.now place }
+        ensures { ByEachNaming (program_of system.now) (λ n. single_by n result ≡ element_in n system.now self.now place) }
     {
         match &self.origin {
             Origin::List(owner, component) => {
@@ -200,7 +199,7 @@ impl Elements {
 
 /// Whether a node is of a class or below.
 pub(crate) fn is_of(system: &System, class: ClassId, node: NodeRef) -> bool
-    ensures { result ≡ is_instance (world_in system.now) class (reference_of node.0) }
+    ensures { ByEachNaming (program_of system.now) (λ n. result ≡ is_instance (world_in system.now) class (reference_by n.node node.0)) }
 {
     let tree = system.tree();
     match node.source() {
@@ -211,7 +210,7 @@ pub(crate) fn is_of(system: &System, class: ClassId, node: NodeRef) -> bool
 
 /// The node where it is of a class or below, or null.
 pub(crate) fn cast(system: &System, class: ClassId, node: NodeRef) -> NodeRef
-    ensures { reference_of result.0 ≡ cast_to (world_in system.now) class (reference_of node.0) }
+    ensures { LeadsTo (program_of system.now) (cast_to (world_in system.now) class) node.0 result.0 }
 {
     if is_of(system, class, node) {
         node
@@ -222,28 +221,38 @@ pub(crate) fn cast(system: &System, class: ClassId, node: NodeRef) -> NodeRef
 
 /// How many elements a receiver's list has; on null there are none.
 pub(crate) fn count(system: &System, k: Part, receiver: NodeRef) -> i32
-    ensures { result ≡ count_on (world_in system.now) k.0 (reference_of receiver.0) }
+    ensures { ByEachNaming (program_of system.now) (λ n. result ≡ count_on (world_in system.now) k.0 (reference_by n.node receiver.0)) }
 {
     match receiver.source() {
-        Some(node) => count_at(system.tree(), node, k).cast_signed(),
+        Some(node) => count_at(system, node, k).cast_signed(),
         None => 0,
     }
 }
 
-/// The value that a token's code stands for; a missing one is the type's default.
+/// Whether it is the type of the nodes of a class.
+fn is_node(kind: Kind) -> bool
+    ensures { result ≡ node_kind kind }
+{
+    match kind {
+        Kind::Node(_) => true,
+        Kind::Truth | Kind::Int | Kind::Text | Kind::Texts | Kind::Nodes(_) => false,
+    }
+}
+
+/// The value that a token's code stands for; a missing one is the type's default, and no token is a node.
 fn decoded(alloc: Global, kind: Kind, code: Option<u32>) -> Value
-    ensures value { (texts : ℕ → List ℕ) → texts 0 ≡ [] → value_of texts result ≡ spec.decoded texts kind code }
+    ensures value { (n : Naming) → n.text 0 ≡ [] → value_by n result ≡ spec.decoded n.text kind code }
     ensures coded { (p : Program) → AreElements p result }
 {
     match code {
-        Some(code) => Value::of_code(alloc, kind, code),
-        None => Value::default_of(alloc, kind),
+        Some(code) if !is_node(kind) => Value::of_code(alloc, kind, code),
+        _ => Value::default_of(alloc, kind),
     }
 }
 
 /// The token of a receiver at a component, read at a type; on null it is the type's default. Neither demands anything.
 pub(crate) fn token(alloc: Global, system: &System, kind: Kind, k: Part, receiver: NodeRef) -> Value
-    ensures value { Gives (value_of (texts_in system.now) result) ≡ token_on (world_in system.now) kind k.0 (reference_of receiver.0) }
+    ensures value { IsToken system.now kind k.0 receiver.0 result }
     ensures coded { (p : Program) → AreElements p result }
 {
     match receiver.source() {

@@ -3,12 +3,11 @@ ghost use Rattle.std.specs.Prelude.{◌≡◌, ◌++◌, ◌∷◌, [], pos, IfO
 ghost use Rattle.std.specs.Int.{int_wrap};
 ghost use mir.Syntax.{w32};
 ghost use Rattle.attr_rules.specs.Types.{parameter_kinds};
-ghost use Rattle.equation_law.specs.Codes.{IsRow, Naming, single_by, single_of, value_coded};
+ghost use Rattle.equation_law.specs.Codes.{IsRow, Naming, single_by, value_coded};
 ghost use Rattle.equation_law.specs.Systems.{program_of};
 ghost use Rattle.equation_law.specs.Values.{Int, argument_value, as_argument};
 ghost use Rattle.inherited_walk.specs.Sites.{index_values, site_place};
 ghost use Rattle.expr_eval.specs.Bound.{AreArguments};
-ghost use Rattle.expr_eval.specs.Evaluating.{texts_in};
 
 use crate::evaluation::parameters;
 use attr_rules::{AttrId, Kind, Params, TextId};
@@ -80,7 +79,7 @@ pub(crate) fn names_of(
 ) -> Result<Vec<Single>, Memory>
     requires inner { IsRow site.now.inner }
     requires outer { IsRow site.now.outer }
-    ensures { IfOk result (λ names. map (single_of (texts_in system.now)) names.items ≡ (site_place (program_of system.now) attr.0 site.now).names) }
+    ensures { IfOk result (λ names. (n : Naming) → map (single_by n) names.items ≡ (site_place (program_of system.now) n attr.0 site.now).names) }
 {
     let mut names = arguments(alloc, parameters(system, attr), site.inner)?;
     push_places(&mut names, site.outer)?;

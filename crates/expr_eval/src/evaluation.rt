@@ -2,14 +2,14 @@
 ghost use Rattle.std.specs.Prelude.{◌≡◌, ◌<◌, pos, [], IfOk, OnOk, cond, length, true};
 ghost use Rattle.attr_rules.specs.Expression.{expression_of};
 ghost use Rattle.attr_rules.specs.Types.{parameter_kinds, text_kind};
-ghost use Rattle.equation_law.specs.Codes.{AreCodes, AreElements, IsCode, IsCoded, IsRow, Naming, codes_in, instance_of, single_by, value_at, value_by, value_of};
+ghost use Rattle.equation_law.specs.Codes.{AreCodes, AreElements, ByEachNaming, IsCode, IsCoded, IsRow, Naming, codes_in, single_by, value_by, value_coded};
 ghost use Rattle.equation_law.specs.Equations.{attribute_kind as kind_of};
-ghost use Rattle.equation_law.specs.Program.{Program, attribute_parameters};
+ghost use Rattle.equation_law.specs.Program.{Program, attribute_parameters, text_of};
 ghost use Rattle.equation_law.specs.Reading.{IsSound};
 ghost use Rattle.equation_law.specs.Values.{as_argument, truth};
 ghost use Rattle.equation_law.specs.Systems.{program_of};
 ghost use Rattle.expr_eval.specs.Elements.{Rooms};
-ghost use Rattle.expr_eval.specs.Evaluating.{CallReads, DemandReads, TokenReads, is_over_form, place_in, texts_in, value_in};
+ghost use Rattle.expr_eval.specs.Evaluating.{CallReads, DemandReads, TokenReads, is_over_form, place_in};
 ghost use Rattle.expr_eval.specs.Parts.{IsCombined, IsRounded, IsSaid, is_further};
 ghost use Rattle.expr_eval.specs.Reads.{ArgumentsReadIn, GoesOverIn, IsReady, ReadsAt, ReadsCall, ReadsChoice, ReadsIn, ReadsStandIn, state};
 ghost use Rattle.expr_eval.specs.Saved.{AreRanged, IsFirst, Stands, TakesIn, begun as begun_with, body_of, done as done_with, range_of};
@@ -75,7 +75,7 @@ fn demand<R: Reader>(
 )
     requires sound { IsSound (program_of context.now.system.now) (R.tells reader.old) }
     requires coded { IsCoded (program_of context.now.system.now) instance }
-    ensures { let p = program_of context.now.system.now in DemandReads p (R.tells reader.old) (R.tells reader.new) (instance_of p instance) came.new }
+    ensures { DemandReads (program_of context.now.system.now) (R.tells reader.old) (R.tells reader.new) instance came.new }
 {
     match reader.settled(context.alloc, &instance) {
         Ok(Some(value)) => *came = Ok(value),
@@ -114,7 +114,7 @@ fn is_text(kind: Kind) -> bool
 /// The number of a text, which is that of the empty one for a number that no text has.
 fn known_text(system: &System, number: TextId) -> Code
     ensures within { result < length (program_of system.now).texts }
-    ensures text { texts_in system.now result ≡ texts_in system.now number.0 }
+    ensures text { text_of (program_of system.now) result ≡ text_of (program_of system.now) number.0 }
 {
     if number.0 < system.pool().len() {
         number.0
@@ -126,7 +126,7 @@ fn known_text(system: &System, number: TextId) -> Code
 /// The code of an argument for a parameter of this type: each value has one.
 fn argument_code(system: &System, kind: Kind, value: Value) -> Code
     ensures code { IsCode (program_of system.now) kind result }
-    ensures value { as_argument kind (value_at (texts_in system.now) kind result) ≡ as_argument kind (value_of (texts_in system.now) value) }
+    ensures value { ByEachNaming (program_of system.now) (λ n. as_argument kind (value_coded n kind result) ≡ as_argument kind (value_by n value)) }
 {
     if is_text(kind) {
         return known_text(system, value.text());
@@ -306,7 +306,7 @@ fn take_in(
     requires so_far { AreElements (program_of context.now.system.now) stand.old.so_far }
     requires said { AreElements (program_of context.now.system.now) said }
     ensures names { stand.new.names ≡ stand.old.names }
-    ensures next { stand.new.next ≡ done_with making list.now.count stand.old.next (value_in context.now.system.now said) }
+    ensures next { (n : Naming) → stand.new.next ≡ done_with making list.now.count stand.old.next (value_by n said) }
     ensures so_far { OnOk result (TakesIn context.now.system.now making element said stand.old.so_far stand.new.so_far) }
     ensures coded { OnOk result (AreElements (program_of context.now.system.now) stand.new.so_far) }
 {
@@ -353,7 +353,7 @@ fn at_elements<'a, R: Reader>(
 ) -> Result<(), Halt>
     requires ready { IsReady (program_of context.now.system.now) (state context.now.system.now (R.tells reader.old) saved.old) }
     requires room { Rooms context.now.names.now stand.old.names.items }
-    requires stands { Stands context.now.system.now (R.tells reader.old).has (place_in context.now) making (expression_of body.now) list.now stand.old }
+    requires stands { Stands context.now.system.now (R.tells reader.old) (place_in context.now) making (expression_of body.now) list.now stand.old }
     ensures room { Rooms context.now.names.now stand.new.names.items }
     ensures over { GoesOverIn context.now (R.tells reader.old) saved.old (R.tells reader.new) saved.new making body.now list.now stand.new result }
 {

@@ -4,11 +4,12 @@ ghost use Rattle.std.specs.Int.{int_wrap};
 ghost use Rattle.std.specs.Str.{bytes_eq};
 ghost use mir.Syntax.{w32};
 ghost use Rattle.rag_io.specs.Pool.{ArePooled};
-ghost use Rattle.equation_law.specs.Codes.{reference_of};
+ghost use Rattle.equation_law.specs.Codes.{ByEachNaming, reference_by, value_by};
 ghost use Rattle.equation_law.specs.Meaning.{equal as same_value, operate as operated_by};
 ghost use Rattle.equation_law.specs.Names.{same_reference};
+ghost use Rattle.equation_law.specs.Program.{Program};
+ghost use Rattle.equation_law.specs.Systems.{program_of};
 ghost use Rattle.equation_law.specs.Values.{Int, Truth, int, truth};
-ghost use Rattle.expr_eval.specs.Evaluating.{value_in};
 
 use attr_rules::{Operator, TextId};
 use equation_law::{NodeRef, System, Value};
@@ -36,14 +37,14 @@ fn same_text(pool: &Pool, left: TextId, right: TextId) -> bool
 
 /// Whether two nodes are equal, which are told apart by their codes.
 fn same_node(left: NodeRef, right: NodeRef) -> bool
-    ensures { result ≡ same_reference (reference_of left.0) (reference_of right.0) }
+    ensures { (p : Program) → ByEachNaming p (λ n. result ≡ same_reference (reference_by n.node left.0) (reference_by n.node right.0)) }
 {
     left == right
 }
 
 /// Whether two truth values, integers, texts or nodes are equal.
 fn equal(system: &System, left: &Value, right: &Value) -> bool
-    ensures { result ≡ same_value (value_in system.now left.now) (value_in system.now right.now) }
+    ensures { ByEachNaming (program_of system.now) (λ n. result ≡ same_value (value_by n left.now) (value_by n right.now)) }
 {
     match left {
         Value::Truth(b) => *b == right.truth(),
@@ -56,7 +57,7 @@ fn equal(system: &System, left: &Value, right: &Value) -> bool
 
 /// A binary operator on two values; sums, differences and products wrap.
 pub(crate) fn operate(system: &System, operator: Operator, left: &Value, right: &Value) -> Value
-    ensures { value_in system.now result ≡ operated_by operator (value_in system.now left.now) (value_in system.now right.now) }
+    ensures { ByEachNaming (program_of system.now) (λ n. value_by n result ≡ operated_by operator (value_by n left.now) (value_by n right.now)) }
 {
     match operator {
         Operator::Add => Value::Int(left.int().wrapping_add(right.int())),

@@ -1,10 +1,10 @@
 // The parts of a form, and what is made of their values where all of them are evaluated.
 ghost use Rattle.std.specs.Prelude.{◌≡◌, IfOk, OnOk};
 ghost use Rattle.attr_rules.specs.Expression.{expression_of};
-ghost use Rattle.equation_law.specs.Codes.{AreElements};
+ghost use Rattle.equation_law.specs.Codes.{AreElements, Naming, value_by};
 ghost use Rattle.equation_law.specs.Meaning.{named};
 ghost use Rattle.equation_law.specs.Systems.{program_of};
-ghost use Rattle.expr_eval.specs.Evaluating.{place_in, value_in, world_in};
+ghost use Rattle.expr_eval.specs.Evaluating.{place_in, world_in};
 ghost use Rattle.expr_eval.specs.Parts.{AreParts, IsMade, IsMadeOfOne, IsMadeOfTwo, OneMakes, TwoMake, leaf_in, made_of_one, made_of_two};
 
 use crate::accessors::{cast, child, count, element, has, is_of, source};
@@ -62,7 +62,7 @@ pub(crate) fn parts_of(form: &TExpr) -> Parts<'_>
 
 /// The value of a name by its number.
 fn variable(context: &Context<'_>, number: usize) -> Value
-    ensures { value_in context.now.system.now result ≡ named (place_in context.now).names number }
+    ensures { (n : Naming) → value_by n result ≡ named (place_in context.now n).names number }
 {
     match context.names.get(number) {
         Some(value) => Value::from(*value),

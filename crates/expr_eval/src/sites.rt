@@ -150,6 +150,8 @@ fn asked<'a, R: Reader>(
     requires ready { IsReady (program_of system.now) (state system.now (R.tells reader.old) saved.old) }
     ensures { ResumesQuery system.now (R.tells reader.old) saved.old (R.tells reader.new) saved.new query.0 result }
 {
+    // The first code is that of the root, which each tree has.
+    prove!(system.tree().len() > 0);
     let context = Context {
         alloc,
         system,
@@ -194,9 +196,9 @@ pub fn resume_body<'a, R: Reader>(
 ) -> Result<Turn, Memory>
     requires known { expression.0 < length (bodies (program_of system.now).rules) }
     requires sound { IsSound (program_of system.now) (R.tells reader.old) }
-    requires saved { AreSaved system.now (R.tells reader.old).has saved.old }
+    requires saved { AreSaved system.now (R.tells reader.old) saved.old }
     ensures evaluates { EvaluatesBody (program_of system.now) (R.tells reader.old) (R.tells reader.new) expression.0 node.0 result }
-    ensures saved { AreSaved system.now (R.tells reader.new).has saved.new }
+    ensures saved { AreSaved system.now (R.tells reader.new) saved.new }
 {
     let context = Context {
         alloc,
@@ -290,11 +292,11 @@ pub fn resume_instance<'a, R: Reader>(
     saved: &mut Saved<'a>,
 ) -> Result<Turn, Memory>
     requires sound { IsSound (program_of system.now) (R.tells reader.old) }
-    requires saved { AreSaved system.now (R.tells reader.old).has saved.old }
+    requires saved { AreSaved system.now (R.tells reader.old) saved.old }
     requires coded { IsCoded (program_of system.now) i.now }
     requires single { collection_of (program_of system.now) (instance_of (program_of system.now) i.now) ≡ None }
     ensures evaluates { EvaluatesInstance (program_of system.now) (R.tells reader.old) (R.tells reader.new) i.now result }
-    ensures saved { AreSaved system.now (R.tells reader.new).has saved.new }
+    ensures saved { AreSaved system.now (R.tells reader.new) saved.new }
 {
     match i {
         Instance::Attr { attr, node, args } => {
@@ -316,12 +318,12 @@ pub fn resume_at<'a, R: Reader>(
     saved: &mut Saved<'a>,
 ) -> Result<Turn, Memory>
     requires sound { IsSound (program_of system.now) (R.tells reader.old) }
-    requires saved { AreSaved system.now (R.tells reader.old).has saved.old }
+    requires saved { AreSaved system.now (R.tells reader.old) saved.old }
     requires single { collection_of (program_of system.now) (instance_of (program_of system.now) (attribute_at attr node args)) ≡ None }
     requires found { FindsEquation (program_of system.now) attr node args site }
     requires rows { IfSome site (λ s. IsRow s.outer × IsRow s.inner) }
     ensures evaluates { EvaluatesInstance (program_of system.now) (R.tells reader.old) (R.tells reader.new) (attribute_at attr node args) result }
-    ensures saved { AreSaved system.now (R.tells reader.new).has saved.new }
+    ensures saved { AreSaved system.now (R.tells reader.new) saved.new }
 {
     at_site(alloc, system, attr, node, args, site, reader, saved)
 }

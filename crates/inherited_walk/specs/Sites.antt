@@ -8,9 +8,10 @@ use Rattle.equation_law.specs.declared.coding.Args.{Args}
 use Rattle.equation_law.specs.declared.coding.EqSite.{EqSite}
 use Rattle.equation_law.specs.declared.coding.Instance.TheVariants.{Attr as attribute_at}
 use Rattle.equation_law.specs.declared.coding.NodeRef.{NodeRef}
-use Rattle.equation_law.specs.Codes.{arguments_of, codes_in, instance_of, reference_of}
+use Rattle.equation_law.specs.Codes.{ByEachNaming, Naming, arguments_for, codes_in, instance_by, reference_by}
 use Rattle.equation_law.specs.Equations.{Site, site_of}
 use Rattle.equation_law.specs.Meaning.{Place}
+use Rattle.equation_law.specs.Names.{Argument}
 use Rattle.equation_law.specs.Program.{Program}
 use Rattle.equation_law.specs.Values.{Value, Int, argument_value}
 
@@ -18,20 +19,24 @@ use Rattle.equation_law.specs.Values.{Value, Int, argument_value}
 abbrev pub index_values : Args → List Value
 index_values xs = map (λ c. Int (int_wrap w32 (pos c))) (codes_in xs)
 
--- where the equation of a site is read for an attribute, whose parameters say what its codes stand for
-abbrev pub site_place : Program → ℕ → EqSite → Place
-site_place p a s = record { this = reference_of s.node.0; names = map argument_value (arguments_of p a s.inner) ++ index_values s.outer }
+-- where the equation of a site is read for an attribute, whose parameters say what its codes stand for by a naming
+abbrev pub site_place : Program → Naming → ℕ → EqSite → Place
+site_place p n a s = record { this = reference_by n.node s.node.0; names = map argument_value (arguments_for p n a s.inner) ++ index_values s.outer }
 
 -- an equation by its number, with where it is read
-pub record IsSite (p : Program) (a : ℕ) (s : EqSite) (site : Site) : Type 0 where
+pub record IsSite (p : Program) (n : Naming) (a : ℕ) (s : EqSite) (site : Site) : Type 0 where
   pub body : body_at p.rules s.equation.0 ≡ Some site.body
-  pub place : site.place ≡ site_place p a s
+  pub place : site.place ≡ site_place p n a s
 
 -- it is found exactly where there is one
-abbrev pub IsFound : Program → ℕ → Option Site → Option EqSite → Type 0
-IsFound p a o None = o ≡ None
-IsFound p a o (Some s) = (site : Site) × (o ≡ Some site) × IsSite p a s site
+abbrev pub IsFound : Program → Naming → ℕ → Option Site → Option EqSite → Type 0
+IsFound p n a o None = o ≡ None
+IsFound p n a o (Some s) = (site : Site) × (o ≡ Some site) × IsSite p n a s site
 
--- what is found is the equation of an attribute at a node with arguments
+-- for an attribute with arguments, by each naming
+abbrev pub IsFoundFor : Program → AttrId → Args → (List Argument → Option Site) → Option EqSite → Type 0
+IsFoundFor p a xs site found = ByEachNaming p (λ n. IsFound p n a.0 (site (arguments_for p n a.0 xs)) found)
+
+-- what is found is the equation of an attribute at a node with arguments, whatever the node's code stands for
 abbrev pub FindsEquation : Program → AttrId → NodeRef → Args → Option EqSite → Type 0
-FindsEquation p a n xs found = IsFound p a.0 (site_of p (instance_of p (attribute_at a n xs))) found
+FindsEquation p a m xs found = ByEachNaming p (λ n. IsFound p n a.0 (site_of p (instance_by p n (attribute_at a m xs))) found)

@@ -2,12 +2,12 @@
 ghost use Rattle.std.specs.Prelude.{◌≡◌, ◌<◌, IfSome, length, None, Some};
 ghost use Rattle.tree_arena.specs.Nodes.{most_nodes, parent_in};
 ghost use Rattle.equation_law.specs.Checked.{IsInstance, IsProgram};
-ghost use Rattle.equation_law.specs.Codes.{IsRow, arguments_of, instance_of};
+ghost use Rattle.equation_law.specs.Codes.{IsRow, instance_of};
 ghost use Rattle.equation_law.specs.Equations.{bound_values, collection_of, covering_site, inherited_site, inherits, synthesized_site};
 ghost use Rattle.equation_law.specs.declared.coding.Instance.TheVariants.{Attr as attribute_at};
 ghost use Rattle.equation_law.specs.Program.{declared_of};
 ghost use Rattle.equation_law.specs.Systems.{program_of};
-ghost use Rattle.inherited_walk.specs.Sites.{FindsEquation, IsFound, index_values};
+ghost use Rattle.inherited_walk.specs.Sites.{FindsEquation, IsFoundFor, index_values};
 
 use attr_rules::{AttrId, Part, Reach};
 use equation_law::{Args, EqSite, NodeRef, System};
@@ -22,7 +22,7 @@ pub(crate) fn is_inherited(system: &System, attr: AttrId) -> bool
 
 /// The equation of a synthesized attribute: that of the nearest class, from the node's class upwards, read at the node.
 pub(crate) fn synthesized(system: &System, attr: AttrId, node: u32, args: Args) -> Option<EqSite>
-    ensures found { let p = program_of system.now in IsFound p attr.0 (synthesized_site p attr.0 node (arguments_of p attr.0 args)) result }
+    ensures found { let p = program_of system.now in IsFoundFor p attr args (synthesized_site p attr.0 node) result }
     ensures rows { IsRow args → IfSome result (λ s. IsRow s.outer × IsRow s.inner) }
 {
     let tree = system.tree();
@@ -62,7 +62,7 @@ pub(crate) fn covering(
     requires few { node < most_nodes }
     requires parent { parent_in (program_of system.now).tree node ≡ Some parent }
     requires above { parent < node }
-    ensures found { let p = program_of system.now in IsFound p attr.0 (covering_site p attr.0 (arguments_of p attr.0 args) node) result }
+    ensures found { let p = program_of system.now in IsFoundFor p attr args (λ zs. covering_site p attr.0 zs node) result }
     ensures rows { IsRow args → IfSome result (λ s. IsRow s.outer × IsRow s.inner) }
 {
     let tree = system.tree();
@@ -79,7 +79,7 @@ pub(crate) fn covering(
 
 /// The equation of an inherited attribute: from the node upwards, that of the closest ancestor which has one that covers the way to it.
 pub(crate) fn inherited(system: &System, attr: AttrId, args: Args, node: u32) -> Option<EqSite>
-    ensures found { let p = program_of system.now in IsFound p attr.0 (inherited_site p attr.0 (arguments_of p attr.0 args) node) result }
+    ensures found { let p = program_of system.now in IsFoundFor p attr args (λ zs. inherited_site p attr.0 zs node) result }
     ensures rows { IsRow args → IfSome result (λ s. IsRow s.outer × IsRow s.inner) }
 {
     let tree = system.tree();

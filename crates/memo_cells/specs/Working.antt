@@ -3,11 +3,11 @@ use Rattle.std.specs.Prelude.{◌≡◌, ℕ, IfNone, IfSome, List, Option}
 use Rattle.equation_law.specs.declared.coding.Instance.{Instance as CodedInstance}
 use Rattle.equation_law.specs.declared.system.System.{System}
 use Rattle.equation_law.specs.Checked.{IsInstance}
-use Rattle.equation_law.specs.Codes.{IsCoded, instance_of}
+use Rattle.equation_law.specs.Codes.{IsCoded, IsInOrder, IsNamingOf, Naming, instance_of, source_names}
 use Rattle.equation_law.specs.Equations.{HasValue}
 use Rattle.equation_law.specs.Names.{Instance}
-use Rattle.equation_law.specs.Program.{Program}
-use Rattle.equation_law.specs.Reading.{Told}
+use Rattle.equation_law.specs.Program.{Program, text_of}
+use Rattle.equation_law.specs.Reading.{ByEachIn, ReadsSources, Told}
 use Rattle.equation_law.specs.Systems.{program_of}
 use Rattle.equation_law.specs.Values.{Value}
 use Rattle.memo_cells.specs.declared.keys.Slot.{Slot}
@@ -168,7 +168,7 @@ abbrev pub ClaimsForSetAt : Held → Held → ℕ → Type 0
 ClaimsForSetAt d e place = ClaimsForSet d.frame d.view e.view place
 
 -- What a reader tells that holds a pass: it is for the program of the cells, it has the values of the instances whose cells are seen
--- settled, and reading lets the pass know no less.
+-- settled, and reading lets the pass know no less. It may be read by the names of source nodes.
 pub record TellsPass {S : Type 0} (held : S → Held) (d : S) (r : Told S) : Type 0 where
   pub for : r.for (program_at (held d))
   pub only : (p : Program) → r.for p → p ≡ program_at (held d)
@@ -178,7 +178,13 @@ pub record TellsPass {S : Type 0} (held : S → Held) (d : S) (r : Told S) : Typ
   pub may : (i : Instance) (w : Value) → HasValue (program_at (held d)) i w → r.can i w
   pub keeps : (x : S) → r.keeps x → ReadsOn (held x) (held d)
   pub itself : IsOwn (held d) → r.keeps d
+  pub sources : ReadsSources (program_at (held d)) r
+  pub named : ByEachIn r (λ n. IsNamingOf (program_at (held d)) n × IsInOrder n)
+
+-- n gives the names of source nodes
+abbrev pub NamesSources : Program → Naming → Type 0
+NamesSources p n = n ≡ source_names (text_of p)
 
 -- what such a reader tells, which is seen as what it holds
 abbrev pub told_by : Held → Told Held
-told_by d = record { for = λ p. p ≡ program_at d; has = IsKnown (program_at d) d.view; can = HasValue (program_at d); keeps = λ x. ReadsOn x d }
+told_by d = record { for = λ p. p ≡ program_at d; has = IsKnown (program_at d) d.view; can = HasValue (program_at d); keeps = λ x. ReadsOn x d; names = NamesSources (program_at d) }

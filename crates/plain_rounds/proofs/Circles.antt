@@ -10,7 +10,7 @@ use Rattle.equation_law.specs.declared.coding.EqSite.{EqSite}
 use Rattle.equation_law.specs.declared.coding.Instance.{Instance as CodedInstance}
 use Rattle.equation_law.specs.declared.coding.Instance.TheVariants as coded
 use Rattle.equation_law.specs.declared.coding.NodeRef.{NodeRef}
-use Rattle.equation_law.specs.Codes.{instance_of}
+use Rattle.equation_law.specs.Codes.{Naming, instance_of}
 use Rattle.equation_law.specs.Equations.{OfSite, Site, collection_of, equation_of, equation_rises, equations_of, is_circular, is_ordered, kind_in, site_of}
 use Rattle.equation_law.specs.Names.{Instance}
 use Rattle.equation_law.specs.Program.{Program}
@@ -28,7 +28,7 @@ unfolding equations_of
 bottom_is p i = refl
 
 -- the equation that is found rises
-pub found_rises : (p : Program) (a : ℕ) (s : EqSite) (o : Option Site) (rules : RuleSet) (e : Expression) (b : Bool) → rules ≡ p.rules → body_at rules s.equation.0 ≡ Some e → b ≡ rises (circular_at rules.attributes) e → (site : Site) × (o ≡ Some site) × IsSite p a s site
+pub found_rises : (p : Program) {n : Naming} (a : ℕ) (s : EqSite) (o : Option Site) (rules : RuleSet) (e : Expression) (b : Bool) → rules ≡ p.rules → body_at rules s.equation.0 ≡ Some e → b ≡ rises (circular_at rules.attributes) e → (site : Site) × (o ≡ Some site) × IsSite p n a s site
     → b ≡ equation_rises (circular_at p.rules.attributes) (option_map OfSite o)
 found_rises p a s o rules e b same body is f =
     let at : body_at p.rules s.equation.0 ≡ Some e = subst (λ (x : RuleSet). body_at x s.equation.0 ≡ Some e) same body in

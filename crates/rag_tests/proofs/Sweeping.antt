@@ -12,7 +12,7 @@ use Rattle.equation_law.specs.Reading.{SettledBy}
 use Rattle.equation_law.specs.Systems.{program_of}
 use Rattle.equation_law.proofs.Declared.{as_declared}
 use Rattle.expr_eval.specs.declared.sites.Turn.TheVariants as turns
-use Rattle.expr_eval.specs.Evaluating.{AnswersTurn}
+use Rattle.expr_eval.specs.BySources.{AnswersSources}
 use Rattle.memo_cells.specs.declared.view.Frame.{Frame}
 use Rattle.memo_cells.specs.Working.{Held, IsOwn, ReadsOn, program_at, told_by}
 use Rattle.memo_cells.proofs.Holding.{reads_itself}
@@ -24,7 +24,7 @@ use Rattle.rag_tests.specs.Circular.{IsCircular}
 pub program_here : (s : System) (d e : Held) → d.frame.system.value ≡ s → ReadsOn d e → program_at e ≡ program_of s
 program_here s d e same on = ap (λ (f : Frame). program_of f.system.value) on.on.cells ∙ ap program_of same
 
-module _ (s : System) (good : IsProgram (program_of s)) (d e : Held) (same : d.frame.system.value ≡ s) (on : ReadsOn d e) (i n : CodedInstance) (instance : IsInstance (program_of s) (instance_of (program_of s) i)) (answer : AnswersTurn (program_of s) (told_by e) ((equations_of (program_of s)).equation (instance_of (program_of s) i)) (Ok (turns.Need n))) where
+module _ (s : System) (good : IsProgram (program_of s)) (d e : Held) (same : d.frame.system.value ≡ s) (on : ReadsOn d e) (i n : CodedInstance) (instance : IsInstance (program_of s) (instance_of (program_of s) i)) (answer : AnswersSources (program_of s) (told_by e) ((equations_of (program_of s)).equation (instance_of (program_of s) i)) (Ok (turns.Need n))) where
   abbrev p : Program
   p = program_of s
 

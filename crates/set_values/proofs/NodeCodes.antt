@@ -5,7 +5,7 @@ use Rattle.std.specs.Cmp.{nat_cmp_is, tied_itself}
 use Rattle.std.specs.List.{All}
 use Rattle.std.specs.List.Sorted.{IsSortedByKey}
 use Rattle.std.specs.FinMap.{nat_cmp-IsAntisymmetric}
-use Rattle.std.specs.Ordering.{eq_by_cmp, is_eq, is_lt, nat_cmp}
+use Rattle.std.specs.Ordering.{eq_by_cmp, is_eq, is_lt, nat_cmp, ordering_reverse}
 use Rattle.std.proofs.lemmas.Cmp.{nat_cmp_total}
 use Rattle.std.proofs.lemmas.List.Elements.{All-get_or, All-head, All-tail, All-weaker}
 use Rattle.std.proofs.lemmas.List.Folds.{list_any_none}
@@ -13,7 +13,7 @@ use Rattle.std.proofs.lemmas.List.Sorted.{IsPermutation-refl}
 use Rattle.std.proofs.lemmas.Map.Keys.{below_from_sorted}
 use Rattle.code_sets.specs.Members.{AreMade, Rises, has_code}
 use Rattle.attr_rules.specs.declared.expression.SetOperator.{SetOperator}
-use Rattle.equation_law.specs.Codes.{nodes_by, nodes_of, reference_by, reference_of}
+use Rattle.equation_law.specs.Codes.{nodes_by, reference_by, reference_of}
 use Rattle.equation_law.specs.Names.{NodeName, Source, node_cmp}
 use Rattle.equation_law.specs.Sets.{elements, has, set_of, size}
 use Rattle.equation_law.specs.Values.{combined, has_node}
@@ -31,9 +31,6 @@ IsNode c = 0 < c
 -- no two codes stand for one node
 abbrev pub AreApart : (ℕ → NodeName) → Type 0
 AreApart nodes = (j k : ℕ) → nodes j ≡ nodes k → j ≡ k
-
-sources_apart : AreApart Source
-sources_apart = one_source
 
 -- the node of such a code
 abbrev pub node_named : (ℕ → NodeName) → ℕ → NodeName
@@ -80,28 +77,20 @@ module _ (nodes : ℕ → NodeName) (apart : AreApart nodes) where
 
 -- a source node is one of some exactly where its code is one of theirs
 pub has_node_code : (n : ℕ) (cs : List ℕ) → All IsNode cs → has_node (node_set cs) (reference_of n) ≡ has_code cs n
-has_node_code = has_node_by Source sources_apart
+has_node_code = has_node_by Source one_source
 
--- the order of source nodes is that of their numbers
-by_number : (k j : ℕ) → node_cmp (Source k) (Source j) ≡ nat_cmp k j
-by_number k j =
-    elim (nat_cmp k j) as (λ r. nat_cmp k j ≡ r → node_cmp (Source k) (Source j) ≡ r) [
-      | Less ↦ λ e. grind (arith, e)
-      | Equal ↦ λ e. grind (arith, e)
-      | Greater ↦ λ e. grind (arith, e)
-    ] refl
+-- the codes of a set of nodes are in the order of the nodes where all codes are
+module _ (nodes : ℕ → NodeName) (apart : AreApart nodes) (rise : (j k : ℕ) → j < k → node_cmp (nodes j) (nodes k) ≡ Less) where
+  in_order : (cs : List ℕ) → Rises cs → All IsNode cs → IsSortedByKey (node_named nodes) node_cmp cs
+  in_order cs r a k d l m = not_below (get_or cs k d) (get_or cs (k + 1) d) (All-get_or IsNode cs k d (omega (arith, m)) a) (All-get_or IsNode cs (k + 1) d m a) (below_from_sorted cs k (k + 1) d r (omega arith) m)
+    where
+      not_below : (x y : ℕ) → IsNode x → IsNode y → x < y → is_lt (node_cmp (node_named nodes y) (node_named nodes x)) ≡ false
+      not_below zero y h g w = absurd (omega (arith, h))
+      not_below (suc x) zero h g w = absurd (omega (arith, g))
+      not_below (suc x) (suc y) h g w = ap is_lt (node_total.antisymm (nodes y) (nodes x) ∙ ap ordering_reverse (rise x y (omega (arith, w))))
 
--- the codes of a set of source nodes are in the order of the nodes
-in_order : (cs : List ℕ) → Rises cs → All IsNode cs → IsSortedByKey (node_named Source) node_cmp cs
-in_order cs r a k d l m = not_below (get_or cs k d) (get_or cs (k + 1) d) (All-get_or IsNode cs k d (omega (arith, m)) a) (All-get_or IsNode cs (k + 1) d m a) (below_from_sorted cs k (k + 1) d r (omega arith) m)
-  where
-    not_below : (x y : ℕ) → IsNode x → IsNode y → x < y → is_lt (node_cmp (node_named Source y) (node_named Source x)) ≡ false
-    not_below zero y h g w = absurd (omega (arith, h))
-    not_below (suc x) zero h g w = absurd (omega (arith, g))
-    not_below (suc x) (suc y) h g w = ap is_lt (by_number y x ∙ sym (nat_cmp_is y x Greater (omega (arith, w))))
-
-pub elements_nodes : (cs : List ℕ) → Rises cs → All IsNode cs → elements (node_set cs) ≡ nodes_of cs
-elements_nodes cs r a =
-    ap (λ ns. elements (set_of {R = node_cmp} ns)) (nodes_named Source cs a)
-    ∙ elements_coded node_total node_anti (node_named Source) IsNode (nodes_tied Source sources_apart) cs cs r a (IsPermutation-refl cs) (in_order cs r a)
-    ∙ sym (nodes_named Source cs a)
+  pub nodes_in_order : (cs : List ℕ) → Rises cs → All IsNode cs → elements (nodes_set nodes cs) ≡ nodes_by nodes cs
+  nodes_in_order cs r a =
+      ap (λ ns. elements (set_of {R = node_cmp} ns)) (nodes_named nodes cs a)
+      ∙ elements_coded node_total node_anti (node_named nodes) IsNode (nodes_tied nodes apart) cs cs r a (IsPermutation-refl cs) (in_order cs r a)
+      ∙ sym (nodes_named nodes cs a)

@@ -18,7 +18,7 @@ use Rattle.equation_law.specs.Systems.{program_of}
 use Rattle.equation_law.specs.Values.{combined}
 use Rattle.equation_law.proofs.Names.{code_anti}
 use Rattle.equation_law.proofs.Pooled.{first_text, same_numbers, texts_pooled}
-use Rattle.set_values.specs.CodedSets.{text_set, with_operator}
+use Rattle.set_values.specs.CodedSets.{text_set, texts_set, with_operator}
 use Rattle.set_values.proofs.Coded.{elements_coded, has_coded, made_coded, size_coded}
 
 -- a number that a text of the program has
@@ -39,7 +39,7 @@ made_texts s = made_coded nat_list_cmp_total code_anti (text_of (program_of s)) 
 pub size_texts : (s : System) (cs : List ℕ) → Rises cs → All (IsKnown s) cs → size (text_set (program_of s) cs) ≡ length cs
 size_texts s = size_coded nat_list_cmp_total code_anti (text_of (program_of s)) (IsKnown s) (texts_tied s)
 
-pub elements_texts : (s : System) (cs ns : List ℕ) → Rises cs → All (IsKnown s) cs → IsPermutation cs ns → IsSortedByKey (text_of (program_of s)) text_cmp ns
+elements_texts : (s : System) (cs ns : List ℕ) → Rises cs → All (IsKnown s) cs → IsPermutation cs ns → IsSortedByKey (text_of (program_of s)) text_cmp ns
     → elements (text_set (program_of s) cs) ≡ map (text_of (program_of s)) ns
 elements_texts s = elements_coded nat_list_cmp_total code_anti (text_of (program_of s)) (IsKnown s) (texts_tied s)
 
@@ -54,6 +54,9 @@ module _ (s : System) {n : Naming} (h : IsNamingOf (program_of s) n) where
 
   pub size_texts_by : (cs : List ℕ) → Rises cs → All (IsKnown s) cs → size (set_of {R = text_cmp} (map n.text cs)) ≡ length cs
   size_texts_by cs r a = ap (λ (f : ℕ → List ℕ). size (set_of {R = text_cmp} (map f cs))) h.texts ∙ size_texts s cs r a
+
+  pub texts_in_order : (cs ns : List ℕ) → Rises cs → All (IsKnown s) cs → IsPermutation cs ns → IsSortedByKey (text_of (program_of s)) text_cmp ns → elements (texts_set n cs) ≡ map n.text ns
+  texts_in_order cs ns r a moved sorted = subst (λ (f : ℕ → List ℕ). elements (set_of {R = text_cmp} (map f cs)) ≡ map f ns) (sym h.texts) (elements_texts s cs ns r a moved sorted)
 
   -- the empty text has the number 0
   pub first_text_by : n.text 0 ≡ []

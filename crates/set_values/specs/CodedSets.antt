@@ -1,11 +1,12 @@
 -- Sets by the codes of their elements, and what operators on sets make of membership.
-use Rattle.std.specs.Prelude.{ℕ, Bool, ◌&&◌, ◌||◌, not, List, map}
+use Rattle.std.specs.Prelude.{◌≡◌, ℕ, Bool, ◌&&◌, ◌||◌, not, List, map}
 use Rattle.attr_rules.specs.declared.expression.SetOperator.{SetOperator}
 use Rattle.attr_rules.specs.declared.expression.SetOperator.TheVariants.{Union, Inter, Minus}
 use Rattle.attr_rules.specs.declared.kinds.Kind.{Kind}
+use Rattle.equation_law.specs.declared.coding.Single.{Single as CodedSingle}
 use Rattle.equation_law.specs.declared.coding.Value.{Value as CodedValue}
 use Rattle.equation_law.specs.declared.system.System.{System as KeptSystem}
-use Rattle.equation_law.specs.Codes.{AreElements, Naming, nodes_by, value_by}
+use Rattle.equation_law.specs.Codes.{AreElements, Naming, nodes_by, single_by, value_by}
 use Rattle.equation_law.specs.Names.{NodeName, Source, node_cmp, text_cmp}
 use Rattle.equation_law.specs.Program.{Program, text_of}
 use Rattle.equation_law.specs.Sets.{SetBy, set_of}
@@ -16,6 +17,10 @@ use Rattle.equation_law.specs.Values.{Value, set_operate}
 abbrev pub text_set : Program → List ℕ → SetBy text_cmp
 text_set p cs = set_of (map (text_of p) cs)
 
+-- that of the texts that they stand for by a naming
+abbrev pub texts_set : Naming → List ℕ → SetBy text_cmp
+texts_set n cs = set_of (map n.text cs)
+
 -- the set of the nodes that some codes stand for
 abbrev pub nodes_set : (ℕ → NodeName) → List ℕ → SetBy node_cmp
 nodes_set nodes cs = set_of (nodes_by nodes cs)
@@ -23,6 +28,10 @@ nodes_set nodes cs = set_of (nodes_by nodes cs)
 -- that of source nodes
 abbrev pub node_set : List ℕ → SetBy node_cmp
 node_set cs = nodes_set Source cs
+
+-- coded values stand for these by a naming
+abbrev pub StandFor : Naming → List CodedSingle → List Value → Type 0
+StandFor n list vs = map (single_by n) list ≡ vs
 
 -- it holds in the program of each system where the elements of the set are coded well
 abbrev pub WhereCoded : CodedValue → (Program → Type 0) → Type 0

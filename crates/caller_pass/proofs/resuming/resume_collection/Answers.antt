@@ -3,7 +3,7 @@ use Rattle.equation_law.specs.declared.system.System.{System}
 use Rattle.equation_law.specs.Codes.{instance_of}
 use Rattle.equation_law.specs.Collections.{Collection}
 use Rattle.equation_law.specs.Equations.{offers_below}
-use Rattle.equation_law.specs.Reading.{IsSound}
+use Rattle.equation_law.specs.Reading.{IsSound, ReadsSources}
 use Rattle.equation_law.specs.Systems.{program_of}
 use Rattle.expr_eval.specs.Saved.{AreSaved}
 use Rattle.expr_eval.specs.declared.sites.Turn.TheVariants as turns
@@ -13,6 +13,7 @@ use Rattle.collection_attrs.specs.Surveys.{IsCollectorOf, IsSurveyed}
 use Rattle.collection_attrs.proofs.Surveying.{rootless}
 use Rattle.caller_pass.specs.Leaving.{AreLeft}
 use Rattle.caller_pass.proofs.Collecting.{collected, one_collection, survey_taken, walk_for, walk_known, walk_told}
+use Rattle.caller_pass.proofs.Desks.{desk_sources}
 use Rattle.caller_pass.proofs.resuming.resume_collection.Goals as goal
 
 pub root_for-requires : goal.root_for-requires
@@ -31,7 +32,7 @@ returns-in_default-clause-evaluates c =
 pub returns-in_default-clause-left : goal.returns-in_default-clause-left
 returns-in_default-clause-left c =
     let p = program_of c.args.system.now in
-    subst (λ (d : Held). AreLeft c.args.system.now (told_by d).has (instance_of p c.args.i) c.args.left.now) (sym c.root_for.ensures.same) c.requires.left
+    subst (λ (d : Held). AreLeft c.args.system.now (told_by d) (instance_of p c.args.i) c.args.left.now) (sym c.root_for.ensures.same) c.requires.left
 
 pub take_walk-offers-requires : goal.take_walk-offers-requires
 take_walk-offers-requires c = subst (λ (d : Held). c.in-Some.root < length (program_of d.frame.system.value).tree) (sym c.root_for.ensures.same) c.in-Some.ensures.within
@@ -60,7 +61,7 @@ go_on-turn-requires-clause-collection c =
     )
 
 pub go_on-turn-requires-clause-saved : goal.go_on-turn-requires-clause-saved
-go_on-turn-requires-clause-saved c = subst (λ (d : Held). AreSaved c.args.system.now (told_by d).has c.args.left.now.saved) (sym (c.take_walk-offers.ensures.same ∙ c.root_for.ensures.same)) c.requires.left.saved
+go_on-turn-requires-clause-saved c = subst (λ (d : Held). AreSaved c.args.system.now (told_by d) c.args.left.now.saved) (sym (c.take_walk-offers.ensures.same ∙ c.root_for.ensures.same)) c.requires.left.saved
 
 pub put_walk-requires : goal.put_walk-requires
 put_walk-requires c =
@@ -83,7 +84,12 @@ returns-clause-left c =
     let k = c.requires.collection.0 in
     let its = c.requires.collection.2 in
     record {
-      saved = subst (λ (d : Held). AreSaved c.args.system.now (told_by d).has c.go_on-turn.new.saved) (sym c.put_walk.ensures) c.go_on-turn.ensures.saved;
+      saved = subst (λ (d : Held). AreSaved c.args.system.now (told_by d) c.go_on-turn.new.saved) (sym c.put_walk.ensures) c.go_on-turn.ensures.saved;
       survey = λ d is. subst (λ (x : Held). IsSurveyed p (told_by x).has d c.go_on-turn.new.self) (sym c.put_walk.ensures)
           (subst (λ (x : Collection). IsSurveyed p (told_by c.go_on-turn.new.reader).has x c.go_on-turn.new.self) (sym (one_collection p (instance_of p c.args.i) k d c.requires.collection.1 is)) (c.go_on-turn.ensures.survey k its));
     }
+
+pub go_on-turn-requires-clause-sources : goal.go_on-turn-requires-clause-sources
+go_on-turn-requires-clause-sources c =
+    let p = program_of c.args.system.now in
+    subst (λ (d : Held). ReadsSources p (told_by d)) (sym (c.take_walk-offers.ensures.same ∙ c.root_for.ensures.same)) (desk_sources p c.args.desk.now (sym (ap program_of c.requires.same)))

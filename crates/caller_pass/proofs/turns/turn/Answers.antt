@@ -3,11 +3,12 @@ use Rattle.equation_law.specs.declared.system.System.{System}
 use Rattle.equation_law.specs.Codes.{instance_of}
 use Rattle.equation_law.specs.Program.{Program}
 use Rattle.equation_law.specs.Systems.{program_of}
-use Rattle.memo_cells.specs.Working.{Held, IsKnown, IsOwn, program_at}
+use Rattle.memo_cells.specs.Working.{Held, IsOwn, program_at, told_by}
 use Rattle.caller_pass.specs.Knowing.{TurnsTo}
-use Rattle.caller_pass.specs.Leaving.{AreLeft}
+use Rattle.caller_pass.specs.Leaving.{AreLeft, reads_known}
 use Rattle.memo_cells.proofs.Holding.{reads_itself}
 use Rattle.caller_pass.proofs.Desks.{sound_for, turned}
+use Rattle.caller_pass.proofs.Leaving.{left_here, left_told}
 use Rattle.caller_pass.proofs.turns.turn.Goals as goal
 
 pub resume-requires-clause-sound : goal.resume-requires-clause-sound
@@ -17,7 +18,7 @@ pub resume-requires-clause-left : goal.resume-requires-clause-left
 resume-requires-clause-left g c =
     let d = c.args.desk.now in
     let same = ap (λ (x : Held). x.frame.system.value) (sym c.desk.view_is) ∙ c.desk.invariant.1 in
-    subst (λ (s : System). AreLeft s (IsKnown (program_at d) d.view) (instance_of (program_of s) c.args.i) c.args.left.now) same c.requires.left
+    subst (λ (s : System). AreLeft s (told_by d) (instance_of (program_of s) c.args.i) c.args.left.now) same (left_told d d.frame.system.value (instance_of (program_at d) c.args.i) c.args.left.now c.requires.left)
 
 pub returns-clause-on : goal.returns-clause-on
 returns-clause-on g c = c.resume.ensures.evaluates.kept.kept c.args.desk.now (reads_itself c.args.desk.now (subst (λ (d : Held). IsOwn d) c.desk.view_is c.desk.invariant.0.0))
@@ -36,5 +37,5 @@ returns-clause-left g c =
     let e = c.resume.new.desk in
     let same = ap (λ (x : Held). x.frame.system.value) (sym c.desk.view_is) ∙ c.desk.invariant.1 in
     let program : program_at e ≡ program_at d = sym c.resume.ensures.evaluates.kept.sound.for ∙ ap program_of (sym same) in
-    let here = subst (λ (s : System). AreLeft s (IsKnown (program_at e) e.view) (instance_of (program_of s) c.args.i) c.resume.new.left) (sym same) c.resume.ensures.left in
-    subst (λ (q : Program). AreLeft d.frame.system.value (IsKnown q e.view) (instance_of (program_at d) c.args.i) c.resume.new.left) program here
+    let here = subst (λ (s : System). AreLeft s (reads_known (program_at e) e.view) (instance_of (program_of s) c.args.i) c.resume.new.left) (sym same) (left_here e c.desk.inside.system.now (instance_of (program_of c.desk.inside.system.now) c.args.i) c.resume.new.left c.resume.ensures.left) in
+    subst (λ (q : Program). AreLeft d.frame.system.value (reads_known q e.view) (instance_of (program_at d) c.args.i) c.resume.new.left) program here

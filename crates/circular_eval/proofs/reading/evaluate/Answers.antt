@@ -4,13 +4,13 @@ use Rattle.equation_law.specs.Program.{Program}
 use Rattle.expr_eval.specs.Saved.{AreSaved}
 use Rattle.memo_cells.specs.Working.{ReadsOn}
 use Rattle.circular_eval.specs.declared.local.Local.{Local}
-use Rattle.circular_eval.specs.Local.{ReadsHere}
+use Rattle.circular_eval.specs.Local.{reads_here}
 use Rattle.circular_eval.specs.Looking.{ComesHere, ComesTo}
 use Rattle.circular_eval.proofs.Raised.{err_ok}
 use Rattle.circular_eval.proofs.Settling.{came_to}
 use Rattle.equation_law.specs.Systems.{program_of}
 use Rattle.memo_cells.proofs.Holding.{reads_itself}
-use Rattle.circular_eval.proofs.Looking.{here_sound}
+use Rattle.circular_eval.proofs.Looking.{here_sound, saved_here, saved_there}
 use Rattle.circular_eval.proofs.reading.evaluate.Goals as goal
 
 pub resume_instance-turn-requires-clause-sound : goal.resume_instance-turn-requires-clause-sound
@@ -25,7 +25,8 @@ resume_instance-turn-requires-clause-single g c = c.requires.single
 pub resume_instance-turn-requires-clause-saved : goal.resume_instance-turn-requires-clause-saved
 resume_instance-turn-requires-clause-saved g c =
     let d = g.W.Words.held c.args.work.now in
-    subst (λ (q : Program). AreSaved c.args.system.now (ReadsHere q d.view c.args.local.now.members.entries) c.args.saved.now) (ap program_of (sym c.requires.same)) c.requires.saved
+    saved_there d c.args.system.now c.args.local.now.members.entries _ c.args.system.now c.args.saved.now
+    (subst (λ (q : Program). AreSaved c.args.system.now (reads_here q d.view c.args.local.now.members.entries) c.args.saved.now) (ap program_of (sym c.requires.same)) c.requires.saved)
 
 pub returns-in_err-turn-clause-on : goal.returns-in_err-turn-clause-on
 returns-in_err-turn-clause-on g c =
@@ -52,7 +53,7 @@ returns-clause-came g c =
     subst (λ (x : g.row.W.Denot). ComesHere (g.W.Words.held x) c.args.local.now c.args.i.now c.in_ok-turn.field-0) (sym back)
     (subst (λ (q : Program). ComesTo q e.view c.args.local.now.members.entries (instance_of q c.args.i.now) c.in_ok-turn.field-0) c.resume_instance-turn.ensures.evaluates.kept.sound.for.0
     (subst (λ (m : Local). ComesTo p (g.W.Words.held c.resume_instance-turn.new.reader.work.now).view m.members.entries i c.in_ok-turn.field-0) l.2
-    (came_to p (g.W.Words.held c.resume_instance-turn.new.reader.work.now) c.resume_instance-turn.new.reader.system.now c.resume_instance-turn.new.reader.local.now.members.entries _ i c.in_ok-turn.field-0 c.resume_instance-turn.ensures.evaluates.kept.sound.for.0 c.in_ok-turn.ensures.evaluates.answer)))
+    (came_to p (g.W.Words.held c.resume_instance-turn.new.reader.work.now) c.resume_instance-turn.new.reader.system.now c.resume_instance-turn.new.reader.local.now.members.entries _ c.args.i.now c.in_ok-turn.field-0 c.resume_instance-turn.ensures.evaluates.kept.sound.for.0 c.in_ok-turn.ensures.evaluates.answer)))
 
 pub returns-in_err-turn-clause-saved : goal.returns-in_err-turn-clause-saved
 returns-in_err-turn-clause-saved g c =
@@ -60,9 +61,9 @@ returns-in_err-turn-clause-saved g c =
     let back = c.work-1.given.1 (sym l.1) in
     let e = g.W.Words.held c.resume_instance-turn.new.reader.work.now in
     let p = program_of c.args.system.now in
-    subst (λ (x : g.row.W.Denot). AreSaved c.args.system.now (ReadsHere p (g.W.Words.held x).view c.args.local.now.members.entries) c.resume_instance-turn.new.saved) (sym back)
-    (subst (λ (m : Local). AreSaved c.args.system.now (ReadsHere p e.view m.members.entries) c.resume_instance-turn.new.saved) l.2
-    (subst (λ (q : Program). AreSaved c.args.system.now (ReadsHere q e.view c.resume_instance-turn.new.reader.local.now.members.entries) c.resume_instance-turn.new.saved) (sym c.resume_instance-turn.ensures.evaluates.kept.sound.for.0) c.resume_instance-turn.ensures.saved))
+    subst (λ (x : g.row.W.Denot). AreSaved c.args.system.now (reads_here p (g.W.Words.held x).view c.args.local.now.members.entries) c.resume_instance-turn.new.saved) (sym back)
+    (subst (λ (m : Local). AreSaved c.args.system.now (reads_here p e.view m.members.entries) c.resume_instance-turn.new.saved) l.2
+    (subst (λ (q : Program). AreSaved c.args.system.now (reads_here q e.view c.resume_instance-turn.new.reader.local.now.members.entries) c.resume_instance-turn.new.saved) (sym c.resume_instance-turn.ensures.evaluates.kept.sound.for.0) (saved_here e c.resume_instance-turn.new.reader.system.now c.resume_instance-turn.new.reader.local.now.members.entries _ c.args.system.now c.resume_instance-turn.new.saved c.resume_instance-turn.ensures.saved)))
 
 pub returns-clause-saved : goal.returns-clause-saved
 returns-clause-saved g c =
@@ -70,6 +71,6 @@ returns-clause-saved g c =
     let back = c.work-1.given.1 (sym l.1) in
     let e = g.W.Words.held c.resume_instance-turn.new.reader.work.now in
     let p = program_of c.args.system.now in
-    subst (λ (x : g.row.W.Denot). AreSaved c.args.system.now (ReadsHere p (g.W.Words.held x).view c.args.local.now.members.entries) c.resume_instance-turn.new.saved) (sym back)
-    (subst (λ (m : Local). AreSaved c.args.system.now (ReadsHere p e.view m.members.entries) c.resume_instance-turn.new.saved) l.2
-    (subst (λ (q : Program). AreSaved c.args.system.now (ReadsHere q e.view c.resume_instance-turn.new.reader.local.now.members.entries) c.resume_instance-turn.new.saved) (sym c.resume_instance-turn.ensures.evaluates.kept.sound.for.0) c.resume_instance-turn.ensures.saved))
+    subst (λ (x : g.row.W.Denot). AreSaved c.args.system.now (reads_here p (g.W.Words.held x).view c.args.local.now.members.entries) c.resume_instance-turn.new.saved) (sym back)
+    (subst (λ (m : Local). AreSaved c.args.system.now (reads_here p e.view m.members.entries) c.resume_instance-turn.new.saved) l.2
+    (subst (λ (q : Program). AreSaved c.args.system.now (reads_here q e.view c.resume_instance-turn.new.reader.local.now.members.entries) c.resume_instance-turn.new.saved) (sym c.resume_instance-turn.ensures.evaluates.kept.sound.for.0) (saved_here e c.resume_instance-turn.new.reader.system.now c.resume_instance-turn.new.reader.local.now.members.entries _ c.args.system.now c.resume_instance-turn.new.saved c.resume_instance-turn.ensures.saved)))

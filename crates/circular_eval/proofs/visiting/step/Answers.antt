@@ -2,7 +2,7 @@ use Rattle.std.proofs.Common.{ap, not, refl, sym, subst, ◌∙◌}
 use Rattle.equation_law.specs.Systems.{program_of}
 use Rattle.expr_eval.specs.Saved.{AreSaved}
 use Rattle.circular_eval.specs.declared.advancing.CircFault.TheVariants.{Memory}
-use Rattle.circular_eval.specs.Local.{Members, ReadsHere}
+use Rattle.circular_eval.specs.Local.{Members, reads_here}
 use Rattle.circular_eval.proofs.Entries.{at_has}
 use Rattle.circular_eval.proofs.Going.{ready_then}
 use Rattle.circular_eval.proofs.Passing.{came_read, final_entry, goes_read, kept_members, no_entry, read_refused, same_step, single_member, step_saved, step_then}
@@ -66,4 +66,4 @@ returns-clause-saved g c =
     let s = c.args.system.now in
     let e = g.W.Words.held c.evaluate.new.work in
     step_saved s e (g.W.Words.held c.follow.new.work) c.note_reads.new.self c.follow.new.local c.args.number c.evaluate.new.saved (ready_then c.args.system.now (g.W.Words.held c.args.work.now) (g.W.Words.held c.evaluate.new.work) c.args.local.now c.note_reads.new.self c.requires.ready (goes_read c.args.system.now (g.W.Words.held c.args.work.now) (g.W.Words.held c.evaluate.new.work) c.args.local.now c.note_reads.new.self c.requires.ready c.evaluate.ensures.on (record { start = c.note_reads.ensures.start; entries = ap (λ x. x.entries) c.note_reads.ensures.members; need = c.note_reads.ensures.need; saved = c.note_reads.ensures.saved }))) c.follow.result c.follow.ensures
-    (subst (λ (es : Members). AreSaved s (ReadsHere (program_of s) e.view es) c.evaluate.new.saved) (sym (ap (λ x. x.entries) c.note_reads.ensures.members)) c.evaluate.ensures.saved)
+    (subst (λ (es : Members). AreSaved s (reads_here (program_of s) e.view es) c.evaluate.new.saved) (sym (ap (λ x. x.entries) c.note_reads.ensures.members)) c.evaluate.ensures.saved)

@@ -1,4 +1,4 @@
-use Rattle.std.proofs.Common.{◌≡◌, ◌+◌, ◌^◌, ◌<◌, ◌∙◌, ℕ, Some, None, arith, ap, slice_get, subst, sym}
+use Rattle.std.proofs.Common.{◌∙◌, Some, None, ap, slice_get, subst, sym}
 use Rattle.std.proofs.lemmas.Option.{slice_get_within}
 use Rattle.equation_law.specs.Codes.{instance_of, reference_of}
 use Rattle.equation_law.specs.Systems.{program_of}

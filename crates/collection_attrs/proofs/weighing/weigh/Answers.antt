@@ -54,6 +54,13 @@ evaluate_part-requires-clause-sound g c =
     let first = c.in_ok-instance.ensures.evaluates at.contribution.condition (condition_is p c.rules.ensures c.contribution-contribution.ensures) in
     first.kept.sound
 
+pub evaluate_part-requires-clause-sources : goal.evaluate_part-requires-clause-sources
+evaluate_part-requires-clause-sources g c =
+    let p = program_of c.args.system.now in
+    let at = at_rules p c.rules.ensures c.contribution-contribution.ensures in
+    let first = c.in_ok-instance.ensures.evaluates at.contribution.condition (condition_is p c.rules.ensures c.contribution-contribution.ensures) in
+    first.kept.sources c.requires.sources
+
 pub returns-in_err-instance-in-Done-clause-kept : goal.returns-in_err-instance-in-Done-clause-kept
 returns-in_err-instance-in-Done-clause-kept g c =
     let p = program_of c.args.system.now in

@@ -1,11 +1,22 @@
-use Rattle.std.proofs.Common.{ap, sym, arith}
-use Rattle.equation_law.specs.Equations.{source_or_null}
-use Rattle.equation_law.proofs.Preordered.{none_past}
+use Rattle.std.proofs.Common.{◌≡◌, ◌<◌, ◌≤◌, List, ap, length, subst, sym, arith, ◌∙◌}
+use Rattle.tree_arena.specs.Nodes.{Node, child_in}
+use Rattle.tree_arena.specs.Terms.{IsTree}
+use Rattle.equation_law.specs.Systems.{program_of}
+use Rattle.expr_eval.proofs.Accessed.{element_by, no_element}
 use Rattle.expr_eval.proofs.Trees.{child_fits}
 use Rattle.expr_eval.proofs.accessors.child_at.Goals as goal
 
 pub returns-then-node-len : goal.returns-then-node-len
-returns-then-node-len c = ap source_or_null (sym (none_past c.args.tree.now c.len.ensures.tree c.args.node c.args.k.0 c.args.i (omega (arith, c.len.ensures.number, c.if-node-len.true))))
+returns-then-node-len c n is =
+    let p = program_of c.args.system.now in
+    let past : length p.tree ≤ c.args.node = subst (λ (t : List Node). length t ≤ c.args.node) c.tree-tree.ensures (omega (arith, c.len.ensures.number, c.if-node-len.true)) in
+    sym (no_element is (subst IsTree c.tree-tree.ensures c.len.ensures.tree) c.args.node c.args.k.0 c.args.i past)
 
 pub of_source-requires : goal.of_source-requires
-of_source-requires c = child_fits c.args.tree.now c.args.node c.args.k.0 c.args.i c.child.result (omega (arith, c.len.ensures.number, c.len.type_inv)) c.child.ensures
+of_source-requires c = child_fits c.tree-tree.result.now c.args.node c.args.k.0 c.args.i c.child.result (omega (arith, c.len.ensures.number, c.len.type_inv)) c.child.ensures
+
+pub returns : goal.returns
+returns c n is =
+    let p = program_of c.args.system.now in
+    let within : c.args.node < length p.tree = subst (λ (t : List Node). c.args.node < length t) c.tree-tree.ensures (omega (arith, c.len.ensures.number, c.if-node-len.false)) in
+    element_by is c.args.node c.args.k.0 c.args.i c.child.result c.of_source.result.0 within (c.child.ensures ∙ ap (λ (t : List Node). child_in t c.args.node c.args.k.0 c.args.i) c.tree-tree.ensures) c.of_source.ensures

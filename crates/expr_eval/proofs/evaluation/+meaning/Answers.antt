@@ -1,21 +1,25 @@
 -- What the forms' parts that were evaluated give.
-use Rattle.std.proofs.Common.{◌<◌, refl, arith, subst, sym}
+use Rattle.std.proofs.Common.{◌<◌, List, [], refl, arith, subst, sym}
 use Rattle.attr_rules.specs.Expression.{expression_of}
-use Rattle.equation_law.specs.Codes.{source_names}
+use Rattle.equation_law.specs.Codes.{Naming, source_names, value_by}
 use Rattle.equation_law.specs.Systems.{program_of}
 use Rattle.expr_eval.proofs.Forms.{advances_self, advances_then, and_ends, and_goes, and_stops, boxed, call_boxed, call_goes, call_stops, call_stops_at, came_as, choice_boxed, if_otherwise, if_stops, if_then, leaf_reads, none_said, one_makes, or_ends, or_goes, or_stops, out_of_memory, read_as, said, said_is, token_goes, token_stops, two_make, two_stop}
 use Rattle.std.specs.Prelude.{Vec}
 use Rattle.std.specs.declared.alloc.Global.{Global}
 use Rattle.equation_law.specs.declared.coding.Single.{Single}
 use Rattle.expr_eval.specs.Elements.{Rooms}
-use Rattle.expr_eval.specs.Evaluating.{place_in, texts_in}
+use Rattle.expr_eval.specs.Evaluating.{place_in}
 use Rattle.expr_eval.specs.Reads.{GoesOver, ReadsStand}
 use Rattle.expr_eval.specs.Saved.{body_of, making_of}
 use Rattle.attr_rules.specs.Types.{parameter_kinds}
 use Rattle.expr_eval.proofs.Given.{boxed_arguments, first_halts, for_parameters, none_given, one_given, one_more, rest_halts, room_behind, said_arguments, thrown_arguments}
 use Rattle.expr_eval.proofs.Growing.{ranged_more, stands_more}
+use Rattle.expr_eval.proofs.Over.{done_further}
 use Rattle.expr_eval.proofs.Resuming.{going_is, halted, handed, loses, over_by, over_ends, over_halts, puts, range_stops, stood_first, stops_at, taken, taken_in}
 use Rattle.expr_eval.proofs.evaluation.+meaning.Goals as goal
+
+any_names : Naming
+any_names = source_names (λ k. [])
 
 pub given-returns-in_err-value-in-More : goal.given-returns-in_err-value-in-More
 given-returns-in_err-value-in-More g t c = thrown_arguments c.from_residual.ensures (said_arguments c.in-More.is (first_halts (boxed c.deref.ensures (came_as c.in_err-value-in-More.was c.meaning.ensures))))
@@ -49,7 +53,7 @@ at_elements-returns-in_err-said-clause-over g t c =
     let now = c.elements.invariant in
     let within : c.elements.stand.next < c.args.list.now.count = omega (arith, c.elements-test.true) in
     handed (GoesOver system _ _ (place_in c.args.context.now) c.args.making (expression_of c.args.body.now) c.args.list.now _) c.from_residual.ensures
-    (stops_at _ _ c.elements.stand _ now.1 now.2 within refl refl c.get-element.ensures (came_as c.in_err-said.was c.with_element.ensures.reads))
+    (stops_at c.args.context.now _ c.get-element.result c.elements.stand _ now.1 now.2 within refl refl c.get-element.ensures (came_as c.in_err-said.was c.with_element.ensures.reads))
 
 pub at_elements-elements-preserved : goal.at_elements-elements-preserved
 at_elements-elements-preserved g t c =
@@ -60,21 +64,28 @@ at_elements-elements-preserved g t c =
     let taken = c.in_ok-take_in.ensures in (
       subst (λ (v : Vec Single Global). Rooms c.args.context.now.names.now v.items) (sym taken.names) c.with_element.ensures.room,
       loses c.leave.new.self (advances_then now.1 said.kept) c.leave.ensures,
-      taken_in c.take_in.new.stand _ c.in_ok-said.said c.get-element.ensures (stands_more said.kept.values now.2) within said.is taken.next taken.so_far taken.coded,
+      taken_in c.args.context.now c.take_in.new.stand c.get-element.result c.in_ok-said.said said.kept.sound.sound c.get-element.ensures (stands_more said.kept.values said.kept.names now.2) within said.is taken.next taken.so_far taken.coded,
     )
+
+pub at_elements-elements-smaller : goal.at_elements-elements-smaller
+at_elements-elements-smaller g t c =
+    let within : c.elements.stand.next < c.args.list.now.count = omega (arith, c.elements-test.true) in
+    let further = done_further c.args.list.now.count c.args.making c.elements.stand.next (value_by any_names c.in_ok-said.said) within in
+    let next = c.in_ok-take_in.ensures.next any_names in
+    omega (arith, within, next, further)
 
 pub over_form-returns-in_err-put-in-Ok : goal.over_form-returns-in_err-put-in-Ok
 over_form-returns-in_err-put-in-Ok g t c =
     let stood = c.in_ok-list.ensures in
     let over = over_by c.making_of.ensures (sym c.requires.body) c.in-Ok.ensures.over in
-    let ranged = ranged_more over.kept.values stood.is.ranged in
+    let ranged = ranged_more over.kept.values over.kept.names stood.is.ranged in
     out_of_memory (puts c.put.new.self _ (advances_then stood.kept over.kept) c.put.ensures (going_is c.args.context.now c.args.form c.in_ok-list.list c.at_elements.new.stand c.in-Ok.ensures.room ranged over.is.0)) c.from_residual-in_err-put-in-Ok.ensures
 
 pub over_form-returns-in_err-put-in-Err-Need : goal.over_form-returns-in_err-put-in-Err-Need
 over_form-returns-in_err-put-in-Err-Need g t c =
     let stood = c.in_ok-list.ensures in
     let over = over_by c.making_of.ensures (sym c.requires.body) (halted c.in-Err-Need.field-0-is c.in-Err-Need.ensures.over) in
-    let ranged = ranged_more over.kept.values stood.is.ranged in
+    let ranged = ranged_more over.kept.values over.kept.names stood.is.ranged in
     out_of_memory (puts c.put-in-Err-Need.new.self _ (advances_then stood.kept over.kept) c.put-in-Err-Need.ensures (going_is c.args.context.now c.args.form c.in_ok-list.list c.at_elements.new.stand c.in-Err-Need.ensures.room ranged over.is.0)) c.from_residual-in_err-put-in-Err-Need.ensures
 
 pub over_form-returns-in_ok-put-in-Ok : goal.over_form-returns-in_ok-put-in-Ok
@@ -82,16 +93,16 @@ over_form-returns-in_ok-put-in-Ok g t c =
     let system = c.args.context.now.system.now in
     let stood = c.in_ok-list.ensures in
     let over = over_by c.making_of.ensures (sym c.requires.body) c.in-Ok.ensures.over in
-    let ranged = ranged_more over.kept.values stood.is.ranged in
+    let ranged = ranged_more over.kept.values over.kept.names stood.is.ranged in
     let kept = puts c.put.new.self _ (advances_then stood.kept over.kept) c.put.ensures (going_is c.args.context.now c.args.form c.in_ok-list.list c.at_elements.new.stand c.in-Ok.ensures.room ranged over.is.0) in
-    over_ends system (place_in c.args.context.now) (expression_of c.args.form.now) c.requires.form c.in_ok-value-in-Ok.value kept ranged over.is.0 over.is.1 (c.in_ok-value-in-Ok.ensures.same (source_names (texts_in system))) (c.in_ok-value-in-Ok.ensures.elements (program_of system) over.is.0.coded)
+    over_ends system (place_in c.args.context.now) (expression_of c.args.form.now) c.requires.form c.in_ok-value-in-Ok.value kept ranged over.is.0 over.is.1 c.in_ok-value-in-Ok.ensures.same (c.in_ok-value-in-Ok.ensures.elements (program_of system) over.is.0.coded)
 
 pub over_form-returns-in_ok-put-in-Err-Need : goal.over_form-returns-in_ok-put-in-Err-Need
 over_form-returns-in_ok-put-in-Err-Need g t c =
     let system = c.args.context.now.system.now in
     let stood = c.in_ok-list.ensures in
     let over = over_by c.making_of.ensures (sym c.requires.body) (halted c.in-Err-Need.field-0-is c.in-Err-Need.ensures.over) in
-    let ranged = ranged_more over.kept.values stood.is.ranged in
+    let ranged = ranged_more over.kept.values over.kept.names stood.is.ranged in
     let kept = puts c.put-in-Err-Need.new.self _ (advances_then stood.kept over.kept) c.put-in-Err-Need.ensures (going_is c.args.context.now c.args.form c.in_ok-list.list c.at_elements.new.stand c.in-Err-Need.ensures.room ranged over.is.0) in
     over_halts system (place_in c.args.context.now) (expression_of c.args.form.now) c.requires.form c.in-Err-Need.instance kept ranged over.is.0 over.is.1 over.is.2
 

@@ -41,7 +41,7 @@ invariant-at_elements-elements g l =
     let system = l.context.system.now in
     Rooms l.context.names.now l.stand.names.items
     × Advances (program_of system) (state system (g.R.Reader.tells l.initial.reader) l.initial.saved) (state system (g.R.Reader.tells l.reader) l.saved)
-    × Stands system (g.R.Reader.tells l.reader).has (place_in l.context) l.making (expression_of l.body) l.list l.stand
+    × Stands system (g.R.Reader.tells l.reader) (place_in l.context) l.making (expression_of l.body) l.list l.stand
 
 abbrev pub decreases-at_elements-elements : goal.decreases-at_elements-elements
 decreases-at_elements-elements g l = l.list.count - l.stand.next

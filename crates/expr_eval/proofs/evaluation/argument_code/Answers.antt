@@ -1,11 +1,10 @@
-use Rattle.std.proofs.Common.{◌≡◌, ap, sym, subst, ◌∙◌}
+use Rattle.std.proofs.Common.{◌≡◌, ℕ, List, ap, sym, subst, ◌∙◌}
 use Rattle.attr_rules.specs.declared.kinds.Kind.{Kind}
-use Rattle.equation_law.specs.Codes.{IsCode, source_names, value_at, value_of}
+use Rattle.equation_law.specs.Codes.{IsCode, value_by, value_coded}
 use Rattle.equation_law.specs.Names.{OfText}
 use Rattle.equation_law.specs.Systems.{program_of}
 use Rattle.equation_law.specs.Values.{as_argument}
-use Rattle.equation_law.proofs.Pooled.{first_text}
-use Rattle.expr_eval.specs.Evaluating.{texts_in}
+use Rattle.set_values.proofs.TextCodes.{first_text_by}
 use Rattle.expr_eval.proofs.Given.{coded_argument, small_code, text_is}
 use Rattle.expr_eval.proofs.evaluation.argument_code.Goals as goal
 
@@ -15,16 +14,13 @@ returns-then-is_text-clause-code c =
     subst (λ (k : Kind). IsCode (program_of c.args.system.now) k c.known_text.result) (sym text) c.known_text.ensures.within
 
 pub returns-then-is_text-clause-value : goal.returns-then-is_text-clause-value
-returns-then-is_text-clause-value c =
+returns-then-is_text-clause-value c n is =
     let text = text_is c.args.kind (sym c.is_text.ensures ∙ c.if-is_text.true) in
-    let texts = texts_in c.args.system.now in
-    let same = c.known_text.ensures.text ∙ c.text.ensures (source_names texts) (first_text c.args.system.now) in
-    subst (λ (k : Kind). as_argument k (value_at texts k c.known_text.result) ≡ as_argument k (value_of texts c.args.value)) (sym text) (ap OfText same)
+    let same = subst (λ (f : ℕ → List ℕ). f c.known_text.result ≡ f c.text.result.0) (sym is.texts) c.known_text.ensures.text ∙ c.text.ensures n (first_text_by c.args.system.now is) in
+    subst (λ (k : Kind). as_argument k (value_coded n k c.known_text.result) ≡ as_argument k (value_by n c.args.value)) (sym text) (ap OfText same)
 
 pub returns-clause-code : goal.returns-clause-code
 returns-clause-code c = small_code (program_of c.args.system.now) c.args.kind c.code.result (sym c.is_text.ensures ∙ c.if-is_text.false) c.code.ensures.small c.code.type_inv
 
 pub returns-clause-value : goal.returns-clause-value
-returns-clause-value c =
-    let texts = texts_in c.args.system.now in
-    coded_argument texts c.args.kind c.code.result (value_of texts c.args.value) (c.code.ensures.value (source_names texts) (first_text c.args.system.now))
+returns-clause-value c n is = coded_argument n c.args.kind c.code.result (value_by n c.args.value) (c.code.ensures.value n (first_text_by c.args.system.now is))

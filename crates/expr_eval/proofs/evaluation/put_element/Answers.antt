@@ -1,7 +1,10 @@
-use Rattle.equation_law.specs.Codes.{single_of, source_names}
-use Rattle.equation_law.specs.Program.{text_of}
+use Rattle.std.proofs.Common.{List, []}
+use Rattle.equation_law.specs.Codes.{Naming, single_by, source_names}
 use Rattle.expr_eval.proofs.Plain.{plain_coded, single_plain}
 use Rattle.expr_eval.proofs.evaluation.put_element.Goals as goal
 
+any_names : Naming
+any_names = source_names (λ k. [])
+
 pub returns-clause-coded : goal.returns-clause-coded
-returns-clause-coded c p = plain_coded p c.from.result (single_of (text_of p) c.args.element) (c.from.ensures (source_names (text_of p))) (single_plain (source_names (text_of p)) c.args.element)
+returns-clause-coded c p = plain_coded p any_names c.from.result (single_by any_names c.args.element) (c.from.ensures any_names) (single_plain any_names c.args.element)

@@ -1,18 +1,20 @@
 use Rattle.std.proofs.Common.{refl, arith}
 use Rattle.attr_rules.specs.Queries.{query_of}
 use Rattle.attr_rules.proofs.RowLists.{there}
-use Rattle.equation_law.specs.Names.{Query}
+use Rattle.equation_law.specs.declared.coding.Instance.TheVariants.{Query as query_at}
 use Rattle.equation_law.specs.Systems.{program_of}
 use Rattle.equation_law.proofs.Pooled.{first_text}
 use Rattle.expr_eval.proofs.Found.{asked_evaluated, failed, none_evaluated, past_query}
 use Rattle.expr_eval.proofs.sites.evaluate_asked.Goals as goal
 
 pub returns-then-query-replies : goal.returns-then-query-replies
-returns-then-query-replies g c = let p = program_of c.args.system.now in none_evaluated p _ (Query c.args.query.0) _ c.requires refl (past_query p c.args.query.0 (omega (arith, c.replies.ensures.number, c.if-query-replies.true))) refl
+returns-then-query-replies g c =
+    let p = program_of c.args.system.now in
+    none_evaluated p _ (query_at c.args.query) c.requires refl (λ n is. past_query p c.args.query.0 (omega (arith, c.replies.ensures.number, c.if-query-replies.true))) _ tt (λ n. refl)
 
 pub returns : goal.returns
 returns g c =
-    asked_evaluated (program_of c.args.system.now) _ _ c.args.query.0 (query_of c.query.result.now) c.kind.result c.in_ok-turn.turn c.read_as.result (first_text c.args.system.now) c.query.ensures c.kind.ensures
+    asked_evaluated (program_of c.args.system.now) _ _ c.args.query (query_of c.query.result.now) c.kind.result c.in_ok-turn.turn c.read_as.result (first_text c.args.system.now) c.query.ensures c.kind.ensures
     (c.in_ok-turn.ensures (query_of c.query.result.now) c.query.ensures) c.read_as.ensures
 
 pub returns-in_err-turn : goal.returns-in_err-turn

@@ -1,17 +1,15 @@
-use Rattle.std.proofs.Common.{◌≡◌, false, List, Option, Some, None, is_some, refl, ap, sym, subst, ◌∙◌, arith}
+use Rattle.std.proofs.Common.{◌≡◌, List, Option, Some, ap, sym, subst, ◌∙◌, arith}
 use Rattle.tree_arena.specs.Nodes.{Node, parent_in}
 use Rattle.tree_arena.specs.Terms.{IsTree}
-use Rattle.equation_law.specs.declared.coding.EqSite.{EqSite}
-use Rattle.equation_law.specs.Codes.{arguments_of}
+use Rattle.equation_law.specs.Codes.{arguments_for, source_names}
+use Rattle.equation_law.specs.Equations.{Site}
+use Rattle.equation_law.specs.Program.{text_of}
 use Rattle.equation_law.specs.Systems.{program_of}
 use Rattle.equation_law.proofs.Above.{Falls, tree_falls}
-use Rattle.inherited_walk.proofs.Walking.{found_above}
+use Rattle.equation_law.proofs.Codes.{sources_named}
+use Rattle.inherited_walk.specs.Sites.{IsFound}
+use Rattle.inherited_walk.proofs.Walking.{found_above, found_here}
 use Rattle.inherited_walk.proofs.walk.inherited.Goals as goal
-
--- what isn't something is nothing
-nothing : (o : Option EqSite) → is_some o ≡ false → o ≡ None
-nothing None e = refl
-nothing (Some s) e = cc
 
 pub covering-found-requires-clause-above : goal.covering-found-requires-clause-above
 covering-found-requires-clause-above c =
@@ -29,8 +27,19 @@ loop-parent-preserved c =
     let tree : c.tree-tree.result.now ≡ p.tree = c.tree-tree.ensures in
     let falls : Falls p.tree = tree_falls p.tree (subst IsTree tree c.len.ensures.tree) in
     let up : parent_in p.tree c.loop-parent.at ≡ Some c.in-Some.parent = ap (λ (t : List Node). parent_in t c.loop-parent.at) (sym tree) ∙ c.in-Some.ensures in
+    let by = source_names (text_of p) in
     let smaller = falls c.loop-parent.at c.in-Some.parent up in
     record {
       within = omega (arith, smaller, c.loop-parent.invariant.within);
-      same = c.loop-parent.invariant.same ∙ found_above p c.args.attr.0 (arguments_of p c.args.attr.0 c.args.args) c.loop-parent.at c.in-Some.parent falls up c.covering-found.ensures.found (nothing c.covering-found.result (sym c.is_some.ensures ∙ c.if-is_some.false));
+      same = λ zs. c.loop-parent.invariant.same zs ∙ found_above p by c.args.attr.0 c.loop-parent.at c.in-Some.parent (arguments_for p by c.args.attr.0 c.args.args) c.covering-found.result falls up (c.covering-found.ensures.found by (sources_named p)) (sym c.is_some.ensures ∙ c.if-is_some.false) zs;
     }
+
+pub returns-then-is_some-clause-found : goal.returns-then-is_some-clause-found
+returns-then-is_some-clause-found c by is =
+    let p = program_of c.args.system.now in
+    let zs = arguments_for p by c.args.attr.0 c.args.args in
+    let tree : c.tree-tree.result.now ≡ p.tree = c.tree-tree.ensures in
+    let falls : Falls p.tree = tree_falls p.tree (subst IsTree tree c.len.ensures.tree) in
+    let up : parent_in p.tree c.loop-parent.at ≡ Some c.in-Some.parent = ap (λ (t : List Node). parent_in t c.loop-parent.at) (sym tree) ∙ c.in-Some.ensures in
+    let here = found_here p by c.args.attr.0 c.loop-parent.at c.in-Some.parent zs c.covering-found.result falls up (c.covering-found.ensures.found by is) (sym c.is_some.ensures ∙ c.if-is_some.true) in
+    subst (λ (x : Option Site). IsFound p by c.args.attr.0 x c.covering-found.result) (sym (c.loop-parent.invariant.same zs)) here

@@ -1,11 +1,12 @@
 use Rattle.std.proofs.Common.{rules, ◌≡◌, ◌++◌, OnOk, ap, map, refl, ◌∙◌}
 use Rattle.std.specs.Fmt.{signed_decimal}
-use Rattle.equation_law.specs.Codes.{reference_of, single_of, value_of}
+use Rattle.equation_law.specs.Codes.{reference_of, single_of, source_names, value_of}
 use Rattle.equation_law.specs.Program.{text_of as text_in}
 use Rattle.equation_law.specs.Systems.{program_of}
 use Rattle.equation_law.specs.Values.{Int, Node, Text, Truth}
 use Rattle.query_lang.specs.Replies.{in_braces, of_int, of_text, of_truth}
 use Rattle.query_lang.specs.Singles.{single_text}
+use Rattle.equation_law.proofs.Sources.{source_naming}
 use Rattle.query_lang.proofs.ReplyTexts.{reference_has, set_has, text_added}
 use Rattle.query_lang.proofs.replies.add_value.Goals as goal
 
@@ -36,5 +37,6 @@ returns-in_ok-list-in-Texts c =
     let texts = text_in (program_of c.args.system.now) in
     let v = value_of texts c.args.value.now in
     let list = c.deref.result.now in
-    let has = set_has texts c.args.value.now list c.in-Texts.is (ap (map (single_of texts)) c.deref.ensures.value ∙ c.in_ok-list-in-Texts.ensures) in
+    let named = source_naming (program_of c.args.system.now) in
+    let has = set_has texts c.args.value.now list c.in-Texts.is (ap (map (single_of texts)) c.deref.ensures.value ∙ c.in_ok-list-in-Texts.ensures (source_names texts) named.0 named.1) in
     text_added c.add_set.result v v (in_braces (map (single_text texts) list)) c.args.text.now.items c.add_set.new.text.items refl has c.add_set.ensures

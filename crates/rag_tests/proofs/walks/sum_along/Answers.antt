@@ -1,14 +1,17 @@
-use Rattle.std.proofs.Common.{◌≡◌, ap, arith}
+use Rattle.std.proofs.Common.{◌≡◌, ap, arith, sym}
 use Rattle.equation_law.specs.Systems.{program_of}
 use Rattle.memo_cells.specs.Working.{told_by}
 use Rattle.memo_cells.proofs.Holding.{reads_itself}
 use Rattle.collection_attrs.proofs.Found.{walk_for}
 use Rattle.collection_attrs.proofs.Grown.{survey_new}
-use Rattle.caller_pass.proofs.Desks.{sound_for}
+use Rattle.caller_pass.proofs.Desks.{desk_sources, sound_for}
 use Rattle.rag_tests.proofs.walks.sum_along.Goals as goal
 
 pub go_on-requires-clause-sound : goal.go_on-requires-clause-sound
 go_on-requires-clause-sound c = sound_for (program_of c.args.system.now) c.args.work.now (ap program_of c.requires.same)
+
+pub go_on-requires-clause-sources : goal.go_on-requires-clause-sources
+go_on-requires-clause-sources c = desk_sources (program_of c.args.system.now) c.args.work.now (sym (ap program_of c.requires.same))
 
 pub go_on-requires-clause-collection : goal.go_on-requires-clause-collection
 go_on-requires-clause-collection c =

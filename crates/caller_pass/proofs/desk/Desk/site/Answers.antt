@@ -1,4 +1,8 @@
 use Rattle.std.proofs.Common.{sym, subst}
+use Rattle.equation_law.specs.declared.system.System.{System}
+use Rattle.equation_law.specs.Systems.{program_of}
+use Rattle.inherited_walk.specs.Sites.{FindsEquation}
+use Rattle.memo_cells.specs.Working.{Held, program_at}
 use Rattle.caller_pass.specs.Keeping.{IsNotebookOf, Notes}
 use Rattle.caller_pass.proofs.desk.Desk.site.Goals as goal
 
@@ -7,3 +11,8 @@ site-requires c = c.self.invariant.0.1.system
 
 pub invariant_of-self : goal.invariant_of-self
 invariant_of-self c = ((c.self.invariant.0.0, subst (λ (n : Notes). IsNotebookOf c.self.inside.system.now c.self.inside.pass.now n) (sym c.site.ensures.same) c.self.invariant.0.1), c.self.invariant.1)
+
+pub returns-clause-found : goal.returns-clause-found
+returns-clause-found c =
+    subst (λ (d : Held). FindsEquation (program_at d) c.args.attr c.args.node c.args.args c.site.result) c.self.view_is
+    (subst (λ (s : System). FindsEquation (program_of s) c.args.attr c.args.node c.args.args c.site.result) (sym c.self.invariant.1) c.site.ensures.found)

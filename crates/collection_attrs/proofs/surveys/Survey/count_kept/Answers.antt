@@ -9,7 +9,7 @@ use Rattle.equation_law.specs.Meaning.{meaning_of}
 use Rattle.equation_law.specs.Names.{Instance}
 use Rattle.equation_law.specs.Systems.{program_of}
 use Rattle.expr_eval.specs.declared.sites.Turn.{Turn}
-use Rattle.expr_eval.specs.Evaluating.{AnswersTurn}
+use Rattle.expr_eval.specs.BySources.{AnswersSources}
 use Rattle.expr_eval.proofs.Forms.{grows_self, grows_then}
 use Rattle.collection_attrs.specs.Surveys.{IsCounted, IsSurveyed, noted_in}
 use Rattle.collection_attrs.proofs.Found.{node_is}
@@ -103,7 +103,7 @@ kept-preserved g c =
     let there = c.entry-entry.ensures in
     let at = at_rules p c.rules-rules.ensures c.contribution.ensures in
     let step = c.in_ok-value.ensures.evaluates at.contribution.value at.value in
-    let done = subst (λ (t : Turn). AnswersTurn p (g.R.Reader.tells c.evaluate_part.new.reader) (meaning_of (world_of p) at.contribution.value (place_at c.entry-entry.result.node)) (Ok t)) c.in-Done.is step.answer in
+    let done = subst (λ (t : Turn). AnswersSources p (g.R.Reader.tells c.evaluate_part.new.reader) (meaning_of (world_of p) at.contribution.value (place_at c.entry-entry.result.node)) (Ok t)) c.in-Done.is step.answer in
     let counted = c.in_ok-count-in-Done.ensures.counted in
     let one = counts_one p (g.R.Reader.tells c.evaluate_part.new.reader).has d (one_value step.kept.sound) w (walk_grows (grows_then i.kept step.kept) c.requires.walk) for c.kept.self (surveyed_grows step.kept (i.survey d of)) i.within (reference_of c.args.of.node.0) own place c.in-Some.ensures.some n there at.contribution at.is c.count.new.self of.method of.kind counted.0 counted.1 counted.2 done.ends in
     record { kept = (grows_then i.kept step.kept); survey = for_each (λ (x : Collection). IsSurveyed p (g.R.Reader.tells c.evaluate_part.new.reader).has x c.count.new.self) of one.0; within = one.1; saved = c.in_ok-value.ensures.saved }
@@ -142,7 +142,7 @@ returns-in-Need-clause-stuck g c =
     let there = c.entry-entry.ensures in
     let at = at_rules p c.rules-rules.ensures c.contribution.ensures in
     let step = c.in_ok-value.ensures.evaluates at.contribution.value at.value in
-    let stop = subst (λ (t : Turn). AnswersTurn p (g.R.Reader.tells c.evaluate_part.new.reader) (meaning_of (world_of p) at.contribution.value (place_at c.entry-entry.result.node)) (Ok t)) c.in-Need.is step.answer in
+    let stop = subst (λ (t : Turn). AnswersSources p (g.R.Reader.tells c.evaluate_part.new.reader) (meaning_of (world_of p) at.contribution.value (place_at c.entry-entry.result.node)) (Ok t)) c.in-Need.is step.answer in
     let j = instance_of p c.in-Need.instance in
     (stop.coded, for_each (λ (x : Collection). (ds : List Instance) × Halts (g.R.Reader.tells c.evaluate_part.new.reader).has (collection_demands (world_of p) x) j ds) of (counts_not p (g.R.Reader.tells c.evaluate_part.new.reader).has d (one_value step.kept.sound) w (walk_grows (grows_then i.kept step.kept) c.requires.walk) for c.kept.self (surveyed_grows step.kept (i.survey d of)) i.within (reference_of c.args.of.node.0) own place c.in-Some.ensures.some n there at.contribution at.is j stop.halts))
 

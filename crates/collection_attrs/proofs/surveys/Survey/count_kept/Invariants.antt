@@ -12,7 +12,7 @@ invariant-kept g l = record {
   kept : Grows (program_of l.system) (g.R.Reader.tells l.initial.reader) (g.R.Reader.tells l.reader);
   survey : (c : Collection) → IsCollectorOf (program_of l.system) l.of c → IsSurveyed (program_of l.system) (g.R.Reader.tells l.reader).has c l.self;
   within : l.self.taken ≤ length l.offers.notes;
-  saved : AreSaved l.system (g.R.Reader.tells l.reader).has l.saved;
+  saved : AreSaved l.system (g.R.Reader.tells l.reader) l.saved;
 }
 
 abbrev pub decreases-kept : goal.decreases-kept

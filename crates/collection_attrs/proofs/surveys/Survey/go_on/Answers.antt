@@ -9,7 +9,7 @@ use Rattle.equation_law.specs.Program.{text_of}
 use Rattle.equation_law.specs.Systems.{program_of}
 use Rattle.equation_law.specs.Values.{Value}
 use Rattle.expr_eval.specs.declared.sites.Turn.TheVariants as turns
-use Rattle.expr_eval.specs.Evaluating.{Evaluates}
+use Rattle.expr_eval.specs.BySources.{EvaluatesSources}
 use Rattle.expr_eval.proofs.Forms.{grows_self, grows_then}
 use Rattle.collection_attrs.specs.Surveys.{IsCollectorOf, IsCounted, IsPassage, IsSurveyed}
 use Rattle.collection_attrs.proofs.Grown.{counted_grows, surveyed_grows, walk_grows}
@@ -108,7 +108,7 @@ returns-in-Stuck-clause-evaluates g c =
     let for = for_same p (g.R.Reader.tells c.pass_next.new.reader).has d w u same.0 same.1 (for_same p (g.R.Reader.tells c.pass_next.new.reader).has d c.args.offers.now w i.same.0 i.same.1 c.requires.collection.2) in
     let stop = subst (IsPassage p (g.R.Reader.tells c.pass_next.new.reader).has w u) c.in-Stuck.is c.in_ok-pass_next.ensures.passage in
     let h = counted_stuck p (g.R.Reader.tells c.pass_next.new.reader).has d u passing.walk for s (counted_same p (g.R.Reader.tells c.pass_next.new.reader).has d w u s stop.0 (counted_grows passing.kept (counted d of))) (instance_of p c.in-Stuck.instance) stop.2 in
-    for_each (λ (x : Collection). Evaluates p (g.R.Reader.tells c.args.reader.now) (g.R.Reader.tells c.pass_next.new.reader) (collection_demands (world_of p) x) (Ok (turns.Need c.in-Stuck.instance))) of
+    for_each (λ (x : Collection). EvaluatesSources p (g.R.Reader.tells c.args.reader.now) (g.R.Reader.tells c.pass_next.new.reader) (collection_demands (world_of p) x) (Ok (turns.Need c.in-Stuck.instance))) of
     (record { kept = kept; answer = record { demands = h.0; halts = h.1; coded = stop.1 } })
 
 pub returns-in-Ended-clause-evaluates : goal.returns-in-Ended-clause-evaluates
@@ -130,7 +130,7 @@ returns-in-Ended-clause-evaluates g c =
     let all = counted_same p (g.R.Reader.tells c.pass_next.new.reader).has d w u s stop.0 (counted_grows passing.kept (counted d of)) in
     let h = counted_ends p (g.R.Reader.tells c.pass_next.new.reader).has d u passing.walk for s all stop.1 in
     let copy = c.in_ok-copy-in-Ended.ensures in
-    for_each (λ (x : Collection). Evaluates p (g.R.Reader.tells c.args.reader.now) (g.R.Reader.tells c.pass_next.new.reader) (collection_demands (world_of p) x) (Ok (turns.Done c.in_ok-copy-in-Ended.field-0))) of
+    for_each (λ (x : Collection). EvaluatesSources p (g.R.Reader.tells c.args.reader.now) (g.R.Reader.tells c.pass_next.new.reader) (collection_demands (world_of p) x) (Ok (turns.Done c.in_ok-copy-in-Ended.field-0))) of
     (record {
       kept = kept;
       answer = record { demands = h.0; ends = subst (λ (v : Value). Ends (g.R.Reader.tells c.pass_next.new.reader).has (collection_demands (world_of p) d) v h.0) (sym (copy.same (source_names (text_of p)))) h.1; coded = copy.elements p all.coded };

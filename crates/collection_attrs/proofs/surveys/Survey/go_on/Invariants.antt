@@ -16,7 +16,7 @@ invariant-offers g l = record {
   same : (l.offers.attribute ≡ l.initial.offers.attribute) × (l.offers.root ≡ l.initial.offers.root);
   survey : (c : Collection) → IsCollectorOf (program_of l.system) l.of c → IsSurveyed (program_of l.system) (g.R.Reader.tells l.reader).has c l.self;
   within : l.self.taken ≤ length l.offers.notes;
-  saved : AreSaved l.system (g.R.Reader.tells l.reader).has l.saved;
+  saved : AreSaved l.system (g.R.Reader.tells l.reader) l.saved;
 }
 
 abbrev pub decreases-offers : goal.decreases-offers
