@@ -5,7 +5,7 @@ ghost use Rattle.std.specs.Option.{option_map};
 ghost use Rattle.attr_rules.specs.Dispatching.{Dispatches};
 ghost use Rattle.attr_rules.specs.Expression.{expression_of};
 ghost use Rattle.attr_equations.specs.KeptContributions.{AreNumbered, IsContributionAt, contribution_in};
-ghost use Rattle.attr_equations.specs.KeptEquations.{equation_in, kept_target};
+ghost use Rattle.attr_equations.specs.KeptEquations.{kept_target};
 ghost use Rattle.attr_equations.specs.Offered.{AreGrouped, IsNextFor, NoneFor};
 ghost use Rattle.attr_rules.specs.Rules.{attribute_at, bodies, body_at, covering_number, equation_number, expressions_in, method_at, most_attributes, number_of_attribute, number_of_equation, root_at, target_in};
 

@@ -1,6 +1,6 @@
 // What covers the components of nodes of a class.
 ghost use Rattle.std.specs.Prelude.{◌≡◌, ◌<◌, ◌≤◌, ℕ, IfOk, None, length};
-ghost use Rattle.std.specs.Option.{option_map, option_or};
+ghost use Rattle.std.specs.Option.{option_map};
 ghost use Rattle.ast_grammar.specs.Grammar.{superclasses_of};
 ghost use Rattle.attr_rules.specs.declared.dispatch.Reach.TheVariants.{Children};
 ghost use Rattle.attr_rules.specs.Dispatching.{AddsClass, CoversUpwards, KeepsFirst, KeepsNamed, PutsChildren, covered_by, number_for, number_in};

@@ -1,5 +1,5 @@
 // Which equation gives an attribute its value at nodes of a class.
-ghost use Rattle.std.specs.Prelude.{◌≡◌, ◌<◌, ◌^◌, ℕ, List, Option, All, IfOk, length};
+ghost use Rattle.std.specs.Prelude.{◌≡◌, ◌<◌, ◌^◌, Option, All, IfOk, length};
 ghost use Rattle.std.specs.Option.{option_map};
 ghost use Rattle.ast_grammar.specs.Grammar.{superclasses_of};
 ghost use Rattle.attr_rules.specs.Dispatching.{AreCovered, AreEmptyRows, AreOwnRows, Dispatches, FindsCovering, IsNearestRow, IsTarget, PutsFirst, filled};

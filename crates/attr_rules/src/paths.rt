@@ -1,5 +1,5 @@
 // Equations with a path, class by class.
-ghost use Rattle.std.specs.Prelude.{◌≡◌, ◌<◌, ◌^◌, [], All, IfOk, length};
+ghost use Rattle.std.specs.Prelude.{◌<◌, ◌^◌, [], All, IfOk, length};
 ghost use Rattle.attr_rules.specs.Dispatching.{AddsPath, AreOwnPaths};
 
 use crate::dispatch::Target;

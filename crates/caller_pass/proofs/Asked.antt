@@ -8,7 +8,7 @@ use Rattle.solutions.specs.Leading.{none}
 use Rattle.equation_law.specs.declared.coding.Instance.{Instance as CodedInstance}
 use Rattle.equation_law.specs.declared.coding.Value.{Value as CodedValue}
 use Rattle.equation_law.specs.Checked.{IsInstance, IsProgram, IsValue, int, node, nodes, text, texts, truth}
-use Rattle.equation_law.specs.Codes.{instance_of}
+use Rattle.equation_law.specs.Codes.{Naming, instance_by}
 use Rattle.equation_law.specs.Equations.{HasValue, kind_in}
 use Rattle.equation_law.specs.Loops.{HasLoop}
 use Rattle.equation_law.specs.Names.{Instance}
@@ -30,7 +30,7 @@ use Rattle.memo_cells.proofs.More.{at_least_itself}
 use Rattle.caller_pass.specs.declared.faults.AskFault.{AskFault}
 use Rattle.caller_pass.specs.declared.faults.AskFault.TheVariants.{CellsFull, Circular, Memory}
 use Rattle.caller_pass.specs.declared.waiting.Waiter.{Waiter}
-use Rattle.caller_pass.specs.Answering.{AnswersFault, AnswersNoted, AnswersSolve, Asks, AsksNoted, EndsAtLoop, IsCircular, IsLoop, Solves, StopsAt, WasUnsettled}
+use Rattle.caller_pass.specs.Answering.{AnswersFault, AnswersNoted, AnswersSolve, Asks, AsksNoted, AsksNotedByEach, EndsAtLoop, IsCircular, IsLoop, Solves, StopsAt, WasUnsettled}
 use Rattle.caller_pass.specs.Knowing.{IsKnownValue}
 use Rattle.caller_pass.specs.Noting.{MayNote}
 use Rattle.caller_pass.specs.Waiting.{AnswersWait}
@@ -40,15 +40,15 @@ use Rattle.caller_pass.proofs.Listing.{map_both}
 use Rattle.caller_pass.proofs.Lines.{each_has, ends_has, ends_twice, has_map, same_last}
 
 -- full cells, handed on
-pub full_waits : (p : Program) (f : Frame) (v : View) (es : List (CodedInstance × Waiter)) (next : CodedInstance) (new : List (CodedInstance × Waiter)) (r : Result Waiter AskFault) → IsErr r × IsErrAnd r (λ e. e ≡ CellsFull) → LacksCell p f v (instance_of p next) → AnswersWait p f v es next new r
-full_waits p f v es next new (Ok s) h full = let missing = h.0 in cc
-full_waits p f v es next new (Err e) h full = subst (λ x. AnswersWait p f v es next new (Err x)) (sym h.1) full
+pub full_waits : (p : Program) (names : Naming) (f : Frame) (v : View) (es : List (CodedInstance × Waiter)) (next : CodedInstance) (new : List (CodedInstance × Waiter)) (r : Result Waiter AskFault) → IsErr r × IsErrAnd r (λ e. e ≡ CellsFull) → LacksCell p f v (instance_by p names next) → AnswersWait p names f v es next new r
+full_waits p names f v es next new (Ok s) h full = let missing = h.0 in cc
+full_waits p names f v es next new (Err e) h full = subst (λ x. AnswersWait p names f v es next new (Err x)) (sym h.1) full
 
 -- a loop is answered only where there is one
-pub circular_loop : (X : Type 0) (p : Program) (f : Frame) (v : View) (i : Instance) (e : AskFault) → StopsAt p f v i e → IsCircular {X = X} (Err e) → HasLoop p i
-circular_loop X p f v i (Circular on chain) a h = ends_has p i _ _ a
-circular_loop X p f v i CellsFull a h = absurd h
-circular_loop X p f v i Memory a h = absurd h
+pub circular_loop : (X : Type 0) (p : Program) (names : Naming) (f : Frame) (v : View) (i : Instance) (e : AskFault) → StopsAt p names f v i e → IsCircular {X = X} (Err e) → HasLoop p i
+circular_loop X p names f v i (Circular on chain) a h = ends_has p i _ _ a
+circular_loop X p names f v i CellsFull a h = absurd h
+circular_loop X p names f v i Memory a h = absurd h
 
 -- a value of a type is read at it as it is
 pub typed_as : (p : Program) (k : Kind) (v : Value) → IsValue p k v → as_kind k v ≡ v
@@ -59,13 +59,13 @@ typed_as p _ _ (node c r h) = refl
 typed_as p _ _ (texts s h) = refl
 typed_as p _ _ (nodes c s h) = refl
 
-known_has : (p : Program) (f : Frame) (v : View) (i : Instance) (x : CodedValue) → IsProgram p → IsInstance p i → IsKnownValue p v i x → AnswersNoted p f v i (Ok x)
-known_has p f v i x good instance k = (subst (HasValue p i) (sym (k.coded ∙ typed_as p (kind_in p i) k.value (value_typed p good i instance k.value k.known.1))) k.known.1, k.known.0, k.elements)
+known_has : (p : Program) (names : Naming) (f : Frame) (v : View) (i : Instance) (x : CodedValue) → IsProgram p → IsInstance p i → IsKnownValue p names v i x → AnswersNoted p names f v i (Ok x)
+known_has p names f v i x good instance k = (subst (HasValue p i) (sym (k.coded ∙ typed_as p (kind_in p i) k.value (value_typed p good i instance k.value k.known.1))) k.known.1, k.known.0, k.elements)
 
 -- the answer that stood there
-pub asked_known : (p : Program) (f : Frame) (v w : View) (i : Instance) (x : CodedValue) (n : ℕ) → IsProgram p → IsInstance p i → IsKnownValue p w i x → w.claims ≡ v.claims → AsksNoted p f v w i n n (Ok x)
-asked_known p f v w i x n good instance k claims = record {
-  answer = known_has p f w i x good instance k;
+pub asked_known : (p : Program) (names : Naming) (f : Frame) (v w : View) (i : Instance) (x : CodedValue) (n : ℕ) → IsProgram p → IsInstance p i → IsKnownValue p names w i x → w.claims ≡ v.claims → AsksNoted p names f v w i n n (Ok x)
+asked_known p names f v w i x n good instance k claims = record {
+  answer = known_has p names f w i x good instance k;
   circular = λ h. absurd h;
   claims = claims_same p i v w claims;
   known = λ _. (tt, refl);
@@ -74,39 +74,39 @@ asked_known p f v w i x n good instance k claims = record {
 }
 
 -- a set that couldn't be read
-pub asked_unread : (p : Program) (f : Frame) (v w : View) (i : Instance) (n : ℕ) (r : Result CodedValue AskFault) → IsErr r × IsErrAnd r (λ e. e ≡ Memory) → is_single (kind_in p i) ≡ false → w.claims ≡ v.claims → AsksNoted p f v w i n n r
-asked_unread p f v w i n (Ok x) h set claims = let missing = h.0 in cc
-asked_unread p f v w i n (Err e) h set claims = subst (λ (d : AskFault). AsksNoted p f v w i n n (Err d)) (sym h.1)
+pub asked_unread : (p : Program) (names : Naming) (f : Frame) (v w : View) (i : Instance) (n : ℕ) (r : Result CodedValue AskFault) → IsErr r × IsErrAnd r (λ e. e ≡ Memory) → is_single (kind_in p i) ≡ false → w.claims ≡ v.claims → AsksNoted p names f v w i n n r
+asked_unread p names f v w i n (Ok x) h set claims = let missing = h.0 in cc
+asked_unread p names f v w i n (Err e) h set claims = subst (λ (d : AskFault). AsksNoted p names f v w i n n (Err d)) (sym h.1)
     (record { answer = tt; circular = λ no. absurd no; claims = claims_same p i v w claims; known = λ _. (set, refl); loads = inl refl; cost = λ ok. cc })
 
 -- what was read before counts too
-pub solves_before : (p : Program) (f : Frame) (v u w : View) (i : Instance) (m n : ℕ) (r : Result Unit AskFault) → IsAtLeast v u → IsLogOn v u → u.claims ≡ v.claims → IsAtLeast u w → Solves p f u w i m n r → Solves p f v w i m n r
-solves_before p f v u w i m n r kept log quiet later h = record {
+pub solves_before : (p : Program) (names : Naming) (f : Frame) (v u w : View) (i : Instance) (m n : ℕ) (r : Result Unit AskFault) → IsAtLeast v u → IsLogOn v u → u.claims ≡ v.claims → IsAtLeast u w → Solves p names f u w i m n r → Solves p names f v w i m n r
+solves_before p names f v u w i m n r kept log quiet later h = record {
   answer = h.answer;
   claims = claims_then p i i v u w none (claims_same p i v u quiet) later h.claims;
   loads = ⊎_elim inl (λ was. inr (was_within p f v u w w i kept log (at_least_itself w) (log_itself w) was)) h.loads;
   cost = λ ok. ⊎_elim inl (λ few. inr (let less = unsettled_less v u f.cells kept in omega (arith, few, less))) (h.cost ok);
 }
 
-module _ (p : Program) (f : Frame) (v u w : View) (i : Instance) (m n : ℕ) (unknown : ¬ Knows p v i) where
+module _ (p : Program) (names : Naming) (f : Frame) (v u w : View) (i : Instance) (m n : ℕ) (unknown : ¬ Knows p v i) where
   -- a fault of settling it
-  pub asked_fault : (e : AskFault) (s : Result Unit AskFault) → s ≡ Err e → (r : Result CodedValue AskFault) → IsErr r × IsErrAnd r (λ x. x ≡ e) → Solves p f v w i m n s → AsksNoted p f v w i m n r
+  pub asked_fault : (e : AskFault) (s : Result Unit AskFault) → s ≡ Err e → (r : Result CodedValue AskFault) → IsErr r × IsErrAnd r (λ x. x ≡ e) → Solves p names f v w i m n s → AsksNoted p names f v w i m n r
   asked_fault e s is (Ok x) h solved = let missing = h.0 in cc
   asked_fault e s is (Err d) h solved =
-      let answer = subst (λ (x : AskFault). StopsAt p f w i x) (sym h.1) (subst (λ (y : Result Unit AskFault). AnswersSolve p f w i y) is solved.answer) in
-      record { answer = answer; circular = circular_loop CodedValue p f w i d answer; claims = solved.claims; known = λ k. absurd (unknown k); loads = solved.loads; cost = λ ok. cc }
+      let answer = subst (λ (x : AskFault). StopsAt p names f w i x) (sym h.1) (subst (λ (y : Result Unit AskFault). AnswersSolve p names f w i y) is solved.answer) in
+      record { answer = answer; circular = circular_loop CodedValue p names f w i d answer; claims = solved.claims; known = λ k. absurd (unknown k); loads = solved.loads; cost = λ ok. cc }
 
   -- it is settled, and its value is read
-  module _ (done : Unit {0}) (solved : Solves p f v u i m n (Ok done)) (kept : IsAtLeast u w) (log : IsLogOn u w) (quiet : w.claims ≡ u.claims) where
+  module _ (done : Unit {0}) (solved : Solves p names f v u i m n (Ok done)) (kept : IsAtLeast u w) (log : IsLogOn u w) (quiet : w.claims ≡ u.claims) where
     loads_all : (n ≡ m) ⊎ WasUnsettled p f v w i
     loads_all = ⊎_elim inl (λ was. inr (was_within p f v v u w i (at_least_itself v) (log_itself v) kept log was)) solved.loads
 
     claims_all : ClaimsKeys p i v w
     claims_all = claims_then p i i v u w none solved.claims kept (claims_same p i u w quiet)
 
-    pub asked_value : (x : CodedValue) → IsProgram p → IsInstance p i → IsKnownValue p w i x → AsksNoted p f v w i m n (Ok x)
+    pub asked_value : (x : CodedValue) → IsProgram p → IsInstance p i → IsKnownValue p names w i x → AsksNoted p names f v w i m n (Ok x)
     asked_value x good instance k = record {
-      answer = known_has p f w i x good instance k;
+      answer = known_has p names f w i x good instance k;
       circular = λ h. absurd h;
       claims = claims_all;
       known = λ k. absurd (unknown k);
@@ -114,40 +114,41 @@ module _ (p : Program) (f : Frame) (v u w : View) (i : Instance) (m n : ℕ) (un
       cost = λ ok. ⊎_elim inl (λ few. inr (let less = unsettled_less u w f.cells kept in omega (arith, few, less))) (solved.cost ok);
     }
 
-    pub asked_memory : (r : Result CodedValue AskFault) → IsErr r × IsErrAnd r (λ e. e ≡ Memory) → AsksNoted p f v w i m n r
+    pub asked_memory : (r : Result CodedValue AskFault) → IsErr r × IsErrAnd r (λ e. e ≡ Memory) → AsksNoted p names f v w i m n r
     asked_memory (Ok x) h = let missing = h.0 in cc
-    asked_memory (Err e) h = subst (λ (d : AskFault). AsksNoted p f v w i m n (Err d)) (sym h.1)
+    asked_memory (Err e) h = subst (λ (d : AskFault). AsksNoted p names f v w i m n (Err d)) (sym h.1)
         (record { answer = tt; circular = λ no. absurd no; claims = claims_all; known = λ k. absurd (unknown k); loads = loads_all; cost = λ ok. cc })
 
 -- ---- what is asked without notes
 
 -- a chain that is whole, or a fault in its place
-module _ (p : Program) (f : Frame) (v w : View) (i : Instance) (m n : ℕ) where
-  pub asks_whole : (on : CodedInstance) (chain : List CodedInstance) (e : AskFault) → AsksNoted p f v w i m n (Err (Circular on chain)) → AnswersFault p f w i e → Asks p f v w i m n (Err e)
+module _ (p : Program) (names : Naming) (f : Frame) (v w : View) (i : Instance) (m n : ℕ) where
+  pub asks_whole : (on : CodedInstance) (chain : List CodedInstance) (e : AskFault) → AsksNoted p names f v w i m n (Err (Circular on chain)) → AnswersFault p names f w i e → Asks p names f v w i m n (Err e)
   asks_whole on chain e h a = record { answer = a; circular = λ _. h.circular tt; claims = h.claims; known = λ k. absurd (h.known k).0; loads = h.loads; cost = λ ok. cc }
 
-  pub asks_value : (x : CodedValue) → AsksNoted p f v w i m n (Ok x) → Asks p f v w i m n (Ok x)
+  pub asks_value : (x : CodedValue) → AsksNoted p names f v w i m n (Ok x) → Asks p names f v w i m n (Ok x)
   asks_value x h = record { answer = h.answer; circular = h.circular; claims = h.claims; known = h.known; loads = h.loads; cost = h.cost }
 
-  pub asks_full : AsksNoted p f v w i m n (Err CellsFull) → Asks p f v w i m n (Err CellsFull)
+  pub asks_full : AsksNoted p names f v w i m n (Err CellsFull) → Asks p names f v w i m n (Err CellsFull)
   asks_full h = record { answer = h.answer; circular = h.circular; claims = h.claims; known = h.known; loads = h.loads; cost = h.cost }
 
-  pub asks_memory : AsksNoted p f v w i m n (Err Memory) → Asks p f v w i m n (Err Memory)
+  pub asks_memory : AsksNoted p names f v w i m n (Err Memory) → Asks p names f v w i m n (Err Memory)
   asks_memory h = record { answer = h.answer; circular = h.circular; claims = h.claims; known = h.known; loads = h.loads; cost = h.cost }
 
-  -- what the loop of an answer says of the instances in its chain
-  pub may_note : (r : Result CodedValue AskFault) → AsksNoted p f v w i m n r → MayNote p r
-  may_note (Ok x) h = tt
-  may_note (Err (Circular on chain)) h = λ j there. each_has p i (instance_of p on) (map (instance_of p) chain) h.answer (instance_of p j) (has_map (instance_of p) chain j there)
-  may_note (Err CellsFull) h = tt
-  may_note (Err Memory) h = tt
+-- what the loop of an answer says of the instances in its chain
+pub may_note : (p : Program) (f : Frame) (v w : View) (i : CodedInstance) (m n : ℕ) (r : Result CodedValue AskFault) → AsksNotedByEach p f v w i m n r → MayNote p r
+may_note p f v w i m n (Ok x) h = tt
+may_note p f v w i m n (Err (Circular on chain)) h = λ j there names named.
+    each_has p (instance_by p names i) (instance_by p names on) (map (instance_by p names) chain) (h names named).answer (instance_by p names j) (has_map (instance_by p names) chain j there)
+may_note p f v w i m n (Err CellsFull) h = tt
+may_note p f v w i m n (Err Memory) h = tt
 
 -- a chain whose end stands in it before is a loop
-pub round_loop : (p : Program) (i : Instance) (on : CodedInstance) (chain : List CodedInstance) → EndsAtLoop p i (instance_of p on) (map (instance_of p) chain) → (front : List CodedInstance) × Has front on × ((last : CodedInstance) × (chain ≡ front ++ last ∷ [])) → IsLoop p i (instance_of p on) (map (instance_of p) chain)
-round_loop p i on chain l (front, there, (last, is)) =
-    let parts = ap (map (instance_of p)) is ∙ map_both (instance_of p) front (last ∷ []) in
-    let same : instance_of p last ≡ instance_of p on = same_last (map (instance_of p) front) l.front (instance_of p last) (instance_of p on) (sym parts ∙ l.ends) in
-    ends_twice p i (instance_of p on) (map (instance_of p) chain) (map (instance_of p) front) l (parts ∙ ap (λ (j : Instance). map (instance_of p) front ++ j ∷ []) same) (has_map (instance_of p) front on there)
+pub round_loop : (p : Program) (names : Naming) (i : Instance) (on : CodedInstance) (chain : List CodedInstance) → EndsAtLoop p i (instance_by p names on) (map (instance_by p names) chain) → (front : List CodedInstance) × Has front on × ((last : CodedInstance) × (chain ≡ front ++ last ∷ [])) → IsLoop p i (instance_by p names on) (map (instance_by p names) chain)
+round_loop p names i on chain l (front, there, (last, is)) =
+    let parts = ap (map (instance_by p names)) is ∙ map_both (instance_by p names) front (last ∷ []) in
+    let same : instance_by p names last ≡ instance_by p names on = same_last (map (instance_by p names) front) l.front (instance_by p names last) (instance_by p names on) (sym parts ∙ l.ends) in
+    ends_twice p i (instance_by p names on) (map (instance_by p names) chain) (map (instance_by p names) front) l (parts ∙ ap (λ (j : Instance). map (instance_by p names) front ++ j ∷ []) same) (has_map (instance_by p names) front on there)
 
 -- what is found among the instances of a list stands in it
 pub any_has : (xs : List CodedInstance) (x : CodedInstance) → list_any (λ y. equality.ghosts.eq y x) xs ≡ true → Has xs x

@@ -3,7 +3,7 @@ use Rattle.std.proofs.Common.{◌≡◌, ℕ, ◌+◌, ◌*◌, ◌<◌, ◌≤�
 use Rattle.std.specs.Result.{IsErr, IsErrAnd, IsOk}
 use Rattle.solutions.specs.Leading.{none}
 use Rattle.equation_law.specs.declared.coding.Instance.{Instance as CodedInstance}
-use Rattle.equation_law.specs.Codes.{instance_of}
+use Rattle.equation_law.specs.Codes.{IsNamingOf, Naming, instance_by}
 use Rattle.equation_law.specs.Loops.{Chain}
 use Rattle.equation_law.specs.Names.{Instance}
 use Rattle.equation_law.specs.Program.{Program}
@@ -30,22 +30,25 @@ use Rattle.caller_pass.proofs.Falling.{unsettled_falls, unsettled_less}
 use Rattle.caller_pass.proofs.Going.{solve_fault, was_within}
 
 -- the fault of a local set
-pub same_fault : (p : Program) (f : Frame) (v : View) (i : Instance) (from : CircFault) (e : AskFault) → IsSameFault from e → AnswersCircular p i f v from → StopsAt p f v i e
-same_fault p f v i set_fault.CellsFull e is a = subst (λ (x : AskFault). StopsAt p f v i x) (sym is) a
-same_fault p f v i set_fault.Memory e is a = subst (λ (x : AskFault). StopsAt p f v i x) (sym is) tt
+pub same_fault : (p : Program) (names : Naming) (named : IsNamingOf p names) (f : Frame) (v : View) (i : CodedInstance) (from : CircFault) (e : AskFault) → IsSameFault from e → AnswersCircular p i f v from → StopsAt p names f v (instance_by p names i) e
+same_fault p names named f v i set_fault.CellsFull e is a = subst (λ (x : AskFault). StopsAt p names f v (instance_by p names i) x) (sym is) (a names named)
+same_fault p names named f v i set_fault.Memory e is a = subst (λ (x : AskFault). StopsAt p names f v (instance_by p names i) x) (sym is) tt
 
-module _ (p : Program) (f : Frame) (same : p ≡ program_of f.system.value) (v w : View) (own : IsPassOf f v) (then : IsPassOf f w) (kept : IsAtLeast v w) (i : Instance) (unknown : ¬ Knows p v i) (claims : ClaimsKeys p i v w) (before after : ℕ) (evals : after ≡ before + 1) where
+module _ (p : Program) (names : Naming) (named : IsNamingOf p names) (f : Frame) (same : p ≡ program_of f.system.value) (v w : View) (own : IsPassOf f v) (then : IsPassOf f w) (kept : IsAtLeast v w) (start : CodedInstance) (unknown : ¬ Knows p v (instance_by p names start)) (claims : ClaimsKeys p (instance_by p names start) v w) (before after : ℕ) (evals : after ≡ before + 1) where
+  abbrev i : Instance
+  i = instance_by p names start
+
   -- it is sealed
-  pub closes_now : Knows p w i → (done : Unit {0}) → ClosesMore p f v w i before after (Ok done)
+  pub closes_now : Knows p w i → (done : Unit {0}) → ClosesMore p names f v w i before after (Ok done)
   closes_now known done =
       let falls = unsettled_falls p f same v w own then kept i unknown known in
       record { fault = λ e is. cc; claims = claims; cost = λ ok. omega (arith, falls, evals); known = λ ok k. omega (arith, falls, evals); falls = λ ok. falls }
 
   -- a fault
-  pub closes_fault : (e : CircFault) (r : Result Unit AskFault) → IsErr r × IsErrAnd r (λ x. IsSameFault e x) → AnswersCircular p i f w e → ClosesMore p f v w i before after r
+  pub closes_fault : (e : CircFault) (r : Result Unit AskFault) → IsErr r × IsErrAnd r (λ x. IsSameFault e x) → AnswersCircular p start f w e → ClosesMore p names f v w i before after r
   closes_fault e (Ok x) h a = let none = h.0 in cc
   closes_fault e (Err d) h a = record {
-    fault = λ x is. let same_one : d ≡ x = cc in subst (λ (y : AskFault). StopsAt p f w i y) same_one (same_fault p f w i e d h.1 a);
+    fault = λ x is. let same_one : d ≡ x = cc in subst (λ (y : AskFault). StopsAt p names f w i y) same_one (same_fault p names named f w start e d h.1 a);
     claims = claims;
     cost = λ ok. cc;
     known = λ ok k. cc;
@@ -53,10 +56,10 @@ module _ (p : Program) (f : Frame) (same : p ≡ program_of f.system.value) (v w
   }
 
   -- what was needed is settled, or wasn't
-  pub closes_for : (u : View) → IsPassOf f u → IsAtLeast w u → (l : Local) → instance_of p l.start ≡ i → (n : CodedInstance) → IsMissing p w l n → (now : ℕ) (r : Result Unit AskFault) → SolvesFor p f w u l (instance_of p n) after now r → ClosesMore p f v u i before now r
-  closes_for u own_u later l start n missing now r h = record {
-    fault = λ e is. subst (λ (j : Instance). StopsAt p f u j e) start (h.fault e is);
-    claims = claims_then p i (instance_of p n) v w u (subst (λ (j : Instance). Chain p j (instance_of p n)) start missing.reached) claims later h.claims;
+  pub closes_for : (u : View) → IsPassOf f u → IsAtLeast w u → (l : Local) → l.start ≡ start → (n : CodedInstance) → IsMissing p names w l n → (now : ℕ) (r : Result Unit AskFault) → SolvesFor p names f w u l (instance_by p names n) after now r → ClosesMore p names f v u i before now r
+  closes_for u own_u later l is_start n missing now r h = record {
+    fault = λ e is. subst (λ (j : CodedInstance). StopsAt p names f u (instance_by p names j) e) is_start (h.fault e is);
+    claims = claims_then p i (instance_by p names n) v w u (subst (λ (j : CodedInstance). Chain p (instance_by p names j) (instance_by p names n)) is_start missing.reached) claims later h.claims;
     cost = λ ok.
         let cost = h.cost ok in
         let less = unsettled_less v w f.cells kept in
@@ -67,12 +70,12 @@ module _ (p : Program) (f : Frame) (same : p ≡ program_of f.system.value) (v w
         let falls = unsettled_falls p f same v w own then kept i unknown yet in
         omega (arith, cost, falls, evals))
         (λ not_yet.
-        let cost = h.start ok (subst (λ (j : Instance). ¬ Knows p w j) (sym start) not_yet) (subst (λ (j : Instance). Knows p u j) (sym start) k) in
+        let cost = h.start ok (subst (λ (j : CodedInstance). ¬ Knows p w (instance_by p names j)) (sym is_start) not_yet) (subst (λ (j : CodedInstance). Knows p u (instance_by p names j)) (sym is_start) k) in
         let less = unsettled_less v w f.cells kept in
         omega (arith, cost, less, evals))
         (knows_or_not p f w same then i);
     falls = λ ok.
-        let falls = unsettled_falls p f same w u then own_u later (instance_of p n) missing.unknown (h.settled ok) in
+        let falls = unsettled_falls p f same w u then own_u later (instance_by p names n) missing.unknown (h.settled ok) in
         let less = unsettled_less v w f.cells kept in
         omega (arith, falls, less);
   }
@@ -116,7 +119,7 @@ module _ (p : Program) (f : Frame) (same : p ≡ program_of f.system.value) (v w
   }
 
   -- the set went on, where i wasn't sealed: its value word was loaded just before
-  module _ (slot : ℕ) (cell : IsCellOf p f w i slot) (why : WhyUnsettled f v w slot) (unknown : ¬ Knows p w i) (after : ℕ) (r : Result Unit AskFault) (h : ClosesMore p f w u i now after r) where
+  module _ (names : Naming) (slot : ℕ) (cell : IsCellOf p f w i slot) (why : WhyUnsettled f v w slot) (unknown : ¬ Knows p w i) (after : ℕ) (r : Result Unit AskFault) (h : ClosesMore p names f w u i now after r) where
     was_looked : WasUnsettled p f v w i
     was_looked = record { unknown = λ k. unknown (knows_later v w c.kept p i k); slot = slot; cell = cell; why = why }
 
@@ -134,9 +137,9 @@ module _ (p : Program) (f : Frame) (same : p ≡ program_of f.system.value) (v w
       known = λ k. inr (let cost = c.cost in let more = h.known ok k in omega (arith, cost, more));
     }
 
-    pub closing_fault : (e : AskFault) → r ≡ Err e → (all : Result Unit AskFault) → IsErr all × IsErrAnd all (λ x. x ≡ e) → Solves p f v u i before after all
-    closing_fault e is all given = solve_fault p f v u i before after e all given (claims_then p i i v w u none c.claims kept h.claims) (inr was_unsettled) (h.fault e is)
+    pub closing_fault : (e : AskFault) → r ≡ Err e → (all : Result Unit AskFault) → IsErr all × IsErrAnd all (λ x. x ≡ e) → Solves p names f v u i before after all
+    closing_fault e is all given = solve_fault p names f v u i before after e all given (claims_then p i i v w u none c.claims kept h.claims) (inr was_unsettled) (h.fault e is)
 
 -- it is sealed
-pub closed : (p : Program) (f : Frame) (v w : View) (i : Instance) (before now : ℕ) → IsClosing p f v w i before now → Knows p w i → (done : Unit {0}) → Solves p f v w i before now (Ok done)
-closed p f v w i before now c k done = record { answer = k; claims = c.claims; loads = c.loads; cost = λ ok. c.known k }
+pub closed : (p : Program) (names : Naming) (f : Frame) (v w : View) (i : Instance) (before now : ℕ) → IsClosing p f v w i before now → Knows p w i → (done : Unit {0}) → Solves p names f v w i before now (Ok done)
+closed p names f v w i before now c k done = record { answer = k; claims = c.claims; loads = c.loads; cost = λ ok. c.known k }

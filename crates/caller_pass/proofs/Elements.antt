@@ -1,5 +1,5 @@
 -- The elements of a set that is the value of an instance, and their codes.
-use Rattle.std.proofs.Common.{◌≡◌, ℕ, zero, suc, ◌<◌, ⊎_elim, Bool, true, false, not, List, [], ◌∷◌, All, length, map, refl, sym, subst, ◌∙◌, arith}
+use Rattle.std.proofs.Common.{◌≡◌, ℕ, zero, suc, ◌<◌, ⊎_elim, Bool, true, false, not, List, [], ◌∷◌, All, length, map, refl, sym, ap, subst, ◌∙◌, arith}
 use Rattle.std.proofs.lemmas.List.Elements.{All-head, All-tail}
 use Rattle.attr_rules.specs.declared.kinds.Kind.{Kind}
 use Rattle.attr_rules.specs.declared.kinds.Kind.TheVariants as kinds
@@ -8,12 +8,13 @@ use Rattle.ast_grammar.specs.declared.grammar.ClassId.{ClassId}
 use Rattle.equation_law.specs.declared.coding.Value.{Value as CodedValue}
 use Rattle.equation_law.specs.declared.coding.Value.TheVariants as coded
 use Rattle.equation_law.specs.Checked.{IsNodeOf, IsValue, int, node, nodes, text, texts, truth}
-use Rattle.equation_law.specs.Codes.{AreElements, nodes_of, value_of}
-use Rattle.equation_law.specs.Keys.{IsElementCode, has_code}
-use Rattle.equation_law.specs.Names.{At, Instance, NodeName, Source, node_cmp, text_cmp}
-use Rattle.equation_law.specs.Program.{Program, text_of}
+use Rattle.equation_law.specs.Codes.{AreElements, IsNamingOf, IsReference, Naming, nodes_by, value_by}
+use Rattle.equation_law.specs.Keys.{HasCode, IsElementCode}
+use Rattle.equation_law.specs.Names.{At, Instance, NodeName, node_cmp, text_cmp}
+use Rattle.equation_law.specs.Program.{Program}
 use Rattle.equation_law.specs.Sets.{SetBy, has, set_of}
 use Rattle.equation_law.specs.Values.{Nodes, Texts, Value}
+use Rattle.equation_law.proofs.Tied.{node_tied, tied_has}
 use Rattle.memo_cells.specs.declared.view.View.{View}
 use Rattle.memo_cells.specs.Showing.{ShowsAtLeast, ShowsCode}
 use Rattle.memo_cells.specs.Views.{Has}
@@ -57,33 +58,45 @@ nodes_kind p _ _ (nodes c t h) s e = let same : t ≡ s = cc in (c, refl, subst 
 not_both : {b : Bool} → b ≡ true → b ≡ false → ⊥
 not_both a b = let both = sym a ∙ b in cc
 
-module _ (p : Program) where
+module _ (p : Program) (names : Naming) (named : IsNamingOf p names) where
   -- each code of the set is that of an element of its type
-  pub are_elements : (k : Kind) (x : CodedValue) → IsValue p k (value_of (text_of p) x) → AreElements p x → (c : ℕ) → Has (set_codes x) c → IsElementCode p k c × (has_code (text_of p) k (value_of (text_of p) x) c ≡ true)
+  pub are_elements : (k : Kind) (x : CodedValue) → IsValue p k (value_by names x) → AreElements p x → (c : ℕ) → Has (set_codes x) c → IsElementCode p k c × HasCode p k (value_by names x) c
   are_elements k (coded.Truth b) typed good c h = absurd h
   are_elements k (coded.Int z) typed good c h = absurd h
   are_elements k (coded.Text n) typed good c h = absurd h
   are_elements k (coded.Node n) typed good c h = absurd h
   are_elements k (coded.Texts cs) typed good c h =
-      let kind = texts_kind p k (value_of (text_of p) (coded.Texts cs)) typed (set_of {R = text_cmp} (map (text_of p) cs)) refl in
-      subst (λ (j : Kind). IsElementCode p j c × (has_code (text_of p) j (value_of (text_of p) (coded.Texts cs)) c ≡ true)) (sym kind) (all_has (λ d. d < length p.texts) cs c good h, text_in (text_of p) cs c (is_among cs c h))
+      let kind = texts_kind p k (value_by names (coded.Texts cs)) typed (set_of {R = text_cmp} (map names.text cs)) refl in
+      subst (λ (j : Kind). IsElementCode p j c × HasCode p j (value_by names (coded.Texts cs)) c) (sym kind) (
+        all_has (λ d. d < length p.texts) cs c good h,
+        subst (λ (f : ℕ → List ℕ). has (set_of {R = text_cmp} (map names.text cs)) (f c) ≡ true) named.texts (text_in names.text cs c (is_among cs c h)),
+      )
   are_elements k (coded.Nodes cs) typed good c h =
-      let kind = nodes_kind p k (value_of (text_of p) (coded.Nodes cs)) typed (set_of {R = node_cmp} (nodes_of cs)) refl in
-      subst (λ (j : Kind). IsElementCode p j c × (has_code (text_of p) j (value_of (text_of p) (coded.Nodes cs)) c ≡ true)) (sym kind.1) (its kind.0 kind.2 c (all_has (λ d. 0 < d) cs c good h) h)
+      let kind = nodes_kind p k (value_by names (coded.Nodes cs)) typed (set_of {R = node_cmp} (nodes_by names.node cs)) refl in
+      subst (λ (j : Kind). IsElementCode p j c × HasCode p j (value_by names (coded.Nodes cs)) c) (sym kind.1) (its kind.0 kind.2 c (all_has (λ d. 0 < d) cs c good h) h)
     where
-      its : (d : ClassId) → ((n : NodeName) → has (set_of {R = node_cmp} (nodes_of cs)) n ≡ true → IsNodeOf p d (At n)) → (c : ℕ) → 0 < c → Has cs c → IsElementCode p (kinds.Nodes d) c × (has_code (text_of p) (kinds.Nodes d) (value_of (text_of p) (coded.Nodes cs)) c ≡ true)
+      its : (d : ClassId) → ((n : NodeName) → has (set_of {R = node_cmp} (nodes_by names.node cs)) n ≡ true → IsNodeOf p d (At n)) → (c : ℕ) → 0 < c → Has cs c → IsElementCode p (kinds.Nodes d) c × HasCode p (kinds.Nodes d) (value_by names (coded.Nodes cs)) c
       its d of zero some h = absurd (omega (arith, some))
-      its d of (suc n) some h = let yes = node_in cs (suc n) (Source n) refl (is_among cs (suc n) h) in ((some, of (Source n) yes), yes)
+      its d of (suc k) some h =
+          let n = names.node k in
+          let yes = node_in names.node cs (suc k) n refl (is_among cs (suc k) h) in
+          let tied = node_tied p named d (suc k) (of n yes) in
+          ((some, (At n, tied, of n yes)), tied_has p d (value_by names (coded.Nodes cs)) (suc k) (At n) tied yes)
 
   -- where the words show each code, they show the set
-  pub shows_set : (v : View) (i : Instance) (k : Kind) (x : CodedValue) → IsValue p k (value_of (text_of p) x) → is_single k ≡ false → ((c : ℕ) → Has (set_codes x) c → ShowsCode p v i c) → ShowsAtLeast p v i k (value_of (text_of p) x)
-  shows_set v i k (coded.Truth b) typed set shown = absurd (not_both (of_kind p k (value_of (text_of p) (coded.Truth b)) typed) set)
-  shows_set v i k (coded.Int z) typed set shown = absurd (not_both (of_kind p k (value_of (text_of p) (coded.Int z)) typed) set)
-  shows_set v i k (coded.Text n) typed set shown = absurd (not_both (of_kind p k (value_of (text_of p) (coded.Text n)) typed) set)
-  shows_set v i k (coded.Node n) typed set shown = absurd (not_both (of_kind p k (value_of (text_of p) (coded.Node n)) typed) set)
+  pub shows_set : (v : View) (i : Instance) (k : Kind) (x : CodedValue) → IsValue p k (value_by names x) → is_single k ≡ false → ((c : ℕ) → Has (set_codes x) c → ShowsCode p v i c) → ShowsAtLeast p v i k (value_by names x)
+  shows_set v i k (coded.Truth b) typed set shown = absurd (not_both (of_kind p k (value_by names (coded.Truth b)) typed) set)
+  shows_set v i k (coded.Int z) typed set shown = absurd (not_both (of_kind p k (value_by names (coded.Int z)) typed) set)
+  shows_set v i k (coded.Text n) typed set shown = absurd (not_both (of_kind p k (value_by names (coded.Text n)) typed) set)
+  shows_set v i k (coded.Node n) typed set shown = absurd (not_both (of_kind p k (value_by names (coded.Node n)) typed) set)
   shows_set v i k (coded.Texts cs) typed set shown =
-      let kind = texts_kind p k (value_of (text_of p) (coded.Texts cs)) typed (set_of {R = text_cmp} (map (text_of p) cs)) refl in
-      subst (λ (j : Kind). ShowsAtLeast p v i j (value_of (text_of p) (coded.Texts cs))) (sym kind) (λ t h. let r = text_code (text_of p) cs t h in (r.0, r.2, shown r.0 (among cs r.0 r.1)))
+      let kind = texts_kind p k (value_by names (coded.Texts cs)) typed (set_of {R = text_cmp} (map names.text cs)) refl in
+      subst (λ (j : Kind). ShowsAtLeast p v i j (value_by names (coded.Texts cs))) (sym kind) (λ t h.
+      let r = text_code names.text cs t h in
+      (r.0, ap (λ (f : ℕ → List ℕ). f r.0) (sym named.texts) ∙ r.2, shown r.0 (among cs r.0 r.1)))
   shows_set v i k (coded.Nodes cs) typed set shown =
-      let kind = nodes_kind p k (value_of (text_of p) (coded.Nodes cs)) typed (set_of {R = node_cmp} (nodes_of cs)) refl in
-      subst (λ (j : Kind). ShowsAtLeast p v i j (value_of (text_of p) (coded.Nodes cs))) (sym kind.1) (λ n h. let r = node_code cs n h in (r.0, r.2, shown r.0 (among cs r.0 r.1)))
+      let kind = nodes_kind p k (value_by names (coded.Nodes cs)) typed (set_of {R = node_cmp} (nodes_by names.node cs)) refl in
+      subst (λ (j : Kind). ShowsAtLeast p v i j (value_by names (coded.Nodes cs))) (sym kind.1) (λ n h.
+      let r = node_code names.node cs n h in
+      let tied = subst (IsReference p r.0) r.2 (node_tied p named kind.0 r.0 (subst (IsNodeOf p kind.0) (sym r.2) (kind.2 n h))) in
+      (r.0, tied, shown r.0 (among cs r.0 r.1)))

@@ -1,33 +1,41 @@
 -- What a pass knows of instances.
-use Rattle.std.proofs.Common.{◌≡◌, ℕ, ◌<◌, ◌^◌, Bool, true, false, not, List, refl, sym, ap, subst, ◌∙◌}
+use Rattle.std.proofs.Common.{◌≡◌, ℕ, ◌<◌, ◌^◌, Bool, true, false, not, List, Some, refl, sym, ap, subst, ◌∙◌}
 use Rattle.rag_io.specs.Pool.{ArePooled}
-use Rattle.solutions.specs.Asking.{Demands, Halts, Meets, at, after, here, later}
+use Rattle.solutions.specs.Asking.{Demands, Ends, Halts, Meets, at, after, here, later}
 use Rattle.solutions.proofs.Loops.{ends_meets}
 use Rattle.solutions.proofs.Runs.{ends_more}
 use Rattle.equation_law.specs.declared.coding.Instance.{Instance as CodedInstance}
+use Rattle.equation_law.specs.declared.coding.Instance.TheVariants as coded_instance
 use Rattle.equation_law.specs.declared.coding.Value.{Value as CodedValue}
-use Rattle.equation_law.specs.Checked.{IsInstance}
-use Rattle.equation_law.specs.Codes.{AreElements, IsSmall, Naming, instance_of, source_names, value_at, value_by, value_coded, value_of}
+use Rattle.equation_law.specs.declared.system.System.{System}
+use Rattle.equation_law.specs.Checked.{IsInstance, IsProgram, IsValue, int, node, nodes, text, texts, truth}
+use Rattle.equation_law.specs.Codes.{AreElements, ByEachNaming, ByEachOrder, IsNamingOf, IsSmall, IsValueCode, Naming, instance_by, instance_of, source_names, value_by, value_coded}
 use Rattle.equation_law.specs.Equations.{HasValue, equations_of, is_ordered, kind_in}
 use Rattle.equation_law.specs.Loops.{Leads}
 use Rattle.equation_law.specs.Names.{Instance}
 use Rattle.equation_law.specs.Program.{Program, text_of}
 use Rattle.equation_law.specs.Systems.{program_of}
 use Rattle.equation_law.specs.Values.{Value, as_kind}
+use Rattle.equation_law.proofs.QueryValues.{value_typed}
 use Rattle.equation_law.proofs.Solution.{ended, met_leads, one}
+use Rattle.equation_law.proofs.Sources.{source_naming}
+use Rattle.equation_law.proofs.Tied.{instance_tied, value_tied}
 use Rattle.attr_rules.specs.declared.kinds.Kind.{Kind}
 use Rattle.attr_rules.specs.declared.kinds.Kind.TheVariants as kinds
 use Rattle.attr_rules.specs.Rules.{is_single}
+use Rattle.memo_cells.specs.declared.keys.Slot.{Slot}
 use Rattle.memo_cells.specs.declared.view.Frame.{Frame}
 use Rattle.memo_cells.specs.declared.view.View.{View}
 use Rattle.memo_cells.specs.Naming.{IsCellOf, StandsFor}
 use Rattle.memo_cells.specs.Showing.{ShowsAtLeast}
 use Rattle.memo_cells.specs.Standing.{AreApproximations, HaveCodes, IsCodeOf, IsPassOf, Knows, MaySettle}
 use Rattle.memo_cells.specs.Views.{Has, IsAtLeast, IsUnset, IsUnsettled}
-use Rattle.memo_cells.specs.Working.{IsKnown}
+use Rattle.memo_cells.specs.Working.{Held, IsInstanceByEach, IsKnown, program_at}
 use Rattle.memo_cells.proofs.Naming.{knows_later, stands_later, word_once}
 use Rattle.memo_cells.proofs.ValueWords.{codes_had}
 use Rattle.memo_cells.specs.SetShown.{IsShownValue}
+use Rattle.circular_eval.proofs.Tied.{typed_tied}
+use Rattle.caller_pass.specs.Holding.{FindsCodeAt, IsKindAt, IsKnownCell}
 use Rattle.caller_pass.specs.Knowing.{HasEnded, IsKnownValue, IsSettledAt}
 
 -- the cell of what is known
@@ -60,29 +68,30 @@ module _ (p : Program) (f : Frame) (v : View) (same : p ≡ program_of f.system.
   has_value i k = let code = code_of i k.slot k.key k.code k.stands k.settled in (code.value, code.has)
 
   -- a settled code, read at the type of the instance
-  pub known_value_is : (i : Instance) (slot code : ℕ) (kind : Kind) (x : CodedValue) → IsSettledAt p f v i slot code → kind ≡ kind_in p i → is_single kind ≡ true → ((n : Naming) → value_by n x ≡ value_coded n kind code) → AreElements p x → IsKnownValue p v i x
-  known_value_is i slot code kind x s kinds single is elements =
+  pub known_value_is : (names : Naming) → IsNamingOf p names → (i : Instance) (slot code : ℕ) (kind : Kind) (x : CodedValue) → IsSettledAt p f v i slot code → kind ≡ kind_in p i → is_single kind ≡ true → ((n : Naming) → value_by n x ≡ value_coded n kind code) → AreElements p x
+      → IsKnownValue p names v i x
+  known_value_is names named i slot code kind x s kinds single is elements =
       let of = code_of i slot s.key code s.stands s.settled in
       record {
         value = of.value;
         known = (record { key = s.key; stands = s.stands; slot = slot; code = code; settled = s.settled }, of.has);
-        coded = is (source_names (text_of p)) ∙ ap (λ (k : Kind). value_at (text_of p) k code) kinds ∙ of.coded (ap is_single (sym kinds) ∙ single);
+        coded = is names ∙ ap (λ (k : Kind). value_coded names k code) kinds ∙ of.coded (ap is_single (sym kinds) ∙ single) names named;
         elements = elements;
       }
 
   -- what a look at the cell of an instance told, where `u` is what the pass knew before it
-  module _ (u : View) (kept : IsAtLeast u v) (i : CodedInstance) (slot : ℕ) (cell : IsCellOf (program_of f.system.value) f u (instance_of (program_of f.system.value) i) slot) where
-    its : IsCellOf p f u (instance_of p i) slot
-    its = subst (λ (q : Program). IsCellOf q f u (instance_of q i) slot) (sym same) cell
+  module _ (u : View) (kept : IsAtLeast u v) (i : Instance) (slot : ℕ) (cell : IsCellOf (program_of f.system.value) f u i slot) where
+    its : IsCellOf p f u i slot
+    its = subst (λ (q : Program). IsCellOf q f u i slot) (sym same) cell
 
-    stands : StandsFor p v its.0 (instance_of p i)
-    stands = stands_later u v kept p its.0 (instance_of p i) its.2
+    stands : StandsFor p v its.0 i
+    stands = stands_later u v kept p its.0 i its.2
 
-    pub seen_code : (code : ℕ) → ((k : ℕ) → Has u.keys (slot, k) → Has v.values (slot, k, code)) → IsSettledAt p f v (instance_of p i) slot code
+    pub seen_code : (code : ℕ) → ((k : ℕ) → Has u.keys (slot, k) → Has v.values (slot, k, code)) → IsSettledAt p f v i slot code
     seen_code code settled = record { key = its.0; there = (its.1.0, kept.keys slot its.0 its.1.1); stands = stands; settled = settled its.0 its.1.1 }
 
-    pub seen_unset : ArePooled p.texts → IsUnsettled u v slot → ¬ Knows p v (instance_of p i)
-    seen_unset pooled none = unknown_unset p f v (instance_of p i) its.0 own pooled stands (none.unset its.0 its.1.1)
+    pub seen_unset : ArePooled p.texts → IsUnsettled u v slot → ¬ Knows p v i
+    seen_unset pooled none = unknown_unset p f v i its.0 own pooled stands (none.unset its.0 its.1.1)
 
 -- an instance whose cell was settled is known
 pub settled_knows : (p : Program) (f : Frame) (u v : View) (i : Instance) (slot code : ℕ) → IsAtLeast u v → IsCellOf p f u i slot → ((k : ℕ) → Has u.keys (slot, k) → Has v.values (slot, k, code)) → Knows p v i
@@ -98,8 +107,27 @@ pub stuck_leads : (p : Program) (v : View) (i j : Instance) (ds : List Instance)
 stuck_leads p v i j ds h = met_leads p i j (halts_meets (λ k w a. a.1) h)
 
 -- an equation that ended has that value
-pub ended_value : (p : Program) (v : View) (i : Instance) (x : CodedValue) → HasEnded p v i x → HasValue p i (value_of (text_of p) x)
-ended_value p v i x e = ended p i (value_of (text_of p) x) e.demands (ends_more (λ k w a. a.1) e.ends)
+pub ended_value : (p : Program) (names : Naming) (v : View) (i : Instance) (x : CodedValue) → HasEnded p names v i x → HasValue p i (value_by names x)
+ended_value p names v i x e = ended p i (value_by names x) e.demands (ends_more (λ k w a. a.1) e.ends)
+
+-- an equation that ended with a value by one naming ended with it by each
+pub ended_each : (p : Program) → IsProgram p → (names : Naming) → IsNamingOf p names → (v : View) (i : CodedInstance) (x : CodedValue) → IsInstance p (instance_by p names i) → HasEnded p names v (instance_by p names i) x → ByEachNaming p (λ others. HasEnded p others v (instance_by p others i) x)
+ended_each p good names named v i x instance e others other =
+    let j = instance_by p names i in
+    let typed = value_typed p good j instance (value_by names x) (ended_value p names v j x e) in
+    let value : value_by others x ≡ value_by names x = typed_tied p named (kind_in p j) x e.elements typed others other in
+    let same : instance_by p others i ≡ j = instance_tied p named i instance others other in
+    record {
+      demands = e.demands;
+      ends = subst (λ (k : Instance). Ends (IsKnown p v) ((equations_of p).equation k) (value_by others x) e.demands) (sym same) (subst (λ (w : Value). Ends (IsKnown p v) ((equations_of p).equation j) w e.demands) (sym value) e.ends);
+      elements = e.elements;
+    }
+
+-- so it did where it did by each naming whose codes are in the order of their nodes
+pub ended_by_each : (p : Program) → IsProgram p → (v : View) (i : CodedInstance) (x : CodedValue) → IsInstanceByEach p i → ByEachOrder p (λ names. HasEnded p names v (instance_by p names i) x) → ByEachNaming p (λ names. HasEnded p names v (instance_by p names i) x)
+ended_by_each p good v i x instance h =
+    let plain = source_naming p in
+    ended_each p good (source_names (text_of p)) plain.0 v i x (instance (source_names (text_of p)) plain.0) (h (source_names (text_of p)) plain.0 plain.1)
 
 -- the elements of a value have codes, once the words of a set show it
 codes_of : (p : Program) (v : View) (a : AreApproximations p v) (i : Instance) (x : Value) (k : Kind) → kind_in p i ≡ k → (is_single k ≡ false → ShowsAtLeast p v i k x) → HaveCodes p k x
@@ -110,9 +138,23 @@ codes_of p v a i x (kinds.Node d) e shown = tt
 codes_of p v a i x kinds.Texts e shown = codes_had p v a i x kinds.Texts e (shown refl)
 codes_of p v a i x (kinds.Nodes d) e shown = codes_had p v a i x (kinds.Nodes d) e (shown refl)
 
+-- a value of a type, read at it, is one
+read_typed : (p : Program) (k : Kind) (x : Value) → IsValue p k x → IsValue p k (as_kind k x)
+read_typed p _ _ (truth b) = truth b
+read_typed p _ _ (int z h) = int z h
+read_typed p _ _ (text t h) = text t h
+read_typed p _ _ (node c r h) = node c r h
+read_typed p _ _ (texts s h) = texts s h
+read_typed p _ _ (nodes c s h) = nodes c s h
+
+-- so its code is tied to it
+code_tied : (p : Program) {names : Naming} → IsNamingOf p names → (k : Kind) (code : ℕ) (x : Value) → IsValue p k x → value_coded names k code ≡ as_kind k x → IsValueCode p k code (as_kind k x)
+code_tied p named k code x typed is n other = value_tied p named k code (subst (IsValue p k) (sym is) (read_typed p k x typed)) n other ∙ is
+
 -- its code may be settled, once the words of a set show it
-pub may_settle : (p : Program) (f : Frame) (u v : View) (i : Instance) (slot code : ℕ) (kind : Kind) (x : CodedValue) → AreApproximations p v → IsInstance p i → IsAtLeast u v → IsCellOf p f v i slot → HasEnded p u i x → (equations_of p).circular i ≡ false → kind ≡ kind_in p i → (is_single kind ≡ true → value_at (text_of p) kind code ≡ as_kind kind (value_of (text_of p) x)) → IsSmall kind code → code < 2 ^ 32 → (is_single kind ≡ false → ShowsAtLeast p v i kind (value_of (text_of p) x)) → MaySettle p v slot code
-may_settle p f u v i slot code kind x words instance kept cell done plain kinds is small fits shown = record {
+pub may_settle : (p : Program) (names : Naming) → IsNamingOf p names → IsProgram p → (f : Frame) (u v : View) (i : Instance) (slot code : ℕ) (kind : Kind) (x : CodedValue) → AreApproximations p v → IsInstance p i → IsAtLeast u v → IsCellOf p f v i slot → HasEnded p names u i x → (equations_of p).circular i ≡ false
+    → kind ≡ kind_in p i → (is_single kind ≡ true → value_coded names kind code ≡ as_kind kind (value_by names x)) → IsSmall kind code → code < 2 ^ 32 → (is_single kind ≡ false → ShowsAtLeast p v i kind (value_by names x)) → MaySettle p v slot code
+may_settle p names named good f u v i slot code kind x words instance kept cell done plain kinds is small fits shown = record {
   key = cell.0;
   here = cell.1.1;
   settled = record {
@@ -120,14 +162,15 @@ may_settle p f u v i slot code kind x words instance kept cell done plain kinds 
     instance = instance;
     stands = cell.2;
     code = record {
-      value = value_of (text_of p) x;
-      has = ended_value p u i x done;
-      coded = subst (λ (k : Kind). is_single k ≡ true → value_at (text_of p) k code ≡ as_kind k (value_of (text_of p) x)) kinds is;
+      value = value_by names x;
+      has = ended_value p names u i x done;
+      coded = subst (λ (k : Kind). is_single k ≡ true → IsValueCode p k code (as_kind k (value_by names x))) kinds
+          (λ single. code_tied p named kind code (value_by names x) (subst (λ (k : Kind). IsValue p k (value_by names x)) (sym kinds) (value_typed p good i instance (value_by names x) (ended_value p names u i x done))) (is single));
       small = subst (λ (k : Kind). IsSmall k code) kinds small;
       fits = fits;
-      elements = codes_of p v words i (value_of (text_of p) x) (kind_in p i) refl (subst (λ (k : Kind). is_single k ≡ false → ShowsAtLeast p v i k (value_of (text_of p) x)) kinds shown);
+      elements = codes_of p v words i (value_by names x) (kind_in p i) refl (subst (λ (k : Kind). is_single k ≡ false → ShowsAtLeast p v i k (value_by names x)) kinds shown);
     };
-    shown = subst (λ (k : Kind). is_single k ≡ false → ShowsAtLeast p v i k (value_of (text_of p) x)) kinds shown;
+    shown = subst (λ (k : Kind). is_single k ≡ false → ShowsAtLeast p v i k (value_by names x)) kinds shown;
     closed = λ j meets. knows_later u v kept p j ((ends_meets (λ k a b g h. one p k a b g.1 h) done.ends meets).1.0);
   };
   undeclared = plain;
@@ -146,8 +189,26 @@ pub found_knows : (p : Program) (f : Frame) (v : View) (i : Instance) (slot code
 found_knows p f v i slot code s = record { key = s.key; stands = s.stands; slot = slot; code = code; settled = s.settled }
 
 -- the value that the words of a set show, whose cell was seen settled
-pub known_shown : (p : Program) (v w : View) (i : Instance) (x : CodedValue) → IsAtLeast v w → Knows p v i → IsShownValue p v w i x → IsKnownValue p w i x
-known_shown p v w i x kept k h = let value = h.settled k in record { value = value.0; known = (knows_later v w kept p i k, value.1); coded = value.2; elements = h.elements }
+pub known_shown : (p : Program) (names : Naming) → IsNamingOf p names → (v w : View) (i : Instance) (x : CodedValue) → IsAtLeast v w → Knows p v i → IsShownValue p v w i x → IsKnownValue p names w i x
+known_shown p names named v w i x kept k h = let value = h.settled k in record { value = value.0; known = (knows_later v w kept p i k, value.1); coded = value.2 names named; elements = h.elements }
+
+-- the type of the values of an instance hangs on no naming
+pub kind_same : (p : Program) (names others : Naming) (i : CodedInstance) → kind_in p (instance_by p names i) ≡ kind_in p (instance_by p others i)
+kind_same p names others (coded_instance.Attr a m xs) = refl
+kind_same p names others (coded_instance.Query q) = refl
+
+-- so the type that is told is theirs by each
+pub kind_each : (d : Held) (s : System) (i : CodedInstance) (kind : Kind) → d.frame.system.value ≡ s → kind ≡ kind_in (program_of s) (instance_of (program_of s) i) → IsKindAt d i kind
+kind_each d s i kind same is = λ names named.
+    subst (λ (t : System). kind ≡ kind_in (program_of t) (instance_of (program_of t) i)) (sym same) is ∙ kind_same (program_at d) (source_names (text_of (program_at d))) names i
+
+-- the cell of what was found settled, as it is seen then
+pub found_settled : (d e : Held) (i : CodedInstance) (slot : Slot) (code : ℕ) → e.frame ≡ d.frame → FindsCodeAt d e i (Some (slot, code)) → IsKnownCell e i slot
+found_settled d e i slot code cells h =
+    let here : FindsCodeAt e e i (Some (slot, code)) = subst (λ (f : Frame). FindsCodeAt (record { frame = f; view = d.view; lender = d.lender }) e i (Some (slot, code))) (sym cells) h in
+    λ good names named.
+    let s = here good names named in
+    ((s.key, s.there, s.stands), found_knows (program_at e) e.frame e.view (instance_by (program_at e) names i) slot.0 code s)
 
 -- sets are ordered
 pub set_ordered : (k : Kind) → is_single k ≡ false → is_ordered k ≡ true

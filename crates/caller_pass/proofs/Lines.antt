@@ -3,7 +3,7 @@ use Rattle.std.proofs.Common.{◌≡◌, ◌⊎◌, inl, inr, ⊎_elim, true, fa
 use Rattle.solutions.specs.Leading.{more, none}
 use Rattle.equation_law.specs.contracts.coding.InstancePartialEq.TheImpl as equality
 use Rattle.equation_law.specs.declared.coding.Instance.{Instance as CodedInstance}
-use Rattle.equation_law.specs.Codes.{instance_of}
+use Rattle.equation_law.specs.Codes.{Naming, instance_by}
 use Rattle.equation_law.specs.Equations.{equations_of}
 use Rattle.equation_law.specs.Loops.{Chain, HasLoop, Leads}
 use Rattle.equation_law.specs.Names.{Instance}
@@ -93,14 +93,14 @@ module _ (p : Program) where
   led_both (x ∷ y ∷ xs) j ys a b = (a.0, led_both (y ∷ xs) j ys a.1 b)
 
   -- what waits for something leads to it
-  pub waits_chain : (f : Frame) (v : View) (i : Instance) (way : Option Local) (n : Instance) → WaitsBy p f v i way n → Chain p i n
-  waits_chain f v i None n w = more w none
-  waits_chain f v i (Some l) n w = more w.0 w.3
+  pub waits_chain : (names : Naming) (f : Frame) (v : View) (i : Instance) (way : Option Local) (n : Instance) → WaitsBy p names f v i way n → Chain p i n
+  waits_chain names f v i None n w = more w none
+  waits_chain names f v i (Some l) n w = more w.0 w.3
 
   -- the first that waits reaches what the last waits for
-  pub waiting_chain : (f : Frame) (v : View) (e : CodedInstance × Waiter) (es : List (CodedInstance × Waiter)) (n : Instance) → AreWaiting p f v (e ∷ es) n → Chain p (instance_of p e.0) n
-  waiting_chain f v e [] n w = waits_chain f v (instance_of p e.0) (way_of e.1) n w
-  waiting_chain f v e (d ∷ es) n w = chain_then p (waits_chain f v (instance_of p e.0) (way_of e.1) (instance_of p d.0) w.0) (waiting_chain f v d es n w.1)
+  pub waiting_chain : (names : Naming) (f : Frame) (v : View) (e : CodedInstance × Waiter) (es : List (CodedInstance × Waiter)) (n : Instance) → AreWaiting p names f v (e ∷ es) n → Chain p (instance_by p names e.0) n
+  waiting_chain names f v e [] n w = waits_chain names f v (instance_by p names e.0) (way_of e.1) n w
+  waiting_chain names f v e (d ∷ es) n w = chain_then p (waits_chain names f v (instance_by p names e.0) (way_of e.1) (instance_by p names d.0) w.0) (waiting_chain names f v d es n w.1)
 
 -- one that waits stands among the entries
 found : (es : List (CodedInstance × Waiter)) (i : CodedInstance) → waits es i ≡ true → (e : CodedInstance × Waiter) × Has es e × (e.0 ≡ i)
@@ -117,11 +117,11 @@ split [] x h = absurd h
 split (y ∷ xs) x h = ⊎_elim (λ same. ([], xs, ap (λ z. z ∷ xs) (sym same))) (λ later. let r = split xs x later in (y ∷ r.0, r.1, ap (λ l. y ∷ l) r.2)) h
 
 -- the line to one that waits already is a loop
-pub loop_of : (p : Program) (e : CodedInstance × Waiter) (es : List (CodedInstance × Waiter)) (on : CodedInstance) (line : List Instance) → IsLineTo p (e ∷ es) (instance_of p on) line → waits (e ∷ es) on ≡ true → (equations_of p).circular (instance_of p on) ≡ false → IsLoop p (instance_of p e.0) (instance_of p on) line
-loop_of p e es on line l there plain =
+pub loop_of : (p : Program) (names : Naming) (e : CodedInstance × Waiter) (es : List (CodedInstance × Waiter)) (on : CodedInstance) (line : List Instance) → IsLineTo p names (e ∷ es) (instance_by p names on) line → waits (e ∷ es) on ≡ true → (equations_of p).circular (instance_by p names on) ≡ false → IsLoop p (instance_by p names e.0) (instance_by p names on) line
+loop_of p names e es on line l there plain =
     let at = found (e ∷ es) on there in
-    let in_front : Has l.front (instance_of p on) = subst (λ (i : CodedInstance). Has l.front (instance_of p i)) at.2 (l.among at.0 at.1) in
-    let parts = split l.front (instance_of p on) in_front in
+    let in_front : Has l.front (instance_by p names on) = subst (λ (i : CodedInstance). Has l.front (instance_by p names i)) at.2 (l.among at.0 at.1) in
+    let parts = split l.front (instance_by p names on) in_front in
     let first = l.starts e es refl in
     record {
       rest = first.0;
@@ -129,7 +129,7 @@ loop_of p e es on line l there plain =
       led = l.led;
       front = parts.0;
       back = parts.1;
-      twice = l.ends ∙ ap (λ ns. ns ++ instance_of p on ∷ []) parts.2 ∙ assoc parts.0 (instance_of p on ∷ parts.1) (instance_of p on ∷ []);
+      twice = l.ends ∙ ap (λ ns. ns ++ instance_by p names on ∷ []) parts.2 ∙ assoc parts.0 (instance_by p names on ∷ parts.1) (instance_by p names on ∷ []);
       undeclared = plain;
     }
 
@@ -157,16 +157,16 @@ loop_ends p i on chain l =
     }
 
 -- so does the line to an instance that has one
-pub line_ends : (p : Program) (e : CodedInstance × Waiter) (es : List (CodedInstance × Waiter)) (on : Instance) (line : List Instance) → IsLineTo p (e ∷ es) on line → HasLoop p on → (equations_of p).circular on ≡ false → EndsAtLoop p (instance_of p e.0) on line
-line_ends p e es on line l has plain =
+pub line_ends : (p : Program) (names : Naming) (e : CodedInstance × Waiter) (es : List (CodedInstance × Waiter)) (on : Instance) (line : List Instance) → IsLineTo p names (e ∷ es) on line → HasLoop p on → (equations_of p).circular on ≡ false → EndsAtLoop p (instance_by p names e.0) on line
+line_ends p names e es on line l has plain =
     let first = l.starts e es refl in
     record { rest = first.0; starts = first.1; led = l.led; front = l.front; ends = l.ends; undeclared = plain; loop = has }
 
 -- the line to one that waits already, or is known to have a loop
-pub met_loop : (p : Program) (e : CodedInstance × Waiter) (es : List (CodedInstance × Waiter)) (on : CodedInstance) (line : List Instance) → IsLineTo p (e ∷ es) (instance_of p on) line → (waits (e ∷ es) on ≡ true) ⊎ HasLoop p (instance_of p on) → (equations_of p).circular (instance_of p on) ≡ false → EndsAtLoop p (instance_of p e.0) (instance_of p on) line
-met_loop p e es on line l why plain = ⊎_elim
-    (λ there. loop_ends p (instance_of p e.0) (instance_of p on) line (loop_of p e es on line l there plain))
-    (λ has. line_ends p e es (instance_of p on) line l has plain)
+pub met_loop : (p : Program) (names : Naming) (e : CodedInstance × Waiter) (es : List (CodedInstance × Waiter)) (on : CodedInstance) (line : List Instance) → IsLineTo p names (e ∷ es) (instance_by p names on) line → (waits (e ∷ es) on ≡ true) ⊎ HasLoop p (instance_by p names on) → (equations_of p).circular (instance_by p names on) ≡ false → EndsAtLoop p (instance_by p names e.0) (instance_by p names on) line
+met_loop p names e es on line l why plain = ⊎_elim
+    (λ there. loop_ends p (instance_by p names e.0) (instance_by p names on) line (loop_of p names e es on line l there plain))
+    (λ has. line_ends p names e es (instance_by p names on) line l has plain)
     why
 
 -- such a chain behind a path
@@ -214,14 +214,14 @@ pub ends_has : (p : Program) (i on : Instance) (chain : List Instance) → EndsA
 ends_has p i on chain l = each_has p i on chain l i (subst (λ (c : List Instance). Has c i) (sym l.starts) (inl refl))
 
 -- so does the start of a local set what its instance waits for
-way_chain : (p : Program) (f : Frame) (v : View) (i : Instance) (way : Option Local) (n : Instance) → WaitsBy p f v i way n → (l : Local) → way ≡ Some l → Chain p (instance_of p l.start) n
-way_chain p f v i way n w l is = (subst (λ (o : Option Local). WaitsBy p f v i o n) is w).3
+way_chain : (p : Program) (names : Naming) (f : Frame) (v : View) (i : Instance) (way : Option Local) (n : Instance) → WaitsBy p names f v i way n → (l : Local) → way ≡ Some l → Chain p (instance_by p names l.start) n
+way_chain p names f v i way n w l is = (subst (λ (o : Option Local). WaitsBy p names f v i o n) is w).3
 
 -- the start of a local set through which one waits reaches what the last waits for
-pub start_chain : (p : Program) (f : Frame) (v : View) (es : List (CodedInstance × Waiter)) (n : Instance) → AreWaiting p f v es n → (e : CodedInstance × Waiter) → Has es e → (l : Local) → way_of e.1 ≡ Some l → Chain p (instance_of p l.start) n
-start_chain p f v [] n w e h l is = absurd h
-start_chain p f v (d ∷ []) n w e h l is = ⊎_elim (λ here. way_chain p f v (instance_of p d.0) (way_of d.1) n w l (ap (λ (x : CodedInstance × Waiter). (way_of x.1)) (sym here) ∙ is)) absurd h
-start_chain p f v (d ∷ c ∷ es) n w e h l is = ⊎_elim
-    (λ here. chain_then p (way_chain p f v (instance_of p d.0) (way_of d.1) (instance_of p c.0) w.0 l (ap (λ (x : CodedInstance × Waiter). (way_of x.1)) (sym here) ∙ is)) (waiting_chain p f v c es n w.1))
-    (λ later. start_chain p f v (c ∷ es) n w.1 e later l is)
+pub start_chain : (p : Program) (names : Naming) (f : Frame) (v : View) (es : List (CodedInstance × Waiter)) (n : Instance) → AreWaiting p names f v es n → (e : CodedInstance × Waiter) → Has es e → (l : Local) → way_of e.1 ≡ Some l → Chain p (instance_by p names l.start) n
+start_chain p names f v [] n w e h l is = absurd h
+start_chain p names f v (d ∷ []) n w e h l is = ⊎_elim (λ here. way_chain p names f v (instance_by p names d.0) (way_of d.1) n w l (ap (λ (x : CodedInstance × Waiter). (way_of x.1)) (sym here) ∙ is)) absurd h
+start_chain p names f v (d ∷ c ∷ es) n w e h l is = ⊎_elim
+    (λ here. chain_then p (way_chain p names f v (instance_by p names d.0) (way_of d.1) (instance_by p names c.0) w.0 l (ap (λ (x : CodedInstance × Waiter). (way_of x.1)) (sym here) ∙ is)) (waiting_chain p names f v c es n w.1))
+    (λ later. start_chain p names f v (c ∷ es) n w.1 e later l is)
     h

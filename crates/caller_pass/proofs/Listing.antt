@@ -1,15 +1,15 @@
 -- The list of the instances that wait, with those by which their local sets lead to what they need.
-use Rattle.std.proofs.Common.{◌≡◌, ℕ, inl, inr, ⊎_elim, List, [], ◌∷◌, ◌++◌, Option, Some, None, Result, Ok, Err, OnOk, map, refl, sym, ap, subst, ◌∙◌}
+use Rattle.std.proofs.Common.{◌≡◌, inl, inr, ⊎_elim, List, [], ◌∷◌, ◌++◌, Option, Some, None, Result, Ok, Err, OnOk, map, refl, sym, ap, subst, ◌∙◌}
 use Rattle.rag_io.specs.declared.Memory.{Memory}
 use Rattle.equation_law.specs.declared.coding.Instance.{Instance as CodedInstance}
-use Rattle.equation_law.specs.Codes.{instance_of}
+use Rattle.equation_law.specs.Codes.{Naming, instance_by}
 use Rattle.equation_law.specs.Names.{Instance}
 use Rattle.equation_law.specs.Program.{Program}
 use Rattle.memo_cells.specs.declared.view.Frame.{Frame}
 use Rattle.memo_cells.specs.declared.view.View.{View}
 use Rattle.memo_cells.specs.Views.{Has}
 use Rattle.circular_eval.specs.declared.local.Local.{Local}
-use Rattle.circular_eval.specs.Advancing.{AreLed, IsPath}
+use Rattle.circular_eval.specs.Advancing.{AreLed, IsPath, IsPathIn}
 use Rattle.circular_eval.specs.Local.{IsLocal}
 use Rattle.caller_pass.specs.declared.waiting.Waiter.{Waiter}
 use Rattle.caller_pass.specs.Waiting.{AreWaiting, HasPart, IsLineTo, Needed, WaitsBy, way_of}
@@ -18,7 +18,7 @@ use Rattle.caller_pass.proofs.Lines.{assoc, begins, led_both}
 -- a path of the local set to what it needed last, without that
 abbrev pub IsPartOf : Option Local → List CodedInstance → Type 0
 IsPartOf None part = part ≡ []
-IsPartOf (Some l) part = (p : Program) (f : Frame) (v : View) (n : Instance) → IsLocal p f v l → Needed p l n → IsPath p (instance_of p l.start) n (map (instance_of p) part ++ n ∷ [])
+IsPartOf (Some l) part = (p : Program) (names : Naming) (f : Frame) (v : View) (n : Instance) → IsLocal p names f v l → Needed p names l n → IsPath p (instance_by p names l.start) n (map (instance_by p names) part ++ n ∷ [])
 
 -- each instance that waits, with the path of its local set behind it
 abbrev pub AreListed : List (CodedInstance × Waiter) → List CodedInstance → Type 0
@@ -56,69 +56,69 @@ has_right [] ys x h = h
 has_right (z ∷ xs) ys x h = inr (has_right xs ys x h)
 
 -- the first of them, or what the last waits for
-abbrev next_of : Program → List (CodedInstance × Waiter) → Instance → Instance
-next_of p [] n = n
-next_of p (e ∷ es) n = instance_of p e.0
+abbrev next_of : Program → Naming → List (CodedInstance × Waiter) → Instance → Instance
+next_of p names [] n = n
+next_of p names (e ∷ es) n = instance_by p names e.0
 
-module _ (p : Program) (f : Frame) (v : View) where
+module _ (p : Program) (names : Naming) (f : Frame) (v : View) where
   -- the first waits for the next one
-  first_waits : (e : CodedInstance × Waiter) (es : List (CodedInstance × Waiter)) (n : Instance) → AreWaiting p f v (e ∷ es) n → WaitsBy p f v (instance_of p e.0) (way_of e.1) (next_of p es n) × AreWaiting p f v es n
+  first_waits : (e : CodedInstance × Waiter) (es : List (CodedInstance × Waiter)) (n : Instance) → AreWaiting p names f v (e ∷ es) n → WaitsBy p names f v (instance_by p names e.0) (way_of e.1) (next_of p names es n) × AreWaiting p names f v es n
   first_waits e [] n h = (h, tt)
   first_waits e (d ∷ es) n h = (h.0, h.1)
 
   -- it leads there by the path of its local set
-  led_by : (i : Instance) (way : Option Local) (part : List CodedInstance) (m : Instance) (tail : List Instance) → IsPartOf way part → WaitsBy p f v i way m → AreLed p (m ∷ tail) → AreLed p (i ∷ (map (instance_of p) part ++ m ∷ tail))
-  led_by i None part m tail none w led = subst (λ (xs : List CodedInstance). AreLed p (i ∷ (map (instance_of p) xs ++ m ∷ tail))) (sym none) (w, led)
+  led_by : (i : Instance) (way : Option Local) (part : List CodedInstance) (m : Instance) (tail : List Instance) → IsPartOf way part → WaitsBy p names f v i way m → AreLed p (m ∷ tail) → AreLed p (i ∷ (map (instance_by p names) part ++ m ∷ tail))
+  led_by i None part m tail none w led = subst (λ (xs : List CodedInstance). AreLed p (i ∷ (map (instance_by p names) xs ++ m ∷ tail))) (sym none) (w, led)
   led_by i (Some l) part m tail its w led =
-      let path = its p f v m w.1 w.2 in
-      let first = begins (map (instance_of p) part) m (instance_of p l.start) path.rest tail path.starts in
-      let all = led_both p (map (instance_of p) part) m tail path.led led in
-      let front : AreLed p (i ∷ (instance_of p l.start ∷ first.0)) = (w.0, subst (AreLed p) first.1 all) in
+      let path = its p names f v m w.1 w.2 in
+      let first = begins (map (instance_by p names) part) m (instance_by p names l.start) path.rest tail path.starts in
+      let all = led_both p (map (instance_by p names) part) m tail path.led led in
+      let front : AreLed p (i ∷ (instance_by p names l.start ∷ first.0)) = (w.0, subst (AreLed p) first.1 all) in
       subst (λ (xs : List Instance). AreLed p (i ∷ xs)) (sym first.1) front
 
-  lines : (es : List (CodedInstance × Waiter)) (xs : List CodedInstance) (n : Instance) → AreListed es xs → AreWaiting p f v es n → (tail : List Instance) × (map (instance_of p) xs ++ n ∷ [] ≡ next_of p es n ∷ tail) × AreLed p (next_of p es n ∷ tail)
-  lines [] xs n h w = ([], ap (λ (l : List CodedInstance). map (instance_of p) l ++ n ∷ []) h, tt)
+  lines : (es : List (CodedInstance × Waiter)) (xs : List CodedInstance) (n : Instance) → AreListed es xs → AreWaiting p names f v es n → (tail : List Instance) × (map (instance_by p names) xs ++ n ∷ [] ≡ next_of p names es n ∷ tail) × AreLed p (next_of p names es n ∷ tail)
+  lines [] xs n h w = ([], ap (λ (l : List CodedInstance). map (instance_by p names) l ++ n ∷ []) h, tt)
   lines (e ∷ es) xs n h w =
       let parts = first_waits e es n w in
       let rest = lines es h.1 n h.4 parts.1 in
-      let m = next_of p es n in
-      let whole : map (instance_of p) xs ++ n ∷ [] ≡ instance_of p e.0 ∷ (map (instance_of p) h.0 ++ m ∷ rest.0) =
-      ap (λ (l : List CodedInstance). map (instance_of p) l ++ n ∷ []) h.2
-      ∙ ap (λ (l : List Instance). instance_of p e.0 ∷ (l ++ n ∷ [])) (map_both (instance_of p) h.0 h.1)
-      ∙ ap (λ (l : List Instance). instance_of p e.0 ∷ l) (assoc (map (instance_of p) h.0) (map (instance_of p) h.1) (n ∷ []))
-      ∙ ap (λ (l : List Instance). instance_of p e.0 ∷ (map (instance_of p) h.0 ++ l)) rest.1 in
-      (map (instance_of p) h.0 ++ m ∷ rest.0, whole, led_by (instance_of p e.0) (way_of e.1) h.0 m rest.0 h.3 parts.0 rest.2)
+      let m = next_of p names es n in
+      let whole : map (instance_by p names) xs ++ n ∷ [] ≡ instance_by p names e.0 ∷ (map (instance_by p names) h.0 ++ m ∷ rest.0) =
+      ap (λ (l : List CodedInstance). map (instance_by p names) l ++ n ∷ []) h.2
+      ∙ ap (λ (l : List Instance). instance_by p names e.0 ∷ (l ++ n ∷ [])) (map_both (instance_by p names) h.0 h.1)
+      ∙ ap (λ (l : List Instance). instance_by p names e.0 ∷ l) (assoc (map (instance_by p names) h.0) (map (instance_by p names) h.1) (n ∷ []))
+      ∙ ap (λ (l : List Instance). instance_by p names e.0 ∷ (map (instance_by p names) h.0 ++ l)) rest.1 in
+      (map (instance_by p names) h.0 ++ m ∷ rest.0, whole, led_by (instance_by p names e.0) (way_of e.1) h.0 m rest.0 h.3 parts.0 rest.2)
 
-all_among : (p : Program) (es : List (CodedInstance × Waiter)) (xs : List CodedInstance) → AreListed es xs → (e : CodedInstance × Waiter) → Has es e → Has (map (instance_of p) xs) (instance_of p e.0)
-all_among p [] xs h e there = absurd there
-all_among p (d ∷ es) xs h e there =
-    let rest = has_right (map (instance_of p) h.0) (map (instance_of p) h.1) (instance_of p e.0) in
-    subst (λ (l : List CodedInstance). Has (map (instance_of p) l) (instance_of p e.0)) (sym h.2) (⊎_elim
-    (λ is. inl (ap (λ (x : CodedInstance × Waiter). instance_of p x.0) is))
-    (λ later. inr (subst (λ (l : List Instance). Has l (instance_of p e.0)) (sym (map_both (instance_of p) h.0 h.1)) (rest (all_among p es h.1 h.4 e later))))
+all_among : (p : Program) (names : Naming) (es : List (CodedInstance × Waiter)) (xs : List CodedInstance) → AreListed es xs → (e : CodedInstance × Waiter) → Has es e → Has (map (instance_by p names) xs) (instance_by p names e.0)
+all_among p names [] xs h e there = absurd there
+all_among p names (d ∷ es) xs h e there =
+    let rest = has_right (map (instance_by p names) h.0) (map (instance_by p names) h.1) (instance_by p names e.0) in
+    subst (λ (l : List CodedInstance). Has (map (instance_by p names) l) (instance_by p names e.0)) (sym h.2) (⊎_elim
+    (λ is. inl (ap (λ (x : CodedInstance × Waiter). instance_by p names x.0) is))
+    (λ later. inr (subst (λ (l : List Instance). Has l (instance_by p names e.0)) (sym (map_both (instance_by p names) h.0 h.1)) (rest (all_among p names es h.1 h.4 e later))))
     there)
 
 -- the list of them is the line to what the last one waits for
-pub listed_line : (p : Program) (f : Frame) (v : View) (es : List (CodedInstance × Waiter)) (xs : List CodedInstance) (on : CodedInstance) → AreListed es xs → AreWaiting p f v es (instance_of p on) → IsLineTo p es (instance_of p on) (map (instance_of p) (xs ++ on ∷ []))
-listed_line p f v es xs on h w =
-    let n = instance_of p on in
-    let line = lines p f v es xs n h w in
-    let ends = map_both (instance_of p) xs (on ∷ []) in
+pub listed_line : (p : Program) (names : Naming) (f : Frame) (v : View) (es : List (CodedInstance × Waiter)) (xs : List CodedInstance) (on : CodedInstance) → AreListed es xs → AreWaiting p names f v es (instance_by p names on) → IsLineTo p names es (instance_by p names on) (map (instance_by p names) (xs ++ on ∷ []))
+listed_line p names f v es xs on h w =
+    let n = instance_by p names on in
+    let line = lines p names f v es xs n h w in
+    let ends = map_both (instance_by p names) xs (on ∷ []) in
     record {
-      front = map (instance_of p) xs;
+      front = map (instance_by p names) xs;
       ends = ends;
       led = subst (AreLed p) (sym (ends ∙ line.1)) line.2;
-      starts = λ e ds is. (line.0, ends ∙ line.1 ∙ ap (λ (l : List (CodedInstance × Waiter)). next_of p l n ∷ line.0) is);
-      among = λ e there. all_among p es xs h e there;
+      starts = λ e ds is. (line.0, ends ∙ line.1 ∙ ap (λ (l : List (CodedInstance × Waiter)). next_of p names l n ∷ line.0) is);
+      among = λ e there. all_among p names es xs h e there;
     }
 
 -- a path without its end, split off
-pub part_of : (l : Local) (chain front : List CodedInstance) (last : CodedInstance) → chain ≡ front ++ last ∷ [] → ((p : Program) (f : Frame) (v : View) (number : ℕ) (need : CodedInstance) → IsLocal p f v l → l.need ≡ Some (number, need) → IsPath p (instance_of p l.start) (instance_of p need) (map (instance_of p) chain)) → (p : Program) (f : Frame) (v : View) (n : Instance) → IsLocal p f v l → Needed p l n → IsPath p (instance_of p l.start) n (map (instance_of p) front ++ n ∷ [])
-part_of l chain front last is paths p f v n local needed =
-    let path = subst (λ (m : Instance). IsPath p (instance_of p l.start) m (map (instance_of p) chain)) needed.is (paths p f v needed.number needed.coded local needed.noted) in
-    let split = ap (map (instance_of p)) is ∙ map_both (instance_of p) front (last ∷ []) in
-    let end = last_is (map (instance_of p) front) path.front (instance_of p last) n (sym split ∙ path.ends) in
-    subst (IsPath p (instance_of p l.start) n) (split ∙ ap (λ (m : Instance). map (instance_of p) front ++ m ∷ []) end) path
+pub part_of : (l : Local) (chain front : List CodedInstance) (last : CodedInstance) → chain ≡ front ++ last ∷ [] → IsPathIn l chain → (p : Program) (names : Naming) (f : Frame) (v : View) (n : Instance) → IsLocal p names f v l → Needed p names l n → IsPath p (instance_by p names l.start) n (map (instance_by p names) front ++ n ∷ [])
+part_of l chain front last is paths p names f v n local needed =
+    let path = subst (λ (m : Instance). IsPath p (instance_by p names l.start) m (map (instance_by p names) chain)) needed.is (paths p names f v needed.number needed.coded local needed.noted) in
+    let split = ap (map (instance_by p names)) is ∙ map_both (instance_by p names) front (last ∷ []) in
+    let end = last_is (map (instance_by p names) front) path.front (instance_by p names last) n (sym split ∙ path.ends) in
+    subst (IsPath p (instance_by p names l.start) n) (split ∙ ap (λ (m : Instance). map (instance_by p names) front ++ m ∷ []) end) path
   where
     last_is : (xs ys : List Instance) (a b : Instance) → xs ++ a ∷ [] ≡ ys ++ b ∷ [] → a ≡ b
     last_is [] [] a b e = cc
@@ -129,18 +129,18 @@ part_of l chain front last is paths p f v n local needed =
     last_is (x ∷ xs) (y ∷ ys) a b e = last_is xs ys a b cc
 
 -- it was added
-pub part_pushed : (l : Local) (chain front : List CodedInstance) (last : CodedInstance) → chain ≡ front ++ last ∷ [] → ((p : Program) (f : Frame) (v : View) (number : ℕ) (need : CodedInstance) → IsLocal p f v l → l.need ≡ Some (number, need) → IsPath p (instance_of p l.start) (instance_of p need) (map (instance_of p) chain)) → (old new : List CodedInstance) (r : Result Unit Memory) → OnOk r (new ≡ old ++ front) → OnOk r (HasPart old new l)
+pub part_pushed : (l : Local) (chain front : List CodedInstance) (last : CodedInstance) → chain ≡ front ++ last ∷ [] → IsPathIn l chain → (old new : List CodedInstance) (r : Result Unit Memory) → OnOk r (new ≡ old ++ front) → OnOk r (HasPart old new l)
 part_pushed l chain front last is paths old new (Ok x) added = record { part = front; added = added; path = part_of l chain front last is paths }
 part_pushed l chain front last is paths old new (Err m) added = tt
 
 -- a path isn't empty
-pub no_part : (l : Local) (chain : List CodedInstance) → chain ≡ [] → ((p : Program) (f : Frame) (v : View) (number : ℕ) (need : CodedInstance) → IsLocal p f v l → l.need ≡ Some (number, need) → IsPath p (instance_of p l.start) (instance_of p need) (map (instance_of p) chain)) → (old : List CodedInstance) → HasPart old old l
+pub no_part : (l : Local) (chain : List CodedInstance) → chain ≡ [] → IsPathIn l chain → (old : List CodedInstance) → HasPart old old l
 no_part l chain is paths old = record {
   part = [];
   added = sym (none old);
-  path = λ p f v n local needed.
-      let path = paths p f v needed.number needed.coded local needed.noted in
-      let empty : [] ≡ instance_of p l.start ∷ path.rest = sym (ap (map (instance_of p)) is) ∙ path.starts in
+  path = λ p names f v n local needed.
+      let path = paths p names f v needed.number needed.coded local needed.noted in
+      let empty : [] ≡ instance_by p names l.start ∷ path.rest = sym (ap (map (instance_by p names)) is) ∙ path.starts in
       cc;
 }
   where

@@ -12,18 +12,19 @@ use Rattle.attr_rules.specs.Rules.{is_single}
 use Rattle.equation_law.specs.declared.coding.Instance.{Instance as CodedInstance}
 use Rattle.equation_law.specs.declared.coding.Value.{Value as CodedValue}
 use Rattle.equation_law.specs.Checked.{IsInstance, IsProgram}
-use Rattle.equation_law.specs.Codes.{AreElements, IsCoded, Naming, instance_of, source_names, value_by, value_of}
+use Rattle.equation_law.specs.Codes.{AreElements, Naming, instance_by, value_by}
 use Rattle.equation_law.specs.Equations.{kind_in}
 use Rattle.equation_law.specs.Names.{Instance}
-use Rattle.equation_law.specs.Program.{Program, text_of}
+use Rattle.equation_law.specs.Program.{Program}
 use Rattle.equation_law.proofs.Keys.{key_is}
 use Rattle.equation_law.proofs.QueryValues.{value_typed}
+use Rattle.memo_cells.specs.declared.keys.Slot.{Slot}
 use Rattle.memo_cells.specs.declared.view.View.{View}
-use Rattle.memo_cells.specs.Naming.{IsCellOf}
 use Rattle.memo_cells.specs.SetShown.{IsShownValueAt}
 use Rattle.memo_cells.specs.Standing.{Knows}
 use Rattle.memo_cells.specs.Views.{Has, IsAtLeast}
 use Rattle.memo_cells.specs.Working.{Held, program_at}
+use Rattle.caller_pass.specs.Holding.{IsKindAt, IsKnownCell, IsReadValueAt}
 use Rattle.caller_pass.specs.Knowing.{HasEnded, IsKnownValue}
 use Rattle.caller_pass.specs.Noting.{IsNoted, IsValueOf}
 use Rattle.caller_pass.proofs.Asked.{typed_as}
@@ -54,21 +55,21 @@ has_at (x ∷ xs) (suc k) d lt = inr (has_at xs k d (omega (arith, lt)))
 
 -- a value once more
 pub noted_copy : (p : Program) (i : CodedInstance) (x y : CodedValue) → ((n : Naming) → value_by n y ≡ value_by n x) → (AreElements p x → AreElements p y) → IsNoted p i x → IsNoted p i y
-noted_copy p i x y same elements note good = let h = note good in record { value = h.value; has = h.has; coded = same (source_names (text_of p)) ∙ h.coded; elements = elements h.elements }
+noted_copy p i x y same elements note good = λ names named. let h = note good names named in record { value = h.value; has = h.has; coded = same names ∙ h.coded; elements = elements h.elements }
 
 -- what is noted of an instance is its value, once its cell is seen settled
-pub noted_known : (p : Program) (v : View) (i : Instance) (x : CodedValue) → IsValueOf p i x → Knows p v i → IsKnownValue p v i x
-noted_known p v i x h k = record { value = h.value; known = (k, h.has); coded = h.coded; elements = h.elements }
+pub noted_known : (p : Program) (names : Naming) (v : View) (i : Instance) (x : CodedValue) → IsValueOf p names i x → Knows p v i → IsKnownValue p names v i x
+noted_known p names v i x h k = record { value = h.value; known = (k, h.has); coded = h.coded; elements = h.elements }
 
 -- a value that is known may be noted
-pub known_noted : (p : Program) (v : View) (i : Instance) (x : CodedValue) → IsKnownValue p v i x → IsValueOf p i x
-known_noted p v i x h = record { value = h.value; has = h.known.1; coded = h.coded; elements = h.elements }
+pub known_noted : (p : Program) (names : Naming) (v : View) (i : Instance) (x : CodedValue) → IsKnownValue p names v i x → IsValueOf p names i x
+known_noted p names v i x h = record { value = h.value; has = h.known.1; coded = h.coded; elements = h.elements }
 
 -- so may that of an equation that ended
-pub ended_noted : (p : Program) (v : View) (i : Instance) (x : CodedValue) → IsProgram p → IsInstance p i → HasEnded p v i x → IsValueOf p i x
-ended_noted p v i x good instance h =
-    let has = ended_value p v i x h in
-    record { value = value_of (text_of p) x; has = has; coded = sym (typed_as p (kind_in p i) (value_of (text_of p) x) (value_typed p good i instance (value_of (text_of p) x) has)); elements = h.elements }
+pub ended_noted : (p : Program) (names : Naming) (v : View) (i : Instance) (x : CodedValue) → IsProgram p → IsInstance p i → HasEnded p names v i x → IsValueOf p names i x
+ended_noted p names v i x good instance h =
+    let has = ended_value p names v i x h in
+    record { value = value_by names x; has = has; coded = sym (typed_as p (kind_in p i) (value_by names x) (value_typed p good i instance (value_by names x) has)); elements = h.elements }
 
 -- a copy of what is noted, if there is memory for one
 pub copy_noted : (p : Program) (i : CodedInstance) (x : CodedValue) (r : Result CodedValue Memory) (o : Option CodedValue) → o ≡ result_ok r → IfOk r (λ y. (n : Naming) → value_by n y ≡ value_by n x) → IfOk r (λ y. (q : Program) → AreElements q x → AreElements q y) → IsNoted p i x → IfSome o (λ y. IsNoted p i y)
@@ -76,8 +77,8 @@ copy_noted p i x (Ok y) o is same elements note = subst (λ (z : Option CodedVal
 copy_noted p i x (Err m) o is same elements note = subst (λ (z : Option CodedValue). IfSome z (λ y. IsNoted p i y)) (sym is) tt
 
 -- the value of a set whose cell was seen settled, by what its words show
-pub shown_known : (d e : Held) (i : CodedInstance) (slot : ℕ) (kind : Kind) (x : CodedValue) → IsAtLeast d.view e.view → (IsCoded (program_at d) i → IsCellOf (program_at d) d.frame d.view (instance_of (program_at d) i) slot × Knows (program_at d) d.view (instance_of (program_at d) i)) → kind ≡ kind_in (program_at d) (instance_of (program_at d) i) → is_single kind ≡ false → IsShownValueAt d e slot kind x → IsCoded (program_at d) i → IsKnownValue (program_at d) e.view (instance_of (program_at d) i) x
-shown_known d e i slot kind x kept known kinds set shown good =
-    let j = instance_of (program_at d) i in
-    let k = known good in
-    known_shown (program_at d) d.view e.view j x kept k.1 (shown j k.0 (sym kinds) (set_ordered kind set))
+pub shown_known : (d e : Held) (i : CodedInstance) (slot : Slot) (kind : Kind) (x : CodedValue) → IsAtLeast d.view e.view → IsKnownCell d i slot → IsKindAt d i kind → is_single kind ≡ false → IsShownValueAt d e slot.0 kind x → IsReadValueAt d e i x
+shown_known d e i slot kind x kept known kinds set shown good = λ names named.
+    let j = instance_by (program_at d) names i in
+    let k = known good names named in
+    known_shown (program_at d) names named d.view e.view j x kept k.1 (shown j k.0 (sym (kinds names named)) (set_ordered kind set))

@@ -4,7 +4,7 @@ use Rattle.std.proofs.Common.{◌≡◌, ◌≢◌, ℕ, zero, suc, ◌+◌, ◌
 use Rattle.std.specs.List.{list_any}
 use Rattle.std.proofs.lemmas.Bool.{eq-eqb, eqb-true, or_left, or_right}
 use Rattle.equation_law.specs.declared.coding.Instance.{Instance as CodedInstance}
-use Rattle.equation_law.specs.Codes.{instance_of}
+use Rattle.equation_law.specs.Codes.{Naming, instance_by}
 use Rattle.equation_law.specs.Equations.{equations_of}
 use Rattle.equation_law.specs.Names.{Instance, same_instance}
 use Rattle.equation_law.specs.Program.{Program}
@@ -176,21 +176,21 @@ module _ (p : Program) (f : Frame) (w : View) (own : IsPassOf f w) (g : ℕ → 
       omega (arith, rest, falls)
 
 -- a local set with this start is waited for by one of these
-pub record IsStart (p : Program) (fs : List (CodedInstance × Waiter)) (s : Instance) : Type 0 where
+pub record IsStart (p : Program) (names : Naming) (fs : List (CodedInstance × Waiter)) (s : Instance) : Type 0 where
   pub entry : CodedInstance × Waiter
   pub there : Has fs entry
   pub local : Local
   pub way : way_of entry.1 ≡ Some local
-  pub is : instance_of p local.start ≡ s
+  pub is : instance_by p names local.start ≡ s
 
 -- So many evaluations are paid: by two for each cell that is done, one for each instance that waits, and one for each of some different starts of
 -- local sets that aren't seen sealed. `hs` are starts from outside, each of which pays one less.
-pub record Pays (p : Program) (w : View) (cells : ℕ) (hs : List Instance) (es : List (CodedInstance × Waiter)) (top : CodedInstance × Waiter) (evals budget : ℕ) : Type 0 where
+pub record Pays (p : Program) (names : Naming) (w : View) (cells : ℕ) (hs : List Instance) (es : List (CodedInstance × Waiter)) (top : CodedInstance × Waiter) (evals budget : ℕ) : Type 0 where
   pub open_starts : List Instance
   pub apart : AreApart open_starts
   pub unknown : (s : Instance) → Has open_starts s → ¬ Knows p w s
   pub are_circular : (s : Instance) → Has open_starts s → (equations_of p).circular s ≡ true
-  pub starts : (s : Instance) → Has open_starts s → Has hs s ⊎ IsStart p (es ++ top ∷ []) s
+  pub starts : (s : Instance) → Has open_starts s → Has hs s ⊎ IsStart p names (es ++ top ∷ []) s
   pub paid : evals + 2 * left (done w (es ++ top ∷ [])) cells + length hs ≤ budget + length es + length open_starts
 
 pub none_some : {X : Type 0} {o : Option X} {x : X} → o ≡ None → o ≡ Some x → ⊥
@@ -203,16 +203,16 @@ pub empty_of : {X : Type 0} (xs : List X) → ((x : X) → Has xs x → ⊥) →
 empty_of [] none = refl
 empty_of (x ∷ xs) none = absurd (none x (inl refl))
 
-module _ (p : Program) (f : Frame) (same : p ≡ program_of f.system.value) (v w : View) (own : IsPassOf f v) (own_now : IsPassOf f w) (kept : IsAtLeast v w) where
+module _ (p : Program) (names : Naming) (f : Frame) (same : p ≡ program_of f.system.value) (v w : View) (own : IsPassOf f v) (own_now : IsPassOf f w) (kept : IsAtLeast v w) where
   -- an instance that waits has another cell than another one that is known
-  frame_apart : (e : CodedInstance × Waiter) → IsPlaced p f w e → (s : Instance) (k : Knows p w s) → instance_of p e.0 ≢ s → e.1.slot.0 ≢ k.slot
+  frame_apart : (e : CodedInstance × Waiter) → IsPlaced p names f w e → (s : Instance) (k : Knows p w s) → instance_by p names e.0 ≢ s → e.1.slot.0 ≢ k.slot
   frame_apart e placed s k other is =
       let first = subst (λ (q : ℕ). Has w.keys (q, placed.slot.0)) is placed.slot.1.1 in
       let key : placed.slot.0 ≡ k.key = own_now.one_key k.slot placed.slot.0 k.key first (own_now.valued k.slot k.key k.code k.settled) in
-      other (stands_once w own_now.one_key p k.key (instance_of p e.0) s (subst (λ (j : ℕ). StandsFor p w j (instance_of p e.0)) key placed.slot.2) k.stands)
+      other (stands_once w own_now.one_key p k.key (instance_by p names e.0) s (subst (λ (j : ℕ). StandsFor p w j (instance_by p names e.0)) key placed.slot.2) k.stands)
 
   -- those that wait before and after, and what comes to be known
-  module _ (before after : List (CodedInstance × Waiter)) (placed : (e : CodedInstance × Waiter) → Has after e → IsPlaced p f w e) where
+  module _ (before after : List (CodedInstance × Waiter)) (placed : (e : CodedInstance × Waiter) → Has after e → IsPlaced p names f w e) where
     unfoldable pub IsFresh : (s : Instance) → Knows p w s → Type 0
     IsFresh s k = (done v before k.slot ≡ true → ⊥) × (done w after k.slot ≡ true)
 
@@ -225,7 +225,7 @@ module _ (p : Program) (f : Frame) (same : p ≡ program_of f.system.value) (v w
     )
 
     -- one that waited, and waits no more
-    pub fresh_frame : (s : Instance) (k : Knows p w s) (e : CodedInstance × Waiter) → Has before e → e.1.slot.0 ≡ k.slot → ((d : CodedInstance × Waiter) → Has after d → instance_of p d.0 ≢ s) → IsFresh s k
+    pub fresh_frame : (s : Instance) (k : Knows p w s) (e : CodedInstance × Waiter) → Has before e → e.1.slot.0 ≡ k.slot → ((d : CodedInstance × Waiter) → Has after d → instance_by p names d.0 ≢ s) → IsFresh s k
     unfolding IsFresh
     fresh_frame s k e there is other = (
       (λ h. (done_by v before k.slot h).1 e there is),

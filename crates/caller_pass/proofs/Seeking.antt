@@ -1,7 +1,7 @@
 -- Looking at the cell of an instance through a desk: the cell is sought, and then its word is loaded.
 use Rattle.std.proofs.Common.{◌≡◌, ℕ, false, inr, Option, Some, None, IfSome, IfNone, is_some, refl, sym, subst}
 use Rattle.equation_law.specs.declared.coding.Instance.{Instance as CodedInstance}
-use Rattle.equation_law.specs.Codes.{instance_of}
+use Rattle.equation_law.specs.Codes.{ByEachNaming, instance_by}
 use Rattle.equation_law.specs.Names.{Instance}
 use Rattle.equation_law.specs.Systems.{program_of}
 use Rattle.equation_law.proofs.Pooled.{texts_pooled}
@@ -26,19 +26,19 @@ module _ (d : Held) (f : Frame) (u v : View) (n : ℕ) (on : ReadsOn d (record {
   own_here : IsPassOf d.frame v
   own_here = subst (λ (g : Frame). IsPassOf g v) on.on.cells own
 
-  module _ (i : CodedInstance) (slot : ℕ) (cell : IsCellOf (program_at d) d.frame u (instance_of (program_at d) i) slot) where
-    pub finds_code : (code : ℕ) → ((k : ℕ) → Has u.keys (slot, k) → Has v.values (slot, k, code)) → IsSettledAt (program_at d) f v (instance_of (program_at d) i) slot code
-    finds_code code settled = subst (λ (g : Frame). IsSettledAt (program_at d) g v (instance_of (program_at d) i) slot code) (sym on.on.cells) (seen_code (program_at d) d.frame v refl own_here u kept i slot cell code settled)
+  module _ (i : Instance) (slot : ℕ) (cell : IsCellOf (program_at d) d.frame u i slot) where
+    pub finds_code : (code : ℕ) → ((k : ℕ) → Has u.keys (slot, k) → Has v.values (slot, k, code)) → IsSettledAt (program_at d) f v i slot code
+    finds_code code settled = subst (λ (g : Frame). IsSettledAt (program_at d) g v i slot code) (sym on.on.cells) (seen_code (program_at d) d.frame v refl own_here u kept i slot cell code settled)
 
-    pub finds_none : IsUnsettled u v slot → ¬ Knows (program_at d) v (instance_of (program_at d) i)
+    pub finds_none : IsUnsettled u v slot → ¬ Knows (program_at d) v i
     finds_none unset = seen_unset (program_at d) d.frame v refl own_here u kept i slot cell (texts_pooled d.frame.system.value) unset
 
   -- why it isn't
   pub why_unsettled : (slot : ℕ) → WhyUnsettled f u v slot → WhyUnsettled d.frame d.view v slot
   why_unsettled slot why = subst (λ (g : Frame). WhyUnsettled g d.view v slot) on.on.cells (record { word = why.word; unset = why.unset; found = found_before on.on.log why.found })
 
-  pub why_unknown : (i : CodedInstance) (slot : ℕ) → IsCellOf (program_at d) d.frame u (instance_of (program_at d) i) slot → WhyUnsettled f u v slot → WhyUnknown (program_at d) d.frame d.view v (instance_of (program_at d) i)
-  why_unknown i slot cell why = inr (slot, cell_later u v kept (program_at d) d.frame (instance_of (program_at d) i) slot cell, why_unsettled slot why)
+  pub why_unknown : (i : CodedInstance) (slot : ℕ) → ByEachNaming (program_at d) (λ names. IsCellOf (program_at d) d.frame u (instance_by (program_at d) names i) slot) → WhyUnsettled f u v slot → WhyUnknown (program_at d) d.frame d.view v i
+  why_unknown i slot cell why = inr (slot, (λ names named. cell_later u v kept (program_at d) d.frame (instance_by (program_at d) names i) slot (cell names named)), why_unsettled slot why)
 
   -- the slot is that of some instance
   pub found_cell : (slot : ℕ) → HasCell (record { frame = f; view = u; lender = n }) slot → (j : Instance) × IsCellOf (program_at d) f v j slot

@@ -2,15 +2,19 @@
 use Rattle.std.proofs.Common.{◌≡◌, ℕ, ◌<◌, inl, inr, ⊎_elim, false, List, [], ◌∷◌, ◌++◌, None, Result, Ok, Err, refl, sym, subst, ◌∙◌}
 use Rattle.std.specs.Result.{IsErr, IsErrAnd}
 use Rattle.equation_law.specs.declared.coding.Instance.{Instance as CodedInstance}
-use Rattle.equation_law.specs.Checked.{IsInstance, IsProgram}
-use Rattle.equation_law.specs.Codes.{IsCoded, instance_of}
-use Rattle.equation_law.specs.Equations.{equations_of}
+use Rattle.equation_law.specs.Checked.{IsProgram}
+use Rattle.equation_law.specs.Codes.{ByEachNaming, IsCoded, instance_by, source_names}
+use Rattle.equation_law.specs.Program.{Program, text_of}
 use Rattle.equation_law.specs.Systems.{program_of}
+use Rattle.equation_law.proofs.Codes.{sources_named}
+use Rattle.equation_law.proofs.Tied.{at_sources}
 use Rattle.memo_cells.specs.declared.keys.Slot.{Slot}
 use Rattle.memo_cells.specs.declared.view.Frame.{Frame}
-use Rattle.memo_cells.specs.Naming.{ClaimsKeysTo, IsCellOf, LacksCell}
+use Rattle.memo_cells.specs.Causes.{IsLogOn}
+use Rattle.memo_cells.specs.Naming.{ClaimsKeysTo}
 use Rattle.memo_cells.specs.Standing.{IsPassOf}
-use Rattle.memo_cells.specs.Working.{GoesOn, Held, IsOwn, ReadsOn, program_at}
+use Rattle.memo_cells.specs.Views.{IsAtLeast}
+use Rattle.memo_cells.specs.Working.{ClaimsKeysAt, GoesOn, Held, IsCellAt, IsCodedAt, IsInstanceAt, IsInstanceByEach, IsOwn, LacksCellAt, ReadsOn, program_at}
 use Rattle.memo_cells.proofs.Causes.{log_then}
 use Rattle.memo_cells.proofs.Claiming.{claims_to, fills_to}
 use Rattle.memo_cells.proofs.More.{at_least_then}
@@ -19,7 +23,8 @@ use Rattle.caller_pass.specs.declared.faults.AskFault.TheVariants.{CellsFull}
 use Rattle.caller_pass.specs.declared.solving.Went.{Went}
 use Rattle.caller_pass.specs.declared.solving.Went.TheVariants.{Further, Need, Settled}
 use Rattle.caller_pass.specs.declared.waiting.Waiter.{Waiter}
-use Rattle.caller_pass.specs.Answering.{AnswersStep, LeavesOne, Solves, TakesTurn}
+use Rattle.caller_pass.specs.Answering.{AnswersStep, TakesTurn}
+use Rattle.caller_pass.specs.Holding.{AnswersWaitAt, IsFrameAt, IsUndeclaredAt, LeavesOneAt, LooksAgainAt, SolvesAt}
 use Rattle.caller_pass.specs.Waiting.{AnswersWait, IsFrame, LooksAgain, waits, way_of}
 use Rattle.memo_cells.proofs.Holding.{own_then}
 use Rattle.caller_pass.proofs.Falling.{measure}
@@ -29,23 +34,32 @@ use Rattle.caller_pass.proofs.Going.{CameSettled, IsSolving, WentThrough, begun,
 pub record IsTurn (o d : Held) (i : CodedInstance) (es : List (CodedInstance × Waiter)) (top : CodedInstance) (x : Waiter) (before now : ℕ) : Type 0 where
   pub cells : d.frame ≡ o.frame
   pub lender : d.lender ≡ o.lender
-  pub solving : IsSolving (program_at o) o.frame o.view d.view (instance_of (program_at o) i) es (top, x) before now
+  pub kept : IsAtLeast o.view d.view
+  pub log : IsLogOn o.view d.view
+  pub other : waits es top ≡ false
+  pub solving : ByEachNaming (program_at o) (λ names. IsSolving (program_at o) names o.frame o.view d.view (instance_by (program_at o) names i) es (top, x) before now)
 
 -- no cell is left for the instance
-pub no_cell : {o d : Held} (i : CodedInstance) {before : ℕ} {r : Result Unit AskFault} → GoesOn o d → LacksCell (program_at o) o.frame d.view (instance_of (program_at o) i) → ClaimsKeysTo (program_at o) o.view d.view (instance_of (program_at o) i) → IsErr r × IsErrAnd r (λ e. e ≡ CellsFull) → Solves (program_at o) o.frame o.view d.view (instance_of (program_at o) i) before before r
-no_cell {o} {d} i {before} {r} on lacks claims h =
+pub no_cell : {o d : Held} (i : CodedInstance) {before : ℕ} {r : Result Unit AskFault} → GoesOn o d → LacksCellAt o d i → ClaimsKeysAt o d i → IsErr r × IsErrAnd r (λ e. e ≡ CellsFull) → SolvesAt o d i before before r
+no_cell {o} {d} i {before} {r} on lacks claims h = λ names named.
     let p = program_at o in
-    solve_fault p o.frame o.view d.view (instance_of p i) before before CellsFull r h (claims_to p (instance_of p i) o.view d.view claims) (inl refl) (fills_to p (instance_of p i) o.frame d.view lacks)
+    let its = instance_by p names i in
+    solve_fault p names o.frame o.view d.view its before before CellsFull r h (claims_to p its o.view d.view (claims names named)) (inl refl) (fills_to p its o.frame d.view (lacks names named))
 
 -- the first turn
-pub first_turn : {o d : Held} {i : CodedInstance} {s : Slot} (before : ℕ) → IsOwn o → GoesOn o d → IsInstance (program_at o) (instance_of (program_at o) i) → IsCoded (program_at o) i → (equations_of (program_at o)).circular (instance_of (program_at o) i) ≡ false → IsCellOf (program_at o) o.frame d.view (instance_of (program_at o) i) s.0 → ClaimsKeysTo (program_at o) o.view d.view (instance_of (program_at o) i) → (es : List (CodedInstance × Waiter)) → es ≡ [] → IsTurn o d i es i (record { slot = s; way = None; left = None }) before before
+pub first_turn : {o d : Held} {i : CodedInstance} {s : Slot} (before : ℕ) → IsOwn o → GoesOn o d → IsInstanceAt o i → IsCodedAt o i → IsUndeclaredAt o i → IsCellAt o d i s.0 → ClaimsKeysAt o d i → (es : List (CodedInstance × Waiter)) → es ≡ [] → IsTurn o d i es i (record { slot = s; way = None; left = None }) before before
 first_turn {o} {d} {i} {s} before own on instance coded plain cell claims es empty =
     let p = program_at o in
+    let x : Waiter = record { slot = s; way = None; left = None } in
     record {
       cells = on.cells;
       lender = on.lender;
-      solving = subst (λ (l : List (CodedInstance × Waiter)). IsSolving p o.frame o.view d.view (instance_of p i) l (i, record { slot = s; way = None; left = None }) before before) (sym empty)
-          (begun p o.frame o.view d.view refl own (own_then o d on) on.kept on.log i (record { slot = s; way = None; left = None }) instance coded plain cell refl refl claims before);
+      kept = on.kept;
+      log = on.log;
+      other = subst (λ (l : List (CodedInstance × Waiter)). waits l i ≡ false) (sym empty) refl;
+      solving = λ names named.
+          subst (λ (l : List (CodedInstance × Waiter)). IsSolving p names o.frame o.view d.view (instance_by p names i) l (i, x) before before) (sym empty)
+          (begun p names o.frame o.view d.view refl own (own_then o d on) on.kept on.log i x (instance names named) coded (plain names named) (cell names named) refl refl (claims names named) before);
     }
 
 -- a turn goes on at the same cells
@@ -53,113 +67,166 @@ pub took_on : (d e : Held) (t : CodedInstance) (x y : Waiter) (before after : �
 took_on d e t x y before after r turn = ⊎_elim (λ h. h.read.on) (λ h. h.through.on) turn
 
 module _ {o d : Held} {i : CodedInstance} {es : List (CodedInstance × Waiter)} {top : CodedInstance} {x : Waiter} {before now : ℕ} (t : IsTurn o d i es top x before now) where
-  pub turn_frame : IsFrame (program_at d) d.frame d.view (top, x)
-  turn_frame = subst (λ (f : Frame). IsFrame (program_of f.system.value) f d.view (top, x)) (sym t.cells) t.solving.stack.frame
+  abbrev p : Program
+  p = program_at o
 
-  pub turn_program : IsProgram (program_at o) → IsProgram (program_at d)
+  pub turn_frame : IsFrameAt d (top, x)
+  turn_frame = subst (λ (f : Frame). ByEachNaming (program_of f.system.value) (λ names. IsFrame (program_of f.system.value) names f d.view (top, x))) (sym t.cells) (λ names named. (t.solving names named).stack.frame)
+
+  pub turn_program : IsProgram p → IsProgram (program_at d)
   turn_program good = subst (λ (f : Frame). IsProgram (program_of f.system.value)) (sym t.cells) good
 
   pub turn_other : waits es top ≡ false
-  turn_other = t.solving.stack.other
+  turn_other = t.other
 
-  module _ {e : Held} {y : Waiter} {after : ℕ} {r : Result Went AskFault} (good : IsProgram (program_at o)) (st : TakesTurn (program_at d) d e top x y now after r) where
+  module _ {e : Held} {y : Waiter} {after : ℕ} {r : Result Went AskFault} (good : IsProgram p) (st : TakesTurn (program_at d) d e top x y now after r) where
     goes : GoesOn d e
     goes = took_on d e top x y now after r st
 
     cells_then : e.frame ≡ o.frame
     cells_then = goes.cells ∙ t.cells
 
+    kept_then : IsAtLeast o.view e.view
+    kept_then = at_least_then t.kept goes.kept
+
+    log_now : IsLogOn o.view e.view
+    log_now = log_then t.log goes.log
+
     pub turn_on : GoesOn o e
-    turn_on = record { cells = cells_then; lender = goes.lender ∙ t.lender; own = goes.own; kept = at_least_then t.solving.kept goes.kept; log = log_then t.solving.log goes.log }
+    turn_on = record { cells = cells_then; lender = goes.lender ∙ t.lender; own = goes.own; kept = kept_then; log = log_now }
 
     -- where it didn't end settled, it was evaluated
-    went : (r ≡ Ok Settled → ⊥) → WentThrough (program_at o) o.frame d.view e.view top x y now after r
+    went : (r ≡ Ok Settled → ⊥) → ByEachNaming p (λ names. WentThrough p names o.frame d.view e.view top x y now after r)
     went other = through d e o.frame top x y now after r t.cells (⊎_elim (λ h. absurd (other h.went)) (λ h. h) st)
 
     -- a fault
-    pub turn_failed : {f : AskFault} {s : Result Unit AskFault} → r ≡ Err f → IsErr s × IsErrAnd s (λ z. z ≡ f) → Solves (program_at o) o.frame o.view e.view (instance_of (program_at o) i) before after s
-    turn_failed {f} {s} is h =
-        let p = program_at o in
-        let g = went (λ settled. let both = sym is ∙ settled in cc) in
-        solve_fault p o.frame o.view e.view (instance_of p i) before after f s h (claims_now refl good.texts t.solving g) (inr (was_now refl good.texts t.solving g))
-        (step_fault refl good.texts t.solving g f (subst (λ (z : Result Went AskFault). AnswersStep p o.frame e.view (instance_of p top) (way_of x) (way_of y) z) is g.answer))
+    pub turn_failed : {f : AskFault} {s : Result Unit AskFault} → r ≡ Err f → IsErr s × IsErrAnd s (λ z. z ≡ f) → SolvesAt o e i before after s
+    turn_failed {f} {s} is h = λ names named.
+        let its = instance_by p names i in
+        let g = went (λ settled. let both = sym is ∙ settled in cc) names named in
+        solve_fault p names o.frame o.view e.view its before after f s h (claims_now named refl good.texts (t.solving names named) g) (inr (was_now named refl good.texts (t.solving names named) g))
+        (step_fault named refl good.texts (t.solving names named) g f (subst (λ (z : Result Went AskFault). AnswersStep p names o.frame e.view (instance_by p names top) (way_of x) (way_of y) z) is g.answer))
 
     -- it waits for a local set now, or doesn't any more
     module _ (is : r ≡ Ok Further) where
-      went_on : WentThrough (program_at o) o.frame d.view e.view top x y now after r
+      went_on : ByEachNaming p (λ names. WentThrough p names o.frame d.view e.view top x y now after r)
       went_on = went (λ settled. let both = sym is ∙ settled in cc)
 
-      further : AnswersStep (program_at o) o.frame e.view (instance_of (program_at o) top) (way_of x) (way_of y) (Ok Further)
-      further = subst (λ (z : Result Went AskFault). AnswersStep (program_at o) o.frame e.view (instance_of (program_at o) top) (way_of x) (way_of y) z) is went_on.answer
+      further : ByEachNaming p (λ names. AnswersStep p names o.frame e.view (instance_by p names top) (way_of x) (way_of y) (Ok Further))
+      further = λ names named. subst (λ (z : Result Went AskFault). AnswersStep p names o.frame e.view (instance_by p names top) (way_of x) (way_of y) z) is (went_on names named).answer
 
       pub turn_further : IsTurn o e i es top y before after
-      turn_further = record { cells = cells_then; lender = goes.lender ∙ t.lender; solving = went_further refl good.texts t.solving went_on further }
+      turn_further = record {
+        cells = cells_then;
+        lender = goes.lender ∙ t.lender;
+        kept = kept_then;
+        log = log_now;
+        other = t.other;
+        solving = λ names named. went_further named refl good.texts (t.solving names named) (went_on names named) (further names named);
+      }
 
       pub turn_further_falls : measure e.view es (top, y) o.frame.cells < measure d.view es (top, x) o.frame.cells
-      turn_further_falls = fell_further refl good.texts t.solving went_on further
+      turn_further_falls =
+          let names = source_names (text_of p) in
+          let named = sources_named p in
+          fell_further named refl good.texts (t.solving names named) (went_on names named) (further names named)
 
     -- it waits for another one
     module _ {n : CodedInstance} (is : r ≡ Ok (Need n)) where
-      went_need : WentThrough (program_at o) o.frame d.view e.view top x y now after r
+      went_need : ByEachNaming p (λ names. WentThrough p names o.frame d.view e.view top x y now after r)
       went_need = went (λ settled. let both = sym is ∙ settled in cc)
 
-      next : AnswersStep (program_at o) o.frame e.view (instance_of (program_at o) top) (way_of x) (way_of y) (Ok (Need n))
-      next = subst (λ (z : Result Went AskFault). AnswersStep (program_at o) o.frame e.view (instance_of (program_at o) top) (way_of x) (way_of y) z) is went_need.answer
+      next : ByEachNaming p (λ names. AnswersStep p names o.frame e.view (instance_by p names top) (way_of x) (way_of y) (Ok (Need n)))
+      next = λ names named. subst (λ (z : Result Went AskFault). AnswersStep p names o.frame e.view (instance_by p names top) (way_of x) (way_of y) z) is (went_need names named).answer
 
-      pub next_instance : IsInstance (program_at e) (instance_of (program_at e) n)
-      next_instance = subst (λ (f : Frame). IsInstance (program_of f.system.value) (instance_of (program_of f.system.value) n)) (sym cells_then) next.0.instance
+      pub next_instance : IsInstanceAt e n
+      next_instance = subst (λ (f : Frame). IsInstanceByEach (program_of f.system.value) n) (sym cells_then) (λ names named. (next names named).0.instance)
 
-      pub next_coded : IsCoded (program_at e) n
-      next_coded = subst (λ (f : Frame). IsCoded (program_of f.system.value) n) (sym cells_then) next.0.coded
+      pub next_coded : IsCodedAt e n
+      next_coded = subst (λ (f : Frame). IsCoded (program_of f.system.value) n) (sym cells_then) (at_sources p _ next).0.coded
 
-      module _ {g : Held} (then_on : GoesOn e g) (claims : ClaimsKeysTo (program_at e) e.view g.view (instance_of (program_at e) n)) where
+      module _ {g : Held} (then_on : GoesOn e g) (claims : ClaimsKeysAt e g n) where
         own_now : IsPassOf o.frame g.view
         own_now = subst (λ (f : Frame). IsPassOf f g.view) cells_then (own_then e g then_on)
 
-        claims_next : ClaimsKeysTo (program_at o) e.view g.view (instance_of (program_at o) n)
-        claims_next = subst (λ (f : Frame). ClaimsKeysTo (program_of f.system.value) e.view g.view (instance_of (program_of f.system.value) n)) cells_then claims
+        claims_next : ByEachNaming p (λ names. ClaimsKeysTo p e.view g.view (instance_by p names n))
+        claims_next = subst (λ (f : Frame). ByEachNaming (program_of f.system.value) (λ names. ClaimsKeysTo (program_of f.system.value) e.view g.view (instance_by (program_of f.system.value) names n))) cells_then claims
 
         pub wait_on : GoesOn o g
-        wait_on = record { cells = then_on.cells ∙ cells_then; lender = then_on.lender ∙ goes.lender ∙ t.lender; own = then_on.own; kept = at_least_then (at_least_then t.solving.kept goes.kept) then_on.kept; log = log_then (log_then t.solving.log goes.log) then_on.log }
+        wait_on = record { cells = then_on.cells ∙ cells_then; lender = then_on.lender ∙ goes.lender ∙ t.lender; own = then_on.own; kept = at_least_then kept_then then_on.kept; log = log_then log_now then_on.log }
 
-        pub wait_failed : (new : List (CodedInstance × Waiter)) (w : Result Waiter AskFault) (f : AskFault) {s : Result Unit AskFault} → AnswersWait (program_at e) e.frame g.view (es ++ (top, y) ∷ []) n new w → w ≡ Err f → IsErr s × IsErrAnd s (λ z. z ≡ f) → Solves (program_at o) o.frame o.view g.view (instance_of (program_at o) i) before after s
-        wait_failed new w f {s} answer fault h =
-            let p = program_at o in
-            let a = subst (λ (k : Frame). AnswersWait (program_of k.system.value) k g.view (es ++ (top, y) ∷ []) n new (Err f)) cells_then (subst (λ (z : Result Waiter AskFault). AnswersWait (program_at e) e.frame g.view (es ++ (top, y) ∷ []) n new z) fault answer) in
-            solve_fault p o.frame o.view g.view (instance_of p i) before after f s h (claims_more refl good.texts t.solving went_need n next.0 next.1 own_now then_on.kept then_on.log claims_next)
-            (inr (was_more refl good.texts t.solving went_need n next.0 next.1 own_now then_on.kept then_on.log claims_next))
-            (wait_fault refl good.texts t.solving went_need n next.0 next.1 own_now then_on.kept then_on.log claims_next new f a)
+        answers_here : (new : List (CodedInstance × Waiter)) (w : Result Waiter AskFault) → AnswersWaitAt e g (es ++ (top, y) ∷ []) n new w → ByEachNaming p (λ names. AnswersWait p names o.frame g.view (es ++ (top, y) ∷ []) n new w)
+        answers_here new w answer = subst (λ (k : Frame). ByEachNaming (program_of k.system.value) (λ names. AnswersWait (program_of k.system.value) names k g.view (es ++ (top, y) ∷ []) n new w)) cells_then answer
 
-        module _ (new : List (CodedInstance × Waiter)) (z : Waiter) (answer : AnswersWait (program_at e) e.frame g.view (es ++ (top, y) ∷ []) n new (Ok z)) where
-          cell : IsCellOf (program_at o) o.frame g.view (instance_of (program_at o) n) z.slot.0
-          cell = subst (λ (k : Frame). IsCellOf (program_of k.system.value) k g.view (instance_of (program_of k.system.value) n) z.slot.0) cells_then answer.1
+        pub wait_failed : (new : List (CodedInstance × Waiter)) (w : Result Waiter AskFault) (f : AskFault) {s : Result Unit AskFault} → AnswersWaitAt e g (es ++ (top, y) ∷ []) n new w → w ≡ Err f → IsErr s × IsErrAnd s (λ z. z ≡ f) → SolvesAt o g i before after s
+        wait_failed new w f {s} answer fault h = λ names named.
+            let its = instance_by p names i in
+            let so = t.solving names named in
+            let through_it = went_need names named in
+            let it = next names named in
+            let a = answers_here new (Err f) (subst (λ (z : Result Waiter AskFault). AnswersWaitAt e g (es ++ (top, y) ∷ []) n new z) fault answer) names named in
+            solve_fault p names o.frame o.view g.view its before after f s h (claims_more named refl good.texts so through_it n it.0 it.1 own_now then_on.kept then_on.log (claims_next names named))
+            (inr (was_more named refl good.texts so through_it n it.0 it.1 own_now then_on.kept then_on.log (claims_next names named)))
+            (wait_fault named refl good.texts so through_it n it.0 it.1 own_now then_on.kept then_on.log (claims_next names named) new f a)
+
+        module _ (new : List (CodedInstance × Waiter)) (z : Waiter) (answer : AnswersWaitAt e g (es ++ (top, y) ∷ []) n new (Ok z)) where
+          so_answers : ByEachNaming p (λ names. AnswersWait p names o.frame g.view (es ++ (top, y) ∷ []) n new (Ok z))
+          so_answers = answers_here new (Ok z) answer
+
+          waits_new : waits new n ≡ false
+          waits_new = let plain = at_sources p _ so_answers in subst (λ l. waits l n ≡ false) (sym plain.0) plain.3
 
           pub turn_next : IsTurn o g i new n z before after
-          turn_next = record { cells = then_on.cells ∙ cells_then; lender = then_on.lender ∙ goes.lender ∙ t.lender; solving = went_more refl good.texts t.solving went_need n next.0 next.1 own_now then_on.kept then_on.log claims_next z cell answer.2 answer.3 answer.4 new answer.0 }
+          turn_next = record {
+            cells = then_on.cells ∙ cells_then;
+            lender = then_on.lender ∙ goes.lender ∙ t.lender;
+            kept = at_least_then kept_then then_on.kept;
+            log = log_then log_now then_on.log;
+            other = waits_new;
+            solving = λ names named.
+                let it = next names named in
+                let a = so_answers names named in
+                went_more named refl good.texts (t.solving names named) (went_need names named) n it.0 it.1 own_now then_on.kept then_on.log (claims_next names named) z a.1 a.2 a.3 a.4 new a.0;
+          }
 
           pub turn_next_falls : measure g.view new (n, z) o.frame.cells < measure d.view es (top, x) o.frame.cells
-          turn_next_falls = fell_more refl good.texts t.solving went_need n next.0 next.1 own_now then_on.kept then_on.log claims_next z cell answer.2 answer.3 answer.4 new answer.0
+          turn_next_falls =
+              let names = source_names (text_of p) in
+              let named = sources_named p in
+              let it = next names named in
+              let a = so_answers names named in
+              fell_more named refl good.texts (t.solving names named) (went_need names named) n it.0 it.1 own_now then_on.kept then_on.log (claims_next names named) z a.1 a.2 a.3 a.4 new a.0
 
     -- it is settled
     module _ (is : r ≡ Ok Settled) where
-      settled : CameSettled (program_at o) o.frame d.view e.view top x now after
+      settled : ByEachNaming p (λ names. CameSettled p names o.frame d.view e.view top x now after)
       settled = came_settled d e o.frame top x y now after r t.cells is st
 
-      pub turn_solved : es ≡ [] → (done : Unit {0}) → Solves (program_at o) o.frame o.view e.view (instance_of (program_at o) i) before after (Ok done)
-      turn_solved empty done = solved_all refl good.texts t.solving settled empty done
+      pub turn_solved : es ≡ [] → (done : Unit {0}) → SolvesAt o e i before after (Ok done)
+      turn_solved empty done = λ names named. solved_all named refl good.texts (t.solving names named) (settled names named) empty done
 
-      pub turn_leaves : IsOwn o → es ≡ [] → LeavesOne (program_at o) o.frame o.view e.view (instance_of (program_at o) i) before after
-      turn_leaves own empty = leaves_one refl good.texts t.solving settled empty own
+      pub turn_leaves : IsOwn o → es ≡ [] → LeavesOneAt o e i before after
+      turn_leaves own empty = λ names named. leaves_one named refl good.texts (t.solving names named) (settled names named) empty own
 
-      module _ {g : Held} (read : ReadsOn e g) (ds : List (CodedInstance × Waiter)) (last : CodedInstance × Waiter) (was : es ≡ ds ++ last ∷ []) (free : waits ds last.0 ≡ false) (z : Waiter) (looks : LooksAgain (program_at e) g.view last.1 z) where
+      module _ {g : Held} (read : ReadsOn e g) (ds : List (CodedInstance × Waiter)) (last : CodedInstance × Waiter) (was : es ≡ ds ++ last ∷ []) (free : waits ds last.0 ≡ false) (z : Waiter) (looks : LooksAgainAt e g last.1 z) where
         own_back : IsPassOf o.frame g.view
         own_back = subst (λ (f : Frame). IsPassOf f g.view) cells_then (own_then e g read.on)
 
-        looks_back : LooksAgain (program_at o) g.view last.1 z
-        looks_back = subst (λ (f : Frame). LooksAgain (program_of f.system.value) g.view last.1 z) cells_then looks
+        looks_back : ByEachNaming p (λ names. LooksAgain p names g.view last.1 z)
+        looks_back = subst (λ (f : Frame). ByEachNaming (program_of f.system.value) (λ names. LooksAgain (program_of f.system.value) names g.view last.1 z)) cells_then looks
 
         pub turn_back : IsTurn o g i ds last.0 z before after
-        turn_back = record { cells = read.on.cells ∙ cells_then; lender = read.on.lender ∙ goes.lender ∙ t.lender; solving = went_back refl good.texts t.solving settled own_back read.on.kept read.on.log read.claims ds last was free z looks_back }
+        turn_back = record {
+          cells = read.on.cells ∙ cells_then;
+          lender = read.on.lender ∙ goes.lender ∙ t.lender;
+          kept = at_least_then kept_then read.on.kept;
+          log = log_then log_now read.on.log;
+          other = free;
+          solving = λ names named. went_back named refl good.texts (t.solving names named) (settled names named) own_back read.on.kept read.on.log read.claims ds last was free z (looks_back names named);
+        }
 
         pub turn_back_falls : measure g.view ds (last.0, z) o.frame.cells < measure d.view es (top, x) o.frame.cells
-        turn_back_falls = fell_back refl good.texts t.solving settled own_back read.on.kept read.on.log read.claims ds last was free z looks_back
+        turn_back_falls =
+            let names = source_names (text_of p) in
+            let named = sources_named p in
+            fell_back named refl good.texts (t.solving names named) (settled names named) own_back read.on.kept read.on.log read.claims ds last was free z (looks_back names named)

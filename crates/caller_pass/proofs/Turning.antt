@@ -4,12 +4,12 @@ use Rattle.std.proofs.lemmas.Bool.{or_left, or_right}
 use Rattle.rag_io.specs.Pool.{ArePooled}
 use Rattle.equation_law.specs.contracts.coding.InstancePartialEq.TheImpl as equality
 use Rattle.equation_law.specs.declared.coding.Instance.{Instance as CodedInstance}
-use Rattle.equation_law.specs.Codes.{instance_of}
+use Rattle.equation_law.specs.Codes.{IsNamingOf, Naming, instance_by}
 use Rattle.equation_law.specs.Equations.{equations_of}
 use Rattle.equation_law.specs.Names.{Instance}
 use Rattle.equation_law.specs.Program.{Program}
 use Rattle.equation_law.specs.Systems.{program_of}
-use Rattle.equation_law.proofs.Keys.{key_self, one_key}
+use Rattle.equation_law.proofs.Keys.{key_self, one_key_by}
 use Rattle.memo_cells.specs.declared.keys.Slot.{Slot}
 use Rattle.memo_cells.specs.declared.view.Frame.{Frame}
 use Rattle.memo_cells.specs.declared.view.View.{View}
@@ -53,32 +53,32 @@ taken_on v w es t x y kept same q h = ⊎_elim
     (taken_by v (es ++ (t, x) ∷ []) q h)
 
 -- the cells of those on a stack, as they are known
-pub on_stack : (p : Program) (f : Frame) (v : View) (i : Instance) (es : List (CodedInstance × Waiter)) (top : CodedInstance × Waiter) → IsStack p f v i es top → (e : CodedInstance × Waiter) → Has (es ++ top ∷ []) e → IsPlaced p f v e
-on_stack p f v i es top stack e h = ⊎_elim (stack.placed e) (λ same. subst (λ (d : CodedInstance × Waiter). IsPlaced p f v d) (sym same) stack.frame.placed) (has_snoc es top e h)
+pub on_stack : (p : Program) (names : Naming) (f : Frame) (v : View) (i : Instance) (es : List (CodedInstance × Waiter)) (top : CodedInstance × Waiter) → IsStack p names f v i es top → (e : CodedInstance × Waiter) → Has (es ++ top ∷ []) e → IsPlaced p names f v e
+on_stack p names f v i es top stack e h = ⊎_elim (stack.placed e) (λ same. subst (λ (d : CodedInstance × Waiter). IsPlaced p names f v d) (sym same) stack.frame.placed) (has_snoc es top e h)
 
-module _ (p : Program) (f : Frame) (same : p ≡ program_in f) (pooled : ArePooled p.texts) (v w : View) (own : IsPassOf f v) (then : IsPassOf f w) (kept : IsAtLeast v w) (i : Instance) (es : List (CodedInstance × Waiter)) (t : CodedInstance) (x : Waiter) (stack : IsStack p f v i es (t, x)) where
+module _ (p : Program) (names : Naming) (named : IsNamingOf p names) (f : Frame) (same : p ≡ program_in f) (pooled : ArePooled p.texts) (v w : View) (own : IsPassOf f v) (then : IsPassOf f w) (kept : IsAtLeast v w) (i : Instance) (es : List (CodedInstance × Waiter)) (t : CodedInstance) (x : Waiter) (stack : IsStack p names f v i es (t, x)) where
   -- the cell of an instance that isn't circular and isn't on the stack is another one than those of the stack
-  pub apart : (n : Instance) (s : ℕ) → IsCellOf p f w n s → ((e : CodedInstance × Waiter) → Has (es ++ (t, x) ∷ []) e → instance_of p e.0 ≢ n) → (e : CodedInstance × Waiter) → Has (es ++ (t, x) ∷ []) e → e.1.slot.0 ≢ s
+  pub apart : (n : Instance) (s : ℕ) → IsCellOf p f w n s → ((e : CodedInstance × Waiter) → Has (es ++ (t, x) ∷ []) e → instance_by p names e.0 ≢ n) → (e : CodedInstance × Waiter) → Has (es ++ (t, x) ∷ []) e → e.1.slot.0 ≢ s
   apart n s cell other e h place =
-      let its = cell_later v w kept p f (instance_of p e.0) e.1.slot.0 ((on_stack p f v i es (t, x) stack e h).slot) in
+      let its = cell_later v w kept p f (instance_by p names e.0) e.1.slot.0 ((on_stack p names f v i es (t, x) stack e h).slot) in
       let word : its.0 ≡ cell.0 = then.one_key s its.0 cell.0 (subst (λ (q : ℕ). Has w.keys (q, its.0)) place its.1.1) cell.1.1 in
-      let stands = subst (λ (k : ℕ). StandsFor p w k (instance_of p e.0)) word its.2 in
-      other e h (stands_once w then.one_key p cell.0 (instance_of p e.0) n stands cell.2)
+      let stands = subst (λ (k : ℕ). StandsFor p w k (instance_by p names e.0)) word its.2 in
+      other e h (stands_once w then.one_key p cell.0 (instance_by p names e.0) n stands cell.2)
 
   -- a cell that comes to be seen settled, of an instance that isn't on the stack
-  pub falls_by : (n : Instance) → ¬ Knows p v n → ((e : CodedInstance × Waiter) → Has (es ++ (t, x) ∷ []) e → instance_of p e.0 ≢ n) → (s : ℕ) → IsCellOf p f w n s → (g : ℕ → Bool) → ((q : ℕ) → taken v (es ++ (t, x) ∷ []) q ≡ true → g q ≡ true) → g s ≡ true → left g f.cells < left (taken v (es ++ (t, x) ∷ [])) f.cells
+  pub falls_by : (n : Instance) → ¬ Knows p v n → ((e : CodedInstance × Waiter) → Has (es ++ (t, x) ∷ []) e → instance_by p names e.0 ≢ n) → (s : ℕ) → IsCellOf p f w n s → (g : ℕ → Bool) → ((q : ℕ) → taken v (es ++ (t, x) ∷ []) q ≡ true → g q ≡ true) → g s ≡ true → left g f.cells < left (taken v (es ++ (t, x) ∷ [])) f.cells
   falls_by n unknown other s cell g more there =
       let free = not_taken v (es ++ (t, x) ∷ []) s (λ h. unknown (settled_known p f v same own w n s then kept cell h)) (apart n s cell other) in
       left_falls (taken v (es ++ (t, x) ∷ [])) g f.cells s more cell.1.0 free there
 
   -- a local set is waited for, or its start is seen sealed
-  pub falls_further : (y : Waiter) → y.slot ≡ x.slot → WayChanges p f w (instance_of p t) (way_of x) (way_of y) → measure w es (t, y) f.cells < measure v es (t, x) f.cells
+  pub falls_further : (y : Waiter) → y.slot ≡ x.slot → WayChanges p names f w (instance_by p names t) (way_of x) (way_of y) → measure w es (t, y) f.cells < measure v es (t, x) f.cells
   falls_further y slot changes = by_way (way_of x) (way_of y) refl refl changes
     where
       more : (q : ℕ) → taken v (es ++ (t, x) ∷ []) q ≡ true → taken w (es ++ (t, y) ∷ []) q ≡ true
       more = taken_on v w es t x y kept slot
 
-      by_way : (old new : Option Local) → way_of x ≡ old → way_of y ≡ new → WayChanges p f w (instance_of p t) old new → measure w es (t, y) f.cells < measure v es (t, x) f.cells
+      by_way : (old new : Option Local) → way_of x ≡ old → way_of y ≡ new → WayChanges p names f w (instance_by p names t) old new → measure w es (t, y) f.cells < measure v es (t, x) f.cells
       by_way None None a b h = absurd h
       by_way None (Some l) a b h =
           let less = left_less (taken v (es ++ (t, x) ∷ [])) (taken w (es ++ (t, y) ∷ [])) f.cells more in
@@ -86,21 +86,21 @@ module _ (p : Program) (f : Frame) (same : p ≡ program_in f) (pooled : ArePool
           let now : turns_of (way_of y) ≡ 0 = ap turns_of b in
           omega (arith, less, was, now)
       by_way (Some l) None a b h =
-          let way = subst (λ o. IsWayOf p f v (instance_of p t) o) a stack.frame.way in
-          let cell = known_cell p f w (instance_of p l.start) then h in
-          let other : (e : CodedInstance × Waiter) → Has (es ++ (t, x) ∷ []) e → instance_of p e.0 ≢ instance_of p l.start = λ e there is. (let plain = (on_stack p f v i es (t, x) stack e there).undeclared in let not = ap (equations_of p).circular is in let yes = way.local.is_circular in cc) in
-          let falls = falls_by (instance_of p l.start) way.unknown other h.slot cell (taken w (es ++ (t, y) ∷ [])) more (by_value w (es ++ (t, y) ∷ []) h.slot (known_at p w (instance_of p l.start) h)) in
+          let way = subst (λ o. IsWayOf p names f v (instance_by p names t) o) a stack.frame.way in
+          let cell = known_cell p f w (instance_by p names l.start) then h in
+          let other : (e : CodedInstance × Waiter) → Has (es ++ (t, x) ∷ []) e → instance_by p names e.0 ≢ instance_by p names l.start = λ e there is. (let plain = (on_stack p names f v i es (t, x) stack e there).undeclared in let not = ap (equations_of p).circular is in let yes = way.local.is_circular in cc) in
+          let falls = falls_by (instance_by p names l.start) way.unknown other h.slot cell (taken w (es ++ (t, y) ∷ [])) more (by_value w (es ++ (t, y) ∷ []) h.slot (known_at p w (instance_by p names l.start) h)) in
           let was : turns_of (way_of x) ≡ 0 = ap turns_of a in
           let now : turns_of (way_of y) ≡ 1 = ap turns_of b in
           omega (arith, falls, was, now)
       by_way (Some l) (Some m) a b h = absurd h
 
   -- another one is on top
-  pub falls_more : (y : Waiter) → y.slot ≡ x.slot → (next : CodedInstance) (z : Waiter) → way_of z ≡ None → ¬ Knows p v (instance_of p next) → IsPlaced p f w (next, z) → waits (es ++ (t, y) ∷ []) next ≡ false → measure w (es ++ (t, y) ∷ []) (next, z) f.cells < measure v es (t, x) f.cells
+  pub falls_more : (y : Waiter) → y.slot ≡ x.slot → (next : CodedInstance) (z : Waiter) → way_of z ≡ None → ¬ Knows p v (instance_by p names next) → IsPlaced p names f w (next, z) → waits (es ++ (t, y) ∷ []) next ≡ false → measure w (es ++ (t, y) ∷ []) (next, z) f.cells < measure v es (t, x) f.cells
   falls_more y slot next z none unknown placed free =
       let L = es ++ (t, y) ∷ [] in
-      let other : (e : CodedInstance × Waiter) → Has (es ++ (t, x) ∷ []) e → instance_of p e.0 ≢ instance_of p next = λ e h is. (let one = one_key p pooled e.0 next (on_stack p f v i es (t, x) stack e h).coded placed.coded is in let yes = waiting_still e h in let no = subst (λ (c : CodedInstance). waits L c ≡ false) (sym one) free in cc) in
-      let falls = falls_by (instance_of p next) unknown other z.slot.0 placed.slot (taken w (L ++ (next, z) ∷ [])) more (by_one w (L ++ (next, z) ∷ []) (next, z) (has_last L (next, z))) in
+      let other : (e : CodedInstance × Waiter) → Has (es ++ (t, x) ∷ []) e → instance_by p names e.0 ≢ instance_by p names next = λ e h is. (let one = one_key_by p pooled named e.0 next (on_stack p names f v i es (t, x) stack e h).coded placed.coded is in let yes = waiting_still e h in let no = subst (λ (c : CodedInstance). waits L c ≡ false) (sym one) free in cc) in
+      let falls = falls_by (instance_by p names next) unknown other z.slot.0 placed.slot (taken w (L ++ (next, z) ∷ [])) more (by_one w (L ++ (next, z) ∷ []) (next, z) (has_last L (next, z))) in
       let longer = length_snoc es (t, y) in
       let now : turns_of (way_of z) ≡ 1 = ap turns_of none in
       omega (arith, falls, longer, now)
@@ -118,12 +118,12 @@ module _ (p : Program) (f : Frame) (same : p ≡ program_in f) (pooled : ArePool
           (has_snoc es (t, x) e h)
 
   -- the last one is settled
-  module _ (known : Knows p w (instance_of p t)) where
+  module _ (known : Knows p w (instance_by p names t)) where
     settled_there : is_known_at w x.slot.0 ≡ true
     settled_there =
-        let cell = known_cell p f w (instance_of p t) then known in
-        let its = cell_later v w kept p f (instance_of p t) x.slot.0 stack.frame.placed.slot in
-        subst (λ (q : ℕ). is_known_at w q ≡ true) (one_cell p f w (instance_of p t) known.slot x.slot.0 then pooled cell its) (known_at p w (instance_of p t) known)
+        let cell = known_cell p f w (instance_by p names t) then known in
+        let its = cell_later v w kept p f (instance_by p names t) x.slot.0 stack.frame.placed.slot in
+        subst (λ (q : ℕ). is_known_at w q ≡ true) (one_cell p f w (instance_by p names t) known.slot x.slot.0 then pooled cell its) (known_at p w (instance_by p names t) known)
 
     pub less_back : left (taken w es) f.cells ≤ left (taken v (es ++ (t, x) ∷ [])) f.cells
     less_back = left_less (taken v (es ++ (t, x) ∷ [])) (taken w es) f.cells (pop_keeps v w es (t, x) kept settled_there)

@@ -4,10 +4,10 @@ use Rattle.std.specs.Map.{lookup}
 use Rattle.equation_law.specs.declared.system.System.{System}
 use Rattle.equation_law.specs.Systems.{program_of}
 use Rattle.memo_cells.specs.declared.view.View.{View}
-use Rattle.memo_cells.specs.Working.{IsKnown}
 use Rattle.collection_attrs.specs.Walks.{IsWalk, Walk}
 use Rattle.caller_pass.specs.contracts.walks.WalkedPartialEq.TheImpl as keys
 use Rattle.caller_pass.specs.declared.walks.Walked.{Walked}
+use Rattle.caller_pass.specs.Leaving.{reads_known}
 
 -- the walk that is kept of an attribute in the subtree of a root, if one is
 abbrev pub walk_at : List (Walked × Walk) → Walked → Option Walk
@@ -30,4 +30,4 @@ pub record Notes : Type 0 where
 -- They are the notes of a caller of a pass: of its system, and what each walk has passed is as the values say of which the pass knows.
 pub record IsNotebookOf (s : System) (v : View) (n : Notes) : Type 0 where
   pub system : n.system ≡ s
-  pub walks : (k : Walked) (w : Walk) → walk_at n.walks k ≡ Some w → IsWalk (program_of s) (IsKnown (program_of s) v) w
+  pub walks : (k : Walked) (w : Walk) → walk_at n.walks k ≡ Some w → IsWalk (program_of s) (reads_known (program_of s) v) w

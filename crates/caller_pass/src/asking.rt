@@ -1,14 +1,14 @@
 // Asking for the value of an instance.
 ghost use Rattle.std.specs.Prelude.{◌≡◌, ◌++◌, ◌∷◌, [], List, true};
 ghost use Rattle.equation_law.specs.declared.coding.Instance.{Instance as CodedInstance};
-ghost use Rattle.equation_law.specs.Checked.{IsInstance, IsProgram};
-ghost use Rattle.equation_law.specs.Codes.{IsCoded, instance_of};
+ghost use Rattle.equation_law.specs.Checked.{IsProgram};
+ghost use Rattle.equation_law.specs.Codes.{IsCoded};
 ghost use Rattle.equation_law.specs.Systems.{program_of};
 ghost use Rattle.memo_cells.specs.Causes.{IsLogOn};
 ghost use Rattle.memo_cells.specs.Standing.{IsPassOf};
 ghost use Rattle.memo_cells.specs.Views.{Has, IsAtLeast};
-ghost use Rattle.memo_cells.specs.Working.{GoesOn, IsCodedAt, IsInstanceAt, IsOwn};
-ghost use Rattle.caller_pass.specs.Answering.{AnswersChain, Asks, AsksNoted};
+ghost use Rattle.memo_cells.specs.Working.{GoesOn, IsCodedAt, IsInstanceAt, IsInstanceByEach, IsOwn};
+ghost use Rattle.caller_pass.specs.Answering.{AnswersChain, AsksByEach, AsksNotedByEach};
 ghost use Rattle.caller_pass.specs.Keeping.{IsNotebookOf};
 ghost use Rattle.caller_pass.specs.Noting.{MayNote};
 ghost use Rattle.caller_pass.specs.Holding.{AsksNotedAt, IsProgramAt, SolvesAt};
@@ -82,13 +82,13 @@ fn ask_at<L: Ledger>(
     requires same { cells.now.system.value ≡ system.now }
     requires own { IsPassOf cells.now pass.old }
     requires notes { IsNotebookOf system.now pass.old notes }
-    requires instance { IsInstance (program_of system.now) (instance_of (program_of system.now) i.now) }
+    requires instance { IsInstanceByEach (program_of system.now) i.now }
     requires coded { IsCoded (program_of system.now) i.now }
     ensures own { IsPassOf cells.now pass.new }
     ensures kept { IsAtLeast pass.old pass.new }
     ensures log { IsLogOn pass.old pass.new }
     ensures notes { IsNotebookOf system.now pass.new result.1 }
-    ensures asked { AsksNoted (program_of system.now) cells.now pass.old pass.new (instance_of (program_of system.now) i.now) evals.old evals.new result.0 }
+    ensures asked { AsksNotedByEach (program_of system.now) cells.now pass.old pass.new i.now evals.old evals.new result.0 }
 {
     let mut desk = Desk {
         system,
@@ -118,12 +118,12 @@ fn ask_alone<L: Ledger>(
     requires program { IsProgram (program_of system.now) }
     requires same { cells.now.system.value ≡ system.now }
     requires own { IsPassOf cells.now pass.old }
-    requires instance { IsInstance (program_of system.now) (instance_of (program_of system.now) i.now) }
+    requires instance { IsInstanceByEach (program_of system.now) i.now }
     requires coded { IsCoded (program_of system.now) i.now }
     ensures own { IsPassOf cells.now pass.new }
     ensures kept { IsAtLeast pass.old pass.new }
     ensures log { IsLogOn pass.old pass.new }
-    ensures asked { AsksNoted (program_of system.now) cells.now pass.old pass.new (instance_of (program_of system.now) i.now) evals.old evals.new result }
+    ensures asked { AsksNotedByEach (program_of system.now) cells.now pass.old pass.new i.now evals.old evals.new result }
 {
     let mut notes = Notebook::new(alloc, system);
     ask_noted(alloc, system, cells, pass, &mut notes, i, evals)
@@ -177,12 +177,12 @@ pub fn ask<L: Ledger>(
     requires program { IsProgram (program_of system.now) }
     requires same { cells.now.system.value ≡ system.now }
     requires own { IsPassOf cells.now pass.old }
-    requires instance { IsInstance (program_of system.now) (instance_of (program_of system.now) i.now) }
+    requires instance { IsInstanceByEach (program_of system.now) i.now }
     requires coded { IsCoded (program_of system.now) i.now }
     ensures own { IsPassOf cells.now pass.new }
     ensures kept { IsAtLeast pass.old pass.new }
     ensures log { IsLogOn pass.old pass.new }
-    ensures asked { Asks (program_of system.now) cells.now pass.old pass.new (instance_of (program_of system.now) i.now) evals.old evals.new result }
+    ensures asked { AsksByEach (program_of system.now) cells.now pass.old pass.new i.now evals.old evals.new result }
 {
     match ask_alone(alloc, system, cells, pass, i, evals) {
         Ok(value) => Ok(value),
@@ -207,13 +207,13 @@ pub fn ask_noted<L: Ledger>(
     requires same { cells.now.system.value ≡ system.now }
     requires own { IsPassOf cells.now pass.old }
     requires notes { IsNotebookOf system.now pass.old notes.old }
-    requires instance { IsInstance (program_of system.now) (instance_of (program_of system.now) i.now) }
+    requires instance { IsInstanceByEach (program_of system.now) i.now }
     requires coded { IsCoded (program_of system.now) i.now }
     ensures own { IsPassOf cells.now pass.new }
     ensures kept { IsAtLeast pass.old pass.new }
     ensures log { IsLogOn pass.old pass.new }
     ensures notes { IsNotebookOf system.now pass.new notes.new }
-    ensures asked { AsksNoted (program_of system.now) cells.now pass.old pass.new (instance_of (program_of system.now) i.now) evals.old evals.new result }
+    ensures asked { AsksNotedByEach (program_of system.now) cells.now pass.old pass.new i.now evals.old evals.new result }
 {
     let kept = replace(notes, Notebook::new(alloc, system));
     let (came, more) = ask_at(alloc, system, cells, pass, kept, i, evals);

@@ -82,15 +82,14 @@ impl<'a> Desk<'a> {
     ghost use Rattle.std.specs.Prelude.{◌≡◌, ◌<◌, IfNone, IfOk, IfSome, false, length, true};
     ghost use Rattle.attr_rules.specs.Rules.{is_single};
     ghost use Rattle.equation_law.specs.Collections.{Collection};
-    ghost use Rattle.equation_law.specs.Equations.{kind_in};
-    ghost use Rattle.equation_law.specs.Codes.{IsRow, instance_of};
+    ghost use Rattle.equation_law.specs.Codes.{IsRow};
     ghost use Rattle.memo_cells.specs.Standing.{IsPassOf};
     ghost use Rattle.memo_cells.specs.Working.{HasCell, IsOwn, MaySettleAt, ReadsOn, program_at};
     ghost use Rattle.collection_attrs.specs.Roots.{IsRootOf, IsRootless};
-    ghost use Rattle.collection_attrs.specs.Surveys.{IsCollectorOf};
+    ghost use Rattle.collection_attrs.specs.Surveys.{Collections, IsCollectorOf};
     ghost use Rattle.inherited_walk.specs.Sites.{FindsEquation};
     ghost use Rattle.caller_pass.specs.Noting.{IsNoted};
-    ghost use Rattle.caller_pass.specs.Holding.{FindsCodeAt, FindsValueAt, HasCellThen, HasLoopAt, IsKnownCell, IsReadValueAt, IsWalkAt, KnowsCell, TellsSettledAt, WhyUnknownAt, WhyUnsettledAt};
+    ghost use Rattle.caller_pass.specs.Holding.{FindsCodeAt, FindsValueAt, HasCellThen, HasLoopAt, IsKindAt, IsKnownCell, IsReadValueAt, IsWalkAt, KnowsCell, TellsSettledAt, WhyUnknownAt, WhyUnsettledAt};
 
     /// A pass at its cells, where nothing is noted.
     pub fn new(alloc: Global, system: &'a System, cells: &'a Cells, pass: &'a mut Pass) -> Desk<'a>
@@ -186,7 +185,7 @@ impl<'a> Desk<'a> {
 
     /// The root in whose subtree what is offered to a collection stands. Where there is none, nothing is offered. The way to it is noted.
     pub(crate) fn root_for(&mut self, of: Collector) -> Option<u32>
-        requires { (c : Collection) × IsCollectorOf (program_at self.old) of c }
+        requires { (c : Collections) × IsCollectorOf (program_at self.old) of c }
         ensures same { self.new ≡ self.old }
         ensures within { IfSome result (λ r. r < length (program_at self.old).tree) }
         ensures some { IfSome result (IsRootOf (program_at self.old) of) }
@@ -232,7 +231,7 @@ impl<'a> Desk<'a> {
         requires own { IsOwn self.old }
         requires cell { HasCell self.old slot.0 }
         requires known { IsKnownCell self.old i slot }
-        requires kind { kind ≡ kind_in (program_at self.old) (instance_of (program_at self.old) i) }
+        requires kind { IsKindAt self.old i kind }
         requires set { is_single kind ≡ false }
         ensures on { ReadsOn self.old self.new }
         ensures value { IfOk result (IsReadValueAt self.old self.new i) }

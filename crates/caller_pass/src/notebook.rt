@@ -3,19 +3,17 @@ ghost use Rattle.std.specs.Prelude.{◌≡◌, ◌⊎◌, ◌<◌, IfNone, IfSom
 ghost use Rattle.std.specs.HashSet.{contains};
 ghost use Rattle.equation_law.specs.contracts.coding.InstancePartialEq.TheImpl as equality;
 ghost use Rattle.equation_law.specs.declared.coding.Instance.{Instance as CodedInstance};
-ghost use Rattle.equation_law.specs.Codes.{IsRow, instance_of};
-ghost use Rattle.equation_law.specs.Collections.{Collection};
-ghost use Rattle.equation_law.specs.Loops.{HasLoop};
+ghost use Rattle.equation_law.specs.Codes.{IsRow};
 ghost use Rattle.equation_law.specs.Systems.{program_of};
 ghost use Rattle.memo_cells.specs.declared.view.View.{View};
 ghost use Rattle.memo_cells.specs.Views.{Has};
 ghost use Rattle.collection_attrs.specs.Roots.{IsRootOf, IsRootless};
-ghost use Rattle.collection_attrs.specs.Surveys.{IsCollectorOf};
+ghost use Rattle.collection_attrs.specs.Surveys.{Collections, IsCollectorOf};
 ghost use Rattle.collection_attrs.specs.Walks.{Walk, new_walk};
 ghost use Rattle.caller_pass.specs.declared.walks.Walked.{Walked};
 ghost use Rattle.caller_pass.specs.Keeping.{IsNotebookOf, walk_at};
 ghost use Rattle.inherited_walk.specs.Sites.{FindsEquation};
-ghost use Rattle.caller_pass.specs.Noting.{IsNoted, KeepsAtMost};
+ghost use Rattle.caller_pass.specs.Noting.{IsLooping, IsNoted, KeepsAtMost};
 
 use crate::walks::Walks;
 use attr_rules::AttrId;
@@ -117,14 +115,14 @@ impl Notebook {
 
     /// Whether it is noted that an instance has a loop.
     pub(crate) fn has_loop(&self, i: &Instance) -> bool
-        ensures { result ≡ true → HasLoop (program_of self.now.system) (instance_of (program_of self.now.system) i.now) }
+        ensures { result ≡ true → IsLooping (program_of self.now.system) i.now }
     {
         self.loops.contains(i)
     }
 
     /// Notes that each of these instances has a loop, if there is memory for that.
     pub(crate) fn note_loops(&mut self, chain: &[Instance])
-        requires { (i : CodedInstance) → Has chain.now i → HasLoop (program_of self.old.system) (instance_of (program_of self.old.system) i) }
+        requires { (i : CodedInstance) → Has chain.now i → IsLooping (program_of self.old.system) i }
         ensures { self.new ≡ self.old }
     {
         put_all(&mut self.loops, chain);
@@ -149,7 +147,7 @@ impl Notebook {
     /// The root in whose subtree what is offered to a collection stands. Where there is none, nothing is offered. The way to it is noted.
     pub(crate) fn root_for(&mut self, system: &System, of: Collector) -> Option<u32>
         requires same { self.old.system ≡ system.now }
-        requires collection { (c : Collection) × IsCollectorOf (program_of system.now) of c }
+        requires collection { (c : Collections) × IsCollectorOf (program_of system.now) of c }
         ensures same { self.new ≡ self.old }
         ensures within { IfSome result (λ r. r < length (program_of system.now).tree) }
         ensures some { IfSome result (IsRootOf (program_of system.now) of) }

@@ -1,12 +1,12 @@
 // Going on with the equation of an instance: an expression, or a collection.
 ghost use Rattle.std.specs.Prelude.{◌≡◌, IfNone, IfSome, None};
-ghost use Rattle.expr_eval.specs.BySources.{EvaluatesSourceInstance};
 ghost use Rattle.collection_attrs.specs.Surveys.{IsNew, SaysCollection};
 ghost use Rattle.equation_law.specs.Codes.{IsCoded, instance_of};
 ghost use Rattle.equation_law.specs.Equations.{collection_of};
 ghost use Rattle.equation_law.specs.Reading.{IsSound};
 ghost use Rattle.equation_law.specs.Systems.{program_of};
 ghost use Rattle.expr_eval.specs.Saved.{AreSaved};
+ghost use Rattle.expr_eval.specs.Sites.{EvaluatesInstance};
 ghost use Rattle.memo_cells.specs.Working.{IsForSystem, told_by};
 ghost use Rattle.caller_pass.specs.Leaving.{AreLeft};
 
@@ -31,7 +31,7 @@ fn resume_single<'a>(
     requires saved { AreSaved system.now (told_by desk.old) saved.old }
     requires coded { IsCoded (program_of system.now) i }
     requires single { collection_of (program_of system.now) (instance_of (program_of system.now) i) ≡ None }
-    ensures evaluates { EvaluatesSourceInstance (program_of system.now) (told_by desk.old) (told_by desk.new) i result }
+    ensures evaluates { EvaluatesInstance (program_of system.now) (told_by desk.old) (told_by desk.new) i result }
     ensures saved { AreSaved system.now (told_by desk.new) saved.new }
 {
     match i {
@@ -66,10 +66,10 @@ fn resume_collection<'a>(
 ) -> Result<Turn, Memory>
     requires same { IsForSystem desk.old system.now }
     requires sound { IsSound (program_of system.now) (told_by desk.old) }
-    requires left { AreLeft system.now (told_by desk.old) (instance_of (program_of system.now) i) left.old }
+    requires left { AreLeft system.now (told_by desk.old) i left.old }
     requires collection { SaysCollection (program_of system.now) i of }
-    ensures evaluates { EvaluatesSourceInstance (program_of system.now) (told_by desk.old) (told_by desk.new) i result }
-    ensures left { AreLeft system.now (told_by desk.new) (instance_of (program_of system.now) i) left.new }
+    ensures evaluates { EvaluatesInstance (program_of system.now) (told_by desk.old) (told_by desk.new) i result }
+    ensures left { AreLeft system.now (told_by desk.new) i left.new }
 {
     let Some(root) = desk.root_for(of) else {
         let none = Survey::new(alloc, system, of);
@@ -93,10 +93,10 @@ pub(crate) fn resume<'a>(
 ) -> Result<Turn, Memory>
     requires same { IsForSystem desk.old system.now }
     requires sound { IsSound (program_of system.now) (told_by desk.old) }
-    requires left { AreLeft system.now (told_by desk.old) (instance_of (program_of system.now) i) left.old }
+    requires left { AreLeft system.now (told_by desk.old) i left.old }
     requires coded { IsCoded (program_of system.now) i }
-    ensures evaluates { EvaluatesSourceInstance (program_of system.now) (told_by desk.old) (told_by desk.new) i result }
-    ensures left { AreLeft system.now (told_by desk.new) (instance_of (program_of system.now) i) left.new }
+    ensures evaluates { EvaluatesInstance (program_of system.now) (told_by desk.old) (told_by desk.new) i result }
+    ensures left { AreLeft system.now (told_by desk.new) i left.new }
 {
     match collector_of(system, &i) {
         Some(of) => resume_collection(alloc, system, i, of, desk, left),

@@ -1,10 +1,10 @@
 // Settling an instance on demand, with an explicit stack of what waits.
 ghost use Rattle.std.specs.Prelude.{◌≡◌, ◌⊎◌, ◌++◌, ◌∷◌, [], false, true, IfOk, IsOk};
 ghost use Rattle.circular_eval.specs.Local.{IsLocalAt, IsStillLocal};
-ghost use Rattle.memo_cells.specs.Working.{ClaimsKeysAt, GoesOn, IsCodedAt, IsInstanceAt, IsOwn, KnowsAt, ReadsOn};
+ghost use Rattle.memo_cells.specs.Working.{ClaimsKeysAt, GoesOn, IsCodedAt, IsInstanceAt, IsOwn, ReadsOn};
 ghost use Rattle.caller_pass.specs.Answering.{ClosesLocal, SolvesNeed};
 ghost use Rattle.caller_pass.specs.Waiting.{IsBehind, IsLocalFrom, waits};
-ghost use Rattle.caller_pass.specs.Holding.{AnswersWaitAt, GoesThroughAt, HasLoopAt, HasTurnAt, IsCircularAt, IsFrameAt, IsMissingAt, IsProgramAt, IsUndeclaredAt, LeavesOneAt, LooksAgainAt, SolvesAt, TakesTurnAt};
+ghost use Rattle.caller_pass.specs.Holding.{AnswersWaitAt, GoesThroughAt, HasLoopAt, HasTurnAt, IsCircularAt, IsFrameAt, IsMissingAt, IsProgramAt, IsUndeclaredAt, IsUnknownAt, LeavesOneAt, LooksAgainAt, SolvesAt, TakesTurnAt};
 
 use crate::desk::Desk;
 use crate::evals::Steps;
@@ -54,7 +54,7 @@ fn evaluate<'a, L: Ledger>(
 ) -> Result<Went, AskFault>
     requires program { IsProgramAt desk.old }
     requires turn { HasTurnAt desk.old (i, waiter.old) }
-    requires unsettled { ¬ KnowsAt desk.old i }
+    requires unsettled { IsUnknownAt desk.old i }
     ensures went { GoesThroughAt desk.old desk.new i waiter.old waiter.new evals.old evals.new result }
 {
     if let Some(local) = &mut waiter.way {
@@ -267,7 +267,7 @@ fn close_more<'a, L: Ledger>(
     requires program { IsProgramAt desk.old }
     requires own { IsOwn desk.old }
     requires local { IsLocalAt desk.old local.old }
-    requires unknown { ¬ KnowsAt desk.old local.old.start }
+    requires unknown { IsUnknownAt desk.old local.old.start }
     ensures on { GoesOn desk.old desk.new }
     ensures local { IsStillLocal desk.old desk.new local.new × (local.new.start ≡ local.old.start) }
     ensures more { ClosesLocal desk.old desk.new local.old evals.old evals.new result }

@@ -2,9 +2,10 @@
 use Rattle.std.proofs.Common.{◌≡◌, ◌<◌, ℕ, List, [], ◌∷◌, Option, Some, None, Result, Ok, Err, length, map, slice_get, refl, sym, subst, arith}
 use Rattle.equation_law.specs.declared.coding.Instance.{Instance as CodedInstance}
 use Rattle.equation_law.specs.declared.system.System.{System}
-use Rattle.equation_law.specs.Codes.{instance_of, value_of}
+use Rattle.equation_law.specs.Codes.{ByEachNaming, instance_by, source_names, value_by}
 use Rattle.equation_law.specs.Equations.{HasValue}
 use Rattle.equation_law.specs.Program.{Program, text_of}
+use Rattle.equation_law.proofs.Codes.{sources_named}
 use Rattle.memo_cells.specs.declared.keys.Slot.{Slot}
 use Rattle.memo_cells.specs.declared.view.Frame.{Frame}
 use Rattle.memo_cells.specs.Standing.{Knows, MaySeal}
@@ -22,7 +23,7 @@ use Rattle.circular_eval.specs.declared.visiting.Visited.TheVariants.{Changed, N
 use Rattle.circular_eval.specs.Advancing.{AnswersFault}
 use Rattle.circular_eval.specs.Left.{left}
 use Rattle.circular_eval.specs.Local.{AreSlots, Members}
-use Rattle.circular_eval.specs.Visiting.{Admits, Advances, AnswersClose, AnswersPass, AreConfirmed, Begins, Closes, GoesAgain, GoesOnWith, IsNew, IsReady, Passes, Visits}
+use Rattle.circular_eval.specs.Visiting.{Admits, Advances, AnswersClose, AnswersPass, AreConfirmed, Begins, Closes, GoesAgain, GoesOnWith, IsNewAt, IsReady, Passes, Visits}
 use Rattle.circular_eval.proofs.Admitting.{local_is_here, near_is, program_is}
 use Rattle.circular_eval.proofs.Closing.{may_seal, member_sealed}
 use Rattle.circular_eval.proofs.Entries.{at_has}
@@ -48,13 +49,13 @@ module _ (d e f : Held) (l m n : Local) (h : GoesOnWith d e l m) where
   pub close_fault : (fault : CircFault) → Passes e f m n (Err fault) → (y : Result (Option CodedInstance) CircFault) → y ≡ Err fault → Closes d f l n y
   close_fault fault v y is =
       subst (λ (z : Result (Option CodedInstance) CircFault). Closes d f l n z) (sym is)
-      (record { goes = with_then d e f l m n h v.goes; answer = subst (λ (u : CodedInstance). AnswersFault (program_at d) (instance_of (program_at d) u) d.frame f.view fault) h.start (pass_back (Err fault) v) })
+      (record { goes = with_then d e f l m n h v.goes; answer = subst (λ (u : CodedInstance). AnswersFault (program_at d) u d.frame f.view fault) h.start (pass_back (Err fault) v) })
 
   -- and behind going on with the member that stopped last
   close_from : (y : Result (Option CodedInstance) CircFault) → AnswersClose (program_at d) d.frame f.view m n y → AnswersClose (program_at d) d.frame f.view l n y
   close_from (Ok (Some x)) a = a
   close_from (Ok None) a = a
-  close_from (Err fault) a = subst (λ (u : CodedInstance). AnswersFault (program_at d) (instance_of (program_at d) u) d.frame f.view fault) h.start a
+  close_from (Err fault) a = subst (λ (u : CodedInstance). AnswersFault (program_at d) u d.frame f.view fault) h.start a
 
   pub close_then : (y : Result (Option CodedInstance) CircFault) → Closes e f m n y → Closes d f l n y
   close_then y v = record { goes = with_then d e f l m n h v.goes; answer = close_from y (close_back d e f l m n h y v) }
@@ -93,11 +94,11 @@ head_of [] h = absurd (omega (arith, h))
 head_of (e ∷ es) h = (e, refl)
 
 -- the start
-pub first_new : (s : System) (d : Held) (l : Local) → IsReady s d l → length l.members.entries ≡ 0 → (i : CodedInstance) → i ≡ l.start → IsNew (program_at d) l i None
+pub first_new : (s : System) (d : Held) (l : Local) → IsReady s d l → length l.members.entries ≡ 0 → (i : CodedInstance) → i ≡ l.start → IsNewAt d l i None
 first_new s d l r none i is =
     let here = local_is_here s d l r in
-    subst (λ (j : CodedInstance). IsNew (program_at d) l j None) (sym is)
-    (record { instance = here.instance; coded = here.coded; is_circular = here.is_circular; absent = λ m. nothing l.members.entries none m.0 m.1; led = refl })
+    subst (λ (j : CodedInstance). IsNewAt d l j None) (sym is)
+    (λ names named. let at = here names named in record { instance = at.instance; coded = at.coded; is_circular = at.is_circular; absent = λ m. nothing l.members.entries none m.0 m.1; led = refl })
 
 pub begin_none : (s : System) (d : Held) (l : Local) (u : Unit) → IsReady s d l → 0 < length l.members.entries → Begins d d l l (Ok u)
 begin_none s d l u r some = record { goes = with_itself s d l r; some = some; fault = tt }
@@ -109,13 +110,13 @@ begin_admits d e l m y h = record { goes = h.goes; some = h.some; fault = h.faul
 pub on_refused : (d e : Held) (l m : Local) (fault : CircFault) → Begins d e l m (Err fault) → (y : Result CircTurn CircFault) → y ≡ Err fault → Advances d e l m y
 on_refused d e l m fault h y is =
     subst (λ (z : Result CircTurn CircFault). Advances d e l m z) (sym is)
-    (record { goes = h.goes; begun = tt; answer = subst (λ (u : CodedInstance). AnswersFault (program_at d) (instance_of (program_at d) u) d.frame e.view fault) (sym h.goes.start) h.fault })
+    (record { goes = h.goes; begun = tt; answer = subst (λ (u : CodedInstance). AnswersFault (program_at d) u d.frame e.view fault) (sym h.goes.start) h.fault })
 
 module _ (d e f : Held) (l m n : Local) (h : GoesOnWith d e l m) where
   pub on_fault : (fault : CircFault) → Closes e f m n (Err fault) → (y : Result CircTurn CircFault) → y ≡ Err fault → Advances d f l n y
   on_fault fault v y is =
       subst (λ (z : Result CircTurn CircFault). Advances d f l n z) (sym is)
-      (record { goes = with_then d e f l m n h v.goes; begun = tt; answer = subst (λ (u : CodedInstance). AnswersFault (program_at d) (instance_of (program_at d) u) d.frame f.view fault) (sym v.goes.start) (close_back d e f l m n h (Err fault) v) })
+      (record { goes = with_then d e f l m n h v.goes; begun = tt; answer = subst (λ (u : CodedInstance). AnswersFault (program_at d) u d.frame f.view fault) (sym v.goes.start) (close_back d e f l m n h (Err fault) v) })
 
   pub on_need : 0 < length m.members.entries → (x : CodedInstance) → Closes e f m n (Ok (Some x)) → Advances d f l n (Ok (turn.Need x))
   on_need some x v = record { goes = with_then d e f l m n h v.goes; begun = v.goes.some some; answer = close_back d e f l m n h (Ok (Some x)) v }
@@ -134,29 +135,37 @@ module _ (d e f : Held) (l m n : Local) (h : GoesOnWith d e l m) where
     confirmed = subst (λ (u : Program). AreConfirmed u f.view n.members.entries) (sym (program_on d f on_goes.on)) (close_back d e f l m n h (Ok None) closed)
 
     module _ (slots : List Slot) (are : AreSlots n.members.entries slots) where
+      on_may_by : ByEachNaming (program_at f) (λ names. MaySeal (program_at f) f.frame f.view (map (λ x. x.0) slots))
+      on_may_by names named =
+          may_seal (program_at f) names named (program_is s f n ready) f.view (near_is s f n ready) f.frame n.start n.members.entries (local_is_here s f n ready names named).set confirmed slots are
+
       pub on_may : MaySeal (program_at f) f.frame f.view (map (λ x. x.0) slots)
-      on_may = may_seal (program_at f) (program_is s f n ready) f.view (near_is s f n ready) f.frame n.start n.members.entries (local_is_here s f n ready).set confirmed slots are
+      on_may = on_may_by (source_names (text_of (program_at f))) (sources_named (program_at f))
 
       module _ (g : Held) (on : ReadsOn f g) (sealed : AreSealed f.view g.view (map (λ x. x.0) slots)) where
-        each : (x : CodedInstance × Member) → Has n.members.entries x → Knows (program_at f) g.view (instance_of (program_at f) x.0)
-        each x there = member_sealed (program_at f) (program_is s f n ready) f.view (near_is s f n ready) f.frame n.start n.members.entries (local_is_here s f n ready).set confirmed slots are g.view on.on.kept sealed x there
+        each : (x : CodedInstance × Member) → Has n.members.entries x → ByEachNaming (program_at f) (λ names. Knows (program_at f) g.view (instance_by (program_at f) names x.0))
+        each x there names named =
+            member_sealed (program_at f) names named (program_is s f n ready) f.view (near_is s f n ready) f.frame n.start n.members.entries (local_is_here s f n ready names named).set confirmed slots are g.view on.on.kept sealed x there
 
-        each_here : (x : CodedInstance × Member) → Has n.members.entries x → Knows (program_at d) g.view (instance_of (program_at d) x.0)
-        each_here x there = subst (λ (u : Program). Knows u g.view (instance_of u x.0)) (program_on d f on_goes.on) (each x there)
+        each_here : (x : CodedInstance × Member) → Has n.members.entries x → ByEachNaming (program_at d) (λ names. Knows (program_at d) g.view (instance_by (program_at d) names x.0))
+        each_here x there = subst (λ (u : Program). ByEachNaming u (λ names. Knows u g.view (instance_by u names x.0))) (program_on d f on_goes.on) (each x there)
 
-        each_value : (x : CodedInstance × Member) → Has n.members.entries x → HasValue (program_at d) (instance_of (program_at d) x.0) (value_of (text_of (program_at d)) x.1.value)
-        each_value x there =
-            subst (λ (u : Program). HasValue u (instance_of u x.0) (value_of (text_of u) x.1.value)) (program_on d f on_goes.on)
-            (member_has (program_at f) (program_is s f n ready) f.view (near_is s f n ready) f.frame n.start n.members.entries (local_is_here s f n ready).set confirmed slots are x there)
+        has_each : (x : CodedInstance × Member) → Has n.members.entries x → ByEachNaming (program_at f) (λ names. HasValue (program_at f) (instance_by (program_at f) names x.0) (value_by names x.1.value))
+        has_each x there names named =
+            member_has (program_at f) names named (program_is s f n ready) f.view (near_is s f n ready) f.frame n.start n.members.entries (local_is_here s f n ready names named).set confirmed slots are x there
 
-        start_sealed : Knows (program_at d) g.view (instance_of (program_at d) n.start)
+        each_value : (x : CodedInstance × Member) → Has n.members.entries x → ByEachNaming (program_at d) (λ names. HasValue (program_at d) (instance_by (program_at d) names x.0) (value_by names x.1.value))
+        each_value x there = subst (λ (u : Program). ByEachNaming u (λ names. HasValue u (instance_by u names x.0) (value_by names x.1.value))) (program_on d f on_goes.on) (has_each x there)
+
+        start_sealed : ByEachNaming (program_at d) (λ names. Knows (program_at d) g.view (instance_by (program_at d) names n.start))
         start_sealed =
             let x = head_of n.members.entries (closed.goes.some some) in
-            subst (λ (i : CodedInstance). Knows (program_at d) g.view (instance_of (program_at d) i)) ((local_is_here s f n ready).set.first x.0 x.1) (each_here x.0 (at_has n.members.entries 0 x.0 x.1))
+            let at = local_is_here s f n ready (source_names (text_of (program_at f))) (sources_named (program_at f)) in
+            subst (λ (i : CodedInstance). ByEachNaming (program_at d) (λ names. Knows (program_at d) g.view (instance_by (program_at d) names i))) (at.set.first x.0 x.1) (each_here x.0 (at_has n.members.entries 0 x.0 x.1))
 
         pub on_closed : Advances d g l n (Ok turn.Closed)
         on_closed = record {
           goes = with_then d f g l n n on_goes (goes_read s f g n n ready on (record { start = refl; entries = refl; need = refl; saved = refl }));
           begun = closed.goes.some some;
-          answer = record { start = start_sealed; members = each_here; values = each_value };
+          answer = λ names named. record { start = start_sealed names named; members = λ x there. each_here x there names named; values = λ x there. each_value x there names named };
         }

@@ -1,14 +1,16 @@
 -- Members by their instances and by their numbers.
-use Rattle.std.proofs.Common.{◌≡◌, ℕ, zero, suc, Bool, true, false, cond, Option, Some, None, [], ◌∷◌, ◌++◌, slice_get, inl, inr, refl, sym, ap, ◌∙◌}
+use Rattle.std.proofs.Common.{◌≡◌, ℕ, zero, suc, Bool, true, false, cond, Option, Some, None, [], ◌∷◌, ◌++◌, slice_get, inl, inr, refl, sym, ap, subst, ◌∙◌}
 use Rattle.std.specs.Map.{lookup, lookup_key, values_of}
 use Rattle.rag_io.specs.Pool.{ArePooled}
 use Rattle.indexmap.specs.IndexMap.{insert_entry, set_value_at}
 use Rattle.equation_law.specs.contracts.coding.InstancePartialEq.TheImpl as equality
 use Rattle.equation_law.specs.declared.coding.Instance.{Instance as CodedInstance}
 use Rattle.equation_law.specs.declared.coding.Value.{Value as CodedValue}
-use Rattle.equation_law.specs.Codes.{IsCoded, instance_of, value_of}
-use Rattle.equation_law.specs.Program.{Program, text_of}
-use Rattle.equation_law.proofs.Keys.{key_is, key_same, key_self, one_key}
+use Rattle.equation_law.specs.Codes.{IsCoded, IsNamingOf, Naming, instance_by, value_by}
+use Rattle.equation_law.specs.Names.{same_instance}
+use Rattle.equation_law.specs.Program.{Program}
+use Rattle.equation_law.proofs.Keys.{both_ways, key_is, key_self, one_key_by}
+use Rattle.equation_law.proofs.Names.{same_instance_is, same_instance_self}
 use Rattle.memo_cells.specs.Views.{Has}
 use Rattle.memo_cells.proofs.Showing.{not_both}
 use Rattle.circular_eval.specs.declared.members.Member.{Member}
@@ -39,22 +41,29 @@ not_found (d ∷ es) i h e (inr s) is =
     let n = none_first (equality.ghosts.eq i d.0) d.1 (lookup (equality.ghosts.eq i) es) h in
     not_found es i n.1 e s is
 
-module _ (p : Program) (pooled : ArePooled p.texts) where
-  pub absent_member : (es : Members) (i : CodedInstance) → AreKept p es → IsCoded p i → IsAbsent es i → ¬ IsMemberOf p es (instance_of p i)
-  absent_member es i kept c absent (e, there, is) = absent e there (one_key p pooled e.0 i (kept e there).0 c is)
+module _ (p : Program) {names : Naming} (named : IsNamingOf p names) (pooled : ArePooled p.texts) where
+  pub absent_member : (es : Members) (i : CodedInstance) → AreKept p names es → IsCoded p i → IsAbsent es i → ¬ IsMemberOf p names es (instance_by p names i)
+  absent_member es i kept c absent (e, there, is) = absent e there (one_key_by p pooled named e.0 i (kept e there).0 c is)
+
+  -- well coded instances are equal where they stand for one instance
+  key_same_by : (a b : CodedInstance) → IsCoded p a → IsCoded p b → equality.ghosts.eq a b ≡ same_instance (instance_by p names a) (instance_by p names b)
+  key_same_by a b v w =
+      both_ways (equality.ghosts.eq a b) (same_instance (instance_by p names a) (instance_by p names b))
+      (λ e. subst (λ (x : CodedInstance). same_instance (instance_by p names a) (instance_by p names x) ≡ true) (key_is a b e) (same_instance_self (instance_by p names a)))
+      (λ e. subst (λ (x : CodedInstance). equality.ghosts.eq a x ≡ true) (one_key_by p pooled named a b v w (same_instance_is (instance_by p names a) (instance_by p names b) e)) (key_self a))
 
   -- the value of the entry that is found
-  pub found_value : (es : Members) (i : CodedInstance) (m : Member) → AreKept p es → IsCoded p i → lookup (equality.ghosts.eq i) es ≡ Some m → local_value p es (instance_of p i) ≡ value_of (text_of p) m.value
+  pub found_value : (es : Members) (i : CodedInstance) (m : Member) → AreKept p names es → IsCoded p i → lookup (equality.ghosts.eq i) es ≡ Some m → local_value p names es (instance_by p names i) ≡ value_by names m.value
   found_value [] i m kept c h = cc
   found_value (e ∷ es) i m kept c h =
-      ap (λ b. cond b (value_of (text_of p) e.1.value) (local_value p es (instance_of p i))) (sym (key_same p pooled i e.0 c (kept e (inl refl)).0))
-      ∙ elim (equality.ghosts.eq i e.0) as (λ b. cond b (Some e.1) (lookup (equality.ghosts.eq i) es) ≡ Some m → cond b (value_of (text_of p) e.1.value) (local_value p es (instance_of p i)) ≡ value_of (text_of p) m.value) [
-        | true ↦ λ g. let is : e.1 ≡ m = cc in ap (λ (x : Member). value_of (text_of p) x.value) is
+      ap (λ b. cond b (value_by names e.1.value) (local_value p names es (instance_by p names i))) (sym (key_same_by i e.0 c (kept e (inl refl)).0))
+      ∙ elim (equality.ghosts.eq i e.0) as (λ b. cond b (Some e.1) (lookup (equality.ghosts.eq i) es) ≡ Some m → cond b (value_by names e.1.value) (local_value p names es (instance_by p names i)) ≡ value_by names m.value) [
+        | true ↦ λ g. let is : e.1 ≡ m = cc in ap (λ (x : Member). value_by names x.value) is
         | false ↦ λ g. found_value es i m (λ d there. kept d (inr there)) c g
       ] h
 
-pub member_at : (p : Program) (es : Members) (i : CodedInstance) (m : Member) → lookup (equality.ghosts.eq i) es ≡ Some m → IsMemberOf p es (instance_of p i)
-member_at p es i m h = let r = found es i m h in (r.0, r.1, ap (λ (x : CodedInstance). instance_of p x) r.2)
+pub member_at : (p : Program) (names : Naming) (es : Members) (i : CodedInstance) (m : Member) → lookup (equality.ghosts.eq i) es ≡ Some m → IsMemberOf p names es (instance_by p names i)
+member_at p names es i m h = let r = found es i m h in (r.0, r.1, ap (λ (x : CodedInstance). instance_by p names x) r.2)
 
 -- a new one comes last
 pub comes_last : (es : Members) (i : CodedInstance) (m : Member) → IsAbsent es i → insert_entry equality.ghosts.eq es i m ≡ es ++ (i, m) ∷ []

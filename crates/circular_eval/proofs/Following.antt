@@ -6,11 +6,11 @@ use Rattle.solutions.proofs.Looping.{halts_meets}
 use Rattle.equation_law.specs.declared.coding.Instance.{Instance as CodedInstance}
 use Rattle.equation_law.specs.declared.system.System.{System}
 use Rattle.equation_law.specs.Checked.{IsInstance}
-use Rattle.equation_law.specs.Codes.{instance_of}
+use Rattle.equation_law.specs.Codes.{IsNamingOf, Naming, instance_by, instance_of, source_names}
 use Rattle.equation_law.specs.Equations.{equations_of, is_declared}
 use Rattle.equation_law.specs.Loops.{Chain, Leads}
 use Rattle.equation_law.specs.Names.{Instance}
-use Rattle.equation_law.specs.Program.{Program}
+use Rattle.equation_law.specs.Program.{Program, text_of}
 use Rattle.equation_law.specs.Systems.{program_of}
 use Rattle.equation_law.specs.Values.{Value}
 use Rattle.equation_law.proofs.Declared.{as_declared}
@@ -23,13 +23,17 @@ use Rattle.circular_eval.specs.declared.advancing.CircFault.{CircFault}
 use Rattle.circular_eval.specs.declared.local.Local.{Local}
 use Rattle.circular_eval.specs.declared.visiting.Visited.{Visited}
 use Rattle.circular_eval.specs.declared.visiting.Visited.TheVariants.{Need}
-use Rattle.circular_eval.specs.Local.{IsMember, Members, ReadsHere, here, local_value, settled}
-use Rattle.circular_eval.specs.Visiting.{Admits, ComesAt, IsNew, IsReady, Steps}
+use Rattle.circular_eval.specs.Advancing.{IsMissing}
+use Rattle.circular_eval.specs.Local.{IsLocal, IsMember, Members, ReadsHere, here, local_value, settled}
+use Rattle.circular_eval.specs.Looking.{ComesTo}
+use Rattle.circular_eval.specs.Visiting.{Admits, ComesAt, IsNew, IsNewAt, IsReady, Steps}
 use Rattle.circular_eval.proofs.Admitting.{local_is_here, near_is, program_is}
+use Rattle.circular_eval.proofs.Came.{need_comes}
 use Rattle.circular_eval.proofs.Going.{member_chain}
 use Rattle.circular_eval.proofs.Growing.{local_needs}
 use Rattle.memo_cells.proofs.Holding.{goes_itself}
 use Rattle.circular_eval.proofs.Lowering.{met_is, stuck_leads}
+use Rattle.circular_eval.proofs.Tied.{declared_same}
 
 -- a step that admitted a member
 pub admit_step : (d e : Held) (l m : Local) (number : ℕ) (u : Unit) → Admits d e l m (Ok u) → Steps d e l m number (Ok None)
@@ -49,69 +53,82 @@ module _ (s : System) (d : Held) (l : Local) (r : IsReady s d l) (number : ℕ) 
   abbrev es : Members
   es = l.members.entries
 
-  abbrev i : Instance
-  i = instance_of p came.entry.0
+  -- by a naming
+  module _ (names : Naming) (named : IsNamingOf p names) where
+    abbrev i : Instance
+    i = instance_by p names came.entry.0
 
-  abbrev j : Instance
-  j = instance_of p n
+    abbrev j : Instance
+    j = instance_by p names n
 
-  member : IsMember p d.frame d.view es l.start number came.entry
-  member = (local_is_here s d l r).set.members number came.entry came.at
+    set_here : IsLocal p names d.frame d.view l
+    set_here = local_is_here s d l r names named
 
-  halting : Halts (ReadsHere p d.view es) ((equations_of p).equation i) j came.comes.0.0
-  halting = came.comes.0.1
+    member : IsMember p names d.frame d.view es l.start number came.entry
+    member = set_here.set.members number came.entry came.at
 
-  needed : IsInstance p j
-  needed = met_is p (program_is s d l r) d.view (near_is s d l r) d.frame l.start es (local_is_here s d l r).set i member.instance j (halts_meets halting).0
+    stuck : ComesTo p names d.view es i (turns.Need n)
+    stuck = need_comes s d l r number n came names named
 
-  not_read : (w : Value) → ReadsHere p d.view es j w → ⊥
-  not_read = (halts_meets halting).1
+    halting : Halts (ReadsHere p names d.view es) ((equations_of p).equation i) j stuck.0.0
+    halting = stuck.0.1
 
-  leads : Leads p i j
-  leads = stuck_leads p (program_is s d l r) d.view (near_is s d l r) d.frame l.start es (local_is_here s d l r).set i member.instance member.is_circular j came.comes.0.0 halting
+    needed : IsInstance p j
+    needed = met_is p names (program_is s d l r) d.view (near_is s d l r) d.frame l.start es set_here.set i member.instance j (halts_meets halting).0
 
-  declared_here : (b : Bool) → b ≡ is_declared (program_of s) (instance_of (program_of s) n) → (equations_of p).circular j ≡ b
-  declared_here b e = as_declared p (program_is s d l r) j needed ∙ subst (λ (u : System). is_declared (program_of u) (instance_of (program_of u) n) ≡ b) (sym r.same) (sym e)
+    not_read : (w : Value) → ReadsHere p names d.view es j w → ⊥
+    not_read = (halts_meets halting).1
 
-  -- a circular one is met
-  pub need_new : true ≡ is_declared (program_of s) (instance_of (program_of s) n) → IsNew p l n (Some number)
-  need_new e =
-      let c = declared_here true e in
-      record {
-        instance = needed;
-        coded = came.comes.1;
-        is_circular = c;
-        absent = λ m. not_read (local_value p es j) (here (sym (as_declared p (program_is s d l r) j needed) ∙ c) m);
-        led = (slice_get_within es number came.entry came.at, (came.entry, came.at, leads));
-      }
+    leads : Leads p i j
+    leads = stuck_leads p names (program_is s d l r) d.view (near_is s d l r) d.frame l.start es set_here.set i member.instance member.is_circular j stuck.0.0 halting
 
-  -- another one is missing
-  module _ (plain : false ≡ is_declared (program_of s) (instance_of (program_of s) n)) where
-    undeclared : (equations_of p).circular j ≡ false
-    undeclared = declared_here false plain
+    declared_here : (b : Bool) → b ≡ is_declared (program_of s) (instance_of (program_of s) n) → (equations_of p).circular j ≡ b
+    declared_here b e =
+        as_declared p (program_is s d l r) j needed ∙ declared_same p names (source_names (text_of p)) n
+        ∙ subst (λ (u : System). is_declared (program_of u) (instance_of (program_of u) n) ≡ b) (sym r.same) (sym e)
 
-    not_known : ¬ Knows p d.view j
-    not_known k = let v = r.own.coded k.slot k.key k.code k.settled j k.stands in not_read v.value (settled (sym (as_declared p (program_is s d l r) j needed) ∙ undeclared) (k, v.has))
-
-    pub need_missing : (m : Local) → m.start ≡ l.start → m.members ≡ l.members → m.need ≡ Some (number, n) → m.saved ≡ l.saved → Steps d d l m number (Ok (Some (Need n)))
-    need_missing m start members need saved = record {
-      goes = record {
-        on = goes_itself d r.own;
-        local = local_needs p d.frame d.view l m number n came.entry came.at leads start members need saved (local_is_here s d l r);
-        start = start;
-        claims = claims_same p (instance_of p l.start) d.view d.view refl;
-        some = λ h. subst (λ (k : ℕ). 0 < k) (sym (ap (λ x. length x.entries) members)) h;
-      };
-      answer = (
+    -- a circular one is met
+    new_by : true ≡ is_declared (program_of s) (instance_of (program_of s) n) → IsNew p names l n (Some number)
+    new_by e =
+        let c = declared_here true e in
         record {
           instance = needed;
-          coded = came.comes.1;
-          undeclared = undeclared;
-          unknown = not_known;
-          reached = subst (λ (x : CodedInstance). Chain p (instance_of p x) j) (sym start) (chain_more p (instance_of p l.start) i j (member_chain p d.frame d.view l (local_is_here s d l r) number came.entry came.at) leads);
-          number = number;
-          noted = need;
-        },
-        ap (λ x. x.entries) members,
-      );
-    }
+          coded = stuck.1;
+          is_circular = c;
+          absent = λ m. not_read (local_value p names es j) (here (sym (as_declared p (program_is s d l r) j needed) ∙ c) m);
+          led = (slice_get_within es number came.entry came.at, (came.entry, came.at, leads));
+        }
+
+    -- another one is missing
+    module _ (plain : false ≡ is_declared (program_of s) (instance_of (program_of s) n)) where
+      undeclared : (equations_of p).circular j ≡ false
+      undeclared = declared_here false plain
+
+      not_known : ¬ Knows p d.view j
+      not_known k = let v = r.own.coded k.slot k.key k.code k.settled j k.stands in not_read v.value (settled (sym (as_declared p (program_is s d l r) j needed) ∙ undeclared) (k, v.has))
+
+      missing_by : (m : Local) → m.start ≡ l.start → m.need ≡ Some (number, n) → IsMissing p names d.view m n
+      missing_by m start need = record {
+        instance = needed;
+        coded = stuck.1;
+        undeclared = undeclared;
+        unknown = not_known;
+        reached = subst (λ (x : CodedInstance). Chain p (instance_by p names x) j) (sym start) (chain_more p (instance_by p names l.start) i j (member_chain p names d.frame d.view l set_here number came.entry came.at) leads);
+        number = number;
+        noted = need;
+      }
+
+  pub need_new : true ≡ is_declared (program_of s) (instance_of (program_of s) n) → IsNewAt d l n (Some number)
+  need_new e names named = new_by names named e
+
+  pub need_missing : false ≡ is_declared (program_of s) (instance_of (program_of s) n) → (m : Local) → m.start ≡ l.start → m.members ≡ l.members → m.need ≡ Some (number, n) → m.saved ≡ l.saved → Steps d d l m number (Ok (Some (Need n)))
+  need_missing plain m start members need saved = record {
+    goes = record {
+      on = goes_itself d r.own;
+      local = λ names named. local_needs p names d.frame d.view l m number n came.entry came.at (leads names named) start members need saved (local_is_here s d l r names named);
+      start = start;
+      claims = λ names named. claims_same p (instance_by p names l.start) d.view d.view refl;
+      some = λ h. subst (λ (k : ℕ). 0 < k) (sym (ap (λ x. length x.entries) members)) h;
+    };
+    answer = (λ names named. missing_by names named plain m start need, ap (λ x. x.entries) members);
+  }

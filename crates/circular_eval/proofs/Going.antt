@@ -3,12 +3,12 @@ use Rattle.std.proofs.Common.{◌≡◌, ℕ, ◌<◌, zero, suc, true, List, Op
 use Rattle.solutions.specs.Leading.{none}
 use Rattle.equation_law.specs.declared.coding.Instance.{Instance as CodedInstance}
 use Rattle.equation_law.specs.declared.system.System.{System}
-use Rattle.equation_law.specs.Codes.{instance_of}
+use Rattle.equation_law.specs.Codes.{ByEachNaming, Naming, instance_by}
 use Rattle.equation_law.specs.Equations.{equations_of, kind_in}
-use Rattle.equation_law.specs.Keys.{HasElement, IsElementCode, has_code}
+use Rattle.equation_law.specs.Keys.{HasCode, HasElement, IsElementCode}
 use Rattle.equation_law.specs.Loops.{Chain}
 use Rattle.equation_law.specs.Names.{Instance}
-use Rattle.equation_law.specs.Program.{Program, text_of}
+use Rattle.equation_law.specs.Program.{Program}
 use Rattle.equation_law.specs.Systems.{program_of}
 use Rattle.equation_law.specs.Values.{Value}
 use Rattle.memo_cells.specs.declared.view.Frame.{Frame}
@@ -22,32 +22,32 @@ use Rattle.memo_cells.proofs.Showing.{has_code_more}
 use Rattle.memo_cells.specs.SetRaising.{ClaimsWords, LacksWord}
 use Rattle.circular_eval.specs.declared.local.Local.{Local}
 use Rattle.circular_eval.specs.declared.members.Member.{Member}
-use Rattle.circular_eval.specs.Local.{AreMembers, IsLedBy, IsLocal, Members}
+use Rattle.circular_eval.specs.Local.{AreMembers, IsLedBy, IsLocal, IsLocalByEach, Members}
 use Rattle.circular_eval.specs.Visiting.{GoesOnWith, IsReady}
 use Rattle.memo_cells.proofs.Holding.{goes_itself, goes_then}
 
 -- the start leads to each member
-led_by : (p : Program) (start : CodedInstance) (es : Members) (k : ℕ) (i : CodedInstance) (by : Option ℕ) → ((b : ℕ) (d : CodedInstance × Member) → b < k → slice_get es b ≡ Some d → Chain p (instance_of p start) (instance_of p d.0)) → IsLedBy p es start k i by → Chain p (instance_of p start) (instance_of p i)
-led_by p start es k i None before h = subst (λ (j : CodedInstance). Chain p (instance_of p start) (instance_of p j)) (sym h) none
-led_by p start es k i (Some b) before h = chain_more p (instance_of p start) (instance_of p h.1.0.0) (instance_of p i) (before b h.1.0 h.0 h.1.1) h.1.2
+led_by : (p : Program) (names : Naming) (start : CodedInstance) (es : Members) (k : ℕ) (i : CodedInstance) (by : Option ℕ) → ((b : ℕ) (d : CodedInstance × Member) → b < k → slice_get es b ≡ Some d → Chain p (instance_by p names start) (instance_by p names d.0)) → IsLedBy p names es start k i by → Chain p (instance_by p names start) (instance_by p names i)
+led_by p names start es k i None before h = subst (λ (j : CodedInstance). Chain p (instance_by p names start) (instance_by p names j)) (sym h) none
+led_by p names start es k i (Some b) before h = chain_more p (instance_by p names start) (instance_by p names h.1.0.0) (instance_by p names i) (before b h.1.0 h.0 h.1.1) h.1.2
 
-led_chain : (p : Program) (f : Frame) (v : View) (start : CodedInstance) (es : Members) (set : AreMembers p f v start es) (bound k : ℕ) (e : CodedInstance × Member) → k < bound → slice_get es k ≡ Some e → Chain p (instance_of p start) (instance_of p e.0)
-led_chain p f v start es set zero k e low at = absurd (omega (arith, low))
-led_chain p f v start es set (suc bound) k e low at = led_by p start es k e.0 e.1.by (λ b d less there. led_chain p f v start es set bound b d (omega (arith, less, low)) there) (set.members k e at).led
+led_chain : (p : Program) (names : Naming) (f : Frame) (v : View) (start : CodedInstance) (es : Members) (set : AreMembers p names f v start es) (bound k : ℕ) (e : CodedInstance × Member) → k < bound → slice_get es k ≡ Some e → Chain p (instance_by p names start) (instance_by p names e.0)
+led_chain p names f v start es set zero k e low at = absurd (omega (arith, low))
+led_chain p names f v start es set (suc bound) k e low at = led_by p names start es k e.0 e.1.by (λ b d less there. led_chain p names f v start es set bound b d (omega (arith, less, low)) there) (set.members k e at).led
 
-pub member_chain : (p : Program) (f : Frame) (v : View) (l : Local) → IsLocal p f v l → (k : ℕ) (e : CodedInstance × Member) → slice_get l.members.entries k ≡ Some e → Chain p (instance_of p l.start) (instance_of p e.0)
-member_chain p f v l h k e at = led_chain p f v l.start l.members.entries h.set (suc k) k e (omega arith) at
+pub member_chain : (p : Program) (names : Naming) (f : Frame) (v : View) (l : Local) → IsLocal p names f v l → (k : ℕ) (e : CodedInstance × Member) → slice_get l.members.entries k ≡ Some e → Chain p (instance_by p names l.start) (instance_by p names e.0)
+member_chain p names f v l h k e at = led_chain p names f v l.start l.members.entries h.set (suc k) k e (omega arith) at
 
 -- what calls claimed in turn
 pub claims_more : (p : Program) (i : Instance) (u v w : View) → ClaimsKeys p i u v → ClaimsKeys p i v w → IsAtLeast v w → ClaimsKeys p i u w
 claims_more p i u v w a b kept = claims_then p i i u v w none a kept b
 
 -- the words of a value that a lower assignment reaches
-module _ (p : Program) (i j : Instance) (c : Chain p i j) (T : Instance → Value) (is_circular : (equations_of p).circular j ≡ true) (x : Value) (t : Higher p T j x) (codes : List ℕ) (elements : (k : ℕ) → Has codes k → IsElementCode p (kind_in p j) k × (has_code (text_of p) (kind_in p j) x k ≡ true)) where
+module _ (p : Program) (i j : Instance) (c : Chain p i j) (T : Instance → Value) (is_circular : (equations_of p).circular j ≡ true) (x : Value) (t : Higher p T j x) (codes : List ℕ) (elements : (k : ℕ) → Has codes k → IsElementCode p (kind_in p j) k × HasCode p (kind_in p j) x k) where
   counted : (k : ℕ) → Has codes k → IsElementCode p (kind_in p j) k × HasElement p j k
   counted k among =
       let e = elements k among in
-      (e.0, inr (t.values, t.lower, is_circular, has_code_more (text_of p) (kind_in p j) x (t.values j) k (t.reaches is_circular) e.1))
+      (e.0, inr (t.values, t.lower, is_circular, has_code_more p (kind_in p j) x (t.values j) k (t.reaches is_circular) e.1))
 
   pub claims_raised : (v w : View) → ClaimsWords p v w j codes → ClaimsKeys p i v w
   claims_raised v w h = claims_words p i j c codes counted v w h
@@ -59,23 +59,28 @@ module _ (p : Program) (i j : Instance) (c : Chain p i j) (T : Instance → Valu
 pub program_on : (d e : Held) → GoesOn d e → program_at e ≡ program_at d
 program_on d e on = ap (λ (f : Frame). program_of f.system.value) on.cells
 
+-- what a call claimed, said of the program of what was held before
+pub claims_on : (a b : Held) → GoesOn a b → (i j : CodedInstance) → i ≡ j → (v w : View) → ByEachNaming (program_at b) (λ names. ClaimsKeys (program_at b) (instance_by (program_at b) names i) v w) → ByEachNaming (program_at a) (λ names. ClaimsKeys (program_at a) (instance_by (program_at a) names j) v w)
+claims_on a b on i j is v w h = subst (λ (u : Program × CodedInstance). ByEachNaming u.0 (λ names. ClaimsKeys u.0 (instance_by u.0 names u.1) v w)) (λ k. (program_on a b on k, is k)) h
+
 pub with_itself : (s : System) (d : Held) (l : Local) → IsReady s d l → GoesOnWith d d l l
 with_itself s d l r = record {
   on = goes_itself d r.own;
-  local = subst (λ (q : System). IsLocal (program_of q) d.frame d.view l) (sym r.same) r.local;
+  local = subst (λ (q : System). IsLocalByEach (program_of q) d.frame d.view l) (sym r.same) r.local;
   start = refl;
-  claims = claims_same (program_at d) (instance_of (program_at d) l.start) d.view d.view refl;
+  claims = λ names named. claims_same (program_at d) (instance_by (program_at d) names l.start) d.view d.view refl;
   some = λ x. x;
 }
 
 pub with_then : (a b c : Held) (l m n : Local) → GoesOnWith a b l m → GoesOnWith b c m n → GoesOnWith a c l n
 with_then a b c l m n x y =
-    let claims : ClaimsKeys (program_at a) (instance_of (program_at a) l.start) b.view c.view = subst (λ (u : Program × CodedInstance). ClaimsKeys u.0 (instance_of u.0 u.1) b.view c.view) (λ j. (program_on a b x.on j, x.start j)) y.claims in
     record {
       on = goes_then a b c x.on y.on;
-      local = subst (λ (f : Frame). IsLocal (program_of f.system.value) f c.view n) x.on.cells y.local;
+      local = subst (λ (f : Frame). IsLocalByEach (program_of f.system.value) f c.view n) x.on.cells y.local;
       start = y.start ∙ x.start;
-      claims = claims_more (program_at a) (instance_of (program_at a) l.start) a.view b.view c.view x.claims claims y.on.kept;
+      claims = λ names named.
+          claims_more (program_at a) (instance_by (program_at a) names l.start) a.view b.view c.view (x.claims names named)
+          (claims_on a b x.on m.start l.start x.start b.view c.view y.claims names named) y.on.kept;
       some = λ h. y.some (x.some h);
     }
 
@@ -87,5 +92,5 @@ ready_then s a b l m r x =
       program = r.program;
       same = same;
       own = x.on.own;
-      local = subst (λ (q : Program × Frame). IsLocal q.0 q.1 b.view m) (λ i. (ap program_of r.same i, sym x.on.cells i)) x.local;
+      local = subst (λ (q : Program × Frame). IsLocalByEach q.0 q.1 b.view m) (λ i. (ap program_of r.same i, sym x.on.cells i)) x.local;
     }

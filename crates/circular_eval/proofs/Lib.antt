@@ -1,5 +1,6 @@
 pub mod Absorbing
 pub mod Admitting
+pub mod Came
 pub mod Closing
 pub mod Ending
 pub mod Entries
@@ -20,5 +21,6 @@ pub mod Rising
 pub mod Sealing
 pub mod Settling
 pub mod Slots
+pub mod Tied
 pub mod ValueRaised
 pub mod Valued

@@ -1,18 +1,17 @@
 -- What an evaluation under a local set reads.
-use Rattle.std.proofs.Common.{◌≡◌, false, true, Option, Some, None, Result, Ok, Err, refl, sym, ap, subst, ◌∙◌}
+use Rattle.std.proofs.Common.{◌≡◌, false, true, refl, sym, ap, subst, ◌∙◌}
 use Rattle.attr_rules.specs.declared.kinds.Kind.{Kind}
 use Rattle.attr_rules.specs.declared.kinds.Kind.TheVariants as kinds
-use Rattle.rag_io.specs.declared.Memory.{Memory}
-use Rattle.equation_law.specs.declared.coding.Value.{Value as CodedValue}
 use Rattle.equation_law.specs.declared.system.System.{System}
-use Rattle.equation_law.specs.Codes.{AreElements, source_names, value_of}
-use Rattle.equation_law.specs.Equations.{is_declared, kind_in}
+use Rattle.equation_law.specs.Codes.{NamesInOrder, Naming, source_names}
+use Rattle.equation_law.specs.Equations.{is_declared}
 use Rattle.equation_law.specs.Names.{Instance}
 use Rattle.equation_law.specs.Orders.{FitsKind}
 use Rattle.equation_law.specs.Program.{Program, text_of}
-use Rattle.equation_law.specs.Reading.{Grows, IsSound, SettlesSources, Told}
+use Rattle.equation_law.specs.Reading.{Grows, IsSound, Told}
 use Rattle.equation_law.specs.Systems.{program_of}
 use Rattle.equation_law.specs.Values.{Value, as_kind}
+use Rattle.equation_law.proofs.Codes.{sources_named}
 use Rattle.equation_law.proofs.Solution.{one}
 use Rattle.expr_eval.specs.declared.saved.Saved.{Saved}
 use Rattle.expr_eval.specs.Saved.{AreSaved}
@@ -20,9 +19,8 @@ use Rattle.expr_eval.proofs.Growing.{saved_more}
 use Rattle.memo_cells.specs.declared.view.Frame.{Frame}
 use Rattle.memo_cells.specs.declared.view.View.{View}
 use Rattle.memo_cells.specs.Working.{Held, IsKnown, IsOwn, ReadsOn, TellsPass, program_at}
-use Rattle.memo_cells.proofs.Holding.{sources_only}
 use Rattle.memo_cells.proofs.Showing.{not_both}
-use Rattle.circular_eval.specs.Local.{AreKept, IsMemberOf, MayRead, Members, ReadsHere, here, local_value, present, reads_here, settled, solved}
+use Rattle.circular_eval.specs.Local.{AreReadable, IsMemberOf, MayRead, MayReadByEach, Members, ReadsByEach, ReadsHere, here, present, reads_here, settled, solved}
 use Rattle.circular_eval.specs.Looking.{told_here}
 use Rattle.circular_eval.proofs.Later.{read_later}
 
@@ -35,15 +33,9 @@ pub work_reads : {W : Type 0} (held : W → Held) (x y : W) (r s : Told W) → T
 work_reads held x y r s t u own g = u.keeps x (g.kept x (t.itself own))
 
 -- an undeclared instance that is read is known
-known_read : {p : Program} {v : View} {es : Members} {i : Instance} {w : Value} → is_declared p i ≡ false → ReadsHere p v es i w → IsKnown p v i w
+pub known_read : {p : Program} {names : Naming} {v : View} {es : Members} {i : Instance} {w : Value} → is_declared p i ≡ false → ReadsHere p names v es i w → IsKnown p v i w
 known_read d (settled n k) = k
 known_read d (here n k) = absurd (not_both d n)
-
--- what it answers of an undeclared instance is what the evaluation reads
-pub read_settled : {W S : Type 0} (held : W → Held) (y : W) (r : Told W) → TellsPass held y r → (s : System) (es : Members) (keeps : S → Type 0) (i : Instance) (result : Result (Option CodedValue) Memory) → is_declared (program_at (held y)) i ≡ false → SettlesSources (program_at (held y)) r i result → SettlesSources (program_at (held y)) (told_here (held y) s es keeps) i result
-read_settled held y r t s es keeps i (Ok (Some v)) d (a, e) = ((a.0, settled d (t.known i a.0 a.1), a.2), e)
-read_settled held y r t s es keeps i (Ok None) d a = λ w h. a w (t.has i w (known_read d h))
-read_settled held y r t s es keeps i (Err m) d a = tt
 
 -- a value that fits the type is read as it is
 pub fits_read : (k : Kind) (x : Value) → FitsKind k x → as_kind k x ≡ x
@@ -54,32 +46,29 @@ fits_read (kinds.Node c) x f = elim f [ ]
 fits_read kinds.Texts x f = ap (as_kind kinds.Texts) f.1 ∙ sym f.1
 fits_read (kinds.Nodes c) x f = ap (as_kind (kinds.Nodes c)) f.1 ∙ sym f.1
 
--- a member is read with its value
-pub read_member : {S : Type 0} (d : Held) (s : System) (es : Members) (keeps : S → Type 0) (i : Instance) (x : CodedValue) → is_declared (program_at d) i ≡ true → IsMemberOf (program_at d) es i → local_value (program_at d) es i ≡ value_of (text_of (program_at d)) x → FitsKind (kind_in (program_at d) i) (value_of (text_of (program_at d)) x) → AreElements (program_at d) x → SettlesSources (program_at d) (told_here d s es keeps) i (Ok (Some x))
-read_member d s es keeps i x e m is fits elements = ((local_value (program_at d) es i, here e m, sym (ap (as_kind (kind_in (program_at d) i)) is ∙ fits_read (kind_in (program_at d) i) (value_of (text_of (program_at d)) x) fits)), elements)
-
-none_read : {p : Program} {v : View} {es : Members} {i : Instance} {w : Value} → is_declared p i ≡ true → ¬ IsMemberOf p es i → ReadsHere p v es i w → ⊥
+pub none_read : {p : Program} {names : Naming} {v : View} {es : Members} {i : Instance} {w : Value} → is_declared p i ≡ true → ¬ IsMemberOf p names es i → ReadsHere p names v es i w → ⊥
 none_read e none (settled n k) = not_both n e
 none_read e none (here n m) = none m
 
--- one that is no member isn't read
-pub read_absent : {S : Type 0} (d : Held) (s : System) (es : Members) (keeps : S → Type 0) (i : Instance) → is_declared (program_at d) i ≡ true → ¬ IsMemberOf (program_at d) es i → SettlesSources (program_at d) (told_here d s es keeps) i (Ok None)
-read_absent d s es keeps i e none = λ w h. none_read e none h
-
 -- what may be read of an instance is one value
-read_once : {p : Program} {es : Members} {j : Instance} {v w : Value} → MayRead p es j v → MayRead p es j w → v ≡ w
-read_once {p} {es} {j} {v} {w} (solved n a) (solved m b) = one p j v w a b
+read_once : {p : Program} {names : Naming} {es : Members} {j : Instance} {v w : Value} → MayRead p names es j v → MayRead p names es j w → v ≡ w
+read_once {p} {names} {es} {j} {v} {w} (solved n a) (solved m b) = one p j v w a b
 read_once (solved n a) (present m) = absurd (not_both n m)
 read_once (present n) (solved m b) = absurd (not_both m n)
 read_once (present n) (present m) = refl
 
-may_read : {p : Program} {v : View} {es : Members} {j : Instance} {w : Value} → ReadsHere p v es j w → MayRead p es j w
+may_read : {p : Program} {names : Naming} {v : View} {es : Members} {j : Instance} {w : Value} → ReadsHere p names v es j w → MayRead p names es j w
 may_read (settled n k) = solved n k.1
 may_read (here n k) = present n
 
 -- an evaluation under a local set has a sound reader
-pub here_sound : {S : Type 0} (d : Held) (s : System) (es : Members) (keeps : S → Type 0) (p : Program) → p ≡ program_at d → d.frame.system.value ≡ s → IsOwn d → AreKept p es → IsSound p (told_here d s es keeps)
-here_sound d s es keeps p e same own kept = record { for = (e, same, own, kept); within = λ i v h. may_read h; one_value = λ i v w a b. read_once a b; named = λ n is. sources_only p n (is ∙ ap (λ (q : Program). source_names (text_of q)) (sym e)) }
+pub here_sound : {S : Type 0} (d : Held) (s : System) (es : Members) (keeps : S → Type 0) (p : Program) → p ≡ program_at d → d.frame.system.value ≡ s → IsOwn d → AreReadable p es → IsSound p (told_here d s es keeps)
+here_sound d s es keeps p e same own kept = record {
+  for = (e, same, own, kept);
+  within = λ i v h names named. may_read (h names named);
+  one_value = λ i v w a b. let q = program_at d in read_once (a (source_names (text_of q)) (sources_named q)) (b (source_names (text_of q)) (sources_named q));
+  named = λ n is. subst (λ (q : Program). NamesInOrder q n) (sym e) is;
+}
 
 -- and goes on with one, where what is held goes on
 pub here_grows : {S : Type 0} (d e : Held) (s : System) (es : Members) (keeps more : S → Type 0) → ReadsOn d e → ((x : S) → keeps x → more x) → (p : Program) → IsSound p (told_here d s es keeps) → Grows p (told_here d s es keeps) (told_here e s es more)
@@ -87,16 +76,15 @@ here_grows d e s es keeps more on kept p sound =
     let same : program_at e ≡ program_at d = ap (λ (f : Frame). program_of f.system.value) on.on.cells in
     record {
       sound = here_sound e s es more p (sound.for.0 ∙ sym same) (ap (λ (f : Frame). f.system.value) on.on.cells ∙ sound.for.1) on.on.own sound.for.3;
-      values = λ i v h. subst (λ (q : Program). ReadsHere q e.view es i v) (sym same) (read_later (program_at d) d.view e.view on.on.kept es i v h);
-      bound = λ i v h. subst (λ (q : Program). MayRead q es i v) same h;
+      values = λ i v h. subst (λ (q : Program). ReadsByEach q e.view es i v) (sym same) (λ names named. read_later (program_at d) names d.view e.view on.on.kept es i v (h names named));
+      bound = λ i v h. subst (λ (q : Program). MayReadByEach q es i v) same h;
       kept = kept;
-      names = λ n is. is ∙ ap (λ (q : Program). source_names (text_of q)) same;
-      sources = λ is. is ∙ ap (λ (q : Program). source_names (text_of q)) (sym same);
+      names = λ n is. subst (λ (q : Program). NamesInOrder q n) same is;
     }
 
 -- where nothing is read, it is the same
 pub here_same : {S : Type 0} (d : Held) (s : System) (es : Members) (keeps : S → Type 0) (p : Program) → IsSound p (told_here d s es keeps) → Grows p (told_here d s es keeps) (told_here d s es keeps)
-here_same d s es keeps p sound = record { sound = sound; values = λ i v h. h; bound = λ i v h. h; kept = λ x h. h; names = λ n is. is; sources = λ is. is }
+here_same d s es keeps p sound = record { sound = sound; values = λ i v h. h; bound = λ i v h. h; kept = λ x h. h; names = λ n is. is }
 
 -- what is saved is so whatever a reader kept
 pub saved_there : {S : Type 0} (d : Held) (s : System) (es : Members) (keeps : S → Type 0) (q : System) (x : Saved) → AreSaved q (reads_here (program_at d) d.view es) x → AreSaved q (told_here d s es keeps) x

@@ -4,11 +4,12 @@ use Rattle.std.proofs.lemmas.Bool.{cases_order}
 use Rattle.std.proofs.lemmas.Option.{slice_get_within}
 use Rattle.equation_law.specs.declared.coding.Instance.{Instance as CodedInstance}
 use Rattle.equation_law.specs.declared.system.System.{System}
-use Rattle.equation_law.specs.Codes.{instance_of}
+use Rattle.equation_law.specs.Codes.{ByEachOrder, IsCoded, Naming, instance_by, instance_of, source_names}
 use Rattle.equation_law.specs.Equations.{collection_of}
 use Rattle.equation_law.specs.Loops.{Chain}
-use Rattle.equation_law.specs.Program.{Program}
+use Rattle.equation_law.specs.Program.{Program, text_of}
 use Rattle.equation_law.specs.Systems.{program_of}
+use Rattle.equation_law.proofs.Codes.{sources_named}
 use Rattle.equation_law.proofs.Solution.{circular_single}
 use Rattle.expr_eval.specs.declared.saved.Saved.{Saved}
 use Rattle.expr_eval.specs.declared.sites.Turn.{Turn}
@@ -16,8 +17,7 @@ use Rattle.expr_eval.specs.Saved.{AreSaved, SavesNothing}
 use Rattle.expr_eval.proofs.Found.{none_saved}
 use Rattle.memo_cells.specs.declared.view.Frame.{Frame}
 use Rattle.memo_cells.specs.declared.view.View.{View}
-use Rattle.memo_cells.specs.Claiming.{ClaimsKeys}
-use Rattle.memo_cells.specs.Working.{Held, ReadsOn, program_at}
+use Rattle.memo_cells.specs.Working.{ClaimsKeysFor, Held, ReadsOn, program_at}
 use Rattle.memo_cells.proofs.Claiming.{claims_same}
 use Rattle.memo_cells.proofs.Showing.{not_both}
 use Rattle.circular_eval.specs.declared.advancing.CircFault.{CircFault}
@@ -26,33 +26,39 @@ use Rattle.circular_eval.specs.declared.local.Local.{Local}
 use Rattle.circular_eval.specs.declared.members.Member.{Member}
 use Rattle.circular_eval.specs.declared.visiting.Visited.{Visited}
 use Rattle.circular_eval.specs.declared.visiting.Visited.TheVariants.{Changed, Need, Same}
-use Rattle.circular_eval.specs.Advancing.{AnswersFault, IsMissing}
+use Rattle.circular_eval.specs.Advancing.{AnswersFault, IsMissing, IsMissingByEach}
 use Rattle.circular_eval.specs.Left.{left}
-use Rattle.circular_eval.specs.Local.{AreKept, IsKept, Members, StillMembers, reads_here}
+use Rattle.circular_eval.specs.Local.{AreReadable, IsKept, Members, reads_here}
 use Rattle.circular_eval.specs.Looking.{AreSavedHere, ComesHere, ComesTo}
 use Rattle.worklists.specs.Waiting.{due_count}
-use Rattle.circular_eval.specs.Visiting.{AnswersStep, AnswersVisit, ComesAt, GoesOnWith, IsConfirmed, IsReady, KeepsSaved, Passes, Stays, Steps, Visits}
+use Rattle.circular_eval.specs.Visiting.{AnswersStep, AnswersVisit, ComesAt, GoesOnWith, IsConfirmed, IsReady, KeepsSaved, Passes, Stays, Steps, StillByEach, Visits}
 use Rattle.circular_eval.proofs.Admitting.{IsSame, goes_same}
 use Rattle.circular_eval.proofs.Entries.{has_at}
 use Rattle.circular_eval.proofs.Going.{program_on, ready_then, with_itself, with_then}
 use Rattle.circular_eval.proofs.Growing.{local_free, local_kept}
 use Rattle.circular_eval.proofs.Later.{confirmed_later}
-use Rattle.circular_eval.proofs.Resuming.{saved_on, still_itself}
+use Rattle.circular_eval.proofs.Resuming.{saved_on, still_same}
 
 -- one that was sealed when it was met is visited in vain
 pub same_step : (s : System) (d : Held) (l : Local) (number : ℕ) → IsReady s d l → ((e : CodedInstance × Member) → slice_get l.members.entries number ≡ Some e → IsSome e.1.slot → ⊥) → Steps d d l l number (Ok (Some Same))
 same_step s d l number r final = record { goes = with_itself s d l r; answer = record { members = refl; due = refl; confirmed = λ e at some. absurd (final e at some) } }
 
-pub kept_members : (s : System) (d : Held) (l : Local) → IsReady s d l → AreKept (program_of s) l.members.entries
-kept_members s d l r e there = let at = has_at l.members.entries e there in let m = r.local.set.members at.0 e at.1 in (m.coded, m.elements, m.fits)
+pub kept_members : (s : System) (d : Held) (l : Local) → IsReady s d l → AreReadable (program_of s) l.members.entries
+kept_members s d l r names named = (
+  λ e there. let at = has_at l.members.entries e there in let m = (r.local names named).set.members at.0 e at.1 in (m.coded, m.elements, m.fits),
+  λ e there. let at = has_at l.members.entries e there in let m = (r.local names named).set.members at.0 e at.1 in (m.instance, m.tied),
+)
+
+pub coded_member : (s : System) (d : Held) (l : Local) → IsReady s d l → (number : ℕ) (e : CodedInstance × Member) → slice_get l.members.entries number ≡ Some e → IsCoded (program_of s) e.0
+coded_member s d l r number e at = ((r.local (source_names (text_of (program_of s))) (sources_named (program_of s))).set.members number e at).coded
 
 -- no member is a collection
 pub single_member : (s : System) (d : Held) (l : Local) → IsReady s d l → (number : ℕ) (e : CodedInstance × Member) → slice_get l.members.entries number ≡ Some e → collection_of (program_of s) (instance_of (program_of s) e.0) ≡ None
-single_member s d l r number e at = circular_single (program_of s) (instance_of (program_of s) e.0) (r.local.set.members number e at).is_circular
+single_member s d l r number e at = circular_single (program_of s) (instance_of (program_of s) e.0) ((r.local (source_names (text_of (program_of s))) (sources_named (program_of s))).set.members number e at).is_circular
 
 -- what was read
 pub goes_read : (s : System) (d e : Held) (l m : Local) → IsReady s d l → ReadsOn d e → IsSame l m → GoesOnWith d e l m
-goes_read s d e l m r on same = goes_same s d l r e on.on (claims_same (program_at d) (instance_of (program_at d) l.start) d.view e.view on.claims) m same
+goes_read s d e l m r on same = goes_same s d l r e on.on (λ names named. claims_same (program_at d) (instance_by (program_at d) names l.start) d.view e.view on.claims) m same
 
 pub read_refused : (s : System) (d e : Held) (l m : Local) (number : ℕ) → IsReady s d l → ReadsOn d e → IsSame l m → (y : Result (Option Visited) CircFault) → y ≡ Err Memory → Steps d e l m number y
 read_refused s d e l m number r on same y is = subst (λ (z : Result (Option Visited) CircFault). Steps d e l m number z) (sym is) (record { goes = goes_read s d e l m r on same; answer = tt })
@@ -63,16 +69,16 @@ came_read s d e l m number x turn r on same at some came =
       entry = x;
       at = ap (λ (es : Members). slice_get es number) same ∙ at;
       placed = some;
-      comes = subst (λ (es : Members). ComesTo (program_at e) e.view es (instance_of (program_at e) x.0) turn) (sym same) came;
+      comes = subst (λ (es : Members). ByEachOrder (program_at e) (λ names. ComesTo (program_at e) names e.view es (instance_by (program_at e) names x.0) turn)) (sym same) came;
     }
 
 -- a step after what only read
 step_answer : (p : Program) (f : Frame) (v : View) (l m n : Local) (number : ℕ) (y : Result (Option Visited) CircFault) → m.start ≡ l.start → m.members.entries ≡ l.members.entries → m.worklist.due ≡ l.worklist.due → AnswersStep p f v m n number y → AnswersStep p f v l n number y
-step_answer p f v l m n number (Ok None) start same due h = subst (λ (u : Members). (left n.members.entries < left u) × StillMembers p u n.members.entries) same h
+step_answer p f v l m n number (Ok None) start same due h = subst (λ (u : Members). (left n.members.entries < left u) × StillByEach p u n.members.entries) same h
 step_answer p f v l m n number (Ok (Some (Need x))) start same due h = (h.0, h.1 ∙ same)
 step_answer p f v l m n number (Ok (Some Changed)) start same due h = subst (λ (u : Members). left n.members.entries < left u) same h
 step_answer p f v l m n number (Ok (Some Same)) start same due h = record { members = h.members ∙ same; due = h.due ∙ due; confirmed = h.confirmed }
-step_answer p f v l m n number (Err fault) start same due h = subst (λ (u : CodedInstance). AnswersFault p (instance_of p u) f v fault) start h
+step_answer p f v l m n number (Err fault) start same due h = subst (λ (u : CodedInstance). AnswersFault p u f v fault) start h
 
 pub step_then : (s : System) (d e f : Held) (l m n : Local) (number : ℕ) (y : Result (Option Visited) CircFault) → IsReady s d l → ReadsOn d e → IsSame l m → m.worklist.due ≡ l.worklist.due → Steps e f m n number y → Steps d f l n number y
 step_then s d e f l m n number y r on same due h = record {
@@ -87,9 +93,9 @@ step_saved s e f m n number x r (Ok (Some Changed)) h saved = tt
 step_saved s e f m n number x r (Ok (Some Same)) h saved = tt
 step_saved s e f m n number x r (Ok (Some (Need q))) h saved =
     let es = m.members.entries in
-    subst (λ (u : Members). AreSaved s (reads_here (program_of s) f.view u) x) (sym h.answer.1) (saved_on (program_of s) e.view f.view h.goes.on.kept es es (still_itself (program_of s) es) s x saved)
+    subst (λ (u : Members). AreSaved s (reads_here (program_of s) f.view u) x) (sym h.answer.1) (saved_on (program_of s) e.view f.view h.goes.on.kept es es (still_same (program_of s) es) s x saved)
 step_saved s e f m n number x r (Ok None) h saved =
-    saved_on (program_of s) e.view f.view h.goes.on.kept m.members.entries n.members.entries (subst (λ (q : Program). StillMembers q m.members.entries n.members.entries) (ap program_of r.same) h.answer.1) s x saved
+    saved_on (program_of s) e.view f.view h.goes.on.kept m.members.entries n.members.entries (subst (λ (q : Program). StillByEach q m.members.entries n.members.entries) (ap program_of r.same) h.answer.1) s x saved
 
 -- which member is next, and what is kept, changes nothing of the members
 goes_kept : (d e : Held) (l m o : Local) → o.start ≡ m.start → o.members ≡ m.members → o.need ≡ m.need → IsKept d.frame.system.value (reads_here (program_at d) e.view o.members.entries) o.saved → GoesOnWith d e l m → GoesOnWith d e l o
@@ -97,7 +103,7 @@ goes_kept d e l m o start members need saved h =
     let entries : o.members.entries ≡ m.members.entries = ap (λ x. x.entries) members in
     record {
       on = h.on;
-      local = local_kept (program_at d) d.frame e.view m o start entries need saved h.local;
+      local = λ names named. local_kept (program_at d) names d.frame e.view m o start entries need saved (h.local names named);
       start = start ∙ h.start;
       claims = h.claims;
       some = λ some. subst (λ (u : Members). 0 < length u) (sym entries) (h.some some);
@@ -106,8 +112,20 @@ goes_kept d e l m o start members need saved h =
 pub goes_looked : (d e : Held) (l m o : Local) → o.start ≡ m.start → o.members ≡ m.members → o.need ≡ m.need → o.saved ≡ m.saved → GoesOnWith d e l m → GoesOnWith d e l o
 goes_looked d e l m o start members need saved h =
     goes_kept d e l m o start members need
-    (subst (λ (x : Members × Option Saved). IsKept d.frame.system.value (reads_here (program_at d) e.view x.0) x.1) (λ i. (ap (λ x. x.entries) (sym members) i, sym saved i)) h.local.saved)
+    (subst (λ (x : Members × Option Saved). IsKept d.frame.system.value (reads_here (program_at d) e.view x.0) x.1) (λ i. (ap (λ x. x.entries) (sym members) i, sym saved i)) (h.local (source_names (text_of (program_at d))) (sources_named (program_at d))).saved)
     h
+
+-- what is missing doesn't hang on which member is next, nor on what is kept
+pub missing_same : (p : Program) (names : Naming) (v : View) (m o : Local) (q : CodedInstance) → o.start ≡ m.start → o.need ≡ m.need → IsMissing p names v m q → IsMissing p names v o q
+missing_same p names v m o q start need missing = record {
+  instance = missing.instance;
+  coded = missing.coded;
+  undeclared = missing.undeclared;
+  unknown = missing.unknown;
+  reached = subst (λ (i : CodedInstance). Chain p (instance_by p names i) (instance_by p names q)) (sym start) missing.reached;
+  number = missing.number;
+  noted = need ∙ missing.noted;
+}
 
 -- a visit, so far: nothing changed in the set, or members were added
 abbrev pub HasGrown : Bool → Local → Local → Type 0
@@ -127,13 +145,13 @@ visit_begins s d l r = record { goes = with_itself s d l r; change = (refl, refl
 
 -- the set from which what was kept is taken
 pub ready_taken : (s : System) (d : Held) (l m : Local) → IsReady s d l → m.start ≡ l.start → m.members ≡ l.members → m.need ≡ l.need → m.saved ≡ None → IsReady s d m
-ready_taken s d l m r start members need none = record { program = r.program; same = r.same; own = r.own; local = local_free (program_of s) d.frame d.view l m start (ap (λ x. x.entries) members) need none r.local }
+ready_taken s d l m r start members need none = record { program = r.program; same = r.same; own = r.own; local = λ names named. local_free (program_of s) names d.frame d.view l m start (ap (λ x. x.entries) members) need none (r.local names named) }
 
 visit_answer : (p : Program) (f : Frame) (v : View) (l m n : Local) (number : ℕ) (y : Result Visited CircFault) → m.start ≡ l.start → m.members.entries ≡ l.members.entries → m.worklist.due ≡ l.worklist.due → AnswersVisit p f v m n number y → AnswersVisit p f v l n number y
 visit_answer p f v l m n number (Ok (Need x)) start same due h = h
 visit_answer p f v l m n number (Ok Changed) start same due h = subst (λ (u : Members). left n.members.entries < left u) same h
 visit_answer p f v l m n number (Ok Same) start same due h = record { members = h.members ∙ same; due = h.due ∙ due; confirmed = h.confirmed }
-visit_answer p f v l m n number (Err fault) start same due h = subst (λ (u : CodedInstance). AnswersFault p (instance_of p u) f v fault) start h
+visit_answer p f v l m n number (Err fault) start same due h = subst (λ (u : CodedInstance). AnswersFault p u f v fault) start h
 
 pub visit_from : (d f : Held) (l m n : Local) (number : ℕ) (y : Result Visited CircFault) → m.start ≡ l.start → m.members ≡ l.members → m.worklist.due ≡ l.worklist.due → Visits d f m n number y → Visits d f l n number y
 visit_from d f l m n number y start members due h =
@@ -143,7 +161,7 @@ visit_from d f l m n number y start members due h =
         on = h.goes.on;
         local = h.goes.local;
         start = h.goes.start ∙ start;
-        claims = subst (λ (u : CodedInstance). ClaimsKeys (program_at d) (instance_of (program_at d) u) d.view f.view) start h.goes.claims;
+        claims = subst (λ (u : CodedInstance). ClaimsKeysFor d f u) start h.goes.claims;
         some = λ some. h.goes.some (subst (λ (u : Members). 0 < length u) (sym entries) some);
       };
       answer = visit_answer (program_at d) d.frame f.view l m n number y start entries due h.answer;
@@ -153,7 +171,7 @@ visit_from d f l m n number y start members due h =
 pub taken_saved : (s : System) (d : Held) (l m : Local) → IsReady s d l → m.members ≡ l.members → (x : Saved) → SavesNothing x ⊎ (l.saved ≡ Some x) → AreSaved s (reads_here (program_of s) d.view m.members.entries) x
 taken_saved s d l m r members x (inl none) = none_saved x none
 taken_saved s d l m r members x (inr is) =
-    let here : IsKept s (reads_here (program_of s) d.view l.members.entries) l.saved = subst (λ (q : System). IsKept q (reads_here (program_of s) d.view l.members.entries) l.saved) r.same r.local.saved in
+    let here : IsKept s (reads_here (program_of s) d.view l.members.entries) l.saved = subst (λ (q : System). IsKept q (reads_here (program_of s) d.view l.members.entries) l.saved) r.same (r.local (source_names (text_of (program_of s))) (sources_named (program_of s))).saved in
     subst (λ (u : Members × Option Saved). IsKept s (reads_here (program_of s) d.view u.0) u.1) (λ i. (ap (λ x. x.entries) (sym members) i, is i)) here
 
 pub visit_ready : (s : System) (d e : Held) (l m : Local) (b : Bool) → IsReady s d l → IsVisited d e l m b → IsReady s e m
@@ -172,25 +190,17 @@ module _ (d e f : Held) (l m n : Local) (number : ℕ) (b : Bool) (h : IsVisited
 
   -- it ends
   pub visit_fault : (fault : CircFault) → Steps e f m n number (Err fault) → (y : Result Visited CircFault) → y ≡ Err fault → Visits d f l n number y
-  visit_fault fault v y is = subst (λ (z : Result Visited CircFault). Visits d f l n number z) (sym is) (record { goes = with_then d e f l m n h.goes v.goes; answer = subst (λ (u : CodedInstance). AnswersFault (program_at d) (instance_of (program_at d) u) d.frame f.view fault) h.goes.start (step_back (Err fault) v) })
+  visit_fault fault v y is = subst (λ (z : Result Visited CircFault). Visits d f l n number z) (sym is) (record { goes = with_then d e f l m n h.goes v.goes; answer = subst (λ (u : CodedInstance). AnswersFault (program_at d) u d.frame f.view fault) h.goes.start (step_back (Err fault) v) })
 
   pub visit_need : (s : System) → IsReady s d l → (q : CodedInstance) → Steps e f m n number (Ok (Some (Need q))) → (o : Local) (x : Saved) → o.start ≡ n.start → o.members ≡ n.members → o.need ≡ n.need → o.saved ≡ Some x → AreSaved s (reads_here (program_of s) f.view n.members.entries) x → Visits d f l o number (Ok (Need q))
   visit_need s r q v o x start members need kept saved =
-      let missing : IsMissing (program_at d) f.view n q = (step_back (Ok (Some (Need q))) v).0 in
+      let missing : IsMissingByEach (program_at d) f.view n q = (step_back (Ok (Some (Need q))) v).0 in
       let here : AreSaved d.frame.system.value (reads_here (program_at d) f.view n.members.entries) x = subst (λ (z : System). AreSaved z (reads_here (program_of z) f.view n.members.entries) x) (sym r.same) saved in
       record {
         goes = goes_kept d f l n o start members need
             (subst (λ (u : Members × Option Saved). IsKept d.frame.system.value (reads_here (program_at d) f.view u.0) u.1) (λ i. (ap (λ x. x.entries) (sym members) i, sym kept i)) here)
             (with_then d e f l m n h.goes v.goes);
-        answer = record {
-          instance = missing.instance;
-          coded = missing.coded;
-          undeclared = missing.undeclared;
-          unknown = missing.unknown;
-          reached = subst (λ (i : CodedInstance). Chain (program_at d) (instance_of (program_at d) i) (instance_of (program_at d) q)) (sym start) missing.reached;
-          number = missing.number;
-          noted = need ∙ missing.noted;
-        };
+        answer = λ names named. missing_same (program_at d) names f.view n o q start need (missing names named);
       }
 
   pub visit_changed : Steps e f m n number (Ok (Some Changed)) → Visits d f l n number (Ok Changed)
@@ -255,7 +265,7 @@ module _ (d e f : Held) (l m n : Local) (upto number : ℕ) (h : IsPassed d e l 
   pass_changed v = record { goes = with_then d e f l m n h.goes v.goes; answer = subst (λ (u : Members). left n.members.entries < left u) h.same (back (Ok Changed) v) }
 
   pub pass_fault : (fault : CircFault) → Visits e f m n number (Err fault) → (y : Result Visited CircFault) → y ≡ Err fault → Passes d f l n y
-  pass_fault fault v y is = subst (λ (z : Result Visited CircFault). Passes d f l n z) (sym is) (record { goes = with_then d e f l m n h.goes v.goes; answer = subst (λ (u : CodedInstance). AnswersFault (program_at d) (instance_of (program_at d) u) d.frame f.view fault) h.goes.start (back (Err fault) v) })
+  pass_fault fault v y is = subst (λ (z : Result Visited CircFault). Passes d f l n z) (sym is) (record { goes = with_then d e f l m n h.goes v.goes; answer = subst (λ (u : CodedInstance). AnswersFault (program_at d) u d.frame f.view fault) h.goes.start (back (Err fault) v) })
 
   stays : Visits e f m n number (Ok Same) → Stays (program_at d) f.view m n number
   stays v = back (Ok Same) v

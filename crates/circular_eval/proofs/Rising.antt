@@ -13,29 +13,32 @@ use Rattle.attr_rules.specs.declared.kinds.Kind.TheVariants as kinds
 use Rattle.equation_law.specs.declared.coding.Value.TheVariants as coded
 use Rattle.equation_law.specs.declared.system.System.{System}
 use Rattle.equation_law.specs.Checked.{IsValue, nodes as are_nodes, texts as are_texts, truth as is_truth}
-use Rattle.equation_law.specs.Codes.{nodes_of, reference_of, value_of}
+use Rattle.equation_law.specs.Codes.{IsNamingOf, IsReference, Naming, nodes_by, reference_by, value_by}
 use Rattle.equation_law.specs.Equations.{kind_in}
-use Rattle.equation_law.specs.Names.{At, Instance, NodeName, Source, node_cmp, text_cmp}
+use Rattle.equation_law.specs.Keys.{IsElementCode}
+use Rattle.equation_law.specs.Names.{At, Instance, NodeName, node_cmp, text_cmp}
 use Rattle.equation_law.specs.Orders.{IsAtMost, FitsKind}
-use Rattle.equation_law.specs.Program.{Program, text_of}
-use Rattle.equation_law.specs.Sets.{SetBy, has}
+use Rattle.equation_law.specs.Program.{Program}
+use Rattle.equation_law.specs.Sets.{SetBy, has, set_of}
 use Rattle.equation_law.specs.Systems.{program_of}
-use Rattle.equation_law.specs.Values.{Nodes, Texts, Truth, has_node}
+use Rattle.equation_law.specs.Values.{Nodes, Texts, Truth, combined, has_node, nodes as nodes_in}
 use Rattle.equation_law.proofs.Names.{code_anti, is_equal, node_anti}
 use Rattle.equation_law.proofs.Orders.{node_total}
 use Rattle.equation_law.proofs.Sets.{has-set_of, none_has}
 use Rattle.memo_cells.specs.declared.view.Frame.{Frame}
 use Rattle.memo_cells.specs.declared.view.View.{View}
-use Rattle.memo_cells.specs.Showing.{ShowsAtLeast, ShowsTrue}
+use Rattle.memo_cells.specs.Showing.{ShowsAtLeast, ShowsCode, ShowsTrue}
+use Rattle.memo_cells.specs.Standing.{AreApproximations}
 use Rattle.memo_cells.specs.Views.{Has}
 use Rattle.memo_cells.proofs.Counting.{any_has, has_any}
 use Rattle.memo_cells.proofs.Showing.{not_both}
-use Rattle.set_values.specs.CodedSets.{node_set, text_set}
+use Rattle.set_values.specs.CodedSets.{nodes_set, texts_set}
 use Rattle.set_values.proofs.Coded.{holds_made, holds_of}
-use Rattle.set_values.proofs.NodeCodes.{IsNode, has_node_code}
-use Rattle.set_values.proofs.TextCodes.{IsKnown, has_text_code}
+use Rattle.set_values.proofs.NodeCodes.{AreApart, IsNode, has_node_by, made_nodes}
+use Rattle.set_values.proofs.TextCodes.{IsKnown, has_text_by}
 use Rattle.memo_cells.specs.SetRaising.{ClaimsWords, IsWordWith, LacksWord, MayShowAll}
 use Rattle.circular_eval.specs.Left.{code_bound, missing}
+use Rattle.circular_eval.specs.Local.{IsTied}
 use Rattle.circular_eval.specs.Rising.{IsMore, IsRisen}
 use Rattle.circular_eval.proofs.Left.{missing_less}
 
@@ -89,27 +92,27 @@ text_code f (c ∷ cs) t e =
       | false ↦ λ p h. let r = text_code f cs t h in (r.0, inr r.1, r.2)
     ] refl e
 
-node_code : (cs : List ℕ) (n : NodeName) → list_any (eq_by_cmp node_cmp n) (nodes_of cs) ≡ true → (c : ℕ) × Has cs c × (reference_of c ≡ At n)
-node_code [] n e = cc
-node_code (zero ∷ cs) n e = let r = node_code cs n e in (r.0, inr r.1, r.2)
-node_code (suc k ∷ cs) n e =
-    elim (eq_by_cmp node_cmp n (Source k)) as (λ b. eq_by_cmp node_cmp n (Source k) ≡ b → (b || list_any (eq_by_cmp node_cmp n) (nodes_of cs)) ≡ true → (c : ℕ) × Has (suc k ∷ cs) c × (reference_of c ≡ At n)) [
-      | true ↦ λ p h. (suc k, inl refl, ap At (sym (node_anti n (Source k) (is_equal _ p))))
-      | false ↦ λ p h. let r = node_code cs n h in (r.0, inr r.1, r.2)
+node_code : (nodes : ℕ → NodeName) (cs : List ℕ) (n : NodeName) → list_any (eq_by_cmp node_cmp n) (nodes_by nodes cs) ≡ true → (c : ℕ) × Has cs c × (reference_by nodes c ≡ At n)
+node_code nodes [] n e = cc
+node_code nodes (zero ∷ cs) n e = let r = node_code nodes cs n e in (r.0, inr r.1, r.2)
+node_code nodes (suc k ∷ cs) n e =
+    elim (eq_by_cmp node_cmp n (nodes k)) as (λ b. eq_by_cmp node_cmp n (nodes k) ≡ b → (b || list_any (eq_by_cmp node_cmp n) (nodes_by nodes cs)) ≡ true → (c : ℕ) × Has (suc k ∷ cs) c × (reference_by nodes c ≡ At n)) [
+      | true ↦ λ p h. (suc k, inl refl, ap At (sym (node_anti n (nodes k) (is_equal _ p))))
+      | false ↦ λ p h. let r = node_code nodes cs n h in (r.0, inr r.1, r.2)
     ] refl e
 
-pub text_coded : (p : Program) (cs : List ℕ) (t : List ℕ) → has (text_set p cs) t ≡ true → (c : ℕ) × (has_code cs c ≡ true) × (text_of p c ≡ t)
-text_coded p cs t h = let r = text_code (text_of p) cs t (sym (has-set_of {R = text_cmp} nat_list_cmp_total (map (text_of p) cs) t) ∙ h) in (r.0, there_code cs r.0 r.1, r.2)
+pub text_coded : (names : Naming) (cs : List ℕ) (t : List ℕ) → has (texts_set names cs) t ≡ true → (c : ℕ) × (has_code cs c ≡ true) × (names.text c ≡ t)
+text_coded names cs t h = let r = text_code names.text cs t (sym (has-set_of {R = text_cmp} nat_list_cmp_total (map names.text cs) t) ∙ h) in (r.0, there_code cs r.0 r.1, r.2)
 
-pub node_coded : (cs : List ℕ) (n : NodeName) → has (node_set cs) n ≡ true → (c : ℕ) × (has_code cs c ≡ true) × (reference_of c ≡ At n)
-node_coded cs n h = let r = node_code cs n (sym (has-set_of {R = node_cmp} node_total (nodes_of cs) n) ∙ h) in (r.0, there_code cs r.0 r.1, r.2)
+pub node_coded : (nodes : ℕ → NodeName) (cs : List ℕ) (n : NodeName) → has (nodes_set nodes cs) n ≡ true → (c : ℕ) × (has_code cs c ≡ true) × (reference_by nodes c ≡ At n)
+node_coded nodes cs n h = let r = node_code nodes cs n (sym (has-set_of {R = node_cmp} node_total (nodes_by nodes cs) n) ∙ h) in (r.0, there_code cs r.0 r.1, r.2)
 
 -- an element that has a code there is in the set
-coded_text : (s : System) (cs : List ℕ) → All (IsKnown s) cs → (c : ℕ) (t : List ℕ) → text_of (program_of s) c ≡ t → has_code cs c ≡ true → has (text_set (program_of s) cs) t ≡ true
-coded_text s cs all c t e h = subst (λ (u : List ℕ). has (text_set (program_of s) cs) u ≡ true) e (has_text_code s c (holds_of (IsKnown s) cs all c h) cs all ∙ h)
+coded_text : (s : System) {names : Naming} → IsNamingOf (program_of s) names → (cs : List ℕ) → All (IsKnown s) cs → (c : ℕ) (t : List ℕ) → names.text c ≡ t → has_code cs c ≡ true → has (texts_set names cs) t ≡ true
+coded_text s {names} named cs all c t e h = subst (λ (u : List ℕ). has (texts_set names cs) u ≡ true) e (has_text_by s named c (holds_of (IsKnown s) cs all c h) cs all ∙ h)
 
-coded_node : (cs : List ℕ) → All IsNode cs → (c : ℕ) (n : NodeName) → reference_of c ≡ At n → has_code cs c ≡ true → has (node_set cs) n ≡ true
-coded_node cs all c n e h = ap (λ r. has_node (node_set cs) r) (sym e) ∙ has_node_code c cs all ∙ h
+coded_node : (nodes : ℕ → NodeName) → AreApart nodes → (cs : List ℕ) → All IsNode cs → (c : ℕ) (n : NodeName) → reference_by nodes c ≡ At n → has_code cs c ≡ true → has (nodes_set nodes cs) n ≡ true
+coded_node nodes apart cs all c n e h = ap (λ r. has_node (nodes_set nodes cs) r) (sym e) ∙ has_node_by nodes apart c cs all ∙ h
 
 or_parts : (a b c : Bool) → c ≡ (a || b) → c ≡ true → (a ≡ true) ⊎ (b ≡ true)
 or_parts true b c e h = inl refl
@@ -128,54 +131,61 @@ joined_less : (p : Program) (v : View) (i : Instance) (a b both : List ℕ) → 
 joined_less p v i a b both m =
     missing_less code_bound b both (λ c h. or_second (has_code a c) (has_code b c) (has_code both c) (m.made.members c) h) m.code m.low m.in_other (or_first (has_code a m.code) (has_code b m.code) (has_code both m.code) (m.made.members m.code) m.in_set)
 
-module _ (s : System) (v : View) (i : Instance) where
+module _ (s : System) (names : Naming) (named : IsNamingOf (program_of s) names) (v : View) (i : Instance) where
   abbrev p : Program
   p = program_of s
 
-  pub texts_risen : kind_in p i ≡ kinds.Texts → (a b both : List ℕ) → IsMore p v i a b both → All (IsKnown s) a → All (IsKnown s) b → ShowsAtLeast p v i kinds.Texts (value_of (text_of p) (coded.Texts b)) → IsRisen p v i (coded.Texts a) (coded.Texts b) (coded.Texts both)
+  pub texts_risen : kind_in p i ≡ kinds.Texts → (a b both : List ℕ) → IsMore p v i a b both → All (IsKnown s) a → All (IsKnown s) b → ShowsAtLeast p v i kinds.Texts (value_by names (coded.Texts b)) → IsRisen p names v i (coded.Texts a) (coded.Texts b) (coded.Texts both)
   texts_risen k a b both m ea eb shown = record {
     elements = holds_made (IsKnown s) Union a b both ea eb m.made;
-    fits = subst (λ (j : Kind). FitsKind j (value_of (text_of p) (coded.Texts both))) (sym k) (text_set p both, refl);
-    shown = subst (λ (j : Kind). ShowsAtLeast p v i j (value_of (text_of p) (coded.Texts both))) (sym k) (λ t h.
-        let c = text_coded p both t h in
-        let old = λ (e : has_code b c.0 ≡ true). shown t (coded_text s b eb c.0 t c.2 e) in
-        ⊎_elim (λ x. ⊎_elim old (λ y. (c.0, c.2, y)) (m.shown c.0 x)) old (or_parts (has_code a c.0) (has_code b c.0) (has_code both c.0) (m.made.members c.0) c.1));
+    tied = λ others other. ap (λ (f : ℕ → List ℕ). Texts (set_of (map f both))) (other.texts ∙ sym named.texts);
+    fits = subst (λ (j : Kind). FitsKind j (value_by names (coded.Texts both))) (sym k) (texts_set names both, refl);
+    shown = subst (λ (j : Kind). ShowsAtLeast p v i j (value_by names (coded.Texts both))) (sym k) (λ t h.
+        let c = text_coded names both t h in
+        let old = λ (e : has_code b c.0 ≡ true). shown t (coded_text s named b eb c.0 t c.2 e) in
+        ⊎_elim (λ x. ⊎_elim old (λ y. (c.0, ap (λ (f : ℕ → List ℕ). f c.0) (sym named.texts) ∙ c.2, y)) (m.shown c.0 x)) old (or_parts (has_code a c.0) (has_code b c.0) (has_code both c.0) (m.made.members c.0) c.1));
     more = joined_less p v i a b both m;
   }
 
-  pub nodes_risen : (d : ClassId) → kind_in p i ≡ kinds.Nodes d → (a b both : List ℕ) → IsMore p v i a b both → All IsNode a → All IsNode b → ShowsAtLeast p v i (kinds.Nodes d) (value_of (text_of p) (coded.Nodes b)) → IsRisen p v i (coded.Nodes a) (coded.Nodes b) (coded.Nodes both)
-  nodes_risen d k a b both m ea eb shown = record {
+  pub nodes_risen : (d : ClassId) → kind_in p i ≡ kinds.Nodes d → AreApproximations p v → (a b both : List ℕ) → IsMore p v i a b both → All IsNode a → All IsNode b → IsTied p names (coded.Nodes a) → IsTied p names (coded.Nodes b) → ShowsAtLeast p v i (kinds.Nodes d) (value_by names (coded.Nodes b)) → IsRisen p names v i (coded.Nodes a) (coded.Nodes b) (coded.Nodes both)
+  nodes_risen d k near a b both m ea eb ta tb shown = record {
     elements = holds_made IsNode Union a b both ea eb m.made;
-    fits = subst (λ (j : Kind). FitsKind j (value_of (text_of p) (coded.Nodes both))) (sym k) (node_set both, refl);
-    shown = subst (λ (j : Kind). ShowsAtLeast p v i j (value_of (text_of p) (coded.Nodes both))) (sym k) (λ n h.
-        let c = node_coded both n h in
-        let old = λ (e : has_code b c.0 ≡ true). shown n (coded_node b eb c.0 n c.2 e) in
-        ⊎_elim (λ x. ⊎_elim old (λ y. (c.0, c.2, y)) (m.shown c.0 x)) old (or_parts (has_code a c.0) (has_code b c.0) (has_code both c.0) (m.made.members c.0) c.1));
+    tied = λ others other.
+        let first : nodes_set others.node a ≡ nodes_set names.node a = ap nodes_in (ta others other) in
+        let second : nodes_set others.node b ≡ nodes_set names.node b = ap nodes_in (tb others other) in
+        ap Nodes (made_nodes others.node other.one_code Union a b both ea eb m.made ∙ (λ j. combined Union (first j) (second j)) ∙ sym (made_nodes names.node named.one_code Union a b both ea eb m.made));
+    fits = subst (λ (j : Kind). FitsKind j (value_by names (coded.Nodes both))) (sym k) (nodes_set names.node both, refl);
+    shown = subst (λ (j : Kind). ShowsAtLeast p v i j (value_by names (coded.Nodes both))) (sym k) (λ n h.
+        let c = node_coded names.node both n h in
+        let old = λ (e : has_code b c.0 ≡ true). shown n (coded_node names.node named.one_code b eb c.0 n c.2 e) in
+        let tied = λ (y : ShowsCode p v i c.0). let is = subst (λ (j : Kind). IsElementCode p j c.0) k (near.codes i c.0 y) in subst (IsReference p c.0) (sym (is.1.1 names named) ∙ c.2) is.1.1 in
+        ⊎_elim (λ x. ⊎_elim old (λ y. (c.0, tied y, y)) (m.shown c.0 x)) old (or_parts (has_code a c.0) (has_code b c.0) (has_code both c.0) (m.made.members c.0) c.1));
     more = joined_less p v i a b both m;
   }
 
   -- a set whose codes the other one has is at most that
-  pub texts_most : (a b : List ℕ) → All (IsKnown s) b → ((c : ℕ) → has_code a c ≡ true → has_code b c ≡ true) → IsAtMost (value_of (text_of p) (coded.Texts a)) (value_of (text_of p) (coded.Texts b))
+  pub texts_most : (a b : List ℕ) → All (IsKnown s) b → ((c : ℕ) → has_code a c ≡ true → has_code b c ≡ true) → IsAtMost (value_by names (coded.Texts a)) (value_by names (coded.Texts b))
   texts_most a b eb h = record {
     in_truth = λ e. absurd (not_both refl e);
-    in_texts = λ t x. let c = text_coded p a t x in coded_text s b eb c.0 t c.2 (h c.0 c.1);
+    in_texts = λ t x. let c = text_coded names a t x in coded_text s named b eb c.0 t c.2 (h c.0 c.1);
     in_nodes = λ n x. absurd (none_has node_cmp n x);
   }
 
-  pub nodes_most : (a b : List ℕ) → All IsNode b → ((c : ℕ) → has_code a c ≡ true → has_code b c ≡ true) → IsAtMost (value_of (text_of p) (coded.Nodes a)) (value_of (text_of p) (coded.Nodes b))
+  pub nodes_most : (a b : List ℕ) → All IsNode b → ((c : ℕ) → has_code a c ≡ true → has_code b c ≡ true) → IsAtMost (value_by names (coded.Nodes a)) (value_by names (coded.Nodes b))
   nodes_most a b eb h = record {
     in_truth = λ e. absurd (not_both refl e);
     in_texts = λ t x. absurd (none_has text_cmp t x);
-    in_nodes = λ n x. let c = node_coded a n x in coded_node b eb c.0 n c.2 (h c.0 c.1);
+    in_nodes = λ n x. let c = node_coded names.node a n x in coded_node names.node named.one_code b eb c.0 n c.2 (h c.0 c.1);
   }
 
 -- truth values
-pub truth_most : (texts : ℕ → List ℕ) (a b : Bool) → (a ≡ true → b ≡ true) → IsAtMost (value_of texts (coded.Truth a)) (value_of texts (coded.Truth b))
-truth_most texts a b h = record { in_truth = h; in_texts = λ t x. absurd (none_has text_cmp t x); in_nodes = λ n x. absurd (none_has node_cmp n x) }
+pub truth_most : (names : Naming) (a b : Bool) → (a ≡ true → b ≡ true) → IsAtMost (value_by names (coded.Truth a)) (value_by names (coded.Truth b))
+truth_most names a b h = record { in_truth = h; in_texts = λ t x. absurd (none_has text_cmp t x); in_nodes = λ n x. absurd (none_has node_cmp n x) }
 
-pub truth_risen : (p : Program) (v : View) (i : Instance) → kind_in p i ≡ kinds.Truth → ShowsTrue p v i → IsRisen p v i (coded.Truth true) (coded.Truth false) (coded.Truth true)
-truth_risen p v i k shown = record {
+pub truth_risen : (p : Program) (names : Naming) (v : View) (i : Instance) → kind_in p i ≡ kinds.Truth → ShowsTrue p v i → IsRisen p names v i (coded.Truth true) (coded.Truth false) (coded.Truth true)
+truth_risen p names v i k shown = record {
   elements = tt;
+  tied = λ others other. refl;
   fits = subst (λ (j : Kind). FitsKind j (Truth true)) (sym k) (true, refl);
   shown = subst (λ (j : Kind). ShowsAtLeast p v i j (Truth true)) (sym k) (λ e. shown);
   more = omega arith;

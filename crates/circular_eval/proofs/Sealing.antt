@@ -8,18 +8,15 @@ use Rattle.std.specs.Prelude.{OnOk}
 use Rattle.rag_io.specs.declared.Memory.{Memory}
 use Rattle.equation_law.specs.declared.coding.Instance.{Instance as CodedInstance}
 use Rattle.equation_law.specs.declared.coding.Value.{Value as CodedValue}
-use Rattle.equation_law.specs.Codes.{instance_of}
-use Rattle.equation_law.specs.Equations.{equations_of}
-use Rattle.equation_law.specs.Loops.{Chain}
+use Rattle.equation_law.specs.Codes.{ByEachNaming, instance_by}
 use Rattle.equation_law.specs.Program.{Program}
 use Rattle.memo_cells.specs.declared.keys.Slot.{Slot}
-use Rattle.memo_cells.specs.Standing.{Knows}
 use Rattle.memo_cells.specs.Working.{GoesOn, Held}
 use Rattle.memo_cells.proofs.Holding.{goes_then}
 use Rattle.circular_eval.specs.declared.local.Local.{Local}
 use Rattle.circular_eval.specs.declared.members.Member.{Member}
 use Rattle.circular_eval.specs.Local.{IsAbsent, Members, with_value}
-use Rattle.circular_eval.specs.Parts.{AnswersPart, AreClosedMembers, HadToWait, IsSealedAt, IsSealedIn, SameMembers, SealsMember, Takes, unsealed_at, without_slot}
+use Rattle.circular_eval.specs.Parts.{AnswersPart, AreClosedMembers, HadToWait, IsMissingFrom, IsSealedAt, IsSealedIn, SameMembers, SealsMember, Takes, unsealed_at, without_slot}
 use Rattle.circular_eval.specs.Sealed.{IsMemberAt}
 use Rattle.worklists.specs.Waiting.{AreClosed, IsClosed}
 use Rattle.circular_eval.proofs.Entries.{at_has, changed_at}
@@ -109,9 +106,7 @@ waited_before c d e i on w =
       before = goes_then c d w.then on w.before;
       after = w.after;
       need = w.need;
-      reached = subst (λ (p : Program). Chain p (instance_of p i) (instance_of p w.need)) same w.reached;
-      undeclared = subst (λ (p : Program). (equations_of p).circular (instance_of p w.need) ≡ false) same w.undeclared;
-      unknown = subst (λ (p : Program). ¬ Knows p w.then.view (instance_of p w.need)) same w.unknown;
+      missing = subst (λ (p : Program). ByEachNaming p (λ names. IsMissingFrom p names w.then.view i w.need)) same w.missing;
     }
 
 -- a member that had to wait in a later part
@@ -127,21 +122,21 @@ was_waiting b d e es fs n a h = subst (λ (c : Bool). AnswersPart d e es fs n c)
 
 -- a member of a part, in the set
 pub member_past : (part l : Local) (k : ℕ) → length part.members.entries ≤ k → SealsMember part l l k
-member_past part l k past p f v h sealed e at = let low : k < length part.members.entries = slice_get_within part.members.entries k e at in absurd (omega (arith, low, past))
+member_past part l k past p names f v h sealed e at = let low : k < length part.members.entries = slice_get_within part.members.entries k e at in absurd (omega (arith, low, past))
 
 pub member_absent : (part l : Local) (k : ℕ) (i : CodedInstance) (x : CodedValue) → IsMemberAt part.members.entries k i x → IsAbsent l.members.entries i → SealsMember part l l k
-member_absent part l k i x there absent p f v h sealed e at n d in_l is =
+member_absent part l k i x there absent p names f v h sealed e at n d in_l is =
     let both : Some there.entry ≡ Some e = sym there.at ∙ at in
     let one : there.entry ≡ e = cc in
     absurd (absent d (at_has l.members.entries n d in_l) (is ∙ ap (λ (q : CodedInstance × Member). q.0) (sym one) ∙ there.is))
 
 member_settled : (part l m : Local) (k number : ℕ) (i : CodedInstance) (x y : CodedValue) → IsMemberAt part.members.entries k i x → IsMemberAt l.members.entries number i y → SameMembers l.members.entries m.members.entries → IsSealedAt m.members.entries number → SealsMember part l m k
-member_settled part l m k number i x y there here same shut p f v h sealed e at n d in_m is =
+member_settled part l m k number i x y there here same shut p names f v h sealed e at n d in_m is =
     let both : Some there.entry ≡ Some e = sym there.at ∙ at in
     let one : there.entry ≡ e = cc in
     let of : d.0 ≡ i = is ∙ ap (λ (q : CodedInstance × Member). q.0) (sym one) ∙ there.is in
     let c = same.same n d in_m in
-    let number_is : n ≡ number = h.set.different n number (instance_of p i) (record { entry = c.0; at = c.1; is = ap (instance_of p) (sym c.2 ∙ of) }) (record { entry = here.entry; at = here.at; is = ap (instance_of p) here.is }) in
+    let number_is : n ≡ number = h.set.different n number (instance_by p names i) (record { entry = c.0; at = c.1; is = ap (instance_by p names) (sym c.2 ∙ of) }) (record { entry = here.entry; at = here.at; is = ap (instance_by p names) here.is }) in
     sealed_entry m.members.entries n d in_m (subst (λ (u : ℕ). IsSealedAt m.members.entries u) (sym number_is) shut)
 
 pub member_settled_ok : (r : Result Unit Memory) (part l m : Local) (k number : ℕ) (i : CodedInstance) (x y : CodedValue) → IsMemberAt part.members.entries k i x → IsMemberAt l.members.entries number i y → SameMembers l.members.entries m.members.entries → OnOk r (IsSealedAt m.members.entries number) → OnOk r (SealsMember part l m k)
@@ -157,12 +152,12 @@ taken_none part l k low = absurd (omega (arith, low))
 
 pub taken_more : (part l m n : Local) (k : ℕ) → Takes part l m → Takes part m n → AreTaken part l m k → SealsMember part m n k → AreTaken part l n (k + 1)
 taken_more part l m n k a b before now j low = elim (cases_order j k) [
-  | inl same ↦ λ p f v h sealed e at. now p f v (a.kept p f v h sealed) sealed e (subst (λ (u : ℕ). slice_get part.members.entries u ≡ Some e) same at)
-  | inr other ↦ λ p f v h sealed e at. sealed_in_later m.members.entries n.members.entries e.0 b.members (before j (⊎_elim (λ x. x) (λ x. absurd (omega (arith, low, x))) other) p f v h sealed e at)
+  | inl same ↦ λ p names f v h sealed e at. now p names f v (a.kept p names f v h sealed) sealed e (subst (λ (u : ℕ). slice_get part.members.entries u ≡ Some e) same at)
+  | inr other ↦ λ p names f v h sealed e at. sealed_in_later m.members.entries n.members.entries e.0 b.members (before j (⊎_elim (λ x. x) (λ x. absurd (omega (arith, low, x))) other) p names f v h sealed e at)
 ]
 
 pub taken_all : (part l m : Local) (n : ℕ) → length part.members.entries ≤ n → AreTaken part l m n → (k : ℕ) → SealsMember part l m k
-taken_all part l m n all h k p f v local sealed e at = let low : k < length part.members.entries = slice_get_within part.members.entries k e at in h k (omega (arith, low, all)) p f v local sealed e at
+taken_all part l m n all h k p names f v local sealed e at = let low : k < length part.members.entries = slice_get_within part.members.entries k e at in h k (omega (arith, low, all)) p names f v local sealed e at
 
 -- of the first ones of a list, the members that aren't sealed
 pub record AreUnsealed (es : Members) (found : List ℕ) (i : ℕ) (closed : List ℕ) : Type 0 where

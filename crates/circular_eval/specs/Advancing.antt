@@ -2,11 +2,11 @@
 use Rattle.std.specs.Prelude.{◌≡◌, ℕ, false, List, [], ◌∷◌, ◌++◌, Some, Result, Ok, Err, map}
 use Rattle.equation_law.specs.declared.coding.Instance.{Instance as CodedInstance}
 use Rattle.equation_law.specs.Checked.{IsInstance}
-use Rattle.equation_law.specs.Codes.{IsCoded, instance_of, value_of}
+use Rattle.equation_law.specs.Codes.{ByEachNaming, IsCoded, Naming, instance_by, value_by}
 use Rattle.equation_law.specs.Equations.{HasValue, equations_of}
 use Rattle.equation_law.specs.Loops.{Chain, Leads}
 use Rattle.equation_law.specs.Names.{Instance}
-use Rattle.equation_law.specs.Program.{Program, text_of}
+use Rattle.equation_law.specs.Program.{Program}
 use Rattle.memo_cells.specs.declared.view.Frame.{Frame}
 use Rattle.memo_cells.specs.declared.view.View.{View}
 use Rattle.memo_cells.specs.Claiming.{FillsCells}
@@ -35,39 +35,43 @@ pub record IsPath (p : Program) (i n : Instance) (path : List Instance) : Type 0
   pub ends : path ≡ front ++ n ∷ []
   pub led : AreLed p path
 
--- a list that begins with the start of a local set and ends with the instance that it needed last, each led to by the one before
+-- a list that begins with the start of a local set and ends with the instance that it needed last, each led to by the one before, by each naming by which it is one
 abbrev pub IsPathIn : Local → List CodedInstance → Type 0
-IsPathIn l list = (p : Program) (f : Frame) (v : View) (number : ℕ) (need : CodedInstance) → IsLocal p f v l → l.need ≡ Some (number, need) → IsPath p (instance_of p l.start) (instance_of p need) (map (instance_of p) list)
+IsPathIn l list = (p : Program) (names : Naming) (f : Frame) (v : View) (number : ℕ) (need : CodedInstance) → IsLocal p names f v l → l.need ≡ Some (number, need) → IsPath p (instance_by p names l.start) (instance_by p names need) (map (instance_by p names) list)
 
--- an instance whose value is missing: it isn't circular, a member demands it, and its cell isn't seen settled
-pub record IsMissing (p : Program) (v : View) (l : Local) (n : CodedInstance) : Type 0 where
-  pub instance : IsInstance p (instance_of p n)
+-- by a naming, an instance whose value is missing: it isn't circular, a member demands it, and its cell isn't seen settled
+pub record IsMissing (p : Program) (names : Naming) (v : View) (l : Local) (n : CodedInstance) : Type 0 where
+  pub instance : IsInstance p (instance_by p names n)
   pub coded : IsCoded p n
-  pub undeclared : (equations_of p).circular (instance_of p n) ≡ false
-  pub unknown : ¬ Knows p v (instance_of p n)
-  pub reached : Chain p (instance_of p l.start) (instance_of p n)
+  pub undeclared : (equations_of p).circular (instance_by p names n) ≡ false
+  pub unknown : ¬ Knows p v (instance_by p names n)
+  pub reached : Chain p (instance_by p names l.start) (instance_by p names n)
   pub number : ℕ
   pub noted : l.need ≡ Some (number, n)
 
--- the members of the set are seen sealed, the start among them, and the value of each is the one that it has in the solution
-pub record IsSealed (p : Program) (v : View) (l : Local) : Type 0 where
-  pub start : Knows p v (instance_of p l.start)
-  pub members : (e : CodedInstance × Member) → Has l.members.entries e → Knows p v (instance_of p e.0)
-  pub values : (e : CodedInstance × Member) → Has l.members.entries e → HasValue p (instance_of p e.0) (value_of (text_of p) e.1.value)
+-- by each naming
+abbrev pub IsMissingByEach : Program → View → Local → CodedInstance → Type 0
+IsMissingByEach p v l n = ByEachNaming p (λ names. IsMissing p names v l n)
 
--- where cells are wanting, other keys have all of them than some key of i
-abbrev pub AnswersFault : Program → Instance → Frame → View → CircFault → Type 0
-AnswersFault p i f v CellsFull = FillsCells p i f v
+-- by a naming, the members of the set are seen sealed, the start among them, and the value of each is the one that it has in the solution
+pub record IsSealed (p : Program) (names : Naming) (v : View) (l : Local) : Type 0 where
+  pub start : Knows p v (instance_by p names l.start)
+  pub members : (e : CodedInstance × Member) → Has l.members.entries e → Knows p v (instance_by p names e.0)
+  pub values : (e : CodedInstance × Member) → Has l.members.entries e → HasValue p (instance_by p names e.0) (value_by names e.1.value)
+
+-- where cells are wanting, other keys have all of them than some key of i, by each naming
+abbrev pub AnswersFault : Program → CodedInstance → Frame → View → CircFault → Type 0
+AnswersFault p i f v CellsFull = ByEachNaming p (λ names. FillsCells p (instance_by p names i) f v)
 AnswersFault p i f v Memory = Unit {0}
 
 abbrev pub AnswersTurn : Program → Frame → View → Local → Result CircTurn CircFault → Type 0
-AnswersTurn p f v l (Ok (Need n)) = IsMissing p v l n
-AnswersTurn p f v l (Ok Closed) = IsSealed p v l
-AnswersTurn p f v l (Err fault) = AnswersFault p (instance_of p l.start) f v fault
+AnswersTurn p f v l (Ok (Need n)) = IsMissingByEach p v l n
+AnswersTurn p f v l (Ok Closed) = ByEachNaming p (λ names. IsSealed p names v l)
+AnswersTurn p f v l (Err fault) = AnswersFault p l.start f v fault
 
 -- the same with what is held before and after
 abbrev pub AnswersTurnAt : Held → Held → Local → Result CircTurn CircFault → Type 0
 AnswersTurnAt d e l result = AnswersTurn (program_at d) d.frame e.view l result
 
 abbrev pub AnswersFaultAt : Held → Held → CodedInstance → CircFault → Type 0
-AnswersFaultAt d e i fault = AnswersFault (program_at d) (instance_of (program_at d) i) d.frame e.view fault
+AnswersFaultAt d e i fault = AnswersFault (program_at d) i d.frame e.view fault

@@ -3,10 +3,10 @@ use Rattle.std.specs.Prelude.{◌≡◌, List}
 use Rattle.solutions.specs.Asking.{Ends, Halts}
 use Rattle.equation_law.specs.declared.coding.Instance.{Instance as CodedInstance}
 use Rattle.equation_law.specs.declared.system.System.{System}
-use Rattle.equation_law.specs.Codes.{AreElements, IsCoded, instance_of, value_of}
+use Rattle.equation_law.specs.Codes.{AreElements, ByEachOrder, IsCoded, NamesInOrder, Naming, instance_by, value_by}
 use Rattle.equation_law.specs.Equations.{equations_of}
 use Rattle.equation_law.specs.Names.{Instance}
-use Rattle.equation_law.specs.Program.{Program, text_of}
+use Rattle.equation_law.specs.Program.{Program}
 use Rattle.equation_law.specs.Reading.{Told}
 use Rattle.equation_law.specs.Systems.{program_of}
 use Rattle.expr_eval.specs.declared.saved.Saved.{Saved}
@@ -14,28 +14,28 @@ use Rattle.expr_eval.specs.declared.sites.Turn.{Turn}
 use Rattle.expr_eval.specs.declared.sites.Turn.TheVariants as turns
 use Rattle.expr_eval.specs.Saved.{AreSaved}
 use Rattle.memo_cells.specs.declared.view.View.{View}
-use Rattle.memo_cells.specs.Working.{Held, IsForSystem, IsOwn, NamesSources, program_at}
+use Rattle.memo_cells.specs.Working.{Held, IsForSystem, IsOwn, program_at}
 use Rattle.circular_eval.specs.declared.local.Local.{Local}
-use Rattle.circular_eval.specs.Local.{AreKept, MayRead, Members, ReadsHere, reads_here}
+use Rattle.circular_eval.specs.Local.{AreReadable, MayReadByEach, Members, ReadsByEach, ReadsHere, reads_here}
 
--- over what a work holds and the members of a set
+-- over what a work holds and the members of a set: by each naming it has the same
 abbrev pub told_here : {S : Type 0} → Held → System → Members → (S → Type 0) → Told S
 told_here d s es keeps = record {
-  for = λ p. (p ≡ program_at d) × IsForSystem d s × IsOwn d × AreKept p es;
-  has = ReadsHere (program_at d) d.view es;
-  can = MayRead (program_at d) es;
+  for = λ p. (p ≡ program_at d) × IsForSystem d s × IsOwn d × AreReadable p es;
+  has = ReadsByEach (program_at d) d.view es;
+  can = MayReadByEach (program_at d) es;
   keeps = keeps;
-  names = NamesSources (program_at d);
+  names = NamesInOrder (program_at d);
 }
 
--- what the equation of i came to under the values of the set
-abbrev pub ComesTo : Program → View → Members → Instance → Turn → Type 0
-ComesTo p v es i (turns.Done x) = ((ds : List Instance) × Ends (ReadsHere p v es) ((equations_of p).equation i) (value_of (text_of p) x) ds) × AreElements p x
-ComesTo p v es i (turns.Need n) = ((ds : List Instance) × Halts (ReadsHere p v es) ((equations_of p).equation i) (instance_of p n) ds) × IsCoded p n
+-- what the equation of i came to under the values of the set, by a naming
+abbrev pub ComesTo : Program → Naming → View → Members → Instance → Turn → Type 0
+ComesTo p names v es i (turns.Done x) = ((ds : List Instance) × Ends (ReadsHere p names v es) ((equations_of p).equation i) (value_by names x) ds) × AreElements p x
+ComesTo p names v es i (turns.Need n) = ((ds : List Instance) × Halts (ReadsHere p names v es) ((equations_of p).equation i) (instance_by p names n) ds) × IsCoded p n
 
--- the same of the instance that is coded so, by what a work holds and under the values of a local set
+-- the same of the instance that is coded so, by what a work holds and under the values of a local set, by each naming whose codes are in the order of their nodes
 abbrev pub ComesHere : Held → Local → CodedInstance → Turn → Type 0
-ComesHere d l i turn = ComesTo (program_at d) d.view l.members.entries (instance_of (program_at d) i) turn
+ComesHere d l i turn = ByEachOrder (program_at d) (λ names. ComesTo (program_at d) names d.view l.members.entries (instance_by (program_at d) names i) turn)
 
 -- what an evaluation over the system s left behind is so, by what is held and under the values of a local set
 abbrev pub AreSavedHere : System → Held → Local → Saved → Type 0

@@ -3,12 +3,12 @@ use Rattle.std.specs.Prelude.{◌≡◌, ◌⊎◌, ℕ, zero, suc, ◌<◌, Boo
 use Rattle.std.specs.Option.{option_and_then, option_map}
 use Rattle.equation_law.specs.declared.coding.Instance.{Instance as CodedInstance}
 use Rattle.equation_law.specs.declared.coding.Value.{Value as CodedValue}
-use Rattle.equation_law.specs.Codes.{AreElements, instance_of, value_of}
+use Rattle.equation_law.specs.Codes.{AreElements, ByEachNaming, Naming, instance_by, value_by}
 use Rattle.equation_law.specs.Equations.{HasValue, equations_of, kind_in}
 use Rattle.equation_law.specs.Loops.{Chain}
 use Rattle.equation_law.specs.Names.{Instance}
 use Rattle.equation_law.specs.Orders.{FitsKind}
-use Rattle.equation_law.specs.Program.{Program, text_of}
+use Rattle.equation_law.specs.Program.{Program}
 use Rattle.memo_cells.specs.declared.view.Frame.{Frame}
 use Rattle.memo_cells.specs.declared.view.View.{View}
 use Rattle.memo_cells.specs.Standing.{Knows}
@@ -17,7 +17,7 @@ use Rattle.circular_eval.specs.declared.advancing.CircFault.{CircFault}
 use Rattle.circular_eval.specs.declared.local.Local.{Local}
 use Rattle.circular_eval.specs.declared.members.Member.{Member}
 use Rattle.circular_eval.specs.Advancing.{AnswersFaultAt, IsSealed}
-use Rattle.circular_eval.specs.Local.{IsLocal, Members}
+use Rattle.circular_eval.specs.Local.{IsLocal, IsTied, Members}
 use Rattle.circular_eval.specs.Visiting.{GoesOnWith}
 use Rattle.worklists.specs.Waiting.{IsClosed}
 
@@ -55,39 +55,40 @@ IsSealedIn es i = (n : ℕ) (e : CodedInstance × Member) → slice_get es n ≡
 pub record SameMembers (es fs : Members) : Type 0 where
   pub same : (n : ℕ) (e : CodedInstance × Member) → slice_get fs n ≡ Some e → (d : CodedInstance × Member) × (slice_get es n ≡ Some d) × (e.0 ≡ d.0) × (d.1.slot ≡ None → e.1.slot ≡ None)
 
--- the value with which i is seen sealed
-pub record IsFinal (p : Program) (v : View) (i : Instance) (x : CodedValue) : Type 0 where
+-- by a naming, the value with which i is seen sealed; it is tied
+pub record IsFinal (p : Program) (names : Naming) (v : View) (i : Instance) (x : CodedValue) : Type 0 where
   pub elements : AreElements p x
-  pub fits : FitsKind (kind_in p i) (value_of (text_of p) x)
+  pub tied : IsTied p names x
+  pub fits : FitsKind (kind_in p i) (value_by names x)
   pub known : Knows p v i
-  pub has : HasValue p i (value_of (text_of p) x)
+  pub has : HasValue p i (value_by names x)
 
 -- it is that of the member of this number
-abbrev pub IsFinalAt : Program → View → Members → ℕ → CodedValue → Type 0
-IsFinalAt p v es number x = (e : CodedInstance × Member) → slice_get es number ≡ Some e → IsFinal p v (instance_of p e.0) x
+abbrev pub IsFinalAt : Program → Naming → View → Members → ℕ → CodedValue → Type 0
+IsFinalAt p names v es number x = (e : CodedInstance × Member) → slice_get es number ≡ Some e → IsFinal p names v (instance_by p names e.0) x
 
 -- a local set whose members are seen sealed
-pub record IsSealedSet (p : Program) (f : Frame) (v : View) (l : Local) : Type 0 where
-  pub local : IsLocal p f v l
-  pub sealed : IsSealed p v l
+pub record IsSealedSet (p : Program) (names : Naming) (f : Frame) (v : View) (l : Local) : Type 0 where
+  pub local : IsLocal p names f v l
+  pub sealed : IsSealed p names v l
 
 -- the member of this number has the value with which its instance was sealed: the set stays one
 pub record Settles (old new : Local) (number : ℕ) (x : CodedValue) : Type 0 where
   pub start : new.start ≡ old.start
   pub members : SameMembers old.members.entries new.members.entries
   pub some : 0 < length old.members.entries → 0 < length new.members.entries
-  pub kept : (p : Program) (f : Frame) (v : View) → IsLocal p f v old → IsFinalAt p v old.members.entries number x → IsLocal p f v new
+  pub kept : (p : Program) (names : Naming) (f : Frame) (v : View) → IsLocal p names f v old → IsFinalAt p names v old.members.entries number x → IsLocal p names f v new
 
 -- what was sealed with a part is final in the set: it stays one
 pub record Takes (part old new : Local) : Type 0 where
   pub start : new.start ≡ old.start
   pub members : SameMembers old.members.entries new.members.entries
   pub some : 0 < length old.members.entries → 0 < length new.members.entries
-  pub kept : (p : Program) (f : Frame) (v : View) → IsLocal p f v old → IsSealedSet p f v part → IsLocal p f v new
+  pub kept : (p : Program) (names : Naming) (f : Frame) (v : View) → IsLocal p names f v old → IsSealedSet p names f v part → IsLocal p names f v new
 
 -- the member of this number of a sealed part is sealed in the set, if it is a member there
 abbrev pub SealsMember : Local → Local → Local → ℕ → Type 0
-SealsMember part old new k = (p : Program) (f : Frame) (v : View) → IsLocal p f v old → IsSealedSet p f v part → (e : CodedInstance × Member) → slice_get part.members.entries k ≡ Some e → IsSealedIn new.members.entries e.0
+SealsMember part old new k = (p : Program) (names : Naming) (f : Frame) (v : View) → IsLocal p names f v old → IsSealedSet p names f v part → (e : CodedInstance × Member) → slice_get part.members.entries k ≡ Some e → IsSealedIn new.members.entries e.0
 
 -- what sealing parts of a local set says, with what is held before and after
 pub record SealsPart {X : Type 0} (d e : Held) (old new : Local) (result : Result X CircFault) : Type 0 where
@@ -95,15 +96,19 @@ pub record SealsPart {X : Type 0} (d e : Held) (old new : Local) (result : Resul
   pub members : SameMembers old.members.entries new.members.entries
   pub fault : IfErr result (AnswersFaultAt d e old.start)
 
+-- by a naming, i leads to an instance that isn't circular, and whose value is missing
+pub record IsMissingFrom (p : Program) (names : Naming) (v : View) (i need : CodedInstance) : Type 0 where
+  pub reached : Chain p (instance_by p names i) (instance_by p names need)
+  pub undeclared : (equations_of p).circular (instance_by p names need) ≡ false
+  pub unknown : ¬ Knows p v (instance_by p names need)
+
 -- i led to an instance that isn't circular, and whose value was missing then
 pub record HadToWait (d e : Held) (i : CodedInstance) : Type 0 where
   pub then : Held
   pub before : GoesOn d then
   pub after : GoesOn then e
   pub need : CodedInstance
-  pub reached : Chain (program_at d) (instance_of (program_at d) i) (instance_of (program_at d) need)
-  pub undeclared : (equations_of (program_at d)).circular (instance_of (program_at d) need) ≡ false
-  pub unknown : ¬ Knows (program_at d) then.view (instance_of (program_at d) need)
+  pub missing : ByEachNaming (program_at d) (λ names. IsMissingFrom (program_at d) names then.view i need)
 
 -- whether the member of this number is sealed now; where it isn't it had to wait
 abbrev pub AnswersPart : Held → Held → Members → Members → ℕ → Bool → Type 0

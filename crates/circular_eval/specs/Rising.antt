@@ -3,12 +3,12 @@ use Rattle.std.specs.Prelude.{◌≡◌, ◌⊎◌, ◌<◌, ◌||◌, ℕ, true
 use Rattle.code_sets.specs.Members.{AreMade, has_code}
 use Rattle.equation_law.specs.declared.coding.Value.{Value as CodedValue}
 use Rattle.equation_law.specs.Checked.{IsInstance, IsValue}
-use Rattle.equation_law.specs.Codes.{AreElements, value_of}
+use Rattle.equation_law.specs.Codes.{AreElements, ByEachNaming, IsNamingOf, Naming, value_by}
 use Rattle.equation_law.specs.Equations.{equations_of, kind_in}
 use Rattle.equation_law.specs.Names.{Instance}
 use Rattle.equation_law.specs.Loops.{order_in}
 use Rattle.equation_law.specs.Orders.{FitsKind}
-use Rattle.equation_law.specs.Program.{Program, text_of}
+use Rattle.equation_law.specs.Program.{Program}
 use Rattle.memo_cells.specs.declared.view.Frame.{Frame}
 use Rattle.memo_cells.specs.declared.view.View.{View}
 use Rattle.memo_cells.specs.Naming.{IsCellOf}
@@ -19,6 +19,7 @@ use Rattle.memo_cells.specs.SetRaising.{ClaimsWords, LacksWord, MayShowAll, set_
 use Rattle.circular_eval.specs.declared.advancing.CircFault.{CircFault}
 use Rattle.circular_eval.specs.declared.advancing.CircFault.TheVariants.{CellsFull, Memory}
 use Rattle.circular_eval.specs.Left.{code_bound, room}
+use Rattle.circular_eval.specs.Local.{IsTied}
 
 -- Where it refuses for cells, other keys have all of them than that of a word in which one of these codes lies.
 abbrev pub LacksSome : Program → Frame → View → Instance → List ℕ → CircFault → Type 0
@@ -45,32 +46,39 @@ pub record RaisesSet (d e : Held) (place : ℕ) (set other : List ℕ) (result :
   pub answer : (i : Instance) → MayShowAll (program_at d) d.frame d.view i place set → AnswersSet (program_at d) d.frame e.view i set other result
   pub claims : (i : Instance) → MayShowAll (program_at d) d.frame d.view i place set → ClaimsWords (program_at d) d.view e.view i set
 
--- The equation of the circular instance i of this cell comes to the one value. The words show the other one, or it is that of i, which is seen sealed.
-pub record MayRise (d : Held) (i : Instance) (place : ℕ) (value other : CodedValue) : Type 0 where
+-- By a naming, the equation of the circular instance i of this cell comes to the one value. The words show the other one, or it is that of i, which is seen sealed.
+-- The other one is tied.
+pub record MayRise (d : Held) (names : Naming) (i : Instance) (place : ℕ) (value other : CodedValue) : Type 0 where
   pub cell : IsCellOf (program_at d) d.frame d.view i place
   pub instance : IsInstance (program_at d) i
   pub is_circular : (equations_of (program_at d)).circular i ≡ true
-  pub comes : ComesTo (program_at d) d.view i (value_of (text_of (program_at d)) value)
-  pub typed : IsValue (program_at d) (kind_in (program_at d) i) (value_of (text_of (program_at d)) value)
+  pub comes : ComesTo (program_at d) d.view i (value_by names value)
+  pub typed : IsValue (program_at d) (kind_in (program_at d) i) (value_by names value)
   pub elements : AreElements (program_at d) value
   pub of : AreElements (program_at d) other
-  pub fits : FitsKind (kind_in (program_at d) i) (value_of (text_of (program_at d)) other)
-  pub shown : IsShown (program_at d) d.view i (value_of (text_of (program_at d)) other)
+  pub tied : IsTied (program_at d) names other
+  pub fits : FitsKind (kind_in (program_at d) i) (value_by names other)
+  pub shown : IsShown (program_at d) d.view i (value_by names other)
 
--- both joined, which is shown and is more than the other one
-pub record IsRisen (p : Program) (v : View) (i : Instance) (value other both : CodedValue) : Type 0 where
+-- both joined, which is shown, is tied and is more than the other one
+pub record IsRisen (p : Program) (names : Naming) (v : View) (i : Instance) (value other both : CodedValue) : Type 0 where
   pub elements : AreElements p both
-  pub fits : FitsKind (kind_in p i) (value_of (text_of p) both)
-  pub shown : ShowsAtLeast p v i (kind_in p i) (value_of (text_of p) both)
+  pub tied : IsTied p names both
+  pub fits : FitsKind (kind_in p i) (value_by names both)
+  pub shown : ShowsAtLeast p v i (kind_in p i) (value_by names both)
   pub more : room both < room other
 
-abbrev pub AnswersRaise : Program → Frame → View → Instance → CodedValue → CodedValue → Result (Option CodedValue) CircFault → Type 0
-AnswersRaise p f v i value other (Ok None) = order_in p i (value_of (text_of p) value) (value_of (text_of p) other)
-AnswersRaise p f v i value other (Ok (Some both)) = IsRisen p v i value other both
-AnswersRaise p f v i value other (Err fault) = LacksSome p f v i (set_codes value) fault
+abbrev pub AnswersRaise : Program → Naming → Frame → View → Instance → CodedValue → CodedValue → Result (Option CodedValue) CircFault → Type 0
+AnswersRaise p names f v i value other (Ok None) = order_in p i (value_by names value) (value_by names other)
+AnswersRaise p names f v i value other (Ok (Some both)) = IsRisen p names v i value other both
+AnswersRaise p names f v i value other (Err fault) = LacksSome p f v i (set_codes value) fault
+
+-- it may rise by some naming for the program
+abbrev pub MayRiseByOne : Held → ℕ → CodedValue → CodedValue → Type 0
+MayRiseByOne d place value other = (names : Naming) × IsNamingOf (program_at d) names × ((i : Instance) × MayRise d names i place value other)
 
 -- what raising a value says of the instance of the cell
 pub record RaisesValue (d e : Held) (place : ℕ) (value other : CodedValue) (result : Result (Option CodedValue) CircFault) : Type 0 where
   pub on : GoesOn d e
-  pub answer : (i : Instance) → MayRise d i place value other → AnswersRaise (program_at d) d.frame e.view i value other result
-  pub claims : (i : Instance) → MayRise d i place value other → ClaimsWords (program_at d) d.view e.view i (set_codes value)
+  pub answer : ByEachNaming (program_at d) (λ names. (i : Instance) → MayRise d names i place value other → AnswersRaise (program_at d) names d.frame e.view i value other result)
+  pub claims : ByEachNaming (program_at d) (λ names. (i : Instance) → MayRise d names i place value other → ClaimsWords (program_at d) d.view e.view i (set_codes value))

@@ -3,7 +3,7 @@ ghost use Rattle.std.specs.Prelude.{◌≡◌, ◌≢◌, ◌⊎◌, ◌++◌, �
 ghost use Rattle.std.specs.BTreeSet.{IsUpperBound};
 ghost use Rattle.std.specs.Option.{option_and_then, option_map};
 ghost use Rattle.std.specs.Ordering.{nat_cmp};
-ghost use Rattle.equation_law.specs.Codes.{AreElements, instance_of};
+ghost use Rattle.equation_law.specs.Codes.{AreElements, Naming, instance_by};
 ghost use Rattle.equation_law.specs.Program.{Program};
 ghost use Rattle.expr_eval.specs.Saved.{SavesNothing};
 ghost use Rattle.circular_eval.specs.Advancing.{IsPathIn};
@@ -112,10 +112,10 @@ impl<'a> Local<'a> {
 
     /// The number of a member and its value.
     pub(crate) fn find(&self, i: &Instance) -> Option<(usize, &Value)>
-        ensures none { WhereKept self.now.members.entries i.now (λ p. IfNone result (¬ IsMemberOf p self.now.members.entries (instance_of p i.now))) }
-        ensures member { (p : Program) → IfSome result (λ x. IsMemberOf p self.now.members.entries (instance_of p i.now)) }
-        ensures value { WhereKept self.now.members.entries i.now (λ p. IfSome result (λ x. IsLocalValue p self.now.members.entries i.now x.1.now)) }
-        ensures elements { (p : Program) → AreKept p self.now.members.entries → IfSome result (λ x. AreElements p x.1.now) }
+        ensures none { WhereKept self.now.members.entries i.now (λ p n. IfNone result (¬ IsMemberOf p n self.now.members.entries (instance_by p n i.now))) }
+        ensures member { (p : Program) (n : Naming) → IfSome result (λ x. IsMemberOf p n self.now.members.entries (instance_by p n i.now)) }
+        ensures value { WhereKept self.now.members.entries i.now (λ p n. IfSome result (λ x. IsLocalValue p n self.now.members.entries i.now x.1.now)) }
+        ensures elements { (p : Program) (n : Naming) → AreKept p n self.now.members.entries → IfSome result (λ x. AreElements p x.1.now) }
         ensures at { IfSome result (λ x. IsMemberAt self.now.members.entries x.0 i.now x.1.now) }
         ensures absent { IfNone result (IsAbsent self.now.members.entries i.now) }
     {

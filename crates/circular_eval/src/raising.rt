@@ -1,10 +1,9 @@
 // Raising the words of a member.
 ghost use Rattle.std.specs.Prelude.{◌<◌};
-ghost use Rattle.equation_law.specs.Names.{Instance};
 ghost use Rattle.memo_cells.specs.Working.{IsOwn};
 ghost use Rattle.memo_cells.specs.SetRaising.{MayShowAllAt};
 ghost use Rattle.circular_eval.specs.Left.{code_bound};
-ghost use Rattle.circular_eval.specs.Rising.{MayRise, RaisesSet, RaisesValue};
+ghost use Rattle.circular_eval.specs.Rising.{MayRiseByOne, RaisesSet, RaisesValue};
 
 use crate::advancing::CircFault;
 use code_sets::{Code, Codes};
@@ -51,7 +50,7 @@ pub(crate) fn raise_value<W: Work>(
     other: &Value,
 ) -> Result<Option<Value>, CircFault>
     requires own { IsOwn (W.held work.old) }
-    requires may { (i : Instance) × MayRise (W.held work.old) i slot.0 value.now other.now }
+    requires may { MayRiseByOne (W.held work.old) slot.0 value.now other.now }
     ensures { RaisesValue (W.held work.old) (W.held work.new) slot.0 value.now other.now result }
 {
     match (value, other) {

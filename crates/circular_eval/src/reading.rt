@@ -4,7 +4,7 @@ ghost use Rattle.equation_law.specs.Equations.{collection_of};
 ghost use Rattle.equation_law.specs.Codes.{IsCoded, instance_of};
 ghost use Rattle.equation_law.specs.Systems.{program_of};
 ghost use Rattle.memo_cells.specs.Working.{IsForSystem, IsOwn, ReadsOn};
-ghost use Rattle.circular_eval.specs.Local.{AreKept};
+ghost use Rattle.circular_eval.specs.Local.{AreReadable};
 ghost use Rattle.circular_eval.specs.Looking.{AreSavedHere, ComesHere};
 
 use crate::local::Local;
@@ -63,7 +63,7 @@ pub(crate) fn evaluate<'a, W: Work>(
     requires same { IsForSystem (W.held work.old) system.now }
     requires coded { IsCoded (program_of system.now) i.now }
     requires single { collection_of (program_of system.now) (instance_of (program_of system.now) i.now) ≡ None }
-    requires kept { AreKept (program_of system.now) local.now.members.entries }
+    requires kept { AreReadable (program_of system.now) local.now.members.entries }
     requires saved { AreSavedHere system.now (W.held work.old) local.now saved.old }
     ensures on { ReadsOn (W.held work.old) (W.held work.new) }
     ensures came { IfOk result (λ came. ComesHere (W.held work.new) local.now i.now came.turn) }

@@ -1,5 +1,5 @@
 // The values of a local set.
-ghost use Rattle.std.specs.Prelude.{◌≡◌, ◌≤◌, IfNone, IfSome, length};
+ghost use Rattle.std.specs.Prelude.{◌≤◌, IfNone, IfSome, length};
 ghost use Rattle.circular_eval.specs.Sealed.{IsMemberAt};
 
 use crate::local::Local;

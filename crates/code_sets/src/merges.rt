@@ -1,5 +1,5 @@
 // Words of two sets side by side, each in the order of their numbers.
-ghost use Rattle.std.specs.Prelude.{◌≡◌, ◌<◌, ◌≤◌, ◌^◌, ◌++◌, ℕ, true, false, [], IfOk, OnOk, IfSome, IfNone};
+ghost use Rattle.std.specs.Prelude.{◌≡◌, ◌<◌, ◌≤◌, ◌++◌, ℕ, true, false, [], IfOk, OnOk, IfSome, IfNone};
 ghost use Rattle.std.specs.List.{AllByRecursion};
 ghost use Rattle.code_sets.specs.Members.{AreMade, IsWithin};
 ghost use Rattle.code_sets.specs.Merges.{IsFirstNumber, IsParted, keeps, word_of};

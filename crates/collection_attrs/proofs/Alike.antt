@@ -2,16 +2,16 @@
 use Rattle.std.proofs.Common.{◌≡◌, ℕ, zero, suc, ◌≤◌, ◌⊎◌, true, List, [], ◌∷◌, ◌++◌, Option, Some, None, length, slice_get, take, refl, sym, ap, subst, ◌∙◌, inl, inr, arith}
 use Rattle.solutions.proofs.Runs.{ends_same}
 use Rattle.attr_rules.proofs.RowLists.{there}
-use Rattle.equation_law.specs.Codes.{AreElements, value_of}
+use Rattle.equation_law.specs.Codes.{Naming, reference_by, value_by}
 use Rattle.equation_law.specs.Collections.{Collection, Offer, fresh}
 use Rattle.equation_law.specs.Names.{At, Instance, Reference, same_reference}
-use Rattle.equation_law.specs.Program.{Program, text_of}
+use Rattle.equation_law.specs.Program.{Program}
 use Rattle.equation_law.specs.Values.{Value, node}
 use Rattle.collection_attrs.specs.declared.surveys.Survey.{Survey}
 use Rattle.collection_attrs.specs.Passed.{ArePassed, Comes, IsPassed, Kept, kept, kept_of, met, unmet}
-use Rattle.collection_attrs.specs.Surveys.{IsSurveyed}
-use Rattle.collection_attrs.specs.Walks.{AreNotes, IsFor, IsNote, IsSurvey, IsWalk, Noted, Walk, passed_by}
-use Rattle.collection_attrs.proofs.Walked.{offers_split, same_notes}
+use Rattle.collection_attrs.specs.Surveys.{HasGone}
+use Rattle.collection_attrs.specs.Walks.{AreNotes, IsFor, IsNote, IsSurvey, Noted, Walk, passed_by}
+use Rattle.collection_attrs.proofs.Walked.{IsWalkBy, offers_split, same_notes}
 
 none_taken : (ks : List Kept) → take 0 ks ≡ []
 none_taken [] = refl
@@ -40,8 +40,8 @@ last_alike (x ∷ ks) [] k e = cc
 last_alike (x ∷ ks) (j ∷ js) zero e = let same : x ≡ j = cc in ap (λ (y : Kept). Some y) same
 last_alike (x ∷ ks) (j ∷ js) (suc k) e = last_alike ks js k (let same : take (suc k) ks ≡ take (suc k) js = cc in same)
 
-module _ (p : Program) where
-  notes_taken : (ns : List Noted) (ks : List Kept) (k : ℕ) → AreNotes p ns ks → AreNotes p (take k ns) (take k ks)
+module _ (p : Program) (names : Naming) where
+  notes_taken : (ns : List Noted) (ks : List Kept) (k : ℕ) → AreNotes p names ns ks → AreNotes p names (take k ns) (take k ks)
   notes_taken [] [] zero f = tt
   notes_taken [] [] (suc k) f = tt
   notes_taken [] (x ∷ ks) k f = absurd f
@@ -49,24 +49,24 @@ module _ (p : Program) where
   notes_taken (n ∷ ns) (x ∷ ks) zero f = tt
   notes_taken (n ∷ ns) (x ∷ ks) (suc k) f = (f.0, notes_taken ns ks k f.1)
 
-  pub notes_length : (ns : List Noted) (ks : List Kept) → AreNotes p ns ks → length ns ≡ length ks
+  pub notes_length : (ns : List Noted) (ks : List Kept) → AreNotes p names ns ks → length ns ≡ length ks
   notes_length [] [] f = refl
   notes_length [] (x ∷ ks) f = absurd f
   notes_length (n ∷ ns) [] f = absurd f
   notes_length (n ∷ ns) (x ∷ ks) f = ap suc (notes_length ns ks f.1)
 
   -- a note at a place, and the offer that it is
-  pub note_is : (ns : List Noted) (ks : List Kept) → AreNotes p ns ks → (k : ℕ) (n : Noted) → slice_get ns k ≡ Some n → (x : Kept) × (slice_get ks k ≡ Some x) × IsNote p n x
+  pub note_is : (ns : List Noted) (ks : List Kept) → AreNotes p names ns ks → (k : ℕ) (n : Noted) → slice_get ns k ≡ Some n → (x : Kept) × (slice_get ks k ≡ Some x) × IsNote p names n x
   note_is [] ks f k n e = cc
   note_is (m ∷ ns) [] f k n e = absurd f
-  note_is (m ∷ ns) (x ∷ ks) f zero n e = let same : m ≡ n = cc in (x, refl, subst (λ (y : Noted). IsNote p y x) same f.0)
+  note_is (m ∷ ns) (x ∷ ks) f zero n e = let same : m ≡ n = cc in (x, refl, subst (λ (y : Noted). IsNote p names y x) same f.0)
   note_is (m ∷ ns) (x ∷ ks) f (suc k) n e = note_is ns ks f.1 k n e
 
   -- and the other way
-  note_of : (ns : List Noted) (ks : List Kept) → AreNotes p ns ks → (k : ℕ) (x : Kept) → slice_get ks k ≡ Some x → (n : Noted) × (slice_get ns k ≡ Some n) × IsNote p n x
+  note_of : (ns : List Noted) (ks : List Kept) → AreNotes p names ns ks → (k : ℕ) (x : Kept) → slice_get ks k ≡ Some x → (n : Noted) × (slice_get ns k ≡ Some n) × IsNote p names n x
   note_of ns [] f k x e = cc
   note_of [] (y ∷ ks) f k x e = absurd f
-  note_of (n ∷ ns) (y ∷ ks) f zero x e = let same : y ≡ x = cc in (n, refl, subst (IsNote p n) same f.0)
+  note_of (n ∷ ns) (y ∷ ks) f zero x e = let same : y ≡ x = cc in (n, refl, subst (IsNote p names n) same f.0)
   note_of (n ∷ ns) (y ∷ ks) f (suc k) x e = note_of ns ks f.1 k x e
 
   module _ (A : Instance → Value → Type 0) (one : (j : Instance) (x y : Value) → A j x → A j y → x ≡ y) where
@@ -91,7 +91,7 @@ module _ (p : Program) where
         let receivers : r ≡ t = one_receiver f.0 (subst (λ (o : Offer). IsPassed p A o t) (sym same) g.0) in
         kept_alike x y r t same receivers (kept xs rs) (kept ys ts) (λ j. first_alike xs ys us vs rs ts rest f.1 g.1 j) k l m
 
-    module _ (w : Walk) (h : IsWalk p A w) (c : Collection) (is : IsFor p w c) (s : Survey) where
+    module _ (w : Walk) (h : IsWalkBy p A names w) (c : Collection) (is : IsFor p w c) (s : Survey) where
       -- what the walk has kept
       abbrev Those : List Kept
       Those = kept (passed_by p w) h.receivers
@@ -100,10 +100,10 @@ module _ (p : Program) where
       those_length = notes_length w.notes Those h.noted
 
       -- a survey along the walk is one
-      pub surveyed : IsSurvey p A w c s.taken (value_of (text_of p) s.so_far) → AreElements p s.so_far → ((k : ℕ) (n : Noted) → suc k ≡ s.taken → slice_get w.notes k ≡ Some n → same_reference n.receiver (At c.node) ≡ true) → IsSurveyed p A c s
-      surveyed v coded last =
-          let split = offers_split p A w h in
-          let same : v.kept ≡ take s.taken Those = same_notes p (take s.taken w.notes) v.kept (take s.taken Those) v.notes (notes_taken w.notes Those s.taken h.noted) in
+      pub surveyed : IsSurvey p A names w c s.taken (value_by names s.so_far) → ((k : ℕ) (n : Noted) → suc k ≡ s.taken → slice_get w.notes k ≡ Some n → same_reference (reference_by names.node n.receiver) (At c.node) ≡ true) → HasGone p A names c s
+      surveyed v last =
+          let split = offers_split p w h.stands in
+          let same : v.kept ≡ take s.taken Those = same_notes p names (take s.taken w.notes) v.kept (take s.taken Those) v.notes (notes_taken w.notes Those s.taken h.noted) in
           let within = v.within in
           record {
             front = passed_by p w;
@@ -112,22 +112,21 @@ module _ (p : Program) where
             receivers = h.receivers;
             passed = h.passed;
             within = omega (arith, within, those_length);
-            comes = subst (λ (ks : List Kept). Comes p A c (fresh c.method c.kind) ks (value_of (text_of p) s.so_far)) same v.comes;
-            coded = coded;
+            comes = subst (λ (ks : List Kept). Comes p A c (fresh c.method c.kind) ks (value_by names s.so_far)) same v.comes;
             last = λ k x e f. let n = note_of w.notes Those h.noted k x f in subst (λ (r : Reference). same_reference r (At c.node) ≡ true) n.2.receiver (last k n.0 e n.1);
           }
 
       -- and a survey is one along every walk that has kept as many offers as it has gone over
-      module _ (v : IsSurveyed p A c s) (enough : s.taken ≤ length w.notes) where
+      module _ (v : HasGone p A names c s) (enough : s.taken ≤ length w.notes) where
         those_alike : take s.taken Those ≡ take s.taken (kept v.front v.receivers)
         those_alike =
-            let split = offers_split p A w h in
+            let split = offers_split p w h.stands in
             first_alike (passed_by p w) v.front split.0 v.others h.receivers v.receivers (split.1 ∙ sym is ∙ sym v.are) h.passed v.passed s.taken (omega (arith, enough, those_length)) v.within
 
-        pub along : IsSurvey p A w c s.taken (value_of (text_of p) s.so_far)
-        along = record { within = enough; kept = take s.taken (kept v.front v.receivers); notes = subst (AreNotes p (take s.taken w.notes)) those_alike (notes_taken w.notes Those s.taken h.noted); comes = v.comes }
+        pub along : IsSurvey p A names w c s.taken (value_by names s.so_far)
+        along = record { within = enough; kept = take s.taken (kept v.front v.receivers); notes = subst (AreNotes p names (take s.taken w.notes)) those_alike (notes_taken w.notes Those s.taken h.noted); comes = v.comes }
 
-        last_at : (t : ℕ) → t ≡ s.taken → (t ≡ 0) ⊎ ((k : ℕ) × (n : Noted) × (suc k ≡ t) × (slice_get w.notes k ≡ Some n) × (same_reference n.receiver (At c.node) ≡ true))
+        last_at : (t : ℕ) → t ≡ s.taken → (t ≡ 0) ⊎ ((k : ℕ) × (n : Noted) × (suc k ≡ t) × (slice_get w.notes k ≡ Some n) × (same_reference (reference_by names.node n.receiver) (At c.node) ≡ true))
         last_at zero e = inl refl
         last_at (suc k) e =
             let n = there w.notes k (omega (arith, e, enough)) in
@@ -137,5 +136,5 @@ module _ (p : Program) where
             inr (k, n.0, refl, n.1, subst (λ (r : Reference). same_reference r (At c.node) ≡ true) (sym x.2.receiver) own)
 
         -- it stands at the beginning or behind a note for its node
-        pub stands_behind : (s.taken ≡ 0) ⊎ ((k : ℕ) × (n : Noted) × (suc k ≡ s.taken) × (slice_get w.notes k ≡ Some n) × (same_reference n.receiver (At c.node) ≡ true))
+        pub stands_behind : (s.taken ≡ 0) ⊎ ((k : ℕ) × (n : Noted) × (suc k ≡ s.taken) × (slice_get w.notes k ≡ Some n) × (same_reference (reference_by names.node n.receiver) (At c.node) ≡ true))
         stands_behind = last_at s.taken refl

@@ -1,47 +1,14 @@
 -- One entry more comes into the ring of its receiver.
-use Rattle.std.proofs.Common.{◌≡◌, ℕ, zero, suc, ◌+◌, ◌-◌, ◌^◌, ◌<◌, ◌≤◌, ◌⊎◌, true, false, cond, List, [], ◌∷◌, ◌++◌, map, Option, Some, None, option_map, eqb, length, set, slice_get, refl, sym, ap, subst, ◌∙◌, inl, inr, arith}
-use Rattle.std.specs.Cmp.{tied_itself}
-use Rattle.std.specs.Cmp.Lexicographic.{nat_list_cmp_total}
-use Rattle.std.specs.Ordering.{is_eq}
+use Rattle.std.proofs.Common.{◌≡◌, ◌≢◌, ℕ, zero, suc, ◌+◌, ◌-◌, ◌^◌, ◌<◌, ◌≤◌, ◌⊎◌, true, false, cond, List, [], ◌∷◌, ◌++◌, map, Option, Some, None, option_map, eqb, length, set, slice_get, refl, sym, ap, subst, ◌∙◌, inl, inr, arith}
 use Rattle.std.proofs.lemmas.Bool.{cases_lt, eq-eqb, eqb-true}
 use Rattle.std.proofs.lemmas.List.{length-append, length-map, map-append}
 use Rattle.std.proofs.lemmas.Option.{slice_get-map, slice_get_within}
 use Rattle.attr_rules.proofs.RowLists.{there}
 use Rattle.equation_law.specs.declared.coding.NodeRef.{NodeRef}
-use Rattle.equation_law.specs.Codes.{reference_of}
-use Rattle.equation_law.specs.Names.{At, Null, Reference, Source, reference_code, same_reference}
-use Rattle.equation_law.proofs.Names.{code_anti, is_equal}
 use Rattle.collection_attrs.specs.declared.linking.Entry.{Entry}
 use Rattle.collection_attrs.specs.Surveys.{AreChained, noted_in}
-use Rattle.collection_attrs.specs.Walks.{IsBehind, IsFirstFor, IsNextFor, NoneFrom, Noted, behind, round}
+use Rattle.collection_attrs.specs.Walks.{IsFirstFor, IsNextFor, MayGoOn, NoneFrom, Noted, behind, round}
 use Rattle.collection_attrs.proofs.Noting.{first_comes, first_stays, none_stays}
-
--- ---- references
-
-pub same_self : (r : Reference) → same_reference r r ≡ true
-same_self r = ap is_eq (tied_itself nat_list_cmp_total (reference_code r []))
-
-code_is : (a b : Reference) → reference_code a [] ≡ reference_code b [] → a ≡ b
-code_is Null Null e = refl
-code_is Null (At (Source n)) e = let h : zero ≡ suc zero = cc in absurd (omega (arith, h))
-code_is (At (Source m)) Null e = let h : suc zero ≡ zero = cc in absurd (omega (arith, h))
-code_is (At (Source m)) (At (Source n)) e = let h : m ≡ n = cc in ap (λ (k : ℕ). At (Source k)) h
-
-pub same_is : (a b : Reference) → same_reference a b ≡ true → a ≡ b
-same_is a b e = code_is a b (code_anti _ _ (is_equal _ e))
-
-one_code : (a b : ℕ) → reference_of a ≡ reference_of b → a ≡ b
-one_code zero zero e = refl
-one_code zero (suc n) e = cc
-one_code (suc m) zero e = cc
-one_code (suc m) (suc n) e = let h : m ≡ n = cc in ap suc h
-
--- other codes stand for other references
-other_code : (a b : ℕ) → eqb a b ≡ false → same_reference (reference_of a) (reference_of b) ≡ false
-other_code a b other = elim (same_reference (reference_of a) (reference_of b)) as (λ t. same_reference (reference_of a) (reference_of b) ≡ t → t ≡ false) [
-  | true ↦ λ e. let same : eqb a b ≡ true = eq-eqb a b (one_code a b (same_is _ _ e)) in cc
-  | false ↦ λ e. refl
-] refl
 
 -- ---- a list with one entry more
 
@@ -148,8 +115,8 @@ module _ (es : List Entry) (e : Entry) (lasts later : NodeRef → Option ℕ) (h
   abbrev m : Noted
   m = noted_in e
 
-  abbrev of : NodeRef → Reference
-  of n = reference_of n.0
+  abbrev of : NodeRef → ℕ
+  of n = n.0
 
   long : length ns ≡ length es
   long = length-map es noted_in
@@ -159,46 +126,33 @@ module _ (es : List Entry) (e : Entry) (lasts later : NodeRef → Option ℕ) (h
   noted_at i x is = slice_get-map noted_in es i ∙ ap (λ (o : Option Entry). option_map noted_in o) is
 
   -- nothing stands behind the new one
-  nothing_behind : (r : Reference) → NoneFrom (ns ++ m ∷ []) r (length es + 1)
+  nothing_behind : (r : ℕ) → NoneFrom (ns ++ m ∷ []) r (length es + 1)
   nothing_behind r i n from is = let within = slice_get_within (ns ++ m ∷ []) i n is in absurd (omega (arith, within, length-append ns (m ∷ []), long, from))
 
   -- the new one is the first where there was none
   new_first : (from : ℕ) → from ≤ length es → NoneFrom ns (of e.receiver) from → IsFirstFor (ns ++ m ∷ []) (of e.receiver) from (length es)
-  new_first from within none = subst (IsFirstFor (ns ++ m ∷ []) (of e.receiver) from) long (first_comes ns m (of e.receiver) from none (omega (arith, within, long)) (same_self (of e.receiver)))
+  new_first from within none = subst (IsFirstFor (ns ++ m ∷ []) (of e.receiver) from) long (first_comes ns m (of e.receiver) from none (omega (arith, within, long)) refl)
 
   -- what `later` has
   data Later (q : NodeRef) : Type 0 where
     own : q ≡ e.receiver → later q ≡ Some (length es) → Later q
-    other : same_reference (of e.receiver) (of q) ≡ false → later q ≡ lasts q → Later q
+    other : of e.receiver ≢ of q → later q ≡ lasts q → Later q
 
   later_is : (q : NodeRef) → Later q
   later_is q = elim (eqb e.receiver.0 q.0) as (λ t. eqb e.receiver.0 q.0 ≡ t → later q ≡ cond t (Some (length es)) (lasts q) → Later q) [
     | true ↦ λ same is. own (λ i. record { 0 = sym (eqb-true e.receiver.0 q.0 same) i }) is
-    | false ↦ λ differ is. other (other_code e.receiver.0 q.0 differ) is
+    | false ↦ λ differ is. other (λ same. let on = eq-eqb e.receiver.0 q.0 same in cc) is
   ] refl (now q)
 
   -- an entry whose receiver is that of the new one, and behind which none is, is the last one with it
-  clash : (b : Option ℕ) → before ≡ b → (i : ℕ) (x : Entry) → slice_get es i ≡ Some x → NoneFrom ns (of x.receiver) (i + 1) → ((k : ℕ) → before ≡ Some k → k ≡ i → ⊥) → same_reference (of e.receiver) (of x.receiver) ≡ true → ⊥
-  clash None known i x is none not_last same =
-      let off = h.none e.receiver (was ∙ known) i (noted_in x) (omega arith) (noted_at i x is) in
-      let one : of e.receiver ≡ of x.receiver = same_is _ _ same in
-      let on = same_self (of x.receiver) in
-      let too : same_reference (of x.receiver) (of x.receiver) ≡ false = subst (λ (r : Reference). same_reference (of x.receiver) r ≡ false) one off in
-      cc
+  clash : (b : Option ℕ) → before ≡ b → (i : ℕ) (x : Entry) → slice_get es i ≡ Some x → NoneFrom ns (of x.receiver) (i + 1) → ((k : ℕ) → before ≡ Some k → k ≡ i → ⊥) → of e.receiver ≡ of x.receiver → ⊥
+  clash None known i x is none not_last same = h.none e.receiver (was ∙ known) i (noted_in x) (omega arith) (noted_at i x is) (sym same)
   clash (Some k) known i x is none not_last same =
       let w = h.within e.receiver k (was ∙ known) in
-      let one : of e.receiver ≡ of x.receiver = same_is _ _ same in
-      let on = same_self (of x.receiver) in
       elim (cases_lt i k) [
-        | inl u ↦
-            let off = none k (noted_in w.0) (omega (arith, u)) (noted_at k w.0 w.1) in
-            let too : same_reference (of x.receiver) (of x.receiver) ≡ false = subst (λ (r : Reference). same_reference r (of x.receiver) ≡ false) (ap of w.2 ∙ one) off in
-            cc
+        | inl u ↦ none k (noted_in w.0) (omega (arith, u)) (noted_at k w.0 w.1) (ap of w.2 ∙ same)
         | inr u ↦ elim (cases_lt k i) [
-          | inl v ↦
-              let off = h.last e.receiver k (was ∙ known) i (noted_in x) (omega (arith, v)) (noted_at i x is) in
-              let too : same_reference (of x.receiver) (of x.receiver) ≡ false = subst (λ (r : Reference). same_reference (of x.receiver) r ≡ false) one off in
-              cc
+          | inl v ↦ h.last e.receiver k (was ∙ known) i (noted_in x) (omega (arith, v)) (noted_at i x is) (sym same)
           | inr v ↦ not_last k known (omega (arith, u, v))
         ]
       ]
@@ -206,17 +160,13 @@ module _ (es : List Entry) (e : Entry) (lasts later : NodeRef → Option ℕ) (h
   -- what an entry tells stays true, unless it was the last
   tells_on : (i : ℕ) (x : Entry) → slice_get es i ≡ Some x → (t : ℕ) → IsNextFor ns (of x.receiver) (i + 1) t → ((k : ℕ) → before ≡ Some k → k ≡ i → ⊥) → IsNextFor (ns ++ m ∷ []) (of x.receiver) (i + 1) t
   tells_on i x is t (behind f) not_last = behind (first_stays ns m (of x.receiver) (i + 1) t f)
-  tells_on i x is t (round none f) not_last = round (none_stays ns m (of x.receiver) (i + 1) none (elim (same_reference (of e.receiver) (of x.receiver)) as (λ b. same_reference (of e.receiver) (of x.receiver) ≡ b → b ≡ false) [
-    | true ↦ λ same. absurd (clash before refl i x is none not_last same)
-    | false ↦ λ same. refl
-  ] refl)) (first_stays ns m (of x.receiver) 0 t f)
+  tells_on i x is t (round none f) not_last = round (none_stays ns m (of x.receiver) (i + 1) none (λ same. clash before refl i x is none not_last same)) (first_stays ns m (of x.receiver) 0 t f)
 
   -- the last one tells the first
   last_tells : (k : ℕ) → lasts e.receiver ≡ Some k → (x : Entry) → slice_get es k ≡ Some x → x.receiver ≡ e.receiver → IsNextFor ns (of x.receiver) (k + 1) x.next → IsFirstFor ns (of e.receiver) 0 x.next
   last_tells k known x is own_one (behind f) =
       let off = h.last e.receiver k known x.next f.note f.after f.is in
-      let on : same_reference f.note.receiver (of e.receiver) ≡ true = subst (λ (n : NodeRef). same_reference f.note.receiver (of n) ≡ true) own_one f.has in
-      cc
+      absurd (off (subst (λ (n : NodeRef). f.note.receiver ≡ of n) own_one f.has))
   last_tells k known x is own_one (round none f) = subst (λ (n : NodeRef). IsFirstFor ns (of n) 0 x.next) own_one f
 
   -- and so does the new one
@@ -304,12 +254,19 @@ chained_same lasts later same h = record {
 -- ---- what entries tell
 
 module _ (es : List Entry) (lasts : NodeRef → Option ℕ) (h : AreChained es lasts) where
-  -- a place of a note is one of 32 bits, and so is the one behind it
-  pub place_fits : (k : ℕ) (n : Noted) → slice_get (noted es) k ≡ Some n → k + 1 < 2 ^ 32
-  place_fits k n is = let few = h.few in omega (arith, few, slice_get_within (noted es) k n is, length-map es noted_in)
+  -- what an entry tells is the place of one
+  pub next_within : (k : ℕ) (e : Entry) → slice_get es k ≡ Some e → e.next < length (noted es)
+  next_within k e is = elim (h.next k e is) [
+    | behind f ↦ slice_get_within (noted es) e.next f.note f.is
+    | round none f ↦ slice_get_within (noted es) e.next f.note f.is
+  ]
+
+  -- so that place is one of 32 bits, and so is the one behind it
+  pub next_fits : (k : ℕ) (e : Entry) → slice_get es k ≡ Some e → e.next + 1 < 2 ^ 32
+  next_fits k e is = let few = h.few in omega (arith, few, next_within k e is, length-map es noted_in)
 
   -- the last with a receiver tells the first
-  pub last_first : (q : NodeRef) (k : ℕ) → lasts q ≡ Some k → (e : Entry) → slice_get es k ≡ Some e → IsFirstFor (noted es) (reference_of q.0) 0 e.next
+  pub last_first : (q : NodeRef) (k : ℕ) → lasts q ≡ Some k → (e : Entry) → slice_get es k ≡ Some e → IsFirstFor (noted es) q.0 0 e.next
   last_first q k known e is =
       let w = h.within q k known in
       let one : w.0 ≡ e = (let a = w.1 in cc) in
@@ -317,30 +274,26 @@ module _ (es : List Entry) (lasts : NodeRef → Option ℕ) (h : AreChained es l
       elim (h.next k e is) [
         | behind f ↦
             let off = h.last q k known e.next f.note f.after f.is in
-            let on : same_reference f.note.receiver (reference_of q.0) ≡ true = subst (λ (n : NodeRef). same_reference f.note.receiver (reference_of n.0) ≡ true) own_one f.has in
-            cc
-        | round none f ↦ subst (λ (n : NodeRef). IsFirstFor (noted es) (reference_of n.0) 0 e.next) own_one f
+            absurd (off (subst (λ (n : NodeRef). f.note.receiver ≡ n.0) own_one f.has))
+        | round none f ↦ subst (λ (n : NodeRef). IsFirstFor (noted es) n.0 0 e.next) own_one f
       ]
 
   -- each tells the next with its receiver
-  pub next_first : (k : ℕ) (e : Entry) (n : Noted) (r : Reference) → slice_get es k ≡ Some e → slice_get (noted es) k ≡ Some n → same_reference n.receiver r ≡ true → IsNextFor (noted es) r (k + 1) e.next
+  pub next_first : (k : ℕ) (e : Entry) (n : Noted) (r : ℕ) → slice_get es k ≡ Some e → slice_get (noted es) k ≡ Some n → n.receiver ≡ r → IsNextFor (noted es) r (k + 1) e.next
   next_first k e n r is note on =
       let here : slice_get (noted es) k ≡ Some (noted_in e) = slice_get-map noted_in es k ∙ ap (λ (o : Option Entry). option_map noted_in o) is in
       let one : n ≡ noted_in e = cc in
-      let same : reference_of e.receiver.0 ≡ r = sym (ap (λ (m : Noted). m.receiver) one) ∙ same_is n.receiver r on in
-      subst (λ (x : Reference). IsNextFor (noted es) x (k + 1) e.next) same (h.next k e is)
+      let same : e.receiver.0 ≡ r = sym (ap (λ (m : Noted). m.receiver) one) ∙ on in
+      subst (λ (x : ℕ). IsNextFor (noted es) x (k + 1) e.next) same (h.next k e is)
 
 -- ---- behind a note with a receiver
 
-abbrev Behind : List Noted → Reference → ℕ → Type 0
-Behind ns r from = (from ≡ 0) ⊎ IsBehind ns r from
-
-pub behind_within : (es : List Entry) (ns : List Noted) → noted es ≡ ns → (r : Reference) (from : ℕ) → (from ≡ 0 → ⊥) → Behind ns r from → from - 1 < length es
-behind_within es ns same r from some (inl none) = absurd (some none)
-behind_within es ns same r from some (inr b) = let within = slice_get_within ns b.0 b.1 b.3 in let long = ap length same in let at = b.2 in omega (arith, within, long, length-map es noted_in, at)
+-- the place in front is one of an entry
+pub before_within : (es : List Entry) (ns : List Noted) → noted es ≡ ns → (from : ℕ) → (from ≡ 0 → ⊥) → from ≤ length ns → from - 1 < length es
+before_within es ns same from some within = let long = ap length same in omega (arith, within, long, length-map es noted_in, some)
 
 -- it tells the next
-pub behind_tells : (es : List Entry) (lasts : NodeRef → Option ℕ) → AreChained es lasts → (ns : List Noted) → noted es ≡ ns → (r : Reference) (from : ℕ) → (from ≡ 0 → ⊥) → Behind ns r from → (e : Entry) → slice_get es (from - 1) ≡ Some e → IsNextFor ns r from e.next
+pub behind_tells : (es : List Entry) (lasts : NodeRef → Option ℕ) → AreChained es lasts → (ns : List Noted) → noted es ≡ ns → (r from : ℕ) → (from ≡ 0 → ⊥) → MayGoOn ns r from → (e : Entry) → slice_get es (from - 1) ≡ Some e → IsNextFor ns r from e.next
 behind_tells es lasts h ns same r from some (inl none) e is = absurd (some none)
 behind_tells es lasts h ns same r from some (inr b) e is =
     let place : from - 1 ≡ b.0 = (let at = b.2 in omega (arith, at)) in
@@ -350,16 +303,14 @@ behind_tells es lasts h ns same r from some (inr b) e is =
     subst (λ (k : ℕ). IsNextFor ns r k e.next) at_next (subst (λ (xs : List Noted). IsNextFor xs r (b.0 + 1) e.next) same (next_first es lasts h b.0 e b.1 r here note b.4))
 
 -- a place in front tells that the ring has come round
-pub none_round : (ns : List Noted) (r : Reference) (from t : ℕ) → IsNextFor ns r from t → t < from → NoneFrom ns r from
+pub none_round : (ns : List Noted) (r from t : ℕ) → IsNextFor ns r from t → t < from → NoneFrom ns r from
 none_round ns r from t (behind f) before = absurd (let after = f.after in omega (arith, after, before))
 none_round ns r from t (round none f) before = none
 
 -- and no other does
-pub first_behind : (ns : List Noted) (r : Reference) (from t : ℕ) → (from ≡ 0 → ⊥) → Behind ns r from → IsNextFor ns r from t → from ≤ t → IsFirstFor ns r from t
+pub first_behind : (ns : List Noted) (r from t : ℕ) → (from ≡ 0 → ⊥) → MayGoOn ns r from → IsNextFor ns r from t → from ≤ t → IsFirstFor ns r from t
 first_behind ns r from t some b (behind f) later = f
 first_behind ns r from t some (inl none) (round no_one f) later = absurd (some none)
 first_behind ns r from t some (inr b) (round no_one f) later =
     let at = b.2 in
-    let off = f.between b.0 b.1 (omega arith) (omega (arith, at, later)) b.3 in
-    let on = b.4 in
-    cc
+    absurd (f.between b.0 b.1 (omega arith) (omega (arith, at, later)) b.3 b.4)

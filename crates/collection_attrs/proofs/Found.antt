@@ -1,19 +1,22 @@
 -- What the collection is that an attribute is at a node.
-use Rattle.std.proofs.Common.{◌≡◌, ℕ, zero, suc, ◌<◌, ◌≤◌, Bool, true, false, List, [], Option, Some, None, length, slice_get, refl, sym, ap, ◌∙◌, arith}
+use Rattle.std.proofs.Common.{◌≡◌, ℕ, zero, suc, ◌<◌, ◌≤◌, Bool, true, false, List, [], Option, Some, None, length, slice_get, refl, sym, ap, subst, ◌∙◌, arith}
 use Rattle.std.specs.Option.{is_some, option_and_then, option_map}
 use Rattle.std.proofs.lemmas.Option.{slice_get_past, slice_get_within}
 use Rattle.attr_rules.specs.declared.kinds.Attr.{Attr}
 use Rattle.attr_rules.specs.declared.kinds.Collecting.{Collecting}
+use Rattle.attr_rules.specs.declared.kinds.Kind.TheVariants.{Truth}
+use Rattle.attr_rules.specs.declared.kinds.Method.TheVariants.{Or}
 use Rattle.attr_rules.specs.Rules.{Attribute, attribute_at, collecting_at, collecting_in, method_at, method_in, root_at, root_in}
 use Rattle.equation_law.specs.declared.coding.Args.{Args}
 use Rattle.equation_law.specs.declared.coding.Instance.TheVariants.{Attr as attribute_coded}
-use Rattle.equation_law.specs.Codes.{arguments_of, instance_of, reference_of}
+use Rattle.equation_law.specs.Codes.{ByEachNaming, Naming, arguments_for, reference_by, reference_of, source_names}
 use Rattle.equation_law.specs.Collections.{Collection}
 use Rattle.equation_law.specs.Equations.{collection_at, collection_of, collection_root, kind_or_truth, offers_below}
-use Rattle.equation_law.specs.Names.{Argument, At, Attribute as attribute, Null, Reference, Source}
-use Rattle.equation_law.specs.Program.{Program}
+use Rattle.equation_law.specs.Names.{Argument, At, Attribute as attribute, NodeName, Null, Reference, Source}
+use Rattle.equation_law.specs.Program.{Program, text_of}
+use Rattle.equation_law.proofs.Codes.{sources_named}
 use Rattle.collection_attrs.specs.declared.collectors.Collector.{Collector}
-use Rattle.collection_attrs.specs.Surveys.{IsCollectorOf}
+use Rattle.collection_attrs.specs.Surveys.{AreCollectionOf, Collections, IsCollectorBy, IsCollectorOf, IsForEach}
 use Rattle.collection_attrs.specs.Walks.{IsFor, Walk}
 
 -- an attribute that is no collection, or how it collects
@@ -21,6 +24,15 @@ record CollectsAt (p : Program) (a k : ℕ) (c : Collection) : Type 0 where
   pub collecting : Collecting
   pub collects : collecting_at p.rules.attributes a ≡ Some collecting
   pub is : collection_at p a k collecting ≡ c
+
+-- a node is a source node
+a_source : (m : NodeName) → (k : ℕ) × (m ≡ Source k)
+a_source (Source k) = (k, refl)
+
+-- the collection that there is
+abbrev collection_or : Option Collection → Collection
+collection_or None = record { method = Or; kind = Truth; node = Source 0; offers = [] }
+collection_or (Some c) = c
 
 module _ (p : Program) where
   collects_from : (a k : ℕ) (c : Collection) (o : Option Collecting) → collecting_at p.rules.attributes a ≡ o → option_map (collection_at p a k) o ≡ Some c → CollectsAt p a k c
@@ -32,28 +44,31 @@ module _ (p : Program) where
   any_arguments a Null xs ys = refl
   any_arguments a (At (Source k)) xs ys = refl
 
-  collects_at : (a n : ℕ) (c : Collection) → collection_of p (attribute a (reference_of n) []) ≡ Some c → (k : ℕ) × (n ≡ suc k) × CollectsAt p a k c
-  collects_at a zero c e = cc
-  collects_at a (suc k) c e = (k, refl, collects_from a k c (collecting_at p.rules.attributes a) refl e)
+  collects_at : (a : ℕ) (n : Reference) (c : Collection) → collection_of p (attribute a n []) ≡ Some c → (k : ℕ) × (n ≡ At (Source k)) × CollectsAt p a k c
+  collects_at a Null c e = cc
+  collects_at a (At (Source k)) c e = (k, refl, collects_from a k c (collecting_at p.rules.attributes a) refl e)
 
-  pub node_is : {of : Collector} {c : Collection} → IsCollectorOf p of c → reference_of of.node.0 ≡ At c.node
-  node_is {of} {c} h = let s = collects_at of.attr.0 of.node.0 c h.is in ap reference_of s.1 ∙ ap (λ (d : Collection). At d.node) s.2.is
+  pub node_is : {names : Naming} {of : Collector} {c : Collection} → IsCollectorBy p names of c → reference_by names.node of.node.0 ≡ At c.node
+  node_is {names} {of} {c} h = let s = collects_at of.attr.0 (reference_by names.node of.node.0) c h.is in s.1 ∙ ap (λ (d : Collection). At d.node) s.2.is
 
-  pub one_collection : {of : Collector} {c d : Collection} → IsCollectorOf p of c → IsCollectorOf p of d → c ≡ d
-  one_collection {of} {c} {d} g h = let a = g.is in let b = h.is in cc
+  pub one_collection : {names : Naming} {of : Collector} {c d : Collection} → IsCollectorBy p names of c → IsCollectorBy p names of d → c ≡ d
+  one_collection {names} {of} {c} {d} g h = let a = g.is in let b = h.is in cc
 
   known_attribute : (a : ℕ) (x : Collecting) (o : Option Attribute) → slice_get p.rules.attributes a ≡ o → option_and_then collecting_in o ≡ Some x → a < length p.rules.attributes
   known_attribute a x None f e = cc
   known_attribute a x (Some y) f e = slice_get_within p.rules.attributes a y f
 
-  pub attribute_known : {of : Collector} {c : Collection} → IsCollectorOf p of c → of.attr.0 < length p.rules.attributes
-  attribute_known {of} {c} h = let s = collects_at of.attr.0 of.node.0 c h.is in known_attribute of.attr.0 s.2.collecting (slice_get p.rules.attributes of.attr.0) refl s.2.collects
+  pub attribute_known : {of : Collector} {c : Collections} → IsCollectorOf p of c → of.attr.0 < length p.rules.attributes
+  attribute_known {of} {c} h =
+      let names = source_names (text_of p) in
+      let s = collects_at of.attr.0 (reference_by names.node of.node.0) (c names) (h names (sources_named p)).is in
+      known_attribute of.attr.0 s.2.collecting (slice_get p.rules.attributes of.attr.0) refl s.2.collects
 
   -- what is offered to it
-  pub offers_are : {of : Collector} {c : Collection} (k : ℕ) → reference_of of.node.0 ≡ At (Source k) → IsCollectorOf p of c → c.offers ≡ offers_below p of.attr.0 (collection_root p (root_at p.rules of.attr.0) k)
-  offers_are {of} {c} k at h =
-      let s = collects_at of.attr.0 of.node.0 c h.is in
-      let here : At (Source s.0) ≡ At (Source k) = sym (ap reference_of s.1) ∙ at in
+  pub offers_are : {names : Naming} {of : Collector} {c : Collection} (k : ℕ) → reference_by names.node of.node.0 ≡ At (Source k) → IsCollectorBy p names of c → c.offers ≡ offers_below p of.attr.0 (collection_root p (root_at p.rules of.attr.0) k)
+  offers_are {names} {of} {c} k at h =
+      let s = collects_at of.attr.0 (reference_by names.node of.node.0) c h.is in
+      let here : At (Source s.0) ≡ At (Source k) = sym s.1 ∙ at in
       let same : s.0 ≡ k = cc in
       let root : s.2.collecting.root ≡ root_at p.rules of.attr.0 = sym (ap (option_and_then root_in) s.2.collects) in
       sym (ap (λ (d : Collection). d.offers) s.2.is) ∙ (λ i. offers_below p of.attr.0 (collection_root p (root i) (same i)))
@@ -61,27 +76,40 @@ module _ (p : Program) where
   pub walk_for : (c : Collection) (w : Walk) (a r : ℕ) → w.attribute ≡ a → w.root ≡ r → c.offers ≡ offers_below p a (Some r) → IsFor p w c
   walk_for c w a r attr root is = is ∙ sym (λ i. offers_below p (attr i) (Some (root i)))
 
+  pub walk_for_each : (c : Collections) (w : Walk) (a r : ℕ) → w.attribute ≡ a → w.root ≡ r → ByEachNaming p (λ names. (c names).offers ≡ offers_below p a (Some r)) → IsForEach p w c
+  walk_for_each c w a r attr root is = λ names named. walk_for (c names) w a r attr root (is names named)
+
   -- ---- an instance that is a collection, and one that is none
 
-  collector_from : (of : Collector) (k : ℕ) (d : Attr) (o : Option Collecting) → reference_of of.node.0 ≡ At (Source k) → collecting_at p.rules.attributes of.attr.0 ≡ o → Some of.method ≡ option_map method_in o → attribute_at p.rules of.attr.0 ≡ Some d → of.kind ≡ d.kind
-      → (c : Collection) × (collection_of p (attribute of.attr.0 (reference_of of.node.0) []) ≡ Some c) × IsCollectorOf p of c
-  collector_from of k d None at collects method known kind = cc
-  collector_from of k d (Some x) at collects method known kind =
+  collector_from : (names : Naming) (of : Collector) (k : ℕ) (d : Attr) (o : Option Collecting) → reference_by names.node of.node.0 ≡ At (Source k) → collecting_at p.rules.attributes of.attr.0 ≡ o → Some of.method ≡ option_map method_in o → attribute_at p.rules of.attr.0 ≡ Some d → of.kind ≡ d.kind
+      → (c : Collection) × (collection_of p (attribute of.attr.0 (reference_by names.node of.node.0) []) ≡ Some c) × IsCollectorBy p names of c
+  collector_from names of k d None at collects method known kind = cc
+  collector_from names of k d (Some x) at collects method known kind =
       let same : of.method ≡ x.method = cc in
-      let is : collection_of p (attribute of.attr.0 (reference_of of.node.0) []) ≡ Some (collection_at p of.attr.0 k x) =
+      let is : collection_of p (attribute of.attr.0 (reference_by names.node of.node.0) []) ≡ Some (collection_at p of.attr.0 k x) =
       ap (λ (n : Reference). collection_of p (attribute of.attr.0 n [])) at ∙ ap (option_map (collection_at p of.attr.0 k)) collects
       in
       (collection_at p of.attr.0 k x, is, record { is = is; method = sym same; kind = ap (λ (o : Option Attr). kind_or_truth (option_map (λ y. y.kind) o)) known ∙ sym kind })
 
   pub collector_is : (of : Collector) (xs : Args) (d : Attr) → (of.node.0 ≡ 0 → ⊥) → Some of.method ≡ method_at p.rules of.attr.0 → attribute_at p.rules of.attr.0 ≡ Some d → of.kind ≡ d.kind
-      → (c : Collection) × (collection_of p (instance_of p (attribute_coded of.attr of.node xs)) ≡ Some c) × IsCollectorOf p of c
+      → (c : Collections) × AreCollectionOf p (attribute_coded of.attr of.node xs) c × IsCollectorOf p of c
   collector_is of xs d some method known kind = at_node of.node.0 refl
     where
-      at_node : (n : ℕ) → of.node.0 ≡ n → (c : Collection) × (collection_of p (instance_of p (attribute_coded of.attr of.node xs)) ≡ Some c) × IsCollectorOf p of c
+      its : Collections
+      its = λ names. collection_or (collection_of p (attribute of.attr.0 (reference_by names.node of.node.0) []))
+
+      found_by : (names : Naming) (k : ℕ) → of.node.0 ≡ suc k → (c : Collection) × (collection_of p (attribute of.attr.0 (reference_by names.node of.node.0) []) ≡ Some c) × IsCollectorBy p names of c
+      found_by names k e =
+          let at = a_source (names.node k) in
+          collector_from names of at.0 d (collecting_at p.rules.attributes of.attr.0) (ap (reference_by names.node) e ∙ ap At at.1) refl method known kind
+
+      at_node : (n : ℕ) → of.node.0 ≡ n → (c : Collections) × AreCollectionOf p (attribute_coded of.attr of.node xs) c × IsCollectorOf p of c
       at_node zero e = absurd (some e)
-      at_node (suc k) e =
-          let found = collector_from of k d (collecting_at p.rules.attributes of.attr.0) (ap reference_of e) refl method known kind in
-          (found.0, any_arguments of.attr.0 (reference_of of.node.0) (arguments_of p of.attr.0 xs) [] ∙ found.1, found.2)
+      at_node (suc k) e = (
+        its,
+        λ names named. let found = found_by names k e in any_arguments of.attr.0 (reference_by names.node of.node.0) (arguments_for p names of.attr.0 xs) [] ∙ found.1 ∙ ap (λ (c : Collection). Some c) (sym (ap collection_or found.1)),
+        λ names named. let found = found_by names k e in subst (IsCollectorBy p names of) (sym (ap collection_or found.1)) found.2,
+      )
 
   -- at null none is one
   pub none_at_null : (a n : ℕ) (xs : List Argument) → n ≡ 0 → collection_of p (attribute a (reference_of n) xs) ≡ None

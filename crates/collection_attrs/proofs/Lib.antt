@@ -9,6 +9,7 @@ pub mod Hung
 pub mod Noting
 pub mod Outcomes
 pub mod Placed
+pub mod Receivers
 pub mod Rooted
 pub mod Sought
 pub mod Spots

@@ -1,9 +1,8 @@
 -- One note more: where the first with a receiver stands, and where none does.
-use Rattle.std.proofs.Common.{◌≡◌, ℕ, zero, suc, ◌<◌, ◌≤◌, true, false, List, [], ◌∷◌, ◌++◌, Some, length, slice_get, refl, sym, ap, subst, ◌∙◌, inl, inr, arith}
+use Rattle.std.proofs.Common.{◌≡◌, ◌≢◌, ℕ, zero, suc, ◌<◌, ◌≤◌, List, [], ◌∷◌, ◌++◌, Some, length, slice_get, refl, sym, ap, subst, ◌∙◌, inl, inr, arith}
 use Rattle.std.proofs.lemmas.Bool.{cases_lt}
 use Rattle.std.proofs.lemmas.List.{length-append}
 use Rattle.std.proofs.lemmas.Option.{slice_get_within}
-use Rattle.equation_law.specs.Names.{Reference, same_reference}
 use Rattle.collection_attrs.specs.Walks.{IsFirstFor, NoneFrom, Noted}
 
 -- those that were there
@@ -17,7 +16,7 @@ the_last : (ns : List Noted) (n : Noted) → slice_get (ns ++ n ∷ []) (length 
 the_last [] n = refl
 the_last (x ∷ ns) n = the_last ns n
 
-module _ (ns : List Noted) (n : Noted) (r : Reference) (from : ℕ) where
+module _ (ns : List Noted) (n : Noted) (r from : ℕ) where
   -- a note is one of those that were there, or the new one
   pub old_or_new : (P : Noted → Type 0) → ((i : ℕ) (m : Noted) → from ≤ i → slice_get ns i ≡ Some m → P m) → P n → (i : ℕ) (m : Noted) → from ≤ i → slice_get (ns ++ n ∷ []) i ≡ Some m → P m
   old_or_new P old new i m l e = elim (cases_lt i (length ns)) [
@@ -31,8 +30,8 @@ module _ (ns : List Noted) (n : Noted) (r : Reference) (from : ℕ) where
   ]
 
   -- with one that is for another, none is still none
-  pub none_stays : NoneFrom ns r from → same_reference n.receiver r ≡ false → NoneFrom (ns ++ n ∷ []) r from
-  none_stays none off = old_or_new (λ m. same_reference m.receiver r ≡ false) none off
+  pub none_stays : NoneFrom ns r from → n.receiver ≢ r → NoneFrom (ns ++ n ∷ []) r from
+  none_stays none off = old_or_new (λ m. m.receiver ≢ r) none off
 
   -- the first stays the first
   pub first_stays : (place : ℕ) → IsFirstFor ns r from place → IsFirstFor (ns ++ n ∷ []) r from place
@@ -47,7 +46,7 @@ module _ (ns : List Noted) (n : Noted) (r : Reference) (from : ℕ) where
       }
 
   -- where there was none, the new one is it
-  pub first_comes : NoneFrom ns r from → from ≤ length ns → same_reference n.receiver r ≡ true → IsFirstFor (ns ++ n ∷ []) r from (length ns)
+  pub first_comes : NoneFrom ns r from → from ≤ length ns → n.receiver ≡ r → IsFirstFor (ns ++ n ∷ []) r from (length ns)
   first_comes none l on = record {
     after = l;
     note = n;

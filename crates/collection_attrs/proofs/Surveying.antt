@@ -1,144 +1,189 @@
 -- A collection counts what a walk has kept for it, and goes on where that ends.
-use Rattle.std.proofs.Common.{◌≡◌, ◌⊎◌, ℕ, suc, ◌+◌, ◌<◌, ◌≤◌, true, false, List, [], Ok, Some, length, slice_get, take, sym, ap, subst, ◌∙◌, inl, inr, arith}
+use Rattle.std.proofs.Common.{◌≡◌, ◌⊎◌, ℕ, ◌+◌, ◌<◌, ◌≤◌, List, [], Ok, Some, length, slice_get, take, sym, ap, subst, ◌∙◌, inl, inr, arith}
 use Rattle.std.proofs.lemmas.List.{length-append}
-use Rattle.std.proofs.lemmas.Option.{slice_get_within}
-use Rattle.solutions.specs.Asking.{Ends, Halts}
 use Rattle.attr_rules.specs.declared.kinds.Kind.{Kind}
 use Rattle.attr_rules.specs.declared.kinds.Method.{Method}
 use Rattle.attr_rules.specs.Rules.{Contribution}
+use Rattle.solutions.specs.Asking.{Ends, Gives, gives}
 use Rattle.tree_arena.specs.Nodes.{end_in}
+use Rattle.equation_law.specs.declared.coding.Instance.{Instance as CodedInstance}
 use Rattle.equation_law.specs.declared.coding.Value.{Value as CodedValue}
-use Rattle.expr_eval.specs.declared.sites.Turn.TheVariants as turns
-use Rattle.expr_eval.specs.BySources.{EvaluatesSources, GivenSources}
-use Rattle.expr_eval.proofs.BySources.{gives_source}
-use Rattle.expr_eval.proofs.Forms.{grows_self}
-use Rattle.equation_law.specs.Codes.{AreElements, value_of}
+use Rattle.equation_law.specs.Codes.{AreElements, ByEachNaming, IsNamingOf, Naming, instance_by, reference_by, value_by}
 use Rattle.equation_law.specs.Collections.{Collection, Offer, collection_demands, combine, fresh, gathered}
 use Rattle.equation_law.specs.Equations.{offers_below, world_of}
-use Rattle.equation_law.specs.Names.{At, Instance, Reference, same_reference}
-use Rattle.equation_law.specs.Program.{Program, text_of}
-use Rattle.equation_law.specs.Reading.{IsSound, Told}
+use Rattle.equation_law.specs.Names.{At, Instance}
+use Rattle.equation_law.specs.Program.{Program}
+use Rattle.equation_law.specs.Reading.{ByEachIn, IsSound, Told}
 use Rattle.equation_law.specs.Values.{Value}
+use Rattle.expr_eval.specs.declared.sites.Turn.TheVariants as turns
+use Rattle.expr_eval.specs.Evaluating.{Comes as ComesUnder, Evaluates, Wants}
+use Rattle.expr_eval.proofs.Forms.{grows_self}
 use Rattle.collection_attrs.specs.declared.collectors.Collector.{Collector}
 use Rattle.collection_attrs.specs.declared.surveys.Survey.{Survey}
-use Rattle.collection_attrs.specs.Passed.{contributed, kept}
-use Rattle.collection_attrs.specs.Surveys.{IsCollectorOf, IsCounted, IsNew, IsSurveyed}
-use Rattle.collection_attrs.specs.Walks.{AreNotes, IsFirstFor, IsFor, IsOfferStuck, IsStuck, IsSurvey, IsWalk, NoneFrom, Noted, Walk, condition, passed_by, receiver}
-use Rattle.collection_attrs.proofs.Alike.{along, note_is, stands_behind, surveyed}
-use Rattle.collection_attrs.proofs.Found.{one_collection}
-use Rattle.collection_attrs.proofs.Grown.{survey_new}
+use Rattle.collection_attrs.specs.Evaluations.{demands_of}
+use Rattle.collection_attrs.specs.Passed.{contributed}
+use Rattle.collection_attrs.specs.Surveys.{Collections, HasGone, IsCollectorOf, IsCounted, IsForEach, IsNew, IsSurveyed}
+use Rattle.collection_attrs.specs.Walks.{AreNotes, IsFirstFor, IsFor, IsOfferStuck, IsOfferedAt, IsStanding, IsStuck, IsSurvey, IsWalk, MayGoOn, NoneFrom, Noted, Walk, condition, passed_by, receiver}
+use Rattle.collection_attrs.proofs.Alike.{along, stands_behind, surveyed}
+use Rattle.collection_attrs.proofs.Found.{node_is, one_collection}
+use Rattle.collection_attrs.proofs.Grown.{naming_of, survey_new, surveyed_as}
 use Rattle.collection_attrs.proofs.Placed.{survey_over, survey_stops, survey_takes}
-use Rattle.collection_attrs.proofs.Walked.{offers_split, survey_condition, survey_done, survey_receiver}
+use Rattle.collection_attrs.proofs.Receivers.{receiver_is, receiver_own}
+use Rattle.collection_attrs.proofs.Walked.{IsWalkBy, offers_split, survey_condition, survey_done, survey_receiver, walk_by}
 
 -- what a reader has is one value for each instance
 pub one_value : {S : Type 0} {p : Program} {r : Told S} → IsSound p r → (j : Instance) (x y : Value) → r.has j x → r.has j y → x ≡ y
 one_value sound j x y a b = sound.one_value j x y (sound.within j x a) (sound.within j y b)
 
-module _ (p : Program) (A : Instance → Value → Type 0) where
-  -- a walk has passed no more than all
-  pub passed_within : (w : Walk) → IsWalk p A w → length (passed_by p w) ≤ length (offers_below p w.attribute (Some w.root))
-  passed_within w h = let split = offers_split p A w h in let long = ap length split.1 in omega (arith, long, length-append (passed_by p w) split.0)
+-- a walk has passed no more than all
+pub passed_within : (p : Program) (w : Walk) → IsStanding p w → length (passed_by p w) ≤ length (offers_below p w.attribute (Some w.root))
+passed_within p w h = let split = offers_split p w h in let long = ap length split.1 in omega (arith, long, length-append (passed_by p w) split.0)
 
-  module _ (c : Collection) where
-    pub for_same : (w u : Walk) → u.attribute ≡ w.attribute → u.root ≡ w.root → IsFor p w c → IsFor p u c
-    for_same w u attr root is = is ∙ sym (λ i. offers_below p (attr i) (Some (root i)))
+pub for_same : (p : Program) (c : Collections) (w u : Walk) → u.attribute ≡ w.attribute → u.root ≡ w.root → IsForEach p w c → IsForEach p u c
+for_same p c w u attr root is = λ names named. is names named ∙ sym (λ i. offers_below p (attr i) (Some (root i)))
 
-    -- to a walk that has kept the same
-    pub counted_same : (w u : Walk) (s : Survey) → u.notes ≡ w.notes → IsCounted p A w c s → IsCounted p A u c s
-    counted_same w u s notes h = record {
-      survey = record {
-        within = omega arith;
-        kept = h.survey.kept;
-        notes = subst (λ (ns : List Noted). AreNotes p (take (length ns) ns) h.survey.kept) (sym notes) h.survey.notes;
-        comes = h.survey.comes;
-      };
-      coded = h.coded;
-    }
+-- ---- by one naming
 
-    module _ (w : Walk) (h : IsWalk p A w) (is : IsFor p w c) (s : Survey) where
-      -- at the end of the subtree it has its value
-      pub counted_ends : IsCounted p A w c s → w.node ≡ end_in p.tree w.root → (ds : List Instance) × Ends A (collection_demands (world_of p) c) (value_of (text_of p) s.so_far) ds
-      counted_ends v e = survey_done p A c w h (value_of (text_of p) s.so_far) v.survey is e
+module _ (p : Program) (A : Instance → Value → Type 0) (names : Naming) (c : Collection) (w : Walk) (h : IsWalkBy p A names w) (is : IsFor p w c) (v : Value) (x : IsSurvey p A names w c (length w.notes) v) where
+  -- before an offer that is stuck it is stuck there
+  stuck_so : (before : w.node < end_in p.tree w.root) (at : IsOfferedAt p w) (j : Instance) → IsOfferStuck p A (record { contribution = at.contribution; node = w.node }) j → Wants A (collection_demands (world_of p) c) j
+  stuck_so before at j (condition g) = survey_condition p A names c w h v x is before at.contribution at.is at.offered j g
+  stuck_so before at j (receiver e t g) = survey_receiver p A names c w h v x is before at.contribution at.is at.offered j e t g
 
-      -- before an offer that is stuck it is stuck there
-      pub counted_stuck : IsCounted p A w c s → (j : Instance) → IsStuck p A w j → (ds : List Instance) × Halts A (collection_demands (world_of p) c) j ds
-      counted_stuck v j f = stuck_so f.stuck
-        where
-          stuck_so : IsOfferStuck p A (record { contribution = f.is.contribution; node = w.node }) j → (ds : List Instance) × Halts A (collection_demands (world_of p) c) j ds
-          stuck_so (condition g) = survey_condition p A c w h (value_of (text_of p) s.so_far) v.survey is f.before f.is.contribution f.is.is f.is.offered j g
-          stuck_so (receiver e t g) = survey_receiver p A c w h (value_of (text_of p) s.so_far) v.survey is f.before f.is.contribution f.is.is f.is.offered j e t g
+module _ (p : Program) (A : Instance → Value → Type 0) (one : (j : Instance) (x y : Value) → A j x → A j y → x ≡ y) (names : Naming) (named : IsNamingOf p names) (c : Collection) (w : Walk) (h : IsWalkBy p A names w) (is : IsFor p w c) (s : Survey) (v : HasGone p A names c s) (enough : s.taken ≤ length w.notes)
+    (r : ℕ) (own : reference_by names.node r ≡ At c.node) where
+  abbrev so_far : Value
+  so_far = value_by names s.so_far
 
-    module _ (one : (j : Instance) (x y : Value) → A j x → A j y → x ≡ y) (w : Walk) (h : IsWalk p A w) (is : IsFor p w c) (s : Survey) (v : IsSurveyed p A c s) (enough : s.taken ≤ length w.notes) (r : Reference) (own : r ≡ At c.node) where
-      abbrev here : IsSurvey p A w c s.taken (value_of (text_of p) s.so_far)
-      here = along p A one w h c is s v enough
+  abbrev here : IsSurvey p A names w c s.taken so_far
+  here = along p names A one w h c is s v enough
 
-      -- it stands at the beginning or behind a note for its node
-      pub begins_at : (s.taken ≡ 0) ⊎ ((k : ℕ) × (n : Noted) × (suc k ≡ s.taken) × (slice_get w.notes k ≡ Some n) × (same_reference n.receiver r ≡ true))
-      begins_at = subst (λ (x : Reference). (s.taken ≡ 0) ⊎ ((k : ℕ) × (n : Noted) × (suc k ≡ s.taken) × (slice_get w.notes k ≡ Some n) × (same_reference n.receiver x ≡ true))) (sym own) (stands_behind p A one w h c is s v enough)
+  -- it stands at the beginning or behind a note for its node
+  may_go_on : MayGoOn w.notes r s.taken
+  may_go_on = elim (stands_behind p names A one w h c is s v enough) [
+    | inl none ↦ inl none
+    | inr b ↦ inr (b.0, b.1, b.2, b.3, receiver_is named r (At c.node) own b.1.receiver b.4)
+  ]
 
+  -- without an offer for its node it has counted all that is kept
+  over_all : (MayGoOn w.notes r s.taken → NoneFrom w.notes r s.taken) → IsSurvey p A names w c (length w.notes) so_far
+  over_all none = survey_over p A names named c r own w h s.taken so_far here (none may_go_on)
+
+  module _ (place : ℕ) (may : MayGoOn w.notes r s.taken → IsFirstFor w.notes r s.taken place) (n : Noted) (there : slice_get w.notes place ≡ Some n) (b : Contribution) (known : slice_get p.rules.contributions n.contribution ≡ Some b) where
+    same_note : (may may_go_on).note ≡ n
+    same_note = let is_note = (may may_go_on).is in cc
+
+    abbrev first : IsFirstFor w.notes r s.taken place
+    first = let f = may may_go_on in record { after = f.after; note = n; is = there; has = subst (λ (m : Noted). m.receiver ≡ r) same_note f.has; between = f.between }
+
+    abbrev own_offer : Offer
+    own_offer = record { contribution = b; node = n.node }
+
+    -- it is counted with its value
+    one_more : (t : Survey) {m : Method} {k : Kind} {u : Value} → c.method ≡ m → c.kind ≡ k → t.taken ≡ place + 1 → value_by names t.so_far ≡ combine m k so_far u → ComesUnder A (contributed p own_offer) u → HasGone p A names c t
+    one_more t {u = u} method kind taken value e =
+        let same : value_by names t.so_far ≡ combine c.method c.kind so_far u = value ∙ sym (λ i. combine (method i) (kind i) so_far u) in
+        let more = survey_takes p A names named c r own w h s.taken so_far here place first b known u e.1 in
+        let moved : IsSurvey p A names w c t.taken (value_by names t.so_far) = subst (λ (k : ℕ). IsSurvey p A names w c k (value_by names t.so_far)) (sym taken) (subst (IsSurvey p A names w c (place + 1)) (sym same) more) in
+        surveyed p names A one w h c is t moved (λ k m last m_is.
+        let at : k ≡ place = omega (arith, last, taken) in
+        let one_note : n ≡ m = (let m_there : slice_get w.notes place ≡ Some m = ap (slice_get w.notes) (sym at) ∙ m_is in cc) in
+        receiver_own named r (At c.node) own m.receiver (subst (λ (x : Noted). x.receiver ≡ r) one_note first.has))
+
+    -- and where it has none, the collection is stuck there
+    stops_here : (j : Instance) → Wants A (contributed p own_offer) j → Wants A (collection_demands (world_of p) c) j
+    stops_here j e = survey_stops p A names named c r own w h s.taken so_far here place first b known is j e.1
+
+-- ---- by each naming by which a reader may be read
+
+module _ {S : Type 0} (p : Program) (t : Told S) (c : Collections) where
+  -- to a walk that has kept the same
+  pub counted_same : (w u : Walk) (s : Survey) → u.notes ≡ w.notes → IsCounted p t w c s → IsCounted p t u c s
+  counted_same w u s notes h = record {
+    survey = λ names is.
+        let x = h.survey names is in
+        record { within = omega arith; kept = x.kept; notes = subst (λ (ns : List Noted). AreNotes p names (take (length ns) ns) x.kept) (sym notes) x.notes; comes = x.comes };
+    coded = h.coded;
+  }
+
+  module _ (sound : IsSound p t) (w : Walk) (h : IsWalk p t w) (is : IsForEach p w c) (s : Survey) where
+    -- at the end of the subtree it has its value
+    pub counted_ends : IsCounted p t w c s → w.node ≡ end_in p.tree w.root → ByEachIn t (λ names. ComesUnder t.has (demands_of p c names) (value_by names s.so_far))
+    counted_ends v e = λ names in_it. survey_done p t.has names (c names) w (walk_by h names in_it) (value_by names s.so_far) (v.survey names in_it) (is names (naming_of sound names in_it)) e
+
+    -- before an offer that is stuck it is stuck there
+    pub counted_stuck : IsCounted p t w c s → (j : CodedInstance) → IsStuck p t w j → ByEachIn t (λ names. Wants t.has (demands_of p c names) (instance_by p names j))
+    counted_stuck v j f = λ names in_it.
+        stuck_so p t.has names (c names) w (walk_by h names in_it) (is names (naming_of sound names in_it)) (value_by names s.so_far) (v.survey names in_it) f.before f.is (instance_by p names j) (f.stuck names in_it)
+
+    module _ {of : Collector} (its : IsCollectorOf p of c) (v : IsSurveyed p t c s) (enough : s.taken ≤ length w.notes) where
       -- without an offer for its node it has counted all that is kept
-      pub counts_all : NoneFrom w.notes r s.taken → IsCounted p A w c s
-      counts_all none = record { survey = survey_over p A c w h s.taken (value_of (text_of p) s.so_far) here (subst (λ (x : Reference). NoneFrom w.notes x s.taken) own none); coded = v.coded }
+      pub counts_all : (MayGoOn w.notes of.node.0 s.taken → NoneFrom w.notes of.node.0 s.taken) → IsCounted p t w c s
+      counts_all none = record {
+        survey = λ names in_it.
+            let named = naming_of sound names in_it in
+            over_all p t.has (one_value sound) names named (c names) w (walk_by h names in_it) (is names named) s (v.gone names in_it) enough of.node.0 (node_is p (its names named)) none;
+        coded = v.coded;
+      }
 
-      module _ (place : ℕ) (f : IsFirstFor w.notes r s.taken place) (n : Noted) (there : slice_get w.notes place ≡ Some n) where
-        abbrev first : IsFirstFor w.notes (At c.node) s.taken place
-        first =
-            let is_note = f.is in
-            let same : f.note ≡ n = cc in
-            record {
-              after = f.after;
-              note = n;
-              is = there;
-              has = subst (λ (x : Reference). same_reference n.receiver x ≡ true) own (subst (λ (m : Noted). same_reference m.receiver r ≡ true) same f.has);
-              between = λ i m from to e. subst (λ (x : Reference). same_reference m.receiver x ≡ false) own (f.between i m from to e);
-            }
+      module _ (place : ℕ) (may : MayGoOn w.notes of.node.0 s.taken → IsFirstFor w.notes of.node.0 s.taken place) (n : Noted) (there : slice_get w.notes place ≡ Some n) (b : Contribution) (known : slice_get p.rules.contributions n.contribution ≡ Some b) where
+        abbrev own : Offer
+        own = record { contribution = b; node = n.node }
 
-        -- the contribution is one of the rules
-        pub contribution_within : n.contribution < length p.rules.contributions
-        contribution_within =
-            let x = note_is p w.notes (kept (passed_by p w) h.receivers) h.noted place n there in
-            slice_get_within p.rules.contributions n.contribution x.0.offer.contribution x.2.contribution
+        -- it is counted with its value
+        pub counts_one : (x : Survey) (u : CodedValue) → x.taken ≡ place + 1 → AreElements p x.so_far → ByEachNaming p (λ names. value_by names x.so_far ≡ combine of.method of.kind (value_by names s.so_far) (value_by names u)) → ByEachIn t (λ names. ComesUnder t.has (contributed p own) (value_by names u)) → IsSurveyed p t c x
+        counts_one x u taken coded value comes = record {
+          gone = λ names in_it.
+              let named = naming_of sound names in_it in
+              let by = its names named in
+              one_more p t.has (one_value sound) names named (c names) w (walk_by h names in_it) (is names named) s (v.gone names in_it) enough of.node.0 (node_is p by) place may n there b known x by.method by.kind taken (value names named) (comes names in_it);
+          coded = coded;
+        }
 
-        -- it comes behind what was taken, and is one that is kept
-        pub place_within : (s.taken ≤ place) × (place < length w.notes)
-        place_within = (f.after, slice_get_within w.notes place n there)
+        -- and where it has none, the collection is stuck there
+        pub counts_not : (j : CodedInstance) → ByEachIn t (λ names. Wants t.has (contributed p own) (instance_by p names j)) → ByEachIn t (λ names. Wants t.has (demands_of p c names) (instance_by p names j))
+        counts_not j wants = λ names in_it.
+            let named = naming_of sound names in_it in
+            stops_here p t.has (one_value sound) names named (c names) w (walk_by h names in_it) (is names named) s (v.gone names in_it) enough of.node.0 (node_is p (its names named)) place may n there b known (instance_by p names j) (wants names in_it)
 
-        module _ (b : Contribution) (known : slice_get p.rules.contributions n.contribution ≡ Some b) where
-          abbrev own_offer : Offer
-          own_offer = record { contribution = b; node = n.node }
+-- ---- a code says one collection by each naming
 
-          -- it is counted with its value
-          pub counts_one : (t : Survey) {m : Method} {k : Kind} {u : Value} {us : List Instance} → c.method ≡ m → c.kind ≡ k → t.taken ≡ place + 1 → AreElements p t.so_far → value_of (text_of p) t.so_far ≡ combine m k (value_of (text_of p) s.so_far) u → Ends A (contributed p own_offer) u us → IsSurveyed p A c t × (t.taken ≤ length w.notes)
-          counts_one t {u = u} method kind taken coded value e =
-              let same : value_of (text_of p) t.so_far ≡ combine c.method c.kind (value_of (text_of p) s.so_far) u = value ∙ sym (λ i. combine (method i) (kind i) (value_of (text_of p) s.so_far) u) in
-              let more = survey_takes p A c w h s.taken (value_of (text_of p) s.so_far) here place first b known u e in
-              let moved : IsSurvey p A w c t.taken (value_of (text_of p) t.so_far) = subst (λ (k : ℕ). IsSurvey p A w c k (value_of (text_of p) t.so_far)) (sym taken) (subst (IsSurvey p A w c (place + 1)) (sym same) more) in
-              let within = slice_get_within w.notes place n there in (
-                surveyed p A one w h c is t moved coded (λ k m last m_is.
-                    let at : k ≡ place = omega (arith, last, taken) in
-                    let one_note : n ≡ m = (let m_there : slice_get w.notes place ≡ Some m = ap (slice_get w.notes) (sym at) ∙ m_is in cc) in
-                    subst (λ (x : Noted). same_reference x.receiver (At c.node) ≡ true) one_note first.has),
-                omega (arith, taken, within),
-              )
+module _ {S : Type 0} {p : Program} {t : Told S} (sound : IsSound p t) {of : Collector} {c : Collections} (its : IsCollectorOf p of c) where
+  same_by : (d : Collections) → IsCollectorOf p of d → ByEachIn t (λ names. c names ≡ d names)
+  same_by d there names in_it = let named = naming_of sound names in_it in one_collection p (its names named) (there names named)
 
-          -- and where it has none, the collection is stuck there
-          pub counts_not : (j : Instance) {us : List Instance} → Halts A (contributed p own_offer) j us → (ds : List Instance) × Halts A (collection_demands (world_of p) c) j ds
-          counts_not j e = survey_stops p A c w h s.taken (value_of (text_of p) s.so_far) here place first b known is j e
+  pub surveyed_for : {s : Survey} → IsSurveyed p t c s → (d : Collections) → IsCollectorOf p of d → IsSurveyed p t d s
+  surveyed_for h d there = surveyed_as (same_by d there) h
 
--- a code says one collection
-pub for_each : {p : Program} {of : Collector} {c : Collection} (P : Collection → Type 0) → IsCollectorOf p of c → P c → (d : Collection) → IsCollectorOf p of d → P d
-for_each {p} P is x d there = subst P (one_collection p is there) x
+  pub counted_for : {w : Walk} {s : Survey} → IsCounted p t w c s → (d : Collections) → IsCollectorOf p of d → IsCounted p t w d s
+  counted_for {w = w} {s = s} h d there = record {
+    survey = λ names in_it. subst (λ (x : Collection). IsSurvey p t.has names w x (length w.notes) (value_by names s.so_far)) (same_by d there names in_it) (h.survey names in_it);
+    coded = h.coded;
+  }
+
+  pub comes_for : (v : CodedValue) → ByEachIn t (λ names. ComesUnder t.has (demands_of p c names) (value_by names v)) → (d : Collections) → IsCollectorOf p of d → ByEachIn t (λ names. ComesUnder t.has (demands_of p d names) (value_by names v))
+  comes_for v h d there names in_it = subst (λ (x : Collection). ComesUnder t.has (collection_demands (world_of p) x) (value_by names v)) (same_by d there names in_it) (h names in_it)
+
+  pub wants_for : (j : CodedInstance) → ByEachIn t (λ names. Wants t.has (demands_of p c names) (instance_by p names j)) → (d : Collections) → IsCollectorOf p of d → ByEachIn t (λ names. Wants t.has (demands_of p d names) (instance_by p names j))
+  wants_for j h d there names in_it = subst (λ (x : Collection). Wants t.has (collection_demands (world_of p) x) (instance_by p names j)) (same_by d there names in_it) (h names in_it)
 
 -- begun anew or not, it is a survey that the walk has kept enough for
-pub fitted : (p : Program) (A : Instance → Value → Type 0) {of : Collector} {c : Collection} → IsCollectorOf p of c → (s t : Survey) (w : Walk) → ((t ≡ s) × (s.taken ≤ length w.notes)) ⊎ IsNew p of t → IsSurveyed p A c s → IsSurveyed p A c t × (t.taken ≤ length w.notes)
-fitted p A {c = c} is s t w (inl e) h = (subst (IsSurveyed p A c) (sym e.0) h, (let same = ap (λ (x : Survey). x.taken) e.0 in let l = e.1 in omega (arith, same, l)))
-fitted p A is s t w (inr new) h = (survey_new p A is new, (let none = new.taken in omega (arith, none)))
+pub fitted : {S : Type 0} (p : Program) (t : Told S) → IsSound p t → {of : Collector} {c : Collections} → IsCollectorOf p of c → (s x : Survey) (w : Walk) → ((x ≡ s) × (s.taken ≤ length w.notes)) ⊎ IsNew p of x → IsSurveyed p t c s → IsSurveyed p t c x × (x.taken ≤ length w.notes)
+fitted p t sound {c = c} is s x w (inl e) h = (subst (IsSurveyed p t c) (sym e.0) h, (let same = ap (λ (y : Survey). y.taken) e.0 in let l = e.1 in omega (arith, same, l)))
+fitted p t sound is s x w (inr new) h = (survey_new t (naming_of sound) is new, (let none = new.taken in omega (arith, none)))
 
 -- where nothing is offered it has the fresh value
-pub rootless : {S : Type 0} {p : Program} {r : Told S} {of : Collector} {c : Collection} {s : Survey} → IsSound p r → IsCollectorOf p of c → c.offers ≡ [] → IsNew p of s → (v : CodedValue) → v ≡ s.so_far → EvaluatesSources p r r (collection_demands (world_of p) c) (Ok (turns.Done v))
-rootless {p = p} {r = r} {c = c} sound is none new v same =
-    let value : value_of (text_of p) v ≡ fresh c.method c.kind = ap (value_of (text_of p)) same ∙ new.so_far ∙ sym (λ i. fresh (is.method i) (is.kind i)) in
-    record {
-      kept = grows_self sound;
-      answer = subst (λ (os : List Offer). GivenSources p r (gathered (world_of p) c.method c.kind (At c.node) (fresh c.method c.kind) os) v) (sym none) (gives_source value (subst (AreElements p) (sym same) new.coded));
-    }
+pub rootless : {S : Type 0} {p : Program} {r : Told S} {of : Collector} {c : Collections} {s : Survey} → IsSound p r → IsCollectorOf p of c → ByEachNaming p (λ names. (c names).offers ≡ []) → IsNew p of s → (v : CodedValue) → v ≡ s.so_far → Evaluates p r r (demands_of p c) (Ok (turns.Done v))
+rootless {p = p} {r = r} {c = c} sound is none new v same = record {
+  kept = grows_self sound;
+  answer = record {
+    comes = λ names in_it.
+        let named = naming_of sound names in_it in
+        let x = c names in
+        let by = is names named in
+        let value : value_by names v ≡ fresh x.method x.kind = ap (value_by names) same ∙ new.so_far names named ∙ sym (λ i. fresh (by.method i) (by.kind i)) in
+        subst (λ (os : List Offer). ComesUnder r.has (gathered (world_of p) x.method x.kind (At x.node) (fresh x.method x.kind) os) (value_by names v)) (sym (none names named))
+        ([], subst (λ (y : Value). Ends r.has (Gives (fresh x.method x.kind)) y []) (sym value) gives);
+    coded = subst (AreElements p) (sym same) new.coded;
+  };
+}

@@ -2,6 +2,7 @@
 use Rattle.std.specs.Prelude.{◌≡◌, ◌⊎◌, ◌<◌, ℕ, [], Option, IfSome, Some, length}
 use Rattle.std.specs.HashMap.{HashMap, get}
 use Rattle.ast_grammar.specs.declared.grammar.ClassId.{ClassId}
+use Rattle.equation_law.specs.Codes.{ByEachNaming}
 use Rattle.equation_law.specs.Equations.{collection_root, offers_below}
 use Rattle.equation_law.specs.Program.{Program}
 use Rattle.collection_attrs.specs.contracts.noted_roots.UpwardsPartialEq.TheImpl as beginnings
@@ -11,11 +12,11 @@ use Rattle.collection_attrs.specs.Surveys.{ForCollector}
 
 -- exactly what is offered in the subtree of this root is offered to the collection
 abbrev pub IsRootOf : Program → Collector → ℕ → Type 0
-IsRootOf p of r = ForCollector p of (λ c. c.offers ≡ offers_below p of.attr.0 (Some r))
+IsRootOf p of r = ForCollector p of (λ c. ByEachNaming p (λ names. (c names).offers ≡ offers_below p of.attr.0 (Some r)))
 
 -- nothing is offered to it
 abbrev pub IsRootless : Program → Collector → Type 0
-IsRootless p of = ForCollector p of (λ c. c.offers ≡ [])
+IsRootless p of = ForCollector p of (λ c. ByEachNaming p (λ names. (c names).offers ≡ []))
 
 -- the closest node of the class c from node n upwards, or that there is none; it is a node of the tree
 pub record IsRoot (p : Program) (c : ClassId) (n : ℕ) (r : Option ℕ) : Type 0 where

@@ -3,11 +3,10 @@ ghost use Rattle.std.specs.Prelude.{◌≡◌, ◌<◌, IfNone, IfSome, None, So
 ghost use Rattle.std.specs.Option.{is_some};
 ghost use Rattle.tree_arena.specs.Terms.{IsTree};
 ghost use Rattle.equation_law.specs.Codes.{instance_of};
-ghost use Rattle.equation_law.specs.Collections.{Collection};
 ghost use Rattle.equation_law.specs.Equations.{collection_of, collection_root};
 ghost use Rattle.equation_law.specs.Systems.{program_of};
 ghost use Rattle.collection_attrs.specs.Roots.{IsRootOf, IsRootless};
-ghost use Rattle.collection_attrs.specs.Surveys.{IsCollectorOf, SaysCollection};
+ghost use Rattle.collection_attrs.specs.Surveys.{Collections, IsCollectorOf, SaysCollection};
 
 use ast_grammar::ClassId;
 use attr_rules::{AttrId, Kind, Method};
@@ -71,7 +70,7 @@ fn closest(system: &System, class: ClassId, node: u32) -> Option<u32>
 /// The root in whose subtree what is offered to a collection stands. Where there is none, nothing is offered. It takes no memory, and time in
 /// proportion to the way upwards.
 pub fn root_of(system: &System, of: Collector) -> Option<u32>
-    requires { (c : Collection) × IsCollectorOf (program_of system.now) of c }
+    requires { (c : Collections) × IsCollectorOf (program_of system.now) of c }
     ensures within { IfSome result (λ r. r < length (program_of system.now).tree) }
     ensures some { IfSome result (IsRootOf (program_of system.now) of) }
     ensures none { IfNone result (IsRootless (program_of system.now) of) }

@@ -2,9 +2,8 @@
 ghost use Rattle.std.specs.Prelude.{◌≡◌, ◌+ℤ◌, IfOk};
 ghost use Rattle.std.specs.Int.{int_wrap};
 ghost use mir.Syntax.{w32};
-ghost use Rattle.equation_law.specs.Codes.{AreElements, value_of};
+ghost use Rattle.equation_law.specs.Codes.{AreElements, ByEachNaming, value_by};
 ghost use Rattle.equation_law.specs.Collections.{fresh};
-ghost use Rattle.equation_law.specs.Program.{text_of};
 ghost use Rattle.equation_law.specs.Systems.{program_of};
 ghost use Rattle.collection_attrs.specs.Surveys.{IsCombined};
 
@@ -16,7 +15,7 @@ use std::alloc::Global;
 
 /// The value of a collection for which nothing counts. It takes no memory.
 pub(crate) fn fresh(alloc: Global, system: &System, method: Method, kind: Kind) -> Value
-    ensures value { value_of (text_of (program_of system.now)) result ≡ fresh method kind }
+    ensures value { ByEachNaming (program_of system.now) (λ names. value_by names result ≡ fresh method kind) }
     ensures elements { AreElements (program_of system.now) result }
 {
     match method {

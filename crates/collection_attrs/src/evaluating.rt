@@ -3,11 +3,11 @@ ghost use Rattle.std.specs.Prelude.{◌≡◌, Some};
 ghost use Rattle.equation_law.specs.Codes.{IsCoded, instance_of};
 ghost use Rattle.equation_law.specs.Collections.{Collection};
 ghost use Rattle.equation_law.specs.Equations.{collection_of};
-ghost use Rattle.equation_law.specs.Reading.{IsSound, ReadsSources};
+ghost use Rattle.equation_law.specs.Reading.{IsSound};
 ghost use Rattle.equation_law.specs.Systems.{program_of};
 ghost use Rattle.collection_attrs.specs.Evaluations.{EvaluatesCollection};
-ghost use Rattle.expr_eval.specs.BySources.{EvaluatesSourceInstance};
-ghost use Rattle.collection_attrs.specs.Surveys.{IsCollectorOf};
+ghost use Rattle.expr_eval.specs.Sites.{EvaluatesInstance};
+ghost use Rattle.collection_attrs.specs.Surveys.{Collections, IsCollectorOf};
 
 use crate::collectors::{Collector, collector_of, is_collection, root_of};
 use crate::offers::Offers;
@@ -24,9 +24,8 @@ fn collect<R: Reader>(
     of: Collector,
     reader: &mut R,
 ) -> Result<Turn, Memory>
-    requires collection { (c : Collection) × IsCollectorOf (program_of system.now) of c }
+    requires collection { (c : Collections) × IsCollectorOf (program_of system.now) of c }
     requires sound { IsSound (program_of system.now) (R.tells reader.old) }
-    requires sources { ReadsSources (program_of system.now) (R.tells reader.old) }
     ensures { EvaluatesCollection (program_of system.now) (R.tells reader.old) (R.tells reader.new) of result }
 {
     let mut survey = Survey::new(alloc, system, of);
@@ -47,8 +46,7 @@ pub fn survey<R: Reader>(
 ) -> Result<Turn, Memory>
     requires collection { (c : Collection) × (collection_of (program_of system.now) (instance_of (program_of system.now) i.now) ≡ Some c) }
     requires sound { IsSound (program_of system.now) (R.tells reader.old) }
-    requires sources { ReadsSources (program_of system.now) (R.tells reader.old) }
-    ensures { EvaluatesSourceInstance (program_of system.now) (R.tells reader.old) (R.tells reader.new) i.now result }
+    ensures { EvaluatesInstance (program_of system.now) (R.tells reader.old) (R.tells reader.new) i.now result }
 {
     match collector_of(system, i) {
         Some(of) => collect(alloc, system, of, reader),
@@ -64,9 +62,8 @@ pub fn evaluate_any<R: Reader>(
     reader: &mut R,
 ) -> Result<Turn, Memory>
     requires sound { IsSound (program_of system.now) (R.tells reader.old) }
-    requires sources { ReadsSources (program_of system.now) (R.tells reader.old) }
     requires coded { IsCoded (program_of system.now) i.now }
-    ensures { EvaluatesSourceInstance (program_of system.now) (R.tells reader.old) (R.tells reader.new) i.now result }
+    ensures { EvaluatesInstance (program_of system.now) (R.tells reader.old) (R.tells reader.new) i.now result }
 {
     if is_collection(system, i) {
         return survey(alloc, system, i, reader);

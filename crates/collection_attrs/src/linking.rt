@@ -1,5 +1,5 @@
 // Entries of a walk: those with one receiver are a ring.
-ghost use Rattle.std.specs.Prelude.{◌≡◌, ◌+◌, ◌++◌, ◌∷◌, ◌^◌, ◌<◌, [], ℕ, IfNone, IfOk, IfSome, OnErr, OnOk, Some, length, map, slice_get};
+ghost use Rattle.std.specs.Prelude.{◌≡◌, ◌+◌, ◌++◌, ◌∷◌, ◌^◌, ◌<◌, [], IfNone, IfOk, IfSome, OnErr, OnOk, Some, length, map, slice_get};
 ghost use Rattle.collection_attrs.specs.declared.linking.Entry.{Entry as Kept};
 ghost use Rattle.collection_attrs.specs.Spots.{IsTree, last_of};
 ghost use Rattle.collection_attrs.specs.Surveys.{AreChained, TellsNext, note_of, noted_in};

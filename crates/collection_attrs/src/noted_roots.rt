@@ -1,10 +1,9 @@
 // Roots of collections that were found already.
 ghost use Rattle.std.specs.Prelude.{◌≡◌, ◌<◌, IfNone, IfSome, length};
 ghost use Rattle.tree_arena.specs.Terms.{IsTree};
-ghost use Rattle.equation_law.specs.Collections.{Collection};
 ghost use Rattle.equation_law.specs.Systems.{program_of};
 ghost use Rattle.collection_attrs.specs.Roots.{IsRoot, IsRootOf, IsRootless, KeepsAtMost};
-ghost use Rattle.collection_attrs.specs.Surveys.{IsCollectorOf};
+ghost use Rattle.collection_attrs.specs.Surveys.{Collections, IsCollectorOf};
 
 use crate::collectors::Collector;
 use ast_grammar::ClassId;
@@ -136,7 +135,7 @@ impl Roots {
     /// The same as `root_of`. A way upwards is climbed once: the root is noted for each node on it.
     pub fn find_root(&mut self, system: &System, of: Collector) -> Option<u32>
         requires same { self.old ≡ system.now }
-        requires collection { (c : Collection) × IsCollectorOf (program_of system.now) of c }
+        requires collection { (c : Collections) × IsCollectorOf (program_of system.now) of c }
         ensures same { self.new ≡ self.old }
         ensures within { IfSome result (λ r. r < length (program_of system.now).tree) }
         ensures some { IfSome result (IsRootOf (program_of system.now) of) }

@@ -1,10 +1,9 @@
 // The walk over what is offered to a collection in the subtree of a root.
-ghost use Rattle.std.specs.Prelude.{◌≡◌, ◌⊎◌, ◌+◌, ◌^◌, ◌<◌, ◌≤◌, IfNone, IfSome, None, OnErr, OnOk, Some, length, slice_get};
+ghost use Rattle.std.specs.Prelude.{◌≡◌, ◌+◌, ◌^◌, ◌<◌, ◌≤◌, IfNone, IfSome, None, OnErr, OnOk, Some, length, slice_get};
 ghost use Rattle.tree_arena.specs.Nodes.{end_in};
-ghost use Rattle.equation_law.specs.Codes.{reference_of};
 ghost use Rattle.equation_law.specs.Systems.{program_of};
 ghost use Rattle.collection_attrs.specs.Surveys.{noted_in};
-ghost use Rattle.collection_attrs.specs.Walks.{IsBehind, IsFirstFor, IsStanding, NoneFrom, StandsBefore, new_walk, one_further, passed_by};
+ghost use Rattle.collection_attrs.specs.Walks.{IsFirstFor, IsStanding, MayGoOn, NoneFrom, StandsBefore, new_walk, one_further, passed_by};
 
 use crate::lasts::{Spot, last_for};
 use crate::linking::{Entry, link, told};
@@ -84,13 +83,14 @@ impl Offers {
         self.entries[place as usize]
     }
 
-    /// The first offer from a place on with this receiver, if one is kept. It takes constant time: the place is 0, or stands behind an offer with
-    /// the receiver.
+    /// The first offer from a place on with this receiver, if one is kept, where the place is 0 or stands behind an offer with the receiver. It takes
+    /// constant time.
     pub(crate) fn next_for(&self, receiver: NodeRef, from: u32) -> Option<u32>
-        requires { (from ≡ 0) ⊎ IsBehind self.now.notes (reference_of receiver.0) from }
+        requires { from ≤ length self.now.notes }
         ensures few { IfSome result (λ k. k + 1 < 2 ^ 32) }
-        ensures some { IfSome result (IsFirstFor self.now.notes (reference_of receiver.0) from) }
-        ensures none { IfNone result (NoneFrom self.now.notes (reference_of receiver.0) from) }
+        ensures within { IfSome result (λ k. (from ≤ k) × (k < length self.now.notes)) }
+        ensures some { IfSome result (λ k. MayGoOn self.now.notes receiver.0 from → IsFirstFor self.now.notes receiver.0 from k) }
+        ensures none { IfNone result (MayGoOn self.now.notes receiver.0 from → NoneFrom self.now.notes receiver.0 from) }
     {
         if from == 0 {
             return Some(told(&self.entries, last_for(&self.lasts, receiver)?));
@@ -141,7 +141,7 @@ impl Offers {
     /// Passes one whose condition is true, which is kept with its receiver. Without memory for it the walk stays where it is.
     pub(crate) fn keep(&mut self, receiver: NodeRef) -> Result<(), Memory>
         requires { self.old.contribution + 1 < 2 ^ 32 }
-        ensures kept { OnOk result (self.new ≡ one_further self.old (Some (reference_of receiver.0))) }
+        ensures kept { OnOk result (self.new ≡ one_further self.old (Some receiver.0)) }
         ensures stays { OnErr result (self.new ≡ self.old) }
     {
         link(

@@ -1,6 +1,6 @@
 // A walk passes the next offer.
 ghost use Rattle.std.specs.Prelude.{◌≡◌, ◌≤◌, IfOk, length};
-ghost use Rattle.equation_law.specs.Reading.{Grows, IsSound, ReadsSources};
+ghost use Rattle.equation_law.specs.Reading.{Grows, IsSound};
 ghost use Rattle.equation_law.specs.Systems.{program_of};
 ghost use Rattle.expr_eval.specs.Saved.{AreSaved};
 ghost use Rattle.collection_attrs.specs.Surveys.{IsPassage};
@@ -34,13 +34,12 @@ pub(crate) fn pass_next<'a, R: Reader>(
     saved: &mut Saved<'a>,
 ) -> Result<Passage, Memory>
     requires sound { IsSound (program_of system.now) (R.tells reader.old) }
-    requires sources { ReadsSources (program_of system.now) (R.tells reader.old) }
-    requires walk { IsWalk (program_of system.now) (R.tells reader.old).has offers.old }
+    requires walk { IsWalk (program_of system.now) (R.tells reader.old) offers.old }
     requires saved { AreSaved system.now (R.tells reader.old) saved.old }
     ensures kept { Grows (program_of system.now) (R.tells reader.old) (R.tells reader.new) }
-    ensures walk { IsWalk (program_of system.now) (R.tells reader.new).has offers.new }
+    ensures walk { IsWalk (program_of system.now) (R.tells reader.new) offers.new }
     ensures same { (offers.new.attribute ≡ offers.old.attribute) × (offers.new.root ≡ offers.old.root) × (length offers.old.notes ≤ length offers.new.notes) }
-    ensures passage { IfOk result (λ passage. IsPassage (program_of system.now) (R.tells reader.new).has offers.old offers.new passage) }
+    ensures passage { IfOk result (λ passage. IsPassage (program_of system.now) (R.tells reader.new) offers.old offers.new passage) }
     ensures saved { AreSaved system.now (R.tells reader.new) saved.new }
 {
     let Some((node, number)) = offers.seek(system) else {

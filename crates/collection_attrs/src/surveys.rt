@@ -1,11 +1,11 @@
 // How far one collection has gone over its offers, and how it goes on.
 ghost use Rattle.std.specs.Prelude.{◌≡◌, ◌⊎◌, ◌<◌, ◌≤◌, ◌+◌, ◌^◌, IfNone, IfOk, IfSome, OnErr, OnOk, length};
 ghost use Rattle.equation_law.specs.Codes.{AreElements};
-ghost use Rattle.equation_law.specs.Reading.{Grows, IsSound, ReadsSources};
+ghost use Rattle.equation_law.specs.Reading.{Grows, IsSound};
 ghost use Rattle.equation_law.specs.Systems.{program_of};
 ghost use Rattle.expr_eval.specs.Saved.{AreSaved};
 ghost use Rattle.collection_attrs.specs.Evaluations.{EvaluatesCollection, IsStuckAt};
-ghost use Rattle.collection_attrs.specs.Surveys.{CountsValue, ForCollector, GoesAlong, HasCounted, IsNew, IsSurveyed};
+ghost use Rattle.collection_attrs.specs.Surveys.{CountsValue, GoesAlong, HasCounted, IsNew, IsSurveyFor};
 ghost use Rattle.collection_attrs.specs.Walks.{IsWalk};
 
 use crate::collectors::Collector;
@@ -90,16 +90,15 @@ impl Survey {
         saved: &mut Saved<'a>,
     ) -> Result<Option<Instance>, Memory>
         requires sound { IsSound (program_of system.now) (R.tells reader.old) }
-        requires sources { ReadsSources (program_of system.now) (R.tells reader.old) }
-        requires walk { IsWalk (program_of system.now) (R.tells reader.old).has offers.now }
-        requires collection { GoesAlong (program_of system.now) (R.tells reader.old).has of offers.now self.old }
+        requires walk { IsWalk (program_of system.now) (R.tells reader.old) offers.now }
+        requires collection { GoesAlong (program_of system.now) (R.tells reader.old) of offers.now self.old }
         requires within { self.old.taken ≤ length offers.now.notes }
         requires saved { AreSaved system.now (R.tells reader.old) saved.old }
         ensures kept { Grows (program_of system.now) (R.tells reader.old) (R.tells reader.new) }
-        ensures survey { ForCollector (program_of system.now) of (λ c. IsSurveyed (program_of system.now) (R.tells reader.new).has c self.new) }
+        ensures survey { IsSurveyFor (program_of system.now) (R.tells reader.new) of self.new }
         ensures within { self.new.taken ≤ length offers.now.notes }
-        ensures counted { IfOk result (λ found. IfNone found (HasCounted (program_of system.now) (R.tells reader.new).has of offers.now self.new)) }
-        ensures stuck { IfOk result (λ found. IfSome found (IsStuckAt (program_of system.now) (R.tells reader.new).has of)) }
+        ensures counted { IfOk result (λ found. IfNone found (HasCounted (program_of system.now) (R.tells reader.new) of offers.now self.new)) }
+        ensures stuck { IfOk result (λ found. IfSome found (IsStuckAt (program_of system.now) (R.tells reader.new) of)) }
         ensures saved { AreSaved system.now (R.tells reader.new) saved.new }
     {
         let rules = system.rules();
@@ -128,14 +127,13 @@ impl Survey {
         saved: &mut Saved<'a>,
     ) -> Result<Turn, Memory>
         requires sound { IsSound (program_of system.now) (R.tells reader.old) }
-        requires sources { ReadsSources (program_of system.now) (R.tells reader.old) }
-        requires walk { IsWalk (program_of system.now) (R.tells reader.old).has offers.old }
-        requires collection { GoesAlong (program_of system.now) (R.tells reader.old).has of offers.old self.old }
+        requires walk { IsWalk (program_of system.now) (R.tells reader.old) offers.old }
+        requires collection { GoesAlong (program_of system.now) (R.tells reader.old) of offers.old self.old }
         requires saved { AreSaved system.now (R.tells reader.old) saved.old }
         ensures evaluates { EvaluatesCollection (program_of system.now) (R.tells reader.old) (R.tells reader.new) of result }
         ensures same { (offers.new.attribute ≡ offers.old.attribute) × (offers.new.root ≡ offers.old.root) }
-        ensures walk { IsWalk (program_of system.now) (R.tells reader.new).has offers.new }
-        ensures survey { ForCollector (program_of system.now) of (λ c. IsSurveyed (program_of system.now) (R.tells reader.new).has c self.new) }
+        ensures walk { IsWalk (program_of system.now) (R.tells reader.new) offers.new }
+        ensures survey { IsSurveyFor (program_of system.now) (R.tells reader.new) of self.new }
         ensures saved { AreSaved system.now (R.tells reader.new) saved.new }
     {
         self.fit(alloc, system, of, offers);

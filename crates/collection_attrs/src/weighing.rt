@@ -1,10 +1,10 @@
 // What comes of an offer: its condition is evaluated, and where that is true, its receiver.
 ghost use Rattle.std.specs.Prelude.{◌+◌, ◌^◌, ◌<◌, IfOk, IfSome, length};
 ghost use Rattle.attr_rules.specs.Rules.{bodies};
-ghost use Rattle.equation_law.specs.Reading.{Grows, IsSound, ReadsSources};
+ghost use Rattle.equation_law.specs.Reading.{Grows, IsSound};
 ghost use Rattle.equation_law.specs.Systems.{program_of};
 ghost use Rattle.expr_eval.specs.Saved.{AreSaved};
-ghost use Rattle.collection_attrs.specs.Evaluations.{EvaluatesBody, EvaluatesCondition};
+ghost use Rattle.collection_attrs.specs.Evaluations.{EvaluatesCondition, EvaluatesPart};
 ghost use Rattle.collection_attrs.specs.Surveys.{IsWeighedAt};
 
 use attr_rules::EqId;
@@ -36,9 +36,8 @@ pub(crate) fn evaluate_part<'a, R: Reader>(
     requires known { expression.0 < length (bodies (program_of system.now).rules) }
     requires few { node + 1 < 2 ^ 32 }
     requires sound { IsSound (program_of system.now) (R.tells reader.old) }
-    requires sources { ReadsSources (program_of system.now) (R.tells reader.old) }
     requires saved { AreSaved system.now (R.tells reader.old) saved.old }
-    ensures evaluates { EvaluatesBody (program_of system.now) (R.tells reader.old) (R.tells reader.new) expression node result }
+    ensures evaluates { EvaluatesPart (program_of system.now) (R.tells reader.old) (R.tells reader.new) expression node result }
     ensures saved { AreSaved system.now (R.tells reader.new) saved.new }
 {
     let at = NodeRef::of_source(Some(node));
@@ -61,7 +60,6 @@ fn condition<'a, R: Reader>(
     requires known { IfSome guard (λ e. e.0 < length (bodies (program_of system.now).rules)) }
     requires few { node + 1 < 2 ^ 32 }
     requires sound { IsSound (program_of system.now) (R.tells reader.old) }
-    requires sources { ReadsSources (program_of system.now) (R.tells reader.old) }
     requires saved { AreSaved system.now (R.tells reader.old) saved.old }
     ensures evaluates { EvaluatesCondition (program_of system.now) (R.tells reader.old) (R.tells reader.new) guard node result }
     ensures saved { AreSaved system.now (R.tells reader.new) saved.new }
@@ -84,10 +82,9 @@ pub(crate) fn weigh<'a, R: Reader>(
     requires known { number < length (program_of system.now).rules.contributions }
     requires few { node + 1 < 2 ^ 32 }
     requires sound { IsSound (program_of system.now) (R.tells reader.old) }
-    requires sources { ReadsSources (program_of system.now) (R.tells reader.old) }
     requires saved { AreSaved system.now (R.tells reader.old) saved.old }
     ensures kept { Grows (program_of system.now) (R.tells reader.old) (R.tells reader.new) }
-    ensures weighed { IfOk result (IsWeighedAt (program_of system.now) (R.tells reader.new).has number node) }
+    ensures weighed { IfOk result (IsWeighedAt (program_of system.now) (R.tells reader.new) number node) }
     ensures saved { AreSaved system.now (R.tells reader.new) saved.new }
 {
     let contribution = system.rules().contribution(number);

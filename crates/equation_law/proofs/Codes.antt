@@ -1,5 +1,5 @@
 -- Namings, and codes of 32 bits that stand for integers.
-use Rattle.std.proofs.Common.{◌≡◌, ℕ, zero, suc, ◌+◌, ◌<◌, ◌≤◌, ◌^◌, ℤ, pos, Option, Some, None, IfSome, List, [], length, unsigned_abs, arith, ap, ◌∙◌, refl, sym, subst, inl, inr}
+use Rattle.std.proofs.Common.{◌≡◌, ℕ, zero, suc, ◌+◌, ◌<◌, ◌≤◌, ◌^◌, ℤ, pos, Option, Some, None, IfSome, length, unsigned_abs, arith, ap, ◌∙◌, refl, sym, inl, inr}
 use Rattle.std.specs.Int.{cast_signed, int_wrap}
 use Rattle.std.proofs.Math.Nat.{mod-eq_of_lt}
 use Rattle.std.proofs.lemmas.Bool.{cases_lt}

@@ -1,5 +1,5 @@
 -- Tests that are equal, and which codes stand for one instance.
-use Rattle.std.proofs.Common.{◌≡◌, ℕ, zero, suc, ◌≤◌, ℤ, pos, Bool, true, false, not, ◌==◌, ◌&&◌, List, [], ◌∷◌, get_or, take, of_z, refl, sym, ap, subst, ◌∙◌, eqb, arith}
+use Rattle.std.proofs.Common.{◌≡◌, ℕ, zero, suc, ◌<◌, ◌≤◌, length, ℤ, pos, Bool, true, false, not, ◌==◌, ◌&&◌, List, [], ◌∷◌, get_or, take, of_z, refl, sym, ap, subst, ◌∙◌, eqb, arith}
 use Rattle.std.specs.Int.{int_wrap}
 use Rattle.std.proofs.lemmas.Bool.{and_parts, eqb-true, eq-eqb}
 use Rattle.std.proofs.lemmas.Bool.Decides.{nat_tests}
@@ -15,11 +15,11 @@ use Rattle.equation_law.specs.declared.coding.Instance.{Instance as CodedInstanc
 use Rattle.equation_law.specs.declared.coding.Instance.TheVariants as coded
 use Rattle.equation_law.specs.contracts.coding.ArgsPartialEq.TheImpl as arguments
 use Rattle.equation_law.specs.contracts.coding.InstancePartialEq.TheImpl as equality
-use Rattle.equation_law.specs.Codes.{AreCodes, IsCode, IsCoded, IsRow, arguments_at, codes_in, instance_of, reference_of, value_at}
+use Rattle.equation_law.specs.Codes.{AreCodes, IsCode, IsCoded, IsNamingOf, IsRow, Naming, arguments_by, codes_in, instance_by, instance_of, reference_by, value_coded}
 use Rattle.equation_law.specs.Names.{Argument, OfInt, OfNode, OfText, OfTruth, Instance, Null, Reference, same_instance}
-use Rattle.equation_law.specs.Program.{Program, attribute_parameters, text_of}
+use Rattle.equation_law.specs.Program.{Program, attribute_parameters}
 use Rattle.equation_law.specs.Values.{as_argument}
-use Rattle.equation_law.proofs.Codes.{signed}
+use Rattle.equation_law.proofs.Codes.{one_reference, signed, sources_named}
 use Rattle.equation_law.proofs.Names.{same_instance_is, same_instance_self}
 
 -- two tests that imply each other are one
@@ -47,13 +47,6 @@ both_equal a b n m e =
 -- and the other way round
 pub equal_both : (a b n m : ℕ) → a ≡ b → n ≡ m → (eqb a b && eqb n m) ≡ true
 equal_both a b n m e f = ap (λ x. x && eqb n m) (eq-eqb a b e) ∙ eq-eqb n m f
-
--- a node has one code
-pub one_reference : (n m : ℕ) → reference_of n ≡ reference_of m → n ≡ m
-one_reference zero zero e = refl
-one_reference zero (suc m) e = cc
-one_reference (suc n) zero e = cc
-one_reference (suc n) (suc m) e = cc
 
 -- what the test of four numbers says
 all_equal : (a b c d x y z w : ℕ) → (eqb a x && (eqb b y && (eqb c z && eqb d w))) ≡ true → (a ≡ x) × (b ≡ y) × (c ≡ z) × (d ≡ w)
@@ -115,32 +108,35 @@ node_in (OfNode n) = n
 one_truth : (c d : ℕ) → c ≤ 1 → d ≤ 1 → not (c == 0) ≡ not (d == 0) → c ≡ d
 one_truth c d v w e = grind (arith, nat_tests)
 
--- a value of a type has one code
+-- a value of a type has one code, by each naming
 module _ (p : Program) (pooled : ArePooled p.texts) where
-  one_code : (k : Kind) (c d : ℕ) → IsCode p k c → IsCode p k d → as_argument k (value_at (text_of p) k c) ≡ as_argument k (value_at (text_of p) k d) → c ≡ d
-  one_code kinds.Truth c d v w e = one_truth c d v w (ap truth_in e)
-  one_code kinds.Int c d v w e =
+  one_text : {n : Naming} → IsNamingOf p n → (c d : ℕ) → c < length p.texts → d < length p.texts → n.text c ≡ n.text d → c ≡ d
+  one_text {n} h c d v w e =
+      let texts : get_or p.texts c [] ≡ get_or p.texts d [] = sym (ap (λ (f : ℕ → List ℕ). f c) h.texts) ∙ e ∙ ap (λ (f : ℕ → List ℕ). f d) h.texts in
+      (same_number p.texts c d (get_or p.texts c []) (get_or p.texts d []) pooled (slice_get-get_or p.texts c [] v) (slice_get-get_or p.texts d [] w)).0 texts
+
+  one_code : {n : Naming} → IsNamingOf p n → (k : Kind) (c d : ℕ) → IsCode p k c → IsCode p k d → as_argument k (value_coded n k c) ≡ as_argument k (value_coded n k d) → c ≡ d
+  one_code h kinds.Truth c d v w e = one_truth c d v w (ap truth_in e)
+  one_code h kinds.Int c d v w e =
       let wraps : int_wrap w32 (pos c) ≡ int_wrap w32 (pos d) = ap int_in e in
       sym (of_z-to_z w32 c v) ∙ ap (of_z w32) (signed c v ∙ wraps ∙ sym (signed d w)) ∙ of_z-to_z w32 d w
-  one_code kinds.Text c d v w e =
-      let texts : get_or p.texts c [] ≡ get_or p.texts d [] = ap text_in e in
-      (same_number p.texts c d (get_or p.texts c []) (get_or p.texts d []) pooled (slice_get-get_or p.texts c [] v) (slice_get-get_or p.texts d [] w)).0 texts
-  one_code (kinds.Node b) c d v w e = one_reference c d (ap node_in e)
-  one_code kinds.Texts c d v w e = v ∙ sym w
-  one_code (kinds.Nodes b) c d v w e = v ∙ sym w
+  one_code h kinds.Text c d v w e = one_text h c d v w (ap text_in e)
+  one_code h (kinds.Node b) c d v w e = one_reference h c d (ap node_in e)
+  one_code h kinds.Texts c d v w e = v ∙ sym w
+  one_code h (kinds.Nodes b) c d v w e = v ∙ sym w
 
   -- and some arguments have one list of codes
-  pub one_list : (ks : List Kind) (cs ds : List ℕ) → AreCodes p ks cs → AreCodes p ks ds → arguments_at (text_of p) ks cs ≡ arguments_at (text_of p) ks ds → cs ≡ ds
-  one_list [] [] [] v w e = refl
-  one_list [] [] (d ∷ ds) v w e = absurd w
-  one_list [] (c ∷ cs) ds v w e = absurd v
-  one_list (k ∷ ks) [] [] v w e = refl
-  one_list (k ∷ ks) [] (d ∷ ds) v w e = cc
-  one_list (k ∷ ks) (c ∷ cs) [] v w e = cc
-  one_list (k ∷ ks) (c ∷ cs) (d ∷ ds) v w e =
-      let head : as_argument k (value_at (text_of p) k c) ≡ as_argument k (value_at (text_of p) k d) = cc in
-      let tail : arguments_at (text_of p) ks cs ≡ arguments_at (text_of p) ks ds = cc in
-      (λ i. one_code k c d v.0 w.0 head i ∷ one_list ks cs ds v.1 w.1 tail i)
+  pub one_list : {n : Naming} → IsNamingOf p n → (ks : List Kind) (cs ds : List ℕ) → AreCodes p ks cs → AreCodes p ks ds → arguments_by n ks cs ≡ arguments_by n ks ds → cs ≡ ds
+  one_list h [] [] [] v w e = refl
+  one_list h [] [] (d ∷ ds) v w e = absurd w
+  one_list h [] (c ∷ cs) ds v w e = absurd v
+  one_list h (k ∷ ks) [] [] v w e = refl
+  one_list h (k ∷ ks) [] (d ∷ ds) v w e = cc
+  one_list h (k ∷ ks) (c ∷ cs) [] v w e = cc
+  one_list {n} h (k ∷ ks) (c ∷ cs) (d ∷ ds) v w e =
+      let head : as_argument k (value_coded n k c) ≡ as_argument k (value_coded n k d) = cc in
+      let tail : arguments_by n ks cs ≡ arguments_by n ks ds = cc in
+      (λ i. one_code h k c d v.0 w.0 head i ∷ one_list h ks cs ds v.1 w.1 tail i)
 
   -- arguments are told apart by their codes
   row_first : (n m a b c x y z : ℕ) → n ≤ 3 → m ≤ 3 → (n ≤ 0 → a ≡ 0) → (n ≤ 1 → b ≡ 0) → (n ≤ 2 → c ≡ 0) → (m ≤ 0 → x ≡ 0) → (m ≤ 1 → y ≡ 0) → (m ≤ 2 → z ≡ 0)
@@ -162,19 +158,22 @@ module _ (p : Program) (pooled : ArePooled p.texts) where
       (λ i. record { count = h.0 i; first = h.1 i; second = h.2 i; third = h.3 i })
 
   -- coded instances that stand for one are one
-  pub one_key : (a b : CodedInstance) → IsCoded p a → IsCoded p b → instance_of p a ≡ instance_of p b → a ≡ b
-  one_key (coded.Attr a n xs) (coded.Attr b m ys) v w e =
+  pub one_key_by : {n : Naming} → IsNamingOf p n → (a b : CodedInstance) → IsCoded p a → IsCoded p b → instance_by p n a ≡ instance_by p n b → a ≡ b
+  one_key_by {n} h (coded.Attr a c xs) (coded.Attr b d ys) v w e =
       let attribute : a.0 ≡ b.0 = cc in
-      let node : n.0 ≡ m.0 = (let same : reference_of n.0 ≡ reference_of m.0 = cc in one_reference n.0 m.0 same) in
-      let arguments : arguments_at (text_of p) (attribute_parameters p a.0) (codes_in xs) ≡ arguments_at (text_of p) (attribute_parameters p b.0) (codes_in ys) = cc in
+      let node : c.0 ≡ d.0 = (let same : reference_by n.node c.0 ≡ reference_by n.node d.0 = cc in one_reference h c.0 d.0 same) in
+      let arguments : arguments_by n (attribute_parameters p a.0) (codes_in xs) ≡ arguments_by n (attribute_parameters p b.0) (codes_in ys) = cc in
       let there : AreCodes p (attribute_parameters p a.0) (codes_in ys) = subst (λ (k : ℕ). AreCodes p (attribute_parameters p k) (codes_in ys)) (sym attribute) w.1 in
       let codes : codes_in xs ≡ codes_in ys =
-      one_list (attribute_parameters p a.0) (codes_in xs) (codes_in ys) v.1 there (arguments ∙ ap (λ (k : ℕ). arguments_at (text_of p) (attribute_parameters p k) (codes_in ys)) (sym attribute))
+      one_list h (attribute_parameters p a.0) (codes_in xs) (codes_in ys) v.1 there (arguments ∙ ap (λ (k : ℕ). arguments_by n (attribute_parameters p k) (codes_in ys)) (sym attribute))
       in
       (λ i. coded.Attr (record { 0 = attribute i }) (record { 0 = node i }) (one_row xs ys v.0 w.0 codes i))
-  one_key (coded.Attr a n xs) (coded.Query q) v w e = cc
-  one_key (coded.Query q) (coded.Attr b m ys) v w e = cc
-  one_key (coded.Query q) (coded.Query r) v w e = let same : q.0 ≡ r.0 = cc in ap (λ k. coded.Query (record { 0 = k })) same
+  one_key_by h (coded.Attr a c xs) (coded.Query q) v w e = cc
+  one_key_by h (coded.Query q) (coded.Attr b d ys) v w e = cc
+  one_key_by h (coded.Query q) (coded.Query r) v w e = let same : q.0 ≡ r.0 = cc in ap (λ k. coded.Query (record { 0 = k })) same
+
+  pub one_key : (a b : CodedInstance) → IsCoded p a → IsCoded p b → instance_of p a ≡ instance_of p b → a ≡ b
+  one_key a b v w e = one_key_by (sources_named p) a b v w e
 
   -- well coded instances are equal where they stand for one instance
   pub key_same : (a b : CodedInstance) → IsCoded p a → IsCoded p b → equality.ghosts.eq a b ≡ same_instance (instance_of p a) (instance_of p b)

@@ -1,5 +1,5 @@
 -- The keys of all queries are those of each.
-use Rattle.std.proofs.Common.{◌≡◌, ℕ, ◌<◌, length, refl, sym, subst}
+use Rattle.std.proofs.Common.{◌≡◌, ℕ, ◌<◌, length, refl, subst}
 use Rattle.equation_law.specs.Keys.{IsAsked, IsJust, IsKey, IsPrefix, IsReached, Part, Prefix, Word}
 use Rattle.equation_law.specs.Loops.{Chain}
 use Rattle.equation_law.specs.Names.{Attribute, Instance, Query}

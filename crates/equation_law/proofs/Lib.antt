@@ -30,6 +30,7 @@ pub mod Solution
 pub mod Sources
 mod Spanned
 pub mod Subtree
+pub mod Tied
 pub mod Typed
 pub mod TypedValues
 mod Worked

@@ -37,7 +37,11 @@ ByEachNaming p holds = (n : Naming) → IsNamingOf p n → holds n
 abbrev pub IsInOrder : Naming → Type 0
 IsInOrder n = (j k : ℕ) → j < k → node_cmp (n.node j) (n.node k) ≡ Less
 
--- it holds by each naming for the program whose codes are in the order of their nodes
+-- the namings for the program whose codes are in the order of their nodes
+abbrev pub NamesInOrder : Program → Naming → Type 0
+NamesInOrder p n = IsNamingOf p n × IsInOrder n
+
+-- it holds by each of these
 abbrev pub ByEachOrder : Program → (Naming → Type 0) → Type 0
 ByEachOrder p holds = (n : Naming) → IsNamingOf p n → IsInOrder n → holds n
 
@@ -49,6 +53,10 @@ source_names texts = record { text = texts; node = Source }
 abbrev pub reference_by : (ℕ → NodeName) → ℕ → Reference
 reference_by nodes zero = Null
 reference_by nodes (suc k) = At (nodes k)
+
+-- the code c stands for r, whatever was made: it is tied to it
+abbrev pub IsReference : Program → ℕ → Reference → Type 0
+IsReference p c r = ByEachNaming p (λ n. reference_by n.node c ≡ r)
 
 -- the nodes that some codes stand for; null is none
 abbrev pub nodes_by : (ℕ → NodeName) → List ℕ → List NodeName
@@ -106,6 +114,10 @@ value_coded n (kinds.Nodes d) c = default_of (kinds.Nodes d)
 abbrev pub value_at : (ℕ → List ℕ) → Kind → ℕ → Value
 value_at texts k c = value_coded (source_names texts) k c
 
+-- the code c of a type stands for the value x, whatever was made
+abbrev pub IsValueCode : Program → Kind → ℕ → Value → Type 0
+IsValueCode p k c x = ByEachNaming p (λ n. value_coded n k c ≡ x)
+
 -- the codes of some arguments
 abbrev pub codes_in : Args → List ℕ
 codes_in xs = take xs.count (xs.first ∷ xs.second ∷ xs.third ∷ [])
@@ -118,6 +130,10 @@ arguments_by n (k ∷ ks) (c ∷ cs) = as_argument k (value_coded n k c) ∷ arg
 
 abbrev pub arguments_at : (ℕ → List ℕ) → List Kind → List ℕ → List Argument
 arguments_at texts ks cs = arguments_by (source_names texts) ks cs
+
+-- codes for parameters of these types stand for the arguments xs, whatever was made
+abbrev pub AreArgumentCodes : Program → List Kind → List ℕ → List Argument → Type 0
+AreArgumentCodes p ks cs xs = ByEachNaming p (λ n. arguments_by n ks cs ≡ xs)
 
 -- the arguments of an attribute that some codes stand for, by a naming
 abbrev pub arguments_for : Program → Naming → ℕ → Args → List Argument

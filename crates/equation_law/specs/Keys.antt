@@ -1,14 +1,14 @@
 -- What the instances of a set lead to, and the cells that they need: one for each instance to which they lead, one for each of the first of
 -- its arguments, and one for each word of its set in which an element lies. A set of instances is a test of membership.
-use Rattle.std.specs.Prelude.{◌≡◌, ℕ, Bool, true, false, ◌<◌, ◌/◌, ◌⊎◌, List, [], ◌∷◌, ◌++◌, length}
+use Rattle.std.specs.Prelude.{◌≡◌, ℕ, true, ◌<◌, ◌/◌, ◌⊎◌, List, [], ◌∷◌, ◌++◌, length}
 use Rattle.attr_rules.specs.declared.kinds.Kind.{Kind}
 use Rattle.attr_rules.specs.declared.kinds.Kind.TheVariants as kinds
 use Rattle.equation_law.specs.Checked.{IsNodeOf}
-use Rattle.equation_law.specs.Codes.{reference_of}
+use Rattle.equation_law.specs.Codes.{ByEachNaming, IsReference, reference_by}
 use Rattle.equation_law.specs.Equations.{HasValue, equations_of, kind_in}
 use Rattle.equation_law.specs.Loops.{Chain}
 use Rattle.equation_law.specs.Lower.{IsLower}
-use Rattle.equation_law.specs.Names.{Argument, Attribute, Instance, Query}
+use Rattle.equation_law.specs.Names.{Argument, Attribute, Instance, Query, Reference}
 use Rattle.equation_law.specs.Program.{Program, text_of}
 use Rattle.equation_law.specs.Sets.{has}
 use Rattle.equation_law.specs.Values.{Value, has_node, nodes, texts}
@@ -27,27 +27,27 @@ pub data Part : Type 0 where
   Prefix : Instance → Part
   Word : Instance → ℕ → Part
 
--- the code of a text of the program, or of a node of the class
+-- the code of a text of the program, or one that is tied to a node of the class
 abbrev pub IsElementCode : Program → Kind → ℕ → Type 0
 IsElementCode p kinds.Truth c = ⊥
 IsElementCode p kinds.Int c = ⊥
 IsElementCode p kinds.Text c = ⊥
 IsElementCode p (kinds.Node d) c = ⊥
 IsElementCode p kinds.Texts c = c < length p.texts
-IsElementCode p (kinds.Nodes d) c = (0 < c) × IsNodeOf p d (reference_of c)
+IsElementCode p (kinds.Nodes d) c = (0 < c) × ((r : Reference) × IsReference p c r × IsNodeOf p d r)
 
--- the text or the node of this code is in the set, by the texts that the numbers stand for
-abbrev pub has_code : (ℕ → List ℕ) → Kind → Value → ℕ → Bool
-has_code numbered kinds.Truth x c = false
-has_code numbered kinds.Int x c = false
-has_code numbered kinds.Text x c = false
-has_code numbered (kinds.Node d) x c = false
-has_code numbered kinds.Texts x c = has (texts x) (numbered c)
-has_code numbered (kinds.Nodes d) x c = has_node (nodes x) (reference_of c)
+-- the text of this code is in the set, or the node for which it stands by each naming
+abbrev pub HasCode : Program → Kind → Value → ℕ → Type 0
+HasCode p kinds.Truth x c = ⊥
+HasCode p kinds.Int x c = ⊥
+HasCode p kinds.Text x c = ⊥
+HasCode p (kinds.Node d) x c = ⊥
+HasCode p kinds.Texts x c = has (texts x) (text_of p c) ≡ true
+HasCode p (kinds.Nodes d) x c = ByEachNaming p (λ n. has_node (nodes x) (reference_by n.node c) ≡ true)
 
 -- a set in which the element of code c lies counts for i: its value in the solution, or one that it has under a lower assignment
 abbrev pub HasElement : Program → Instance → ℕ → Type 0
-HasElement p i c = ((x : Value) × HasValue p i x × (has_code (text_of p) (kind_in p i) x c ≡ true)) ⊎ ((T : Instance → Value) × IsLower p T × ((equations_of p).circular i ≡ true) × (has_code (text_of p) (kind_in p i) (T i) c ≡ true))
+HasElement p i c = ((x : Value) × HasValue p i x × HasCode p (kind_in p i) x c) ⊎ ((T : Instance → Value) × IsLower p T × ((equations_of p).circular i ≡ true) × HasCode p (kind_in p i) (T i) c)
 
 -- such an element lies in the word w of the set of i: a word has 64 codes
 pub record HasElementIn (p : Program) (i : Instance) (w : ℕ) : Type 0 where

@@ -3,10 +3,10 @@ use Rattle.std.specs.Prelude.{◌≡◌, Option, Some, None, Result, Ok, Err}
 use Rattle.rag_io.specs.declared.Memory.{Memory}
 use Rattle.equation_law.specs.declared.coding.Instance.{Instance as CodedInstance}
 use Rattle.equation_law.specs.declared.coding.Value.{Value as CodedValue}
-use Rattle.equation_law.specs.Codes.{AreElements, IsCoded, IsInOrder, IsNamingOf, Naming, instance_by, source_names, value_by, value_of}
+use Rattle.equation_law.specs.Codes.{AreElements, IsCoded, NamesInOrder, Naming, instance_by, value_by}
 use Rattle.equation_law.specs.Equations.{kind_in}
 use Rattle.equation_law.specs.Names.{Instance}
-use Rattle.equation_law.specs.Program.{Program, text_of}
+use Rattle.equation_law.specs.Program.{Program}
 use Rattle.equation_law.specs.Values.{Value, as_kind}
 
 -- What a reader tells in a state: the programs that it is for, the values that it has, those that it may come to have, the states of
@@ -22,26 +22,21 @@ pub record Told (S : Type 0) : Type 1 where
 abbrev pub ByEachIn : {S : Type 0} → Told S → (Naming → Type 0) → Type 0
 ByEachIn s holds = (n : Naming) → s.names n → holds n
 
--- it may be read by the names of source nodes
-abbrev pub ReadsSources : {S : Type 0} → Program → Told S → Type 0
-ReadsSources p s = s.names (source_names (text_of p))
-
 -- a reader for a program, which never has two values for one instance, and is read by namings for the program whose codes are in the order of their nodes
 pub record IsSound {S : Type 0} (p : Program) (r : Told S) : Type 0 where
   pub for : r.for p
   pub within : (i : Instance) (v : Value) → r.has i v → r.can i v
   pub one_value : (i : Instance) (v w : Value) → r.can i v → r.can i w → v ≡ w
-  pub named : ByEachIn r (λ n. IsNamingOf p n × IsInOrder n)
+  pub named : ByEachIn r (NamesInOrder p)
 
 -- What it has it keeps, and it comes to have no other values than it might. By what it may be read then it might before: what stands for a node
--- goes on to. By the names of source nodes it may be read on.
+-- goes on to.
 pub record Grows {S : Type 0} (p : Program) (r s : Told S) : Type 0 where
   pub sound : IsSound p s
   pub values : (i : Instance) (v : Value) → r.has i v → s.has i v
   pub bound : (i : Instance) (v : Value) → s.can i v → r.can i v
   pub kept : (x : S) → r.keeps x → s.keeps x
   pub names : ByEachIn s r.names
-  pub sources : ReadsSources p r → ReadsSources p s
 
 -- an answer for an instance by a naming, read at the type of the instance, by what the reader has at the end of the call
 abbrev pub HasThere : {S : Type 0} → Program → Told S → Instance → Value → Type 0
@@ -55,12 +50,6 @@ abbrev pub Settles : {S : Type 0} → Program → Told S → (Naming → Instanc
 Settles p s at (Ok (Some v)) = ByEachIn s (λ n. HasThere p s (at n) (value_by n v)) × AreElements p v
 Settles p s at (Ok None) = ByEachIn s (λ n. HasNone s (at n))
 Settles p s at (Err m) = Unit {0}
-
--- the same by the names of source nodes alone
-abbrev pub SettlesSources : {S : Type 0} → Program → Told S → Instance → Result (Option CodedValue) Memory → Type 0
-SettlesSources p s i (Ok (Some v)) = HasThere p s i (value_of (text_of p) v) × AreElements p v
-SettlesSources p s i (Ok None) = HasNone s i
-SettlesSources p s i (Err m) = Unit {0}
 
 pub record SettledBy {S : Type 0} (r s : Told S) (i : CodedInstance) (result : Result (Option CodedValue) Memory) : Type 0 where
   pub kept : (p : Program) → IsSound p r → Grows p r s

@@ -5,7 +5,7 @@ use rag_io::Memory;
 use std::alloc::Global;
 
 /// Values of instances. A reader never has two values for one instance, and what it has it keeps. What it tells is a relation of instances
-/// and values.
+/// and values, and by which namings its codes may be read.
 pub trait Reader {
     ghost use Rattle.equation_law.specs.Reading.{SettledBy, Told};
 

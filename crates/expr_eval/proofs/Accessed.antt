@@ -1,5 +1,5 @@
 -- What accessors answer of a node by its code, by each naming: past the tree there is nothing.
-use Rattle.std.proofs.Common.{◌≡◌, ℕ, zero, suc, ◌<◌, ◌≤◌, Bool, true, false, cond, Option, Some, None, is_some, ℤ, pos, length, refl, sym, ap, ◌∙◌, inl, inr}
+use Rattle.std.proofs.Common.{◌≡◌, ℕ, zero, suc, ◌<◌, ◌≤◌, Bool, true, false, cond, Option, Some, None, is_some, pos, length, refl, sym, ap, ◌∙◌, inl, inr}
 use Rattle.std.proofs.lemmas.Bool.{cases_lt}
 use Rattle.std.proofs.lemmas.Option.{slice_get_past}
 use Rattle.ast_grammar.specs.declared.grammar.ClassId.{ClassId}
@@ -8,11 +8,11 @@ use Rattle.attr_rules.specs.declared.kinds.Kind.TheVariants as kinds
 use Rattle.attr_rules.specs.Types.{is_below}
 use Rattle.solutions.specs.Asking.{Gives}
 use Rattle.std.specs.Option.{option_map}
-use Rattle.tree_arena.specs.Nodes.{Node as TreeNode, child_in, count_in, token_in}
+use Rattle.tree_arena.specs.Nodes.{Node as TreeNode, child_in, token_in}
 use Rattle.tree_arena.specs.Terms.{IsTree}
 use Rattle.equation_law.specs.Codes.{IsNamingOf, Naming, reference_by, reference_of, value_coded}
 use Rattle.equation_law.specs.Equations.{count_of, decoded, element_of, is_of_class, source_or_null, token_of, world_of}
-use Rattle.equation_law.specs.Meaning.{cast_to, child_at, count_at, element_at, is_instance, is_there, token_at}
+use Rattle.equation_law.specs.Meaning.{cast_to, child_at, element_at, is_instance, is_there}
 use Rattle.equation_law.specs.Names.{At, NodeName, Null, Reference, Source}
 use Rattle.equation_law.specs.Program.{Program, class_of, text_of}
 use Rattle.equation_law.specs.Values.{default_of}

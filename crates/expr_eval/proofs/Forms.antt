@@ -14,34 +14,34 @@ use Rattle.equation_law.specs.declared.coding.Value.{Value as CodedValue}
 use Rattle.equation_law.specs.declared.coding.Value.TheVariants as coded
 use Rattle.equation_law.specs.Codes.{AreElements, ByEachNaming, IsInOrder, IsNamingOf, Naming, instance_by, reference_by, value_by}
 use Rattle.equation_law.specs.Equations.{world_of}
-use Rattle.equation_law.specs.Meaning.{Place, World, call_at, meaning_of, token_at, with_arguments}
+use Rattle.equation_law.specs.Meaning.{Place, World, call_at, token_at, with_arguments}
 use Rattle.equation_law.specs.Names.{Instance, Reference}
 use Rattle.equation_law.specs.Program.{Program, attribute_parameters}
 use Rattle.equation_law.specs.Reading.{ByEachIn, Grows, IsSound, Told}
 use Rattle.equation_law.specs.Values.{Value, Truth, node, truth}
 use Rattle.expr_eval.specs.declared.evaluation.Halt.{Halt}
 use Rattle.expr_eval.specs.declared.evaluation.Halt.TheVariants.{Need, Memory}
-use Rattle.expr_eval.specs.Evaluating.{Answers, AreValues, Asks, CallReads, Collects, Comes, Given, Places, TokenReads, Wants, end, more, read_at, reads_at}
+use Rattle.expr_eval.specs.Evaluating.{Answers, Asks, CallReads, Collects, Comes, Given, Places, TokenReads, Wants, end, more, read_at, reads_at}
 use Rattle.expr_eval.specs.Parts.{IsMade, IsRounded, IsSaid, OneMakes, TwoMake, is_leaf, leaf_value, made_of_one, made_of_two, part_of, parts_of, token_read}
 use Rattle.expr_eval.specs.Reads.{Advances, ArgumentsRead, IsReady, Reads, State, state}
 use Rattle.expr_eval.proofs.Growing.{comes_more, saved_more}
 
 -- what it has it keeps
 pub grows_self : {S : Type 0} {p : Program} {r : Told S} → IsSound p r → Grows p r r
-grows_self h = record { sound = h; values = λ i v a. a; bound = λ i v a. a; kept = λ x a. a; names = λ n a. a; sources = λ a. a }
+grows_self h = record { sound = h; values = λ i v a. a; bound = λ i v a. a; kept = λ x a. a; names = λ n a. a }
 
 pub grows_then : {S : Type 0} {p : Program} {r m s : Told S} → Grows p r m → Grows p m s → Grows p r s
-grows_then g h = record { sound = h.sound; values = λ i v a. h.values i v (g.values i v a); bound = λ i v a. g.bound i v (h.bound i v a); kept = λ x a. h.kept x (g.kept x a); names = λ n a. g.names n (h.names n a); sources = λ a. h.sources (g.sources a) }
+grows_then g h = record { sound = h.sound; values = λ i v a. h.values i v (g.values i v a); bound = λ i v a. g.bound i v (h.bound i v a); kept = λ x a. h.kept x (g.kept x a); names = λ n a. g.names n (h.names n a) }
 
 pub advances_self : {S : Type 0} {p : Program} {r : State S} → IsReady p r → Advances p r r
-advances_self h = record { sound = h; values = λ i v a. a; bound = λ i v a. a; kept = λ x a. a; names = λ n a. a; sources = λ a. a }
+advances_self h = record { sound = h; values = λ i v a. a; bound = λ i v a. a; kept = λ x a. a; names = λ n a. a }
 
 pub advances_then : {S : Type 0} {p : Program} {r m s : State S} → Advances p r m → Advances p m s → Advances p r s
-advances_then g h = record { sound = h.sound; values = λ i v a. h.values i v (g.values i v a); bound = λ i v a. g.bound i v (h.bound i v a); kept = λ x a. h.kept x (g.kept x a); names = λ n a. g.names n (h.names n a); sources = λ a. h.sources (g.sources a) }
+advances_then g h = record { sound = h.sound; values = λ i v a. h.values i v (g.values i v a); bound = λ i v a. g.bound i v (h.bound i v a); kept = λ x a. h.kept x (g.kept x a); names = λ n a. g.names n (h.names n a) }
 
 -- the reader alone goes on
 pub advances_read : {S : Type 0} {p : Program} {r : State S} {s : Told S} → IsReady p r → Grows p r.told s → Advances p r (state r.system s r.saved)
-advances_read {r = r} h g = record { sound = record { sound = g.sound; saved = saved_more g.values g.names r.saved h.saved }; values = g.values; bound = g.bound; kept = g.kept; names = g.names; sources = g.sources }
+advances_read {r = r} h g = record { sound = record { sound = g.sound; saved = saved_more g.values g.names r.saved h.saved }; values = g.values; bound = g.bound; kept = g.kept; names = g.names }
 
 -- by what it may be read is a naming for the program
 pub naming_in : {S : Type 0} {p : Program} {r s : State S} → Advances p r s → (n : Naming) → s.told.names n → IsNamingOf p n × IsInOrder n

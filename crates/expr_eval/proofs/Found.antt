@@ -174,7 +174,7 @@ past_query p q past = ap (λ (o : Option Asked). option_map (λ x. record { body
 
 -- going on is an evaluation
 pub evaluated : {S : Type 0} {p : Program} {s : System} {r t : Told S} {x y : Saved} {c : Asks} {res : Result Turn NoMemory} → Resumes p (state s r x) (state s t y) c res → Evaluates p r t c res
-evaluated h = record { kept = record { sound = h.kept.sound.sound; values = h.kept.values; bound = h.kept.bound; kept = h.kept.kept; names = h.kept.names; sources = h.kept.sources }; answer = h.answer }
+evaluated h = record { kept = record { sound = h.kept.sound.sound; values = h.kept.values; bound = h.kept.bound; kept = h.kept.kept; names = h.kept.names }; answer = h.answer }
 
 -- where nothing is saved
 pub none_saved : {S : Type 0} {s : System} {t : Told S} (x : Saved) → SavesNothing x → AreSaved s t x

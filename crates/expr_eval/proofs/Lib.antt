@@ -1,6 +1,5 @@
 pub mod Accessed
 pub mod Bound
-pub mod BySources
 pub mod Calls
 pub mod Forms
 pub mod Found

@@ -165,11 +165,11 @@ taken {t = t} c e x {found = found} all h =
 module _ {S : Type 0} {p : Program} {q : State S} {s : System} {r : Told S} {x : Saved} where
   -- less is saved
   pub loses : (y : Saved) → Advances p q (state s r x) → Loses x y → Advances p q (state s r y)
-  loses y h less = record { sound = record { sound = h.sound.sound; saved = λ g kept. h.sound.saved g (less g kept) }; values = h.values; bound = h.bound; kept = h.kept; names = h.names; sources = h.sources }
+  loses y h less = record { sound = record { sound = h.sound.sound; saved = λ g kept. h.sound.saved g (less g kept) }; values = h.values; bound = h.bound; kept = h.kept; names = h.names }
 
   -- one more is saved
   pub puts : (y : Saved) (one : Going) → Advances p q (state s r x) → AddsOne x y one → IsGoing s r one → Advances p q (state s r y)
-  puts y one h more is = record { sound = record { sound = h.sound.sound; saved = λ g kept. of g (more g kept) }; values = h.values; bound = h.bound; kept = h.kept; names = h.names; sources = h.sources }
+  puts y one h more is = record { sound = record { sound = h.sound.sound; saved = λ g kept. of g (more g kept) }; values = h.values; bound = h.bound; kept = h.kept; names = h.names }
     where
       of : (g : Going) → Contains x.goings.items g ⊎ (g ≡ one) → IsGoing s r g
       of g (inl there) = h.sound.saved g there

@@ -1,5 +1,4 @@
 pub mod Bound
-pub mod BySources
 pub mod Elements
 pub mod Evaluating
 pub mod Going

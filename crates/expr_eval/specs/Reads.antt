@@ -17,7 +17,7 @@ use Rattle.equation_law.specs.Codes.{Naming, single_by}
 use Rattle.equation_law.specs.Meaning.{with_name}
 use Rattle.equation_law.specs.Names.{Instance}
 use Rattle.equation_law.specs.Program.{Program}
-use Rattle.equation_law.specs.Reading.{ByEachIn, IsSound, ReadsSources, Told}
+use Rattle.equation_law.specs.Reading.{ByEachIn, IsSound, Told}
 use Rattle.equation_law.specs.Systems.{program_of}
 use Rattle.equation_law.specs.Values.{Value}
 use Rattle.expr_eval.specs.declared.accessors.Elements.{Elements}
@@ -53,7 +53,6 @@ pub record Advances {S : Type 0} (p : Program) (r s : State S) : Type 0 where
   pub bound : (i : Instance) (v : Value) → s.told.can i v → r.told.can i v
   pub kept : (x : S) → r.told.keeps x → s.told.keeps x
   pub names : ByEachIn s.told r.told.names
-  pub sources : ReadsSources p r.told → ReadsSources p s.told
 
 -- the answer to an expression, by what the reader has at the end
 pub record Reads {S : Type 0} (p : Program) (r s : State S) (place : Places) (e : Expression) (result : Result CodedValue Halt) : Type 0 where

@@ -1,5 +1,5 @@
 // The meaning of an expression under what a reader has.
-ghost use Rattle.std.specs.Prelude.{◌≡◌, ◌<◌, pos, [], IfOk, OnOk, cond, length, true};
+ghost use Rattle.std.specs.Prelude.{◌≡◌, ◌<◌, [], IfOk, OnOk, length, true};
 ghost use Rattle.attr_rules.specs.Expression.{expression_of};
 ghost use Rattle.attr_rules.specs.Types.{parameter_kinds, text_kind};
 ghost use Rattle.equation_law.specs.Codes.{AreCodes, AreElements, ByEachNaming, IsCode, IsCoded, IsRow, Naming, codes_in, single_by, value_by, value_coded};

@@ -1,8 +1,6 @@
 // Operators on values.
-ghost use Rattle.std.specs.Prelude.{◌≡◌, ◌<◌, ◌||◌, ℕ, List, [], neg_ℤ, not, length, slice_index_or};
-ghost use Rattle.std.specs.Int.{int_wrap};
+ghost use Rattle.std.specs.Prelude.{◌≡◌, ◌<◌, [], length, slice_index_or};
 ghost use Rattle.std.specs.Str.{bytes_eq};
-ghost use mir.Syntax.{w32};
 ghost use Rattle.rag_io.specs.Pool.{ArePooled};
 ghost use Rattle.equation_law.specs.Codes.{ByEachNaming, reference_by, value_by};
 ghost use Rattle.equation_law.specs.Meaning.{equal as same_value, operate as operated_by};

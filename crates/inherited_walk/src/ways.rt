@@ -1,5 +1,5 @@
 // Ways upwards that were climbed already.
-ghost use Rattle.std.specs.Prelude.{◌≡◌, ◌<◌, ◌≤◌, ◌⊎◌, ℕ, List, IfSome, None, Some, length, false};
+ghost use Rattle.std.specs.Prelude.{◌≡◌, ◌<◌, ◌⊎◌, ℕ, List, IfSome, None, Some, length, false};
 ghost use Rattle.std.specs.HashMap.{get};
 ghost use Rattle.tree_arena.specs.Nodes.{most_nodes, parent_in};
 ghost use Rattle.equation_law.specs.Codes.{IsRow};

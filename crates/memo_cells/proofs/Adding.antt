@@ -10,7 +10,7 @@ use Rattle.equation_law.specs.Equations.{equations_of, kind_in}
 use Rattle.equation_law.specs.Loops.{fits_in, join_in, order_in}
 use Rattle.equation_law.specs.Names.{Instance}
 use Rattle.equation_law.specs.Orders.{IsAtMost}
-use Rattle.equation_law.specs.Program.{Program, text_of}
+use Rattle.equation_law.specs.Program.{Program}
 use Rattle.equation_law.specs.Systems.{program_of}
 use Rattle.equation_law.specs.Values.{truth}
 use Rattle.equation_law.proofs.Solution.{are_joins, are_rising}
@@ -92,7 +92,7 @@ module _ (f : Frame) (ts ks vs : List ℕ) (lk : length ks ≡ f.cells) (lv : le
           of = may.of;
           word = may.word;
           key = word_later v (knows_all f ts ks (put word)) add_more p may.key may.of may.word may.is;
-          part = ⊎_elim (λ a. inl (a.0, has_code_more (text_of p) (kind_in p may.of) may.value (grown.values may.of) (64 * may.word + n) (grown.reaches a.0) in_value)) (λ a. inr (a.0, (may.value, a.1, in_value))) may.may;
+          part = ⊎_elim (λ a. inl (a.0, has_code_more p (kind_in p may.of) may.value (grown.values may.of) (64 * may.word + n) (grown.reaches a.0) in_value)) (λ a. inr (a.0, (may.value, a.1, in_value))) may.may;
           code = (may.elements n low one).0;
         }))
 

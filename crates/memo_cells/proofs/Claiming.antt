@@ -8,7 +8,7 @@ use Rattle.equation_law.specs.Names.{Instance}
 use Rattle.equation_law.specs.Program.{Program}
 use Rattle.memo_cells.specs.declared.view.Frame.{Frame}
 use Rattle.memo_cells.specs.declared.view.View.{View}
-use Rattle.memo_cells.specs.Claiming.{ClaimsKeys, ClaimsKeysOf, FillsCells, FillsCellsOf, IsKeyOf, IsKeyOfPart}
+use Rattle.memo_cells.specs.Claiming.{ClaimsKeys, ClaimsKeysOf, FillsCells, IsKeyOf, IsKeyOfPart}
 use Rattle.memo_cells.specs.Naming.{ClaimsKeysTo, IsKeyTo, LacksCell}
 use Rattle.memo_cells.specs.SetRaising.{ClaimsWords, IsWordWith, LacksWord}
 use Rattle.memo_cells.specs.Views.{Has, IsAtLeast, times}

@@ -1,5 +1,5 @@
 -- What the single steps tell a pass that has the words itself.
-use Rattle.std.proofs.Common.{◌≡◌, ◌≢◌, ◌↔◌, ℕ, false, ◌+◌, ◌-◌, ◌*◌, ◌<◌, ◌≤◌, ◌^◌, ◌⊎◌, inl, inr, List, [], ◌∷◌, length, get_or, set, eqb, ne_eqb, if◌then◌else◌, sym, refl, ap, ⊎_elim, ◌∙◌, subst, arith, Option, Some, get_or-set_same, length-set}
+use Rattle.std.proofs.Common.{◌≡◌, ◌≢◌, ◌↔◌, ℕ, false, ◌+◌, ◌-◌, ◌*◌, ◌<◌, ◌≤◌, ◌^◌, ◌⊎◌, inl, inr, List, [], ◌∷◌, length, get_or, set, eqb, ne_eqb, if◌then◌else◌, sym, refl, ap, ⊎_elim, ◌∙◌, subst, arith, Some, get_or-set_same, length-set}
 use Rattle.std.specs.Int.{bit_at}
 use mathlib.Core.Logic.{dite}
 use native.Mathlib.Decide.{ℕ_discrete}
@@ -19,16 +19,16 @@ use Rattle.equation_law.specs.Names.{Instance}
 use Rattle.equation_law.specs.Values.{Value}
 use Rattle.memo_cells.specs.declared.learning.Step.TheVariants.{Claim, Key, Value as LeftValue}
 use Rattle.memo_cells.specs.Keys.{is_set_word, start}
-use Rattle.memo_cells.specs.Learning.{after, bits_said, cells_in, values_said}
+use Rattle.memo_cells.specs.Learning.{after, bits_said, values_said}
 use Rattle.memo_cells.specs.Naming.{IsFormed, IsNamed, StandsFor}
 use Rattle.memo_cells.specs.Showing.{ShowsAtMost, ShowsCode}
 use Rattle.memo_cells.specs.Standing.{AreApproximations, AreWords, IsCodeOf, IsMissing, IsPassOf, IsSeatOf, IsTold, IsValueWord, IsWordOfValue, Knows, MaySettle}
 use Rattle.memo_cells.specs.Steps.{BitsSeen, KeySeen, KeyTried, ValueSeen, ValueTried}
-use Rattle.memo_cells.specs.Views.{Has, IsAtLeast, IsFull, IsNowhere, IsPassed, IsPlain, first_view, key_word_at, knows_all, value_word_at}
+use Rattle.memo_cells.specs.Views.{Has, IsAtLeast, IsFull, IsNowhere, IsPassed, IsPlain, first_view, key_word_at, knows_all}
 use Rattle.memo_cells.specs.Words.{Before}
 use Rattle.memo_cells.proofs.Alone.{free_now, kept_after, kept_value, known_stands, nowhere_now, ordered_after, read_at, unset_now, valued_after, word_high, word_small}
 use Rattle.memo_cells.proofs.Bits.{bits_has, has_bits, has_either, has_left}
-use Rattle.memo_cells.proofs.Learnt.{bits_said_has, claim_told, key_told, said_values, told_least, value_told, values_said_has, with_key_here}
+use Rattle.memo_cells.proofs.Learnt.{bits_said_has, claim_told, key_told, said_values, told_least, value_told, values_said_has, value_logged, with_key_here}
 use Rattle.memo_cells.proofs.Lifting.{may_settle_later}
 use Rattle.memo_cells.proofs.Meaning.{approximations, bit_keyed, final_at, one_there, set_bits, settled_shown}
 use Rattle.memo_cells.proofs.More.{at_least_itself, at_least_then, other_later}
@@ -351,7 +351,7 @@ module _ (f : Frame) (ks vs : List ℕ) (lk : length ks ≡ f.cells) (lv : lengt
       code = is_small found found vs lv o (at_least_itself u) found_at plain;
       others = were_others found found vs lv o (at_least_itself u) found_at;
       claims = refl;
-      log = ap (λ (n : Option Frame). (value_word_at (cells_in n) place, found) ∷ v.found) own.frame;
+      log = value_logged v place found found own.frame;
     }
 
   -- ---- a value was settled, or was so already

@@ -1,8 +1,6 @@
 -- What a reader tells that holds a pass, and that it goes on at the same cells.
 use Rattle.std.proofs.Common.{refl, sym, subst, ℕ, ◌<◌, ◌^◌, List, reverse, ◌∙◌}
-use Rattle.equation_law.specs.Codes.{IsInOrder, IsNamingOf, Naming}
 use Rattle.equation_law.specs.Names.{Instance, Query}
-use Rattle.equation_law.specs.Program.{Program}
 use Rattle.equation_law.specs.Systems.{program_of}
 use Rattle.memo_cells.specs.declared.view.Frame.{Frame}
 use Rattle.memo_cells.specs.Causes.{WhyMissing}
@@ -11,15 +9,10 @@ use Rattle.memo_cells.proofs.Causes.{log_itself, log_then, missing_since}
 use Rattle.memo_cells.specs.Naming.{IsCellOf, IsFormed}
 use Rattle.memo_cells.specs.Standing.{IsPassOf}
 use Rattle.memo_cells.specs.Views.{IsFull, IsSlot}
-use Rattle.equation_law.proofs.Sources.{source_naming}
-use Rattle.memo_cells.specs.Working.{GoesOn, HasCell, Held, IsOwn, NamesSources, ReadsOn, TellsPass, WhyMissingAt, program_at, told_by}
+use Rattle.memo_cells.specs.Working.{GoesOn, HasCell, Held, IsOwn, ReadsOn, TellsPass, WhyMissingAt, program_at, told_by}
 use Rattle.memo_cells.proofs.More.{at_least_itself, at_least_then}
 use Rattle.memo_cells.proofs.Naming.{cell_later}
 use Rattle.memo_cells.proofs.Ways.{IsOnWay}
-
--- the names of source nodes are namings for the program, in order
-pub sources_only : (p : Program) (n : Naming) → NamesSources p n → IsNamingOf p n × IsInOrder n
-sources_only p n is = subst (λ (m : Naming). IsNamingOf p m × IsInOrder m) (sym is) (source_naming p)
 
 -- a reader that is seen as what it holds
 pub told_pass : (d : Held) → TellsPass (λ (x : Held). x) d (told_by d)
@@ -32,8 +25,8 @@ told_pass d = record {
   may = λ i w k. k;
   keeps = λ x k. k;
   itself = λ own. record { on = record { cells = refl; lender = refl; own = own; kept = at_least_itself d.view; log = log_itself d.view }; claims = refl };
-  sources = refl;
-  named = λ n is. sources_only (program_at d) n is;
+  each = λ n is order. (is, order);
+  named = λ n is. is;
 }
 
 pub own_then : (d e : Held) → GoesOn d e → IsPassOf d.frame e.view

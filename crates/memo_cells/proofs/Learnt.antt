@@ -1,5 +1,5 @@
 -- What a pass knows after a step: nothing is unlearnt, and all of it stands in the words.
-use Rattle.std.proofs.Common.{◌≡◌, ◌≢◌, ℕ, zero, suc, false, ◌+◌, ◌-◌, ◌^◌, ◌<◌, ◌≤◌, ◌⊎◌, ◌&&◌, not, leb, eqb, inl, inr, ⊎_elim, List, [], ◌∷◌, ◌++◌, length, get_or, set, cond, if◌then◌else◌, refl, sym, ap, ◌∙◌, subst, arith, le_refl, eq-eqb, ne_eqb, length-set, get_or-set_other, get_or-set_same}
+use Rattle.std.proofs.Common.{◌≡◌, ◌≢◌, ℕ, zero, suc, false, ◌+◌, ◌-◌, ◌^◌, ◌<◌, ◌≤◌, ◌⊎◌, ◌&&◌, not, leb, eqb, inl, inr, ⊎_elim, List, [], ◌∷◌, ◌++◌, Option, Some, length, get_or, set, cond, if◌then◌else◌, refl, sym, ap, ◌∙◌, subst, arith, le_refl, eq-eqb, ne_eqb, length-set, get_or-set_other, get_or-set_same}
 use mathlib.Core.Logic.{dite}
 use native.Mathlib.Decide.{ℕ_discrete, dec_le}
 use Rattle.std.specs.Int.{bit_at}
@@ -8,9 +8,10 @@ use Rattle.memo_cells.specs.declared.learning.Step.TheVariants.{Claim, Key, Valu
 use Rattle.memo_cells.specs.declared.view.Frame.{Frame}
 use Rattle.memo_cells.specs.declared.view.View.{View}
 use Rattle.memo_cells.specs.Keys.{is_set_word}
-use Rattle.memo_cells.specs.Learning.{after, bits_said, forgotten, value_said, values_said, with_key}
+use Rattle.memo_cells.specs.Learning.{after, bits_said, cells_in, forgotten, value_said, values_said, with_key}
+use Rattle.memo_cells.specs.Causes.{LogsValue}
 use Rattle.memo_cells.specs.Standing.{IsPassOf, IsTold}
-use Rattle.memo_cells.specs.Views.{Has, IsAtLeast, bits_below, keys_from, knows_all, places_from, shown_bits, times}
+use Rattle.memo_cells.specs.Views.{Has, IsAtLeast, bits_below, keys_from, knows_all, places_from, shown_bits, times, value_word_at}
 use Rattle.memo_cells.proofs.Alone.{read_at}
 use Rattle.memo_cells.proofs.Bits.{below_has, bits_has, has_below, has_either, has_left, has_right}
 use Rattle.memo_cells.proofs.Places.{and_false, either_word, has_keys, keys_has, place_counted, places_same, some_place, values_has, zero_place}
@@ -134,6 +135,10 @@ module _ (v : View) (place : ℕ) where
 -- what is said of what a pass knew and knows, of the pass itself
 pub step_told : (P : View → View → Type 0) → {u v w x : View} → u ≡ v → x ≡ w → P u w → P v x
 step_told P is e h = subst (λ (y : View × View). P y.0 y.1) (λ i. (is i, sym e i)) h
+
+-- the log after a step on a value word
+pub value_logged : {f : Frame} (v : View) (place found left : ℕ) → v.frame ≡ Some f → LogsValue f v (after v (Value place found left)) place found
+value_logged v place found left is = ap (λ (n : Option Frame). (value_word_at (cells_in n) place, found) ∷ v.found) is
 
 pub own_inside : {f : Frame} {u v : View} → u ≡ v → IsPassOf f v → IsPassOf f u
 own_inside {f} is own = subst (λ (y : View). IsPassOf f y) (sym is) own

@@ -8,14 +8,15 @@ use Rattle.std.proofs.lemmas.Nat.Bits.{bit_at-zero, bit_at_lowest}
 use Rattle.attr_rules.specs.declared.kinds.Kind.{Kind}
 use Rattle.attr_rules.specs.declared.kinds.Kind.TheVariants as kinds
 use Rattle.attr_rules.specs.Rules.{is_single}
-use Rattle.equation_law.specs.Codes.{IsSmall, value_at}
+use Rattle.equation_law.specs.Codes.{IsSmall, IsValueCode, source_names, value_at}
 use Rattle.equation_law.specs.Equations.{HasValue, equations_of, kind_in}
-use Rattle.equation_law.specs.Keys.{IsElementCode, has_code}
+use Rattle.equation_law.specs.Keys.{HasCode, IsElementCode}
 use Rattle.equation_law.specs.Names.{Instance}
 use Rattle.equation_law.specs.Program.{Program, text_of}
 use Rattle.equation_law.specs.Systems.{program_of}
 use Rattle.equation_law.specs.Loops.{order_in}
 use Rattle.equation_law.specs.Values.{Value, as_kind, truth}
+use Rattle.equation_law.proofs.Codes.{sources_named}
 use Rattle.equation_law.proofs.Solution.{one}
 use Rattle.memo_cells.specs.declared.view.Frame.{Frame}
 use Rattle.memo_cells.specs.declared.view.View.{View}
@@ -46,9 +47,9 @@ set_bits k b set low = let all : shown_bits k ≡ 64 = ap (λ t. if◌then◌els
 module _ (p : Program) (i : Instance) (c : ℕ) (code : IsCodeOf p i c) (kind : kind_in p i ≡ kinds.Truth) where
   at_truth : (value_at (text_of p) kinds.Truth c ≡ as_kind kinds.Truth code.value) × (c ≤ 1)
   at_truth =
-      let both : ((is_single kinds.Truth ≡ true) → value_at (text_of p) kinds.Truth c ≡ as_kind kinds.Truth code.value) × IsSmall kinds.Truth c
-      = subst (λ (k : Kind). (is_single k ≡ true → value_at (text_of p) k c ≡ as_kind k code.value) × IsSmall k c) kind (code.coded, code.small) in
-      (both.0 refl, both.1)
+      let both : ((is_single kinds.Truth ≡ true) → IsValueCode p kinds.Truth c (as_kind kinds.Truth code.value)) × IsSmall kinds.Truth c
+      = subst (λ (k : Kind). (is_single k ≡ true → IsValueCode p k c (as_kind k code.value)) × IsSmall k c) kind (code.coded, code.small) in
+      (both.0 refl (source_names (text_of p)) (sources_named p), both.1)
 
   pub code_true : c % 2 ≡ 1 → truth code.value ≡ true
   code_true odd =
@@ -144,7 +145,7 @@ module _ (f : Frame) (ts ks vs : List ℕ) (lk : length ks ≡ f.cells) (lv : le
   part_shown : (i : Instance) (c : ℕ) → ShowsCode p v i c → IsPart p o.values i c
   part_shown i c h = (both_shown i c h).0
 
-  part_below : (i : Instance) (c : ℕ) → (equations_of p).circular i ≡ true → ShowsCode p v i c → has_code (text_of p) (kind_in p i) (o.values i) c ≡ true
+  part_below : (i : Instance) (c : ℕ) → (equations_of p).circular i ≡ true → ShowsCode p v i c → HasCode p (kind_in p i) (o.values i) c
   part_below i c circular h = ⊎_elim (λ a. a.1) (λ a. absurd (not_both a.0 circular)) (part_shown i c h)
 
   pub shown_at_most : (i : Instance) (k : Kind) → kind_in p i ≡ k → (equations_of p).circular i ≡ true → ShowsAtMost p v i k (o.values i)
@@ -152,8 +153,8 @@ module _ (f : Frame) (ts ks vs : List ℕ) (lk : length ks ≡ f.cells) (lv : le
   shown_at_most i kinds.Int e c = tt
   shown_at_most i kinds.Text e c = tt
   shown_at_most i (kinds.Node d) e c = tt
-  shown_at_most i kinds.Texts e c = λ x h. subst (λ (k : Kind). has_code (text_of p) k (o.values i) x ≡ true) e (part_below i x c h)
-  shown_at_most i (kinds.Nodes d) e c = λ x h. subst (λ (k : Kind). has_code (text_of p) k (o.values i) x ≡ true) e (part_below i x c h)
+  shown_at_most i kinds.Texts e c = λ x h. subst (λ (k : Kind). HasCode p k (o.values i) x) e (part_below i x c h)
+  shown_at_most i (kinds.Nodes d) e c = λ x h. subst (λ (k : Kind). HasCode p k (o.values i) x) e (part_below i x c h)
 
   -- a settled value is shown
   shown_at_least : (i : Instance) (k : Kind) (s key c : ℕ) → kind_in p i ≡ k → StandsFor p v key i → Has v.values (s, key, c) → (code : IsCodeOf p i c) → (is_single (kind_in p i) ≡ false → ShowsAtLeast p v i (kind_in p i) code.value) → ShowsAtLeast p v i k code.value

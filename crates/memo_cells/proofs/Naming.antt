@@ -2,10 +2,11 @@
 use Rattle.std.proofs.Common.{◌≡◌, ℕ, true, false, ◌^◌, ◌/◌, ◌<◌, List, [], ◌∷◌, reverse, refl, sym, ap, ◌∙◌, subst, arith, inl, inr, ⊎_elim, eq-eqb, ne_eqb}
 use Rattle.std.proofs.lemmas.List.{reverse-reverse}
 use Rattle.rag_io.specs.Pool.{ArePooled}
-use Rattle.equation_law.specs.Codes.{arguments_at, reference_of}
+use Rattle.equation_law.specs.Codes.{IsNamingOf, Naming, arguments_by, reference_by, source_names}
 use Rattle.equation_law.specs.Names.{Argument, Attribute, Instance, Query, Reference}
 use Rattle.equation_law.specs.Program.{Program, attribute_parameters, text_of}
-use Rattle.equation_law.proofs.Keys.{one_list, one_reference}
+use Rattle.equation_law.proofs.Codes.{one_reference, sources_named}
+use Rattle.equation_law.proofs.Keys.{one_list}
 use Rattle.memo_cells.specs.declared.view.Frame.{Frame}
 use Rattle.memo_cells.specs.declared.view.View.{View}
 use Rattle.memo_cells.specs.Keys.{argument_word, attribute_word, is_set_word, query_word, set_word}
@@ -115,12 +116,24 @@ module _ (v : View) (one_key : (s j k : ℕ) → Has v.keys (s, j) → Has v.key
   stands_once p k (Attribute a r xs) (Attribute b s ys) g h =
       let one = one_name k a g.node b h.node (reverse g.codes) (reverse h.codes) g.named h.named in
       let codes : g.codes ≡ h.codes = sym (reverse-reverse g.codes) ∙ ap reverse one.2 ∙ reverse-reverse h.codes in
-      let node : r ≡ s = sym g.at ∙ ap reference_of one.1 ∙ h.at in
-      let arguments : xs ≡ ys = sym g.arguments ∙ (λ i. arguments_at (text_of p) (attribute_parameters p (one.0 i)) (codes i)) ∙ h.arguments in
+      let n = source_names (text_of p) in
+      let named = sources_named p in
+      let node : r ≡ s = sym (g.at n named) ∙ ap (reference_by n.node) one.1 ∙ h.at n named in
+      let arguments : xs ≡ ys = sym (g.arguments n named) ∙ (λ i. arguments_by n (attribute_parameters p (one.0 i)) (codes i)) ∙ h.arguments n named in
       (λ i. Attribute (one.0 i) (node i) (arguments i))
   stands_once p k (Attribute a r xs) (Query q) g h = absurd (named_query v k a g.node (reverse g.codes) q g.named h.1)
   stands_once p k (Query q) (Attribute b s ys) g h = absurd (named_query v k b h.node (reverse h.codes) q h.named g.1)
   stands_once p k (Query q) (Query r) g h = let same : q ≡ r = omega (arith, sym g.1 ∙ h.1) in ap Query same
+
+  -- and what it stands for has the attribute, the node and the arguments of its codes, by each naming
+  pub stands_named : (p : Program) {m : Naming} → IsNamingOf p m → (k a n : ℕ) (cs : List ℕ) (j : Instance) → StandsFor p v k j → IsNamed v k a n (reverse cs) → Attribute a (reference_by m.node n) (arguments_by m (attribute_parameters p a) cs) ≡ j
+  stands_named p {m} h k a n cs (Attribute b r ys) g named =
+      let one = one_name k a n b g.node (reverse cs) (reverse g.codes) named g.named in
+      let codes : cs ≡ g.codes = sym (reverse-reverse cs) ∙ ap reverse one.2 ∙ reverse-reverse g.codes in
+      let node : reference_by m.node n ≡ r = ap (reference_by m.node) one.1 ∙ g.at m h in
+      let arguments : arguments_by m (attribute_parameters p a) cs ≡ ys = (λ i. arguments_by m (attribute_parameters p (one.0 i)) (codes i)) ∙ g.arguments m h in
+      (λ i. Attribute (one.0 i) (node i) (arguments i))
+  stands_named p h k a n cs (Query q) g named = absurd (named_query v k a n (reverse cs) q named g.1)
 
   -- what it stands for it stands for by a view that knows less, if that knows its way
   pub stands_back : (less : View) → IsAtLeast less v → (p : Program) (k a n : ℕ) (cs : List ℕ) (i : Instance) → IsNamed less k a n cs → StandsFor p v k i → StandsFor p less k i
@@ -155,7 +168,10 @@ module _ (v : View) (one_key : (s j k : ℕ) → Has v.keys (s, j) → Has v.key
   module _ (p : Program) (pooled : ArePooled p.texts) where
     -- the codes of an instance are one
     pub same_codes : (k l a : ℕ) (r : Reference) (xs : List Argument) (g : IsAttributeKey p v k a r xs) (h : IsAttributeKey p v l a r xs) → (g.node ≡ h.node) × (g.codes ≡ h.codes)
-    same_codes k l a r xs g h = (one_reference g.node h.node (g.at ∙ sym h.at), one_list p pooled (attribute_parameters p a) g.codes h.codes g.good h.good (g.arguments ∙ sym h.arguments))
+    same_codes k l a r xs g h =
+        let n = source_names (text_of p) in
+        let named = sources_named p in
+        (one_reference named g.node h.node (g.at n named ∙ sym (h.at n named)), one_list p pooled named (attribute_parameters p a) g.codes h.codes g.good h.good (g.arguments n named ∙ sym (h.arguments n named)))
 
     -- so an instance has one word
     pub word_once : (k l : ℕ) (i : Instance) → StandsFor p v k i → StandsFor p v l i → k ≡ l

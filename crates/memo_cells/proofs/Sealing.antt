@@ -4,6 +4,7 @@ use mathlib.Core.Logic.{dite}
 use native.Mathlib.Decide.{ℕ_discrete, dec_le}
 use Rattle.std.specs.Int.{bit_at}
 use Rattle.std.proofs.lemmas.Nat.Bits.{bit_at_lowest}
+use Rattle.std.proofs.lemmas.Option.{get_or_from_slice_get}
 use Rattle.solutions.specs.Asking.{Demands, Ends, Meets, asks, gives, here, later}
 use Rattle.solutions.specs.Leading.{IsClosed, Read, fixed, inside, known}
 use Rattle.solutions.specs.Rounds.{is_in}
@@ -12,12 +13,12 @@ use Rattle.solutions.proofs.Lower.{lower_below}
 use Rattle.attr_rules.specs.declared.kinds.Kind.{Kind}
 use Rattle.attr_rules.specs.declared.kinds.Kind.TheVariants as kinds
 use Rattle.attr_rules.specs.Rules.{is_single}
-use Rattle.equation_law.specs.Codes.{IsSmall, value_at}
+use Rattle.equation_law.specs.Codes.{IsSmall, IsValueCode}
 use Rattle.equation_law.specs.Equations.{HasValue, equations_of, kind_in}
 use Rattle.equation_law.specs.Loops.{fits_in, join_in, order_in}
 use Rattle.equation_law.specs.Names.{Instance}
 use Rattle.equation_law.specs.Orders.{IsAtMost, FitsKind}
-use Rattle.equation_law.specs.Program.{Program, text_of}
+use Rattle.equation_law.specs.Program.{Program}
 use Rattle.equation_law.specs.Systems.{program_of}
 use Rattle.equation_law.specs.Values.{Truth, Value, as_kind, truth}
 use Rattle.equation_law.proofs.Orders.{at_most_itself, at_most_through}
@@ -30,7 +31,8 @@ use Rattle.memo_cells.specs.Keys.{is_set_word}
 use Rattle.memo_cells.specs.Naming.{StandsFor}
 use Rattle.memo_cells.specs.declared.learning.Step.TheVariants.{Value as LeftValue}
 use Rattle.memo_cells.specs.Learning.{after, values_said}
-use Rattle.memo_cells.specs.Sealing.{AreSealedTo, AreSealing, SealsAll, SealsOn, SealsTo, TellsNext, TellsSealed, places, places_left}
+use Rattle.memo_cells.specs.Causes.{LogsValue}
+use Rattle.memo_cells.specs.Sealing.{AreSealedTo, AreSealing, LogsNext, SealsAll, SealsOn, SealsTo, TellsNext, TellsSealed, places, places_left}
 use Rattle.memo_cells.specs.Showing.{ShowsAtLeast, ShowsTrue}
 use Rattle.memo_cells.specs.Standing.{AreWords, IsCodeOf, IsFinal, IsLowerOf, IsNoted, IsPassOf, IsRaised, IsSafe, IsSeatOf, IsSettled, IsSettledBy, IsTold, Knows, MaySeal}
 use Rattle.memo_cells.specs.Steps.{AreSealed, IsSealedAt}
@@ -39,7 +41,7 @@ use Rattle.memo_cells.proofs.Alone.{kept_words, key_there, read_at, words_after}
 use Rattle.memo_cells.proofs.Bits.{has_bits, has_left}
 use Rattle.memo_cells.proofs.Causes.{log_itself, log_one, log_then}
 use Rattle.memo_cells.proofs.Facts.{pass_of, told_own}
-use Rattle.memo_cells.proofs.Learnt.{least_any, told_least, value_learnt, value_told, values_said_has}
+use Rattle.memo_cells.proofs.Learnt.{least_any, told_least, value_learnt, value_logged, value_told, values_said_has}
 use Rattle.memo_cells.proofs.Marking.{mark_high, mark_is, mark_low, none_after, number_of, place_is, slot_among, slot_left}
 use Rattle.memo_cells.proofs.Lifting.{may_seal_later}
 use Rattle.memo_cells.proofs.Meaning.{approximations, one_there, settled_shown, shown_at_most}
@@ -199,11 +201,11 @@ module _ (f : Frame) (slot : ℕ) (us ks vs slots : List ℕ) (sealing : AreSeal
     unraised : (kind_in p i ≡ kinds.Truth → ⊥) → get_or vs s 0 ≡ 0
     unraised other = dite (ℕ_discrete (get_or vs s 0) 0) (λ z. z) (λ nz. absurd (other (raised_true nz).1))
 
-    coded_as : (t : Kind) → kind_in p i ≡ t → FitsKind t (may.values i) → (is_single t ≡ true → value_at (text_of p) t (get_or vs s 0) ≡ as_kind t (may.values i)) × IsSmall t (get_or vs s 0)
+    coded_as : (t : Kind) → kind_in p i ≡ t → FitsKind t (may.values i) → (is_single t ≡ true → IsValueCode p t (get_or vs s 0) (as_kind t (may.values i))) × IsSmall t (get_or vs s 0)
     coded_as kinds.Truth e fit =
         dite (ℕ_discrete (get_or vs s 0) 0)
-        (λ z. ((λ _. ap (λ (y : ℕ). Truth (not (eqb y 0))) z ∙ ap Truth (sym (is_false (truth (may.values i)) (not_raised e z)))), omega (arith, z)))
-        (λ nz. let r = raised_true nz in ((λ _. ap (λ (y : ℕ). Truth (not (eqb y 0))) r.0 ∙ ap Truth (sym r.2)), omega (arith, r.0)))
+        (λ z. ((λ _ n h. ap (λ (y : ℕ). Truth (not (eqb y 0))) z ∙ ap Truth (sym (is_false (truth (may.values i)) (not_raised e z)))), omega (arith, z)))
+        (λ nz. let r = raised_true nz in ((λ _ n h. ap (λ (y : ℕ). Truth (not (eqb y 0))) r.0 ∙ ap Truth (sym r.2)), omega (arith, r.0)))
     coded_as kinds.Int e fit = elim fit [ ]
     coded_as kinds.Text e fit = elim fit [ ]
     coded_as (kinds.Node d) e fit = elim fit [ ]
@@ -427,6 +429,13 @@ module _ (f : Frame) (slots : List Slot) (n : ℕ) (ks vs : List ℕ) (d : Slot)
             (word - 2 ^ 63, subst (λ (q : ℕ). Has (after v (LeftValue place found word)).values (q, k, word - 2 ^ 63)) (sym here) (has_left (values_said place word v.keys) v.values (place, k, word - 2 ^ 63) (values_said_has place word k v.keys known (omega (arith, is, high)) plain)));
         claims = refl;
       }
+
+-- and what stood there is logged
+pub next_found : (f : Frame) (slots : List Slot) (n : ℕ) (vs : List ℕ) (d : Slot) (v : View) → v.frame ≡ Some f → (place found word : ℕ) → place ≡ (get_or slots n d).0 → found ≡ get_or vs place found → LogsNext f slots n vs v (after v (LeftValue place found word))
+next_found f slots n vs d v is place found word e seen s x at there =
+    let here : place ≡ s = e ∙ sym (place_is slots n d s at) in
+    let same : found ≡ x = seen ∙ ap (λ (q : ℕ). get_or vs q found) here ∙ get_or_from_slice_get vs s x found there in
+    subst (λ (y : ℕ × ℕ). LogsValue f v (after v (LeftValue place found word)) y.0 y.1) (λ i. (here i, same i)) (value_logged v place found word is)
 
 -- from none to all of them
 pub seals_none : (f : Frame) (slots left ks vs : List ℕ) → AreSealing f slots left ks vs → SealsOn f slots left left ks vs vs

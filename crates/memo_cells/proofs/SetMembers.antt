@@ -7,7 +7,7 @@ use Rattle.std.specs.Ordering.{eq_by_cmp, is_eq, nat_cmp}
 use Rattle.std.specs.declared.cmp.Ordering.{Ordering}
 use Rattle.std.proofs.lemmas.Cmp.{nat_cmp_total}
 use Rattle.code_sets.specs.Members.{has_code}
-use Rattle.equation_law.specs.Codes.{nodes_of, reference_of}
+use Rattle.equation_law.specs.Codes.{nodes_by, reference_by}
 use Rattle.equation_law.specs.Names.{At, NodeName, node_cmp, text_cmp}
 use Rattle.equation_law.specs.Sets.{has, set_of}
 use Rattle.equation_law.proofs.Names.{code_anti, is_equal, node_anti}
@@ -43,16 +43,16 @@ map_has : {K : Type 0} (of : ℕ → K) (cs : List ℕ) (q : K) → Has (map of 
 map_has of [] q h = absurd h
 map_has of (x ∷ cs) q h = ⊎_elim (λ e. (x, inl refl, sym e)) (λ r. let t = map_has of cs q r in (t.0, inr t.1, t.2)) h
 
-has_nodes : (cs : List ℕ) (c : ℕ) (n : NodeName) → reference_of c ≡ At n → Has cs c → Has (nodes_of cs) n
-has_nodes [] c n e h = absurd h
-has_nodes (x ∷ cs) zero n e h = cc
-has_nodes (zero ∷ cs) (suc k) n e h = ⊎_elim (λ z. absurd (omega (arith, z))) (λ r. has_nodes cs (suc k) n e r) h
-has_nodes (suc x ∷ cs) (suc k) n e h = ⊎_elim (λ s. inl (let same : reference_of (suc x) ≡ At n = ap reference_of (sym s) ∙ e in cc)) (λ r. inr (has_nodes cs (suc k) n e r)) h
+has_nodes : (of : ℕ → NodeName) (cs : List ℕ) (c : ℕ) (n : NodeName) → reference_by of c ≡ At n → Has cs c → Has (nodes_by of cs) n
+has_nodes of [] c n e h = absurd h
+has_nodes of (x ∷ cs) zero n e h = cc
+has_nodes of (zero ∷ cs) (suc k) n e h = ⊎_elim (λ z. absurd (omega (arith, z))) (λ r. has_nodes of cs (suc k) n e r) h
+has_nodes of (suc x ∷ cs) (suc k) n e h = ⊎_elim (λ s. inl (let same : reference_by of (suc x) ≡ At n = ap (reference_by of) (sym s) ∙ e in cc)) (λ r. inr (has_nodes of cs (suc k) n e r)) h
 
-nodes_have : (cs : List ℕ) (n : NodeName) → Has (nodes_of cs) n → (c : ℕ) × Has cs c × (reference_of c ≡ At n)
-nodes_have [] n h = absurd h
-nodes_have (zero ∷ cs) n h = let t = nodes_have cs n h in (t.0, inr t.1, t.2)
-nodes_have (suc x ∷ cs) n h = ⊎_elim (λ e. (suc x, inl refl, ap At (sym e))) (λ r. let t = nodes_have cs n r in (t.0, inr t.1, t.2)) h
+nodes_have : (of : ℕ → NodeName) (cs : List ℕ) (n : NodeName) → Has (nodes_by of cs) n → (c : ℕ) × Has cs c × (reference_by of c ≡ At n)
+nodes_have of [] n h = absurd h
+nodes_have of (zero ∷ cs) n h = let t = nodes_have of cs n h in (t.0, inr t.1, t.2)
+nodes_have of (suc x ∷ cs) n h = ⊎_elim (λ e. (suc x, inl refl, ap At (sym e))) (λ r. let t = nodes_have of cs n r in (t.0, inr t.1, t.2)) h
 
 -- the text of a code is one of the set, and each text has a code
 pub text_in : (of : ℕ → List ℕ) (cs : List ℕ) (c : ℕ) → has_code cs c ≡ true → has (set_of {R = text_cmp} (map of cs)) (of c) ≡ true
@@ -62,8 +62,8 @@ pub text_code : (of : ℕ → List ℕ) (cs : List ℕ) (t : List ℕ) → has (
 text_code of cs t e = let h = map_has of cs t (set_in {R = text_cmp} nat_list_cmp_total code_anti (map of cs) t e) in (h.0, is_among cs h.0 h.1, h.2)
 
 -- and so it is with nodes
-pub node_in : (cs : List ℕ) (c : ℕ) (n : NodeName) → reference_of c ≡ At n → has_code cs c ≡ true → has (set_of {R = node_cmp} (nodes_of cs)) n ≡ true
-node_in cs c n at e = in_set {R = node_cmp} node_total node_anti (nodes_of cs) n (has_nodes cs c n at (among cs c e))
+pub node_in : (of : ℕ → NodeName) (cs : List ℕ) (c : ℕ) (n : NodeName) → reference_by of c ≡ At n → has_code cs c ≡ true → has (set_of {R = node_cmp} (nodes_by of cs)) n ≡ true
+node_in of cs c n at e = in_set {R = node_cmp} node_total node_anti (nodes_by of cs) n (has_nodes of cs c n at (among cs c e))
 
-pub node_code : (cs : List ℕ) (n : NodeName) → has (set_of {R = node_cmp} (nodes_of cs)) n ≡ true → (c : ℕ) × (has_code cs c ≡ true) × (reference_of c ≡ At n)
-node_code cs n e = let h = nodes_have cs n (set_in {R = node_cmp} node_total node_anti (nodes_of cs) n e) in (h.0, is_among cs h.0 h.1, h.2)
+pub node_code : (of : ℕ → NodeName) (cs : List ℕ) (n : NodeName) → has (set_of {R = node_cmp} (nodes_by of cs)) n ≡ true → (c : ℕ) × (has_code cs c ≡ true) × (reference_by of c ≡ At n)
+node_code of cs n e = let h = nodes_have of cs n (set_in {R = node_cmp} node_total node_anti (nodes_by of cs) n e) in (h.0, is_among cs h.0 h.1, h.2)

@@ -7,9 +7,9 @@ use Rattle.std.proofs.lemmas.Nat.Bits.{bit_at-zero}
 use Rattle.code_sets.specs.Members.{has_code}
 use Rattle.attr_rules.specs.Rules.{is_single}
 use Rattle.equation_law.specs.Equations.{HasValue, kind_in}
-use Rattle.equation_law.specs.Keys.{IsElementCode, has_code as has_element}
+use Rattle.equation_law.specs.Keys.{HasCode, IsElementCode}
 use Rattle.equation_law.specs.Names.{Instance}
-use Rattle.equation_law.specs.Program.{Program, text_of}
+use Rattle.equation_law.specs.Program.{Program}
 use Rattle.equation_law.specs.Values.{Value}
 use Rattle.equation_law.proofs.Solution.{one}
 use Rattle.memo_cells.specs.declared.view.Frame.{Frame}
@@ -30,7 +30,7 @@ pub record AreSettledBelow (p : Program) (i : Instance) (from to n : ℕ) (cs : 
   pub value : Value
   pub has : HasValue p i value
   pub elements : HaveCodes p (kind_in p i) value
-  pub all : (c : ℕ) → from ≤ c → c < to → c / 64 < n → IsElementCode p (kind_in p i) c → has_element (text_of p) (kind_in p i) value c ≡ true → has_code cs c ≡ true
+  pub all : (c : ℕ) → from ≤ c → c < to → c / 64 < n → IsElementCode p (kind_in p i) c → HasCode p (kind_in p i) value c → has_code cs c ≡ true
 
 -- as `AreCodesShown`, of the words below n
 pub record AreShownBelow (p : Program) (before now : View) (i : Instance) (from to n : ℕ) (cs : List ℕ) : Type 0 where
@@ -73,8 +73,8 @@ module _ (p : Program) (before now later : View) (kept : IsAtLeast before later)
         (λ lies.
         let at : 64 * n + c % 64 ≡ c = omega (arith, lies) in
         let code : IsElementCode p (kind_in p i) (64 * n + c % 64) = subst (λ (y : ℕ). IsElementCode p (kind_in p i) y) (sym at) e in
-        let there : has_element (text_of p) (kind_in p i) word.value (64 * n + c % 64) ≡ true =
-        subst (λ (y : Value × ℕ). has_element (text_of p) (kind_in p i) y.0 y.1 ≡ true) (λ j. (one p i so_far.value word.value so_far.has word.has j, sym at j)) h in
+        let there : HasCode p (kind_in p i) word.value (64 * n + c % 64) =
+        subst (λ (y : Value × ℕ). HasCode p (kind_in p i) y.0 y.1) (λ j. (one p i so_far.value word.value so_far.has word.has j, sym at j)) h in
         adds.added c (record { lies = lies; least = l; below = b; bit = (word.bits set (c % 64) (omega arith) code).1 there }))
         (λ apart. adds.kept c (so_far.all c l b (omega (arith, lt, apart)) e h));
   }

@@ -1,5 +1,5 @@
 -- The codes of elements are raised word by word.
-use Rattle.std.proofs.Common.{◌≡◌, ◌≢◌, ℕ, zero, suc, true, false, ◌+◌, ◌*◌, ◌<◌, ◌/◌, ◌%◌, ◌^◌, ◌⊎◌, inl, inr, ⊎_elim, List, [], ◌∷◌, Some, None, get_or, take, drop, refl, sym, ap, ◌∙◌, subst, arith, Fits}
+use Rattle.std.proofs.Common.{◌≡◌, ◌≢◌, ℕ, zero, suc, false, ◌+◌, ◌*◌, ◌<◌, ◌/◌, ◌%◌, ◌^◌, ◌⊎◌, inl, inr, ⊎_elim, List, [], ◌∷◌, Some, None, get_or, take, drop, refl, sym, ap, ◌∙◌, subst, arith, Fits}
 use mir.Syntax.{w32}
 use Rattle.std.specs.Int.{bit_at}
 use Rattle.std.proofs.Math.Facts.{Fits-lt-pow}
@@ -7,9 +7,9 @@ use Rattle.std.specs.List.{slice_get}
 use Rattle.std.proofs.lemmas.Nat.Bits.{bit_at-zero}
 use Rattle.attr_rules.specs.Rules.{is_single}
 use Rattle.equation_law.specs.Equations.{kind_in}
-use Rattle.equation_law.specs.Keys.{IsElementCode, has_code}
+use Rattle.equation_law.specs.Keys.{HasCode, IsElementCode}
 use Rattle.equation_law.specs.Names.{Instance}
-use Rattle.equation_law.specs.Program.{Program, text_of}
+use Rattle.equation_law.specs.Program.{Program}
 use Rattle.equation_law.specs.Systems.{program_of}
 use Rattle.memo_cells.specs.declared.view.Frame.{Frame}
 use Rattle.memo_cells.specs.declared.view.View.{View}
@@ -89,7 +89,7 @@ module _ (codes rest : List ℕ) (part : (c : ℕ) → Has rest c → Has codes 
           let lies = lies_in c.0 c.1 in
           let bit = c.2 in
           let at : c.0 ≡ 64 * (x / 64) + b = omega (arith, lies, bit) in
-          subst (λ (y : ℕ). IsElementCode p (kind_in p i) y × (has_code (text_of p) (kind_in p i) all.value y ≡ true)) at (all.elements c.0 (part c.0 (take_has rest count c.0 c.1)));
+          subst (λ (y : ℕ). IsElementCode p (kind_in p i) y × HasCode p (kind_in p i) all.value y) at (all.elements c.0 (part c.0 (take_has rest count c.0 c.1)));
     })
 
     -- it is the word of a set

@@ -2,9 +2,9 @@
 use Rattle.std.proofs.Common.{◌≡◌, ℕ, Bool, true, false, ◌+◌, ◌*◌, ◌/◌, ◌%◌, List, sym, ap, subst, inl, inr, ⊎_elim}
 use Rattle.attr_rules.specs.declared.kinds.Kind.{Kind}
 use Rattle.attr_rules.specs.declared.kinds.Kind.TheVariants as kinds
-use Rattle.equation_law.specs.Codes.{reference_of}
+use Rattle.equation_law.specs.Codes.{reference_by}
 use Rattle.equation_law.specs.Equations.{equations_of, kind_in}
-use Rattle.equation_law.specs.Keys.{has_code}
+use Rattle.equation_law.specs.Keys.{HasCode}
 use Rattle.equation_law.specs.Names.{At, Instance, Null, Reference}
 use Rattle.equation_law.specs.Orders.{IsAtMost, FitsKind}
 use Rattle.equation_law.specs.Program.{Program, text_of}
@@ -12,6 +12,7 @@ use Rattle.equation_law.specs.Sets.{IsPart as IsSetPart, has}
 use Rattle.equation_law.specs.Values.{Value, has_node, nodes, texts, truth}
 use Rattle.equation_law.proofs.Orders.{at_most_through}
 use Rattle.equation_law.proofs.Sets.{empty_part}
+use Rattle.equation_law.proofs.Tied.{has_tied}
 use Rattle.memo_cells.specs.declared.view.View.{View}
 use Rattle.memo_cells.specs.Showing.{ShowsAtLeast, ShowsAtMost, ShowsCode, ShowsTrue}
 use Rattle.memo_cells.specs.Standing.{AreApproximations, AreShown, IsElement, IsFinal, IsMissing, IsNoted, IsPart, IsRaised, IsSafe, IsSettledBy, IsShown, IsValueWord}
@@ -27,13 +28,13 @@ has_node_more : (x y : Value) (r : Reference) → IsAtMost x y → has_node (nod
 has_node_more x y Null l e = e
 has_node_more x y (At n) l e = l.in_nodes n e
 
-pub has_code_more : (numbered : ℕ → List ℕ) (k : Kind) (x y : Value) (c : ℕ) → IsAtMost x y → has_code numbered k x c ≡ true → has_code numbered k y c ≡ true
-has_code_more numbered kinds.Truth x y c l e = e
-has_code_more numbered kinds.Int x y c l e = e
-has_code_more numbered kinds.Text x y c l e = e
-has_code_more numbered (kinds.Node d) x y c l e = e
-has_code_more numbered kinds.Texts x y c l e = l.in_texts (numbered c) e
-has_code_more numbered (kinds.Nodes d) x y c l e = has_node_more x y (reference_of c) l e
+pub has_code_more : (p : Program) (k : Kind) (x y : Value) (c : ℕ) → IsAtMost x y → HasCode p k x c → HasCode p k y c
+has_code_more p kinds.Truth x y c l e = e
+has_code_more p kinds.Int x y c l e = e
+has_code_more p kinds.Text x y c l e = e
+has_code_more p (kinds.Node d) x y c l e = e
+has_code_more p kinds.Texts x y c l e = l.in_texts (text_of p c) e
+has_code_more p (kinds.Nodes d) x y c l e = λ n h. has_node_more x y (reference_by n.node c) l (e n h)
 
 -- a value without texts, without nodes, and one that isn't true
 texts_none : (x y : Value) {z : Value} → x ≡ z → IsSetPart (texts z) (texts y) → IsSetPart (texts x) (texts y)
@@ -56,7 +57,7 @@ shown_between p v i kinds.Texts x y f l m = record {
 shown_between p v i (kinds.Nodes d) x y f l m = record {
   in_truth = λ e. absurd (not_both (ap truth f.1) e);
   in_texts = texts_none x y f.1 (empty_part (texts y));
-  in_nodes = λ q e. let c = l q e in subst (λ (r : Reference). has_node (nodes y) r ≡ true) c.1 (m c.0 c.2);
+  in_nodes = λ q e. let c = l q e in has_tied p d y c.0 (At q) c.1 (m c.0 c.2);
 }
 
 -- what is safe goes on to be so
@@ -131,7 +132,7 @@ module _ (p : Program) (v w : View) (more : IsAtLeast v w) where
     raised_later k h = record { of = h.of; stands = stands_later v w more p k h.of h.stands; is_circular = h.is_circular; kind = h.kind; is_true = (below h.of h.is_circular).in_truth h.is_true }
 
     part_later : (i : Instance) (c : ℕ) → IsPart p T i c → IsPart p U i c
-    part_later i c h = ⊎_elim (λ a. inl (a.0, has_code_more (text_of p) (kind_in p i) (T i) (U i) c (below i a.0) a.1)) inr h
+    part_later i c h = ⊎_elim (λ a. inl (a.0, has_code_more p (kind_in p i) (T i) (U i) c (below i a.0) a.1)) inr h
 
     pub element_later : (k b : ℕ) → IsElement p v T k b → IsElement p w U k b
     element_later k b h = record { of = h.of; word = h.word; key = word_later v w more p k h.of h.word h.key; part = part_later h.of (64 * h.word + b) h.part; code = h.code }

@@ -7,9 +7,9 @@ use Rattle.attr_rules.specs.Rules.{is_single}
 use Rattle.attr_rules.specs.Types.{truth_kind}
 use Rattle.rag_io.specs.Pool.{ArePooled}
 use Rattle.equation_law.specs.Equations.{HasValue, kind_in}
-use Rattle.equation_law.specs.Keys.{has_code}
+use Rattle.equation_law.specs.Keys.{HasCode}
 use Rattle.equation_law.specs.Names.{Instance}
-use Rattle.equation_law.specs.Program.{Program, text_of}
+use Rattle.equation_law.specs.Program.{Program}
 use Rattle.equation_law.specs.Systems.{program_of}
 use Rattle.equation_law.specs.Values.{Value}
 use Rattle.equation_law.proofs.Pooled.{texts_pooled}
@@ -138,7 +138,7 @@ pub other_known : (p : Program) (i : Instance) (w x : ℕ) → truth_kind (kind_
 other_known p i w x other set has = record {
   value = has.0;
   has = has.1;
-  bits = λ e b low code. let h = set e in subst (λ (y : Value). (bit_at x b ≡ 1) ↔ (has_code (text_of p) (kind_in p i) y (64 * w + b) ≡ true)) (one p i h.value has.0 h.has has.1) (h.bits e b low code);
+  bits = λ e b low code. let h = set e in subst (λ (y : Value). (bit_at x b ≡ 1) ↔ HasCode p (kind_in p i) y (64 * w + b)) (one p i h.value has.0 h.has has.1) (h.bits e b low code);
   tells = λ kind. absurd (not_both other (ap truth_kind kind));
 }
 

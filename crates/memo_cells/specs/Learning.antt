@@ -1,5 +1,5 @@
 -- What a pass knows after a step on one word of the table.
-use Rattle.std.specs.Prelude.{ℕ, ◌+◌, ◌-◌, ◌^◌, ◌==◌, ◌&&◌, not, nat_le, List, [], ◌∷◌, ◌++◌, Option, Some, None, if◌then◌else◌}
+use Rattle.std.specs.Prelude.{ℕ, ◌-◌, ◌^◌, ◌==◌, ◌&&◌, not, nat_le, List, [], ◌∷◌, ◌++◌, Option, Some, None, if◌then◌else◌}
 use Rattle.memo_cells.specs.declared.learning.Step.{Step}
 use Rattle.memo_cells.specs.declared.learning.Step.TheVariants.{Claim, Forget, Key, Value}
 use Rattle.memo_cells.specs.declared.view.Frame.{Frame}

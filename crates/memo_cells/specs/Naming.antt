@@ -1,11 +1,13 @@
 -- What a key word stands for: an instance, or one with the first of its arguments.
-use Rattle.std.specs.Prelude.{◌≡◌, ℕ, ◌<◌, ◌^◌, ◌/◌, List, [], ◌∷◌, ◌⊎◌, reverse}
+use Rattle.std.specs.Prelude.{◌≡◌, ℕ, ◌<◌, ◌^◌, ◌/◌, List, [], ◌∷◌, ◌++◌, ◌⊎◌, reverse}
+use Rattle.equation_law.specs.declared.coding.Instance.{Instance as CodedInstance}
+use Rattle.equation_law.specs.declared.coding.Instance.TheVariants as coded
 use Rattle.equation_law.specs.Checked.{IsInstance}
-use Rattle.equation_law.specs.Codes.{AreCodes, arguments_at, reference_of}
+use Rattle.equation_law.specs.Codes.{AreArgumentCodes, AreCodes, IsReference, codes_in}
 use Rattle.equation_law.specs.Equations.{kind_in}
 use Rattle.equation_law.specs.Keys.{IsElementCode, IsPrefix}
 use Rattle.equation_law.specs.Names.{Argument, Attribute, Instance, Query, Reference}
-use Rattle.equation_law.specs.Program.{Program, attribute_parameters, text_of}
+use Rattle.equation_law.specs.Program.{Program, attribute_parameters}
 use Rattle.memo_cells.specs.declared.view.Frame.{Frame}
 use Rattle.memo_cells.specs.declared.view.View.{View}
 use Rattle.memo_cells.specs.Keys.{argument_word, attribute_word, query_word, set_word}
@@ -17,13 +19,18 @@ abbrev pub IsNamed : View → ℕ → ℕ → ℕ → List ℕ → Type 0
 IsNamed v k a n [] = (a < 2 ^ 16) × (n < 2 ^ 32) × (k ≡ attribute_word a n)
 IsNamed v k a n (c ∷ cs) = (s j : ℕ) × Has v.keys (s, j) × IsNamed v j a n cs × (s < 2 ^ 29) × (c < 2 ^ 32) × (k ≡ argument_word s c)
 
--- k is the key word of the attribute a at the node r with the arguments xs
+-- k is a key word on the way to the cell of a coded instance, by its codes alone: it has the first of those of its arguments
+abbrev pub IsWayKey : View → CodedInstance → ℕ → Type 0
+IsWayKey v (coded.Attr a n xs) k = (front behind : List ℕ) × (front ++ behind ≡ codes_in xs) × IsNamed v k a.0 n.0 (reverse front)
+IsWayKey v (coded.Query q) k = (q.0 < 2 ^ 32) × (k ≡ query_word q.0)
+
+-- k is the key word of the attribute a at the node r with the arguments xs, to which its codes are tied
 pub record IsAttributeKey (p : Program) (v : View) (k a : ℕ) (r : Reference) (xs : List Argument) : Type 0 where
   pub node : ℕ
   pub codes : List ℕ
-  pub at : reference_of node ≡ r
+  pub at : IsReference p node r
   pub good : AreCodes p (attribute_parameters p a) codes
-  pub arguments : arguments_at (text_of p) (attribute_parameters p a) codes ≡ xs
+  pub arguments : AreArgumentCodes p (attribute_parameters p a) codes xs
   pub named : IsNamed v k a node (reverse codes)
 
 -- k is the key word of i, by the keys that are seen claimed

@@ -3,7 +3,7 @@ use Rattle.std.specs.Prelude.{◌≡◌, ℕ, ◌<◌, ◌≤◌, ◌⊎◌, Lis
 use Rattle.equation_law.specs.Systems.{program_of}
 use Rattle.memo_cells.specs.declared.keys.Slot.{Slot}
 use Rattle.memo_cells.specs.declared.view.Frame.{Frame}
-use Rattle.memo_cells.specs.Causes.{IsLogOn}
+use Rattle.memo_cells.specs.Causes.{IsLogOn, LogsValue}
 use Rattle.memo_cells.specs.Standing.{AreWords, IsSeatOf, IsTold, MaySeal}
 use Rattle.memo_cells.specs.Steps.{IsSealedAt}
 use Rattle.memo_cells.specs.declared.view.View.{View}
@@ -52,6 +52,10 @@ pub record TellsNext (f : Frame) (set : List Slot) (number : ℕ) (ks vs : List 
   pub log : IsLogOn v w
   pub sealed : (s k : ℕ) → slice_get (places set) number ≡ Some s → Has v.keys (s, k) → IsSealedAt w s k
   pub claims : w.claims ≡ v.claims
+
+-- its log has one entry more: what stood in the value word of that slot
+abbrev pub LogsNext : Frame → List Slot → ℕ → List ℕ → View → View → Type 0
+LogsNext f set number vs v w = (s x : ℕ) → slice_get (places set) number ≡ Some s → slice_get vs s ≡ Some x → LogsValue f v w s x
 
 -- the same of the first so many of them
 pub record TellsSealed (f : Frame) (set : List Slot) (count : ℕ) (ks vs : List ℕ) (v w : View) : Type 0 where

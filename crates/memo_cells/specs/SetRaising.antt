@@ -1,13 +1,13 @@
 -- Raising the words of a set.
-use Rattle.std.specs.Prelude.{◌≡◌, ◌⊎◌, ◌<◌, ◌≤◌, ℕ, true, ◌/◌, ◌%◌, List, [], Some, length, slice_get, take}
+use Rattle.std.specs.Prelude.{◌≡◌, ◌⊎◌, ◌<◌, ◌≤◌, ℕ, ◌/◌, ◌%◌, List, [], Some, length, slice_get, take}
 use Rattle.std.specs.Int.{bit_at}
 use Rattle.equation_law.specs.declared.coding.Value.{Value as CodedValue}
 use Rattle.equation_law.specs.declared.coding.Value.TheVariants as coded
 use Rattle.equation_law.specs.Checked.{IsInstance}
 use Rattle.equation_law.specs.Equations.{kind_in}
-use Rattle.equation_law.specs.Keys.{IsElementCode, has_code}
+use Rattle.equation_law.specs.Keys.{HasCode, IsElementCode}
 use Rattle.equation_law.specs.Names.{Instance}
-use Rattle.equation_law.specs.Program.{Program, text_of}
+use Rattle.equation_law.specs.Program.{Program}
 use Rattle.equation_law.specs.Values.{Value}
 use Rattle.memo_cells.specs.declared.view.Frame.{Frame}
 use Rattle.memo_cells.specs.declared.view.View.{View}
@@ -32,7 +32,7 @@ pub record MayShowAll (p : Program) (f : Frame) (v : View) (i : Instance) (place
   pub instance : IsInstance p i
   pub value : Value
   pub may : MayShow p v i value
-  pub elements : (c : ℕ) → Has codes c → IsElementCode p (kind_in p i) c × (has_code (text_of p) (kind_in p i) value c ≡ true)
+  pub elements : (c : ℕ) → Has codes c → IsElementCode p (kind_in p i) c × HasCode p (kind_in p i) value c
 
 -- the words of i show all of them
 abbrev pub ShowsAll : Program → View → Instance → List ℕ → Type 0

@@ -5,12 +5,12 @@ use Rattle.attr_rules.specs.declared.kinds.Kind.{Kind}
 use Rattle.attr_rules.specs.Rules.{is_single}
 use Rattle.code_sets.specs.Members.{has_code}
 use Rattle.equation_law.specs.declared.coding.Value.{Value as CodedValue}
-use Rattle.equation_law.specs.Codes.{AreElements, value_of}
+use Rattle.equation_law.specs.Codes.{AreElements, ByEachNaming, value_by}
 use Rattle.equation_law.specs.Equations.{HasValue, is_ordered, kind_in}
-use Rattle.equation_law.specs.Keys.{IsElementCode, has_code as has_element}
+use Rattle.equation_law.specs.Keys.{HasCode, IsElementCode}
 use Rattle.equation_law.specs.Names.{Instance}
 use Rattle.equation_law.specs.Orders.{FitsKind}
-use Rattle.equation_law.specs.Program.{Program, text_of}
+use Rattle.equation_law.specs.Program.{Program}
 use Rattle.equation_law.specs.Values.{Value, as_kind}
 use Rattle.memo_cells.specs.declared.view.View.{View}
 use Rattle.memo_cells.specs.Naming.{IsCellOf}
@@ -40,7 +40,7 @@ pub record AreSettledCodes (p : Program) (i : Instance) (from to : ℕ) (cs : Li
   pub value : Value
   pub has : HasValue p i value
   pub elements : HaveCodes p (kind_in p i) value
-  pub all : (c : ℕ) → from ≤ c → c < to → IsElementCode p (kind_in p i) c → has_element (text_of p) (kind_in p i) value c ≡ true → has_code cs c ≡ true
+  pub all : (c : ℕ) → from ≤ c → c < to → IsElementCode p (kind_in p i) c → HasCode p (kind_in p i) value c → has_code cs c ≡ true
 
 -- These codes lie from one code on, below another, and the words of i show each. All such codes are among them that the words showed before, and where i
 -- was seen settled, all those of its value.
@@ -51,14 +51,14 @@ pub record AreCodesShown (p : Program) (before now : View) (i : Instance) (from 
   pub all : (c : ℕ) → from ≤ c → c < to → ShowsCode p before i c → has_code cs c ≡ true
   pub settled : Knows p before i → AreSettledCodes p i from to cs
 
--- The value x is of the type of i, at least what the words showed before, and at most what they show now. Where the pass knew i as settled before, it is the value in the
--- solution.
+-- By each naming the value x is of the type of i, at least what the words showed before, and at most what they show now. Where the pass knew i as settled before, it is the
+-- value in the solution.
 pub record IsShownValue (p : Program) (before now : View) (i : Instance) (x : CodedValue) : Type 0 where
   pub elements : AreElements p x
-  pub fits : FitsKind (kind_in p i) (value_of (text_of p) x)
-  pub shown : ShowsAtLeast p now i (kind_in p i) (value_of (text_of p) x)
-  pub all : ShowsAtMost p before i (kind_in p i) (value_of (text_of p) x)
-  pub settled : Knows p before i → (w : Value) × HasValue p i w × (value_of (text_of p) x ≡ as_kind (kind_in p i) w)
+  pub fits : ByEachNaming p (λ n. FitsKind (kind_in p i) (value_by n x))
+  pub shown : ByEachNaming p (λ n. ShowsAtLeast p now i (kind_in p i) (value_by n x))
+  pub all : ByEachNaming p (λ n. ShowsAtMost p before i (kind_in p i) (value_by n x))
+  pub settled : Knows p before i → (w : Value) × HasValue p i w × ByEachNaming p (λ n. value_by n x ≡ as_kind (kind_in p i) w)
 
 -- they are the codes shown of a set that has its cell at this place, with what is held before and after
 abbrev pub AreCodesShownAt : Held → Held → ℕ → ℕ → ℕ → List ℕ → Type 0

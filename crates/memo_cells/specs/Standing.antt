@@ -10,9 +10,9 @@ use Rattle.attr_rules.specs.Rules.{is_single}
 use Rattle.attr_rules.specs.Types.{truth_kind}
 use Rattle.equation_law.specs.declared.system.System.{System}
 use Rattle.equation_law.specs.Checked.{IsInstance}
-use Rattle.equation_law.specs.Codes.{IsSmall, reference_of, value_at}
+use Rattle.equation_law.specs.Codes.{IsReference, IsSmall, IsValueCode}
 use Rattle.equation_law.specs.Equations.{HasValue, equations_of, kind_in}
-use Rattle.equation_law.specs.Keys.{IsElementCode, has_code}
+use Rattle.equation_law.specs.Keys.{HasCode, IsElementCode}
 use Rattle.equation_law.specs.Loops.{fits_in, join_in, order_in}
 use Rattle.equation_law.specs.Names.{At, Instance, NodeName}
 use Rattle.equation_law.specs.Orders.{FitsKind}
@@ -42,13 +42,13 @@ HaveCodes p kinds.Int x = Unit {0}
 HaveCodes p kinds.Text x = Unit {0}
 HaveCodes p (kinds.Node d) x = Unit {0}
 HaveCodes p kinds.Texts x = (t : List ℕ) → has (texts x) t ≡ true → (c : ℕ) × IsElementCode p kinds.Texts c × (text_of p c ≡ t)
-HaveCodes p (kinds.Nodes d) x = (n : NodeName) → has (nodes x) n ≡ true → (c : ℕ) × IsElementCode p (kinds.Nodes d) c × (reference_of c ≡ At n)
+HaveCodes p (kinds.Nodes d) x = (n : NodeName) → has (nodes x) n ≡ true → (c : ℕ) × IsElementCode p (kinds.Nodes d) c × IsReference p c (At n)
 
--- c is the code of the value that i has in the solution; that of a set is 0, and its elements have codes
+-- c is the code of the value that i has in the solution, and tied to it; that of a set is 0, and its elements have codes
 pub record IsCodeOf (p : Program) (i : Instance) (c : ℕ) : Type 0 where
   pub value : Value
   pub has : HasValue p i value
-  pub coded : is_single (kind_in p i) ≡ true → value_at (text_of p) (kind_in p i) c ≡ as_kind (kind_in p i) value
+  pub coded : is_single (kind_in p i) ≡ true → IsValueCode p (kind_in p i) c (as_kind (kind_in p i) value)
   pub small : IsSmall (kind_in p i) c
   pub fits : c < 2 ^ 32
   pub elements : HaveCodes p (kind_in p i) value
@@ -65,7 +65,7 @@ AreShown p v B = (j : Instance) → (equations_of p).circular j ≡ true → Fit
 pub record IsWordOfValue (p : Program) (i : Instance) (w x : ℕ) : Type 0 where
   pub value : Value
   pub has : HasValue p i value
-  pub bits : is_single (kind_in p i) ≡ false → (b : ℕ) → b < 64 → IsElementCode p (kind_in p i) (64 * w + b) → (bit_at x b ≡ 1) ↔ (has_code (text_of p) (kind_in p i) value (64 * w + b) ≡ true)
+  pub bits : is_single (kind_in p i) ≡ false → (b : ℕ) → b < 64 → IsElementCode p (kind_in p i) (64 * w + b) → (bit_at x b ≡ 1) ↔ HasCode p (kind_in p i) value (64 * w + b)
   pub tells : kind_in p i ≡ kinds.Truth → (x ≡ 1) ↔ (truth value ≡ true)
 
 -- where k is the key of the w-th word of a set that is seen settled, x is that word of its value
@@ -117,7 +117,7 @@ pub record AreApproximations (p : Program) (v : View) : Type 0 where
   pub lower : IsLowerOf p values
   pub circular : (i : Instance) → (equations_of p).circular i ≡ true → ShowsAtMost p v i (kind_in p i) (values i)
   pub codes : (i : Instance) (c : ℕ) → ShowsCode p v i c → IsElementCode p (kind_in p i) c
-  pub undeclared : (i : Instance) (c : ℕ) → (equations_of p).circular i ≡ false → ShowsCode p v i c → (x : Value) × HasValue p i x × (has_code (text_of p) (kind_in p i) x c ≡ true)
+  pub undeclared : (i : Instance) (c : ℕ) → (equations_of p).circular i ≡ false → ShowsCode p v i c → (x : Value) × HasValue p i x × HasCode p (kind_in p i) x c
   pub truths : (i : Instance) → (equations_of p).circular i ≡ false → kind_in p i ≡ kinds.Truth → ShowsTrue p v i → (x : Value) × HasValue p i x × (truth x ≡ true)
   pub final : (i : Instance) → (equations_of p).circular i ≡ true → Knows p v i → (x : Value) → HasValue p i x → order_in p i x (values i)
 
@@ -172,7 +172,7 @@ MayShow p v i x = ((equations_of p).circular i ≡ true × ComesTo p v i x) ⊎ 
 
 -- each of these bits stands for an element of the value x of i, in the w-th word of its set
 abbrev pub AreElementsOf : Program → Instance → Value → ℕ → ℕ → Type 0
-AreElementsOf p i x w bits = (b : ℕ) → b < 64 → bit_at bits b ≡ 1 → IsElementCode p (kind_in p i) (64 * w + b) × (has_code (text_of p) (kind_in p i) x (64 * w + b) ≡ true)
+AreElementsOf p i x w bits = (b : ℕ) → b < 64 → bit_at bits b ≡ 1 → IsElementCode p (kind_in p i) (64 * w + b) × HasCode p (kind_in p i) x (64 * w + b)
 
 -- these bits may be set in the w-th word of the set of what stands at this place
 pub record MayRaiseSet (p : Program) (v : View) (place w bits : ℕ) : Type 0 where
@@ -268,7 +268,7 @@ pub record IsRaised (p : Program) (v : View) (T : Instance → Value) (k : ℕ) 
 
 -- the element of code c is in the value that T gives a circular i, or in the value of an undeclared one
 abbrev pub IsPart : Program → (Instance → Value) → Instance → ℕ → Type 0
-IsPart p T i c = (((equations_of p).circular i ≡ true) × (has_code (text_of p) (kind_in p i) (T i) c ≡ true)) ⊎ (((equations_of p).circular i ≡ false) × ((x : Value) × HasValue p i x × (has_code (text_of p) (kind_in p i) x c ≡ true)))
+IsPart p T i c = (((equations_of p).circular i ≡ true) × HasCode p (kind_in p i) (T i) c) ⊎ (((equations_of p).circular i ≡ false) × ((x : Value) × HasValue p i x × HasCode p (kind_in p i) x c))
 
 -- k is the key of a word of a set, and the b-th bit of that word stands for an element of the type that is one
 pub record IsElement (p : Program) (v : View) (T : Instance → Value) (k b : ℕ) : Type 0 where

@@ -3,11 +3,11 @@ use Rattle.std.specs.Prelude.{◌≡◌, ℕ, IfNone, IfSome, List, Option}
 use Rattle.equation_law.specs.declared.coding.Instance.{Instance as CodedInstance}
 use Rattle.equation_law.specs.declared.system.System.{System}
 use Rattle.equation_law.specs.Checked.{IsInstance}
-use Rattle.equation_law.specs.Codes.{IsCoded, IsInOrder, IsNamingOf, Naming, instance_of, source_names}
+use Rattle.equation_law.specs.Codes.{ByEachNaming, ByEachOrder, IsCoded, NamesInOrder, instance_by}
 use Rattle.equation_law.specs.Equations.{HasValue}
 use Rattle.equation_law.specs.Names.{Instance}
-use Rattle.equation_law.specs.Program.{Program, text_of}
-use Rattle.equation_law.specs.Reading.{ByEachIn, ReadsSources, Told}
+use Rattle.equation_law.specs.Program.{Program}
+use Rattle.equation_law.specs.Reading.{ByEachIn, Told}
 use Rattle.equation_law.specs.Systems.{program_of}
 use Rattle.equation_law.specs.Values.{Value}
 use Rattle.memo_cells.specs.declared.keys.Slot.{Slot}
@@ -15,7 +15,7 @@ use Rattle.memo_cells.specs.declared.view.Frame.{Frame}
 use Rattle.memo_cells.specs.declared.view.View.{View}
 use Rattle.memo_cells.specs.Claiming.{ClaimsKeys}
 use Rattle.memo_cells.specs.Causes.{IsLogOn, WhyMissing}
-use Rattle.memo_cells.specs.Naming.{ClaimsKeysTo, IsCellOf, IsFormed, IsKeyTo, LacksCell}
+use Rattle.memo_cells.specs.Naming.{ClaimsKeysTo, IsCellOf, IsFormed, IsWayKey, LacksCell}
 use Rattle.memo_cells.specs.Standing.{ClaimsForSet, HasKnownWord, HasWord, IsMissing, IsOfSet, IsPassOf, Knows, MayRaise, MaySeal, MaySettle, ShowsWord}
 use Rattle.memo_cells.specs.Steps.{AreSealed}
 use Rattle.memo_cells.specs.Views.{ClaimsOnly, IsAtLeast, IsFull, IsPlain, IsSlot}
@@ -83,49 +83,53 @@ IsFullAt d e k = IsFull d.frame e.view k
 abbrev pub ClaimsOnlyAt : Held → Held → ℕ → Type 0
 ClaimsOnlyAt d e k = ClaimsOnly d.view e.view k
 
--- the instance that is coded so is one of the program
+-- by each naming the instance that is coded so is one of the program
+abbrev pub IsInstanceByEach : Program → CodedInstance → Type 0
+IsInstanceByEach p i = ByEachNaming p (λ n. IsInstance p (instance_by p n i))
+
+-- of the program of the cells
 abbrev pub IsInstanceAt : Held → CodedInstance → Type 0
-IsInstanceAt d i = IsInstance (program_at d) (instance_of (program_at d) i)
+IsInstanceAt d i = IsInstanceByEach (program_at d) i
 
 -- it is coded well
 abbrev pub IsCodedAt : Held → CodedInstance → Type 0
 IsCodedAt d i = IsCoded (program_at d) i
 
--- its cell is seen claimed at place s: d is what was held before, and e what is held now
+-- by each naming its cell is seen claimed at place s: d is what was held before, and e what is held now
 abbrev pub IsCellAt : Held → Held → CodedInstance → ℕ → Type 0
-IsCellAt d e i s = IsCellOf (program_at d) d.frame e.view (instance_of (program_at d) i) s
+IsCellAt d e i s = ByEachNaming (program_at d) (λ n. IsCellOf (program_at d) d.frame e.view (instance_by (program_at d) n i) s)
 
 -- its cell is seen claimed at place s now
 abbrev pub IsCellNow : Held → CodedInstance → ℕ → Type 0
 IsCellNow d i s = IsCellAt d d i s
 
--- its cell is seen settled
+-- by each naming its cell is seen settled
 abbrev pub KnowsAt : Held → CodedInstance → Type 0
-KnowsAt d i = Knows (program_at d) d.view (instance_of (program_at d) i)
+KnowsAt d i = ByEachNaming (program_at d) (λ n. Knows (program_at d) d.view (instance_by (program_at d) n i))
 
--- other keys have all the cells than some key on the way to its cell
+-- by each naming other keys have all the cells than some key on the way to its cell
 abbrev pub LacksCellAt : Held → Held → CodedInstance → Type 0
-LacksCellAt d e i = LacksCell (program_at d) d.frame e.view (instance_of (program_at d) i)
+LacksCellAt d e i = ByEachNaming (program_at d) (λ n. LacksCell (program_at d) d.frame e.view (instance_by (program_at d) n i))
 
--- what was claimed are cells on the way to its cell
+-- by each naming what was claimed are cells on the way to its cell
 abbrev pub ClaimsKeysAt : Held → Held → CodedInstance → Type 0
-ClaimsKeysAt d e i = ClaimsKeysTo (program_at d) d.view e.view (instance_of (program_at d) i)
+ClaimsKeysAt d e i = ByEachNaming (program_at d) (λ n. ClaimsKeysTo (program_at d) d.view e.view (instance_by (program_at d) n i))
 
--- what was claimed are cells of its keys
+-- by each naming what was claimed are cells of its keys
 abbrev pub ClaimsKeysFor : Held → Held → CodedInstance → Type 0
-ClaimsKeysFor d e i = ClaimsKeys (program_at d) (instance_of (program_at d) i) d.view e.view
+ClaimsKeysFor d e i = ByEachNaming (program_at d) (λ n. ClaimsKeys (program_at d) (instance_by (program_at d) n i) d.view e.view)
 
 -- what looking for it finds, if it is coded well: where it finds a slot, its cell is seen claimed there
 abbrev pub FindsCell : Held → Held → CodedInstance → Option Slot → Type 0
 FindsCell d e i found = IsCodedAt d i → IfSome found (λ s. IsCellAt d e i s.0)
 
--- where it finds none, its cell is seen claimed nowhere
+-- where it finds none, its cell is seen claimed nowhere, by each naming
 abbrev pub MissesCell : Held → Held → CodedInstance → Option Slot → Type 0
-MissesCell d e i found = IsCodedAt d i → IfNone found ((s : ℕ) → ¬ IsCellAt d e i s)
+MissesCell d e i found = IsCodedAt d i → IfNone found ((s : ℕ) → ByEachNaming (program_at d) (λ n. ¬ IsCellOf (program_at d) d.frame e.view (instance_by (program_at d) n i) s))
 
--- why: for a key on the way to it
+-- why: for a key on the way to it, whatever its codes stand for
 abbrev pub WhyNoCell : Held → Held → CodedInstance → Option Slot → Type 0
-WhyNoCell d e i found = IsCodedAt d i → IfNone found ((k : ℕ) × IsKeyTo (program_at d) e.view (instance_of (program_at d) i) k × WhyMissing d.frame d.view e.view k)
+WhyNoCell d e i found = IfNone found ((k : ℕ) × IsWayKey e.view i k × WhyMissing d.frame d.view e.view k)
 
 -- the cell of some instance is seen claimed at this place
 abbrev pub HasCell : Held → ℕ → Type 0
@@ -168,7 +172,7 @@ abbrev pub ClaimsForSetAt : Held → Held → ℕ → Type 0
 ClaimsForSetAt d e place = ClaimsForSet d.frame d.view e.view place
 
 -- What a reader tells that holds a pass: it is for the program of the cells, it has the values of the instances whose cells are seen
--- settled, and reading lets the pass know no less. It may be read by the names of source nodes.
+-- settled, and reading lets the pass know no less. It may be read by each naming for the program whose codes are in the order of their nodes.
 pub record TellsPass {S : Type 0} (held : S → Held) (d : S) (r : Told S) : Type 0 where
   pub for : r.for (program_at (held d))
   pub only : (p : Program) → r.for p → p ≡ program_at (held d)
@@ -178,13 +182,9 @@ pub record TellsPass {S : Type 0} (held : S → Held) (d : S) (r : Told S) : Typ
   pub may : (i : Instance) (w : Value) → HasValue (program_at (held d)) i w → r.can i w
   pub keeps : (x : S) → r.keeps x → ReadsOn (held x) (held d)
   pub itself : IsOwn (held d) → r.keeps d
-  pub sources : ReadsSources (program_at (held d)) r
-  pub named : ByEachIn r (λ n. IsNamingOf (program_at (held d)) n × IsInOrder n)
-
--- n gives the names of source nodes
-abbrev pub NamesSources : Program → Naming → Type 0
-NamesSources p n = n ≡ source_names (text_of p)
+  pub each : ByEachOrder (program_at (held d)) r.names
+  pub named : ByEachIn r (NamesInOrder (program_at (held d)))
 
 -- what such a reader tells, which is seen as what it holds
 abbrev pub told_by : Held → Told Held
-told_by d = record { for = λ p. p ≡ program_at d; has = IsKnown (program_at d) d.view; can = HasValue (program_at d); keeps = λ x. ReadsOn x d; names = NamesSources (program_at d) }
+told_by d = record { for = λ p. p ≡ program_at d; has = IsKnown (program_at d) d.view; can = HasValue (program_at d); keeps = λ x. ReadsOn x d; names = NamesInOrder (program_at d) }

@@ -164,6 +164,7 @@ impl Cells {
         requires own { IsPassOf self.now pass.old }
         ensures own { IsPassOf self.now pass.new }
         ensures kept { IsAtLeast pass.old pass.new }
+        ensures log { IsLogOn pass.old pass.new }
         ensures count { result ≡ settled_below pass.new self.now.cells }
         ensures claims { pass.new.claims ≡ pass.old.claims }
     {

@@ -94,6 +94,7 @@ impl Cells {
         requires place { place < self.now.cells }
         ensures own { IsPassOf self.now pass.new }
         ensures kept { IsAtLeast pass.old pass.new }
+        ensures log { IsLogOn pass.old pass.new }
         ensures settled { result ≡ is_settled_at pass.new place }
         ensures others { (q k c : ℕ) → Has pass.new.values (q, k, c) → Has pass.old.values (q, k, c) ⊎ (q ≡ place) }
         ensures claims { pass.new.claims ≡ pass.old.claims }

@@ -1,9 +1,9 @@
 // The single steps on the words: each reads or writes one.
 ghost use Rattle.std.specs.Prelude.{◌≡◌, ◌≢◌, ◌+◌, ◌<◌, length, map};
 ghost use Rattle.equation_law.specs.Systems.{program_of};
-ghost use Rattle.memo_cells.specs.Causes.{IsLogOn};
+ghost use Rattle.memo_cells.specs.Causes.{IsLogOn, LogsBits, LogsTruth, LogsValue};
 ghost use Rattle.memo_cells.specs.Naming.{IsFormed};
-ghost use Rattle.memo_cells.specs.Sealing.{AreSealedTo, SealsAll, SealsTo, TellsNext, TellsSealed};
+ghost use Rattle.memo_cells.specs.Sealing.{AreSealedTo, LogsNext, SealsAll, SealsTo, TellsNext, TellsSealed};
 ghost use Rattle.memo_cells.specs.Standing.{IsPassOf, IsTold, MayAdd, MayRaiseTruth, MaySeal, MaySettle};
 ghost use Rattle.memo_cells.specs.Steps.{AreSealed, BitsAdded, BitsSeen, KeySeen, KeyTried, ValueSeen, ValueTried};
 ghost use Rattle.memo_cells.specs.Views.{IsAtLeast, IsPassed, IsPlain, with_mark};
@@ -71,6 +71,7 @@ impl Cells {
         ensures own { IsPassOf self.now pass.new }
         ensures kept { IsAtLeast pass.old pass.new }
         ensures log { IsLogOn pass.old pass.new }
+        ensures found { LogsValue self.now pass.old pass.new place result }
         ensures tried { ValueTried pass.old pass.new place code result }
     {
         let found = pass.values[place as usize];
@@ -92,6 +93,7 @@ impl Cells {
         ensures own { IsPassOf self.now pass.new }
         ensures kept { IsAtLeast pass.old pass.new }
         ensures log { IsLogOn pass.old pass.new }
+        ensures found { LogsValue self.now pass.old pass.new place result }
         ensures seen { BitsSeen (program_of self.now.system.value) pass.old pass.new place result }
     {
         let found = pass.values[place as usize];
@@ -108,6 +110,7 @@ impl Cells {
         ensures own { IsPassOf self.now pass.new }
         ensures kept { IsAtLeast pass.old pass.new }
         ensures log { IsLogOn pass.old pass.new }
+        ensures found { LogsBits self.now pass.old pass.new place bits result }
         ensures added { BitsAdded (program_of self.now.system.value) pass.old pass.new place bits result }
     {
         let found = pass.values[place as usize];
@@ -125,6 +128,7 @@ impl Cells {
         ensures own { IsPassOf self.now pass.new }
         ensures kept { IsAtLeast pass.old pass.new }
         ensures log { IsLogOn pass.old pass.new }
+        ensures found { LogsTruth self.now pass.old pass.new place result }
         ensures added { BitsAdded (program_of self.now.system.value) pass.old pass.new place 1 result }
     {
         let found = pass.values[place as usize];
@@ -183,6 +187,7 @@ impl Cells {
         requires noted { AreSealedTo self.now set.now number _keys.now.items words.old.items }
         requires told { IsTold self.now _keys.now.items words.old.items known.old.value }
         ensures sealed { SealsTo self.now set.now number (number + 1) _keys.now.items words.old.items words.new.items }
+        ensures found { LogsNext self.now set.now number words.old.items known.old.value known.new.value }
         ensures told { TellsNext self.now set.now number _keys.now.items words.new.items known.old.value known.new.value }
     {
         let place = set[number].0;

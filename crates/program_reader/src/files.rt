@@ -4,7 +4,7 @@ ghost use Rattle.std.specs.List.{count_by};
 ghost use Rattle.ast_grammar.specs.Grammar.{superclasses_of};
 ghost use Rattle.rag_io.specs.Outside.{longest_file};
 ghost use Rattle.attr_equations.specs.Kept.{rules_in};
-ghost use Rattle.equation_law.specs.Systems.{program_of, queries_in};
+ghost use Rattle.equation_law.specs.Systems.{program_of};
 ghost use Rattle.aspect_items.specs.Items.{seen_aspects};
 ghost use Rattle.program_reader.specs.declared.files.Refusal.TheVariants.{Memory as NoMemory};
 ghost use Rattle.program_reader.specs.Unread.{unread_for};

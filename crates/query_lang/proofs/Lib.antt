@@ -1,2 +1,3 @@
 pub mod Joining
+pub mod NamedSources
 pub mod ReplyTexts

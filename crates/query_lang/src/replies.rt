@@ -5,6 +5,7 @@ ghost use Rattle.rag_io.specs.Quoting.{quoted};
 ghost use Rattle.equation_law.specs.Codes.{AreElements, reference_of, value_of};
 ghost use Rattle.equation_law.specs.Program.{text_of as text_in};
 ghost use Rattle.equation_law.specs.Systems.{program_of};
+ghost use Rattle.query_lang.specs.Named.{AddsReplyBy, AddsTextBy};
 ghost use Rattle.query_lang.specs.Replies.{AddsReply, AddsText, in_braces, joined, truth_text};
 ghost use Rattle.query_lang.specs.Singles.{element_text, reference_text, single_text};
 
@@ -137,7 +138,8 @@ fn add_value(
     value: &Value,
 ) -> Result<(), Memory>
     requires { AreElements (program_of system.now) value.now }
-    ensures { OnOk result (AddsText (value_of (text_in (program_of system.now)) value.now) text.old.items text.new.items) }
+    ensures sources { OnOk result (AddsText (value_of (text_in (program_of system.now)) value.now) text.old.items text.new.items) }
+    ensures named { OnOk result (AddsTextBy (program_of system.now) value.now text.old.items text.new.items) }
 {
     match value {
         Value::Truth(truth) => add_truth(text, *truth),
@@ -159,7 +161,8 @@ pub fn add_reply(
     value: &Value,
 ) -> Result<(), Memory>
     requires { AreElements (program_of system.now) value.now }
-    ensures { OnOk result (AddsReply (value_of (text_in (program_of system.now)) value.now) text.old.items text.new.items) }
+    ensures sources { OnOk result (AddsReply (value_of (text_in (program_of system.now)) value.now) text.old.items text.new.items) }
+    ensures named { OnOk result (AddsReplyBy (program_of system.now) value.now text.old.items text.new.items) }
 {
     add_value(alloc, system, text, value)?;
     text.push(b'\n').map_err(|_| Memory)

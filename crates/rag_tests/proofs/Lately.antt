@@ -7,13 +7,13 @@ use Rattle.equation_law.specs.declared.coding.Instance.{Instance as CodedInstanc
 use Rattle.equation_law.specs.declared.coding.Instance.TheVariants.{Attr as attribute_at}
 use Rattle.equation_law.specs.declared.coding.NodeRef.{NodeRef}
 use Rattle.equation_law.specs.declared.coding.Value.{Value as CodedValue}
-use Rattle.equation_law.specs.Codes.{AreCodes, AreElements, IsInOrder, IsNamingOf, Naming, instance_by, instance_of, reference_of, source_names, value_of}
+use Rattle.equation_law.specs.Codes.{AreCodes, AreElements, NamesInOrder, Naming, instance_by, instance_of, reference_of, source_names, value_by, value_of}
 use Rattle.equation_law.specs.Equations.{kind_in}
 use Rattle.equation_law.specs.Names.{Attribute, Instance, Query}
 use Rattle.equation_law.specs.Program.{Program, text_of}
-use Rattle.equation_law.specs.Reading.{Grows, IsSound, SettledBy, Settles, Told}
+use Rattle.equation_law.specs.Reading.{Grows, HasThere, IsSound, SettledBy, Settles}
 use Rattle.equation_law.specs.Values.{Truth, Value, as_kind}
-use Rattle.equation_law.proofs.Sources.{settles_by, source_naming}
+use Rattle.equation_law.proofs.Sources.{source_naming}
 use Rattle.rag_tests.specs.Late.{has_below, late, may_have, number_of}
 
 pub number_is : (n : ℕ) → number_of (reference_of n) ≡ n
@@ -32,8 +32,8 @@ one_of_two : (i : Instance) (v w : Value) → may_have i v → may_have i w → 
 one_of_two (Attribute a r xs) v w a' b' = a' ∙ sym b'
 one_of_two (Query q) v w a b = absurd a
 
-named_in : (p q : Program) → q ≡ p → (n : Naming) → n ≡ source_names (text_of p) → IsNamingOf q n × IsInOrder n
-named_in p q same n is = subst (λ (r : Program). IsNamingOf r n × IsInOrder n) (sym same) (subst (λ (m : Naming). IsNamingOf p m × IsInOrder m) (sym is) (source_naming p))
+named_in : (p q : Program) → q ≡ p → (n : Naming) → n ≡ source_names (text_of p) → NamesInOrder q n
+named_in p q same n is = subst (λ (r : Program). NamesInOrder r n) (sym same) (subst (λ (m : Naming). NamesInOrder p m) (sym is) (source_naming p))
 
 pub late_sound : {S : Type 0} (p q : Program) (n : ℕ) → q ≡ p → IsSound {S = S} q (late p n)
 late_sound p q n same = record { for = same; within = λ i v h. may_below i v n h; one_value = λ i v w a b. one_of_two i v w a b; named = named_in p q same }
@@ -45,7 +45,6 @@ late_grows p q m n le sound = record {
   bound = λ i v h. h;
   kept = λ x a. tt;
   names = λ x is. is;
-  sources = λ is. is;
 }
 
 -- what it answers where it has a value
@@ -54,7 +53,7 @@ pub late_some : {S : Type 0} (p : Program) (m n : ℕ) (i : CodedInstance) (a : 
 late_some {S = S} p m n i a node xs x k is le below kind value elements = record {
   kept = λ q sound. late_grows p q m n le sound;
   answer = λ q sound coded. subst (λ (r : Program). Settles {S = S} r (late p n) (λ m. instance_by r m i) (Ok (Some x))) (sym sound.for)
-      (settles_by {S = S} p (late p n) (λ m. instance_by p m i) (λ m is. is) (Ok (Some x)) ((Truth true, has, value ∙ ap (λ (t : Kind). as_kind t (Truth true)) kind), elements));
+      (λ m named. subst (λ (l : Naming). HasThere {S = S} p (late p n) (instance_by p l i) (value_by l x)) (sym named) (Truth true, has, value ∙ ap (λ (t : Kind). as_kind t (Truth true)) kind), elements);
 }
   where
     there : has_below n (instance_of p (attribute_at a node xs)) (Truth true)

@@ -1,5 +1,5 @@
 -- What is no collection.
-use Rattle.std.proofs.Common.{◌≡◌, ◌∙◌, Bool, false, true, Option, None, Some, refl, sym}
+use Rattle.std.proofs.Common.{◌≡◌, ◌∙◌, Bool, false, Option, None, Some, refl, sym}
 use Rattle.std.specs.Option.{is_some}
 
 -- there is nothing where nothing is found

@@ -1,9 +1,10 @@
 // Demand over the systems that texts say: full cells, and what is known.
 ghost use Rattle.std.specs.Prelude.{◌≡◌, ◌<◌, IfOk, length};
-ghost use Rattle.equation_law.specs.Checked.{IsInstance, IsProgram};
+ghost use Rattle.equation_law.specs.Checked.{IsProgram};
 ghost use Rattle.equation_law.specs.Codes.{IsCoded, instance_of};
 ghost use Rattle.equation_law.specs.Systems.{program_of};
 ghost use Rattle.memo_cells.specs.Standing.{IsPassOf, Knows};
+ghost use Rattle.memo_cells.specs.Working.{IsInstanceByEach};
 
 use crate::programs::{Long, NOTHING, Texts, long_text, system_said};
 use caller_pass::{AskFault, Steps, ask};
@@ -184,7 +185,7 @@ fn ask_again<L: Ledger>(
     requires program { IsProgram (program_of system.now) }
     requires same { cells.now.system.value ≡ system.now }
     requires own { IsPassOf cells.now pass.old }
-    requires instance { IsInstance (program_of system.now) (instance_of (program_of system.now) i.now) }
+    requires instance { IsInstanceByEach (program_of system.now) i.now }
     requires coded { IsCoded (program_of system.now) i.now }
     requires known { Knows (program_of system.now) pass.old (instance_of (program_of system.now) i.now) }
     ensures none { evals.new ≡ evals.old }

@@ -1,6 +1,5 @@
 // Evaluations that go on where they stopped: no form over elements goes over one again that it has done with.
 ghost use Rattle.std.specs.Prelude.{◌≡◌, ◌<◌, ◌+◌, ◌*◌, ◌^◌};
-ghost use Rattle.equation_law.specs.Checked.{IsProgram};
 ghost use Rattle.equation_law.specs.Systems.{program_of};
 
 use crate::programs::{Long, Texts, long_text, system_said};

@@ -1,10 +1,10 @@
 // How often the members of a local set are evaluated, and which of them are sealed while it waits.
 ghost use Rattle.std.specs.Prelude.{◌≡◌, ◌<◌, IfOk, IfSome};
 ghost use Rattle.circular_eval.specs.Local.{IsLocalAt, IsStillLocal};
-ghost use Rattle.equation_law.specs.Checked.{IsInstance, IsProgram};
-ghost use Rattle.equation_law.specs.Codes.{IsCoded, instance_of};
+ghost use Rattle.equation_law.specs.Checked.{IsProgram};
+ghost use Rattle.equation_law.specs.Codes.{IsCoded};
 ghost use Rattle.equation_law.specs.Systems.{program_of};
-ghost use Rattle.memo_cells.specs.Working.{GoesOn, IsForSystem, IsOwn, ReadsOn};
+ghost use Rattle.memo_cells.specs.Working.{GoesOn, IsForSystem, IsInstanceByEach, IsOwn, ReadsOn};
 ghost use Rattle.rag_tests.specs.Circular.{IsCircular};
 
 use crate::programs::{Texts, system_said};
@@ -93,7 +93,7 @@ pub(crate) fn first_circular(
     requires program { IsProgram (program_of system.now) }
     requires same { IsForSystem work.old system.now }
     requires own { IsOwn work.old }
-    requires instance { IsInstance (program_of system.now) (instance_of (program_of system.now) i) }
+    requires instance { IsInstanceByEach (program_of system.now) i }
     requires coded { IsCoded (program_of system.now) i }
     ensures on { ReadsOn work.old work.new }
     ensures found { IfOk result (λ found. IfSome found (IsCircular (program_of system.now))) }

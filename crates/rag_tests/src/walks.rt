@@ -43,9 +43,9 @@ fn sum_along(
     requires program { IsProgram (program_of system.now) }
     requires same { IsForSystem work.old system.now }
     requires own { IsOwn work.old }
-    requires walk { IsWalk (program_of system.now) (told_by work.old).has offers.old }
+    requires walk { IsWalk (program_of system.now) (told_by work.old) offers.old }
     ensures on { ReadsOn work.old work.new }
-    ensures walk { IsWalk (program_of system.now) (told_by work.new).has offers.new }
+    ensures walk { IsWalk (program_of system.now) (told_by work.new) offers.new }
 {
     let i = Instance::Attr {
         attr: SUM,

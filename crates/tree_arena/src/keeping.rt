@@ -1,5 +1,5 @@
 // What a tree keeps of its nodes.
-ghost use Rattle.std.specs.Prelude.{◌≡◌, ◌<◌, ◌≤◌, ◌^◌, IfOk, length, map};
+ghost use Rattle.std.specs.Prelude.{◌≡◌, ◌<◌, ◌^◌, IfOk, length, map};
 ghost use Rattle.groups.specs.Groups.{places_of};
 ghost use Rattle.tree_arena.specs.Arena.{kept_of};
 ghost use Rattle.tree_arena.specs.Kept.{node_of};

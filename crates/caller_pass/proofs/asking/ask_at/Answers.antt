@@ -1,15 +1,15 @@
 use Rattle.std.proofs.Common.{sym, ap, subst, ◌∙◌}
 use Rattle.equation_law.specs.declared.system.System.{System}
-use Rattle.equation_law.specs.Checked.{IsInstance, IsProgram}
-use Rattle.equation_law.specs.Codes.{IsCoded, instance_of}
+use Rattle.equation_law.specs.Checked.{IsProgram}
+use Rattle.equation_law.specs.Codes.{IsCoded}
 use Rattle.equation_law.specs.Systems.{program_of}
 use Rattle.memo_cells.specs.declared.view.Frame.{Frame}
 use Rattle.memo_cells.specs.declared.view.View.{View}
 use Rattle.memo_cells.specs.Causes.{IsLogOn}
 use Rattle.memo_cells.specs.Standing.{IsPassOf}
 use Rattle.memo_cells.specs.Views.{IsAtLeast}
-use Rattle.memo_cells.specs.Working.{Held}
-use Rattle.caller_pass.specs.Answering.{AsksNoted}
+use Rattle.memo_cells.specs.Working.{Held, IsInstanceByEach}
+use Rattle.caller_pass.specs.Answering.{AsksNotedByEach}
 use Rattle.caller_pass.specs.Keeping.{IsNotebookOf}
 use Rattle.memo_cells.proofs.Holding.{own_then}
 use Rattle.caller_pass.proofs.asking.ask_at.Goals as goal
@@ -21,7 +21,7 @@ pub answer-came-requires-clause-program : goal.answer-came-requires-clause-progr
 answer-came-requires-clause-program g c = subst (λ (s : System). IsProgram (program_of s)) (sym c.requires.same) c.requires.program
 
 pub answer-came-requires-clause-instance : goal.answer-came-requires-clause-instance
-answer-came-requires-clause-instance g c = subst (λ (s : System). IsInstance (program_of s) (instance_of (program_of s) c.args.i.now)) (sym c.requires.same) c.requires.instance
+answer-came-requires-clause-instance g c = subst (λ (s : System). IsInstanceByEach (program_of s) c.args.i.now) (sym c.requires.same) c.requires.instance
 
 pub answer-came-requires-clause-coded : goal.answer-came-requires-clause-coded
 answer-came-requires-clause-coded g c = subst (λ (s : System). IsCoded (program_of s) c.args.i.now) (sym c.requires.same) c.requires.coded
@@ -42,4 +42,4 @@ returns-clause-notes g c =
     (subst (λ (s : System). IsNotebookOf s c.desk.inside.pass.now c.desk.inside.notes) same c.desk.invariant.0.1)
 
 pub returns-clause-asked : goal.returns-clause-asked
-returns-clause-asked g c = subst (λ (s : System). AsksNoted (program_of s) c.args.cells.now c.args.pass.now c.pass-1.given.0 (instance_of (program_of s) c.args.i.now) c.args.evals.now c.answer-came.new.evals c.answer-came.result) c.requires.same (subst (λ (v : View). AsksNoted (program_of c.args.cells.now.system.value) c.args.cells.now c.args.pass.now v (instance_of (program_of c.args.cells.now.system.value) c.args.i.now) c.args.evals.now c.answer-came.new.evals c.answer-came.result) (sym ((c.pass-1.given.1 (sym (ap (λ (h : Held). h.lender) c.desk.view_is ∙ c.answer-came.ensures.on.lender))) ∙ ap (λ (h : Held). h.view) c.desk.view_is)) c.answer-came.ensures.asked)
+returns-clause-asked g c = subst (λ (s : System). AsksNotedByEach (program_of s) c.args.cells.now c.args.pass.now c.pass-1.given.0 c.args.i.now c.args.evals.now c.answer-came.new.evals c.answer-came.result) c.requires.same (subst (λ (v : View). AsksNotedByEach (program_of c.args.cells.now.system.value) c.args.cells.now c.args.pass.now v c.args.i.now c.args.evals.now c.answer-came.new.evals c.answer-came.result) (sym ((c.pass-1.given.1 (sym (ap (λ (h : Held). h.lender) c.desk.view_is ∙ c.answer-came.ensures.on.lender))) ∙ ap (λ (h : Held). h.view) c.desk.view_is)) c.answer-came.ensures.asked)

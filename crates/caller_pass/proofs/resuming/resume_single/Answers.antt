@@ -1,16 +1,14 @@
-use Rattle.std.proofs.Common.{◌≡◌, None, sym, ap, subst}
+use Rattle.std.proofs.Common.{◌≡◌, None, sym, subst}
 use Rattle.equation_law.specs.declared.system.System.{System}
 use Rattle.equation_law.specs.declared.coding.Instance.{Instance as CodedInstance}
 use Rattle.equation_law.specs.Codes.{instance_of}
-use Rattle.equation_law.specs.Equations.{collection_of, equations_of}
-use Rattle.equation_law.specs.Reading.{IsSound, ReadsSources}
+use Rattle.equation_law.specs.Equations.{collection_of}
+use Rattle.equation_law.specs.Reading.{IsSound}
 use Rattle.equation_law.specs.Systems.{program_of}
-use Rattle.expr_eval.specs.BySources.{EvaluatesSources}
 use Rattle.expr_eval.specs.Saved.{AreSaved}
-use Rattle.expr_eval.proofs.BySources.{evaluates_sources}
+use Rattle.expr_eval.specs.Sites.{EvaluatesInstance}
 use Rattle.inherited_walk.specs.Sites.{FindsEquation}
 use Rattle.memo_cells.specs.Working.{Held, told_by}
-use Rattle.caller_pass.proofs.Desks.{desk_sources}
 use Rattle.caller_pass.proofs.resuming.resume_single.Goals as goal
 
 pub resume_at-requires-clause-sound : goal.resume_at-requires-clause-sound
@@ -30,16 +28,12 @@ resume_at-requires-clause-single c =
 pub returns-in-Attr-clause-evaluates : goal.returns-in-Attr-clause-evaluates
 returns-in-Attr-clause-evaluates c =
     let p = program_of c.args.system.now in
-    let d = c.args.desk.now in
     let e = c.site-site.new.self in
-    let sources = subst (λ (x : Held). ReadsSources p (told_by x)) (sym c.site-site.ensures.same) (desk_sources p d (sym (ap program_of c.requires.same))) in
-    subst (λ (x : Held). EvaluatesSources p (told_by x) (told_by c.resume_at.new.reader) ((equations_of p).equation (instance_of p c.args.i)) c.resume_at.result) c.site-site.ensures.same
-    (subst (λ (i : CodedInstance). EvaluatesSources p (told_by e) (told_by c.resume_at.new.reader) ((equations_of p).equation (instance_of p i)) c.resume_at.result) (sym c.in-Attr.is) (evaluates_sources sources c.resume_at.ensures.evaluates))
+    subst (λ (x : Held). EvaluatesInstance p (told_by x) (told_by c.resume_at.new.reader) c.args.i c.resume_at.result) c.site-site.ensures.same
+    (subst (λ (i : CodedInstance). EvaluatesInstance p (told_by e) (told_by c.resume_at.new.reader) i c.resume_at.result) (sym c.in-Attr.is) c.resume_at.ensures.evaluates)
 
 pub returns-in-Query-clause-evaluates : goal.returns-in-Query-clause-evaluates
-returns-in-Query-clause-evaluates c =
-    let p = program_of c.args.system.now in
-    evaluates_sources (desk_sources p c.args.desk.now (sym (ap program_of c.requires.same))) c.resume_instance.ensures.evaluates
+returns-in-Query-clause-evaluates c = c.resume_instance.ensures.evaluates
 
 pub resume_instance-requires-clause-single : goal.resume_instance-requires-clause-single
 resume_instance-requires-clause-single c = c.requires.single

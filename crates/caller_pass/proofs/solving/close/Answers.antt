@@ -1,7 +1,9 @@
 use Rattle.std.proofs.Common.{refl, subst, sym}
-use Rattle.equation_law.specs.Codes.{instance_of}
+use Rattle.equation_law.specs.Codes.{instance_of, source_names}
 use Rattle.equation_law.specs.Names.{Instance}
+use Rattle.equation_law.specs.Program.{text_of}
 use Rattle.equation_law.specs.Systems.{program_of}
+use Rattle.equation_law.proofs.Codes.{sources_named}
 use Rattle.memo_cells.specs.declared.view.Frame.{Frame}
 use Rattle.memo_cells.specs.Naming.{IsCellOf}
 use Rattle.memo_cells.specs.Working.{program_at}
@@ -32,7 +34,8 @@ closing-init g c = sealing_first c.args.i c.args.evals.now c.in_ok-slot.ensures.
 
 pub is_settled-requires : goal.is_settled-requires
 is_settled-requires g c =
-    subst (λ (f : Frame). (i : Instance) × IsCellOf (program_of f.system.value) f c.closing.desk.view i c.in_ok-slot.slot.0) (sym c.closing.invariant.cells) (instance_of (program_at c.args.desk.now) c.args.i, c.closing.invariant.cell)
+    let p = program_at c.args.desk.now in
+    subst (λ (f : Frame). (i : Instance) × IsCellOf (program_of f.system.value) f c.closing.desk.view i c.in_ok-slot.slot.0) (sym c.closing.invariant.cells) (instance_of p c.args.i, c.closing.invariant.cell (source_names (text_of p)) (sources_named p))
 
 pub close_more-requires-clause-program : goal.close_more-requires-clause-program
 close_more-requires-clause-program g c = more_program c.closing.invariant c.is_settled.ensures.on c.is_settled.result c.is_settled.ensures.told c.closing-test.true c.is_settled.ensures.cause c.requires.program

@@ -1,11 +1,13 @@
 use Rattle.std.proofs.Common.{inl, inr}
-use Rattle.equation_law.specs.Codes.{instance_of}
+use Rattle.equation_law.specs.Codes.{instance_of, source_names}
+use Rattle.equation_law.specs.Program.{text_of}
+use Rattle.equation_law.proofs.Codes.{sources_named}
 use Rattle.memo_cells.specs.Working.{program_at}
 use Rattle.caller_pass.proofs.Through.{evaluated, found_settled, program_loaded, turn_loaded, unsettled_loaded}
 use Rattle.caller_pass.proofs.solving.step.Goals as goal
 
 pub is_settled-requires : goal.is_settled-requires
-is_settled-requires g c = (instance_of (program_at c.args.desk.now) c.args.i, c.requires.frame.placed.slot)
+is_settled-requires g c = let p = program_at c.args.desk.now in (instance_of p c.args.i, (c.requires.frame (source_names (text_of p)) (sources_named p)).placed.slot)
 
 pub returns-then-is_settled : goal.returns-then-is_settled
 returns-then-is_settled g c = record { went = inl (found_settled c.requires.frame c.is_settled.ensures.on c.is_settled.result c.is_settled.ensures.told c.if-is_settled.true c.args.evals.now) }

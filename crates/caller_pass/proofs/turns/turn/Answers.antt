@@ -1,6 +1,6 @@
 use Rattle.std.proofs.Common.{◌≡◌, ap, sym, subst, ◌∙◌}
 use Rattle.equation_law.specs.declared.system.System.{System}
-use Rattle.equation_law.specs.Codes.{instance_of}
+use Rattle.equation_law.specs.Codes.{ByEachOrder, instance_by}
 use Rattle.equation_law.specs.Program.{Program}
 use Rattle.equation_law.specs.Systems.{program_of}
 use Rattle.memo_cells.specs.Working.{Held, IsOwn, program_at, told_by}
@@ -18,7 +18,7 @@ pub resume-requires-clause-left : goal.resume-requires-clause-left
 resume-requires-clause-left g c =
     let d = c.args.desk.now in
     let same = ap (λ (x : Held). x.frame.system.value) (sym c.desk.view_is) ∙ c.desk.invariant.1 in
-    subst (λ (s : System). AreLeft s (told_by d) (instance_of (program_of s) c.args.i) c.args.left.now) same (left_told d d.frame.system.value (instance_of (program_at d) c.args.i) c.args.left.now c.requires.left)
+    subst (λ (s : System). AreLeft s (told_by d) c.args.i c.args.left.now) same (left_told d d.frame.system.value c.args.i c.args.left.now c.requires.left)
 
 pub returns-clause-on : goal.returns-clause-on
 returns-clause-on g c = c.resume.ensures.evaluates.kept.kept c.args.desk.now (reads_itself c.args.desk.now (subst (λ (d : Held). IsOwn d) c.desk.view_is c.desk.invariant.0.0))
@@ -28,8 +28,8 @@ returns-clause-turned g c =
     let p = program_of c.desk.inside.system.now in
     let d = c.resume.new.desk in
     let same = ap (λ (x : Held). program_of x.frame.system.value) (sym c.desk.view_is) ∙ ap program_of c.desk.invariant.1 in
-    subst (λ (q : Program). TurnsTo q d.view (instance_of q c.args.i) c.resume.result) (sym same)
-    (turned p d (instance_of p c.args.i) c.resume.result c.resume.ensures.evaluates.kept.sound.for c.resume.ensures.evaluates.answer)
+    subst (λ (q : Program). ByEachOrder q (λ names. TurnsTo q names d.view (instance_by q names c.args.i) c.resume.result)) (sym same)
+    (turned p d c.args.i c.resume.result c.resume.ensures.evaluates.kept.sound.for c.resume.ensures.evaluates.answer)
 
 pub returns-clause-left : goal.returns-clause-left
 returns-clause-left g c =
@@ -37,5 +37,5 @@ returns-clause-left g c =
     let e = c.resume.new.desk in
     let same = ap (λ (x : Held). x.frame.system.value) (sym c.desk.view_is) ∙ c.desk.invariant.1 in
     let program : program_at e ≡ program_at d = sym c.resume.ensures.evaluates.kept.sound.for ∙ ap program_of (sym same) in
-    let here = subst (λ (s : System). AreLeft s (reads_known (program_at e) e.view) (instance_of (program_of s) c.args.i) c.resume.new.left) (sym same) (left_here e c.desk.inside.system.now (instance_of (program_of c.desk.inside.system.now) c.args.i) c.resume.new.left c.resume.ensures.left) in
-    subst (λ (q : Program). AreLeft d.frame.system.value (reads_known q e.view) (instance_of (program_at d) c.args.i) c.resume.new.left) program here
+    let here = subst (λ (s : System). AreLeft s (reads_known (program_at e) e.view) c.args.i c.resume.new.left) (sym same) (left_here e c.desk.inside.system.now c.args.i c.resume.new.left c.resume.ensures.left) in
+    subst (λ (q : Program). AreLeft d.frame.system.value (reads_known q e.view) c.args.i c.resume.new.left) program here

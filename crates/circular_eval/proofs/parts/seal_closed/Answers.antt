@@ -1,9 +1,9 @@
 use Rattle.std.proofs.Common.{inl, inr, slice_index_or, arith}
-use Rattle.circular_eval.proofs.Going.{with_then}
+use Rattle.circular_eval.proofs.Going.{ready_then, with_itself, with_then}
 use Rattle.worklists.proofs.Numbers.{number_within}
 use Rattle.circular_eval.proofs.Parting.{parts_stop}
 use Rattle.circular_eval.proofs.Raised.{err_is}
-use Rattle.circular_eval.proofs.Sealing.{is_sealed, same_then, sealed_more, waits_before, was_waiting}
+use Rattle.circular_eval.proofs.Sealing.{is_sealed, same_itself, same_then, sealed_more, waits_before, was_waiting}
 use Rattle.circular_eval.proofs.parts.seal_closed.Goals as goal
 
 pub returns-then-not-branch-clause-parts : goal.returns-then-not-branch-clause-parts
@@ -40,3 +40,14 @@ returns-clause-parts g c = record { goes = c.loop-number.invariant.goes; members
 
 pub returns-clause-sealed : goal.returns-clause-sealed
 returns-clause-sealed g c = inl (λ k h. c.loop-number.invariant.sealed h.0 k (omega (arith, h.1, c.loop-number.auto.number-index-end, c.loop-number-test.false)) h.2)
+
+pub loop-number-init : goal.loop-number-init
+loop-number-init g c = record {
+  goes = with_itself c.args.system.now (g.W.Words.held c.args.work.now) c.args.local.now c.requires.ready;
+  members = same_itself c.args.local.now.members.entries;
+  sealed = λ i k low. absurd (omega (arith, low));
+}
+
+pub seal_part-requires : goal.seal_part-requires
+seal_part-requires g c =
+    record { ready = ready_then c.args.system.now (g.W.Words.held c.args.work.now) (g.W.Words.held c.loop-number.work) c.args.local.now c.loop-number.local c.requires.ready c.loop-number.invariant.goes }

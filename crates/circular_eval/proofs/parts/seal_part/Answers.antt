@@ -48,3 +48,7 @@ returns-clause-answer g c =
     part_done c.args.system.now (g.W.Words.held c.args.work.now) c.args.local.now c.requires.ready c.args.number c.in-Some.i (sym c.in-Some.ensures) (g.W.Words.held c.finish.new.work) c.in_ok-part.part c.finish.new.local c.in_ok-part.ensures.start c.take_over.new.local
     (subst (λ (t : CircTurn). Advances (g.W.Words.held c.args.work.now) (g.W.Words.held c.finish.new.work) c.in_ok-part.part c.finish.new.local (Ok t)) c.in-Closed.is c.in_ok-finish.ensures)
     c.take_over.ensures.takes.members c.in_ok-take_over-in-Closed.ensures.sealed
+
+pub returns-in_err-part-clause-part : goal.returns-in_err-part-clause-part
+returns-in_err-part-clause-part g c =
+    parts_none c.args.system.now (g.W.Words.held c.args.work.now) c.args.local.now c.args.local.now c.requires.ready (with_itself c.args.system.now (g.W.Words.held c.args.work.now) c.args.local.now c.requires.ready) (same_itself c.args.local.now.members.entries) c.from_residual.result (err_memory c.from_residual.result (err_is c.from_residual.result Memory c.from_residual.ensures))

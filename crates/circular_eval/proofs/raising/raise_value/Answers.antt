@@ -17,10 +17,10 @@ pub raise-requires-clause-own : goal.raise-requires-clause-own
 raise-requires-clause-own g c = c.requires.own
 
 pub raise-requires-clause-slot : goal.raise-requires-clause-slot
-raise-requires-clause-slot g c = c.requires.may.1.cell.1.0
+raise-requires-clause-slot g c = c.requires.may.2.1.cell.1.0
 
 pub raise-requires-clause-may : goal.raise-requires-clause-may
-raise-requires-clause-may g c = truth_may (g.W.Words.held c.args.work.now) c.requires.may.0 c.args.slot.0 c.in-Truth-Truth.value c.in-Truth-Truth.other c.if-not-value.false (may_coded (g.W.Words.held c.args.work.now) c.requires.may.0 c.args.slot.0 c.args.value.now c.args.other.now (coded.Truth c.in-Truth-Truth.value) (coded.Truth c.in-Truth-Truth.other) c.in-Truth-Truth.is-0 c.in-Truth-Truth.is-1 c.requires.may.1)
+raise-requires-clause-may g c = truth_may (g.W.Words.held c.args.work.now) c.requires.may.0 c.requires.may.2.0 c.args.slot.0 c.in-Truth-Truth.value c.in-Truth-Truth.other c.if-not-value.false (may_coded (g.W.Words.held c.args.work.now) c.requires.may.0 c.requires.may.2.0 c.args.slot.0 c.args.value.now c.args.other.now (coded.Truth c.in-Truth-Truth.value) (coded.Truth c.in-Truth-Truth.other) c.in-Truth-Truth.is-0 c.in-Truth-Truth.is-1 c.requires.may.2.1)
 
 pub raise-requires-clause-some : goal.raise-requires-clause-some
 raise-requires-clause-some g c = search rules
@@ -34,7 +34,7 @@ pub raise_set-requires-clause-own : goal.raise_set-requires-clause-own
 raise_set-requires-clause-own g c = c.requires.own
 
 pub raise_set-requires-clause-may : goal.raise_set-requires-clause-may
-raise_set-requires-clause-may g c = (c.requires.may.0, texts_show (g.W.Words.held c.args.work.now) c.requires.may.0 c.args.slot.0 c.in-Texts-Texts.set (coded.Texts c.in-Texts-Texts.other) (may_coded (g.W.Words.held c.args.work.now) c.requires.may.0 c.args.slot.0 c.args.value.now c.args.other.now (coded.Texts c.in-Texts-Texts.set) (coded.Texts c.in-Texts-Texts.other) c.in-Texts-Texts.is-0 c.in-Texts-Texts.is-1 c.requires.may.1))
+raise_set-requires-clause-may g c = (c.requires.may.2.0, texts_show (g.W.Words.held c.args.work.now) c.requires.may.0 c.requires.may.1 c.requires.may.2.0 c.args.slot.0 c.in-Texts-Texts.set (coded.Texts c.in-Texts-Texts.other) (may_coded (g.W.Words.held c.args.work.now) c.requires.may.0 c.requires.may.2.0 c.args.slot.0 c.args.value.now c.args.other.now (coded.Texts c.in-Texts-Texts.set) (coded.Texts c.in-Texts-Texts.other) c.in-Texts-Texts.is-0 c.in-Texts-Texts.is-1 c.requires.may.2.1))
 
 pub returns-in_err-raise_set-in-Texts-Texts : goal.returns-in_err-raise_set-in-Texts-Texts
 returns-in_err-raise_set-in-Texts-Texts g c =
@@ -46,7 +46,7 @@ pub raise_set-requires-in-Nodes-Nodes-clause-own : goal.raise_set-requires-in-No
 raise_set-requires-in-Nodes-Nodes-clause-own g c = c.requires.own
 
 pub raise_set-requires-in-Nodes-Nodes-clause-may : goal.raise_set-requires-in-Nodes-Nodes-clause-may
-raise_set-requires-in-Nodes-Nodes-clause-may g c = (c.requires.may.0, nodes_show (g.W.Words.held c.args.work.now) c.requires.may.0 c.args.slot.0 c.in-Nodes-Nodes.set (coded.Nodes c.in-Nodes-Nodes.other) (may_coded (g.W.Words.held c.args.work.now) c.requires.may.0 c.args.slot.0 c.args.value.now c.args.other.now (coded.Nodes c.in-Nodes-Nodes.set) (coded.Nodes c.in-Nodes-Nodes.other) c.in-Nodes-Nodes.is-0 c.in-Nodes-Nodes.is-1 c.requires.may.1))
+raise_set-requires-in-Nodes-Nodes-clause-may g c = (c.requires.may.2.0, nodes_show (g.W.Words.held c.args.work.now) c.requires.may.0 c.requires.may.1 c.requires.may.2.0 c.args.slot.0 c.in-Nodes-Nodes.set (coded.Nodes c.in-Nodes-Nodes.other) (may_coded (g.W.Words.held c.args.work.now) c.requires.may.0 c.requires.may.2.0 c.args.slot.0 c.args.value.now c.args.other.now (coded.Nodes c.in-Nodes-Nodes.set) (coded.Nodes c.in-Nodes-Nodes.other) c.in-Nodes-Nodes.is-0 c.in-Nodes-Nodes.is-1 c.requires.may.2.1))
 
 pub returns-in_err-raise_set-in-Nodes-Nodes : goal.returns-in_err-raise_set-in-Nodes-Nodes
 returns-in_err-raise_set-in-Nodes-Nodes g c =
@@ -84,4 +84,4 @@ returns-in-Some-2 g c =
     (subst (λ (o : Option (List ℕ)). RaisesSet (g.W.Words.held c.args.work.now) (g.W.Words.held c.raise_set-in-Nodes-Nodes.new.work) c.args.slot.0 c.in-Nodes-Nodes.set c.in-Nodes-Nodes.other (Ok o)) c.in-Some-2.is c.in_ok-raise_set-in-Nodes-Nodes.ensures))
 
 pub returns-in_default : goal.returns-in_default
-returns-in_default g c = absurd (elim c.in_default.branch [ in_default-via-in-Truth+in_default w ↦ not_truth (program_at (g.W.Words.held c.args.work.now)) (kind_in (program_at (g.W.Words.held c.args.work.now)) c.requires.may.0) c.args.value.now c.args.other.now c.requires.may.1.typed c.requires.may.1.fits w.in_default.field-0-0 w.in_default.is-0 w.in_default.not-Truth-1 | in_default-via-in-Texts+in_default w ↦ not_texts (program_at (g.W.Words.held c.args.work.now)) (kind_in (program_at (g.W.Words.held c.args.work.now)) c.requires.may.0) c.args.value.now c.args.other.now c.requires.may.1.typed c.requires.may.1.fits w.in_default.field-0-0 w.in_default.is-0 w.in_default.not-Texts-1 | in_default-via-in-Nodes+in_default w ↦ not_nodes (program_at (g.W.Words.held c.args.work.now)) (kind_in (program_at (g.W.Words.held c.args.work.now)) c.requires.may.0) c.args.value.now c.args.other.now c.requires.may.1.typed c.requires.may.1.fits w.in_default.field-0-0 w.in_default.is-0 w.in_default.not-Nodes-1 | in_default-via-in_default w ↦ not_single (program_at (g.W.Words.held c.args.work.now)) (kind_in (program_at (g.W.Words.held c.args.work.now)) c.requires.may.0) c.args.value.now c.args.other.now c.requires.may.1.typed c.requires.may.1.fits w.in_default.not-Truth-0 w.in_default.not-Texts-0 w.in_default.not-Nodes-0 ])
+returns-in_default g c = absurd (elim c.in_default.branch [ in_default-via-in-Truth+in_default w ↦ not_truth (program_at (g.W.Words.held c.args.work.now)) c.requires.may.0 (kind_in (program_at (g.W.Words.held c.args.work.now)) c.requires.may.2.0) c.args.value.now c.args.other.now c.requires.may.2.1.typed c.requires.may.2.1.fits w.in_default.field-0-0 w.in_default.is-0 w.in_default.not-Truth-1 | in_default-via-in-Texts+in_default w ↦ not_texts (program_at (g.W.Words.held c.args.work.now)) c.requires.may.0 (kind_in (program_at (g.W.Words.held c.args.work.now)) c.requires.may.2.0) c.args.value.now c.args.other.now c.requires.may.2.1.typed c.requires.may.2.1.fits w.in_default.field-0-0 w.in_default.is-0 w.in_default.not-Texts-1 | in_default-via-in-Nodes+in_default w ↦ not_nodes (program_at (g.W.Words.held c.args.work.now)) c.requires.may.0 (kind_in (program_at (g.W.Words.held c.args.work.now)) c.requires.may.2.0) c.args.value.now c.args.other.now c.requires.may.2.1.typed c.requires.may.2.1.fits w.in_default.field-0-0 w.in_default.is-0 w.in_default.not-Nodes-1 | in_default-via-in_default w ↦ not_single (program_at (g.W.Words.held c.args.work.now)) c.requires.may.0 (kind_in (program_at (g.W.Words.held c.args.work.now)) c.requires.may.2.0) c.args.value.now c.args.other.now c.requires.may.2.1.typed c.requires.may.2.1.fits w.in_default.not-Truth-0 w.in_default.not-Texts-0 w.in_default.not-Nodes-0 ])

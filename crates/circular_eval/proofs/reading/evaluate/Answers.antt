@@ -1,13 +1,12 @@
 use Rattle.std.proofs.Common.{refl, ap, sym, subst}
-use Rattle.equation_law.specs.Codes.{instance_of}
 use Rattle.equation_law.specs.Program.{Program}
 use Rattle.expr_eval.specs.Saved.{AreSaved}
 use Rattle.memo_cells.specs.Working.{ReadsOn}
 use Rattle.circular_eval.specs.declared.local.Local.{Local}
 use Rattle.circular_eval.specs.Local.{reads_here}
-use Rattle.circular_eval.specs.Looking.{ComesHere, ComesTo}
+use Rattle.circular_eval.specs.Looking.{ComesHere}
 use Rattle.circular_eval.proofs.Raised.{err_ok}
-use Rattle.circular_eval.proofs.Settling.{came_to}
+use Rattle.circular_eval.proofs.Settling.{came_here}
 use Rattle.equation_law.specs.Systems.{program_of}
 use Rattle.memo_cells.proofs.Holding.{reads_itself}
 use Rattle.circular_eval.proofs.Looking.{here_sound, saved_here, saved_there}
@@ -47,13 +46,12 @@ pub returns-clause-came : goal.returns-clause-came
 returns-clause-came g c =
     let l = c.resume_instance-turn.ensures.evaluates.kept.kept (record { system = c.args.system; work = record { ref_ptr = c.resume_instance-turn.new.reader.work.ref_ptr; ghost_name = c.reader-1.given; now = c.args.work.now }; local = c.args.local; read = c.resume_instance-turn.new.reader.read }) (reads_itself (g.W.Words.held c.args.work.now) c.requires.own, refl, refl, refl) in
     let back = c.work-1.given.1 (sym l.1) in
-    let p = program_of c.args.system.now in
-    let i = instance_of p c.args.i.now in
     let e = g.W.Words.held c.resume_instance-turn.new.reader.work.now in
+    let es = c.resume_instance-turn.new.reader.local.now.members.entries in
+    let for = c.resume_instance-turn.ensures.evaluates.kept.sound.for in
     subst (λ (x : g.row.W.Denot). ComesHere (g.W.Words.held x) c.args.local.now c.args.i.now c.in_ok-turn.field-0) (sym back)
-    (subst (λ (q : Program). ComesTo q e.view c.args.local.now.members.entries (instance_of q c.args.i.now) c.in_ok-turn.field-0) c.resume_instance-turn.ensures.evaluates.kept.sound.for.0
-    (subst (λ (m : Local). ComesTo p (g.W.Words.held c.resume_instance-turn.new.reader.work.now).view m.members.entries i c.in_ok-turn.field-0) l.2
-    (came_to p (g.W.Words.held c.resume_instance-turn.new.reader.work.now) c.resume_instance-turn.new.reader.system.now c.resume_instance-turn.new.reader.local.now.members.entries _ c.args.i.now c.in_ok-turn.field-0 c.resume_instance-turn.ensures.evaluates.kept.sound.for.0 c.in_ok-turn.ensures.evaluates.answer)))
+    (subst (λ (m : Local). ComesHere e m c.args.i.now c.in_ok-turn.field-0) l.2
+    (came_here (program_of c.args.system.now) e c.resume_instance-turn.new.reader.system.now es _ c.args.i.now c.in_ok-turn.field-0 for.0 for.3 c.in_ok-turn.ensures.evaluates.answer))
 
 pub returns-in_err-turn-clause-saved : goal.returns-in_err-turn-clause-saved
 returns-in_err-turn-clause-saved g c =

@@ -1,7 +1,5 @@
 use Rattle.std.proofs.Common.{Option, Ok, ap, sym, ◌∙◌}
 use Rattle.equation_law.specs.declared.coding.Value.{Value as CodedValue}
-use Rattle.equation_law.specs.Codes.{instance_of}
-use Rattle.memo_cells.specs.Working.{program_at}
 use Rattle.circular_eval.specs.declared.advancing.CircFault.TheVariants.{Memory}
 use Rattle.circular_eval.proofs.Absorbing.{absorb_changed, absorb_late, absorb_refused, absorb_same, may_rise, no_member, no_slot}
 use Rattle.circular_eval.proofs.Raised.{err_is}
@@ -21,7 +19,7 @@ raise_value-requires-clause-own g c =
 
 pub raise_value-requires-clause-may : goal.raise_value-requires-clause-may
 raise_value-requires-clause-may g c =
-    (instance_of (program_at (g.W.Words.held c.args.work.now)) c.requires.came.entry.0, may_rise c.requires.ready.0 (g.W.Words.held c.args.work.now) c.args.local.now c.requires.ready.1 c.args.number c.args.value.now c.requires.came (c.in-Some.field-0-0.now, c.in-Some.member.now) (sym c.in-Some.ensures) c.in-Some-slot.slot c.in-Some-slot.is)
+    may_rise c.requires.ready.0 (g.W.Words.held c.args.work.now) c.args.local.now c.requires.ready.1 c.args.number c.args.value.now c.requires.came (c.in-Some.field-0-0.now, c.in-Some.member.now) (sym c.in-Some.ensures) c.in-Some-slot.slot c.in-Some-slot.is
 
 pub returns-in_err-value : goal.returns-in_err-value
 returns-in_err-value g c =

@@ -1,8 +1,8 @@
 use Rattle.std.proofs.Common.{ap, subst, sym}
 use Rattle.equation_law.specs.Systems.{program_of}
 use Rattle.collection_attrs.specs.Walks.{IsWalk, Walk}
-use Rattle.collection_attrs.proofs.Found.{walk_for}
-use Rattle.collection_attrs.proofs.Grown.{survey_new}
+use Rattle.collection_attrs.proofs.Found.{walk_for_each}
+use Rattle.collection_attrs.proofs.Grown.{naming_of, survey_new}
 use Rattle.collection_attrs.proofs.Surveying.{rootless}
 use Rattle.collection_attrs.proofs.Walked.{walk_begins}
 use Rattle.collection_attrs.proofs.evaluating.collect.Goals as goal
@@ -13,14 +13,14 @@ returns-in_default g c = λ x is. rootless c.requires.sound is (c.in_default.ens
 pub go_on-requires-clause-walk : goal.go_on-requires-clause-walk
 go_on-requires-clause-walk g c =
     let p = program_of c.args.system.now in
-    let A = (g.R.Reader.tells c.args.reader.now).has in
-    subst (λ (w : Walk). IsWalk p A w) (sym c.new-offers.ensures) (walk_begins p A c.args.of.attr.0 c.in-Some.root c.in-Some.ensures.within)
+    let t = g.R.Reader.tells c.args.reader.now in
+    subst (λ (w : Walk). IsWalk p t w) (sym c.new-offers.ensures) (walk_begins p t c.args.of.attr.0 c.in-Some.root c.in-Some.ensures.within)
 
 pub go_on-requires-clause-collection : goal.go_on-requires-clause-collection
 go_on-requires-clause-collection g c =
     let p = program_of c.args.system.now in
-    let A = (g.R.Reader.tells c.args.reader.now).has in
+    let t = g.R.Reader.tells c.args.reader.now in
     let d = c.requires.collection.0 in
     let of = c.requires.collection.1 in
-    let for = walk_for p d c.new-offers.result c.args.of.attr.0 c.in-Some.root (ap (λ (w : Walk). w.attribute) c.new-offers.ensures) (ap (λ (w : Walk). w.root) c.new-offers.ensures) (c.in-Some.ensures.some d of) in
-    (d, of, for, survey_new p A of c.new-survey.ensures)
+    let for = walk_for_each p d c.new-offers.result c.args.of.attr.0 c.in-Some.root (ap (λ (w : Walk). w.attribute) c.new-offers.ensures) (ap (λ (w : Walk). w.root) c.new-offers.ensures) (c.in-Some.ensures.some d of) in
+    (d, of, for, survey_new t (naming_of c.requires.sound) of c.new-survey.ensures)

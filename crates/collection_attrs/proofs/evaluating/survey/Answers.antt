@@ -1,15 +1,14 @@
-use Rattle.std.proofs.Common.{subst, sym}
-use Rattle.solutions.specs.Asking.{Demands}
-use Rattle.equation_law.specs.Codes.{instance_of}
-use Rattle.equation_law.specs.Names.{Instance}
+use Rattle.std.proofs.Common.{sym}
+use Rattle.equation_law.specs.Codes.{instance_by}
 use Rattle.equation_law.specs.Systems.{program_of}
-use Rattle.equation_law.specs.Values.{Value}
 use Rattle.equation_law.proofs.Sites.{demanded_of_collection}
-use Rattle.expr_eval.specs.BySources.{EvaluatesSources}
+use Rattle.collection_attrs.proofs.Grown.{naming_of}
+use Rattle.collection_attrs.proofs.Outcomes.{evaluates_as}
 use Rattle.collection_attrs.proofs.evaluating.survey.Goals as goal
 
 pub returns : goal.returns
 returns g c =
     let p = program_of c.args.system.now in
     let found = c.in-Some.ensures.some in
-    subst (λ (d : Demands Instance Value). EvaluatesSources p (g.R.Reader.tells c.args.reader.now) (g.R.Reader.tells c.collect.new.reader) d c.collect.result) (sym (demanded_of_collection p (instance_of p c.args.i.now) found.0 found.1)) (c.collect.ensures found.0 found.2)
+    let h = c.collect.ensures found.0 found.2 in
+    evaluates_as (λ names in_it. sym (demanded_of_collection p (instance_by p names c.args.i.now) (found.0 names) (found.1 names (naming_of h.kept.sound names in_it)))) h

@@ -1,9 +1,8 @@
 use Rattle.std.proofs.Common.{◌∙◌, Some, None, ap, slice_get, subst, sym}
 use Rattle.std.proofs.lemmas.Option.{slice_get_within}
-use Rattle.equation_law.specs.Codes.{instance_of, reference_of}
 use Rattle.equation_law.specs.Systems.{program_of}
 use Rattle.collection_attrs.specs.Walks.{IsWalk, Walk}
-use Rattle.collection_attrs.proofs.Grown.{walk_grows}
+use Rattle.collection_attrs.proofs.Grown.{naming_of, walk_grows}
 use Rattle.collection_attrs.proofs.Stepping.{code_of, passes, sought, stands_before, weighed_at}
 use Rattle.collection_attrs.proofs.passing.pass_next.Goals as goal
 
@@ -17,12 +16,12 @@ weigh-requires-clause-known g c =
 pub returns-in_err-weigh-clause-walk : goal.returns-in_err-weigh-clause-walk
 returns-in_err-weigh-clause-walk g c =
     let p = program_of c.args.system.now in
-    sought p (g.R.Reader.tells c.weigh.new.reader).has c.args.offers.now c.seek.new.self (walk_grows c.in_err-weigh.ensures.kept c.requires.walk) c.seek.ensures.same.2 c.seek.ensures.stands c.seek.ensures.passed
+    sought p (g.R.Reader.tells c.weigh.new.reader) c.args.offers.now c.seek.new.self (walk_grows c.in_err-weigh.ensures.kept c.requires.walk) c.seek.ensures.same.2 c.seek.ensures.stands c.seek.ensures.passed
 
 pub returns-in-Stuck-clause-walk : goal.returns-in-Stuck-clause-walk
 returns-in-Stuck-clause-walk g c =
     let p = program_of c.args.system.now in
-    sought p (g.R.Reader.tells c.weigh.new.reader).has c.args.offers.now c.seek.new.self (walk_grows c.in_ok-weigh.ensures.kept c.requires.walk) c.seek.ensures.same.2 c.seek.ensures.stands c.seek.ensures.passed
+    sought p (g.R.Reader.tells c.weigh.new.reader) c.args.offers.now c.seek.new.self (walk_grows c.in_ok-weigh.ensures.kept c.requires.walk) c.seek.ensures.same.2 c.seek.ensures.stands c.seek.ensures.passed
 
 pub returns-in-Stuck-clause-passage : goal.returns-in-Stuck-clause-passage
 returns-in-Stuck-clause-passage g c =
@@ -31,8 +30,8 @@ returns-in-Stuck-clause-passage g c =
     let w = c.seek.new.self in
     let grown = walk_grows c.in_ok-weigh.ensures.kept c.requires.walk in
     let some = c.in-Some.ensures.some in
-    let weighed = weighed_at p (g.R.Reader.tells c.weigh.new.reader).has w c.in-Some.node c.in-Some.number some.0 some.1 some.3 c.in-Stuck.is c.in_ok-weigh.ensures.weighed in
-    (c.seek.ensures.same.2, weighed.0, stands_before p (g.R.Reader.tells c.weigh.new.reader).has v w grown c.seek.ensures.same.2 c.seek.ensures.stands c.seek.ensures.passed (code_of some.0 c.in-Some.ensures.few.0) some.2 some.3 (instance_of p c.in-Stuck.instance) weighed.1)
+    let weighed = weighed_at p (g.R.Reader.tells c.weigh.new.reader) (naming_of c.in_ok-weigh.ensures.kept.sound) w c.in-Some.node c.in-Some.number c.seek.ensures.stands some.2 some.0 some.1 some.3 c.in-Stuck.is c.in_ok-weigh.ensures.weighed in
+    (c.seek.ensures.same.2, weighed.0, stands_before p (g.R.Reader.tells c.weigh.new.reader) v w grown c.seek.ensures.same.2 c.seek.ensures.stands c.seek.ensures.passed (code_of some.0 c.in-Some.ensures.few.0) some.2 some.3 c.in-Stuck.instance weighed.1)
 
 pub returns-in-Unmet-clause-walk : goal.returns-in-Unmet-clause-walk
 returns-in-Unmet-clause-walk g c =
@@ -41,8 +40,8 @@ returns-in-Unmet-clause-walk g c =
     let w = c.seek.new.self in
     let grown = walk_grows c.in_ok-weigh.ensures.kept c.requires.walk in
     let some = c.in-Some.ensures.some in
-    let weighed = weighed_at p (g.R.Reader.tells c.weigh.new.reader).has w c.in-Some.node c.in-Some.number some.0 some.1 some.3 c.in-Unmet.is c.in_ok-weigh.ensures.weighed in
-    (passes p (g.R.Reader.tells c.weigh.new.reader).has v w grown c.seek.ensures.same.2 c.seek.ensures.stands c.seek.ensures.passed (code_of some.0 c.in-Some.ensures.few.0) some.2 some.3 c.pass.new.self None c.pass.ensures weighed).walk
+    let weighed = weighed_at p (g.R.Reader.tells c.weigh.new.reader) (naming_of c.in_ok-weigh.ensures.kept.sound) w c.in-Some.node c.in-Some.number c.seek.ensures.stands some.2 some.0 some.1 some.3 c.in-Unmet.is c.in_ok-weigh.ensures.weighed in
+    (passes p (g.R.Reader.tells c.weigh.new.reader) v w grown c.seek.ensures.same.2 c.seek.ensures.stands c.seek.ensures.passed (code_of some.0 c.in-Some.ensures.few.0) some.2 some.3 c.pass.new.self None c.pass.ensures weighed).walk
 
 pub returns-in-Unmet-clause-passage : goal.returns-in-Unmet-clause-passage
 returns-in-Unmet-clause-passage g c =
@@ -51,8 +50,8 @@ returns-in-Unmet-clause-passage g c =
     let w = c.seek.new.self in
     let grown = walk_grows c.in_ok-weigh.ensures.kept c.requires.walk in
     let some = c.in-Some.ensures.some in
-    let weighed = weighed_at p (g.R.Reader.tells c.weigh.new.reader).has w c.in-Some.node c.in-Some.number some.0 some.1 some.3 c.in-Unmet.is c.in_ok-weigh.ensures.weighed in
-    (passes p (g.R.Reader.tells c.weigh.new.reader).has v w grown c.seek.ensures.same.2 c.seek.ensures.stands c.seek.ensures.passed (code_of some.0 c.in-Some.ensures.few.0) some.2 some.3 c.pass.new.self None c.pass.ensures weighed).more
+    let weighed = weighed_at p (g.R.Reader.tells c.weigh.new.reader) (naming_of c.in_ok-weigh.ensures.kept.sound) w c.in-Some.node c.in-Some.number c.seek.ensures.stands some.2 some.0 some.1 some.3 c.in-Unmet.is c.in_ok-weigh.ensures.weighed in
+    (passes p (g.R.Reader.tells c.weigh.new.reader) v w grown c.seek.ensures.same.2 c.seek.ensures.stands c.seek.ensures.passed (code_of some.0 c.in-Some.ensures.few.0) some.2 some.3 c.pass.new.self None c.pass.ensures weighed).more
 
 pub returns-in_ok-keep-in-Met-clause-walk : goal.returns-in_ok-keep-in-Met-clause-walk
 returns-in_ok-keep-in-Met-clause-walk g c =
@@ -61,8 +60,8 @@ returns-in_ok-keep-in-Met-clause-walk g c =
     let w = c.seek.new.self in
     let grown = walk_grows c.in_ok-weigh.ensures.kept c.requires.walk in
     let some = c.in-Some.ensures.some in
-    let weighed = weighed_at p (g.R.Reader.tells c.weigh.new.reader).has w c.in-Some.node c.in-Some.number some.0 some.1 some.3 c.in-Met.is c.in_ok-weigh.ensures.weighed in
-    (passes p (g.R.Reader.tells c.weigh.new.reader).has v w grown c.seek.ensures.same.2 c.seek.ensures.stands c.seek.ensures.passed (code_of some.0 c.in-Some.ensures.few.0) some.2 some.3 c.keep.new.self (Some (reference_of c.in-Met.receiver.0)) c.in_ok-keep-in-Met.ensures.kept weighed).walk
+    let weighed = weighed_at p (g.R.Reader.tells c.weigh.new.reader) (naming_of c.in_ok-weigh.ensures.kept.sound) w c.in-Some.node c.in-Some.number c.seek.ensures.stands some.2 some.0 some.1 some.3 c.in-Met.is c.in_ok-weigh.ensures.weighed in
+    (passes p (g.R.Reader.tells c.weigh.new.reader) v w grown c.seek.ensures.same.2 c.seek.ensures.stands c.seek.ensures.passed (code_of some.0 c.in-Some.ensures.few.0) some.2 some.3 c.keep.new.self (Some c.in-Met.receiver.0) c.in_ok-keep-in-Met.ensures.kept weighed).walk
 
 pub returns-in_ok-keep-in-Met-clause-passage : goal.returns-in_ok-keep-in-Met-clause-passage
 returns-in_ok-keep-in-Met-clause-passage g c =
@@ -71,11 +70,11 @@ returns-in_ok-keep-in-Met-clause-passage g c =
     let w = c.seek.new.self in
     let grown = walk_grows c.in_ok-weigh.ensures.kept c.requires.walk in
     let some = c.in-Some.ensures.some in
-    let weighed = weighed_at p (g.R.Reader.tells c.weigh.new.reader).has w c.in-Some.node c.in-Some.number some.0 some.1 some.3 c.in-Met.is c.in_ok-weigh.ensures.weighed in
-    (passes p (g.R.Reader.tells c.weigh.new.reader).has v w grown c.seek.ensures.same.2 c.seek.ensures.stands c.seek.ensures.passed (code_of some.0 c.in-Some.ensures.few.0) some.2 some.3 c.keep.new.self (Some (reference_of c.in-Met.receiver.0)) c.in_ok-keep-in-Met.ensures.kept weighed).more
+    let weighed = weighed_at p (g.R.Reader.tells c.weigh.new.reader) (naming_of c.in_ok-weigh.ensures.kept.sound) w c.in-Some.node c.in-Some.number c.seek.ensures.stands some.2 some.0 some.1 some.3 c.in-Met.is c.in_ok-weigh.ensures.weighed in
+    (passes p (g.R.Reader.tells c.weigh.new.reader) v w grown c.seek.ensures.same.2 c.seek.ensures.stands c.seek.ensures.passed (code_of some.0 c.in-Some.ensures.few.0) some.2 some.3 c.keep.new.self (Some c.in-Met.receiver.0) c.in_ok-keep-in-Met.ensures.kept weighed).more
 
 pub returns-in_err-keep-in-Met-clause-walk : goal.returns-in_err-keep-in-Met-clause-walk
 returns-in_err-keep-in-Met-clause-walk g c =
     let p = program_of c.args.system.now in
     let grown = walk_grows c.in_ok-weigh.ensures.kept c.requires.walk in
-    subst (λ (u : Walk). IsWalk p (g.R.Reader.tells c.weigh.new.reader).has u) (sym c.in_err-keep-in-Met.ensures.stays) (sought p (g.R.Reader.tells c.weigh.new.reader).has c.args.offers.now c.seek.new.self grown c.seek.ensures.same.2 c.seek.ensures.stands c.seek.ensures.passed)
+    subst (λ (u : Walk). IsWalk p (g.R.Reader.tells c.weigh.new.reader) u) (sym c.in_err-keep-in-Met.ensures.stays) (sought p (g.R.Reader.tells c.weigh.new.reader) c.args.offers.now c.seek.new.self grown c.seek.ensures.same.2 c.seek.ensures.stands c.seek.ensures.passed)

@@ -1,9 +1,8 @@
 use Rattle.std.proofs.Common.{◌∙◌, sym}
-use Rattle.solutions.proofs.Runs.{ends_more}
-use Rattle.equation_law.specs.Codes.{instance_of, reference_of, source_names}
-use Rattle.equation_law.specs.Program.{text_of}
+use Rattle.equation_law.specs.Codes.{instance_by, reference_by}
 use Rattle.equation_law.specs.Systems.{program_of}
 use Rattle.expr_eval.proofs.Forms.{grows_then}
+use Rattle.expr_eval.proofs.Growing.{comes_more}
 use Rattle.collection_attrs.proofs.Stepping.{at_rules, condition_is, receiver_known}
 use Rattle.collection_attrs.proofs.Outcomes.{given, stopped, weighs_halted, weighs_met, weighs_stuck, weighs_unmet}
 use Rattle.collection_attrs.proofs.weighing.weigh.Goals as goal
@@ -23,12 +22,12 @@ returns-in-Need-clause-kept g c =
     first.kept
 
 pub returns-in-Need-clause-weighed : goal.returns-in-Need-clause-weighed
-returns-in-Need-clause-weighed g c = λ b is.
+returns-in-Need-clause-weighed g c = λ b is stands.
     let p = program_of c.args.system.now in
     let at = at_rules p c.rules.ensures c.contribution-contribution.ensures in
     let first = c.in_ok-instance.ensures.evaluates at.contribution.condition (condition_is p c.rules.ensures c.contribution-contribution.ensures) in
     let stop = stopped first c.in-Need.is in
-    (stop.coded, weighs_halted p (g.R.Reader.tells c.condition.new.reader).has c.args.number c.args.node at.is is (instance_of p c.in-Need.instance) stop.halts)
+    (stop.coded, λ names in_it. weighs_halted p (g.R.Reader.tells c.condition.new.reader).has names c.args.number c.args.node (stands names in_it) at.is is (instance_by p names c.in-Need.instance) (stop.wants names in_it))
 
 pub returns-then-not-truth-clause-kept : goal.returns-then-not-truth-clause-kept
 returns-then-not-truth-clause-kept g c =
@@ -38,11 +37,11 @@ returns-then-not-truth-clause-kept g c =
     first.kept
 
 pub returns-then-not-truth-clause-weighed : goal.returns-then-not-truth-clause-weighed
-returns-then-not-truth-clause-weighed g c = λ b is.
+returns-then-not-truth-clause-weighed g c = λ b is stands.
     let p = program_of c.args.system.now in
     let at = at_rules p c.rules.ensures c.contribution-contribution.ensures in
     let first = c.in_ok-instance.ensures.evaluates at.contribution.condition (condition_is p c.rules.ensures c.contribution-contribution.ensures) in
-    weighs_unmet p (g.R.Reader.tells c.condition.new.reader).has c.args.number c.args.node at.is is (given first c.in-Done.is).ends (sym (c.truth.ensures (source_names (text_of p))) ∙ c.if-not-truth.true)
+    λ names in_it. weighs_unmet p (g.R.Reader.tells c.condition.new.reader).has names c.args.number c.args.node (stands names in_it) at.is is ((given first c.in-Done.is).comes names in_it) (sym (c.truth.ensures names) ∙ c.if-not-truth.true)
 
 pub evaluate_part-requires-clause-known : goal.evaluate_part-requires-clause-known
 evaluate_part-requires-clause-known g c = receiver_known (program_of c.args.system.now) c.rules.ensures c.contribution-contribution.ensures
@@ -53,13 +52,6 @@ evaluate_part-requires-clause-sound g c =
     let at = at_rules p c.rules.ensures c.contribution-contribution.ensures in
     let first = c.in_ok-instance.ensures.evaluates at.contribution.condition (condition_is p c.rules.ensures c.contribution-contribution.ensures) in
     first.kept.sound
-
-pub evaluate_part-requires-clause-sources : goal.evaluate_part-requires-clause-sources
-evaluate_part-requires-clause-sources g c =
-    let p = program_of c.args.system.now in
-    let at = at_rules p c.rules.ensures c.contribution-contribution.ensures in
-    let first = c.in_ok-instance.ensures.evaluates at.contribution.condition (condition_is p c.rules.ensures c.contribution-contribution.ensures) in
-    first.kept.sources c.requires.sources
 
 pub returns-in_err-instance-in-Done-clause-kept : goal.returns-in_err-instance-in-Done-clause-kept
 returns-in_err-instance-in-Done-clause-kept g c =
@@ -78,14 +70,14 @@ returns-in-Need-2-clause-kept g c =
     grows_then first.kept second.kept
 
 pub returns-in-Need-2-clause-weighed : goal.returns-in-Need-2-clause-weighed
-returns-in-Need-2-clause-weighed g c = λ b is.
+returns-in-Need-2-clause-weighed g c = λ b is stands.
     let p = program_of c.args.system.now in
     let at = at_rules p c.rules.ensures c.contribution-contribution.ensures in
     let first = c.in_ok-instance.ensures.evaluates at.contribution.condition (condition_is p c.rules.ensures c.contribution-contribution.ensures) in
     let second = c.in_ok-instance-in-Done.ensures.evaluates at.contribution.receiver at.receiver in
     let stop = stopped second c.in-Need-2.is in (
       stop.coded,
-      weighs_stuck p (g.R.Reader.tells c.evaluate_part.new.reader).has c.args.number c.args.node at.is is (instance_of p c.in-Need-2.instance) (ends_more second.kept.values (given first c.in-Done.is).ends) (sym (c.truth.ensures (source_names (text_of p))) ∙ c.if-not-truth.false) stop.halts,
+      λ names in_it. weighs_stuck p (g.R.Reader.tells c.evaluate_part.new.reader).has names c.args.number c.args.node (stands names in_it) at.is is (instance_by p names c.in-Need-2.instance) (comes_more second.kept.values ((given first c.in-Done.is).comes names (second.kept.names names in_it))) (sym (c.truth.ensures names) ∙ c.if-not-truth.false) (stop.wants names in_it),
     )
 
 pub returns-clause-kept : goal.returns-clause-kept
@@ -97,9 +89,9 @@ returns-clause-kept g c =
     grows_then first.kept second.kept
 
 pub returns-clause-weighed : goal.returns-clause-weighed
-returns-clause-weighed g c = λ b is.
+returns-clause-weighed g c = λ b is stands.
     let p = program_of c.args.system.now in
     let at = at_rules p c.rules.ensures c.contribution-contribution.ensures in
     let first = c.in_ok-instance.ensures.evaluates at.contribution.condition (condition_is p c.rules.ensures c.contribution-contribution.ensures) in
     let second = c.in_ok-instance-in-Done.ensures.evaluates at.contribution.receiver at.receiver in
-    weighs_met p (g.R.Reader.tells c.evaluate_part.new.reader).has c.args.number c.args.node at.is is (ends_more second.kept.values (given first c.in-Done.is).ends) (sym (c.truth.ensures (source_names (text_of p))) ∙ c.if-not-truth.false) (given second c.in-Done-2.is).ends (reference_of c.node.result.0) (c.node.ensures (source_names (text_of p)))
+    λ names in_it. weighs_met p (g.R.Reader.tells c.evaluate_part.new.reader).has names c.args.number c.args.node (stands names in_it) at.is is (comes_more second.kept.values ((given first c.in-Done.is).comes names (second.kept.names names in_it))) (sym (c.truth.ensures names) ∙ c.if-not-truth.false) ((given second c.in-Done-2.is).comes names in_it) (reference_by names.node c.node.result.0) (c.node.ensures names)

@@ -1,4 +1,4 @@
-use Rattle.std.proofs.Common.{ℕ, Vec, Global, ◌+◌, ◌<◌, ◌≤◌, length, sym, ◌∙◌, subst, arith, rules}
+use Rattle.std.proofs.Common.{ℕ, Vec, Global, ◌+◌, ◌<◌, length, sym, ◌∙◌, subst, arith}
 use Rattle.equation_law.proofs.Spanned.{AreMet, item_at, met_all, met_class, met_other}
 use Rattle.equation_law.proofs.spans.of_classes.Goals.{then-class-classes, else-class-classes}
 use Rattle.equation_law.proofs.spans.of_classes.Goals as goal

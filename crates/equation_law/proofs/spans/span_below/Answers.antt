@@ -1,4 +1,4 @@
-use Rattle.std.proofs.Common.{ℕ, ◌+◌, ◌<◌, length, sym, ◌∙◌, subst, arith, rules}
+use Rattle.std.proofs.Common.{ℕ, ◌+◌, ◌<◌, length, sym, ◌∙◌, subst, arith}
 use Rattle.equation_law.specs.declared.spans.Span.{Span}
 use Rattle.equation_law.specs.Spans.{AreFrom, IsOfClass}
 use Rattle.equation_law.proofs.Spanned.{BelowAmong, among_all, among_more, among_other, item_at}

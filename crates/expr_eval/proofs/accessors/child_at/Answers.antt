@@ -1,4 +1,4 @@
-use Rattle.std.proofs.Common.{◌≡◌, ◌<◌, ◌≤◌, List, ap, length, subst, sym, arith, ◌∙◌}
+use Rattle.std.proofs.Common.{◌<◌, ◌≤◌, List, ap, length, subst, sym, arith, ◌∙◌}
 use Rattle.tree_arena.specs.Nodes.{Node, child_in}
 use Rattle.tree_arena.specs.Terms.{IsTree}
 use Rattle.equation_law.specs.Systems.{program_of}

@@ -1,5 +1,3 @@
-use Rattle.std.proofs.Common.{sym, ◌∙◌}
-use Rattle.expr_eval.proofs.Accessed.{decoded_by}
 use Rattle.expr_eval.proofs.accessors.decoded.Goals as goal
 
 pub returns-in-Some-clause-coded : goal.returns-in-Some-clause-coded

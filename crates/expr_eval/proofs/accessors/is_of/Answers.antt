@@ -1,4 +1,4 @@
-use Rattle.std.proofs.Common.{◌≡◌, ◌≤◌, List, length, subst, sym, arith, ◌∙◌}
+use Rattle.std.proofs.Common.{◌≤◌, List, length, subst, sym, arith, ◌∙◌}
 use Rattle.tree_arena.specs.Nodes.{Node}
 use Rattle.equation_law.specs.Meaning.{is_instance}
 use Rattle.equation_law.specs.Systems.{program_of}

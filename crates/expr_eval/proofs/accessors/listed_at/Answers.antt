@@ -1,4 +1,4 @@
-use Rattle.std.proofs.Common.{◌≡◌, ◌≤◌, List, length, pos, subst, sym, arith, ◌∙◌}
+use Rattle.std.proofs.Common.{◌≤◌, List, length, pos, subst, sym, arith, ◌∙◌}
 use Rattle.tree_arena.specs.Nodes.{Node}
 use Rattle.equation_law.specs.Meaning.{element_at}
 use Rattle.equation_law.specs.Names.{Reference}

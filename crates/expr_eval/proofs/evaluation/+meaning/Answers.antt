@@ -1,5 +1,5 @@
 -- What the forms' parts that were evaluated give.
-use Rattle.std.proofs.Common.{◌<◌, List, [], refl, arith, subst, sym}
+use Rattle.std.proofs.Common.{◌<◌, [], refl, arith, subst, sym}
 use Rattle.attr_rules.specs.Expression.{expression_of}
 use Rattle.equation_law.specs.Codes.{Naming, source_names, value_by}
 use Rattle.equation_law.specs.Systems.{program_of}

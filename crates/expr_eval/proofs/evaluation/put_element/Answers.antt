@@ -1,4 +1,4 @@
-use Rattle.std.proofs.Common.{List, []}
+use Rattle.std.proofs.Common.{[]}
 use Rattle.equation_law.specs.Codes.{Naming, single_by, source_names}
 use Rattle.expr_eval.proofs.Plain.{plain_coded, single_plain}
 use Rattle.expr_eval.proofs.evaluation.put_element.Goals as goal

@@ -1,4 +1,4 @@
-use Rattle.std.proofs.Common.{◌≡◌, ◌<◌, List, Some, ap, sym, subst, ◌∙◌, arith}
+use Rattle.std.proofs.Common.{◌≡◌, List, Some, ap, sym, subst, ◌∙◌, arith}
 use Rattle.tree_arena.specs.Nodes.{Node, parent_in}
 use Rattle.tree_arena.specs.Terms.{IsTree}
 use Rattle.equation_law.specs.declared.system.System.{System}

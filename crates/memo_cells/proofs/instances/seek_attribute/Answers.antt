@@ -1,17 +1,18 @@
 use Rattle.std.proofs.Common.{rules, [], refl, sym, arith}
-use Rattle.equation_law.specs.declared.coding.Instance.TheVariants.{Attr as attribute_at}
-use Rattle.equation_law.specs.Codes.{codes_in, instance_of}
+use Rattle.equation_law.specs.Codes.{codes_in}
 use Rattle.equation_law.proofs.Pooled.{texts_pooled}
 use Rattle.memo_cells.specs.Keys.{argument_word, attribute_word}
 use Rattle.memo_cells.specs.Working.{program_at}
 use Rattle.memo_cells.proofs.Holding.{missing_at, own_then, reads_then, slot_back, way_held}
-use Rattle.memo_cells.proofs.Naming.{key_later}
 use Rattle.memo_cells.proofs.More.{at_least_itself}
-use Rattle.memo_cells.proofs.Ways.{fits, if_none, key_next, key_on_way, nowhere_first, nowhere_on, place_less, way_ends, way_next, way_plain}
+use Rattle.memo_cells.proofs.Ways.{fits, if_none, nowhere_first, nowhere_on, place_less, way_ends, way_key_next, way_next, way_plain}
 use Rattle.memo_cells.proofs.instances.seek_attribute.Goals as goal
 
 pub returns-in_err-slot-clause-none : goal.returns-in_err-slot-clause-none
-returns-in_err-slot-clause-none g c = λ coded. if_none c.from_residual.result (nowhere_first (g.W.Words.held c.args.work.now).frame (g.W.Words.held c.seek.new.self).view c.args.attr.0 c.args.node.0 (program_at (g.W.Words.held c.args.work.now)) (texts_pooled (g.W.Words.held c.args.work.now).frame.system.value) (own_then (g.W.Words.held c.args.work.now) (g.W.Words.held c.seek.new.self) c.seek.ensures.on.on) c.args.args coded.1 c.in_err-slot.ensures.none.nowhere)
+returns-in_err-slot-clause-none g c = λ coded.
+    let d = g.W.Words.held c.args.work.now in
+    let e = g.W.Words.held c.seek.new.self in
+    if_none c.from_residual.result (λ s m named. nowhere_first d.frame e.view c.args.attr.0 c.args.node.0 (program_at d) named (texts_pooled d.frame.system.value) (own_then d e c.seek.ensures.on.on) c.args.args coded.1 c.in_err-slot.ensures.none.nowhere s)
 
 pub loop-code-init : goal.loop-code-init
 loop-code-init g c = record {
@@ -30,7 +31,7 @@ pub returns-in_err-slot-2-clause-none : goal.returns-in_err-slot-2-clause-none
 returns-in_err-slot-2-clause-none g c = λ coded.
     let on = reads_then (g.W.Words.held c.args.work.now) (g.W.Words.held c.loop-code.work) (g.W.Words.held c.seek-in-Some.new.self) c.loop-code.invariant.on c.seek-in-Some.ensures.on in
     if_none c.from_residual-in_err-slot-2.result
-    (nowhere_on (g.W.Words.held c.args.work.now).frame (g.W.Words.held c.loop-code.work).view (g.W.Words.held c.seek-in-Some.new.self).view c.args.attr.0 c.args.node.0 c.args.args c.loop-code.place c.loop-code.slot.0 c.loop-code.invariant.way (own_then (g.W.Words.held c.args.work.now) (g.W.Words.held c.loop-code.work) c.loop-code.invariant.on.on) c.seek-in-Some.ensures.on.on.kept c.in-Some.code (sym c.in-Some.ensures) (program_at (g.W.Words.held c.args.work.now)) (texts_pooled (g.W.Words.held c.args.work.now).frame.system.value) (own_then (g.W.Words.held c.args.work.now) (g.W.Words.held c.seek-in-Some.new.self) on.on) coded.1 c.in_err-slot-2.ensures.none.nowhere)
+    (λ s m named. nowhere_on (g.W.Words.held c.args.work.now).frame (g.W.Words.held c.loop-code.work).view (g.W.Words.held c.seek-in-Some.new.self).view c.args.attr.0 c.args.node.0 c.args.args c.loop-code.place c.loop-code.slot.0 c.loop-code.invariant.way (own_then (g.W.Words.held c.args.work.now) (g.W.Words.held c.loop-code.work) c.loop-code.invariant.on.on) c.seek-in-Some.ensures.on.on.kept c.in-Some.code (sym c.in-Some.ensures) (program_at (g.W.Words.held c.args.work.now)) named (texts_pooled (g.W.Words.held c.args.work.now).frame.system.value) (own_then (g.W.Words.held c.args.work.now) (g.W.Words.held c.seek-in-Some.new.self) on.on) coded.1 c.in_err-slot-2.ensures.none.nowhere s)
 
 pub loop-code-smaller : goal.loop-code-smaller
 loop-code-smaller g c = let less = place_less (g.W.Words.held c.args.work.now).frame (g.W.Words.held c.loop-code.work).view (g.W.Words.held c.loop-code.work).view c.args.attr.0 c.args.node.0 c.args.args c.loop-code.place c.loop-code.slot.0 c.loop-code.invariant.way (own_then (g.W.Words.held c.args.work.now) (g.W.Words.held c.loop-code.work) c.loop-code.invariant.on.on) (at_least_itself (g.W.Words.held c.loop-code.work).view) c.in-Some.code 0 (search rules) (sym c.in-Some.ensures) in omega (arith, less)
@@ -49,23 +50,20 @@ pub returns-clause-cell : goal.returns-clause-cell
 returns-clause-cell g c = way_held (g.W.Words.held c.args.work.now) (g.W.Words.held c.loop-code.work) c.args.attr.0 c.args.node.0 _ c.loop-code.slot.0 c.loop-code.invariant.on c.loop-code.invariant.way
 
 pub returns-in_err-slot-clause-cause : goal.returns-in_err-slot-clause-cause
-returns-in_err-slot-clause-cause g c = λ coded.
-    let d = g.W.Words.held c.args.work.now in
-    let e = g.W.Words.held c.seek.new.self in
-    if_none c.from_residual.result
-    (attribute_word c.args.attr.0 c.args.node.0, key_on_way (program_at d) e.view c.args.attr.0 c.args.node.0 c.args.args coded.1 (attribute_word c.args.attr.0 c.args.node.0) [] (codes_in c.args.args) refl (search rules, search rules, refl), c.in_err-slot.ensures.cause)
+returns-in_err-slot-clause-cause g c =
+    if_none c.from_residual.result (attribute_word c.args.attr.0 c.args.node.0, ([], codes_in c.args.args, refl, (search rules, search rules, refl)), c.in_err-slot.ensures.cause)
 
 pub returns-in_err-slot-2-clause-cause : goal.returns-in_err-slot-2-clause-cause
-returns-in_err-slot-2-clause-cause g c = λ coded.
+returns-in_err-slot-2-clause-cause g c =
     let d = g.W.Words.held c.args.work.now in
     let e = g.W.Words.held c.loop-code.work in
     let w = g.W.Words.held c.seek-in-Some.new.self in
     let k = argument_word c.loop-code.slot.0 c.in-Some.code in
-    let next = key_next d.frame e.view e.view c.args.attr.0 c.args.node.0 c.args.args c.loop-code.place c.loop-code.slot.0 c.loop-code.invariant.way (own_then d e c.loop-code.invariant.on.on) (at_least_itself e.view) c.in-Some.code 0 (search rules) (sym c.in-Some.ensures) (program_at d) coded.1 in
-    if_none c.from_residual-in_err-slot-2.result
-    (k, key_later e.view w.view c.seek-in-Some.ensures.on.on.kept (program_at d) (instance_of (program_at d) (attribute_at c.args.attr c.args.node c.args.args)) k next, missing_at d e w k c.loop-code.invariant.on c.in_err-slot-2.ensures.cause)
+    let next = way_key_next d.frame e.view w.view c.args.attr.0 c.args.node.0 c.args.args c.loop-code.place c.loop-code.slot.0 c.loop-code.invariant.way (own_then d e c.loop-code.invariant.on.on) c.seek-in-Some.ensures.on.on.kept c.in-Some.code 0 (search rules) (sym c.in-Some.ensures) in
+    if_none c.from_residual-in_err-slot-2.result (k, next, missing_at d e w k c.loop-code.invariant.on c.in_err-slot-2.ensures.cause)
 
 pub returns-clause-slot : goal.returns-clause-slot
-returns-clause-slot g c = λ coded.
+returns-clause-slot g c = λ coded m named.
     let d = g.W.Words.held c.args.work.now in
-    way_ends (program_at d) d.frame (g.W.Words.held c.loop-code.work).view c.args.attr.0 c.args.node.0 c.args.args c.loop-code.place c.loop-code.slot.0 coded.1 (search rules) c.loop-code.invariant.way
+    let e = g.W.Words.held c.loop-code.work in
+    way_ends d.frame e.view (own_then d e c.loop-code.invariant.on.on) named c.args.attr.0 c.args.node.0 c.args.args c.loop-code.place c.loop-code.slot.0 (search rules) c.loop-code.invariant.way

@@ -8,4 +8,4 @@ pub first_circular-requires-clause-instance : goal.first_circular-requires-claus
 first_circular-requires-clause-instance c =
     let p = program_of c.args.system.now in
     let some : 0 < length p.queries = omega (arith, c.if-replies-eq0.false, c.replies.ensures.number) in
-    query_instance p 0 some
+    λ names named. query_instance p 0 some

@@ -8,4 +8,4 @@ pub ask-requires-clause-instance : goal.ask-requires-clause-instance
 ask-requires-clause-instance g c =
     let p = program_of c.args.system.now in
     let within : c.args.query < length p.queries = omega (arith, c.if-query-replies.false, c.replies.ensures.number) in
-    query_instance p c.args.query within
+    λ names named. query_instance p c.args.query within

@@ -1,13 +1,11 @@
 use Rattle.std.proofs.Common.{Ok, sym, subst, ◌∙◌}
-use Rattle.equation_law.specs.Codes.{instance_of}
-use Rattle.equation_law.specs.Equations.{equations_of}
 use Rattle.equation_law.specs.Systems.{program_of}
 use Rattle.expr_eval.specs.declared.sites.Turn.{Turn}
-use Rattle.expr_eval.specs.BySources.{AnswersSources}
-use Rattle.expr_eval.proofs.BySources.{instance_sources}
+use Rattle.expr_eval.specs.Evaluating.{AnswersTurn}
+use Rattle.expr_eval.specs.Sites.{instance_reads}
 use Rattle.memo_cells.specs.Working.{told_by}
 use Rattle.memo_cells.proofs.Holding.{reads_itself}
-use Rattle.caller_pass.proofs.Desks.{desk_sources, sound_for}
+use Rattle.caller_pass.proofs.Desks.{sound_for}
 use Rattle.rag_tests.proofs.Singles.{none_is}
 use Rattle.rag_tests.proofs.Sweeping.{need_circular, need_is, program_here}
 use Rattle.rag_tests.proofs.sweeps.first_circular.Goals as goal
@@ -34,13 +32,13 @@ pub returns-then-is_declared-clause-found : goal.returns-then-is_declared-clause
 returns-then-is_declared-clause-found c =
     let p = program_of c.args.system.now in
     need_circular c.args.system.now c.requires.program c.args.work.now c.resume_instance.new.reader c.requires.same (c.resume_instance.ensures.evaluates.kept.kept c.args.work.now c.loop.invariant.on) c.loop.at c.in-Need.next c.loop.invariant.instance
-    (subst (λ (t : Turn). AnswersSources p (told_by c.resume_instance.new.reader) ((equations_of p).equation (instance_of p c.loop.at)) (Ok t)) c.in-Need.is (instance_sources (desk_sources p c.loop.work (sym (program_here c.args.system.now c.args.work.now c.loop.work c.requires.same c.loop.invariant.on))) c.loop.at c.in_ok-resume_instance.ensures.evaluates).answer) (sym c.is_declared.ensures ∙ c.if-is_declared.true)
+    (subst (λ (t : Turn). AnswersTurn p (told_by c.resume_instance.new.reader) (instance_reads p c.loop.at) (Ok t)) c.in-Need.is c.in_ok-resume_instance.ensures.evaluates.answer) (sym c.is_declared.ensures ∙ c.if-is_declared.true)
 
 pub loop-preserved : goal.loop-preserved
 loop-preserved c =
     let p = program_of c.args.system.now in
     let on = c.resume_instance.ensures.evaluates.kept.kept c.args.work.now c.loop.invariant.on in
-    let answer = subst (λ (t : Turn). AnswersSources p (told_by c.resume_instance.new.reader) ((equations_of p).equation (instance_of p c.loop.at)) (Ok t)) c.in-Need.is (instance_sources (desk_sources p c.loop.work (sym (program_here c.args.system.now c.args.work.now c.loop.work c.requires.same c.loop.invariant.on))) c.loop.at c.in_ok-resume_instance.ensures.evaluates).answer in
+    let answer = subst (λ (t : Turn). AnswersTurn p (told_by c.resume_instance.new.reader) (instance_reads p c.loop.at) (Ok t)) c.in-Need.is c.in_ok-resume_instance.ensures.evaluates.answer in
     record {
       on = on;
       instance = need_is c.args.system.now c.requires.program c.args.work.now c.resume_instance.new.reader c.requires.same on c.loop.at c.in-Need.next c.loop.invariant.instance answer;

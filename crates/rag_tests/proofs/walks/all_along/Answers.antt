@@ -10,12 +10,12 @@ use Rattle.rag_tests.proofs.walks.all_along.Goals as goal
 pub loop-place-init : goal.loop-place-init
 loop-place-init c =
     let p = program_of c.args.system.now in
-    let A = (told_by c.args.work.now).has in
+    let t = told_by c.args.work.now in
     let same : length c.tree.result.now ≡ length p.tree = ap length c.tree.ensures in
     let some : 0 < length p.tree = omega (arith, same, c.len.ensures.number, c.len.ensures.some) in
     record {
       on = reads_itself c.args.work.now c.requires.own;
-      walk = subst (λ (w : Walk). IsWalk p A w) (sym c.new-offers.ensures) (walk_begins p A 4 0 some);
+      walk = subst (λ (w : Walk). IsWalk p t w) (sym c.new-offers.ensures) (walk_begins p t 4 0 some);
     }
 
 pub sum_along-requires-clause-same : goal.sum_along-requires-clause-same

@@ -7,5 +7,5 @@ use Rattle.rag_tests.proofs.walks.all_along.Given as goal
 abbrev pub invariant-loop-place : goal.invariant-loop-place
 invariant-loop-place l = record {
   on : ReadsOn l.initial.work l.work;
-  walk : IsWalk (program_of l.system) (told_by l.work).has l.offers;
+  walk : IsWalk (program_of l.system) (told_by l.work) l.offers;
 }

@@ -8,4 +8,4 @@ pub ask-requires-clause-instance : goal.ask-requires-clause-instance
 ask-requires-clause-instance g c =
     let p = program_of c.args.system.now in
     let some : 0 < length p.queries = omega (arith, c.if-replies-eq0.false, c.replies.ensures.number) in
-    query_instance p 0 some
+    λ names named. query_instance p 0 some

@@ -1,17 +1,14 @@
-use Rattle.std.proofs.Common.{◌≡◌, ap, arith, sym}
+use Rattle.std.proofs.Common.{◌≡◌, ap, arith}
 use Rattle.equation_law.specs.Systems.{program_of}
 use Rattle.memo_cells.specs.Working.{told_by}
 use Rattle.memo_cells.proofs.Holding.{reads_itself}
-use Rattle.collection_attrs.proofs.Found.{walk_for}
-use Rattle.collection_attrs.proofs.Grown.{survey_new}
-use Rattle.caller_pass.proofs.Desks.{desk_sources, sound_for}
+use Rattle.collection_attrs.proofs.Found.{walk_for_each}
+use Rattle.collection_attrs.proofs.Grown.{naming_of, survey_new}
+use Rattle.caller_pass.proofs.Desks.{sound_for}
 use Rattle.rag_tests.proofs.walks.sum_along.Goals as goal
 
 pub go_on-requires-clause-sound : goal.go_on-requires-clause-sound
 go_on-requires-clause-sound c = sound_for (program_of c.args.system.now) c.args.work.now (ap program_of c.requires.same)
-
-pub go_on-requires-clause-sources : goal.go_on-requires-clause-sources
-go_on-requires-clause-sources c = desk_sources (program_of c.args.system.now) c.args.work.now (sym (ap program_of c.requires.same))
 
 pub go_on-requires-clause-collection : goal.go_on-requires-clause-collection
 go_on-requires-clause-collection c =
@@ -19,8 +16,8 @@ go_on-requires-clause-collection c =
     let found = c.in-Some.ensures.some in
     let attr : c.args.offers.now.attribute ≡ c.in-Some.of.attr.0 = omega (arith, c.if-of-attr.false, c.attr.ensures) in
     let root : c.args.offers.now.root ≡ c.in-Some-root_of.root = omega (arith, c.if-root.false, c.root.ensures) in
-    let for = walk_for p found.0 c.args.offers.now c.in-Some.of.attr.0 c.in-Some-root_of.root attr root (c.in-Some-root_of.ensures.some found.0 found.2) in
-    (found.0, found.2, for, survey_new p (told_by c.args.work.now).has found.2 c.new-survey.ensures)
+    let for = walk_for_each p found.0 c.args.offers.now c.in-Some.of.attr.0 c.in-Some-root_of.root attr root (c.in-Some-root_of.ensures.some found.0 found.2) in
+    (found.0, found.2, for, survey_new (told_by c.args.work.now) (naming_of (sound_for p c.args.work.now (ap program_of c.requires.same))) found.2 c.new-survey.ensures)
 
 pub returns-in_err-value-clause-on : goal.returns-in_err-value-clause-on
 returns-in_err-value-clause-on c =

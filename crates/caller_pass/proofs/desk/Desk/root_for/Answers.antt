@@ -1,10 +1,9 @@
 use Rattle.std.proofs.Common.{◌<◌, IfNone, IfSome, length, sym, subst}
 use Rattle.equation_law.specs.declared.system.System.{System}
-use Rattle.equation_law.specs.Collections.{Collection}
 use Rattle.equation_law.specs.Systems.{program_of}
 use Rattle.memo_cells.specs.Working.{Held, program_at}
 use Rattle.collection_attrs.specs.Roots.{IsRootOf, IsRootless}
-use Rattle.collection_attrs.specs.Surveys.{IsCollectorOf}
+use Rattle.collection_attrs.specs.Surveys.{Collections, IsCollectorOf}
 use Rattle.caller_pass.specs.Keeping.{IsNotebookOf, Notes}
 use Rattle.caller_pass.proofs.desk.Desk.root_for.Goals as goal
 
@@ -13,8 +12,8 @@ root_for-requires-clause-same c = c.self.invariant.0.1.system
 
 pub root_for-requires-clause-collection : goal.root_for-requires-clause-collection
 root_for-requires-clause-collection c =
-    subst (λ (s : System). (x : Collection) × IsCollectorOf (program_of s) c.args.of x) c.self.invariant.1
-    (subst (λ (h : Held). (x : Collection) × IsCollectorOf (program_at h) c.args.of x) (sym c.self.view_is) c.requires)
+    subst (λ (s : System). (x : Collections) × IsCollectorOf (program_of s) c.args.of x) c.self.invariant.1
+    (subst (λ (h : Held). (x : Collections) × IsCollectorOf (program_at h) c.args.of x) (sym c.self.view_is) c.requires)
 
 pub invariant_of-self : goal.invariant_of-self
 invariant_of-self c = ((c.self.invariant.0.0, subst (λ (n : Notes). IsNotebookOf c.self.inside.system.now c.self.inside.pass.now n) (sym c.root_for.ensures.same) c.self.invariant.0.1), c.self.invariant.1)

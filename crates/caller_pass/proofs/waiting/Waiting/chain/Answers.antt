@@ -1,7 +1,7 @@
 use Rattle.std.proofs.Common.{◌≡◌, ◌++◌, ◌∷◌, [], Bor, List, ap, map, option_map, refl, sym, subst, ◌∙◌}
 use Rattle.std.proofs.lemmas.Map.Iter.{iter_end}
 use Rattle.equation_law.specs.declared.coding.Instance.{Instance as CodedInstance}
-use Rattle.equation_law.specs.Codes.{instance_of}
+use Rattle.equation_law.specs.Codes.{instance_by}
 use Rattle.caller_pass.specs.declared.waiting.Packed.{Packed}
 use Rattle.caller_pass.specs.Packing.{all_unpacked, unpacked_entry}
 use Rattle.caller_pass.specs.Waiting.{IsLineTo}
@@ -23,9 +23,9 @@ loop-instance-preserved c =
     (listed_plain (all_unpacked (map (λ x. (x.0.now, x.1.now)) c.loop-instance.yielded)) c.loop-instance.list.items (unpacked_entry (c.in-Some.instance.now, c.in-Some.packed.now)) c.push.new.list.items c.loop-instance.invariant (sym c.way_in.ensures ∙ ap (option_map (λ l. l.now)) c.in_default.is) c.in_ok-push.ensures)
 
 pub returns : goal.returns
-returns c = λ p f v waiting.
+returns c = λ p names f v waiting.
     let shown = (iter_end (λ x. (x.0.now, x.1.now)) _ _ _ _ _ _ refl c.loop-instance.yielded_by c.in-None.is c.next.ensures.steps).0 in
     let all = ap all_unpacked (shown ∙ c.into_iter-instance-iterator.ensures.into_iter_gives.0) ∙ c.self.view_is in
     let listed = subst (λ es. AreListed es c.loop-instance.list.items) all c.loop-instance.invariant in
-    subst (λ (xs : List CodedInstance). IsLineTo p c.args.self.now (instance_of p c.args.on) (map (instance_of p) xs)) (sym (c.new.ensures ∙ c.in_ok-push-2.ensures))
-    (listed_line p f v c.args.self.now c.loop-instance.list.items c.args.on listed waiting)
+    subst (λ (xs : List CodedInstance). IsLineTo p names c.args.self.now (instance_by p names c.args.on) (map (instance_by p names) xs)) (sym (c.new.ensures ∙ c.in_ok-push-2.ensures))
+    (listed_line p names f v c.args.self.now c.loop-instance.list.items c.args.on listed waiting)

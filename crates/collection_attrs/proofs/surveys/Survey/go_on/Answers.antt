@@ -1,34 +1,37 @@
-use Rattle.std.proofs.Common.{◌≡◌, ◌∙◌, IfNone, IfSome, List, Ok, Option, Some, arith, length, refl, subst, sym}
-use Rattle.solutions.specs.Asking.{Ends, Halts}
+use Rattle.std.proofs.Common.{◌≡◌, ◌∙◌, IfNone, IfSome, Option, Some, arith, length, refl, subst, sym}
 use Rattle.equation_law.specs.declared.coding.Instance.{Instance as CodedInstance}
-use Rattle.equation_law.specs.Codes.{IsCoded, instance_of, source_names}
-use Rattle.equation_law.specs.Collections.{Collection, collection_demands}
-use Rattle.equation_law.specs.Equations.{offers_below, world_of}
-use Rattle.equation_law.specs.Names.{Instance}
-use Rattle.equation_law.specs.Program.{text_of}
+use Rattle.equation_law.specs.Equations.{offers_below}
 use Rattle.equation_law.specs.Systems.{program_of}
 use Rattle.equation_law.specs.Values.{Value}
-use Rattle.expr_eval.specs.declared.sites.Turn.TheVariants as turns
-use Rattle.expr_eval.specs.BySources.{EvaluatesSources}
+use Rattle.expr_eval.specs.Evaluating.{Comes}
 use Rattle.expr_eval.proofs.Forms.{grows_self, grows_then}
-use Rattle.collection_attrs.specs.Surveys.{IsCollectorOf, IsCounted, IsPassage, IsSurveyed}
+use Rattle.collection_attrs.specs.Evaluations.{IsStuckAt, demands_of}
+use Rattle.collection_attrs.specs.Surveys.{HasCounted, IsPassage}
 use Rattle.collection_attrs.proofs.Grown.{counted_grows, surveyed_grows, walk_grows}
-use Rattle.collection_attrs.proofs.Surveying.{counted_ends, counted_same, counted_stuck, fitted, for_each, for_same, passed_within}
+use Rattle.collection_attrs.proofs.Surveying.{comes_for, counted_ends, counted_same, counted_stuck, fitted, for_same, passed_within, surveyed_for, wants_for}
 use Rattle.collection_attrs.proofs.surveys.Survey.go_on.Goals as goal
 
 pub offers-init : goal.offers-init
 offers-init g c =
     let p = program_of c.args.system.now in
-    let A = (g.R.Reader.tells c.args.reader.now).has in
-    let begun = fitted p A c.requires.collection.1 c.args.self.now c.fit.new.self c.args.offers.now c.fit.ensures c.requires.collection.3 in
+    let t = g.R.Reader.tells c.args.reader.now in
+    let begun = fitted p t c.requires.sound c.requires.collection.1 c.args.self.now c.fit.new.self c.args.offers.now c.fit.ensures c.requires.collection.3 in
     record {
       kept = grows_self c.requires.sound;
       walk = c.requires.walk;
       same = (refl, refl);
-      survey = for_each (λ (x : Collection). IsSurveyed p A x c.fit.new.self) c.requires.collection.1 begun.0;
+      survey = surveyed_for c.requires.sound c.requires.collection.1 begun.0;
       within = begun.1;
       saved = c.requires.saved;
     }
+
+pub count_kept-requires-clause-collection : goal.count_kept-requires-clause-collection
+count_kept-requires-clause-collection g c =
+    let p = program_of c.args.system.now in
+    let i = c.offers.invariant in
+    let d = c.requires.collection.0 in
+    let of = c.requires.collection.1 in
+    (d, of, for_same p d c.args.offers.now c.offers.offers i.same.0 i.same.1 c.requires.collection.2, i.survey d of)
 
 pub returns-in_err-instance-clause-walk : goal.returns-in_err-instance-clause-walk
 returns-in_err-instance-clause-walk g c =
@@ -47,8 +50,8 @@ returns-in-Some-clause-evaluates g c =
     let p = program_of c.args.system.now in
     let i = c.offers.invariant in
     let counting = c.count_kept.ensures in
-    let stop = subst (λ (o : Option CodedInstance). IfSome o (λ j. IsCoded p j × ((x : Collection) → IsCollectorOf p c.args.of x → (ds : List Instance) × Halts (g.R.Reader.tells c.count_kept.new.reader).has (collection_demands (world_of p) x) (instance_of p j) ds))) c.in-Some.is c.in_ok-instance.ensures.stuck in
-    λ x is. let h = stop.1 x is in record { kept = grows_then i.kept counting.kept; answer = record { demands = h.0; halts = h.1; coded = stop.0 } }
+    let stop = subst (λ (o : Option CodedInstance). IfSome o (IsStuckAt p (g.R.Reader.tells c.count_kept.new.reader) c.args.of)) c.in-Some.is c.in_ok-instance.ensures.stuck in
+    λ x is. record { kept = grows_then i.kept counting.kept; answer = record { wants = stop.1 x is; coded = stop.0 } }
 
 pub returns-in_err-pass_next-clause-survey : goal.returns-in_err-pass_next-clause-survey
 returns-in_err-pass_next-clause-survey g c =
@@ -72,8 +75,8 @@ offers-smaller g c =
     let w = c.offers.offers in
     let u = c.pass_next.new.offers in
     let same = c.pass_next.ensures.same in
-    let less = subst (IsPassage p (g.R.Reader.tells c.pass_next.new.reader).has w u) c.in-Passed.is c.in_ok-pass_next.ensures.passage in
-    let within = passed_within p (g.R.Reader.tells c.pass_next.new.reader).has u c.pass_next.ensures.walk in
+    let less = subst (IsPassage p (g.R.Reader.tells c.pass_next.new.reader) w u) c.in-Passed.is c.in_ok-pass_next.ensures.passage in
+    let within = passed_within p u c.pass_next.ensures.walk.stands in
     let all : length (offers_below p u.attribute (Some u.root)) ≡ length (offers_below p w.attribute (Some w.root)) = (λ i. length (offers_below p (same.0 i) (Some (same.1 i)))) in
     omega (arith, less, within, all)
 
@@ -94,6 +97,7 @@ offers-preserved g c =
 pub returns-in-Stuck-clause-evaluates : goal.returns-in-Stuck-clause-evaluates
 returns-in-Stuck-clause-evaluates g c =
     let p = program_of c.args.system.now in
+    let t = g.R.Reader.tells c.pass_next.new.reader in
     let i = c.offers.invariant in
     let d = c.requires.collection.0 in
     let of = c.requires.collection.1 in
@@ -104,16 +108,16 @@ returns-in-Stuck-clause-evaluates g c =
     let same = passing.same in
     let s = c.count_kept.new.self in
     let kept = grows_then (grows_then i.kept counting.kept) passing.kept in
-    let counted = subst (λ (o : Option CodedInstance). IfNone o ((x : Collection) → IsCollectorOf p c.args.of x → IsCounted p (g.R.Reader.tells c.count_kept.new.reader).has w x s)) c.in_default.is c.in_ok-instance.ensures.counted in
-    let for = for_same p (g.R.Reader.tells c.pass_next.new.reader).has d w u same.0 same.1 (for_same p (g.R.Reader.tells c.pass_next.new.reader).has d c.args.offers.now w i.same.0 i.same.1 c.requires.collection.2) in
-    let stop = subst (IsPassage p (g.R.Reader.tells c.pass_next.new.reader).has w u) c.in-Stuck.is c.in_ok-pass_next.ensures.passage in
-    let h = counted_stuck p (g.R.Reader.tells c.pass_next.new.reader).has d u passing.walk for s (counted_same p (g.R.Reader.tells c.pass_next.new.reader).has d w u s stop.0 (counted_grows passing.kept (counted d of))) (instance_of p c.in-Stuck.instance) stop.2 in
-    for_each (λ (x : Collection). EvaluatesSources p (g.R.Reader.tells c.args.reader.now) (g.R.Reader.tells c.pass_next.new.reader) (collection_demands (world_of p) x) (Ok (turns.Need c.in-Stuck.instance))) of
-    (record { kept = kept; answer = record { demands = h.0; halts = h.1; coded = stop.1 } })
+    let counted = subst (λ (o : Option CodedInstance). IfNone o (HasCounted p (g.R.Reader.tells c.count_kept.new.reader) c.args.of w s)) c.in_default.is c.in_ok-instance.ensures.counted in
+    let for = for_same p d w u same.0 same.1 (for_same p d c.args.offers.now w i.same.0 i.same.1 c.requires.collection.2) in
+    let stop = subst (IsPassage p t w u) c.in-Stuck.is c.in_ok-pass_next.ensures.passage in
+    let h = counted_stuck p t d kept.sound u passing.walk for s (counted_same p t d w u s stop.0 (counted_grows passing.kept (counted d of))) c.in-Stuck.instance stop.2 in
+    λ x is. record { kept = kept; answer = record { wants = wants_for kept.sound of c.in-Stuck.instance h x is; coded = stop.1 } }
 
 pub returns-in-Ended-clause-evaluates : goal.returns-in-Ended-clause-evaluates
 returns-in-Ended-clause-evaluates g c =
     let p = program_of c.args.system.now in
+    let t = g.R.Reader.tells c.pass_next.new.reader in
     let i = c.offers.invariant in
     let d = c.requires.collection.0 in
     let of = c.requires.collection.1 in
@@ -124,14 +128,16 @@ returns-in-Ended-clause-evaluates g c =
     let same = passing.same in
     let s = c.count_kept.new.self in
     let kept = grows_then (grows_then i.kept counting.kept) passing.kept in
-    let counted = subst (λ (o : Option CodedInstance). IfNone o ((x : Collection) → IsCollectorOf p c.args.of x → IsCounted p (g.R.Reader.tells c.count_kept.new.reader).has w x s)) c.in_default.is c.in_ok-instance.ensures.counted in
-    let for = for_same p (g.R.Reader.tells c.pass_next.new.reader).has d w u same.0 same.1 (for_same p (g.R.Reader.tells c.pass_next.new.reader).has d c.args.offers.now w i.same.0 i.same.1 c.requires.collection.2) in
-    let stop = subst (IsPassage p (g.R.Reader.tells c.pass_next.new.reader).has w u) c.in-Ended.is c.in_ok-pass_next.ensures.passage in
-    let all = counted_same p (g.R.Reader.tells c.pass_next.new.reader).has d w u s stop.0 (counted_grows passing.kept (counted d of)) in
-    let h = counted_ends p (g.R.Reader.tells c.pass_next.new.reader).has d u passing.walk for s all stop.1 in
+    let counted = subst (λ (o : Option CodedInstance). IfNone o (HasCounted p (g.R.Reader.tells c.count_kept.new.reader) c.args.of w s)) c.in_default.is c.in_ok-instance.ensures.counted in
+    let for = for_same p d w u same.0 same.1 (for_same p d c.args.offers.now w i.same.0 i.same.1 c.requires.collection.2) in
+    let stop = subst (IsPassage p t w u) c.in-Ended.is c.in_ok-pass_next.ensures.passage in
+    let all = counted_same p t d w u s stop.0 (counted_grows passing.kept (counted d of)) in
+    let h = counted_ends p t d kept.sound u passing.walk for s all stop.1 in
     let copy = c.in_ok-copy-in-Ended.ensures in
-    for_each (λ (x : Collection). EvaluatesSources p (g.R.Reader.tells c.args.reader.now) (g.R.Reader.tells c.pass_next.new.reader) (collection_demands (world_of p) x) (Ok (turns.Done c.in_ok-copy-in-Ended.field-0))) of
-    (record {
+    λ x is. record {
       kept = kept;
-      answer = record { demands = h.0; ends = subst (λ (v : Value). Ends (g.R.Reader.tells c.pass_next.new.reader).has (collection_demands (world_of p) d) v h.0) (sym (copy.same (source_names (text_of p)))) h.1; coded = copy.elements p all.coded };
-    })
+      answer = record {
+        comes = λ names in_it. subst (λ (v : Value). Comes t.has (demands_of p x names) v) (sym (copy.same names)) (comes_for kept.sound of s.so_far h x is names in_it);
+        coded = copy.elements p all.coded;
+      };
+    }

@@ -1,20 +1,19 @@
 -- How far the walk and the survey have gone.
 use Rattle.std.proofs.Common.{◌≡◌, ◌-◌, ◌≤◌, Some, length}
-use Rattle.equation_law.specs.Collections.{Collection}
 use Rattle.equation_law.specs.Equations.{offers_below}
 use Rattle.equation_law.specs.Reading.{Grows}
 use Rattle.equation_law.specs.Systems.{program_of}
 use Rattle.expr_eval.specs.Saved.{AreSaved}
-use Rattle.collection_attrs.specs.Surveys.{IsCollectorOf, IsSurveyed}
+use Rattle.collection_attrs.specs.Surveys.{Collections, IsCollectorOf, IsSurveyed}
 use Rattle.collection_attrs.specs.Walks.{IsWalk, passed_by}
 use Rattle.collection_attrs.proofs.surveys.Survey.go_on.Given as goal
 
 abbrev pub invariant-offers : goal.invariant-offers
 invariant-offers g l = record {
   kept : Grows (program_of l.system) (g.R.Reader.tells l.initial.reader) (g.R.Reader.tells l.reader);
-  walk : IsWalk (program_of l.system) (g.R.Reader.tells l.reader).has l.offers;
+  walk : IsWalk (program_of l.system) (g.R.Reader.tells l.reader) l.offers;
   same : (l.offers.attribute ≡ l.initial.offers.attribute) × (l.offers.root ≡ l.initial.offers.root);
-  survey : (c : Collection) → IsCollectorOf (program_of l.system) l.of c → IsSurveyed (program_of l.system) (g.R.Reader.tells l.reader).has c l.self;
+  survey : (c : Collections) → IsCollectorOf (program_of l.system) l.of c → IsSurveyed (program_of l.system) (g.R.Reader.tells l.reader) c l.self;
   within : l.self.taken ≤ length l.offers.notes;
   saved : AreSaved l.system (g.R.Reader.tells l.reader) l.saved;
 }

@@ -1,4 +1,4 @@
-use Rattle.std.proofs.Common.{◌<◌, ◌≤◌, get_or, length, subst, sym, arith}
+use Rattle.std.proofs.Common.{◌<◌, get_or, length, arith}
 use Rattle.equation_law.specs.Systems.{program_of}
 use Rattle.equation_law.proofs.Spanned.{below_low, item_at, span_low, spans_kept}
 use Rattle.equation_law.proofs.system.System.span.Goals as goal

@@ -4,7 +4,7 @@ use Rattle.memo_cells.specs.Naming.{IsFormed}
 use mathlib.Core.Logic.{dite}
 use native.Mathlib.Decide.{dec_le}
 use Rattle.memo_cells.specs.Views.{IsOther}
-use Rattle.memo_cells.proofs.Causes.{log_one, log_then}
+use Rattle.memo_cells.proofs.Causes.{log_then}
 use Rattle.memo_cells.proofs.More.{at_least_then, other_later}
 use Rattle.memo_cells.proofs.Naming.{formed_later}
 use Rattle.memo_cells.proofs.cells.Cells.claim.Goals as goal

@@ -1,8 +1,8 @@
 use Rattle.std.proofs.Common.{rules, get_or, set, refl, sym, subst}
 use Rattle.memo_cells.specs.declared.view.View.{View}
 use Rattle.memo_cells.specs.declared.keys.Slot.{Slot}
-use Rattle.memo_cells.specs.Sealing.{TellsNext}
-use Rattle.memo_cells.proofs.Sealing.{next_inside, next_marked, next_told}
+use Rattle.memo_cells.specs.Sealing.{LogsNext, TellsNext}
+use Rattle.memo_cells.proofs.Sealing.{next_found, next_inside, next_marked, next_told}
 use Rattle.memo_cells.proofs.cells.Cells.mark_one.Goals as goal
 
 pub index-found-requires : goal.index-found-requires
@@ -17,6 +17,12 @@ index_mut-requires c =
 
 pub returns-clause-sealed : goal.returns-clause-sealed
 returns-clause-sealed c = next_marked c.args.self.now c.args.set.now c.args.number c.args._keys.now.items c.args.words.now.items _ c.requires.number c.requires.noted _ c.index-found.result.now c.with_mark-left.result refl c.index-found.ensures c.with_mark-left.ensures
+
+pub returns-clause-found : goal.returns-clause-found
+returns-clause-found c =
+    let slot : Slot = record { 0 = 0 } in
+    subst (λ (w : View). LogsNext c.args.self.now c.args.set.now c.args.number c.args.words.now.items c.args.known.now.value w) (sym c.learn.ensures)
+    (next_found c.args.self.now c.args.set.now c.args.number c.args.words.now.items slot c.args.known.now.value c.requires.told.frame _ c.index-found.result.now c.with_mark-left.result refl c.index-found.ensures)
 
 pub returns-clause-told : goal.returns-clause-told
 returns-clause-told c =

@@ -1,4 +1,5 @@
 use Rattle.std.proofs.Common.{rules, arith, true, false, ◌∙◌}
+use Rattle.memo_cells.proofs.Causes.{log_then}
 use Rattle.memo_cells.proofs.Counting.{below_most, below_same, counted}
 use Rattle.memo_cells.proofs.More.{at_least_then}
 use Rattle.memo_cells.proofs.cells.Cells.settled_count.Goals.{then-is_settled, else-is_settled}
@@ -20,4 +21,5 @@ loop-place-preserved c =
         | else-is_settled h ↦ counted v w n c.loop-place.count c.if-is_settled.count c.is_settled.result false same c.is_settled.ensures.settled c.loop-place.invariant.2 h.if-is_settled.false (omega (arith, h.count-is))
       ],
       c.is_settled.ensures.claims ∙ c.loop-place.invariant.3,
+      log_then c.loop-place.invariant.4 c.is_settled.ensures.log,
     )
