@@ -444,6 +444,16 @@ def dispatched(classes, count):
     yield b"}\n"
 
 
+def created(classes, count, inherited):
+    """So many higher-order attributes of all of so many classes, which make roots of each of them, and inherited ones that nothing covers there."""
+    yield b"aspect A {\n"
+    for number in range(inherited):
+        yield b"inh int Z.y%d();\n" % number
+    for number in range(count):
+        yield b"syn nta C%d C%d.v%d() = new C%d();\n" % (classes - 1, classes - 1, number, number % classes)
+    yield b"}\n"
+
+
 def typed(count):
     """So many attributes, each the sum of a hundred calls of the first: an expression of 399 tokens."""
     yield b"aspect A {\nsyn int N.v0() = 1;\n"
@@ -457,6 +467,12 @@ def typed(count):
 CHECKS = [
     ("check: the first example", {}),
     ("check: 1,024 attributes, 262,144 equations", {"g.ast": chain(256), "a.jrag": dispatched(256, 1024)}),
+    ("check: 256 higher-order attributes, 255 classes", {"g.ast": chain(255, b"; Z"), "a.jrag": created(255, 256, 0)}),
+    ("check: 512 higher-order attributes, 255 classes", {"g.ast": chain(255, b"; Z"), "a.jrag": created(255, 512, 0)}),
+    ("check: 1,024 higher-order attributes, 255 classes", {"g.ast": chain(255, b"; Z"), "a.jrag": created(255, 1024, 0)}),
+    ("check: 128 of them, 128 inherited names", {"g.ast": chain(255, b"; Z"), "a.jrag": created(255, 128, 128)}),
+    ("check: 256 of them, 256 inherited names", {"g.ast": chain(255, b"; Z"), "a.jrag": created(255, 256, 256)}),
+    ("check: 512 of them, 512 inherited names", {"g.ast": chain(255, b"; Z"), "a.jrag": created(255, 512, 512)}),
     ("check: 1,024 expressions of 399 tokens", {"a.jrag": typed(1024)}),
     ("check: 883,010 attributes of one name", {"a.jrag": enclosed(b"aspect A {\n", b"syn int N.v() = 1;\n", b"}\n")}),
     ("check: 1,024 attributes, each calls the next", {"a.jrag": chained(1024)}),

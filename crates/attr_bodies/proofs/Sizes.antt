@@ -1,4 +1,4 @@
--- The arguments of a call are smaller than the call, and the parts of a form over a list than the form.
+-- The arguments of a call are smaller than the call, those of a `new` than the `new`, and the parts of a form over a list than the form.
 use Rattle.std.proofs.Common.{◌≡◌, ◌<◌, ℕ, zero, suc, max, List, Box, Vec, Global, arith}
 use Rattle.std.proofs.Math.Nat.{max-le}
 use Rattle.rag_io.specs.declared.token.Place.{Place}
@@ -12,6 +12,9 @@ use Rattle.aspect_items.specs.declared.expression.Name as kept_name
 
 pub arguments_smaller : (e : kept_expr.Expr) (r : Box kept_expr.Expr Global) (n : kept_name.Name) (es : Vec kept_expr.Expr Global) (xs : List kept_expr.Expr) → e ≡ kept.Member r n es → xs ≡ es.items → most the_size xs < the_size e
 arguments_smaller e r n es xs is i = grind (the_lemmas, arith)
+
+pub given_smaller : (e : kept_expr.Expr) (p : Place) (n : kept_name.Name) (es : Vec kept_expr.Expr Global) (xs : List kept_expr.Expr) → e ≡ kept.New p n es → xs ≡ es.items → most the_size xs < the_size e
+given_smaller e p n es xs is i = grind (the_lemmas, arith)
 
 max_smaller : (a b m : ℕ) → a < m → b < m → max a b < m
 max_smaller a b zero h g = absurd (omega (arith, h))

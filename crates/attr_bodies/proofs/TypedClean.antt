@@ -1,11 +1,9 @@
--- Built expressions that break nothing are typed.
-use Rattle.std.proofs.Common.{◌≡◌, List, [], ◌∷◌, ◌++◌, ◌&&◌, true, false, pos, subst, is_none, Some, None, refl, ap, sym, ◌∙◌, arith, length, Option, is_some}
-use Rattle.std.proofs.lemmas.Bool.{and_parts}
+-- Expressions that break nothing are typed.
+use Rattle.std.proofs.Common.{◌≡◌, List, [], ◌∷◌, ◌++◌, true, false, pos, subst, is_none, Some, None, refl, ap, sym, ◌∙◌, arith, length, Option, is_some}
 use Rattle.broken_rules.specs.declared.broken.Broken.{Broken}
 use Rattle.broken_rules.specs.Notes.{at}
 use Rattle.broken_rules.specs.declared.rule.Rule.TheVariants.{J9, J10}
 use Rattle.broken_rules.proofs.Clean.{append_none, not_broken}
-use Rattle.built_forms.specs.Built.{are_built, is_built}
 use Rattle.aspect_items.specs.Expressions.{Expr, Arguments, Name, no_more, argument, Truth, Null, Empty, This, Int, Text, Source, Variable, Call, Member, New, Quantified, Group, Cast, Not, Negate, Binary, InstanceOf, If}
 use Rattle.attr_rules.specs.declared.accessors.Accessor.{Accessor}
 use Rattle.attr_rules.specs.declared.kinds.Kind.{Kind}
@@ -119,124 +117,117 @@ ranged s e here list none (Some u) is =
     subst (HasType (names_in s) (body_of s e)) type found.typed
 
 mutual
-  pub typed : (s : Scope) → IsScope s → AreKnown s → (e : Expr) (w : Stands) → is_range w ≡ false → is_built e ≡ true → expr_broken s w e ≡ [] → IsTyped (names_in s) (known s e) (body_of s e)
-  typed s is_scope all (Truth p b) w plain built none = of_type (names_in s) (types.Of kinds.Truth) (said.Truth b) (typing.truth b)
-  typed s is_scope all (Null p) w plain built none = of_type (names_in s) types.Null said.Null typing.null
-  typed s is_scope all (Empty p) w plain built none = of_type (names_in s) types.Empty said.Empty typing.empty
-  typed s is_scope all (This p) w plain built none = of_type (names_in s) (of_class s.this) said.This (typing.this s.this refl)
-  typed s is_scope all (Int p n) w plain built none = literal_typed (names_in s) (pos n)
-  typed s is_scope all (Text p n) w plain built none = of_type (names_in s) (types.Of kinds.Text) (said.Text n) (typing.text n)
-  typed s is_scope all (Source p n) w plain built none = absurd (cc)
-  typed s is_scope all (Variable n) w plain built none =
+  pub typed : (s : Scope) → IsScope s → AreKnown s → (e : Expr) (w : Stands) → is_range w ≡ false → expr_broken s w e ≡ [] → IsTyped (names_in s) (known s e) (body_of s e)
+  typed s is_scope all (Truth p b) w plain none = of_type (names_in s) (types.Of kinds.Truth) (said.Truth b) (typing.truth b)
+  typed s is_scope all (Null p) w plain none = of_type (names_in s) types.Null said.Null typing.null
+  typed s is_scope all (Empty p) w plain none = of_type (names_in s) types.Empty said.Empty typing.empty
+  typed s is_scope all (This p) w plain none = of_type (names_in s) (of_class s.this) said.This (typing.this s.this refl)
+  typed s is_scope all (Int p n) w plain none = literal_typed (names_in s) (pos n)
+  typed s is_scope all (Text p n) w plain none = of_type (names_in s) (types.Of kinds.Text) (said.Text n) (typing.text n)
+  typed s is_scope all (Source p n) w plain none = absurd (cc)
+  typed s is_scope all (Variable n) w plain none =
       variable_typed s all (λ k. None) (Some s.this) n.text (variable_named s n.text) refl (not_broken (is_none (variable_named s n.text)) (at n.place J9) none)
-  typed s is_scope all (Call n es) w plain built none =
+  typed s is_scope all (Call n es) w plain none =
       let o = form_named n.text in
-      alone s is_scope n es (λ wanted none many. fitted s is_scope all es wanted built none many) (λ f inner none. formed s is_scope all f n es built inner none) o
+      alone s is_scope n es (λ wanted none many. fitted s is_scope all es wanted none many) (λ f inner none. formed s is_scope all f n es inner none) o
       (subst (λ b. alone_broken s b n es (arguments_broken s (wanted_alone s n (count es) o) es) o ≡ []) plain none)
-  typed s is_scope all (Member e n es) w plain built none =
+  typed s is_scope all (Member e n es) w plain none =
       let wanted = wanted_for s (member_on s (known s e) n.text (count es)) (count es) in
       let call = call_broken s false n (count es) (place_of e) (known s e) in
       let parts = append_none (expr_broken s Anywhere e) (call ++ arguments_broken s wanted es)
       (subst (λ b. expr_broken s Anywhere e ++ (call_broken s b n (count es) (place_of e) (known s e) ++ arguments_broken s wanted es) ≡ []) plain none)
       in
       let rest = append_none call (arguments_broken s wanted es) parts.1 in
-      let both = and_parts (is_built e) (are_built es) built in
-      call_typed s is_scope (λ k. None) (Some s.this) (body_of s e) (arguments_said s es) n (count es) (place_of e) (known s e) (typed s is_scope all e Anywhere refl both.0 parts.0) rest.0 (record { passed = fitted s is_scope all es wanted both.1 rest.1 })
-  typed s is_scope all (New p n es) w plain built none = absurd (cc)
-  typed s is_scope all (Quantified q p n range e) w plain built none =
+      call_typed s is_scope (λ k. None) (Some s.this) (body_of s e) (arguments_said s es) n (count es) (place_of e) (known s e) (typed s is_scope all e Anywhere refl parts.0) rest.0 (record { passed = fitted s is_scope all es wanted rest.1 })
+  typed s is_scope all (New p n es) w plain none = absurd (cc)
+  typed s is_scope all (Quantified q p n range e) w plain none =
       let inner = inside s q n range in
       let fit = body_misfit s.grammar q (known inner e) e in
       let parts = append_none (expr_broken s Range range ++ no_range q (known s range) range) (expr_broken inner Anywhere e ++ fit) none in
       let first = append_none (expr_broken s Range range) (no_range q (known s range) range) parts.0 in
       let last = append_none (expr_broken inner Anywhere e) fit parts.1 in
-      let both = and_parts (is_built range) (is_built e) built in
       let some = not_broken (has_no_elements q (known s range)) (at (place_of range) J10) first.1 in
-      let here : expr_broken s Anywhere range ≡ [] → IsTyped (names_in s) (known s range) (body_of s range) = λ none. typed s is_scope all range Anywhere refl both.0 none in
-      let over = ranged s range here (λ typeless. listed s is_scope all range here both.0 first.0 typeless) first.0 (known s range) refl in
+      let here : expr_broken s Anywhere range ≡ [] → IsTyped (names_in s) (known s range) (body_of s range) = λ none. typed s is_scope all range Anywhere refl none in
+      let over = ranged s range here (λ typeless. listed s is_scope all range here first.0 typeless) first.0 (known s range) refl in
       let there = elements_there (names_in s) (body_of s range) q (list_of s range) (known s range) over some in
-      let body = typed inner (record { superclasses = is_scope.superclasses }) (inside_known s all n (range_of s q range) there.0 there.1) e Anywhere refl both.1 last.0 in
+      let body = typed inner (record { superclasses = is_scope.superclasses }) (inside_known s all n (range_of s q range) there.0 there.1) e Anywhere refl last.0 in
       form_typed (names_in s) (body_of s range) (body_of inner e) (known inner e) e q (list_of s range) (known s range) over some body last.1
-  typed s is_scope all (Group p e) w plain built none = typed s is_scope all e Anywhere refl built none
-  typed s is_scope all (Cast p n e) w plain built none =
+  typed s is_scope all (Group p e) w plain none = typed s is_scope all e Anywhere refl none
+  typed s is_scope all (Cast p n e) w plain none =
       let node = no_node (known s e) e in
       let parts = append_none (class_broken s.grammar n) (expr_broken s Anywhere e ++ node) none in
       let rest = append_none (expr_broken s Anywhere e) node parts.1 in
-      cast_typed (names_in s) n (known s e) e (body_of s e) (typed s is_scope all e Anywhere refl built rest.0) parts.0 rest.1
-  typed s is_scope all (Not p e) w plain built none =
+      cast_typed (names_in s) n (known s e) e (body_of s e) (typed s is_scope all e Anywhere refl rest.0) parts.0 rest.1
+  typed s is_scope all (Not p e) w plain none =
       let parts = append_none (expr_broken s Anywhere e) (misfit s.grammar kinds.Truth (known s e) e) none in
-      not_typed (names_in s) (known s e) e (body_of s e) (typed s is_scope all e Anywhere refl built parts.0) parts.1
-  typed s is_scope all (Negate p e) w plain built none =
+      not_typed (names_in s) (known s e) e (body_of s e) (typed s is_scope all e Anywhere refl parts.0) parts.1
+  typed s is_scope all (Negate p e) w plain none =
       let parts = append_none (expr_broken s Negated e) (misfit s.grammar kinds.Int (known s e) e) none in
-      negate_typed (names_in s) (known s e) e (body_of s e) (typed s is_scope all e Negated refl built parts.0) parts.1
-  typed s is_scope all (Binary o a b) w plain built none =
+      negate_typed (names_in s) (known s e) e (body_of s e) (typed s is_scope all e Negated refl parts.0) parts.1
+  typed s is_scope all (Binary o a b) w plain none =
       let sides = sides_broken s.grammar o (known s a) a (known s b) b in
       let parts = append_none (expr_broken s Anywhere a) (expr_broken s Anywhere b ++ sides) none in
       let rest = append_none (expr_broken s Anywhere b) sides parts.1 in
-      let both = and_parts (is_built a) (is_built b) built in
-      joined_typed (names_in s) (known s a) a (body_of s a) (known s b) b (body_of s b) (typed s is_scope all a Anywhere refl both.0 parts.0) (typed s is_scope all b Anywhere refl both.1 rest.0) o rest.1
-  typed s is_scope all (InstanceOf e n) w plain built none =
+      joined_typed (names_in s) (known s a) a (body_of s a) (known s b) b (body_of s b) (typed s is_scope all a Anywhere refl parts.0) (typed s is_scope all b Anywhere refl rest.0) o rest.1
+  typed s is_scope all (InstanceOf e n) w plain none =
       let node = no_node (known s e) e in
       let parts = append_none (class_broken s.grammar n) (expr_broken s Anywhere e ++ node) none in
       let rest = append_none (expr_broken s Anywhere e) node parts.1 in
-      test_typed (names_in s) n (known s e) e (body_of s e) (typed s is_scope all e Anywhere refl built rest.0) parts.0 rest.1
-  typed s is_scope all (If c a b) w plain built none =
+      test_typed (names_in s) n (known s e) e (body_of s e) (typed s is_scope all e Anywhere refl rest.0) parts.0 rest.1
+  typed s is_scope all (If c a b) w plain none =
       let choice = choice_broken s.grammar (known s c) c (known s a) (known s b) b in
       let parts = append_none (expr_broken s Anywhere c) (expr_broken s Anywhere a ++ (expr_broken s Anywhere b ++ choice)) none in
       let rest = append_none (expr_broken s Anywhere a) (expr_broken s Anywhere b ++ choice) parts.1 in
       let last = append_none (expr_broken s Anywhere b) choice rest.1 in
-      let three = and_parts (is_built c) (is_built a && is_built b) built in
-      let both = and_parts (is_built a) (is_built b) three.1 in
-      choice_typed (names_in s) (known s a) a (body_of s a) (known s b) b (body_of s b) (typed s is_scope all a Anywhere refl both.0 rest.0) (typed s is_scope all b Anywhere refl both.1 last.0) (known s c) c (body_of s c) (else_place b) (typed s is_scope all c Anywhere refl three.0 parts.0) last.1
+      choice_typed (names_in s) (known s a) a (body_of s a) (known s b) b (body_of s b) (typed s is_scope all a Anywhere refl rest.0) (typed s is_scope all b Anywhere refl last.0) (known s c) c (body_of s c) (else_place b) (typed s is_scope all c Anywhere refl parts.0) last.1
 
   -- one of the forms of sets
-  formed : (s : Scope) → IsScope s → AreKnown s → (f : SetForm) (n : Name) (es : Arguments) → are_built es ≡ true → arguments_broken s [] es ≡ [] → form_broken s f n es ≡ []
+  formed : (s : Scope) → IsScope s → AreKnown s → (f : SetForm) (n : Name) (es : Arguments) → arguments_broken s [] es ≡ [] → form_broken s f n es ≡ []
       → IsTyped (names_in s) (form_type s.grammar f (types_known s es)) (form_said f (form_type s.grammar f (types_known s es)) (arguments_said s es))
-  formed s is_scope all f n no_more built inner none = absurd (cc)
-  formed s is_scope all f n (argument a no_more) built inner none =
+  formed s is_scope all f n no_more inner none = absurd (cc)
+  formed s is_scope all f n (argument a no_more) inner none =
       let first = append_none (expr_broken s Anywhere a) [] inner in
-      one_typed (names_in s) n (known s a) a (body_of s a) (typed s is_scope all a Anywhere refl (and_parts (is_built a) true built).0 first.0) f none
-  formed s is_scope all f n (argument a (argument b no_more)) built inner none =
-      let both = and_parts (is_built a) (is_built b && true) built in
+      one_typed (names_in s) n (known s a) a (body_of s a) (typed s is_scope all a Anywhere refl first.0) f none
+  formed s is_scope all f n (argument a (argument b no_more)) inner none =
       let first = append_none (expr_broken s Anywhere a) (expr_broken s Anywhere b ++ []) inner in
       let second = append_none (expr_broken s Anywhere b) [] first.1 in
-      pair_typed (names_in s) n (known s a) a (body_of s a) (typed s is_scope all a Anywhere refl both.0 first.0) (known s b) b (body_of s b) (typed s is_scope all b Anywhere refl (and_parts (is_built b) true both.1).0 second.0) f none
-  formed s is_scope all f n (argument a (argument b (argument c es))) built inner none = absurd (cc)
+      pair_typed (names_in s) n (known s a) a (body_of s a) (typed s is_scope all a Anywhere refl first.0) (known s b) b (body_of s b) (typed s is_scope all b Anywhere refl second.0) f none
+  formed s is_scope all f n (argument a (argument b (argument c es))) inner none = absurd (cc)
 
   -- the list that a range of no type gives: only calls are none of a type
-  listed : (s : Scope) → IsScope s → AreKnown s → (e : Expr) → (expr_broken s Anywhere e ≡ [] → IsTyped (names_in s) (known s e) (body_of s e)) → is_built e ≡ true → expr_broken s Range e ≡ [] → known s e ≡ None → IsListed (names_in s) (body_of s e) (list_of s e)
-  listed s is_scope all (Call n es) here built none typeless = alone_listed s is_scope n es (λ f inner none. formed s is_scope all f n es built inner none) (form_named n.text) none typeless
-  listed s is_scope all (Member e n es) here built none typeless =
+  listed : (s : Scope) → IsScope s → AreKnown s → (e : Expr) → (expr_broken s Anywhere e ≡ [] → IsTyped (names_in s) (known s e) (body_of s e)) → expr_broken s Range e ≡ [] → known s e ≡ None → IsListed (names_in s) (body_of s e) (list_of s e)
+  listed s is_scope all (Call n es) here none typeless = alone_listed s is_scope n es (λ f inner none. formed s is_scope all f n es inner none) (form_named n.text) none typeless
+  listed s is_scope all (Member e n es) here none typeless =
       let call = call_broken s true n (count es) (place_of e) (known s e) in
       let arguments = arguments_broken s (wanted_for s (member_on s (known s e) n.text (count es)) (count es)) es in
       let parts = append_none (expr_broken s Anywhere e) (call ++ arguments) none in
-      let owner = typed s is_scope all e Anywhere refl (and_parts (is_built e) (are_built es) built).0 parts.0 in
+      let owner = typed s is_scope all e Anywhere refl parts.0 in
       call_listed s is_scope (names_in s) refl (body_of s e) (arguments_said s es) n (count es) (place_of e) (known s e) owner (append_none call arguments parts.1).0 (ap is_some typeless)
-  listed s is_scope all (Truth p b) here built none typeless = no_listed s (Truth p b) (here none) typeless
-  listed s is_scope all (Null p) here built none typeless = no_listed s (Null p) (here none) typeless
-  listed s is_scope all (Empty p) here built none typeless = no_listed s (Empty p) (here none) typeless
-  listed s is_scope all (This p) here built none typeless = no_listed s (This p) (here none) typeless
-  listed s is_scope all (Int p n) here built none typeless = no_listed s (Int p n) (here none) typeless
-  listed s is_scope all (Text p n) here built none typeless = no_listed s (Text p n) (here none) typeless
-  listed s is_scope all (Source p n) here built none typeless = no_listed s (Source p n) (here none) typeless
-  listed s is_scope all (Variable n) here built none typeless = no_listed s (Variable n) (here none) typeless
-  listed s is_scope all (New p n es) here built none typeless = no_listed s (New p n es) (here none) typeless
-  listed s is_scope all (Quantified q p n r e) here built none typeless = no_listed s (Quantified q p n r e) (here none) typeless
-  listed s is_scope all (Group p e) here built none typeless = no_listed s (Group p e) (here none) typeless
-  listed s is_scope all (Cast p n e) here built none typeless = no_listed s (Cast p n e) (here none) typeless
-  listed s is_scope all (Not p e) here built none typeless = no_listed s (Not p e) (here none) typeless
-  listed s is_scope all (Negate p e) here built none typeless = no_listed s (Negate p e) (here none) typeless
-  listed s is_scope all (Binary o a b) here built none typeless = no_listed s (Binary o a b) (here none) typeless
-  listed s is_scope all (InstanceOf e n) here built none typeless = no_listed s (InstanceOf e n) (here none) typeless
-  listed s is_scope all (If c a b) here built none typeless = no_listed s (If c a b) (here none) typeless
+  listed s is_scope all (Truth p b) here none typeless = no_listed s (Truth p b) (here none) typeless
+  listed s is_scope all (Null p) here none typeless = no_listed s (Null p) (here none) typeless
+  listed s is_scope all (Empty p) here none typeless = no_listed s (Empty p) (here none) typeless
+  listed s is_scope all (This p) here none typeless = no_listed s (This p) (here none) typeless
+  listed s is_scope all (Int p n) here none typeless = no_listed s (Int p n) (here none) typeless
+  listed s is_scope all (Text p n) here none typeless = no_listed s (Text p n) (here none) typeless
+  listed s is_scope all (Source p n) here none typeless = no_listed s (Source p n) (here none) typeless
+  listed s is_scope all (Variable n) here none typeless = no_listed s (Variable n) (here none) typeless
+  listed s is_scope all (New p n es) here none typeless = no_listed s (New p n es) (here none) typeless
+  listed s is_scope all (Quantified q p n r e) here none typeless = no_listed s (Quantified q p n r e) (here none) typeless
+  listed s is_scope all (Group p e) here none typeless = no_listed s (Group p e) (here none) typeless
+  listed s is_scope all (Cast p n e) here none typeless = no_listed s (Cast p n e) (here none) typeless
+  listed s is_scope all (Not p e) here none typeless = no_listed s (Not p e) (here none) typeless
+  listed s is_scope all (Negate p e) here none typeless = no_listed s (Negate p e) (here none) typeless
+  listed s is_scope all (Binary o a b) here none typeless = no_listed s (Binary o a b) (here none) typeless
+  listed s is_scope all (InstanceOf e n) here none typeless = no_listed s (InstanceOf e n) (here none) typeless
+  listed s is_scope all (If c a b) here none typeless = no_listed s (If c a b) (here none) typeless
 
   -- the arguments of a call, which are as many as are wanted
-  fitted : (s : Scope) → IsScope s → AreKnown s → (es : Arguments) (wanted : List Kind) → are_built es ≡ true → arguments_broken s wanted es ≡ [] → length wanted ≡ count es → Fit (names_in s) (arguments_said s es) wanted
-  fitted s is_scope all no_more [] built none many = typing.end
-  fitted s is_scope all no_more (k ∷ wanted) built none many = absurd (omega (arith, many))
-  fitted s is_scope all (argument e es) [] built none many = absurd (omega (arith, many))
-  fitted s is_scope all (argument e es) (k ∷ wanted) built none many =
-      let both = and_parts (is_built e) (are_built es) built in
+  fitted : (s : Scope) → IsScope s → AreKnown s → (es : Arguments) (wanted : List Kind) → arguments_broken s wanted es ≡ [] → length wanted ≡ count es → Fit (names_in s) (arguments_said s es) wanted
+  fitted s is_scope all no_more [] none many = typing.end
+  fitted s is_scope all no_more (k ∷ wanted) none many = absurd (omega (arith, many))
+  fitted s is_scope all (argument e es) [] none many = absurd (omega (arith, many))
+  fitted s is_scope all (argument e es) (k ∷ wanted) none many =
       let parts = append_none (expr_broken s Anywhere e) (misfit s.grammar k (known s e) e ++ arguments_broken s wanted es) none in
       let rest = append_none (misfit s.grammar k (known s e) e) (arguments_broken s wanted es) parts.1 in
-      let first = typed s is_scope all e Anywhere refl both.0 parts.0 in
-      typing.more first.type first.typed (fitting (names_in s) k (known s e) first.type e first.is rest.0) (fitted s is_scope all es wanted both.1 rest.1 (omega (arith, many)))
+      let first = typed s is_scope all e Anywhere refl parts.0 in
+      typing.more first.type first.typed (fitting (names_in s) k (known s e) first.type e first.is rest.0) (fitted s is_scope all es wanted rest.1 (omega (arith, many)))

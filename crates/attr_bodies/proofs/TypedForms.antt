@@ -1,5 +1,5 @@
 -- What forms break, from what was noted for their parts.
-use Rattle.std.proofs.Common.{◌≡◌, ℕ, ◌<◌, arith, Bool, subst, List, [], ◌∷◌, ◌++◌, Option, Box, Vec, Global, suc, length, map, refl, ap, sym, ◌∙◌}
+use Rattle.std.proofs.Common.{◌≡◌, ℕ, ◌<◌, arith, Bool, subst, List, [], ◌∷◌, Option, Box, Vec, Global, suc, length, map, refl, ap, sym, ◌∙◌}
 use Rattle.std.specs.Option.{option_and_then, option_map}
 use Rattle.std.proofs.lemmas.List.{length-map}
 use Rattle.rag_io.specs.declared.token.Place.{Place}
@@ -34,11 +34,11 @@ use Rattle.aspect_items.specs.declared.expression.Expr as kept_expr
 use Rattle.aspect_items.specs.declared.expression.Expr.TheFolds.{fold-roll-Expr}
 use Rattle.aspect_items.specs.declared.expression.Expr.TheOpen.{Expr-F}
 use Rattle.aspect_items.specs.declared.expression.Expr.TheVariants as kept
-use Rattle.aspect_items.specs.declared.expression.Expr.TheVariants.{rolls-Binary, rolls-Call, rolls-Cast, rolls-If, rolls-InstanceOf, rolls-Member, rolls-Quantified}
+use Rattle.aspect_items.specs.declared.expression.Expr.TheVariants.{rolls-Binary, rolls-Call, rolls-Cast, rolls-If, rolls-InstanceOf, rolls-Member, rolls-New, rolls-Quantified}
 use Rattle.aspect_items.specs.declared.expression.Name as kept_name
 use Rattle.aspect_items.specs.declared.expression.Operator.{Operator}
 use Rattle.aspect_items.specs.declared.expression.Quantifier.{Quantifier}
-use Rattle.aspect_items.specs.Expressions.{Binary, Call, Cast, Expr, If, InstanceOf, Member, Name, Quantified, argument, arguments_of, no_more, seen_expr, seen_level, seen_name}
+use Rattle.aspect_items.specs.Expressions.{Binary, Call, Cast, Expr, If, InstanceOf, Member, Name, New, Quantified, argument, arguments_of, no_more, seen_expr, seen_level, seen_name}
 
 -- the forms of several parts as they are seen
 seen-Member : (e : Box kept_expr.Expr Global) (n : kept_name.Name) (es : Vec kept_expr.Expr Global) → seen_expr (kept.Member e n es) ≡ Member (seen_expr e.value) (seen_name n) (arguments_of (map seen_expr es.items))
@@ -55,6 +55,9 @@ seen-InstanceOf a n = ap seen_expr (sym (rolls-InstanceOf a n)) ∙ fold-roll-Ex
 
 pub seen-Call : (n : kept_name.Name) (es : Vec kept_expr.Expr Global) → seen_expr (kept.Call n es) ≡ Call (seen_name n) (arguments_of (map seen_expr es.items))
 seen-Call n es = ap seen_expr (sym (rolls-Call n es)) ∙ fold-roll-Expr Expr seen_level (Expr-F.Call n es)
+
+pub seen-New : (p : Place) (n : kept_name.Name) (es : Vec kept_expr.Expr Global) → seen_expr (kept.New p n es) ≡ New p (seen_name n) (arguments_of (map seen_expr es.items))
+seen-New p n es = ap seen_expr (sym (rolls-New p n es)) ∙ fold-roll-Expr Expr seen_level (Expr-F.New p n es)
 
 seen-Quantified : (q : Quantifier) (p : Place) (n : kept_name.Name) (r c : Box kept_expr.Expr Global) → seen_expr (kept.Quantified q p n r c) ≡ Quantified q p (seen_name n) (seen_expr r.value) (seen_expr c.value)
 seen-Quantified q p n r c = ap seen_expr (sym (rolls-Quantified q p n r c)) ∙ fold-roll-Expr Expr seen_level (Expr-F.Quantified q p n r c)

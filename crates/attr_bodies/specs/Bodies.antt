@@ -1,8 +1,8 @@
--- The rules on expressions: J9, J10, J11 and J17. A rule that speaks of a type speaks of expressions whose type is known.
+-- The rules on expressions: J9, J10, J11, J12 and J17. A rule that speaks of a type speaks of expressions whose type is known.
 use Rattle.std.specs.Prelude.{ℕ, nat_lt, List, [], ◌∷◌, ◌++◌, Bool, Option, Some, None, is_none}
 use Rattle.rag_io.specs.declared.token.Place.{Place}
 use Rattle.broken_rules.specs.declared.broken.Broken.{Broken}
-use Rattle.broken_rules.specs.declared.rule.Rule.TheVariants.{J9, J17}
+use Rattle.broken_rules.specs.declared.rule.Rule.TheVariants.{J9, J12, J17}
 use Rattle.broken_rules.specs.Notes.{at, broken_if}
 use Rattle.attr_rules.specs.declared.kinds.Kind.{Kind}
 use Rattle.attr_rules.specs.declared.kinds.Kind.TheVariants as kinds
@@ -45,7 +45,7 @@ alone_broken s range n es inner None = call_broken s range n (count es) n.place 
 alone_broken s range n es inner (Some f) = inner ++ form_broken s f n es
 
 abbrev mutual
-  -- What an expression breaks, by where it stands. `new`, which isn't evaluated so far, breaks nothing.
+  -- What an expression breaks, by where it stands. A `new` stands nowhere here, and is looked at no further: what it has stands behind it.
   pub expr_broken : Scope → Stands → Expr → List Broken
   expr_broken s w (Truth p b) = []
   expr_broken s w (Null p) = []
@@ -58,7 +58,7 @@ abbrev mutual
   expr_broken s w (Call n es) = alone_broken s (is_range w) n es (arguments_broken s (wanted_alone s n (count es) (form_named n.text)) es) (form_named n.text)
   expr_broken s w (Member e n es) = expr_broken s stands.Anywhere e ++ (call_broken s (is_range w) n (count es) (place_of e) (known s e)
       ++ arguments_broken s (wanted_for s (member_on s (known s e) n.text (count es)) (count es)) es)
-  expr_broken s w (New p n es) = []
+  expr_broken s w (New p n es) = at p J12 ∷ []
   expr_broken s w (Quantified q p n range e) = (expr_broken s stands.Range range ++ no_range q (known s range) range)
       ++ (expr_broken (inside s q n range) stands.Anywhere e ++ body_misfit s.grammar q (known (inside s q n range) e) e)
   expr_broken s w (Group p e) = expr_broken s stands.Anywhere e

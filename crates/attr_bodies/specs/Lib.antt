@@ -1,3 +1,4 @@
 pub mod Bodies
+pub mod Created
 pub mod Says
 pub mod Seen

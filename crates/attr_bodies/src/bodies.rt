@@ -1,8 +1,8 @@
-// The rules on expressions: J9, J10, J11 and J17.
+// The rules on expressions: J9, J10, J11, J12 and J17.
 ghost use Rattle.std.specs.Prelude.{◌≡◌, ◌++◌, ◌∷◌, [], None, Some, IfOk, OnOk, map, length, nat_lt, pos};
 ghost use Rattle.std.specs.Int.{int_wrap, w32};
 ghost use Rattle.broken_rules.specs.Notes.{Notes, at, broken_if};
-ghost use Rattle.broken_rules.specs.declared.rule.Rule.TheVariants.{J9, J17};
+ghost use Rattle.broken_rules.specs.declared.rule.Rule.TheVariants.{J9, J12, J17};
 ghost use Rattle.attr_rules.specs.Expression.{Int, Null, This, arguments_of as said_arguments, expression_of};
 ghost use Rattle.attr_rules.specs.Types.{of_class};
 ghost use Rattle.attr_bodies.specs.Bodies.{argument_broken, body_broken, cast_broken, expr_broken, node_broken, operand_broken, prefixed_broken, range_broken, variable_broken};
@@ -11,7 +11,7 @@ ghost use Rattle.attr_bodies.specs.Seen.{broken_behind, broken_with, chosen_brok
 ghost use Rattle.expr_typing.specs.Calls.{meant};
 ghost use Rattle.expr_typing.specs.SetForms.{count_broken, int, settled};
 ghost use Rattle.expr_typing.specs.Standing.{greatest};
-ghost use Rattle.expr_typing.specs.Typed.{arguments_in, arguments_said, body_of, range_of};
+ghost use Rattle.expr_typing.specs.Typed.{arguments_in, arguments_said, body_of, class_type, range_of};
 ghost use Rattle.expr_typing.specs.declared.standing.Stands.TheVariants.{Anywhere};
 ghost use Rattle.attr_scope.specs.ScopeKept.{IsScope};
 ghost use Rattle.attr_scope.specs.Seen.{seen_scope, seen_variable};
@@ -82,6 +82,15 @@ fn unknown(place: Place, faults: &mut Earliest) -> Typed
 {
     faults.note(Rule::J9, place);
     typed(None, TExpr::Null)
+}
+
+// A `new` where nothing is made. It is of its class all the same.
+fn misplaced(grammar: &Grammar, place: Place, name: &Name, faults: &mut Earliest) -> Typed
+    ensures noted { Notes (at place J12 ∷ []) faults.old faults.new }
+    ensures says { seen_typed result ≡ said_as (class_type grammar.now (seen_name name.now).text) Null }
+{
+    faults.note(Rule::J12, place);
+    typed(type_of_class(grammar.find_class(&name.text)), TExpr::Null)
 }
 
 // A part of an expression: how it is written, and what it says.
@@ -674,6 +683,6 @@ fn type_expr(
             choice(alloc, scope.grammar, condition, then, otherwise, faults)
         }
         Expr::Empty(_) => Ok(typed(EMPTY, TExpr::Empty)),
-        Expr::New(..) => Ok(typed(None, TExpr::Null)),
+        Expr::New(place, name, _) => Ok(misplaced(scope.grammar, *place, name, faults)),
     }
 }

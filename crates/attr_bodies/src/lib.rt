@@ -2,5 +2,7 @@
 #![tactic(auto)]
 
 mod bodies;
+mod created;
 
 pub use bodies::type_operand;
+pub use created::type_created;

@@ -90,6 +90,15 @@ adds_where q {e} b holds h = record { marks = λ c. h.marks c ∙ ap (λ x. mark
 pub adds_nowhere : (q : ℕ → Bool) {f : Found} (b : Bool) → b ≡ false → Adds (λ c. b && q c) f f
 adds_nowhere q {f} b fails = record { marks = λ c. sym (ap (λ x. mark_at f.marks.items c || (x && q c)) fails ∙ or_none (mark_at f.marks.items c)) }
 
+-- a class that is marked already
+pub adds_marked : {f : Found} (class : ℕ) (b : Bool) → mark_at f.marks.items class ≡ true → Adds (λ c. b && (class == c)) f f
+adds_marked {f} class b marked = record {
+  marks = λ c. elim (cases_eq class c) [
+    | inl same ↦ (let here : mark_at f.marks.items c ≡ true = ap (mark_at f.marks.items) (sym same) ∙ marked in here ∙ sym (or_left (mark_at f.marks.items c) (b && (class == c)) here))
+    | inr other ↦ sym (ap (λ x. mark_at f.marks.items c || x) (and_right b (class == c) (ne_eqb class c other)) ∙ or_none (mark_at f.marks.items c))
+  ];
+}
+
 -- the same test in other words
 pub adds_same : {p q : ℕ → Bool} {e f : Found} → ((c : ℕ) → p c ≡ q c) → Adds p e f → Adds q e f
 adds_same {p} {q} {e} same h = record { marks = λ c. h.marks c ∙ ap (λ b. mark_at e.marks.items c || b) (same c) }

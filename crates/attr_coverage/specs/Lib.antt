@@ -1,4 +1,5 @@
 pub mod Completeness
 pub mod Covering
 pub mod CoveringKept
+pub mod Created
 pub mod Dispatched

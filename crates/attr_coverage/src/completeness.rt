@@ -5,14 +5,16 @@ ghost use Rattle.ast_grammar.specs.Grammar.{is_sub};
 ghost use Rattle.attr_rules.specs.Rules.{has_own_equations};
 ghost use Rattle.attr_coverage.specs.Completeness.{can_be_open, place_of, places_of};
 ghost use Rattle.attr_coverage.specs.CoveringKept.{mark_at};
-ghost use Rattle.attr_coverage.specs.Dispatched.{EndsComplete, ForTargets, NotesLacking, lacks_equation};
+ghost use Rattle.attr_coverage.specs.Covering.{is_concrete};
+ghost use Rattle.attr_coverage.specs.Dispatched.{EndsLacking, EndsWritten, ForMade, NotesLacking, lacks_equation};
 ghost use Rattle.attr_scope.specs.Classes.{class_numbers};
 ghost use Rattle.attr_scope.specs.Seen.{seen_head};
 
 use crate::covering::{is_concrete, is_marked, uncovered_classes};
+use crate::created::{Created, made_by_class, roots_of};
 use ast_grammar::{ClassId, Grammar};
 use attr_rules::{Attr, AttrId, Attributes, Dispatch};
-use attr_scope::Head;
+use attr_scope::{Given, Head};
 use broken_rules::{Earliest, ReadFault, Rule};
 use rag_io::{Memory, Place};
 use std::alloc::Global;
@@ -42,13 +44,13 @@ fn is_missing(grammar: &Grammar, dispatch: &Dispatch, attribute: AttrId, declare
         && lacks_equation(grammar, dispatch, attribute, declared.class)
 }
 
-// One of the marked classes has the attribute, which is declared for a class.
+// There are nodes of one of the marked classes, and they have the attribute, which is declared for a class.
 fn is_marked_below(grammar: &Grammar, marks: &[bool], declared: ClassId) -> bool
-    ensures { result ≡ list_any (λ c. is_sub grammar.now c declared.0 && mark_at marks.now c) (class_numbers grammar.now) }
+    ensures { result ≡ list_any (λ c. is_concrete grammar.now c && (is_sub grammar.now c declared.0 && mark_at marks.now c)) (class_numbers grammar.now) }
 {
     (0..grammar.classes()).any(|number| {
         let class = ClassId(number as u16);
-        grammar.is_sub(class, declared) && is_marked(marks, class)
+        is_concrete(grammar, class) && grammar.is_sub(class, declared) && is_marked(marks, class)
     })
 }
 
@@ -58,11 +60,13 @@ fn is_open(
     grammar: &Grammar,
     dispatch: &Dispatch,
     first: Option<AttrId>,
+    made: &[Vec<Created>],
     declared: ClassId,
 ) -> Result<bool, Memory>
-    ensures { ForTargets grammar.now dispatch.now (λ targets. IfOk result (λ b. b ≡ can_be_open grammar.now targets first declared)) }
+    requires { length made.now ≡ length grammar.now }
+    ensures { ForMade grammar.now dispatch.now made.now (λ targets made. IfOk result (λ b. b ≡ can_be_open grammar.now targets first made declared)) }
 {
-    let marks = uncovered_classes(alloc, grammar, dispatch, first)?;
+    let marks = uncovered_classes(alloc, grammar, dispatch, first, made)?;
     Ok(is_marked_below(grammar, &marks, declared))
 }
 
@@ -72,17 +76,19 @@ fn check_attribute(
     grammar: &Grammar,
     attributes: &Attributes,
     dispatch: &Dispatch,
+    made: &[Vec<Created>],
     attribute: AttrId,
     place: Place,
     faults: &mut Earliest,
 ) -> Result<(), Memory>
-    requires { attribute.0 < length attributes.now.attributes }
-    ensures { OnOk result (NotesLacking grammar.now attributes.now dispatch.now attribute place faults.old faults.new) }
+    requires made { length made.now ≡ length grammar.now }
+    requires known { attribute.0 < length attributes.now.attributes }
+    ensures { OnOk result (NotesLacking grammar.now attributes.now dispatch.now made.now attribute place faults.old faults.new) }
 {
     let declared = attributes.attr(attribute);
     if declared.sort.is_inherited() {
         let first = attributes.first_of_name(attribute);
-        let is_open = is_open(alloc, grammar, dispatch, first, declared.class)?;
+        let is_open = is_open(alloc, grammar, dispatch, first, made, declared.class)?;
         faults.note_if(is_open, Rule::J8, place);
         return Ok(());
     }
@@ -115,10 +121,12 @@ fn check_attributes(
     grammar: &Grammar,
     attributes: &Attributes,
     dispatch: &Dispatch,
+    made: &[Vec<Created>],
     places: &[Place],
 ) -> Result<(), ReadFault>
-    requires { length places.now ≡ length attributes.now.attributes }
-    ensures { EndsComplete grammar.now attributes.now dispatch.now places.now result }
+    requires made { length made.now ≡ length grammar.now }
+    requires even { length places.now ≡ length attributes.now.attributes }
+    ensures { EndsLacking grammar.now attributes.now dispatch.now made.now places.now result }
 {
     let mut faults = Earliest::new();
     for i in 0..attributes.len() {
@@ -129,6 +137,7 @@ fn check_attributes(
             grammar,
             attributes,
             dispatch,
+            made,
             attribute,
             place,
             &mut faults,
@@ -137,17 +146,21 @@ fn check_attributes(
     faults.answer()
 }
 
-/// The phase of completeness, among the equations for these: of each attribute, which the declaration of its number declares.
+/// The phase of completeness, among these equations, which the dispatch is for: of each attribute, which the declaration of its number
+/// declares. What the higher-order attributes make is looked for once for all of them.
 pub fn check_completeness(
     alloc: Global,
     grammar: &Grammar,
     heads: &[Head<'_>],
+    equations: &[Given<'_>],
     attributes: &Attributes,
     dispatch: &Dispatch,
 ) -> Result<(), ReadFault>
     requires { length heads.now ≡ length attributes.now.attributes }
-    ensures { EndsComplete grammar.now attributes.now dispatch.now (places_of (map seen_head heads.now)) result }
+    ensures { EndsWritten grammar.now attributes.now dispatch.now equations.now heads.now result }
 {
     let places = places_of(alloc, heads)?;
-    check_attributes(alloc, grammar, attributes, dispatch, &places)
+    let roots = roots_of(alloc, grammar, equations)?;
+    let made = made_by_class(alloc, grammar, attributes, dispatch, &roots)?;
+    check_attributes(alloc, grammar, attributes, dispatch, &made, &places)
 }

@@ -1,12 +1,13 @@
 // The classes of which there can be a node at which no equation gives a value to an inherited attribute.
-ghost use Rattle.std.specs.Prelude.{◌≡◌, ◌<◌, ◌==◌, ◌&&◌, IfOk, OnOk, false, length, replicate};
+ghost use Rattle.std.specs.Prelude.{◌≡◌, ◌<◌, ◌==◌, ◌&&◌, IfOk, OnOk, false, length, replicate, true};
 ghost use Rattle.attr_rules.specs.Rules.{is_for_nodes};
-ghost use Rattle.attr_coverage.specs.Covering.{is_concrete, is_concrete_below, is_covered_for, is_open_at};
+ghost use Rattle.attr_coverage.specs.Covering.{is_concrete, is_concrete_below, is_covered_for, is_open_at, is_open_root};
 ghost use Rattle.attr_coverage.specs.CoveringKept.{Adds, AreListed, Grows, mark_at};
-ghost use Rattle.attr_coverage.specs.Dispatched.{AddsHanging, ForTargets, MarksUncovered};
+ghost use Rattle.attr_coverage.specs.Dispatched.{AddsFollowing, AddsHanging, AddsMade, AddsRoot, ForTargets, MarksUncovered};
 
+use crate::created::Created;
 use ast_grammar::{ClassId, Component, Grammar, Shape};
-use attr_rules::{AttrId, Dispatch, Part};
+use attr_rules::{AttrId, Dispatch, Part, Via};
 use rag_io::Memory;
 use std::alloc::Global;
 
@@ -48,21 +49,19 @@ fn is_for_nodes(shape: Shape) -> bool
     }
 }
 
-// An equation covers what hangs at a component of nodes of a class.
+// An equation covers what hangs by something at nodes of a class.
 fn is_covered(
     grammar: &Grammar,
     dispatch: &Dispatch,
     first: Option<AttrId>,
     class: ClassId,
-    component: Part,
+    via: Via,
 ) -> bool
-    ensures { ForTargets grammar.now dispatch.now (λ targets. result ≡ is_covered_for grammar.now targets first class.0 component.0) }
+    ensures { ForTargets grammar.now dispatch.now (λ targets. result ≡ is_covered_for grammar.now targets first class.0 via) }
 {
     match first {
         None => false,
-        Some(attribute) => dispatch
-            .find_covering(class, component, attribute)
-            .is_some(),
+        Some(attribute) => dispatch.find_covering(class, via, attribute).is_some(),
     }
 }
 
@@ -77,7 +76,28 @@ fn is_open(
 ) -> bool
     ensures { ForTargets grammar.now dispatch.now (λ targets. result ≡ is_open_at grammar.now targets first class k.0 component.now.shape) }
 {
-    is_for_nodes(component.shape) && !is_covered(grammar, dispatch, first, class, k)
+    is_for_nodes(component.shape) && !is_covered(grammar, dispatch, first, class, Via::Component(k))
+}
+
+// The root is of a class of the grammar, and no equation covers the attribute that makes it at nodes of a class.
+fn is_open_root(
+    grammar: &Grammar,
+    dispatch: &Dispatch,
+    first: Option<AttrId>,
+    class: ClassId,
+    root: Created,
+) -> bool
+    ensures within { result ≡ true → root.class.0 < length grammar.now }
+    ensures open { ForTargets grammar.now dispatch.now (λ targets. result ≡ is_open_root grammar.now (is_covered_for grammar.now targets first) class.0 root) }
+{
+    u32::from(root.class.0) < grammar.classes()
+        && !is_covered(
+            grammar,
+            dispatch,
+            first,
+            class,
+            Via::Created(root.attribute),
+        )
 }
 
 impl Found {
@@ -119,8 +139,8 @@ impl Found {
         Ok(())
     }
 
-    // The classes of what may hang uncovered at nodes of a class are found.
-    fn follow(
+    // The classes of what may hang uncovered at components of nodes of a class are found.
+    fn follow_components(
         &mut self,
         grammar: &Grammar,
         dispatch: &Dispatch,
@@ -140,25 +160,86 @@ impl Found {
         }
         Ok(())
     }
+
+    // The class of a root is found that is made at nodes of a class, if no equation covers it. Its mark is looked at before the equations.
+    fn follow_root(
+        &mut self,
+        grammar: &Grammar,
+        dispatch: &Dispatch,
+        first: Option<AttrId>,
+        class: ClassId,
+        root: Created,
+    ) -> Result<(), Memory>
+        requires { length self.old.marks.items ≡ length grammar.now }
+        ensures grown { OnOk result (Grows self.old self.new) }
+        ensures added { OnOk result (AddsRoot grammar.now dispatch.now first class root self.old self.new) }
+    {
+        if !is_marked(&self.marks, root.class)
+            && is_open_root(grammar, dispatch, first, class, root)
+        {
+            self.add(root.class)?;
+        }
+        Ok(())
+    }
+
+    // The classes of the roots are found that are made at nodes of a class and that no equation covers.
+    fn follow_made(
+        &mut self,
+        grammar: &Grammar,
+        dispatch: &Dispatch,
+        first: Option<AttrId>,
+        class: ClassId,
+        made: &[Created],
+    ) -> Result<(), Memory>
+        requires { length self.old.marks.items ≡ length grammar.now }
+        ensures grown { OnOk result (Grows self.old self.new) }
+        ensures added { OnOk result (AddsMade grammar.now dispatch.now first class made.now self.old self.new) }
+    {
+        for root in made {
+            self.follow_root(grammar, dispatch, first, class, *root)?;
+        }
+        Ok(())
+    }
+
+    // The classes of what may hang uncovered at nodes of a class, or be made there, are found.
+    fn follow(
+        &mut self,
+        grammar: &Grammar,
+        dispatch: &Dispatch,
+        first: Option<AttrId>,
+        class: ClassId,
+        made: &[Created],
+    ) -> Result<(), Memory>
+        requires class { class.0 < length grammar.now }
+        requires long { length self.old.marks.items ≡ length grammar.now }
+        ensures grown { OnOk result (Grows self.old self.new) }
+        ensures added { OnOk result (AddsFollowing grammar.now dispatch.now first class made.now self.old self.new) }
+    {
+        self.follow_components(grammar, dispatch, first, class)?;
+        self.follow_made(grammar, dispatch, first, class, made)
+    }
 }
 
 /// Marks the classes of which there can be a node at which no equation gives a value to the inherited attributes of a name, by the first of
-/// them. Each class is followed once, so it takes one look for an equation for each component of each class, and as many steps as there are
-/// classes for each that isn't covered.
+/// them and what is made at nodes of each class. Each class is followed once, so it takes one look for an equation for each component of each
+/// class, as many steps as there are classes for each that isn't covered, and a look at a mark for each root that is made, with one for an
+/// equation where its class isn't marked.
 pub(crate) fn uncovered_classes(
     alloc: Global,
     grammar: &Grammar,
     dispatch: &Dispatch,
     first: Option<AttrId>,
+    made: &[Vec<Created>],
 ) -> Result<Vec<bool>, Memory>
-    ensures { IfOk result (MarksUncovered grammar.now dispatch.now first) }
+    requires { length made.now ≡ length grammar.now }
+    ensures { IfOk result (MarksUncovered grammar.now dispatch.now first made.now) }
 {
     let mut found = Found::new(alloc, grammar.classes())?;
     found.add_below(grammar, grammar.first_class())?;
     let mut next = 0;
     while next < found.classes.len() {
         let class = found.classes[next];
-        found.follow(grammar, dispatch, first, class)?;
+        found.follow(grammar, dispatch, first, class, &made[class.0 as usize])?;
         next += 1;
     }
     Ok(found.marks)

@@ -3,5 +3,6 @@
 
 mod completeness;
 mod covering;
+mod created;
 
 pub use completeness::check_completeness;

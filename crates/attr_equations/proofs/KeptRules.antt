@@ -7,6 +7,7 @@ use Rattle.superclasses.specs.Superclasses.{upwards}
 use Rattle.attr_rules.specs.declared.dispatch.Dispatch.{Dispatch}
 use Rattle.attr_rules.specs.declared.dispatch.Reach.{Reach}
 use Rattle.attr_rules.specs.declared.dispatch.Reach.TheVariants.{Own, Children}
+use Rattle.attr_rules.specs.declared.dispatch.Via.{Via}
 use Rattle.attr_rules.specs.declared.dispatch.Target.{Target}
 use Rattle.attr_rules.specs.declared.kinds.AttrId.{AttrId}
 use Rattle.attr_rules.specs.declared.kinds.EqId.{EqId}
@@ -14,7 +15,7 @@ use Rattle.attr_equations.specs.declared.rules.KeptEquation.{KeptEquation}
 use Rattle.attr_rules.specs.Dispatching.{Dispatches}
 use Rattle.attr_equations.specs.KeptEquations.{equation_in, kept_target}
 use Rattle.attr_rules.specs.RowsKept.{at_row}
-use Rattle.attr_rules.specs.Rules.{at_component, covering_equation, equation_at, first_of_line, is_target, nearest_equation, number_of_attribute, number_of_equation, own_covering, own_equation, target_in}
+use Rattle.attr_rules.specs.Rules.{covering_equation, equation_at, first_of_line, is_target, nearest_equation, number_of_attribute, number_of_equation, own_covering, own_equation, reach_via, target_in}
 
 same_targets : (equations : List KeptEquation) → map kept_target equations ≡ map target_in (map equation_in equations)
 same_targets [] = refl
@@ -33,9 +34,9 @@ at_within : (targets : List Target) (c : ℕ) (r : Reach) (a e : ℕ) → equati
 at_within [] c r a e is = absurd cc
 at_within (t ∷ targets) c r a e is = (position-Some (is_target c r a) (t ∷ targets) e t is).0
 
-own_within : (targets : List Target) (k a c e : ℕ) → own_covering targets k a c ≡ Some e → e < length targets
-own_within targets k a c e is =
-    or_within (length targets) e (equation_at targets c (at_component k) a) (equation_at targets c Children a) (at_within targets c (at_component k) a e) (at_within targets c Children a e) is
+own_within : (targets : List Target) (v : Via) (a c e : ℕ) → own_covering targets v a c ≡ Some e → e < length targets
+own_within targets v a c e is =
+    or_within (length targets) e (equation_at targets c (reach_via v) a) (equation_at targets c Children a) (at_within targets c (reach_via v) a e) (at_within targets c Children a e) is
 
 -- so is the equation that is found by its number
 number_within : (n : ℕ) (f : ℕ → Option ℕ) (line : List ℕ) (o : Option EqId) → ((c e : ℕ) → f c ≡ Some e → e < n) → option_map number_of_equation o ≡ first_of_line f line → IfSome o (λ e. e.0 < n)
@@ -59,18 +60,18 @@ module _ (s : List (Option ℕ)) (equations : List KeptEquation) (d : Dispatch) 
         subst (λ n. IfSome o (λ e. e.0 < n)) long
         (number_within (length targets) (own_equation targets a) (upwards s class) o (λ c. at_within targets c Own a) found)
 
-  -- the equation that covers what hangs at a component, for the first attribute of a name
-  module _ (class k : ℕ) (first : AttrId) (o : Option EqId)
-      (finds : (above : List (Option ℕ)) (targets : List Target) → Dispatches above targets d → option_map number_of_equation o ≡ covering_equation above targets class k first.0) where
-    covering : option_map number_of_equation o ≡ covering_equation s (map kept_target equations) class k first.0
+  -- the equation that covers what hangs by something, for the first attribute of a name
+  module _ (class : ℕ) (v : Via) (first : AttrId) (o : Option EqId)
+      (finds : (above : List (Option ℕ)) (targets : List Target) → Dispatches above targets d → option_map number_of_equation o ≡ covering_equation above targets class v first.0) where
+    covering : option_map number_of_equation o ≡ covering_equation s (map kept_target equations) class v first.0
     covering = finds s (map kept_target equations) dispatches
 
-    pub covering_found : (n : Option ℕ) → option_map number_of_attribute (Some first) ≡ n → option_map number_of_equation o ≡ option_and_then (covering_equation s (map target_in (map equation_in equations)) class k) n
+    pub covering_found : (n : Option ℕ) → option_map number_of_attribute (Some first) ≡ n → option_map number_of_equation o ≡ option_and_then (covering_equation s (map target_in (map equation_in equations)) class v) n
     covering_found n of_name =
-        covering ∙ ap (λ targets. covering_equation s targets class k first.0) (same_targets equations)
-        ∙ ap (option_and_then (covering_equation s (map target_in (map equation_in equations)) class k)) of_name
+        covering ∙ ap (λ targets. covering_equation s targets class v first.0) (same_targets equations)
+        ∙ ap (option_and_then (covering_equation s (map target_in (map equation_in equations)) class v)) of_name
 
     pub covering_within : IfSome o (λ e. e.0 < length (map equation_in equations))
     covering_within =
         let targets = map kept_target equations in
-        subst (λ n. IfSome o (λ e. e.0 < n)) long (number_within (length targets) (own_covering targets k first.0) (upwards s class) o (own_within targets k first.0) covering)
+        subst (λ n. IfSome o (λ e. e.0 < n)) long (number_within (length targets) (own_covering targets v first.0) (upwards s class) o (own_within targets v first.0) covering)

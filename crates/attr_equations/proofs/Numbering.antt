@@ -9,7 +9,7 @@ use Rattle.attr_equations.specs.declared.contributions.KeptContribution.{KeptCon
 use Rattle.attr_equations.specs.declared.rules.KeptEquation.{KeptEquation}
 use Rattle.attr_equations.specs.KeptContributions.{AreNumbered, HasNumbers, IsContributionAt, IsNumbered, contribution_in, is_true}
 use Rattle.attr_equations.specs.KeptEquations.{equation_in}
-use Rattle.attr_rules.specs.Expression.{Expression, expression_of, Truth, Int, Text, Null, Empty, This, Variable, Source, Child, Element, Count, Has, Token, Call, Cast, InstanceOf, Quantified, QuantifiedSet, Each, EachOfSet, Sets, Single, Contains, Size, Not, Negate, Binary, And, Or, OrBoth, If}
+use Rattle.attr_rules.specs.Expression.{Expression, expression_of, Truth, Int, Text, Null, Empty, This, Variable, Source, Child, Element, Count, Has, Token, Call, Cast, InstanceOf, Quantified, QuantifiedSet, Each, EachOfSet, Sets, Single, Contains, Size, Not, Negate, Binary, And, Or, OrBoth, If, New}
 use Rattle.attr_rules.specs.Rules.{Attribute, Contribution, RuleSet, bodies, body_at, expression_in, expressions_in}
 use Rattle.attr_equations.proofs.Places.{behind, in_front, last_or_before, three_at, three_long}
 
@@ -46,6 +46,7 @@ true_is (And a b) is = absurd (cc)
 true_is (Or a b) is = absurd (cc)
 true_is (OrBoth a b) is = absurd (cc)
 true_is (If a b c d) is = absurd (cc)
+true_is (New c parts) is = absurd (cc)
 
 -- one more
 pub numbered_more : (first n : ℕ) (list : List KeptContribution) (c : KeptContribution) → AreNumbered first list → n ≡ first + 3 * length list → n + 3 < 2 ^ 32 → IsNumbered n c → AreNumbered first (list ++ c ∷ [])

@@ -12,7 +12,7 @@ ghost use Rattle.attr_rules.specs.Rules.{attribute_at, bodies, body_at, covering
 use crate::contributions::{Contribution, KeptContribution};
 use crate::offered::{first_from, grouped};
 use ast_grammar::{ClassId, Grammar};
-use attr_rules::{Attr, AttrId, Attributes, Dispatch, EqId, Method, Part, TExpr, Target};
+use attr_rules::{Attr, AttrId, Attributes, Dispatch, EqId, Method, TExpr, Target, Via};
 use groups::Groups;
 use rag_io::Memory;
 use std::alloc::Global;
@@ -124,15 +124,15 @@ impl Rules {
         self.dispatch.find(class, a)
     }
 
-    /// The equation that gives an inherited attribute its value at what hangs at a component of nodes of a class: that of the nearest
-    /// class, from this one upwards, and in a class one for the component before one for every child. None where there is none. It
-    /// takes constant time.
-    pub fn inh_equation(&self, class: ClassId, component: Part, a: AttrId) -> Option<EqId>
-        ensures number { option_map number_of_equation result ≡ covering_number (rules_in self.now) class component.0 a.0 }
+    /// The equation that gives an inherited attribute its value at what hangs by a component or a higher-order attribute at nodes of a
+    /// class: that of the nearest class, from this one upwards, and in a class one for just that before one for every child. None where
+    /// there is none. It takes constant time.
+    pub fn inh_equation(&self, class: ClassId, via: Via, a: AttrId) -> Option<EqId>
+        ensures number { option_map number_of_equation result ≡ covering_number (rules_in self.now) class via a.0 }
         ensures within { IfSome result (λ e. e.0 < length (rules_in self.now).equations) }
     {
         let first = self.attributes.first_of_name(a)?;
-        self.dispatch.find_covering(class, component, first)
+        self.dispatch.find_covering(class, via, first)
     }
 
     /// What an equation is for.

@@ -1,5 +1,5 @@
 -- What holds of collections whose declarations break nothing.
-use Rattle.std.proofs.Common.{◌≡◌, ◌<◌, ◌∙◌, List, [], true, false, not, Option, Some, None, length, refl, sym, subst, ap}
+use Rattle.std.proofs.Common.{◌≡◌, ◌<◌, ◌∙◌, Bool, List, [], true, false, not, Option, Some, None, length, refl, sym, subst, ap}
 use Rattle.std.specs.Option.{option_and_then, unwrap_or}
 use Rattle.std.proofs.lemmas.Bool.{and_parts, not-false}
 use Rattle.broken_rules.specs.Notes.{at, broken_if}
@@ -19,7 +19,7 @@ use Rattle.attr_rules.specs.Rules.{Collects, Combines, all_nodes, all_texts, and
 use Rattle.attr_rules.specs.Types.{int_kind, truth_kind}
 use Rattle.attr_heads.specs.Collections.{class_of_name, collecting_declared, collection_broken, has_no_row, is_row, is_row_by, method_written, root_broken}
 use Rattle.attr_heads.specs.Parameters.{params_written}
-use Rattle.attr_scope.specs.Written.{Head, collection_head, declared_in, inherited_head, synthesized_head}
+use Rattle.attr_scope.specs.Written.{Head, collection_head, declared_in, inherited_head, synthesized_head, synthesized_sort}
 use Rattle.attr_scope.specs.WrittenTypes.{class_numbered, type_written}
 use Rattle.attr_scope.proofs.ClassesFound.{class_within}
 use Rattle.attr_scope.proofs.ItemsFound.{some_from}
@@ -86,8 +86,13 @@ SaysCollection s ps (Some c) = (is_collection s ≡ true) × (ps ≡ [])
 abbrev SaysIt : Head → Type 0
 SaysIt h = SaysCollection h.sort h.signature.parameters h.collection
 
+-- what is declared with `syn` is no collection
+not_collected : (higher_order : Bool) → is_collection (synthesized_sort higher_order) ≡ false
+not_collected true = refl
+not_collected false = refl
+
 pub head_says : (item : Item) (h : Head) → declared_in item ≡ Some h → SaysCollection h.sort h.signature.parameters h.collection
-head_says (Declared s) h e = let same : synthesized_head s ≡ h = cc in subst SaysIt same refl
+head_says (Declared s) h e = let same : synthesized_head s ≡ h = cc in subst SaysIt same (not_collected s.higher_order)
 head_says (Inherits i) h e = let same : inherited_head i ≡ h = cc in subst SaysIt same refl
 head_says (Equates q) h e = absurd (cc)
 head_says (CollectsItem c) h e = let same : collection_head c ≡ h = cc in subst SaysIt same (refl, refl)

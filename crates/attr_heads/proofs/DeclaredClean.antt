@@ -1,5 +1,5 @@
 -- What holds of declarations that break nothing.
-use Rattle.std.proofs.Common.{◌≡◌, ◌==◌, ◌||◌, Bool, Option, ℕ, ◌+◌, ◌<◌, ◌≤◌, List, [], ◌∷◌, ◌++◌, true, false, not, All, Some, None, refl, ◌∙◌, is_none, length, map, slice_get, take, sym, arith, length-append, subst, ap, if◌then◌else◌}
+use Rattle.std.proofs.Common.{◌≡◌, ◌==◌, ◌||◌, ◌&&◌, Bool, Option, IsSome, ℕ, ◌+◌, ◌<◌, ◌≤◌, List, [], ◌∷◌, ◌++◌, true, false, not, All, Some, None, refl, ◌∙◌, is_none, length, map, slice_get, take, sym, arith, length-append, subst, ap, if◌then◌else◌}
 use Rattle.std.specs.Option.{unwrap_or}
 use Rattle.std.proofs.lemmas.Bool.{not-false}
 use Rattle.std.proofs.lemmas.Bool.Decides.{nat_tests}
@@ -7,9 +7,9 @@ use Rattle.broken_rules.specs.Notes.{at, each_after}
 use Rattle.broken_rules.specs.declared.rule.Rule.TheVariants.{J4, J13, J17}
 use Rattle.broken_rules.proofs.Clean.{append_none, not_broken}
 use Rattle.ast_grammar.specs.Grammar.{Class as ClassOf, class_named}
-use Rattle.aspect_items.specs.Expressions.{Expr}
+use Rattle.aspect_items.specs.Expressions.{Expr, Name}
 use Rattle.aspect_items.specs.Items.{Circular, Item, Parameter, TypeName, Boolean, Integer, String, Class, WrittenType}
-use Rattle.attr_rules.specs.Rules.{IsAttribute, IsParameter, IsStart, is_single, may_be_circular, most_attributes, nodes, texts, truths}
+use Rattle.attr_rules.specs.Rules.{IsAttribute, IsParameter, IsStart, is_higher_order, is_single, may_be_circular, most_attributes, nodes, texts, truths}
 use Rattle.attr_rules.specs.Types.{element_class, kind_class}
 use Rattle.ast_grammar.specs.declared.grammar.ClassId.{ClassId}
 use Rattle.attr_rules.specs.declared.kinds.Kind.{Kind}
@@ -19,6 +19,7 @@ use Rattle.attr_rules.specs.declared.kinds.Start.TheVariants.{Empty, False, Plai
 use Rattle.attr_heads.specs.Heads.{again_broken, attribute_of, attributes_of, count_broken, head_broken, heads_broken, named_broken, other_broken, type_broken}
 use Rattle.attr_scope.specs.Classes.{class_broken, class_or_first}
 use Rattle.attr_heads.specs.Collections.{collection_broken}
+use Rattle.attr_heads.specs.Created.{created_type_broken, is_no_class}
 use Rattle.attr_heads.specs.Parameters.{all_parameters_broken, parameter_kind, parameters_broken}
 use Rattle.attr_heads.specs.Starts.{has_no_start, is_circular, is_empty, is_false, start_broken, start_declared, start_of, start_where}
 use Rattle.attr_scope.specs.Written.{Head, declarations, declared_in}
@@ -123,6 +124,18 @@ module _ (g : List ClassOf) where
       let parts = either_false (not (may_be_circular s)) (has_no_start (type_written g t) c.bottom) (not_broken (not (may_be_circular s) || has_no_start (type_written g t) c.bottom) (at c.place J13) none) in
       (not-false (may_be_circular s) parts.0, start_there k c.bottom (ap (λ o. has_no_start o c.bottom) (sym known) ∙ parts.1))
 
+  some_is : {X : Type 0} (o : Option X) → is_none o ≡ false → IsSome o
+  some_is None e = absurd (cc)
+  some_is (Some x) e = refl
+
+  -- a higher-order attribute is of a class
+  of_class : (s : Sort) (t : WrittenType) (k : Kind) (n : Name) → type_written g t ≡ Some k → created_type_broken g s t n ≡ []
+      → is_higher_order s ≡ true → IsSome (kind_class k)
+  of_class s t k n known none higher =
+      let no_class = is_no_class (type_written g t) in
+      let is_class : no_class ≡ false = ap (λ b. b && no_class) (sym higher) ∙ not_broken (is_higher_order s && no_class) (at n.place J13) none in
+      some_is (kind_class k) (ap is_no_class (sym known) ∙ is_class)
+
   plain_start : (k : Kind) (o : Option Circular) → is_circular o ≡ false → start_declared k o ≡ Plain
   plain_start k None is = refl
   plain_start k (Some c) is = absurd (cc)
@@ -135,6 +148,7 @@ module _ (g : List ClassOf) where
     pub again : again_broken g before s ≡ []
     pub count : count_broken before s.signature.name ≡ []
     pub start : start_broken g s.sort s.of s.circular ≡ []
+    pub created : created_type_broken g s.sort s.of s.signature.name ≡ []
     pub other : other_broken g before s ≡ []
     pub collection : collection_broken g s.of s.collection ≡ []
     pub parameters : parameters_broken g [] s.signature.parameters ≡ []
@@ -144,15 +158,18 @@ module _ (g : List ClassOf) where
       let count = count_broken before s.signature.name in
       let named = again_broken g before s ++ count in
       let start = start_broken g s.sort s.of s.circular in
+      let created = created_type_broken g s.sort s.of s.signature.name in
       let last_two = collection_broken g s.of s.collection ++ all_parameters_broken g None s.signature in
-      let all = append_none (named_broken g before s) (start ++ (other_broken g before s ++ last_two)) none in
-      let rest = append_none start (other_broken g before s ++ last_two) all.1 in
-      let other = append_none (other_broken g before s) last_two rest.1 in
+      let last_three = other_broken g before s ++ last_two in
+      let all = append_none (named_broken g before s) (start ++ (created ++ last_three)) none in
+      let rest = append_none start (created ++ last_three) all.1 in
+      let behind = append_none created last_three rest.1 in
+      let other = append_none (other_broken g before s) last_two behind.1 in
       let last = append_none (collection_broken g s.of s.collection) (all_parameters_broken g None s.signature) other.1 in
       let of = append_none (type_broken g s.of) (class_broken g s.class ++ named) all.0 in
       let parts = append_none (class_broken g s.class) named of.1 in
       let alone = append_none (again_broken g before s) count parts.1 in
-      record { of = of.0; class = parts.0; again = alone.0; count = alone.1; start = rest.0; other = other.0; collection = last.0; parameters = last.1 }
+      record { of = of.0; class = parts.0; again = alone.0; count = alone.1; start = rest.0; created = behind.0; other = other.0; collection = last.0; parameters = last.1 }
 
   few_after : (before list : List Head) → each_after (head_broken g) before list ≡ [] → length before ≤ most_attributes → length before + length list ≤ most_attributes
   few_after before [] none le = omega arith
@@ -176,9 +193,11 @@ module _ (g : List ClassOf) where
   pub declared_there : (list : List Head) (i : ℕ) (s : Head) → heads_broken g list ≡ [] → slice_get list i ≡ Some s → (c : ℕ) × (class_named g s.class.text ≡ Some c)
   declared_there list i s none e = class_there g s.class (head_there list i s none e).class
 
-  declared_attribute : (s : Head) (c : ℕ) (k : Kind) → class_named g s.class.text ≡ Some c → type_written g s.of ≡ Some k → start_broken g s.sort s.of s.circular ≡ [] → collection_broken g s.of s.collection ≡ [] → SaysCollection s.sort s.signature.parameters s.collection
+  declared_attribute : (s : Head) (c : ℕ) (k : Kind) → class_named g s.class.text ≡ Some c → type_written g s.of ≡ Some k
+      → start_broken g s.sort s.of s.circular ≡ [] → created_type_broken g s.sort s.of s.signature.name ≡ []
+      → collection_broken g s.of s.collection ≡ [] → SaysCollection s.sort s.signature.parameters s.collection
       → AreTyped g s.signature.parameters → IsAttribute g (attribute_of g s)
-  declared_attribute s c k e known start collection says typed =
+  declared_attribute s c k e known start created collection says typed =
       let kind : k ≡ kind_written g s.of = ap (λ o. unwrap_or o kinds.Truth) (sym known) in
       let kept : IsWithin g (kind_written g s.of) = subst (IsWithin g) kind (named_within g s.of.set s.of.name k known) in
       record {
@@ -190,6 +209,7 @@ module _ (g : List ClassOf) where
         circular = started g s.sort s.of (kind_written g s.of) s.circular (known ∙ ap Some kind) start;
         plain = plain_start g (kind_written g s.of) s.circular;
         collects = collects g (attribute_of g s).declared s.of s.signature.parameters s.collection (known ∙ ap Some kind) refl says collection;
+        created = of_class g s.sort s.of (kind_written g s.of) s.signature.name (known ∙ ap Some kind) created;
       }
 
   -- and declares an attribute of it
@@ -201,4 +221,4 @@ module _ (g : List ClassOf) where
       let class = declared_there (declarations items) i head none found.1 in
       let clean = head_there (declarations items) i head none found.1 in
       let known = some_there (type_written g head.of) (not_broken (is_none (type_written g head.of)) (at head.of.place J4) clean.of) in
-      subst (IsAttribute g) found.2 (declared_attribute head class.0 known.0 class.1 known.1 clean.start clean.collection (head_says item.0 head item.1) (are_typed g [] head.signature.parameters clean.parameters)))
+      subst (IsAttribute g) found.2 (declared_attribute head class.0 known.0 class.1 known.1 clean.start clean.created clean.collection (head_says item.0 head item.1) (are_typed g [] head.signature.parameters clean.parameters)))

@@ -14,6 +14,7 @@ use Rattle.broken_rules.proofs.Clean.{append_none, each_after_none, not_broken}
 use Rattle.broken_rules.proofs.Noting.{notes_then}
 use Rattle.attr_heads.specs.declared.declared.Declared.{Declared}
 use Rattle.attr_heads.specs.Collections.{collection_broken}
+use Rattle.attr_heads.specs.Created.{created_type_broken}
 use Rattle.attr_heads.specs.DeclaredNames.{Adds, IsEven, Tells, relates}
 use Rattle.attr_heads.specs.Heads.{again_broken, again_for, are_related, count_broken, head_broken, heads_broken, has_declaration, named_broken, other_broken, type_broken}
 use Rattle.attr_scope.specs.Classes.{class_broken}
@@ -72,7 +73,9 @@ few_or g s list none many =
     let before = take 1024 all in
     let here = each_after_none (head_broken g) all 1024 s none many in
     let named = again_broken g before last ++ count_broken before last.signature.name in
-    let all_named = append_none (named_broken g before last) (start_broken g last.sort last.of last.circular ++ (other_broken g before last ++ (collection_broken g last.of last.collection ++ all_parameters_broken g None last.signature))) here in
+    let last_three = other_broken g before last ++ (collection_broken g last.of last.collection ++ all_parameters_broken g None last.signature) in
+    let behind = start_broken g last.sort last.of last.circular ++ (created_type_broken g last.sort last.of last.signature.name ++ last_three) in
+    let all_named = append_none (named_broken g before last) behind here in
     let counted = append_none (again_broken g before last) (count_broken before last.signature.name) (append_none (class_broken g last.class) named (append_none (type_broken g last.of) (class_broken g last.class ++ named) all_named.0).1).1 in
     let differs : (length before == 1024) ≡ false = not_broken (length before == 1024) (at last.signature.name.place J17) counted.1 in
     let same : length before ≡ 1024 = length-take-le 1024 all (omega arith) in

@@ -1,5 +1,5 @@
 -- Attributes of one name are of unrelated classes, and none has the name of an accessor, where their declarations break nothing.
-use Rattle.std.proofs.Common.{◌≡◌, ℕ, ◌<◌, ◌&&◌, ◌||◌, true, false, List, [], Some, length, slice_get, take, zero-add, refl, sym, ap, ◌∙◌, subst, bytes_eq}
+use Rattle.std.proofs.Common.{◌≡◌, ℕ, ◌<◌, ◌&&◌, ◌||◌, true, false, List, [], Some, length, slice_get, take, zero-add, sym, ap, ◌∙◌, subst, bytes_eq}
 use Rattle.std.proofs.lemmas.Bool.{and_from, or_right}
 use Rattle.std.proofs.lemmas.Slice.Eq.{bytes_eq-Decides}
 use Rattle.broken_rules.specs.Notes.{at}

@@ -1,9 +1,9 @@
 -- No two equations are for the same class, reach and attribute, where their heads break nothing.
-use Rattle.std.proofs.Common.{◌≡◌, ◌==◌, ℕ, ◌<◌, ◌&&◌, true, false, List, [], Some, slice_get, take, refl, sym, ap, ◌∙◌, subst}
+use Rattle.std.proofs.Common.{◌≡◌, ◌==◌, ℕ, ◌<◌, ◌&&◌, true, false, List, [], Some, slice_get, take, refl, sym, ap, ◌∙◌}
 use Rattle.std.proofs.lemmas.Bool.{and_from, eq-eqb}
 use Rattle.ast_grammar.specs.Grammar.{Class}
 use Rattle.attr_rules.specs.declared.dispatch.Reach.{Reach}
-use Rattle.attr_rules.specs.declared.dispatch.Reach.TheVariants.{Own, Component as AtComponent, Children}
+use Rattle.attr_rules.specs.declared.dispatch.Reach.TheVariants.{Own, Component as AtComponent, Created as AtCreated, Children}
 use Rattle.attr_rules.specs.declared.dispatch.Target.{Target}
 use Rattle.attr_rules.specs.Rules.{Attribute, is_target, same_reach}
 use Rattle.attr_scope.specs.Written.{Given}
@@ -14,6 +14,7 @@ use Rattle.attr_heads.proofs.TargetsClean.{given_once}
 reach_itself : (r : Reach) → same_reach r r ≡ true
 reach_itself Own = refl
 reach_itself (AtComponent k) = eq-eqb k.0 k.0 refl
+reach_itself (AtCreated b) = eq-eqb b.0 b.0 refl
 reach_itself Children = refl
 
 target_itself : (t : Target) → is_target t.class.0 t.reach t.attribute.0 t ≡ true

@@ -89,11 +89,11 @@ module _ (g : List Class) (attributes : List Attribute) (n : Name) (class : Opti
 
 -- J2, J5 and J15 of an equation, and what its path and its parameters break
 pub unknown_noted : (g : List Class) (attributes : List Attribute) (e : Given) {class : Option ℕ} {a : Option ℕ} {v w x y z u : Option Broken} → class ≡ class_of g e → a ≡ attribute_for g attributes class e.path e.attribute.name.text
-    → Notes (class_broken g e.class) v w → Notes (path_broken g class e.path) w x → Notes (all_parameters_broken g e.path e.attribute) x y
+    → Notes (class_broken g e.class) v w → Notes (path_broken g attributes class e.path) w x → Notes (all_parameters_broken g e.path e.attribute) x y
     → Notes (lacking_broken g attributes e.path class e.attribute.name) y z → Notes (differing_broken g attributes e.attribute a) z u → Notes (unknown_broken g attributes e) v u
 unknown_noted g attributes e {class} {a} {v} {w} {x} {y} {z} {u} is attribute f h k lacking differing =
     let last = subst (λ o. Notes (differing_broken g attributes e.attribute o) z u) attribute differing in
-    notes_then f (subst (λ o. Notes (path_broken g o e.path
+    notes_then f (subst (λ o. Notes (path_broken g attributes o e.path
     ++ (all_parameters_broken g e.path e.attribute ++ (lacking_broken g attributes e.path o e.attribute.name ++ differing_broken g attributes e.attribute (attribute_for g attributes o e.path e.attribute.name.text)))) w u) is
     (notes_then h (notes_then k (notes_then lacking last))))
 

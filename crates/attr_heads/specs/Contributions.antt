@@ -5,9 +5,7 @@ use Rattle.std.specs.Option.{is_some, option_and_then, unwrap_or}
 use Rattle.broken_rules.specs.declared.broken.Broken.{Broken}
 use Rattle.broken_rules.specs.declared.rule.Rule.TheVariants.{J14}
 use Rattle.broken_rules.specs.Notes.{at, broken_if}
-use Rattle.ast_grammar.specs.declared.grammar.ClassId.{ClassId}
 use Rattle.ast_grammar.specs.Grammar.{Class, class_named, superclasses_of}
-use Rattle.attr_rules.specs.declared.kinds.AttrId.{AttrId}
 use Rattle.attr_rules.specs.Rules.{Attribute, attribute_named, collecting_at}
 use Rattle.aspect_items.specs.Expressions.{Name}
 use Rattle.aspect_items.specs.Items.{Contribution}

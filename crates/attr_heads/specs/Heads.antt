@@ -17,6 +17,7 @@ use Rattle.aspect_items.specs.Expressions.{Name}
 use Rattle.aspect_items.specs.Items.{Circular, WrittenType}
 use Rattle.attr_scope.specs.Classes.{class_broken, class_numbers, class_or_first}
 use Rattle.attr_heads.specs.Collections.{collecting_declared, collection_broken}
+use Rattle.attr_heads.specs.Created.{created_type_broken}
 use Rattle.attr_heads.specs.Parameters.{all_parameters_broken, differ, parameter_types, params_written}
 use Rattle.attr_heads.specs.Starts.{are_unlike, is_circular, start_broken, start_declared}
 use Rattle.attr_scope.specs.Written.{Head}
@@ -76,7 +77,11 @@ other_broken g before h = broken_if (is_inherited h.sort && is_other g h (first_
 
 -- what a declaration breaks
 abbrev pub head_broken : List Class → List Head → Head → List Broken
-head_broken g before h = named_broken g before h ++ (start_broken g h.sort h.of h.circular ++ (other_broken g before h ++ (collection_broken g h.of h.collection ++ all_parameters_broken g None h.signature)))
+head_broken g before h =
+    named_broken g before h
+    ++ (start_broken g h.sort h.of h.circular
+    ++ (created_type_broken g h.sort h.of h.signature.name
+    ++ (other_broken g before h ++ (collection_broken g h.of h.collection ++ all_parameters_broken g None h.signature))))
 
 -- what the declarations break
 abbrev pub heads_broken : List Class → List Head → List Broken

@@ -1,11 +1,13 @@
 pub mod Collections
 pub mod Contributions
+pub mod Created
 pub mod DeclaredNames
 pub mod FirstInherited
 pub mod Heads
 pub mod Parameters
 pub mod ParametersKept
 pub mod Paths
+pub mod PathsKept
 pub mod Starts
 pub mod Targets
 pub mod TargetsKept

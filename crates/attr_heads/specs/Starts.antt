@@ -41,7 +41,7 @@ abbrev pub has_no_start : Option Kind → Expr → Bool
 has_no_start None e = false
 has_no_start (Some k) e = is_none (start_of k e)
 
--- J13 of a declaration of this sort and type: a circular attribute is a tree of its own, or has a bottom that its type hasn't
+-- J13 of a declaration of this sort and type: a circular attribute is higher-order, or has a bottom that its type hasn't
 abbrev pub start_broken : List Class → Sort → WrittenType → Option Circular → List Broken
 start_broken g s t None = []
 start_broken g s t (Some c) = broken_if (not (may_be_circular s) || has_no_start (type_written g t) c.bottom) (at c.place J13)

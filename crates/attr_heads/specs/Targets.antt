@@ -66,7 +66,7 @@ abbrev pub attribute_given : List Class → List Attribute → Given → Option 
 attribute_given g attributes e = attribute_for g attributes (class_of g e) e.path e.attribute.name.text
 
 abbrev pub target_of : List Class → List Attribute → Given → Option Target
-target_of g attributes e = target_by (class_of g e) (reach_of g (class_of g e) e.path) (attribute_given g attributes e)
+target_of g attributes e = target_by (class_of g e) (reach_of g attributes (class_of g e) e.path) (attribute_given g attributes e)
 
 -- J5: no attribute of the name is inherited
 abbrev pub uninherited_broken : List Attribute → Name → List Broken
@@ -99,7 +99,7 @@ other_parameters_broken g known attribute s = differing_broken g known.attribute
 abbrev pub unknown_broken : List Class → List Attribute → Given → List Broken
 unknown_broken g attributes e =
     class_broken g e.class
-    ++ (path_broken g (class_of g e) e.path
+    ++ (path_broken g attributes (class_of g e) e.path
     ++ (all_parameters_broken g e.path e.attribute ++ (lacking_broken g attributes e.path (class_of g e) e.attribute.name ++ differing_broken g attributes e.attribute (attribute_given g attributes e))))
 
 abbrev pub is_same : Target → Option Target → Bool

@@ -12,6 +12,7 @@ ghost use Rattle.aspect_items.specs.Expressions.{seen_name};
 ghost use Rattle.aspect_items.specs.Items.{seen_type};
 
 use crate::collections::{check_collection, collecting_declared};
+use crate::created::check_created_type;
 use crate::declared::Declared;
 use crate::inheriting::Inheriting;
 use crate::parameters::{check_own_parameters, differ_from, params_written};
@@ -165,6 +166,7 @@ fn note_heads(
     for (count, head) in heads.iter().enumerate() {
         check_named(alloc, grammar, &mut declared, count, head, faults)?;
         check_start(grammar, head.sort, head.of, head.circular, faults);
+        check_created_type(grammar, head.sort, head.of, head.name, faults);
         check_other(grammar, &mut inheriting, head, faults)?;
         check_collection(grammar, head.of, head.collection, faults);
         check_own_parameters(alloc, grammar, head.parameters, faults)?;

@@ -3,6 +3,7 @@
 
 mod collections;
 mod contributions;
+mod created;
 mod declared;
 mod heads;
 mod inheriting;

@@ -63,8 +63,8 @@ fn check_parameters<'a>(
     Ok(())
 }
 
-// The parameters of a path, if there is one.
-fn path_parameters(path: Option<&Signature>) -> &[Parameter]
+/// The parameters of a path, if there is one.
+pub(crate) fn path_parameters(path: Option<&Signature>) -> &[Parameter]
     ensures { map seen_parameter result.now ≡ path_parameters (seen_path path.entry) }
 {
     match path {

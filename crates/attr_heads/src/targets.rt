@@ -130,7 +130,7 @@ fn check_target(
 {
     let signature = equation.attribute;
     let class = check_class(grammar, equation.class, faults);
-    let reach = check_path(grammar, class, equation.path, faults);
+    let reach = check_path(grammar, attributes, class, equation.path, faults);
     check_all_parameters(alloc, grammar, equation.path, signature, faults)?;
     let attribute = match equation.path {
         None => check_own(grammar, attributes, class, &signature.name, faults),

@@ -10,13 +10,14 @@ use Rattle.std.proofs.lemmas.Option.{slice_get_past}
 use Rattle.std.proofs.lemmas.Bool.{cases_lt}
 use Rattle.attr_rules.specs.declared.covering.Key.{Key}
 use Rattle.attr_rules.specs.declared.dispatch.Reach.{Reach}
-use Rattle.attr_rules.specs.declared.dispatch.Reach.TheVariants.{Own, Component as AtComponent, Children}
+use Rattle.attr_rules.specs.declared.dispatch.Reach.TheVariants.{Own, Component as AtComponent, Created as AtCreated, Children}
+use Rattle.attr_rules.specs.declared.dispatch.Via.{Via}
+use Rattle.attr_rules.specs.declared.dispatch.Via.TheVariants.{Component as ByComponent, Created as ByCreated}
 use Rattle.attr_rules.specs.declared.dispatch.Target.{Target}
 use Rattle.attr_rules.specs.declared.kinds.EqId.{EqId}
-use Rattle.attr_rules.specs.declared.kinds.Part.{Part}
-use Rattle.attr_rules.specs.Dispatching.{KeepsFirst, KeepsNamed, component_in, kept_for, number_for, number_of_place}
+use Rattle.attr_rules.specs.Dispatching.{KeepsFirst, KeepsNamed, kept_for, number_for, number_of_place, via_in}
 use Rattle.attr_rules.specs.RowsKept.{at_place, with_first}
-use Rattle.attr_rules.specs.Rules.{at_component, number_of_equation, same_reach}
+use Rattle.attr_rules.specs.Rules.{number_of_equation, reach_via, same_reach, same_via}
 use Rattle.attr_rules.proofs.FirstPlaces.{first_other, first_same, length-with_first, map_or, or_none}
 use Rattle.attr_rules.proofs.NearestRows.{or_assoc}
 
@@ -61,52 +62,64 @@ unwrapped : (o : Option EqId) (e : EqId) → option_or (option_map number_of_equ
 unwrapped None e = refl
 unwrapped (Some x) e = refl
 
+-- two reaches are the same where what they go by is
+same_reaches : (u v : Via) → same_reach (reach_via u) (reach_via v) ≡ same_via u v
+same_reaches (ByComponent j) (ByComponent k) = refl
+same_reaches (ByComponent j) (ByCreated b) = refl
+same_reaches (ByCreated a) (ByComponent k) = refl
+same_reaches (ByCreated a) (ByCreated b) = refl
+
 module _ {S : Type 0} (children : List (Option EqId)) (paths : List (Target × EqId)) (i : ℕ) (d : Target × EqId) (t : Target) (e : EqId) (within : i < length paths) (is : get_or paths i d ≡ (t, e)) (first before : HashMap Key EqId S)
     (so_far : KeepsNamed children (take i paths) first before) where
-  -- the next equation is for a component, or for other nodes
-  pub named_taken : (j : Part) (x : EqId) (after : HashMap Key EqId S) → t.reach ≡ AtComponent j → x ≡ unwrap_or (at_place children t.attribute.0) e → KeepsFirst (record { component = j; attribute = t.attribute }) x before after
+  -- the next equation is for what hangs by something, or for other nodes
+  pub named_taken : (u : Via) (x : EqId) (after : HashMap Key EqId S) → t.reach ≡ reach_via u → x ≡ unwrap_or (at_place children t.attribute.0) e → KeepsFirst (record { via = u; attribute = t.attribute }) x before after
       → KeepsNamed children (take (i + 1) paths) first after
-  named_taken j x after at nearest keeps k a =
+  named_taken u x after at nearest keeps v a =
       let nearer = number_of_place children a in
-      let b : Bool = (j.0 == k) && (t.attribute.0 == a) in
-      let here : is_for (at_component k) a t ≡ b = ap (λ r. same_reach r (at_component k) && (t.attribute.0 == a)) at in
-      keeps k a ∙ ap (λ o. option_or o (cond b (Some x.0) None)) (so_far k a)
-      ∙ one_more (kept_for first.entries k a) nearer (number_for (take i paths) (at_component k) a) b e.0 x.0 (λ h.
-      ap (λ n. option_or (number_of_place children n) (Some e.0)) (sym (eqb-true t.attribute.0 a (and_parts (j.0 == k) (t.attribute.0 == a) h).1)) ∙ unwrapped (at_place children t.attribute.0) e ∙ ap (λ (y : EqId). Some y.0) (sym nearest))
-      ∙ ap (λ c. option_or (kept_for first.entries k a) (option_and_then (λ y. option_or nearer (Some y)) (option_or (number_for (take i paths) (at_component k) a) (cond c (Some e.0) None)))) (sym here)
-      ∙ ap (λ o. option_or (kept_for first.entries k a) (option_and_then (λ y. option_or nearer (Some y)) o)) (sym (number_more paths i d t e (at_component k) a within is))
+      let b : Bool = same_via u v && (t.attribute.0 == a) in
+      let here : is_for (reach_via v) a t ≡ b = ap (λ r. same_reach r (reach_via v) && (t.attribute.0 == a)) at ∙ ap (λ h. h && (t.attribute.0 == a)) (same_reaches u v) in
+      keeps v a ∙ ap (λ o. option_or o (cond b (Some x.0) None)) (so_far v a)
+      ∙ one_more (kept_for first.entries v a) nearer (number_for (take i paths) (reach_via v) a) b e.0 x.0 (λ h.
+      ap (λ n. option_or (number_of_place children n) (Some e.0)) (sym (eqb-true t.attribute.0 a (and_parts (same_via u v) (t.attribute.0 == a) h).1)) ∙ unwrapped (at_place children t.attribute.0) e ∙ ap (λ (y : EqId). Some y.0) (sym nearest))
+      ∙ ap (λ c. option_or (kept_for first.entries v a) (option_and_then (λ y. option_or nearer (Some y)) (option_or (number_for (take i paths) (reach_via v) a) (cond c (Some e.0) None)))) (sym here)
+      ∙ ap (λ o. option_or (kept_for first.entries v a) (option_and_then (λ y. option_or nearer (Some y)) o)) (sym (number_more paths i d t e (reach_via v) a within is))
 
-  pub named_passed : ((k : ℕ) → same_reach t.reach (at_component k) ≡ false) → KeepsNamed children (take (i + 1) paths) first before
-  named_passed other k a =
-      so_far k a ∙ ap (λ o. option_or (kept_for first.entries k a) (option_and_then (λ y. option_or (number_of_place children a) (Some y)) o)) (sym (number_passed paths i d t e (at_component k) a within is (other k)))
+  pub named_passed : ((v : Via) → same_reach t.reach (reach_via v) ≡ false) → KeepsNamed children (take (i + 1) paths) first before
+  named_passed other v a =
+      so_far v a ∙ ap (λ o. option_or (kept_for first.entries v a) (option_and_then (λ y. option_or (number_of_place children a) (Some y)) o)) (sym (number_passed paths i d t e (reach_via v) a within is (other v)))
 
-named_in : (r : Reach) (j : Part) → component_in r ≡ Some j → r ≡ AtComponent j
-named_in Own j e = absurd cc
-named_in (AtComponent k) j e = let same : k ≡ j = cc in ap AtComponent same
-named_in Children j e = absurd cc
+named_in : (r : Reach) (u : Via) → via_in r ≡ Some u → r ≡ reach_via u
+named_in Own u e = absurd cc
+named_in (AtComponent k) u e = let same : ByComponent k ≡ u = cc in ap reach_via same
+named_in (AtCreated b) u e = let same : ByCreated b ≡ u = cc in ap reach_via same
+named_in Children u e = absurd cc
 
-not_named : (r : Reach) → component_in r ≡ None → (k : ℕ) → same_reach r (at_component k) ≡ false
-not_named Own e k = refl
-not_named (AtComponent j) e k = absurd cc
-not_named Children e k = refl
+not_named : (r : Reach) → via_in r ≡ None → (v : Via) → same_reach r (reach_via v) ≡ false
+not_named Own e (ByComponent k) = refl
+not_named Own e (ByCreated b) = refl
+not_named (AtComponent j) e v = absurd cc
+not_named (AtCreated a) e v = absurd cc
+not_named Children e (ByComponent k) = refl
+not_named Children e (ByCreated b) = refl
 
 pub is_children : (r : Reach) → same_reach r Children ≡ true → r ≡ Children
 is_children Own e = absurd cc
 is_children (AtComponent k) e = absurd cc
+is_children (AtCreated b) e = absurd cc
 is_children Children e = refl
 
-module _ {S : Type 0} (children : List (Option EqId)) (paths : List (Target × EqId)) (i : ℕ) (d : Target × EqId) {o : Option Part} (within : i < length paths) (component : o ≡ component_in (get_or paths i d).0.reach) (first before : HashMap Key EqId S)
+module _ {S : Type 0} (children : List (Option EqId)) (paths : List (Target × EqId)) (i : ℕ) (d : Target × EqId) {o : Option Via} (within : i < length paths) (via : o ≡ via_in (get_or paths i d).0.reach) (first before : HashMap Key EqId S)
     {after : HashMap Key EqId S} (so_far : KeepsNamed children (take i paths) first before) where
-  pub named_more : (j : Part) (x : EqId) {later : HashMap Key EqId S} {nearer : Option EqId} → o ≡ Some j → nearer ≡ at_place children (get_or paths i d).0.attribute.0 → x ≡ unwrap_or nearer (get_or paths i d).1
-      → KeepsFirst (record { component = j; attribute = (get_or paths i d).0.attribute }) x before later → after ≡ later → KeepsNamed children (take (i + 1) paths) first after
-  named_more j x {later} {nearer} is near unwraps keeps same =
+  pub named_more : (u : Via) (x : EqId) {later : HashMap Key EqId S} {nearer : Option EqId} → o ≡ Some u → nearer ≡ at_place children (get_or paths i d).0.attribute.0 → x ≡ unwrap_or nearer (get_or paths i d).1
+      → KeepsFirst (record { via = u; attribute = (get_or paths i d).0.attribute }) x before later → after ≡ later → KeepsNamed children (take (i + 1) paths) first after
+  named_more u x {later} {nearer} is near unwraps keeps same =
       subst (KeepsNamed children (take (i + 1) paths) first) (sym same)
-      (named_taken children paths i d (get_or paths i d).0 (get_or paths i d).1 within refl first before so_far j x later (named_in (get_or paths i d).0.reach j (sym component ∙ is)) (unwraps ∙ ap (λ p. unwrap_or p (get_or paths i d).1) near) keeps)
+      (named_taken children paths i d (get_or paths i d).0 (get_or paths i d).1 within refl first before so_far u x later (named_in (get_or paths i d).0.reach u (sym via ∙ is)) (unwraps ∙ ap (λ p. unwrap_or p (get_or paths i d).1) near) keeps)
 
   pub named_same : o ≡ None → after ≡ before → KeepsNamed children (take (i + 1) paths) first after
   named_same none same =
       subst (KeepsNamed children (take (i + 1) paths) first) (sym same)
-      (named_passed children paths i d (get_or paths i d).0 (get_or paths i d).1 within refl first before so_far (not_named (get_or paths i d).0.reach (sym component ∙ none)))
+      (named_passed children paths i d (get_or paths i d).0 (get_or paths i d).1 within refl first before so_far (not_named (get_or paths i d).0.reach (sym via ∙ none)))
 
 -- a row in which the equations of a list that are for every child are put at their places, where there is none yet
 pub record PutsChildren (paths : List (Target × EqId)) (before after : List (Option EqId)) : Type 0 where

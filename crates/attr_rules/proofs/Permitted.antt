@@ -2,7 +2,7 @@
 use Rattle.std.proofs.Common.{◌≡◌, ℕ, Bool, true, false, not, ◌&&◌, ◌||◌, refl}
 use Rattle.attr_rules.specs.declared.expression.Quantifier.TheVariants.{Any, All, First}
 use Rattle.attr_rules.specs.declared.expression.SetOperator.TheVariants.{Union, Inter, Minus}
-use Rattle.attr_rules.specs.Expression.{Expression, Truth, Int, Text, Null, Empty, This, Variable, Source, Child, Element, Count, Has, Token, Call, Cast, InstanceOf, Quantified, QuantifiedSet, Each, EachOfSet, Sets, Single, Contains, Size, Not, Negate, Binary, And, Or, OrBoth, If}
+use Rattle.attr_rules.specs.Expression.{Expression, Truth, Int, Text, Null, Empty, This, Variable, Source, Child, Element, Count, Has, Token, Call, Cast, InstanceOf, Quantified, QuantifiedSet, Each, EachOfSet, Sets, Single, Contains, Size, Not, Negate, Binary, And, Or, OrBoth, If, New}
 use Rattle.attr_rules.specs.Rising.{IsRising, has_call, have_call, is_bottom, rises}
 use Rattle.attr_rules.specs.Rising as rising
 
@@ -86,6 +86,7 @@ module _ (circular : ℕ → Bool) where
       let n = neither (has_call circular c) _ q in
       let m = neither (has_call circular a) _ n.1 in
       and _ _ (quiet_rises c n.0) (and _ _ (quiet_rises a m.0) (and _ _ (quiet_rises b m.1) (left_out (has_call circular c) (is_bottom b) n.0)))
+  quiet_rises (New c parts) q = denied _ q
 
   -- what passes the test rises
   pub test_rising : (e : Expression) → rises circular e ≡ true → IsRising circular e
@@ -130,6 +131,7 @@ module _ (circular : ℕ → Bool) where
       let m = both (rises circular a) _ n.1 in
       let o = both (rises circular b) _ m.1 in
       rising.choice at (test_rising c n.0) (test_rising a m.0) (test_rising b o.0) (implied (has_call circular c) (is_bottom b) o.1)
+  test_rising (New c parts) t = rising.without (not_true _ t)
 
   -- what rises passes the test
   pub rising_test : {e : Expression} → IsRising circular e → rises circular e ≡ true

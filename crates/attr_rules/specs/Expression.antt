@@ -9,6 +9,8 @@ use Rattle.attr_rules.specs.declared.expression.SetOperator.{SetOperator}
 use Rattle.attr_rules.specs.declared.expression.TExpr.{TExpr}
 use Rattle.attr_rules.specs.declared.expression.TExpr.TheVariants as kept
 use Rattle.attr_rules.specs.declared.expression.TArgs.{TArgs}
+use Rattle.attr_rules.specs.declared.expression.NewArgs.{NewArgs}
+use Rattle.attr_rules.specs.declared.expression.NewArgs.TheVariants as kept_new
 use Rattle.attr_rules.specs.declared.expression.TArgs.TheVariants as kept_arguments
 
 mutual
@@ -66,6 +68,15 @@ mutual
     OrBoth : Expression → Expression → Expression
     -- a condition and two parts, with the place of the second one unless that is the literal `false` or `empty`
     If : Expression → Expression → Option Place → Expression → Expression
+    -- the root, of this class, of a tree that a higher-order attribute makes
+    New : ClassId → NewArguments → Expression
+
+  -- the arguments of a `new` in the order of the components of its class: tokens, each with the type at which it is read, and children, each of
+  -- a class with arguments of its own
+  pub data NewArguments : Type 0 where
+    new_end : NewArguments
+    new_token : Kind → Expression → NewArguments → NewArguments
+    new_child : ClassId → NewArguments → NewArguments → NewArguments
 
   -- the arguments of a call, from the left
   pub data Arguments : Type 0 where
@@ -105,6 +116,12 @@ abbrev mutual
   expression_of (kept.Or' p a q b) = Or (expression_of a) (expression_of b)
   expression_of (kept.OrBoth' p a q b) = OrBoth (expression_of a) (expression_of b)
   expression_of (kept.If' p c q a at r b) = If (expression_of c) (expression_of a) at (expression_of b)
+  expression_of (kept.New c parts) = New c (new_arguments_of parts)
+
+  pub new_arguments_of : NewArgs → NewArguments
+  new_arguments_of kept_new.End = new_end
+  new_arguments_of (kept_new.Token' k p e q rest) = new_token k (expression_of e) (new_arguments_of rest)
+  new_arguments_of (kept_new.Child' c p parts q rest) = new_child c (new_arguments_of parts) (new_arguments_of rest)
 
   pub arguments_of : TArgs → Arguments
   arguments_of kept_arguments.End = no_more

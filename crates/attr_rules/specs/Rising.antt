@@ -7,7 +7,7 @@ use Rattle.attr_rules.specs.declared.expression.Quantifier.{Quantifier}
 use Rattle.attr_rules.specs.declared.expression.Quantifier.TheVariants.{Any, All, First}
 use Rattle.attr_rules.specs.declared.expression.SetOperator.{SetOperator}
 use Rattle.attr_rules.specs.declared.expression.SetOperator.TheVariants.{Union, Inter, Minus}
-use Rattle.attr_rules.specs.Expression.{Expression, Arguments, no_more, argument, Truth, Int, Text, Null, Empty, This, Variable, Source, Child, Element, Count, Has, Token, Call, Cast, InstanceOf, Quantified, QuantifiedSet, Each, EachOfSet, Sets, Single, Contains, Size, Not, Negate, Binary, And, Or, OrBoth, If}
+use Rattle.attr_rules.specs.Expression.{Expression, Arguments, no_more, argument, NewArguments, new_end, new_token, new_child, Truth, Int, Text, Null, Empty, This, Variable, Source, Child, Element, Count, Has, Token, Call, Cast, InstanceOf, Quantified, QuantifiedSet, Each, EachOfSet, Sets, Single, Contains, Size, Not, Negate, Binary, And, Or, OrBoth, If, New}
 
 abbrev mutual
   -- an expression calls a circular attribute, at any depth
@@ -43,11 +43,18 @@ abbrev mutual
   has_call circular (Or a b) = has_call circular a || has_call circular b
   has_call circular (OrBoth a b) = has_call circular a || has_call circular b
   has_call circular (If c a at b) = has_call circular c || (has_call circular a || has_call circular b)
+  has_call circular (New c parts) = tokens_call circular parts
 
   -- one of some arguments does
   pub have_call : (ℕ → Bool) → Arguments → Bool
   have_call circular no_more = false
   have_call circular (argument e es) = has_call circular e || have_call circular es
+
+  -- one of the tokens of a `new` does
+  pub tokens_call : (ℕ → Bool) → NewArguments → Bool
+  tokens_call circular new_end = false
+  tokens_call circular (new_token k e rest) = has_call circular e || tokens_call circular rest
+  tokens_call circular (new_child c parts rest) = tokens_call circular parts || tokens_call circular rest
 
 -- the literal `false` or `empty`
 abbrev pub is_bottom : Expression → Bool
@@ -82,6 +89,7 @@ is_bottom (And a b) = false
 is_bottom (Or a b) = false
 is_bottom (OrBoth a b) = false
 is_bottom (If c a at b) = false
+is_bottom (New c parts) = false
 
 -- Each call of a circular attribute stands in permitted positions alone, from the call outwards to the whole expression: both sides of `&&`; the
 -- right side of `||`, and the left one where both are always evaluated; the parts of `? :`, where the else part of a condition with such a call
@@ -155,3 +163,4 @@ rises circular (And a b) = rises circular a && rises circular b
 rises circular (Or a b) = not (has_call circular a) && rises circular b
 rises circular (OrBoth a b) = rises circular a && rises circular b
 rises circular (If c a at b) = rises circular c && (rises circular a && (rises circular b && (not (has_call circular c) || is_bottom b)))
+rises circular (New c parts) = not (tokens_call circular parts)

@@ -7,9 +7,11 @@ use Rattle.ast_grammar.specs.declared.grammar.ClassId.{ClassId}
 use Rattle.superclasses.specs.Superclasses.{is_sub as is_below, upwards}
 use Rattle.ast_grammar.specs.declared.grammar.Shape.{Shape}
 use Rattle.ast_grammar.specs.declared.grammar.Shape.TheVariants as shapes
-use Rattle.ast_grammar.specs.Grammar.{Class, Component, abstract_in, component_at, is_sub, superclasses_of}
+use Rattle.ast_grammar.specs.Grammar.{Class, Component, component_at, is_sub, superclasses_of}
 use Rattle.attr_rules.specs.declared.dispatch.Reach.{Reach}
-use Rattle.attr_rules.specs.declared.dispatch.Reach.TheVariants.{Own, Component as AtComponent, Children}
+use Rattle.attr_rules.specs.declared.dispatch.Reach.TheVariants.{Own, Component as AtComponent, Created as AtCreated, Children}
+use Rattle.attr_rules.specs.declared.dispatch.Via.{Via}
+use Rattle.attr_rules.specs.declared.dispatch.Via.TheVariants.{Component as ByComponent, Created as ByCreated}
 use Rattle.attr_rules.specs.declared.dispatch.Target.{Target}
 use Rattle.attr_rules.specs.declared.kinds.AttrId.{AttrId}
 use Rattle.attr_rules.specs.declared.kinds.Collecting.{Collecting}
@@ -26,11 +28,11 @@ use Rattle.attr_rules.specs.declared.kinds.Start.{Start}
 use Rattle.attr_rules.specs.declared.kinds.Start.TheVariants.{Plain, False, Empty}
 use Rattle.attr_rules.specs.declared.types.ValueType.{ValueType}
 use Rattle.attr_rules.specs.Accessors.{is_spelled}
-use Rattle.attr_rules.specs.Expression.{Expression}
+use Rattle.attr_rules.specs.Expression.{Expression, NewArguments, Truth, Int, Text, Null, Empty, This, Variable, Source, Child, Element, Count, Has, Token, Call, Cast, InstanceOf, Quantified, QuantifiedSet, Each, EachOfSet, Sets, Single, Contains, Size, Not, Negate, Binary, And, Or, OrBoth, If, New}
 use Rattle.attr_rules.specs.Rising.{IsRising}
 use Rattle.attr_rules.specs.WellMade.{IsWellMade}
-use Rattle.attr_rules.specs.Types.{element_class, fits, kind_class, parameter_kinds}
-use Rattle.attr_rules.specs.Typing.{HasType, Names}
+use Rattle.attr_rules.specs.Types.{element_class, fits, kind_class, of_class, parameter_kinds}
+use Rattle.attr_rules.specs.Typing.{HasType, IsConcrete, Makes, Names, nodes_made, tokens_made}
 
 -- an attribute: its name, what is declared of it, and how it collects, where it is a collection
 pub record Attribute : Type 0 where
@@ -85,16 +87,42 @@ attribute_named superclasses attributes class name = position (λ a. is_below su
 abbrev pub at_component : ℕ → Reach
 at_component k = AtComponent (record { 0 = k })
 
+-- what hangs by a component or a higher-order attribute
+abbrev pub reach_via : Via → Reach
+reach_via (ByComponent k) = AtComponent k
+reach_via (ByCreated b) = AtCreated b
+
+-- by the component of this number, and by the attribute of this number
+abbrev pub by_component : ℕ → Via
+by_component k = ByComponent (record { 0 = k })
+
+abbrev pub by_created : ℕ → Via
+by_created b = ByCreated (record { 0 = b })
+
+-- two are the same
+abbrev pub same_via : Via → Via → Bool
+same_via (ByComponent j) (ByComponent k) = j.0 == k.0
+same_via (ByComponent j) (ByCreated b) = false
+same_via (ByCreated a) (ByComponent k) = false
+same_via (ByCreated a) (ByCreated b) = a.0 == b.0
+
 -- two are for the same nodes
 abbrev pub same_reach : Reach → Reach → Bool
 same_reach Own Own = true
 same_reach Own (AtComponent k) = false
+same_reach Own (AtCreated b) = false
 same_reach Own Children = false
 same_reach (AtComponent j) Own = false
 same_reach (AtComponent j) (AtComponent k) = j.0 == k.0
+same_reach (AtComponent j) (AtCreated b) = false
 same_reach (AtComponent j) Children = false
+same_reach (AtCreated a) Own = false
+same_reach (AtCreated a) (AtComponent k) = false
+same_reach (AtCreated a) (AtCreated b) = a.0 == b.0
+same_reach (AtCreated a) Children = false
 same_reach Children Own = false
 same_reach Children (AtComponent k) = false
+same_reach Children (AtCreated b) = false
 same_reach Children Children = true
 
 abbrev pub is_target : ℕ → Reach → ℕ → Target → Bool
@@ -108,9 +136,10 @@ equation_at targets class r a = position (is_target class r a) targets
 abbrev pub own_equation : List Target → ℕ → ℕ → Option ℕ
 own_equation targets a class = equation_at targets class Own a
 
--- the equation of exactly this class that covers what hangs at a component: one for the component comes before one for every child
-abbrev pub own_covering : List Target → ℕ → ℕ → ℕ → Option ℕ
-own_covering targets k a class = option_or (equation_at targets class (at_component k) a) (equation_at targets class Children a)
+-- the equation of exactly this class that covers what hangs by a component or a higher-order attribute: one for just that comes before one for
+-- every child
+abbrev pub own_covering : List Target → Via → ℕ → ℕ → Option ℕ
+own_covering targets v a class = option_or (equation_at targets class (reach_via v) a) (equation_at targets class Children a)
 
 -- what the first of some classes that has something has
 abbrev pub first_of_line : (ℕ → Option ℕ) → List ℕ → Option ℕ
@@ -121,9 +150,9 @@ first_of_line f (c ∷ cs) = option_or (f c) (first_of_line f cs)
 abbrev pub nearest_equation : List (Option ℕ) → List Target → ℕ → ℕ → Option ℕ
 nearest_equation superclasses targets class a = first_of_line (own_equation targets a) (upwards superclasses class)
 
--- the equation of an attribute that covers what hangs at a component of nodes of a class: that of the nearest class, from this one upwards
-abbrev pub covering_equation : List (Option ℕ) → List Target → ℕ → ℕ → ℕ → Option ℕ
-covering_equation superclasses targets class k a = first_of_line (own_covering targets k a) (upwards superclasses class)
+-- the equation of an attribute that covers what hangs by something at nodes of a class: that of the nearest class, from this one upwards
+abbrev pub covering_equation : List (Option ℕ) → List Target → ℕ → Via → ℕ → Option ℕ
+covering_equation superclasses targets class v a = first_of_line (own_covering targets v a) (upwards superclasses class)
 
 abbrev pub is_inherited : Sort → Bool
 is_inherited Syn = false
@@ -137,6 +166,13 @@ has_own_equations Syn = true
 has_own_equations Inh = false
 has_own_equations Nta = true
 has_own_equations Coll = false
+
+-- the value is the root of a tree that the equation makes
+abbrev pub is_higher_order : Sort → Bool
+is_higher_order Syn = false
+is_higher_order Inh = false
+is_higher_order Nta = true
+is_higher_order Coll = false
 
 abbrev pub is_collection : Sort → Bool
 is_collection Syn = false
@@ -158,9 +194,9 @@ target_in e = e.target
 abbrev pub equation_number : RuleSet → ClassId → ℕ → Option ℕ
 equation_number rules class a = nearest_equation rules.superclasses (map target_in rules.equations) class.0 a
 
--- the equation that covers, for an inherited attribute, what hangs at a component of nodes of a class
-abbrev pub covering_number : RuleSet → ClassId → ℕ → ℕ → Option ℕ
-covering_number rules class k a = option_and_then (covering_equation rules.superclasses (map target_in rules.equations) class.0 k) (first_of_name rules.attributes a)
+-- the equation that covers, for an inherited attribute, what hangs by a component or a higher-order attribute at nodes of a class
+abbrev pub covering_number : RuleSet → ClassId → Via → ℕ → Option ℕ
+covering_number rules class v a = option_and_then (covering_equation rules.superclasses (map target_in rules.equations) class.0 v) (first_of_name rules.attributes a)
 
 abbrev pub declared_of : Attribute → Attr
 declared_of a = a.declared
@@ -222,15 +258,22 @@ is_single (kinds.Node c) = true
 is_single kinds.Texts = false
 is_single (kinds.Nodes c) = false
 
--- the types of what a path binds: over a component it is the place of the node among those that hang there
-abbrev pub bound_kinds : Reach → List Kind
-bound_kinds Own = []
-bound_kinds (AtComponent k) = kinds.Int ∷ []
-bound_kinds Children = []
+-- the types of an attribute's parameters
+abbrev pub kinds_of : Option Attr → List Kind
+kinds_of None = []
+kinds_of (Some d) = parameter_kinds d.params
+
+-- the types of what a path binds: over a component it is the place of the node among those that hang there, and over a higher-order attribute
+-- its arguments
+abbrev pub bound_kinds : List Attribute → Reach → List Kind
+bound_kinds attributes Own = []
+bound_kinds attributes (AtComponent k) = kinds.Int ∷ []
+bound_kinds attributes (AtCreated b) = kinds_of (declared_at attributes b.0)
+bound_kinds attributes Children = []
 
 -- what an equation of a class may name: the parameters of the attribute, and then what its path binds
 abbrev pub names_for : List Class → List Attribute → ClassId → Reach → Params → Names
-names_for g attributes c r ps = record { grammar = g; attribute = declared_at attributes; node = λ k. None; this = Some c; variables = parameter_kinds ps ++ bound_kinds r }
+names_for g attributes c r ps = record { grammar = g; attribute = declared_at attributes; node = λ k. None; this = Some c; variables = parameter_kinds ps ++ bound_kinds attributes r }
 
 -- A type of a parameter: no set, and a class is one of the grammar.
 pub record IsParameter (g : List Class) (k : Kind) : Type 0 where
@@ -299,7 +342,7 @@ Collects g d None = is_collection d.sort ≡ false
 Collects g d (Some c) = IsCollection g d c
 
 -- An attribute of a class of the grammar, whose type speaks of classes of the grammar. A circular one is of a type that has a value at which its
--- rounds start.
+-- rounds start, and a higher-order one is of a class.
 pub record IsAttribute (g : List Class) (x : Attribute) : Type 0 where
   pub within : x.declared.class.0 < length g
   pub class : (c : ClassId) → kind_class x.declared.kind ≡ Some c → c.0 < length g
@@ -309,13 +352,42 @@ pub record IsAttribute (g : List Class) (x : Attribute) : Type 0 where
   pub circular : x.declared.circular ≡ true → (may_be_circular x.declared.sort ≡ true) × IsStart x.declared.kind x.declared.start
   pub plain : x.declared.circular ≡ false → x.declared.start ≡ Plain
   pub collects : Collects g x.declared x.collecting
+  pub created : is_higher_order x.declared.sort ≡ true → IsSome (kind_class x.declared.kind)
 
 -- An equation without a path gives a value to a synthesized or higher-order attribute that its class has, one with a path to inherited ones of
 -- any class.
 abbrev pub GivesValue : List Class → ClassId → Reach → Attr → Type 0
 GivesValue g c Own d = (is_sub g c.0 d.class.0 ≡ true) × (has_own_equations d.sort ≡ true)
 GivesValue g c (AtComponent k) d = is_inherited d.sort ≡ true
+GivesValue g c (AtCreated b) d = is_inherited d.sort ≡ true
 GivesValue g c Children d = is_inherited d.sort ≡ true
+
+-- an expression that is well typed and fits a type
+pub record IsOf (N : Names) (wanted : Kind) (e : Expression) : Type 0 where
+  pub type : ValueType
+  pub typed : HasType N e type
+  pub fit : fits N.grammar type wanted ≡ true
+
+-- a tree that is made has at most so many nodes, and so many token values
+abbrev pub most_created : ℕ
+most_created = 16
+
+-- A `new` of a class that fits a type; the tree is no larger than one may be.
+pub record IsCreated (N : Names) (wanted : Kind) (e : Expression) : Type 0 where
+  pub class : ClassId
+  pub arguments : NewArguments
+  pub is : e ≡ New class arguments
+  pub makes : Makes N class arguments
+  pub fit : fits N.grammar (of_class class) wanted ≡ true
+  pub nodes : nodes_made arguments ≤ most_created
+  pub tokens : tokens_made arguments ≤ most_created
+
+-- the right side of an equation of an attribute of this sort, whose type is wanted: that of a higher-order one is a `new`
+abbrev pub IsBody : Names → Sort → Kind → Expression → Type 0
+IsBody N Syn = IsOf N
+IsBody N Inh = IsOf N
+IsBody N Nta = IsCreated N
+IsBody N Coll = IsOf N
 
 -- An equation: its right side is well typed and fits the attribute.
 pub record IsEquation (g : List Class) (attributes : List Attribute) (e : Equation) : Type 0 where
@@ -323,19 +395,11 @@ pub record IsEquation (g : List Class) (attributes : List Attribute) (e : Equati
   pub attribute : Attr
   pub declared : declared_at attributes e.target.attribute.0 ≡ Some attribute
   pub gives : GivesValue g e.target.class e.target.reach attribute
-  pub type : ValueType
-  pub typed : HasType (names_for g attributes e.target.class e.target.reach attribute.params) e.body type
-  pub fit : fits g type attribute.kind ≡ true
+  pub body : IsBody (names_for g attributes e.target.class e.target.reach attribute.params) attribute.sort attribute.kind e.body
 
 -- what a contribution of a class may name: the node at which it is read, and no variable
 abbrev pub contribution_names : List Class → List Attribute → ClassId → Names
 contribution_names g attributes c = record { grammar = g; attribute = declared_at attributes; node = λ k. None; this = Some c; variables = [] }
-
--- an expression that is well typed and fits a type
-pub record IsOf (N : Names) (wanted : Kind) (e : Expression) : Type 0 where
-  pub type : ValueType
-  pub typed : HasType N e type
-  pub fit : fits N.grammar type wanted ≡ true
 
 -- A contribution of a class of the grammar to a collection: its condition is a truth value, its receiver fits the class of the collection, and its
 -- value what is contributed.
@@ -349,10 +413,6 @@ pub record IsContribution (g : List Class) (attributes : List Attribute) (c : Co
   pub receiver : IsOf (contribution_names g attributes c.class) (kinds.Node attribute.class) c.receiver
   pub value : IsOf (contribution_names g attributes c.class) (contributed collecting.method attribute.kind) c.value
 
--- a class of which there are nodes
-abbrev pub IsConcrete : List Class → ℕ → Type 0
-IsConcrete g c = option_map abstract_in (slice_get g c) ≡ Some false
-
 -- nodes may hang at a component of this shape
 abbrev pub is_for_nodes : Shape → Bool
 is_for_nodes shapes.Child = true
@@ -362,12 +422,57 @@ is_for_nodes shapes.Text = false
 is_for_nodes shapes.Int = false
 is_for_nodes shapes.Truth = false
 
+-- the class of the root that a right side makes, where it is a `new`
+abbrev pub created_class : Expression → Option ClassId
+created_class (Truth b) = None
+created_class (Int z) = None
+created_class (Text n) = None
+created_class Null = None
+created_class Empty = None
+created_class This = None
+created_class (Variable k) = None
+created_class (Source k) = None
+created_class (Child k e) = None
+created_class (Element k e i) = None
+created_class (Count k e) = None
+created_class (Has k e) = None
+created_class (Token t k e) = None
+created_class (Call a at e es) = None
+created_class (Cast c e) = None
+created_class (InstanceOf c e) = None
+created_class (Quantified q k e b) = None
+created_class (QuantifiedSet q e b) = None
+created_class (Each t k e b) = None
+created_class (EachOfSet t e b) = None
+created_class (Sets o t a b) = None
+created_class (Single e) = None
+created_class (Contains a b) = None
+created_class (Size e) = None
+created_class (Not e) = None
+created_class (Negate e) = None
+created_class (Binary o a b) = None
+created_class (And a b) = None
+created_class (Or a b) = None
+created_class (OrBoth a b) = None
+created_class (If c a at b) = None
+created_class (New c parts) = Some c
+
+abbrev pub class_made : Equation → Option ClassId
+class_made e = created_class e.body
+
+-- the class of the root that an attribute makes at nodes of a class: by the equation that holds there
+abbrev pub root_made : RuleSet → ClassId → ℕ → Option ClassId
+root_made rules class b = option_and_then class_made (option_and_then (slice_get rules.equations) (equation_number rules class b))
+
 -- A class of which there can be a node at which no equation gives a value to an inherited attribute, were it declared there: the root may be of
--- such a class, and so may what hangs at a component that no equation covers, of a node of such a class.
+-- such a class, and so may what hangs at a component that no equation covers, of a node of such a class, and the root that a higher-order
+-- attribute makes there, unless an equation covers the attribute.
 pub data Uncovered (g : List Class) (r : RuleSet) (a : ℕ) : ℕ → Type 0 where
   root : {c : ℕ} → IsConcrete g c → is_sub g c 0 ≡ true → Uncovered g r a c
-  below : {p c : ℕ} (k : ℕ) (x : Component) → Uncovered g r a p → component_at g p k ≡ Some x → is_for_nodes x.shape ≡ true → covering_number r (record { 0 = p }) k a ≡ None
+  below : {p c : ℕ} (k : ℕ) (x : Component) → Uncovered g r a p → component_at g p k ≡ Some x → is_for_nodes x.shape ≡ true → covering_number r (record { 0 = p }) (by_component k) a ≡ None
       → IsConcrete g c → is_sub g c x.class.0 ≡ true → Uncovered g r a c
+  created : {p : ℕ} (b : ℕ) (d : Attr) (t : ClassId) → Uncovered g r a p → attribute_at r b ≡ Some d → is_higher_order d.sort ≡ true → is_sub g p d.class.0 ≡ true → root_made r (record { 0 = p }) b ≡ Some t → t.0 < length g
+      → covering_number r (record { 0 = p }) (by_created b) a ≡ None → Uncovered g r a t.0
 
 -- Rules of a grammar that break nothing: each equation is well typed and the only one of its class for its attribute and its reach, each concrete
 -- class has an equation for each of its synthesized and higher-order attributes, the inherited ones of one name are of one type and circular or not

@@ -1,10 +1,11 @@
 -- The rules of types: which typed expressions are of which type.
-use Rattle.std.specs.Prelude.{◌≡◌, ℕ, ℤ, ◌<◌, Bool, true, false, List, [], ◌∷◌, Option, Some, length, slice_get}
+use Rattle.std.specs.Prelude.{◌≡◌, ℕ, ℤ, suc, ◌+◌, ◌<◌, Bool, true, false, List, [], ◌∷◌, Option, Some, length, slice_get}
+use Rattle.std.specs.Option.{option_map}
 use Rattle.std.specs.Int.{int_wrap}
 use mir.Syntax.{w32}
 use Rattle.ast_grammar.specs.declared.grammar.ClassId.{ClassId}
 use Rattle.ast_grammar.specs.declared.grammar.Shape.TheVariants as shapes
-use Rattle.ast_grammar.specs.Grammar.{Class, Component, component_at, is_sub}
+use Rattle.ast_grammar.specs.Grammar.{Class, Component, abstract_in, component_at, components_of, is_sub}
 use Rattle.attr_rules.specs.declared.kinds.Attr.{Attr}
 use Rattle.attr_rules.specs.declared.kinds.Kind.{Kind}
 use Rattle.attr_rules.specs.declared.kinds.Kind.TheVariants as kinds
@@ -18,7 +19,7 @@ use Rattle.attr_rules.specs.declared.types.ValueType.{ValueType}
 use Rattle.attr_rules.specs.declared.types.ValueType.TheVariants as types
 use Rattle.attr_rules.specs.declared.accessors.Access.TheVariants as access
 use Rattle.attr_rules.specs.Accessors.{got}
-use Rattle.attr_rules.specs.Expression.{Expression, Arguments, no_more, argument, Truth, Int, Text, Null, Empty, This, Variable, Source, Child, Element, Count, Has, Token, Call, Cast, InstanceOf, Quantified, QuantifiedSet, Each, EachOfSet, Sets, Single, Contains, Size, Not, Negate, Binary, And, Or, OrBoth, If}
+use Rattle.attr_rules.specs.Expression.{Expression, Arguments, no_more, argument, NewArguments, new_end, new_token, new_child, Truth, Int, Text, Null, Empty, This, Variable, Source, Child, Element, Count, Has, Token, Call, Cast, InstanceOf, Quantified, QuantifiedSet, Each, EachOfSet, Sets, Single, Contains, Size, Not, Negate, Binary, And, Or, OrBoth, If}
 use Rattle.attr_rules.specs.Types.{common, comparable, elements_of, fits, is_node, is_set, kept_kind, may_be_element, of_class, parameter_kinds, set_of}
 
 -- what an expression may name: the grammar's classes with their components, attributes, source nodes, the class of the node at which
@@ -98,3 +99,38 @@ mutual
   pub data Fit : Names → Arguments → List Kind → Type 0 where
     end : {N : Names} → Fit N no_more []
     more : {N : Names} {e : Expression} {es : Arguments} {k : Kind} {ks : List Kind} (t : ValueType) → HasType N e t → fits N.grammar t k ≡ true → Fit N es ks → Fit N (argument e es) (k ∷ ks)
+
+-- a class of which there are nodes
+abbrev pub IsConcrete : List Class → ℕ → Type 0
+IsConcrete g c = option_map abstract_in (slice_get g c) ≡ Some false
+
+-- The arguments of a `new` are as many as the components, and each is for its one: a token's expression fits its type, and a child is made, of a
+-- class of which there are nodes and that fits. There is none for a list or an optional.
+pub data FitComponents : Names → NewArguments → List Component → Type 0 where
+  no_more_components : {N : Names} → FitComponents N new_end []
+  token_fits : {N : Names} {e : Expression} {rest : NewArguments} {xs : List Component} (x : Component) (k : Kind) (t : ValueType)
+      → got x.shape ≡ Some (access.Token k) → HasType N e t → fits N.grammar t k ≡ true → FitComponents N rest xs → FitComponents N (new_token k e rest) (x ∷ xs)
+  child_fits : {N : Names} {parts rest : NewArguments} {xs : List Component} (x : Component) (d : ClassId)
+      → x.shape ≡ shapes.Child → is_sub N.grammar d.0 x.class.0 ≡ true → IsConcrete N.grammar d.0 → FitComponents N parts (components_of N.grammar d.0)
+      → FitComponents N rest xs → FitComponents N (new_child d parts rest) (x ∷ xs)
+
+-- A tree is made whose root is of this class, with these arguments.
+pub record Makes (N : Names) (c : ClassId) (parts : NewArguments) : Type 0 where
+  pub concrete : IsConcrete N.grammar c.0
+  pub fit : FitComponents N parts (components_of N.grammar c.0)
+
+-- how many nodes are made below the root
+abbrev pub nodes_below : NewArguments → ℕ
+nodes_below new_end = 0
+nodes_below (new_token k e rest) = nodes_below rest
+nodes_below (new_child c parts rest) = suc (nodes_below parts + nodes_below rest)
+
+-- with the root
+abbrev pub nodes_made : NewArguments → ℕ
+nodes_made parts = suc (nodes_below parts)
+
+-- how many token values all nodes have
+abbrev pub tokens_made : NewArguments → ℕ
+tokens_made new_end = 0
+tokens_made (new_token k e rest) = suc (tokens_made rest)
+tokens_made (new_child c parts rest) = tokens_made parts + tokens_made rest

@@ -2,7 +2,7 @@
 -- choice where its else part stands.
 use Rattle.std.specs.Prelude.{◌≡◌, ℕ, Bool, true, not, ◌&&◌, Option, Some, None}
 use Rattle.rag_io.specs.declared.Place.{Place}
-use Rattle.attr_rules.specs.Expression.{Expression, Arguments, no_more, argument, Truth, Int, Text, Null, Empty, This, Variable, Source, Child, Element, Count, Has, Token, Call, Cast, InstanceOf, Quantified, QuantifiedSet, Each, EachOfSet, Sets, Single, Contains, Size, Not, Negate, Binary, And, Or, OrBoth, If}
+use Rattle.attr_rules.specs.Expression.{Expression, Arguments, no_more, argument, NewArguments, new_end, new_token, new_child, Truth, Int, Text, Null, Empty, This, Variable, Source, Child, Element, Count, Has, Token, Call, Cast, InstanceOf, Quantified, QuantifiedSet, Each, EachOfSet, Sets, Single, Contains, Size, Not, Negate, Binary, And, Or, OrBoth, If, New}
 use Rattle.attr_rules.specs.Rising.{has_call, is_bottom}
 
 -- an else part has a place, unless it is the literal `false` or `empty`
@@ -45,11 +45,18 @@ abbrev mutual
   is_well_made circular (Or a b) = not (has_call circular a) && (is_well_made circular a && is_well_made circular b)
   is_well_made circular (OrBoth a b) = has_call circular a && (is_well_made circular a && is_well_made circular b)
   is_well_made circular (If c a at b) = is_placed at b && (is_well_made circular c && (is_well_made circular a && is_well_made circular b))
+  is_well_made circular (New c parts) = is_new_well_made circular parts
 
   -- all of some arguments are
   pub are_well_made : (ℕ → Bool) → Arguments → Bool
   are_well_made circular no_more = true
   are_well_made circular (argument e es) = is_well_made circular e && are_well_made circular es
+
+  -- and so are all tokens of a `new`
+  pub is_new_well_made : (ℕ → Bool) → NewArguments → Bool
+  is_new_well_made circular new_end = true
+  is_new_well_made circular (new_token k e rest) = is_well_made circular e && is_new_well_made circular rest
+  is_new_well_made circular (new_child c parts rest) = is_new_well_made circular parts && is_new_well_made circular rest
 
 abbrev pub IsWellMade : (ℕ → Bool) → Expression → Type 0
 IsWellMade circular e = is_well_made circular e ≡ true

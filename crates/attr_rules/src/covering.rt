@@ -1,14 +1,15 @@
-// What covers the components of nodes of a class.
+// What covers what hangs at nodes of a class.
 ghost use Rattle.std.specs.Prelude.{◌≡◌, ◌<◌, ◌≤◌, ℕ, IfOk, None, length};
 ghost use Rattle.std.specs.Option.{option_map};
 ghost use Rattle.ast_grammar.specs.Grammar.{superclasses_of};
 ghost use Rattle.attr_rules.specs.declared.dispatch.Reach.TheVariants.{Children};
+ghost use Rattle.attr_rules.specs.declared.dispatch.Via.{Via};
 ghost use Rattle.attr_rules.specs.Dispatching.{AddsClass, CoversUpwards, KeepsFirst, KeepsNamed, PutsChildren, covered_by, number_for, number_in};
 ghost use Rattle.attr_rules.specs.RowsKept.{at_place};
 ghost use Rattle.attr_rules.specs.Rules.{number_of_equation};
 
-use crate::dispatch::Target;
-use crate::kinds::{AttrId, EqId, Part};
+use crate::dispatch::{Target, Via};
+use crate::kinds::{AttrId, EqId};
 use crate::rows::{at_place, put_first};
 use ast_grammar::Grammar;
 use rag_io::Memory;
@@ -16,14 +17,14 @@ use std::alloc::Global;
 use std::collections::HashMap;
 use std::marker::Model;
 
-/// A component and an attribute, as a key.
+/// By what a node hangs and an attribute, as a key.
 #[derive(Clone, Copy, Debug, PartialEq, Eq, Hash)]
 pub struct Key {
-    pub component: Part,
+    pub via: Via,
     pub attribute: AttrId,
 }
 
-/// Equations, each kept for a component and an attribute.
+/// Equations, each kept for what hangs by a component or a higher-order attribute, and for an attribute.
 #[derive(Drop)]
 pub struct Named {
     equations: HashMap<Key, EqId>,
@@ -32,22 +33,23 @@ pub struct Named {
 impl Model for Named {
     ghost use Rattle.std.specs.Prelude.{List};
     ghost use Rattle.attr_rules.specs.declared.kinds.EqId.{EqId as EquationNumber};
-    ghost use Rattle.attr_rules.specs.declared.covering.Key.{Key as ComponentKey};
+    ghost use Rattle.attr_rules.specs.declared.covering.Key.{Key as PathKey};
 
-    ghost Value = { List (ComponentKey × EquationNumber) };
+    ghost Value = { List (PathKey × EquationNumber) };
 
     ghost view = { λ n. n.equations.entries };
 }
 
-/// Which equation covers what hangs at each component of nodes of a class, for each attribute. Of a component and attribute for which the
-/// class or a superclass has an equation it is kept by these two. Of all others it is one for every child, at the place of the attribute.
+/// Which equation covers what hangs by each component and higher-order attribute at nodes of a class, for each attribute. Where the class or a
+/// superclass has an equation for just what hangs by it, it is kept by these two. Of all others it is one for every child, at the place of the
+/// attribute.
 #[derive(Drop)]
 pub struct Covering {
     named: Named,
     children: Vec<Option<EqId>>,
 }
 
-// Keeps an equation for a component and attribute, unless one is kept already.
+// Keeps an equation for what hangs by something and for an attribute, unless one is kept already.
 fn keep_first(named: &mut HashMap<Key, EqId>, key: Key, equation: EqId) -> Result<(), Memory>
     ensures { IfOk result (λ _. KeepsFirst key equation named.old named.new) }
 {
@@ -60,7 +62,7 @@ fn keep_first(named: &mut HashMap<Key, EqId>, key: Key, equation: EqId) -> Resul
     }
 }
 
-// Keeps these equations for the components that they name. Where a nearer class has one for every child, that is kept.
+// Keeps these equations for the components and higher-order attributes that they name. Where a nearer class has one for every child, that is kept.
 fn keep_named(
     named: &mut HashMap<Key, EqId>,
     children: &[Option<EqId>],
@@ -70,10 +72,10 @@ fn keep_named(
 {
     for path in paths {
         let (target, equation) = *path;
-        if let Some(component) = target.reach.component() {
+        if let Some(via) = target.reach.via() {
             let nearer = at_place(children, target.attribute.0 as usize);
             let key = Key {
-                component,
+                via,
                 attribute: target.attribute,
             };
             keep_first(named, key, nearer.unwrap_or(equation))?;
@@ -100,7 +102,7 @@ impl Covering {
     // Nothing covers, of so many attributes.
     fn empty(alloc: Global, attributes: u32) -> Result<Covering, Memory>
         ensures long { IfOk result (λ c. length c.children.items ≡ attributes) }
-        ensures none { IfOk result (λ c. (k a : ℕ) → covered_by c k a ≡ None) }
+        ensures none { IfOk result (λ c. (v : Via) (a : ℕ) → covered_by c v a ≡ None) }
     {
         let equations = HashMap::new(alloc);
         let named = Named { equations };
@@ -144,14 +146,11 @@ impl Covering {
         Ok(covering)
     }
 
-    /// The equation that covers what hangs at a component. It takes constant time.
-    pub(crate) fn find(&self, component: Part, attribute: AttrId) -> Option<EqId>
-        ensures { option_map number_of_equation result ≡ covered_by self.now component.0 attribute.0 }
+    /// The equation that covers what hangs by a component or a higher-order attribute. It takes constant time.
+    pub(crate) fn find(&self, via: Via, attribute: AttrId) -> Option<EqId>
+        ensures { option_map number_of_equation result ≡ covered_by self.now via attribute.0 }
     {
-        let key = Key {
-            component,
-            attribute,
-        };
+        let key = Key { via, attribute };
         let named = self.named.equations.get(&key).copied();
         named.or_else(|| at_place(&self.children, attribute.0 as usize))
     }

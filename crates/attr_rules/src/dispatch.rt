@@ -14,17 +14,26 @@ use ast_grammar::{ClassId, Grammar};
 use rag_io::Memory;
 use std::alloc::Global;
 
+/// By what a node hangs at another: at a component of it, or as the root of a tree that a higher-order attribute of it makes.
+#[derive(Clone, Copy, Debug, PartialEq, Eq, Hash)]
+pub enum Via {
+    Component(Part),
+    Created(AttrId),
+}
+
 /// At which nodes an equation of a class gives a value: at those of the class (`eq C.y() = ..`), at what hangs at a component of them
-/// (`eq C.getX().y() = ..`), or at whatever hangs at them (`eq C.getChild().y() = ..`).
+/// (`eq C.getX().y() = ..`), at the roots of the trees that a higher-order attribute of them makes (`eq C.a().y() = ..`), or at whatever hangs
+/// at them by either (`eq C.getChild().y() = ..`).
 #[derive(Clone, Copy, Debug, PartialEq, Eq, Hash)]
 pub enum Reach {
     Own,
     Component(Part),
+    Created(AttrId),
     Children,
 }
 
 impl Reach {
-    ghost use Rattle.attr_rules.specs.Dispatching.{component_in};
+    ghost use Rattle.attr_rules.specs.Dispatching.{via_in};
     ghost use Rattle.attr_rules.specs.Rules.{same_reach};
     ghost use Rattle.attr_rules.specs.declared.dispatch.Reach.TheVariants.{Children, Own};
 
@@ -34,7 +43,7 @@ impl Reach {
     {
         match self {
             Reach::Own => true,
-            Reach::Component(_) | Reach::Children => false,
+            Reach::Component(_) | Reach::Created(_) | Reach::Children => false,
         }
     }
 
@@ -44,16 +53,17 @@ impl Reach {
     {
         match self {
             Reach::Children => true,
-            Reach::Component(_) | Reach::Own => false,
+            Reach::Component(_) | Reach::Created(_) | Reach::Own => false,
         }
     }
 
-    /// The component, if it is what hangs at one.
-    pub(crate) fn component(self) -> Option<Part>
-        ensures { result ≡ component_in self }
+    /// By what the nodes hang, if it is one component or one attribute.
+    pub(crate) fn via(self) -> Option<Via>
+        ensures { result ≡ via_in self }
     {
         match self {
-            Reach::Component(component) => Some(component),
+            Reach::Component(component) => Some(Via::Component(component)),
+            Reach::Created(attribute) => Some(Via::Created(attribute)),
             Reach::Own | Reach::Children => None,
         }
     }
@@ -68,7 +78,7 @@ pub struct Target {
     pub attribute: AttrId,
 }
 
-/// The equation of each attribute at nodes of each class, and at what hangs at each of their components: that of the nearest class, from the
+/// The equation of each attribute at nodes of each class, and at what hangs by each of their components and higher-order attributes: that of the nearest class, from the
 /// node's class upwards. It is looked for once for each class, and then found in constant time.
 #[derive(Drop)]
 pub struct Dispatch {
@@ -186,7 +196,7 @@ fn coverings(
 impl Dispatch {
     /// The equations for these, by their places in the list, among so many attributes. It takes time in proportion to the equations, and for
     /// each class to its superclasses times the attributes, and to its equations with a path and those of its superclasses. Memory goes to a
-    /// place for each class and attribute, and to each equation for a component once for each subclass.
+    /// place for each class and attribute, and to each equation for a component or a higher-order attribute once for each subclass.
     pub fn of_targets(
         alloc: Global,
         grammar: &Grammar,
@@ -214,13 +224,13 @@ impl Dispatch {
         at_row(&self.rows, class.0 as usize, attribute.0 as usize)
     }
 
-    /// The equation with a path that covers what hangs at a component of nodes of a class, for the first inherited attribute of a name, or
-    /// None where there is none: that of the nearest class, from this one upwards, and in a class one for the component before one for
-    /// every child. It takes constant time.
-    pub fn find_covering(&self, class: ClassId, component: Part, attribute: AttrId) -> Option<EqId>
-        ensures { FindsCovering self.now class component.0 attribute (option_map number_of_equation result) }
+    /// The equation with a path that covers what hangs by a component or a higher-order attribute at nodes of a class, for the first
+    /// inherited attribute of a name, or None where there is none: that of the nearest class, from this one upwards, and in a class one for
+    /// just that before one for every child. It takes constant time.
+    pub fn find_covering(&self, class: ClassId, via: Via, attribute: AttrId) -> Option<EqId>
+        ensures { FindsCovering self.now class via attribute (option_map number_of_equation result) }
     {
         let covering = self.coverings.get(class.0 as usize)?;
-        covering.find(component, attribute)
+        covering.find(via, attribute)
     }
 }

@@ -108,6 +108,19 @@ pub enum TExpr {
     /// `condition ? then : otherwise`, of which only the part that the condition chooses is evaluated. It keeps the place at which the last part
     /// begins, unless that is the literal `false` or `empty`.
     If(Box<TExpr>, Box<TExpr>, Option<Place>, Box<TExpr>),
+    /// `new C(..)`: the root, of this class, of a tree that the attribute makes. It is the whole right side of an equation of a higher-order
+    /// attribute, and stands nowhere else.
+    New(ClassId, NewArgs),
+}
+
+/// The arguments of a `new`, in the order of the components of its class: tokens, each an expression that is read at this type, and children,
+/// each of a class with arguments of its own.
+#[cycle(expressions)]
+#[derive(Drop)]
+pub enum NewArgs {
+    End,
+    Token(Kind, Box<TExpr>, Box<NewArgs>),
+    Child(ClassId, Box<NewArgs>, Box<NewArgs>),
 }
 
 /// The arguments of a call, from the left.

@@ -118,7 +118,7 @@ impl Params {
 }
 
 impl Sort {
-    ghost use Rattle.attr_rules.specs.Rules.{has_own_equations, is_inherited};
+    ghost use Rattle.attr_rules.specs.Rules.{has_own_equations, is_higher_order, is_inherited};
 
     /// Whether it is inherited.
     pub fn is_inherited(self) -> bool
@@ -127,6 +127,16 @@ impl Sort {
         match self {
             Sort::Inh => true,
             Sort::Syn | Sort::Nta | Sort::Coll => false,
+        }
+    }
+
+    /// Whether it is higher-order: its value is the root of a tree that its equation makes.
+    pub fn is_higher_order(self) -> bool
+        ensures { result ≡ is_higher_order self }
+    {
+        match self {
+            Sort::Nta => true,
+            Sort::Syn | Sort::Inh | Sort::Coll => false,
         }
     }
 

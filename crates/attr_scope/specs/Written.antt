@@ -1,11 +1,11 @@
 -- What aspects declare, and the equations and contributions that they give, as they are written.
-use Rattle.std.specs.Prelude.{List, [], Option, Some, None}
+use Rattle.std.specs.Prelude.{Bool, if◌then◌else◌, List, [], Option, Some, None}
 use Rattle.std.specs.List.{filter_map}
 use Rattle.std.specs.Option.{option_map}
 use Rattle.aspect_items.specs.Items.{own_signature}
 use Rattle.aspect_items.specs.Expressions.{Expr, Name}
 use Rattle.attr_rules.specs.declared.kinds.Sort.{Sort}
-use Rattle.attr_rules.specs.declared.kinds.Sort.TheVariants.{Syn, Inh, Coll}
+use Rattle.attr_rules.specs.declared.kinds.Sort.TheVariants.{Syn, Inh, Nta, Coll}
 use Rattle.aspect_items.specs.Items.{Item, Declared, Inherits, Equates, Collects, Contributes, Circular, Collection, Contribution, Equation, Inherited, Signature, Synthesized, WrittenType}
 
 -- the declaration of an attribute: its sort, its type, the class that has it, its name with the parameters, whether it is circular, and how it
@@ -18,8 +18,12 @@ pub record Head : Type 0 where
   pub circular : Option Circular
   pub collection : Option Collection
 
+-- what is declared with `nta` is higher-order
+abbrev pub synthesized_sort : Bool → Sort
+synthesized_sort higher_order = if higher_order then Nta else Syn
+
 abbrev pub synthesized_head : Synthesized → Head
-synthesized_head s = record { sort = Syn; of = s.of; class = s.class; signature = s.signature; circular = s.circular; collection = None }
+synthesized_head s = record { sort = synthesized_sort s.higher_order; of = s.of; class = s.class; signature = s.signature; circular = s.circular; collection = None }
 
 abbrev pub inherited_head : Inherited → Head
 inherited_head i = record { sort = Inh; of = i.of; class = i.class; signature = i.signature; circular = i.circular; collection = None }

@@ -2,7 +2,7 @@
 ghost use Rattle.std.specs.Prelude.{◌≡◌, IfOk, map};
 ghost use Rattle.std.specs.Option.{option_map};
 ghost use Rattle.attr_scope.specs.Seen.{seen_given, seen_head, seen_offer};
-ghost use Rattle.attr_scope.specs.Written.{contributed_in, contributions, declarations, declared_in, given_by, given_in, givens};
+ghost use Rattle.attr_scope.specs.Written.{contributed_in, contributions, declarations, declared_in, given_by, given_in, givens, synthesized_sort};
 ghost use Rattle.aspect_items.specs.Items.{seen_equation, seen_item};
 
 use aspect_items::{
@@ -35,13 +35,20 @@ pub struct Given<'a> {
     pub body: &'a Expr,
 }
 
+// What is declared with `nta` is higher-order.
+fn synthesized_sort(higher_order: bool) -> Sort
+    ensures { result ≡ synthesized_sort higher_order }
+{
+    if higher_order { Sort::Nta } else { Sort::Syn }
+}
+
 // The declaration that an item is, if it is one.
 fn declared_in(item: &Item) -> Option<Head<'_>>
     ensures { option_map seen_head result ≡ declared_in (seen_item item.now) }
 {
     match item {
         Item::Synthesized(declared) => Some(Head {
-            sort: Sort::Syn,
+            sort: synthesized_sort(declared.higher_order),
             of: &declared.of,
             class: &declared.class,
             name: &declared.signature.name,

@@ -1,11 +1,10 @@
 -- Aspects that break no rule make rules of the grammar.
-use Rattle.std.proofs.Common.{◌≡◌, ◌∙◌, List, true, None, refl, sym, ap, arith}
+use Rattle.std.proofs.Common.{◌∙◌, List, None, refl, sym, ap, arith}
 use Rattle.std.specs.List.{flat_map}
 use Rattle.std.proofs.lemmas.List.{length-map}
 use Rattle.ast_grammar.specs.Grammar.{Class, IsGrammar}
 use Rattle.broken_rules.specs.Answers.{Answers}
 use Rattle.broken_rules.proofs.Clean.{append_none, phase_none}
-use Rattle.built_forms.specs.Built.{all_built}
 use Rattle.aspect_items.specs.Items.{Item}
 use Rattle.attr_heads.specs.Contributions.{contributions_broken}
 use Rattle.attr_heads.specs.Heads.{attribute_of, attributes_of}
@@ -22,9 +21,9 @@ use Rattle.attr_heads.proofs.OnceGiven.{one_target}
 use Rattle.attr_types.proofs.ContributionsClean.{contributions_there}
 use Rattle.attr_types.proofs.EquationsClean.{equations_there}
 
-pub accepted : (g : List Class) (items : List Item) → IsGrammar g → all_built items ≡ true → Answers (phases_of g items) None → AreRules g (rules_of g items)
+pub accepted : (g : List Class) (items : List Item) → IsGrammar g → Answers (phases_of g items) None → AreRules g (rules_of g items)
 unfolding rules_of
-accepted g items grammar built answer =
+accepted g items grammar answer =
     let attributes = attributes_of g (declarations items) in
     let heads = phase_none answer in
     let targets = phase_none heads.1 in
@@ -36,8 +35,8 @@ accepted g items grammar built answer =
       superclasses = refl;
       few = omega (arith, few_declared g (declarations items) heads.0, length-map (declarations items) (attribute_of g));
       attributes = declared_attributes g items heads.0;
-      equations = equations_there g attributes items built uses.0 expressions.0;
-      contributions = contributions_there g attributes items built uses.1 expressions.1;
+      equations = equations_there g attributes items uses.0 expressions.0;
+      contributions = contributions_there g attributes items uses.1 expressions.1;
       one_equation = λ i j e f first second same. (
           let d = map_found (equation_of g attributes) (givens items) i e first in
           let k = map_found (equation_of g attributes) (givens items) j f second in

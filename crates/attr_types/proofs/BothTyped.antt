@@ -1,14 +1,16 @@
 -- What `||` says in the equations of circular attributes changes no type.
-use Rattle.std.proofs.Common.{ℕ, Bool, true, false, List}
+use Rattle.std.proofs.Common.{◌≡◌, ◌≤◌, ◌+◌, ℕ, suc, Bool, true, false, List, refl, ap, sym, subst}
+use Rattle.ast_grammar.specs.Grammar.{Component}
 use Rattle.attr_rules.specs.declared.kinds.Kind.{Kind}
 use Rattle.attr_rules.specs.declared.kinds.Kind.TheVariants as kinds
 use Rattle.attr_rules.specs.declared.types.ValueType.{ValueType}
 use Rattle.attr_rules.specs.declared.types.ValueType.TheVariants as types
-use Rattle.attr_rules.specs.Expression.{Arguments, Expression}
+use Rattle.attr_rules.specs.Expression.{Arguments, Expression, NewArguments, new_end, new_token, new_child}
 use Rattle.attr_rules.specs.Rising.{has_call}
 use Rattle.attr_rules.specs.Typing as typing
-use Rattle.attr_rules.specs.Typing.{Fit, HasType, Names}
-use Rattle.attr_types.specs.BothSides.{all_with_both, either, said_where, with_both}
+use Rattle.attr_rules.specs.Typing.{Fit, FitComponents, HasType, Names, nodes_below, tokens_made}
+use Rattle.attr_rules.specs.Rules.{IsCreated, most_created}
+use Rattle.attr_types.specs.BothSides.{all_with_both, either, new_with_both, said_where, with_both}
 
 either_typed : {N : Names} {a b : Expression} (calls : Bool) → HasType N a (types.Of kinds.Truth) → HasType N b (types.Of kinds.Truth) → HasType N (either calls a b) (types.Of kinds.Truth)
 either_typed true h j = typing.or_both h j
@@ -53,6 +55,37 @@ module _ (circular : ℕ → Bool) where
     both_fit : {N : Names} {es : Arguments} {ks : List Kind} → Fit N es ks → Fit N (all_with_both circular es) ks
     both_fit typing.end = typing.end
     both_fit (typing.more t h fits es) = typing.more t (both_typed h) fits (both_fit es)
+
+  -- nor what a `new` makes
+  both_fitting : {N : Names} {parts : NewArguments} {xs : List Component} → FitComponents N parts xs → FitComponents N (new_with_both circular parts) xs
+  both_fitting typing.no_more_components = typing.no_more_components
+  both_fitting (typing.token_fits x k t is h fits more) = typing.token_fits x k t is (both_typed h) fits (both_fitting more)
+  both_fitting (typing.child_fits x d is below concrete inner more) = typing.child_fits x d is below concrete (both_fitting inner) (both_fitting more)
+
+  both_nodes : (parts : NewArguments) → nodes_below (new_with_both circular parts) ≡ nodes_below parts
+  both_nodes new_end = refl
+  both_nodes (new_token k e rest) = both_nodes rest
+  both_nodes (new_child c parts rest) = (λ j. suc (both_nodes parts j + both_nodes rest j))
+
+  both_tokens : (parts : NewArguments) → tokens_made (new_with_both circular parts) ≡ tokens_made parts
+  both_tokens new_end = refl
+  both_tokens (new_token k e rest) = (λ j. suc (both_tokens rest j))
+  both_tokens (new_child c parts rest) = (λ j. both_tokens parts j + both_tokens rest j)
+
+  both_created : {N : Names} {wanted : Kind} {e : Expression} → IsCreated N wanted e → IsCreated N wanted (with_both circular e)
+  both_created c = record {
+    class = c.class;
+    arguments = new_with_both circular c.arguments;
+    is = ap (with_both circular) c.is;
+    makes = record { concrete = c.makes.concrete; fit = both_fitting c.makes.fit };
+    fit = c.fit;
+    nodes = subst (λ n. suc n ≤ most_created) (sym (both_nodes c.arguments)) c.nodes;
+    tokens = subst (λ n. n ≤ most_created) (sym (both_tokens c.arguments)) c.tokens;
+  }
+
+pub said_created : {N : Names} {wanted : Kind} {e : Expression} (b : Bool) (circular : ℕ → Bool) → IsCreated N wanted e → IsCreated N wanted (said_where b circular e)
+said_created true circular c = both_created circular c
+said_created false circular c = c
 
 pub said_typed : {N : Names} {e : Expression} {t : ValueType} (b : Bool) (circular : ℕ → Bool) → HasType N e t → HasType N (said_where b circular e) t
 said_typed true circular h = both_typed circular h

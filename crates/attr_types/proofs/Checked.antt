@@ -23,7 +23,7 @@ use Rattle.attr_equations.specs.declared.rules.Rules.{Rules}
 use Rattle.attr_equations.specs.Kept.{rules_in}
 use Rattle.attr_scope.specs.declared.written.Given as kept_given
 use Rattle.attr_scope.specs.declared.written.Head as kept_head
-use Rattle.attr_coverage.specs.Completeness.{complete_broken, places_of}
+use Rattle.attr_coverage.specs.Completeness.{complete_broken, places_of, roots_of}
 use Rattle.attr_rules.specs.Dispatching.{Dispatches, IsTarget}
 use Rattle.attr_heads.specs.Heads.{attributes_of, heads_broken}
 use Rattle.attr_equations.specs.KeptEquations.{equation_in, kept_target}
@@ -52,7 +52,7 @@ module _ (g : List Class) (hs : List Head) (es : List Given) (cs : List WrittenC
   second_list = uses_broken g (attributes_of g hs) es cs
 
   abbrev third_list : List Broken
-  third_list = complete_broken g (attributes_of g hs) (targets_of g (attributes_of g hs) es) (places_of hs)
+  third_list = complete_broken g (attributes_of g hs) (targets_of g (attributes_of g hs) es) (roots_of g es) (places_of hs)
 
   abbrev fourth_list : List Broken
   fourth_list = bodies_broken g (attributes_of g hs) es cs
@@ -60,8 +60,8 @@ module _ (g : List Class) (hs : List Head) (es : List Given) (cs : List WrittenC
   pub second_is : {attributes : List Attribute} → attributes ≡ attributes_of g hs → uses_broken g attributes es cs ≡ second_list
   second_is attributes = ap (λ (a : List Attribute). uses_broken g a es cs) attributes
 
-  pub third_is : {attributes : List Attribute} {ts : List Target} → attributes ≡ attributes_of g hs → ts ≡ targets_of g (attributes_of g hs) es → complete_broken g attributes ts (places_of hs) ≡ third_list
-  third_is attributes ts = (λ i. complete_broken g (attributes i) (ts i) (places_of hs))
+  pub third_is : {attributes : List Attribute} {ts : List Target} → attributes ≡ attributes_of g hs → ts ≡ targets_of g (attributes_of g hs) es → complete_broken g attributes ts (roots_of g es) (places_of hs) ≡ third_list
+  third_is attributes ts = (λ i. complete_broken g (attributes i) (ts i) (roots_of g es) (places_of hs))
 
   pub fourth_is : {attributes : List Attribute} → attributes ≡ attributes_of g hs → bodies_broken g attributes es cs ≡ fourth_list
   fourth_is attributes = ap (λ (a : List Attribute). bodies_broken g a es cs) attributes

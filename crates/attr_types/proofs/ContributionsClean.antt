@@ -1,7 +1,6 @@
--- What holds of contributions of built items that break nothing.
-use Rattle.std.proofs.Common.{◌≡◌, ℕ, ◌<◌, length, List, [], ◌++◌, All, ◌&&◌, true, false, Option, Some, None, is_none, map, slice_get, option_map, refl, ap, sym, ◌∙◌, subst, if◌then◌else◌}
+-- What holds of contributions that break nothing.
+use Rattle.std.proofs.Common.{◌≡◌, ℕ, ◌<◌, length, List, [], ◌++◌, All, true, Option, Some, None, is_none, map, refl, ap, sym, ◌∙◌, subst, if◌then◌else◌}
 use Rattle.std.specs.List.{flat_map}
-use Rattle.std.proofs.lemmas.Bool.{and_parts}
 use Rattle.std.specs.Option.{is_some, option_and_then, unwrap_or}
 use Rattle.broken_rules.specs.Notes.{at}
 use Rattle.broken_rules.specs.declared.rule.Rule.TheVariants.{J14}
@@ -9,9 +8,8 @@ use Rattle.broken_rules.proofs.Clean.{append_none, flat_map_found, not_broken}
 use Rattle.superclasses.proofs.Lines.{sub_then}
 use Rattle.ast_grammar.specs.declared.grammar.ClassId.{ClassId}
 use Rattle.ast_grammar.specs.Grammar.{Class, class_named, is_sub, superclasses_of}
-use Rattle.built_forms.specs.Built.{all_built, is_built, is_built_body, is_built_item}
 use Rattle.aspect_items.specs.Expressions.{Expr}
-use Rattle.aspect_items.specs.Items.{Collects, Contributes, Contribution as WrittenContribution, Declared, Equates, Inherits, Item}
+use Rattle.aspect_items.specs.Items.{Contribution as WrittenContribution, Item}
 use Rattle.expr_typing.specs.declared.standing.Stands.TheVariants.{Anywhere}
 use Rattle.expr_typing.specs.Fitting.{misfit}
 use Rattle.expr_typing.specs.Typed.{body_of, known}
@@ -29,7 +27,7 @@ use Rattle.attr_rules.specs.Rules.{Attribute, IsContribution, IsOf, attribute_na
 use Rattle.attr_rules.specs.Types.{fits}
 use Rattle.attr_rules.specs.Typing.{truth}
 use Rattle.attr_scope.specs.Scope.{Scope}
-use Rattle.attr_scope.specs.Written.{contributed_in, contributions}
+use Rattle.attr_scope.specs.Written.{contributions}
 use Rattle.attr_scope.specs.WrittenTypes.{class_numbered}
 use Rattle.attr_scope.specs.Classes.{class_broken, class_or_first}
 use Rattle.attr_scope.proofs.AttributesFound.{named_has}
@@ -37,7 +35,6 @@ use Rattle.attr_scope.proofs.ClassesFound.{class_there, class_within}
 use Rattle.attr_scope.proofs.ItemsFound.{all_found, map_found, some_there}
 use Rattle.attr_heads.specs.Contributions.{aim_of, collection_named, collection_of, contribution_broken, contributions_broken, if_collection, no_collection_broken}
 use Rattle.attr_types.specs.Phases.{condition_broken, condition_said, contributed_as, contribution_of, expressions_broken, kind_or_truth, scope_at, wanted_from}
-use Rattle.attr_types.proofs.BuiltFound.{built_found}
 
 -- what fits a class fits each one above it
 fits_above : (g : List Class) (t : ValueType) (c d : ClassId) → is_sub g c.0 d.0 ≡ true → fits g t (kinds.Node c) ≡ true → fits g t (kinds.Node d) ≡ true
@@ -50,37 +47,20 @@ fits_above g (types.Of (kinds.Node b)) c d below fit = sub_then (superclasses_of
 fits_above g (types.Of kinds.Texts) c d below fit = absurd (cc)
 fits_above g (types.Of (kinds.Nodes b)) c d below fit = absurd (cc)
 
--- the expressions of a contribution are built
-record AreBuilt (c : WrittenContribution) : Type 0 where
-  condition : is_built_body c.condition ≡ true
-  receiver : is_built c.receiver ≡ true
-  value : is_built c.value ≡ true
-
-built_in : (item : Item) (c : WrittenContribution) → is_built_item item ≡ true → contributed_in item ≡ Some c → AreBuilt c
-built_in (Declared s) c built is = absurd (cc)
-built_in (Inherits i) c built is = absurd (cc)
-built_in (Equates e) c built is = absurd (cc)
-built_in (Collects k) c built is = absurd (cc)
-built_in (Contributes d) c built is =
-    let same : d ≡ c = cc in
-    let parts = and_parts (is_built d.value) (is_built_body d.condition && is_built d.receiver) built in
-    let rest = and_parts (is_built_body d.condition) (is_built d.receiver) parts.1 in
-    subst AreBuilt same (record { condition = rest.0; receiver = rest.1; value = parts.0 })
-
 module _ (g : List Class) (attributes : List Attribute) (class : ClassId) where
   abbrev here : Scope
   here = scope_at g attributes class
 
   -- an expression that breaks nothing and fits
-  operand_there : (wanted : Kind) (e : Expr) → is_built e ≡ true → operand_broken here Anywhere wanted e ≡ [] → IsOf (contribution_names g attributes class) wanted (body_of here e)
-  operand_there wanted e built none =
+  operand_there : (wanted : Kind) (e : Expr) → operand_broken here Anywhere wanted e ≡ [] → IsOf (contribution_names g attributes class) wanted (body_of here e)
+  operand_there wanted e none =
       let parts = append_none (expr_broken here Anywhere e) (misfit g wanted (known here e) e) none in
-      let body = typed here (record { superclasses = refl }) (record { known = λ k v is. absurd (cc) }) e Anywhere refl built parts.0 in
+      let body = typed here (record { superclasses = refl }) (record { known = λ k v is. absurd (cc) }) e Anywhere refl parts.0 in
       record { type = body.type; typed = body.typed; fit = fitting (names_in here) wanted (known here e) body.type e body.is parts.1 }
 
-  condition_there : (o : Option Expr) → is_built_body o ≡ true → condition_broken here o ≡ [] → IsOf (contribution_names g attributes class) kinds.Truth (condition_said here o)
-  condition_there None built none = record { type = types.Of kinds.Truth; typed = truth true; fit = refl }
-  condition_there (Some e) built none = operand_there kinds.Truth e built none
+  condition_there : (o : Option Expr) → condition_broken here o ≡ [] → IsOf (contribution_names g attributes class) kinds.Truth (condition_said here o)
+  condition_there None none = record { type = types.Of kinds.Truth; typed = truth true; fit = refl }
+  condition_there (Some e) none = operand_there kinds.Truth e none
 
 module _ (g : List Class) (attributes : List Attribute) where
   -- the collection that a class has by a name
@@ -105,8 +85,8 @@ module _ (g : List Class) (attributes : List Attribute) where
   collection_there : (c : ℕ) (name : List ℕ) (a : ℕ) → collection_named g attributes name c ≡ Some a → IsCollectionOf c a
   collection_there c name a e = found_from (class_numbered c) name (attribute_named (superclasses_of g) attributes (class_numbered c) name) a refl e
 
-  contribution_there : (c : WrittenContribution) → AreBuilt c → contribution_broken g attributes c ≡ [] → expressions_broken g attributes c ≡ [] → IsContribution g attributes (contribution_of g attributes c)
-  contribution_there c built none bodies =
+  contribution_there : (c : WrittenContribution) → contribution_broken g attributes c ≡ [] → expressions_broken g attributes c ≡ [] → IsContribution g attributes (contribution_of g attributes c)
+  contribution_there c none bodies =
       let lacking = no_collection_broken g attributes c.name (class_named g c.class.text) in
       let heads = append_none (class_broken g c.contributor) (class_broken g c.class ++ lacking) none in
       let targets = append_none (class_broken g c.class) lacking heads.1 in
@@ -127,7 +107,7 @@ module _ (g : List Class) (attributes : List Attribute) where
       let rest = operand_broken scope Anywhere (kinds.Node aim.receiver) c.receiver ++ value in
       let first = append_none (condition_broken scope c.condition) rest bodies in
       let last = append_none (operand_broken scope Anywhere (kinds.Node aim.receiver) c.receiver) value first.1 in
-      let receiver = operand_there g attributes aim.contributor (kinds.Node aim.receiver) c.receiver built.receiver last.0 in
+      let receiver = operand_there g attributes aim.contributor (kinds.Node aim.receiver) c.receiver last.0 in
       let below : is_sub g aim.receiver.0 there.attribute.class.0 ≡ true = ap (λ (d : ClassId). is_sub g d.0 there.attribute.class.0) receiver_is ∙ there.has in
       record {
         within = subst (λ o. (class_or_first o).0 < length g) (sym contributor.1) (class_within g c.contributor.text contributor.0 contributor.1);
@@ -135,18 +115,17 @@ module _ (g : List Class) (attributes : List Attribute) where
         declared = declared;
         collecting = there.collecting;
         collects = collects;
-        condition = condition_there g attributes aim.contributor c.condition built.condition first.0;
+        condition = condition_there g attributes aim.contributor c.condition first.0;
         receiver = record { type = receiver.type; typed = receiver.typed; fit = fits_above g receiver.type aim.receiver there.attribute.class below receiver.fit };
-        value = subst (λ k. IsOf (contribution_names g attributes aim.contributor) k (body_of scope c.value)) wants (operand_there g attributes aim.contributor (wanted_from attributes aim.collection.0) c.value built.value last.1);
+        value = subst (λ k. IsOf (contribution_names g attributes aim.contributor) k (body_of scope c.value)) wants (operand_there g attributes aim.contributor (wanted_from attributes aim.collection.0) c.value last.1);
       }
 
-  -- each contribution of built items is well typed
-  pub contributions_there : (items : List Item) → all_built items ≡ true → contributions_broken g attributes (contributions items) ≡ [] → flat_map (expressions_broken g attributes) (contributions items) ≡ []
+  -- each contribution is well typed
+  pub contributions_there : (items : List Item) → contributions_broken g attributes (contributions items) ≡ [] → flat_map (expressions_broken g attributes) (contributions items) ≡ []
       → All (IsContribution g attributes) (map (contribution_of g attributes) (contributions items))
-  contributions_there items built heads bodies = all_found (IsContribution g attributes) (map (contribution_of g attributes) (contributions items)) (λ i x is.
+  contributions_there items heads bodies = all_found (IsContribution g attributes) (map (contribution_of g attributes) (contributions items)) (λ i x is.
       let found = map_found (contribution_of g attributes) (contributions items) i x is in
       let c = found.0 in
-      let from = built_found contributed_in items i c built found.1 in
       subst (IsContribution g attributes) found.2
-      (contribution_there c (built_in from.item c from.built from.gives) (flat_map_found (contribution_broken g attributes) (contributions items) i c heads found.1)
+      (contribution_there c (flat_map_found (contribution_broken g attributes) (contributions items) i c heads found.1)
       (flat_map_found (expressions_broken g attributes) (contributions items) i c bodies found.1)))

@@ -1,5 +1,5 @@
 -- What equations break, and what they say.
-use Rattle.std.proofs.Common.{◌≡◌, ℕ, ◌+◌, ◌<◌, List, [], ◌∷◌, ◌++◌, length, map, get_or, take, Option, ap, sym, ◌∙◌, subst, arith}
+use Rattle.std.proofs.Common.{◌≡◌, Bool, ℕ, ◌+◌, ◌<◌, List, [], ◌∷◌, ◌++◌, length, map, get_or, take, Option, ap, sym, ◌∙◌, subst, arith}
 use Rattle.std.proofs.Math.ListN.{get_or-map}
 use Rattle.std.proofs.lemmas.List.{length-map, map-append, take_more}
 use Rattle.std.specs.List.{flat_map}
@@ -13,18 +13,15 @@ use Rattle.attr_equations.specs.declared.rules.KeptEquation.{KeptEquation}
 use Rattle.attr_scope.specs.declared.written.Given as kept_given
 use Rattle.attr_equations.specs.KeptEquations.{equation_in}
 use Rattle.attr_scope.specs.Seen.{seen_given}
-use Rattle.expr_typing.specs.declared.standing.Stands.TheVariants.{Anywhere}
-use Rattle.attr_bodies.specs.Bodies.{operand_broken}
-use Rattle.attr_types.specs.Phases.{equation_broken, equation_of, said_for, scope_of, wanted_by}
+use Rattle.attr_types.specs.Phases.{creates, equated_broken, equated_said, equation_broken, equation_of, said_for, scope_of, wanted_by}
 use Rattle.attr_rules.specs.Expression.{Expression}
 use Rattle.attr_rules.specs.Rules.{Attribute, AttributeSet}
 use Rattle.attr_heads.specs.Paths.{equation_names}
 use Rattle.attr_scope.specs.Scope.{Scope, Variable}
 use Rattle.attr_heads.specs.Targets.{target_given}
-use Rattle.expr_typing.specs.Typed.{body_of}
 use Rattle.attr_scope.specs.Written.{Given}
 
-module _ (g : List Class) (a : AttributeSet) (e : Given) (t : Target) {vs : List Variable} (same : a.superclasses ≡ superclasses_of g) (is : t ≡ target_given g a.attributes e) (named : vs ≡ equation_names g e.attribute e.path t.reach) where
+module _ (g : List Class) (a : AttributeSet) (e : Given) (t : Target) {vs : List Variable} (same : a.superclasses ≡ superclasses_of g) (is : t ≡ target_given g a.attributes e) (named : vs ≡ equation_names g a.attributes e.attribute e.path t.reach) where
   -- where its right side stands
   abbrev here : Scope
   here = record { grammar = g; known = a; this = t.class; variables = vs }
@@ -33,15 +30,16 @@ module _ (g : List Class) (a : AttributeSet) (e : Given) (t : Target) {vs : List
   scope_here = (λ i. record { grammar = g; known = record { superclasses = same i; attributes = a.attributes }; this = t.class; variables = named i })
 
   -- what it breaks, where a type is wanted of it, and what it says
-  pub body_noted : {k : Kind} {x y : Option Broken} → k ≡ wanted_by a.attributes t → Notes (operand_broken here Anywhere k e.body) x y → Notes (equation_broken g a.attributes e) x y
-  body_noted {k} {x} {y} wanted h =
-      subst (λ u. Notes (operand_broken (scope_of g a.attributes e u) Anywhere (wanted_by a.attributes u) e.body) x y) is
-      (subst (λ s. Notes (operand_broken s Anywhere (wanted_by a.attributes t) e.body) x y) scope_here (subst (λ w. Notes (operand_broken here Anywhere w e.body) x y) wanted h))
+  pub body_noted : {b : Bool} {k : Kind} {x y : Option Broken} → b ≡ creates a.attributes t → k ≡ wanted_by a.attributes t → Notes (equated_broken b here k e.body) x y → Notes (equation_broken g a.attributes e) x y
+  body_noted {b} {k} {x} {y} makes wanted h =
+      subst (λ u. Notes (equated_broken (creates a.attributes u) (scope_of g a.attributes e u) (wanted_by a.attributes u) e.body) x y) is
+      (subst (λ c. Notes (equated_broken c (scope_of g a.attributes e t) (wanted_by a.attributes t) e.body) x y) makes
+      (subst (λ s. Notes (equated_broken b s (wanted_by a.attributes t) e.body) x y) scope_here (subst (λ w. Notes (equated_broken b here w e.body) x y) wanted h)))
 
-  pub body_said : (b c : Expression) → b ≡ body_of here e.body → c ≡ said_for a.attributes t b → record { target = t; body = c } ≡ equation_of g a.attributes e
-  body_said b c says for =
-      (λ i. record { target = t; body = (for ∙ ap (said_for a.attributes t) (says ∙ ap (λ s. body_of s e.body) scope_here)) i })
-      ∙ ap (λ u. record { target = u; body = said_for a.attributes u (body_of (scope_of g a.attributes e u) e.body) }) is
+  pub body_said : (b c : Expression) {h : Bool} → h ≡ creates a.attributes t → b ≡ equated_said h here e.body → c ≡ said_for a.attributes t b → record { target = t; body = c } ≡ equation_of g a.attributes e
+  body_said b c {h} makes says for =
+      (λ i. record { target = t; body = (for ∙ ap (said_for a.attributes t) (says ∙ ap (λ s. equated_said h s e.body) scope_here ∙ ap (λ n. equated_said n (scope_of g a.attributes e t) e.body) makes)) i })
+      ∙ ap (λ u. record { target = u; body = said_for a.attributes u (equated_said (creates a.attributes u) (scope_of g a.attributes e u) e.body) }) is
 
 -- the equations of memory, and what each is for
 module _ (g : List Class) (attributes : List Attribute) (es : List kept_given.Given) (i : ℕ) where

@@ -1,7 +1,6 @@
 pub mod Accepted
 pub mod AskedTyped
 pub mod BothTyped
-pub mod BuiltFound
 pub mod Checked
 pub mod CompleteClean
 pub mod ContributionBodies
@@ -9,3 +8,4 @@ pub mod ContributionsClean
 pub mod EquationBodies
 pub mod EquationsClean
 pub mod MadeWell
+pub mod RootsFound

@@ -1,8 +1,12 @@
 -- The right sides of equations of circular attributes are well made.
-use Rattle.std.proofs.Common.{◌≡◌, ℕ, zero, suc, slice_get, Bool, true, false, not, ◌||◌, ◌&&◌, List, Option, Some, None, map, refl, ap, subst, ◌∙◌}
+use Rattle.std.proofs.Common.{◌≡◌, ℕ, zero, suc, slice_get, Bool, true, false, not, ◌||◌, ◌&&◌, List, [], ◌∷◌, Option, Some, None, map, refl, ap, subst, ◌∙◌}
 use Rattle.std.proofs.lemmas.Bool.{and_from, and_parts}
 use Rattle.rag_io.specs.declared.Place.{Place}
-use Rattle.ast_grammar.specs.Grammar.{Class}
+use Rattle.ast_grammar.specs.Grammar.{Class, Component, class_named}
+use Rattle.attr_bodies.specs.Created.{created_said, each_said, given_said, made_said}
+use Rattle.expr_typing.specs.declared.created.Takes.{Takes}
+use Rattle.expr_typing.specs.declared.created.Takes.TheVariants as takes
+use Rattle.expr_typing.specs.Created.{argument_before, child_before, components_known, new_said, taken_for}
 use Rattle.aspect_items.specs.declared.expression.Operator.{Operator}
 use Rattle.aspect_items.specs.declared.expression.Operator.TheVariants as signs
 use Rattle.aspect_items.specs.declared.expression.Quantifier.{Quantifier}
@@ -15,21 +19,21 @@ use Rattle.attr_rules.specs.declared.accessors.Access.TheVariants as access
 use Rattle.attr_rules.specs.declared.expression.Quantifier as kept_quantifier
 use Rattle.attr_rules.specs.declared.expression.Quantifier.TheVariants as kept_quantifiers
 use Rattle.attr_rules.specs.declared.types.ValueType.{ValueType}
-use Rattle.attr_rules.specs.Expression.{Expression, Arguments, no_more, argument, Truth, Int, Text, Null, Empty, This, Variable, Source, Child, Element, Count, Has, Token, Call, Cast, InstanceOf, Quantified, QuantifiedSet, Each, EachOfSet, Sets, Single, Contains, Size, Not, Negate, Binary, And, Or, OrBoth, If}
-use Rattle.attr_rules.specs.Rising.{has_call, have_call}
+use Rattle.attr_rules.specs.Expression.{Expression, Arguments, no_more, argument, NewArguments, new_end, new_token, new_child, Truth, Int, Text, Null, Empty, This, Variable, Source, Child, Element, Count, Has, Token, Call, Cast, InstanceOf, Quantified, QuantifiedSet, Each, EachOfSet, Sets, Single, Contains, Size, Not, Negate, Binary, And, Or, OrBoth, If, New}
+use Rattle.attr_rules.specs.Rising.{has_call, have_call, tokens_call}
 use Rattle.attr_rules.specs.Rules.{Contribution, ContributionMadeWell, ContributionsMadeWell, EquationsMadeWell, MadeWell, circular_at, expressions_in, no_calls as none_counts}
 use Rattle.attr_rules.specs.Types.{of_class}
-use Rattle.attr_rules.specs.WellMade.{IsWellMade, are_well_made, is_placed, is_well_made}
+use Rattle.attr_rules.specs.WellMade.{IsWellMade, are_well_made, is_new_well_made, is_placed, is_well_made}
 use Rattle.expr_typing.specs.declared.ranges.Elements.{Elements}
 use Rattle.expr_typing.specs.declared.ranges.Elements.TheVariants as elements
 use Rattle.attr_scope.specs.declared.scope.Member as member
 use Rattle.attr_scope.specs.declared.scope.Member.TheVariants as members
 use Rattle.expr_typing.specs.declared.set_forms.SetForm.{SetForm}
 use Rattle.expr_typing.specs.declared.set_forms.SetForm.TheVariants as forms
-use Rattle.attr_types.specs.BothSides.{all_with_both, either, said_where, with_both}
+use Rattle.attr_types.specs.BothSides.{all_with_both, either, new_with_both, said_where, with_both}
 use Rattle.attr_heads.specs.Contributions.{aim_of}
 use Rattle.attr_heads.specs.Heads.{attributes_of}
-use Rattle.attr_types.specs.Phases.{condition_said, contribution_of, equation_of, rules_of, scope_at, scope_of}
+use Rattle.attr_types.specs.Phases.{condition_said, contribution_of, creates, equated_said, equation_of, rules_of, scope_at, scope_of}
 use Rattle.expr_typing.specs.Places.{else_place}
 use Rattle.attr_scope.specs.Scope.{Scope, member_on, variable_named}
 use Rattle.expr_typing.specs.SetForms.{form_named, form_said, form_type, one_said, pair_said, set_known}
@@ -78,10 +82,16 @@ module _ (circular : ℕ → Bool) where
     calls_kept (Call n at e es) = (λ j. circular n || (calls_kept e j || all_calls_kept es j))
     calls_kept (Or a b) = either_calls (has_call circular a) (with_both circular a) (with_both circular b) ∙ (λ j. calls_kept a j || calls_kept b j)
     calls_kept (If c a at b) = (λ j. calls_kept c j || (calls_kept a j || calls_kept b j))
+    calls_kept (New c parts) = new_calls_kept parts
 
     all_calls_kept : (es : Arguments) → have_call circular (all_with_both circular es) ≡ have_call circular es
     all_calls_kept no_more = refl
     all_calls_kept (argument e es) = (λ j. calls_kept e j || all_calls_kept es j)
+
+    new_calls_kept : (parts : NewArguments) → tokens_call circular (new_with_both circular parts) ≡ tokens_call circular parts
+    new_calls_kept new_end = refl
+    new_calls_kept (new_token k e rest) = (λ j. calls_kept e j || new_calls_kept rest j)
+    new_calls_kept (new_child c parts rest) = (λ j. new_calls_kept parts j || new_calls_kept rest j)
 
   abbrev IsMade : Expression → Type 0
   IsMade e = is_well_made circular (with_both circular e) ≡ true
@@ -228,6 +238,107 @@ module _ (circular : ℕ → Bool) where
     all_made s read.no_more = refl
     all_made s (read.argument e es) = and_from (is_well_made circular (with_both circular (body_of s e))) (are_well_made circular (all_with_both circular (arguments_said s es))) (made s e) (all_made s es)
 
+  -- what a `new` makes
+  abbrev IsNewMade : NewArguments → Type 0
+  IsNewMade parts = is_new_well_made circular (new_with_both circular parts) ≡ true
+
+  child_made : (e : Expression) (rest : NewArguments) → IsMade e → IsNewMade rest → IsNewMade (child_before e rest)
+  child_made (New c parts) rest p q = and_from (is_new_well_made circular (new_with_both circular parts)) (is_new_well_made circular (new_with_both circular rest)) p q
+  child_made (Truth b) rest p q = q
+  child_made (Int z) rest p q = q
+  child_made (Text n) rest p q = q
+  child_made Null rest p q = q
+  child_made Empty rest p q = q
+  child_made This rest p q = q
+  child_made (Variable k) rest p q = q
+  child_made (Source k) rest p q = q
+  child_made (Child k e) rest p q = q
+  child_made (Element k e i) rest p q = q
+  child_made (Count k e) rest p q = q
+  child_made (Has k e) rest p q = q
+  child_made (Token t k e) rest p q = q
+  child_made (Call a at e es) rest p q = q
+  child_made (Cast c e) rest p q = q
+  child_made (InstanceOf c e) rest p q = q
+  child_made (Quantified o k e b) rest p q = q
+  child_made (QuantifiedSet o e b) rest p q = q
+  child_made (Each t k e b) rest p q = q
+  child_made (EachOfSet t e b) rest p q = q
+  child_made (Sets o t a b) rest p q = q
+  child_made (Single e) rest p q = q
+  child_made (Contains a b) rest p q = q
+  child_made (Size e) rest p q = q
+  child_made (Not e) rest p q = q
+  child_made (Negate e) rest p q = q
+  child_made (Binary o a b) rest p q = q
+  child_made (And a b) rest p q = q
+  child_made (Or a b) rest p q = q
+  child_made (OrBoth a b) rest p q = q
+  child_made (If c a at b) rest p q = q
+
+  before_made : (t : Takes) (e : Expression) (rest : NewArguments) → IsMade e → IsNewMade rest → IsNewMade (argument_before t e rest)
+  before_made (takes.Token k) e rest p q = and_from (is_well_made circular (with_both circular e)) (is_new_well_made circular (new_with_both circular rest)) p q
+  before_made (takes.Child c) e rest p q = child_made e rest p q
+  before_made takes.Nothing e rest p q = q
+
+  mutual
+    given_made : (s : Scope) (t : Takes) (e : Expr) → IsMade (given_said s t e)
+    given_made s (takes.Token k) e = made s e
+    given_made s (takes.Child c) (read.New p n es) = each_new_made s (components_known s.grammar (class_named s.grammar n.text)) es
+    given_made s (takes.Child c) (read.Truth p b) = refl
+    given_made s (takes.Child c) (read.Null p) = refl
+    given_made s (takes.Child c) (read.Empty p) = refl
+    given_made s (takes.Child c) (read.This p) = refl
+    given_made s (takes.Child c) (read.Int p n) = refl
+    given_made s (takes.Child c) (read.Text p n) = refl
+    given_made s (takes.Child c) (read.Source p n) = refl
+    given_made s (takes.Child c) (read.Variable n) = refl
+    given_made s (takes.Child c) (read.Call n es) = refl
+    given_made s (takes.Child c) (read.Member e n es) = refl
+    given_made s (takes.Child c) (read.Quantified q p n r e) = refl
+    given_made s (takes.Child c) (read.Group p e) = refl
+    given_made s (takes.Child c) (read.Cast p n e) = refl
+    given_made s (takes.Child c) (read.Not p e) = refl
+    given_made s (takes.Child c) (read.Negate p e) = refl
+    given_made s (takes.Child c) (read.Binary o a b) = refl
+    given_made s (takes.Child c) (read.InstanceOf e n) = refl
+    given_made s (takes.Child c) (read.If d a b) = refl
+    given_made s takes.Nothing e = refl
+
+    each_new_made : (s : Scope) (xs : List Component) (es : read.Arguments) → IsNewMade (each_said s xs es)
+    each_new_made s xs read.no_more = refl
+    each_new_made s [] (read.argument e es) = refl
+    each_new_made s (x ∷ xs) (read.argument e es) = before_made (taken_for x) (given_said s (taken_for x) e) (each_said s xs es) (given_made s (taken_for x) e) (each_new_made s xs es)
+
+  new_made : (o : Option ℕ) (parts : NewArguments) → IsNewMade parts → IsMade (new_said o parts)
+  new_made None parts p = refl
+  new_made (Some c) parts p = p
+
+  created_made : (s : Scope) (e : Expr) → IsMade (created_said s e)
+  created_made s (read.New p n es) = new_made (class_named s.grammar n.text) (made_said s (class_named s.grammar n.text) es) (each_new_made s (components_known s.grammar (class_named s.grammar n.text)) es)
+  created_made s (read.Truth p b) = refl
+  created_made s (read.Null p) = refl
+  created_made s (read.Empty p) = refl
+  created_made s (read.This p) = refl
+  created_made s (read.Int p n) = refl
+  created_made s (read.Text p n) = refl
+  created_made s (read.Source p n) = refl
+  created_made s (read.Variable n) = made s (read.Variable n)
+  created_made s (read.Call n es) = made s (read.Call n es)
+  created_made s (read.Member e n es) = made s (read.Member e n es)
+  created_made s (read.Quantified q p n r e) = made s (read.Quantified q p n r e)
+  created_made s (read.Group p e) = made s (read.Group p e)
+  created_made s (read.Cast p n e) = made s (read.Cast p n e)
+  created_made s (read.Not p e) = made s (read.Not p e)
+  created_made s (read.Negate p e) = made s (read.Negate p e)
+  created_made s (read.Binary o a b) = made s (read.Binary o a b)
+  created_made s (read.InstanceOf e n) = made s (read.InstanceOf e n)
+  created_made s (read.If c a b) = made s (read.If c a b)
+
+  equated_made : (h : Bool) (s : Scope) (e : Expr) → IsMade (equated_said h s e)
+  equated_made true s e = created_made s e
+  equated_made false s e = made s e
+
 -- no call counts
 abbrev none : ℕ → Bool
 none a = false
@@ -265,10 +376,16 @@ mutual
   no_call (OrBoth a b) = (λ j. no_call a j || no_call b j)
   no_call (Call n at e es) = (λ j. no_call e j || no_calls es j)
   no_call (If c a at b) = (λ j. no_call c j || (no_call a j || no_call b j))
+  no_call (New c parts) = no_new_calls parts
 
   no_calls : (es : Arguments) → have_call none es ≡ false
   no_calls no_more = refl
   no_calls (argument e es) = (λ j. no_call e j || no_calls es j)
+
+  no_new_calls : (parts : NewArguments) → tokens_call none parts ≡ false
+  no_new_calls new_end = refl
+  no_new_calls (new_token k e rest) = (λ j. no_call e j || no_new_calls rest j)
+  no_new_calls (new_child c parts rest) = (λ j. no_new_calls parts j || no_new_calls rest j)
 
 mutual
   -- where no call counts, an expression stays what it is
@@ -304,14 +421,20 @@ mutual
   unchanged (OrBoth a b) = (λ j. OrBoth (unchanged a j) (unchanged b j))
   unchanged (Call n at e es) = (λ j. Call n at (unchanged e j) (all_unchanged es j))
   unchanged (If c a at b) = (λ j. If (unchanged c j) (unchanged a j) at (unchanged b j))
+  unchanged (New c parts) = (λ j. New c (new_unchanged parts j))
 
   all_unchanged : (es : Arguments) → all_with_both none es ≡ es
   all_unchanged no_more = refl
   all_unchanged (argument e es) = (λ j. argument (unchanged e j) (all_unchanged es j))
 
-said_made : (circular : ℕ → Bool) (s : Scope) (e : Expr) (b : Bool) → IsWellMade (λ n. b && circular n) (said_where b circular (body_of s e))
-said_made circular s e true = made circular s e
-said_made circular s e false = subst (IsWellMade none) (unchanged (body_of s e)) (made none s e)
+  new_unchanged : (parts : NewArguments) → new_with_both none parts ≡ parts
+  new_unchanged new_end = refl
+  new_unchanged (new_token k e rest) = (λ j. new_token k (unchanged e j) (new_unchanged rest j))
+  new_unchanged (new_child c parts rest) = (λ j. new_child c (new_unchanged parts j) (new_unchanged rest j))
+
+said_made : (circular : ℕ → Bool) (h : Bool) (s : Scope) (e : Expr) (b : Bool) → IsWellMade (λ n. b && circular n) (said_where b circular (equated_said h s e))
+said_made circular h s e true = equated_made circular h s e
+said_made circular h s e false = subst (IsWellMade none) (unchanged (equated_said h s e)) (equated_made none h s e)
 
 pub equations_made : (g : List Class) (items : List Item) → EquationsMadeWell (rules_of g items)
 unfolding rules_of
@@ -321,12 +444,12 @@ equations_made g items =
     let found = map_found (equation_of g attributes) (givens items) i x is in
     let e = found.0 in
     let t = target_given g attributes e in
-    subst (MadeWell attributes) found.2 (said_made (circular_at attributes) (scope_of g attributes e t) e.body (circular_at attributes t.attribute.0)))
+    subst (MadeWell attributes) found.2 (said_made (circular_at attributes) (creates attributes t) (scope_of g attributes e t) e.body (circular_at attributes t.attribute.0)))
 
 -- what a condition says
 guard_made : (s : Scope) (o : Option Expr) → IsWellMade none_counts (condition_said s o)
 guard_made s None = refl
-guard_made s (Some e) = said_made none_counts s e false
+guard_made s (Some e) = said_made none_counts false s e false
 
 -- so do the expressions of a contribution
 one_of_three : (c : Contribution) → IsWellMade none_counts c.condition → IsWellMade none_counts c.receiver → IsWellMade none_counts c.value → (i : ℕ) (e : Expression) → slice_get (expressions_in c) i ≡ Some e → IsWellMade none_counts e
@@ -347,4 +470,4 @@ contributions_made g items =
     let c = found.0 in
     let scope = scope_at g attributes (aim_of g attributes c).contributor in
     subst ContributionMadeWell found.2
-    (three_made (contribution_of g attributes c) (guard_made scope c.condition) (said_made none_counts scope c.receiver false) (said_made none_counts scope c.value false)))
+    (three_made (contribution_of g attributes c) (guard_made scope c.condition) (said_made none_counts false scope c.receiver false) (said_made none_counts false scope c.value false)))

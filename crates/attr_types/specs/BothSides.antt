@@ -1,7 +1,7 @@
 -- What `||` says in the equations of circular attributes.
 use Rattle.std.specs.Prelude.{ℕ, List, Bool, true, false, if◌then◌else◌}
 use Rattle.attr_rules.specs.declared.expression.TExpr.{TExpr}
-use Rattle.attr_rules.specs.Expression.{Expression, Arguments, no_more, argument, Truth, Int, Text, Null, Empty, This, Variable, Source, Child, Element, Count, Has, Token, Call, Cast, InstanceOf, Quantified, QuantifiedSet, Each, EachOfSet, Sets, Single, Contains, Size, Not, Negate, Binary, And, Or, OrBoth, If, expression_of}
+use Rattle.attr_rules.specs.Expression.{Expression, Arguments, no_more, argument, Truth, Int, Text, Null, Empty, This, Variable, Source, Child, Element, Count, Has, Token, Call, Cast, InstanceOf, Quantified, QuantifiedSet, Each, EachOfSet, Sets, Single, Contains, Size, Not, Negate, Binary, And, Or, OrBoth, If, New, NewArguments, new_end, new_token, new_child, expression_of}
 use Rattle.attr_rules.specs.Rising.{has_call}
 use Rattle.attr_rules.specs.Rules.{Attribute, AttributeSet, circular_at}
 
@@ -44,10 +44,16 @@ abbrev mutual
   with_both circular (Or a b) = either (has_call circular a) (with_both circular a) (with_both circular b)
   with_both circular (OrBoth a b) = OrBoth (with_both circular a) (with_both circular b)
   with_both circular (If c a at b) = If (with_both circular c) (with_both circular a) at (with_both circular b)
+  with_both circular (New c parts) = New c (new_with_both circular parts)
 
   pub all_with_both : (ℕ → Bool) → Arguments → Arguments
   all_with_both circular no_more = no_more
   all_with_both circular (argument e es) = argument (with_both circular e) (all_with_both circular es)
+
+  pub new_with_both : (ℕ → Bool) → NewArguments → NewArguments
+  new_with_both circular new_end = new_end
+  new_with_both circular (new_token k e rest) = new_token k (with_both circular e) (new_with_both circular rest)
+  new_with_both circular (new_child c parts rest) = new_child c (new_with_both circular parts) (new_with_both circular rest)
 
 -- an expression in the equation of an attribute that is circular or not
 abbrev pub said_where : Bool → (ℕ → Bool) → Expression → Expression

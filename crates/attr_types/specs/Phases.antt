@@ -1,5 +1,5 @@
 -- What aspects break over a grammar, phase by phase, and the rules that they make where they break nothing.
-use Rattle.std.specs.Prelude.{ℕ, List, [], ◌∷◌, ◌++◌, true, Option, Some, None, map}
+use Rattle.std.specs.Prelude.{ℕ, List, [], ◌∷◌, ◌++◌, Bool, true, if◌then◌else◌, Option, Some, None, map}
 use Rattle.std.specs.List.{flat_map}
 use Rattle.broken_rules.specs.declared.broken.Broken.{Broken}
 use Rattle.ast_grammar.specs.declared.grammar.ClassId.{ClassId}
@@ -12,10 +12,12 @@ use Rattle.attr_rules.specs.declared.kinds.Kind.TheVariants as kinds
 use Rattle.attr_rules.specs.Rules.{Attribute, Contribution, Equation, RuleSet, collecting_at, contributed, declared_at}
 use Rattle.attr_rules.specs.Expression.{Expression, Truth}
 use Rattle.attr_bodies.specs.Bodies.{operand_broken}
+use Rattle.attr_bodies.specs.Created.{created_broken, created_said}
 use Rattle.attr_types.specs.BothSides.{right_side}
 use Rattle.expr_typing.specs.declared.standing.Stands.TheVariants.{Anywhere}
-use Rattle.attr_coverage.specs.Completeness.{complete_broken, places_of}
+use Rattle.attr_coverage.specs.Completeness.{complete_broken, places_of, roots_of}
 use Rattle.attr_heads.specs.Contributions.{aim_of, uses_broken}
+use Rattle.attr_heads.specs.Created.{declares_higher_order}
 use Rattle.attr_heads.specs.Heads.{attributes_of, heads_broken}
 use Rattle.attr_heads.specs.Paths.{equation_names}
 use Rattle.attr_scope.specs.Scope.{Scope}
@@ -27,7 +29,7 @@ use Rattle.aspect_items.specs.Items.{Contribution as WrittenContribution, Item}
 
 -- where the right side of an equation stands, which is for this
 abbrev pub scope_of : List Class → List Attribute → Given → Target → Scope
-scope_of g attributes e t = record { grammar = g; known = record { superclasses = superclasses_of g; attributes = attributes }; this = t.class; variables = equation_names g e.attribute e.path t.reach }
+scope_of g attributes e t = record { grammar = g; known = record { superclasses = superclasses_of g; attributes = attributes }; this = t.class; variables = equation_names g attributes e.attribute e.path t.reach }
 
 abbrev pub kind_or_truth : Option Attr → Kind
 kind_or_truth None = kinds.Truth
@@ -37,8 +39,17 @@ kind_or_truth (Some d) = d.kind
 abbrev pub wanted_by : List Attribute → Target → Kind
 wanted_by attributes t = kind_or_truth (declared_at attributes t.attribute.0)
 
+-- the attribute of this target is higher-order
+abbrev pub creates : List Attribute → Target → Bool
+creates attributes t = declares_higher_order (declared_at attributes t.attribute.0)
+
+-- what a right side breaks that has to fit a type: that of a higher-order attribute makes a tree
+abbrev pub equated_broken : Bool → Scope → Kind → Expr → List Broken
+equated_broken higher_order s wanted e = if higher_order then created_broken s wanted e else operand_broken s Anywhere wanted e
+
 abbrev pub equation_broken : List Class → List Attribute → Given → List Broken
-equation_broken g attributes e = operand_broken (scope_of g attributes e (target_given g attributes e)) Anywhere (wanted_by attributes (target_given g attributes e)) e.body
+equation_broken g attributes e =
+    equated_broken (creates attributes (target_given g attributes e)) (scope_of g attributes e (target_given g attributes e)) (wanted_by attributes (target_given g attributes e)) e.body
 
 -- where the expressions of a contribution stand, which is read at nodes of this class: nothing has a name there
 abbrev pub scope_at : List Class → List Attribute → ClassId → Scope
@@ -79,7 +90,7 @@ abbrev pub phases_over : List Class → List Head → List Given → List Writte
 phases_over g heads list offered =
     heads_broken g heads
     ∷ uses_broken g (attributes_of g heads) list offered
-    ∷ complete_broken g (attributes_of g heads) (targets_of g (attributes_of g heads) list) (places_of heads)
+    ∷ complete_broken g (attributes_of g heads) (targets_of g (attributes_of g heads) list) (roots_of g list) (places_of heads)
     ∷ bodies_broken g (attributes_of g heads) list offered
     ∷ []
 
@@ -91,8 +102,15 @@ phases_of g items = phases_over g (declarations items) (givens items) (contribut
 abbrev pub said_for : List Attribute → Target → Expression → Expression
 said_for attributes t e = right_side attributes t.attribute.0 e
 
+-- what a right side says
+abbrev pub equated_said : Bool → Scope → Expr → Expression
+equated_said higher_order s e = if higher_order then created_said s e else body_of s e
+
 abbrev pub equation_of : List Class → List Attribute → Given → Equation
-equation_of g attributes e = record { target = target_given g attributes e; body = said_for attributes (target_given g attributes e) (body_of (scope_of g attributes e (target_given g attributes e)) e.body) }
+equation_of g attributes e = record {
+  target = target_given g attributes e;
+  body = said_for attributes (target_given g attributes e) (equated_said (creates attributes (target_given g attributes e)) (scope_of g attributes e (target_given g attributes e)) e.body);
+}
 
 -- what a condition says; one that isn't written is `true`
 abbrev pub condition_said : Scope → Option Expr → Expression

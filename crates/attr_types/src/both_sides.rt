@@ -1,11 +1,11 @@
 // What `||` says in the equations of circular attributes.
 ghost use Rattle.std.specs.Prelude.{◌≡◌, ◌||◌};
-ghost use Rattle.attr_rules.specs.Expression.{Expression, Or, arguments_of, expression_of};
-ghost use Rattle.attr_rules.specs.Rising.{have_call};
+ghost use Rattle.attr_rules.specs.Expression.{Expression, Or, arguments_of, expression_of, new_arguments_of};
+ghost use Rattle.attr_rules.specs.Rising.{have_call, tokens_call};
 ghost use Rattle.attr_rules.specs.Rules.{circular_at};
-ghost use Rattle.attr_types.specs.BothSides.{all_with_both, either, has_circular, right_side, with_both};
+ghost use Rattle.attr_types.specs.BothSides.{all_with_both, either, has_circular, new_with_both, right_side, with_both};
 
-use attr_rules::{AttrId, Attributes, TArgs, TExpr};
+use attr_rules::{AttrId, Attributes, NewArgs, TArgs, TExpr};
 use std::mem;
 
 // `||` of which both sides are always evaluated, where the left one calls a circular attribute.
@@ -70,6 +70,7 @@ fn set_sides(attributes: &Attributes, expr: &mut TExpr) -> bool
             set_either(calls, expr);
             calls || also
         }
+        TExpr::New(_, arguments) => set_new(attributes, arguments),
         _ => false,
     }
 }
@@ -97,6 +98,27 @@ fn set_arguments(attributes: &Attributes, arguments: &mut TArgs) -> bool
         TArgs::More(first, rest) => {
             let calls = set_sides(attributes, first);
             let also = set_arguments(attributes, rest);
+            calls || also
+        }
+    }
+}
+
+// The same of the tokens of a `new`.
+#[cycle(sides)]
+fn set_new(attributes: &Attributes, arguments: &mut NewArgs) -> bool
+    ensures calls { result ≡ tokens_call (circular_at attributes.now.attributes) (new_arguments_of arguments.old) }
+    ensures says { new_arguments_of arguments.new ≡ new_with_both (circular_at attributes.now.attributes) (new_arguments_of arguments.old) }
+{
+    match arguments {
+        NewArgs::End => false,
+        NewArgs::Token(_, value, rest) => {
+            let calls = set_sides(attributes, value);
+            let also = set_new(attributes, rest);
+            calls || also
+        }
+        NewArgs::Child(_, inner, rest) => {
+            let calls = set_new(attributes, inner);
+            let also = set_new(attributes, rest);
             calls || also
         }
     }

@@ -5,20 +5,22 @@ ghost use Rattle.broken_rules.specs.Answers.{Ends};
 ghost use Rattle.broken_rules.specs.Notes.{Notes};
 ghost use Rattle.attr_equations.specs.KeptContributions.{AreNumbered, contribution_in};
 ghost use Rattle.attr_equations.specs.KeptEquations.{equation_in};
-ghost use Rattle.expr_typing.specs.declared.standing.Stands.TheVariants.{Anywhere};
-ghost use Rattle.attr_types.specs.Phases.{equation_broken, equation_of, wanted_by};
+ghost use Rattle.attr_types.specs.Phases.{creates, equated_broken, equated_said, equation_broken, equation_of, wanted_by};
 ghost use Rattle.attr_types.specs.Written as written;
-ghost use Rattle.attr_scope.specs.Seen.{seen_given};
+ghost use Rattle.aspect_items.specs.Expressions.{seen_expr};
+ghost use Rattle.attr_rules.specs.Expression.{expression_of};
+ghost use Rattle.attr_scope.specs.ScopeKept.{IsScope};
+ghost use Rattle.attr_scope.specs.Seen.{seen_given, seen_scope};
 ghost use Rattle.attr_heads.specs.Targets.{target_given, targets_of};
 
 use crate::both_sides::said_for;
 use crate::contributions::type_contributions;
-use aspect_items::Contribution;
+use aspect_items::{Contribution, Expr};
 use ast_grammar::Grammar;
-use attr_bodies::type_operand;
+use attr_bodies::{type_created, type_operand};
 use attr_equations::{KeptContribution, KeptEquation};
 use attr_heads::equation_names;
-use attr_rules::{Attributes, Kind, Target};
+use attr_rules::{Attributes, Kind, TExpr, Target};
 use attr_scope::{Given, Scope};
 use broken_rules::{Earliest, ReadFault};
 use expr_typing::Stands;
@@ -34,6 +36,33 @@ fn wanted_by(attributes: &Attributes, target: Target) -> Kind
     } else {
         Kind::Truth
     }
+}
+
+// The attribute of the target is higher-order.
+fn creates(attributes: &Attributes, target: Target) -> bool
+    ensures { result ≡ creates attributes.now.attributes target }
+{
+    u32::from(target.attribute.0) < attributes.len()
+        && attributes.attr(target.attribute).sort.is_higher_order()
+}
+
+// The right side of an equation, which has to fit a type. That of a higher-order attribute makes a tree.
+fn type_body(
+    alloc: Global,
+    scope: &Scope<'_>,
+    body: &Expr,
+    higher_order: bool,
+    wanted: Kind,
+    faults: &mut Earliest,
+) -> Result<TExpr, Memory>
+    requires { IsScope (seen_scope scope.now) }
+    ensures noted { OnOk result (Notes (equated_broken higher_order (seen_scope scope.now) wanted (seen_expr body.now)) faults.old faults.new) }
+    ensures says { IfOk result (λ e. expression_of e ≡ equated_said higher_order (seen_scope scope.now) (seen_expr body.now)) }
+{
+    if higher_order {
+        return type_created(alloc, scope, body, wanted, faults);
+    }
+    type_operand(alloc, scope, body, Stands::Anywhere, wanted, faults)
 }
 
 // What an equation breaks, which is for this, and what it says.
@@ -53,6 +82,7 @@ fn check_body(
     let variables = equation_names(
         alloc,
         grammar,
+        attributes,
         equation.attribute,
         equation.path,
         target.reach,
@@ -64,14 +94,8 @@ fn check_body(
         variables: &variables,
     };
     let wanted = wanted_by(attributes, target);
-    let body = type_operand(
-        alloc,
-        &scope,
-        equation.body,
-        Stands::Anywhere,
-        wanted,
-        faults,
-    )?;
+    let creates = creates(attributes, target);
+    let body = type_body(alloc, &scope, equation.body, creates, wanted, faults)?;
     let body = said_for(attributes, target.attribute, body);
     Ok(KeptEquation { target, body })
 }

@@ -11,10 +11,10 @@ use Rattle.superclasses.specs.Superclasses.{is_sub as is_below, upwards}
 use Rattle.ast_grammar.specs.declared.grammar.ClassId.{ClassId}
 use Rattle.ast_grammar.specs.Grammar.{IsClass, is_sub}
 use Rattle.attr_rules.specs.declared.dispatch.Reach.{Reach}
-use Rattle.attr_rules.specs.declared.dispatch.Reach.TheVariants.{Own, Children}
+use Rattle.attr_rules.specs.declared.dispatch.Reach.TheVariants.{Own, Component, Created, Children}
 use Rattle.attr_rules.specs.declared.dispatch.Target.{Target}
 use Rattle.attr_rules.specs.declared.kinds.Attr.{Attr}
-use Rattle.attr_rules.specs.Rules.{Equation, RuleSet, Uncovered, at_component, attribute_at, below, covering_equation, covering_number, equation_at, first_of_line, first_of_name, is_inherited, is_target, nearest_equation, own_covering, own_equation, root, same_reach, target_in}
+use Rattle.attr_rules.specs.Rules.{Equation, RuleSet, Uncovered, at_component, attribute_at, below, by_component, covering_equation, covering_number, equation_at, first_of_line, first_of_name, is_inherited, is_target, nearest_equation, own_covering, own_equation, root, same_reach, target_in}
 use Rattle.tree_arena.specs.Nodes.{Node as TreeNode, component_in, parent_in}
 use Rattle.tree_arena.specs.Terms.{HasFew, IsTree}
 use Rattle.tree_arena.proofs.Seen.{hung_at}
@@ -83,8 +83,25 @@ target_found equations b r a k e =
     let same = both_equal found.0.target.class.0 b found.0.target.attribute.0 a parts.1 in
     (found.0, found.1, same.0, same.1, parts.0)
 
+-- the nodes are roots of trees that an attribute makes
+abbrev pub are_created : Reach → Bool
+are_created Own = false
+are_created (Component k) = false
+are_created (Created b) = true
+are_created Children = false
+
+-- equations for the same nodes are for such roots alike
+pub created_alike : (r w : Reach) → same_reach r w ≡ true → are_created w ≡ false → are_created r ≡ false
+created_alike Own w e f = refl
+created_alike (Component k) w e f = refl
+created_alike (Created b) Own e f = cc
+created_alike (Created b) (Component k) e f = cc
+created_alike (Created b) (Created c) e f = cc
+created_alike (Created b) Children e f = cc
+created_alike Children w e f = refl
+
 -- An equation that covers, for an inherited attribute, what hangs at a component of nodes of a class: it is of the class or of one above it,
--- and for the first attribute of the name.
+-- for the first attribute of the name, and has no path over a higher-order attribute.
 pub record Covers (r : RuleSet) (a : ℕ) (c : ClassId) (e : ℕ) : Type 0 where
   pub equation : Equation
   pub is : slice_get r.equations e ≡ Some equation
@@ -92,13 +109,14 @@ pub record Covers (r : RuleSet) (a : ℕ) (c : ClassId) (e : ℕ) : Type 0 where
   pub named : first_of_name r.attributes a ≡ Some first
   pub attribute : equation.target.attribute.0 ≡ first
   pub above : is_below r.superclasses c.0 equation.target.class.0 ≡ true
+  pub hung : are_created equation.target.reach ≡ false
 
-pub covers : (r : RuleSet) (a : ℕ) (c : ClassId) (k e : ℕ) → covering_number r c k a ≡ Some e → Covers r a c e
+pub covers : (r : RuleSet) (a : ℕ) (c : ClassId) (k e : ℕ) → covering_number r c (by_component k) a ≡ Some e → Covers r a c e
 covers r a c k e h =
     let targets = map target_in r.equations in
-    let name = through (covering_equation r.superclasses targets c.0 k) (first_of_name r.attributes a) e h in
-    let near = on_line (own_covering targets k name.0) (upwards r.superclasses c.0) e name.2 in
-    let found : (w : Reach) → equation_at targets near.0 w name.0 ≡ Some e → Covers r a c e = λ w is.
+    let name = through (covering_equation r.superclasses targets c.0 (by_component k)) (first_of_name r.attributes a) e h in
+    let near = on_line (own_covering targets (by_component k) name.0) (upwards r.superclasses c.0) e name.2 in
+    let found : (w : Reach) → are_created w ≡ false → equation_at targets near.0 w name.0 ≡ Some e → Covers r a c e = λ w hung is.
     let q = target_found r.equations near.0 w name.0 e is in
     record {
       equation = q.0;
@@ -107,8 +125,9 @@ covers r a c k e h =
       named = name.1;
       attribute = q.3;
       above = subst (λ (x : ℕ). is_below r.superclasses c.0 x ≡ true) (sym q.2) near.1;
+      hung = created_alike q.0.target.reach w q.4 hung;
     } in
-    or_either (Covers r a c e) (equation_at targets near.0 (at_component k) name.0) (equation_at targets near.0 Children name.0) e (found (at_component k)) (found Children) near.2
+    or_either (Covers r a c e) (equation_at targets near.0 (at_component k) name.0) (equation_at targets near.0 Children name.0) e (found (at_component k) refl) (found Children refl) near.2
 
 -- each parent in a tree has a smaller number
 abbrev pub Falls : List TreeNode → Type 0
@@ -164,13 +183,13 @@ module _ (p : Program) (a : ℕ) (xs : List Argument) where
       ap (first_site (covering_site p a xs)) (upwards_end p.tree falls n e) ∙ ap (λ (o : Option ℕ). option_or (option_and_then (λ u. option_map (site_above p a xs n u) (covering_for p a n u)) o) None) e
 
   -- where nothing covers a node at its parent, no equation of the parent's class covers what hangs there
-  pub covering_none : (n u k : ℕ) (c : ClassId) → parent_in p.tree n ≡ Some u → class_of p u ≡ Some c → component_in p.tree n ≡ Some k → covering_site p a xs n ≡ None → covering_number p.rules c k a ≡ None
+  pub covering_none : (n u k : ℕ) (c : ClassId) → parent_in p.tree n ≡ Some u → class_of p u ≡ Some c → component_in p.tree n ≡ Some k → covering_site p a xs n ≡ None → covering_number p.rules c (by_component k) a ≡ None
   covering_none n u k c up of at none =
       let here : option_map (site_above p a xs n u) (covering_for p a n u) ≡ None = sym (ap (option_and_then (λ v. option_map (site_above p a xs n v) (covering_for p a n v))) up) ∙ none in
-      let number = covering_number p.rules c k a in
+      let number = covering_number p.rules c (by_component k) a in
       let equation : option_and_then (slice_get p.rules.equations) number ≡ None =
-      sym (ap (λ (o : Option ℕ). option_and_then (slice_get p.rules.equations) (option_and_then (λ j. covering_number p.rules c j a) o)) at)
-      ∙ sym (ap (λ (o : Option ClassId). option_and_then (slice_get p.rules.equations) (option_and_then (λ d. option_and_then (λ j. covering_number p.rules d j a) (component_in p.tree n)) o)) of)
+      sym (ap (λ (o : Option ℕ). option_and_then (slice_get p.rules.equations) (option_and_then (λ j. covering_number p.rules c (by_component j) a) o)) at)
+      ∙ sym (ap (λ (o : Option ClassId). option_and_then (slice_get p.rules.equations) (option_and_then (λ d. option_and_then (λ j. covering_number p.rules d (by_component j) a) (component_in p.tree n)) o)) of)
       ∙ map_nothing (site_above p a xs n u) (covering_for p a n u) here
       in
       elim number as (λ o. number ≡ o → option_and_then (slice_get p.rules.equations) o ≡ None → o ≡ None) [
@@ -227,6 +246,14 @@ pub record IsAbove (p : Program) (a : ℕ) (xs : List Argument) (s : Site) : Typ
   pub found : Covers p.rules a class number
   pub is : site_above p a xs child node found.equation ≡ s
 
+-- the equation that covers is the one of its number
+covers_same : (p : Program) (a : ℕ) (xs : List Argument) (n u : ℕ) (c : ClassId) (e : ℕ) (q : Equation) (s : Site) (f : Covers p.rules a c e)
+    → slice_get p.rules.equations e ≡ Some q → site_above p a xs n u q ≡ s → site_above p a xs n u f.equation ≡ s
+covers_same p a xs n u c e q s f is read =
+    let one = f.is in
+    let same : f.equation ≡ q = cc in
+    ap (site_above p a xs n u) same ∙ read
+
 pub inherited_above : (p : Program) (a : ℕ) (xs : List Argument) (n : ℕ) (s : Site) → inherited_site p a xs n ≡ Some s → IsAbove p a xs s
 inherited_above p a xs n s e =
     let at = first_found (covering_site p a xs) (upwards_from n p.tree n) s e in
@@ -234,11 +261,10 @@ inherited_above p a xs n s e =
     let up = through (λ u. option_map (site_above p a xs m u) (covering_for p a m u)) (parent_in p.tree m) s at.1 in
     let u = up.0 in
     let q = some_of (site_above p a xs m u) (covering_for p a m u) s up.2 in
-    let number = through (slice_get p.rules.equations) (option_and_then (λ c. option_and_then (λ k. covering_number p.rules c k a) (component_in p.tree m)) (class_of p u)) q.0 q.1 in
-    let class = through (λ c. option_and_then (λ k. covering_number p.rules c k a) (component_in p.tree m)) (class_of p u) number.0 number.1 in
-    let component = through (λ k. covering_number p.rules class.0 k a) (component_in p.tree m) number.0 class.2 in
+    let number = through (slice_get p.rules.equations) (option_and_then (λ c. option_and_then (λ k. covering_number p.rules c (by_component k) a) (component_in p.tree m)) (class_of p u)) q.0 q.1 in
+    let class = through (λ c. option_and_then (λ k. covering_number p.rules c (by_component k) a) (component_in p.tree m)) (class_of p u) number.0 number.1 in
+    let component = through (λ k. covering_number p.rules class.0 (by_component k) a) (component_in p.tree m) number.0 class.2 in
     let c = covers p.rules a class.0 component.0 number.0 component.2 in
-    let same : c.equation ≡ q.0 = (let one = c.is in let other = number.2 in cc) in
     record {
       child = m;
       node = u;
@@ -246,5 +272,5 @@ inherited_above p a xs n s e =
       of = class.1;
       number = number.0;
       found = c;
-      is = ap (site_above p a xs m u) same ∙ q.2;
+      is = covers_same p a xs m u class.0 number.0 q.0 s c number.2 q.2;
     }

@@ -10,7 +10,7 @@ use Rattle.superclasses.proofs.Lines.{sub_itself}
 use Rattle.ast_grammar.specs.declared.grammar.ClassId.{ClassId}
 use Rattle.ast_grammar.specs.Grammar.{is_sub, superclasses_of}
 use Rattle.attr_rules.specs.declared.dispatch.Reach.{Reach}
-use Rattle.attr_rules.specs.declared.dispatch.Reach.TheVariants.{Own, Component, Children}
+use Rattle.attr_rules.specs.declared.dispatch.Reach.TheVariants.{Own, Component, Created, Children}
 use Rattle.attr_rules.specs.declared.kinds.Attr.{Attr}
 use Rattle.attr_rules.specs.declared.kinds.Kind.{Kind}
 use Rattle.attr_rules.specs.declared.kinds.Kind.TheVariants as kinds
@@ -30,9 +30,10 @@ use Rattle.equation_law.specs.Meaning.{Place, meaning_of, named}
 use Rattle.equation_law.specs.Names.{Argument, At, Attribute, Instance, Null, Query, Source}
 use Rattle.equation_law.specs.Program.{Program, class_of, declared_of, names_in}
 use Rattle.equation_law.specs.Values.{Value, argument_value, as_kind}
-use Rattle.equation_law.proofs.Above.{each_of, inherited_above, inherited_there, map_nothing, nearest_above, target_found, there_is}
+use Rattle.equation_law.proofs.Above.{are_created, each_of, inherited_above, inherited_there, map_nothing, nearest_above, target_found, there_is}
 use Rattle.equation_law.proofs.Collected.{collection_keeps, uncollected}
 use Rattle.equation_law.proofs.Lists.{some_of}
+use Rattle.equation_law.proofs.Plain.{plain_body}
 use Rattle.equation_law.proofs.Pooled.{empty_there, text_there}
 use Rattle.equation_law.proofs.Preordered.{node_concrete}
 use Rattle.equation_law.proofs.Sites.{demands_of_site}
@@ -43,6 +44,7 @@ use Rattle.equation_law.proofs.TypedValues.{IsOf, fitting, kept, of_int, of_valu
 reach_own : (r : Reach) → same_reach r Own ≡ true → r ≡ Own
 reach_own Own e = refl
 reach_own (Component k) e = cc
+reach_own (Created b) e = cc
 reach_own Children e = cc
 
 -- an attribute that is neither inherited nor a collection has equations of its own
@@ -136,11 +138,12 @@ module _ (p : Program) (good : IsProgram p) where
 
   module _ (I : ℤ → Type 0) (T : List ℕ → Type 0) (M : Instance → Value → Type 0) (bounds : AreBounds p I T M) where
     -- what a path binds is of its types
-    bound_typed : (r : Reach) (i k : ℕ) (t : Kind) → slice_get (bound_kinds r) k ≡ Some t → IsOf p I T (types.Of t) (named (bound_values r i) k)
-    bound_typed Own i k t e = absurd (cc)
-    bound_typed (Component c) i zero t e = let same : kinds.Int ≡ t = cc in subst (λ (x : Kind). IsOf p I T (types.Of x) (named (bound_values (Component c) i) 0)) same (of_int _ (bounds.wrapped _))
-    bound_typed (Component c) i (suc k) t e = absurd (cc)
-    bound_typed Children i k t e = absurd (cc)
+    bound_typed : (r : Reach) → are_created r ≡ false → (i k : ℕ) (t : Kind) → slice_get (bound_kinds p.rules.attributes r) k ≡ Some t → IsOf p I T (types.Of t) (named (bound_values r i) k)
+    bound_typed Own h i k t e = absurd (cc)
+    bound_typed (Component c) h i zero t e = let same : kinds.Int ≡ t = cc in subst (λ (x : Kind). IsOf p I T (types.Of x) (named (bound_values (Component c) i) 0)) same (of_int _ (bounds.wrapped _))
+    bound_typed (Component c) h i (suc k) t e = absurd (cc)
+    bound_typed (Created b) h i k t e = absurd (cc)
+    bound_typed Children h i k t e = absurd (cc)
 
     -- what is named by arguments and then by others
     arguments_typed : (ks : List Kind) (xs : List Argument) → AreArguments p ks xs → (ts : List Kind) (ws : List Value) → ((k : ℕ) (t : Kind) → slice_get ts k ≡ Some t → IsOf p I T (types.Of t) (named ws k))
@@ -155,25 +158,26 @@ module _ (p : Program) (good : IsProgram p) where
     bound_place n xs r i = record { this = At (Source n); names = map argument_value xs ++ bound_values r i }
 
     -- what an equation names at a node of its class or of a subclass
-    names_of_equation : (c : ClassId) (r : Reach) (ps : Params) (n i : ℕ) (xs : List Argument) → AreArguments p (parameter_kinds ps) xs → IsAt p n c → AreNames p I T (names_for p.grammar p.rules.attributes c r ps) (bound_place n xs r i)
-    names_of_equation c r ps n i xs are stands = record {
+    names_of_equation : (c : ClassId) (r : Reach) → are_created r ≡ false → (ps : Params) (n i : ℕ) (xs : List Argument) → AreArguments p (parameter_kinds ps) xs → IsAt p n c → AreNames p I T (names_for p.grammar p.rules.attributes c r ps) (bound_place n xs r i)
+    names_of_equation c r hung ps n i xs are stands = record {
       grammar = refl;
       attribute = λ a d e. e;
       node = λ k b e. absurd (cc);
       this = λ b e. let same : c ≡ b = cc in at (subst (IsAt p n) same stands);
-      variables = arguments_typed (parameter_kinds ps) xs are (bound_kinds r) (bound_values r i) (bound_typed r i);
+      variables = arguments_typed (parameter_kinds ps) xs are (bound_kinds p.rules.attributes r) (bound_values r i) (bound_typed r hung i);
     }
 
     -- an equation, read at a node with arguments, for an attribute of the type for which it is
-    equation_keeps : (a n i : ℕ) (xs : List Argument) (q : Equation) (allowed : IsEquation p.grammar p.rules.attributes q) → attribute_kind p a ≡ allowed.attribute.kind → AreArguments p (parameter_kinds allowed.attribute.params) xs → IsAt p n q.target.class
+    equation_keeps : (a n i : ℕ) (xs : List Argument) (q : Equation) (allowed : IsEquation p.grammar p.rules.attributes q) → attribute_kind p a ≡ allowed.attribute.kind → AreArguments p (parameter_kinds allowed.attribute.params) xs → IsAt p n q.target.class → are_created q.target.reach ≡ false
         → KeepsAll p I T M (IsValue p (attribute_kind p a)) (site_demands (world_of p) (Some (record { body = q.body; kind = attribute_kind p a; place = bound_place n xs q.target.reach i })))
-    equation_keeps a n i xs q allowed kind are stands =
+    equation_keeps a n i xs q allowed kind are stands hung =
         let place = bound_place n xs q.target.reach i in
-        let typed = typed_keeps p I T M bounds good.grammar good.tree allowed.typed place (names_of_equation q.target.class q.target.reach allowed.attribute.params n i xs are stands) in
-        let fit = fitting p I T allowed.attribute.kind allowed.type allowed.fit in
+        let body = plain_body p.grammar p.rules good.plain q allowed in
+        let typed = typed_keeps p I T M bounds good.grammar good.tree body.typed place (names_of_equation q.target.class q.target.reach hung allowed.attribute.params n i xs are stands) in
+        let fit = fitting p I T allowed.attribute.kind body.type body.fit in
         let reads : Kind → Type 0 = λ x. KeepsAll p I T M (IsValue p x) (next (meaning_of (world_of p) q.body place) (λ v. Gives (as_kind x v))) in
         subst reads (sym kind)
-        (all_behind p I T M (IsOf p I T allowed.type) (IsValue p allowed.attribute.kind) (meaning_of (world_of p) q.body place) (λ v. Gives (as_kind allowed.attribute.kind v)) typed (λ v o. value_read p I T bounds.int_value bounds.text_value allowed.attribute.kind v (fit v o)))
+        (all_behind p I T M (IsOf p I T body.type) (IsValue p allowed.attribute.kind) (meaning_of (world_of p) q.body place) (λ v. Gives (as_kind allowed.attribute.kind v)) typed (λ v o. value_read p I T bounds.int_value bounds.text_value allowed.attribute.kind v (fit v o)))
 
     kind_declared : (a : ℕ) (d : Attr) → declared_of p a ≡ Some d → attribute_kind p a ≡ d.kind
     kind_declared a d e = ap (λ (o : Option Attr). kind_or_truth (option_map (λ x. x.kind) o)) e
@@ -192,7 +196,7 @@ module _ (p : Program) (good : IsProgram p) where
         let declared : declared_of p a ≡ Some q.allowed.attribute = ap (declared_at p.rules.attributes) (sym q.attribute) ∙ q.allowed.declared in
         let same : d ≡ q.allowed.attribute = cc in
         let fit = subst (λ (x : Attr). AreArguments p (parameter_kinds x.params) xs) same are in
-        let keeps = equation_keeps a k 0 xs q.equation q.allowed (kind_declared a q.allowed.attribute declared) fit (record { class = c; of = f; below = q.above }) in
+        let keeps = equation_keeps a k 0 xs q.equation q.allowed (kind_declared a q.allowed.attribute declared) fit (record { class = c; of = f; below = q.above }) (ap are_created q.own) in
         let reads : Place → Type 0 = λ x. KeepsAll p I T M (IsValue p (attribute_kind p a)) (site_demands (world_of p) (Some (record { body = q.equation.body; kind = attribute_kind p a; place = x }))) in
         subst (λ (o : Option Site). KeepsAll p I T M (IsValue p (attribute_kind p a)) (site_demands (world_of p) o)) (sym there)
         (subst reads (ap (λ (r : Reach). bound_place k xs r 0) q.own ∙ unbound k xs) keeps)
@@ -209,7 +213,7 @@ module _ (p : Program) (good : IsProgram p) where
         let alike = good.rules.alike a q.first d allowed.attribute e s q.named first in
         let below = subst (λ (x : List (Option ℕ)). is_below x up.class.0 q.equation.target.class.0 ≡ true) good.rules.superclasses q.above in
         let fit = subst (λ (x : Params). AreArguments p (parameter_kinds x) xs) alike.1 are in
-        let keeps = equation_keeps a up.node (place_among p up.child) xs q.equation allowed (kind_declared a d e ∙ alike.0) fit (record { class = up.class; of = up.of; below = below }) in
+        let keeps = equation_keeps a up.node (place_among p up.child) xs q.equation allowed (kind_declared a d e ∙ alike.0) fit (record { class = up.class; of = up.of; below = below }) q.hung in
         subst (λ (o : Option Site). KeepsAll p I T M (IsValue p (attribute_kind p a)) (site_demands (world_of p) o)) (sym site.1)
         (subst (λ (x : Site). KeepsAll p I T M (IsValue p (attribute_kind p a)) (site_demands (world_of p) (Some x))) up.is keeps)
 

@@ -44,12 +44,12 @@ module _ (p : Program) (names : List Instance) (A : Instance → Option Value) (
   module _ (whole : HasAllDemands (equations_of p) names A) (i : Instance) (m : is_in same_instance names i ≡ true) where
     pub any_has_loop : A i ≡ None → HasLoop p i
     unfolding equations_of
-    any_has_loop n = any_left_loop (equations_of p) (order_in p) (fits_in p) (join_in p) (are_rising p) (are_joins p) names A r whole i m n
+    any_has_loop n = any_left_loop (equations_of p) (order_in p) (fits_in p) (join_in p) (are_rising p) (are_joins p) names A r (λ k j l in_j meets leads. whole k j l in_j meets) i m n
 
     pub any_is_value : (v : Value) → A i ≡ Some v ↔ HasValue p i v
     unfolding equations_of
-    any_is_value v = any_value_left (equations_of p) (order_in p) (fits_in p) (join_in p) (are_rising p) (are_joins p) names A r whole i m v
+    any_is_value v = any_value_left (equations_of p) (order_in p) (fits_in p) (join_in p) (are_rising p) (are_joins p) names A r (λ k j l in_j meets leads. whole k j l in_j meets) i m v
 
     pub any_is_loop : A i ≡ None ↔ HasLoop p i
     unfolding equations_of
-    any_is_loop = any_loop_left (equations_of p) (order_in p) (fits_in p) (join_in p) (are_rising p) (are_joins p) names A r whole i m
+    any_is_loop = any_loop_left (equations_of p) (order_in p) (fits_in p) (join_in p) (are_rising p) (are_joins p) names A r (λ k j l in_j meets leads. whole k j l in_j meets) i m

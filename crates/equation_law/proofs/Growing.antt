@@ -8,7 +8,7 @@ use Rattle.ast_grammar.specs.declared.grammar.ClassId.{ClassId}
 use Rattle.attr_rules.specs.declared.expression.SetOperator.TheVariants.{Union, Inter, Minus}
 use Rattle.attr_rules.specs.declared.kinds.Kind.{Kind}
 use Rattle.attr_rules.specs.declared.kinds.Kind.TheVariants as kinds
-use Rattle.attr_rules.specs.Expression.{Expression, Arguments, no_more, argument, Truth as TruthLiteral, Int as IntLiteral, Text as TextLiteral, Null as NullLiteral, Empty, This, Variable, Source as SourceNode, Child, Element, Count, Has, Token, Call, Cast, InstanceOf, Quantified, QuantifiedSet, Each, EachOfSet, Sets, Single, Contains, Size, Not, Negate, Binary, And, Or, OrBoth, If}
+use Rattle.attr_rules.specs.Expression.{Expression, Arguments, no_more, argument, Truth as TruthLiteral, Int as IntLiteral, Text as TextLiteral, Null as NullLiteral, Empty, This, Variable, Source as SourceNode, Child, Element, Count, Has, Token, Call, Cast, InstanceOf, Quantified, QuantifiedSet, Each, EachOfSet, Sets, Single, Contains, Size, Not, Negate, Binary, And, Or, OrBoth, If, New}
 use Rattle.attr_rules.specs.Rising.{IsRising, has_call, have_call, is_bottom}
 use Rattle.attr_rules.specs.Rising as rising
 use Rattle.attr_rules.proofs.Permitted.{neither}
@@ -235,6 +235,7 @@ module _ (W : World) (circular : Instance → Bool) (declared : ℕ → Bool) (f
   bottom_up (Or a b) e p d = cc
   bottom_up (OrBoth a b) e p d = cc
   bottom_up (If c a at b) e p d = cc
+  bottom_up (New c parts) e p d = cc
 
   -- a test that may become true, and one that stays
   up_test : (a b : Bool) (x y u v : Demands Instance Value) → (a ≡ true → b ≡ true) → Up x u → Up y u → Up y v → Up (cond a x y) (cond b u v)

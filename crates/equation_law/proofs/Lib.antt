@@ -18,6 +18,7 @@ pub mod Lists
 pub mod Names
 mod Offered
 pub mod Orders
+mod Plain
 pub mod Pooled
 pub mod Preordered
 pub mod QueryValues

@@ -7,7 +7,8 @@ use Rattle.ast_grammar.specs.declared.grammar.ClassId.{ClassId}
 use Rattle.ast_grammar.specs.declared.grammar.Shape.{Shape}
 use Rattle.ast_grammar.specs.declared.grammar.Shape.TheVariants as shapes
 use Rattle.ast_grammar.specs.Grammar.{Class, Component, component_at, components_of, is_sub}
-use Rattle.attr_rules.specs.Rules.{IsConcrete, is_for_nodes}
+use Rattle.attr_rules.specs.Rules.{is_for_nodes}
+use Rattle.attr_rules.specs.Typing.{IsConcrete}
 use Rattle.tree_arena.specs.Nodes.{Node, child_in, class_in, count_in, hanging, hanging_from}
 use Rattle.tree_arena.specs.Terms.{Empty, Fits, Forest, Hangs, IsTerm, IsTree, IsTreeOf, MayHaveOne, Tree, element, nodes_from, nodes_of, none, one, over, root, size, token}
 use Rattle.equation_law.proofs.Keys.{both_equal}

@@ -4,7 +4,7 @@ use Rattle.attr_rules.specs.declared.expression.Quantifier.{Quantifier}
 use Rattle.attr_rules.specs.declared.expression.Quantifier.TheVariants.{Any, All, First}
 use Rattle.attr_rules.specs.declared.expression.SetOperator.TheVariants.{Union}
 use Rattle.attr_rules.specs.declared.kinds.Kind.{Kind}
-use Rattle.attr_rules.specs.Expression.{Expression, Arguments, no_more, argument, Truth as TruthLiteral, Int as IntLiteral, Text as TextLiteral, Null as NullLiteral, Empty, This, Variable, Source as SourceNode, Child, Element, Count, Has, Token, Call, Cast, InstanceOf, Quantified, QuantifiedSet, Each, EachOfSet, Sets, Single, Contains, Size, Not, Negate, Binary, And, Or, OrBoth, If}
+use Rattle.attr_rules.specs.Expression.{Expression, Arguments, no_more, argument, Truth as TruthLiteral, Int as IntLiteral, Text as TextLiteral, Null as NullLiteral, Empty, This, Variable, Source as SourceNode, Child, Element, Count, Has, Token, Call, Cast, InstanceOf, Quantified, QuantifiedSet, Each, EachOfSet, Sets, Single, Contains, Size, Not, Negate, Binary, And, Or, OrBoth, If, New}
 use Rattle.attr_rules.specs.Rising.{has_call, have_call}
 use Rattle.attr_rules.proofs.Permitted.{neither}
 use Rattle.solutions.specs.Asking.{Demands, next}
@@ -114,6 +114,7 @@ module _ (W : World) (circular : Instance → Bool) (declared : ℕ → Bool) (f
         let n = neither (has_call declared c) (has_call declared a || has_call declared b) q in
         let m = neither (has_call declared a) (has_call declared b) n.1 in
         then (meaning_of W c p) _ (quiet_plain c n.0 p) (λ v. plain_if (truth v) _ _ (quiet_plain a m.0 p) (quiet_plain b m.1 p))
+    quiet_plain (New c parts) q p = tt
 
     pub quiet_arguments : (es : Arguments) → have_call declared es ≡ false → (p : Place) (go : List Value → Demands Instance Value) → ((vs : List Value) → Plain (go vs)) → Plain (with_arguments W es p go)
     quiet_arguments no_more q p go g = g []

@@ -1,5 +1,5 @@
 -- Programs that break no rule, their instances, and the values of each type.
-use Rattle.std.specs.Prelude.{◌≡◌, ◌↔◌, ◌<◌, ℕ, ℤ, true, Bool, List, [], ◌∷◌, Option, Some, All, length, slice_get}
+use Rattle.std.specs.Prelude.{◌≡◌, ◌↔◌, ◌<◌, ℕ, ℤ, true, false, Bool, List, [], ◌∷◌, Option, Some, All, length, slice_get}
 use Rattle.std.specs.Int.{int_wrap}
 use Rattle.std.specs.List.{Contains}
 use mir.Syntax.{w32}
@@ -11,7 +11,7 @@ use Rattle.attr_rules.specs.declared.kinds.Kind.{Kind}
 use Rattle.attr_rules.specs.declared.kinds.Kind.TheVariants as kinds
 use Rattle.attr_rules.specs.declared.types.ValueType.{ValueType}
 use Rattle.attr_rules.specs.Queries.{Query as Asked}
-use Rattle.attr_rules.specs.Rules.{AreRules, EquationsRise}
+use Rattle.attr_rules.specs.Rules.{AreRules, Attribute as DeclaredAttribute, EquationsRise, RuleSet, is_higher_order}
 use Rattle.attr_rules.specs.Types.{kept_kind, parameter_kinds}
 use Rattle.attr_rules.specs.Typing.{HasType}
 use Rattle.solutions.specs.Asking.{Ends, Meets}
@@ -30,11 +30,17 @@ pub record IsTyped (p : Program) (q : Asked) : Type 0 where
   pub typed : HasType (names_in p) q.body type
   pub kept : q.kind ≡ kept_kind type
 
--- A program whose parts were read and checked against each other, its equations of circular attributes included.
+-- no attribute is higher-order, so nothing is created
+abbrev pub NoneCreated : RuleSet → Type 0
+NoneCreated rules = All (λ (x : DeclaredAttribute). is_higher_order x.declared.sort ≡ false) rules.attributes
+
+-- A program whose parts were read and checked against each other, its equations of circular attributes included. None of its attributes is
+-- higher-order.
 pub record IsProgram (p : Program) : Type 0 where
   pub grammar : IsGrammar p.grammar
   pub rules : AreRules p.grammar p.rules
   pub rising : EquationsRise p.rules
+  pub plain : NoneCreated p.rules
   pub texts : ArePooled p.texts
   pub tree : IsTreeOf p.grammar (length p.texts) p.tree
   pub queries : All (IsTyped p) p.queries

@@ -6,7 +6,7 @@ use Rattle.std.specs.Option.{option_and_then, option_map, option_or}
 use mir.Syntax.{w32}
 use Rattle.ast_grammar.specs.declared.grammar.ClassId.{ClassId}
 use Rattle.attr_rules.specs.declared.dispatch.Reach.{Reach}
-use Rattle.attr_rules.specs.declared.dispatch.Reach.TheVariants.{Own, Component, Children}
+use Rattle.attr_rules.specs.declared.dispatch.Reach.TheVariants.{Own, Component, Created, Children}
 use Rattle.attr_rules.specs.declared.kinds.Attr.{Attr}
 use Rattle.attr_rules.specs.declared.kinds.Kind.{Kind}
 use Rattle.attr_rules.specs.declared.kinds.Kind.TheVariants as kinds
@@ -14,7 +14,7 @@ use Rattle.attr_rules.specs.declared.kinds.Collecting.{Collecting}
 use Rattle.attr_rules.specs.Expression.{Expression}
 use Rattle.attr_rules.specs.Queries.{Query as Asked}
 use Rattle.attr_rules.specs.Rising.{rises}
-use Rattle.attr_rules.specs.Rules.{Contribution, Equation, circular_at, collecting_at, covering_number, equation_number, is_inherited}
+use Rattle.attr_rules.specs.Rules.{Contribution, Equation, by_component, circular_at, collecting_at, covering_number, equation_number, is_inherited}
 use Rattle.attr_rules.specs.Types.{is_below}
 use Rattle.solutions.specs.Asking.{Demands, Gives, next}
 use Rattle.solutions.specs.Rounds.{Equations, HasValue as HasValueOf}
@@ -128,15 +128,17 @@ StandsUnder tree k j = (j < length tree) × IsOnWay tree j k
 abbrev pub place_among : Program → ℕ → ℕ
 place_among p n = number_or_zero (index_in p.tree n)
 
--- what a path binds: over a component it is the place of the node among those that hang there, which has 32 bits
+-- What a path binds: over a component it is the place of the node among those that hang there, which has 32 bits. No equation with a path over a
+-- higher-order attribute is read.
 abbrev pub bound_values : Reach → ℕ → List Value
 bound_values Own i = []
 bound_values (Component k) i = Int (int_wrap w32 (pos i)) ∷ []
+bound_values (Created b) i = []
 bound_values Children i = []
 
 -- the equation that covers, for an inherited attribute, what hangs at the component of node n: that of the class of node u
 abbrev pub covering_for : Program → ℕ → ℕ → ℕ → Option Equation
-covering_for p a n u = option_and_then (slice_get p.rules.equations) (option_and_then (λ c. option_and_then (λ k. covering_number p.rules c k a) (component_in p.tree n)) (class_of p u))
+covering_for p a n u = option_and_then (slice_get p.rules.equations) (option_and_then (λ c. option_and_then (λ k. covering_number p.rules c (by_component k) a) (component_in p.tree n)) (class_of p u))
 
 -- it is read at node u with the arguments, and then what its path binds
 abbrev pub site_above : Program → ℕ → List Argument → ℕ → ℕ → Equation → Site

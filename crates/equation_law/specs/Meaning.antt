@@ -12,7 +12,7 @@ use Rattle.attr_rules.specs.declared.expression.Operator.TheVariants.{Add, Subtr
 use Rattle.attr_rules.specs.declared.expression.Quantifier.{Quantifier}
 use Rattle.attr_rules.specs.declared.expression.Quantifier.TheVariants.{Any, All, First}
 use Rattle.attr_rules.specs.declared.expression.SetOperator.TheVariants.{Union}
-use Rattle.attr_rules.specs.Expression.{Expression, Arguments, no_more, argument, Truth as TruthLiteral, Int as IntLiteral, Text as TextLiteral, Null as NullLiteral, Empty, This, Variable, Source as SourceNode, Child, Element, Count, Has, Token, Call, Cast, InstanceOf, Quantified, QuantifiedSet, Each, EachOfSet, Sets, Single, Contains, Size, Not, Negate, Binary, And, Or, OrBoth, If}
+use Rattle.attr_rules.specs.Expression.{Expression, Arguments, no_more, argument, Truth as TruthLiteral, Int as IntLiteral, Text as TextLiteral, Null as NullLiteral, Empty, This, Variable, Source as SourceNode, Child, Element, Count, Has, Token, Call, Cast, InstanceOf, Quantified, QuantifiedSet, Each, EachOfSet, Sets, Single, Contains, Size, Not, Negate, Binary, And, Or, OrBoth, If, New}
 use Rattle.solutions.specs.Asking.{Demands, Gives, Needs, next}
 use Rattle.equation_law.specs.Names.{NodeName, Reference, Null, At, Instance, Attribute, same_reference}
 use Rattle.equation_law.specs.Sets.{no_elements}
@@ -174,6 +174,8 @@ abbrev mutual
   meaning_of W (Or a b) p = next (meaning_of W a p) (λ v. cond (truth v) (Gives (Truth true)) (next (meaning_of W b p) (λ w. Gives (Truth (truth w)))))
   meaning_of W (OrBoth a b) p = next (meaning_of W a p) (λ v. next (meaning_of W b p) (λ w. Gives (Truth (truth v || truth w))))
   meaning_of W (If c a at b) p = next (meaning_of W c p) (λ v. cond (truth v) (meaning_of W a p) (meaning_of W b p))
+  -- the equation of a higher-order attribute makes a tree; in itself the expression gives none
+  meaning_of W (New c parts) p = Gives (Node Null)
 
   -- what follows the arguments, of which each is evaluated
   pub with_arguments : World → Arguments → Place → (List Value → Demands Instance Value) → Demands Instance Value

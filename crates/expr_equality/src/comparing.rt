@@ -1,8 +1,8 @@
 // Whether two expressions are equal.
 ghost use Rattle.std.specs.Prelude.{◌≡◌, true};
-ghost use Rattle.attr_rules.specs.Expression.{arguments_of, expression_of};
+ghost use Rattle.attr_rules.specs.Expression.{arguments_of, expression_of, new_arguments_of};
 
-use attr_rules::{TArgs, TExpr};
+use attr_rules::{NewArgs, TArgs, TExpr};
 
 /// Whether two expressions are equal, with the places that they keep.
 #[cycle(same)]
@@ -21,6 +21,7 @@ pub fn same(left: &TExpr, right: &TExpr) -> bool
         (TExpr::Call(a, at, e, xs), TExpr::Call(b, by, f, ys)) => {
             a == b && at == by && same(e, f) && all_same(xs, ys)
         }
+        (TExpr::New(c, xs), TExpr::New(d, ys)) => c == d && same_components(xs, ys),
         _ => same_accessor(left, right),
     }
 }
@@ -97,6 +98,23 @@ fn all_same(left: &TArgs, right: &TArgs) -> bool
     match (left, right) {
         (TArgs::End, TArgs::End) => true,
         (TArgs::More(a, xs), TArgs::More(b, ys)) => same(a, b) && all_same(xs, ys),
+        _ => false,
+    }
+}
+
+/// Whether the arguments of two `new`s are equal.
+#[cycle(same)]
+fn same_components(left: &NewArgs, right: &NewArgs) -> bool
+    ensures { result ≡ true → new_arguments_of left.now ≡ new_arguments_of right.now }
+{
+    match (left, right) {
+        (NewArgs::End, NewArgs::End) => true,
+        (NewArgs::Token(j, a, xs), NewArgs::Token(k, b, ys)) => {
+            j == k && same(a, b) && same_components(xs, ys)
+        }
+        (NewArgs::Child(c, x, xs), NewArgs::Child(d, y, ys)) => {
+            c == d && same_components(x, y) && same_components(xs, ys)
+        }
         _ => false,
     }
 }

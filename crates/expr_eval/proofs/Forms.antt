@@ -6,7 +6,7 @@ use Rattle.rag_io.specs.declared.Place.{Place as TextPlace}
 use Rattle.attr_rules.specs.declared.expression.TExpr.{TExpr}
 use Rattle.attr_rules.specs.declared.expression.TExpr.TheVariants as kept
 use Rattle.attr_rules.specs.declared.kinds.Kind.{Kind}
-use Rattle.attr_rules.specs.Expression.{Arguments, Expression, Truth as TruthLiteral, Int as IntLiteral, Text as TextLiteral, Null as NullLiteral, Empty, This, Variable, Source as SourceNode, Call, And, Or, If, expression_of}
+use Rattle.attr_rules.specs.Expression.{Arguments, Expression, Truth as TruthLiteral, Int as IntLiteral, Text as TextLiteral, Null as NullLiteral, Empty, This, Variable, Source as SourceNode, Call, And, Or, If, New, expression_of}
 use Rattle.solutions.specs.Asking.{Demands, Gives, Ends, Halts, after, asks, at, gives, next}
 use Rattle.solutions.proofs.Runs.{ends_more}
 use Rattle.equation_law.specs.declared.coding.Args.{Args}
@@ -157,6 +157,7 @@ leaf_gives p place Empty h = refl
 leaf_gives p place This h = refl
 leaf_gives p place (Variable k) h = refl
 leaf_gives p place (SourceNode k) h = refl
+leaf_gives p place (New c fields) h = refl
 leaf_gives p place _ h = cc
 
 -- a form demands what its part does, and makes its value of that of the part

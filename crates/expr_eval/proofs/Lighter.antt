@@ -21,6 +21,7 @@ abbrev mutual
   weight kept.This = 1
   weight (kept.Variable k) = 1
   weight (kept.Source k) = 1
+  weight (kept.New c fields) = 1
   weight (kept.Child' k o e) = weight e + 1
   weight (kept.Count' k o e) = weight e + 1
   weight (kept.Has' k o e) = weight e + 1

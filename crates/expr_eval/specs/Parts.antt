@@ -2,7 +2,7 @@
 use Rattle.std.specs.Prelude.{◌≡◌, ◌||◌, ℕ, pos, neg_ℤ, not, Bool, true, false, Option, Some, None, Result, Ok, Err}
 use Rattle.std.specs.Int.{int_wrap}
 use mir.Syntax.{w32}
-use Rattle.attr_rules.specs.Expression.{Expression, Truth as TruthLiteral, Int as IntLiteral, Text as TextLiteral, Null as NullLiteral, Empty, This, Variable, Source as SourceNode, Child, Element, Count, Has, Call, Cast, InstanceOf, Sets, Single, Contains, Size, Not, Negate, Binary, And, Or, OrBoth, If, expression_of}
+use Rattle.attr_rules.specs.Expression.{Expression, Truth as TruthLiteral, Int as IntLiteral, Text as TextLiteral, Null as NullLiteral, Empty, This, Variable, Source as SourceNode, Child, Element, Count, Has, Call, Cast, InstanceOf, Sets, Single, Contains, Size, Not, Negate, Binary, And, Or, OrBoth, If, New, expression_of}
 use Rattle.attr_rules.specs.declared.kinds.Kind.{Kind}
 use Rattle.attr_rules.specs.declared.expression.SetOperator.{SetOperator}
 use Rattle.attr_rules.specs.declared.expression.TExpr.{TExpr}
@@ -24,7 +24,7 @@ use Rattle.expr_eval.specs.declared.parts.Parts.{Parts}
 use Rattle.expr_eval.specs.declared.parts.Parts.TheVariants as parts
 use Rattle.expr_eval.specs.Evaluating.{place_in, world_in}
 
--- a form without parts
+-- a form without parts that are evaluated: a `new` has none here
 abbrev pub is_leaf : Expression → Bool
 is_leaf (TruthLiteral b) = true
 is_leaf (IntLiteral z) = true
@@ -34,6 +34,7 @@ is_leaf Empty = true
 is_leaf This = true
 is_leaf (Variable k) = true
 is_leaf (SourceNode k) = true
+is_leaf (New c fields) = true
 is_leaf _ = false
 
 -- its value; that of any other form is of no account

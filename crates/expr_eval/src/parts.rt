@@ -19,7 +19,7 @@ use std::mem;
 
 /// The parts of a form that are evaluated whatever they come to, where its value is made of theirs alone.
 pub(crate) enum Parts<'a> {
-    /// It has no parts.
+    /// It has no parts, or evaluates none of them: a `new` in itself gives null.
     Leaf,
     /// One part.
     One(&'a TExpr),
@@ -41,6 +41,7 @@ pub(crate) fn parts_of(form: &TExpr) -> Parts<'_>
     match form {
         TExpr::Truth(_) | TExpr::Int(_) | TExpr::Text(_) | TExpr::Null => Parts::Leaf,
         TExpr::Empty | TExpr::This | TExpr::Variable(_) | TExpr::Source(_) => Parts::Leaf,
+        TExpr::New(_, _) => Parts::Leaf,
         TExpr::Child(_, part) | TExpr::Count(_, part) | TExpr::Has(_, part) => Parts::One(part),
         TExpr::Token(kind, component, part) => Parts::Token(kind, component, part),
         TExpr::Cast(_, part) | TExpr::InstanceOf(_, part) => Parts::One(part),
@@ -70,7 +71,7 @@ fn variable(context: &Context<'_>, number: usize) -> Value
     }
 }
 
-/// Puts the value of a form without parts in place.
+/// Puts the value of a form without parts that are evaluated in place.
 pub(crate) fn put_leaf(context: &Context<'_>, form: &TExpr, came: &mut Result<Value, Halt>)
     ensures { IsMade (program_of context.now.system.now) (leaf_in context.now (expression_of form.now)) came.new }
 {

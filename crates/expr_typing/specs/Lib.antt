@@ -1,4 +1,5 @@
 pub mod Calls
+pub mod Created
 pub mod Fitting
 pub mod Parts
 pub mod Places

@@ -101,7 +101,7 @@ list_alone s n k (Some f) = None
 
 abbrev mutual
   -- The type of an expression, where it is known. A type that is known stays so although a part is wrong: an operator's result has its type
-  -- whatever stands on its sides, and so has the call of an attribute. `new`, which isn't evaluated so far, has none.
+  -- whatever stands on its sides, and so has the call of an attribute. A `new` is of its class, also where it is misplaced.
   pub known : Scope → Expr → Option ValueType
   known s (Truth p b) = truth
   known s (Null p) = Some types.Null
@@ -113,7 +113,7 @@ abbrev mutual
   known s (Named n) = type_named s n.text
   known s (Call n es) = type_alone s n (types_known s es) (count es) (form_named n.text)
   known s (Member e n es) = option_and_then (type_called s) (member_on s (known s e) n.text (count es))
-  known s (New p n es) = None
+  known s (New p n es) = class_type s.grammar n.text
   known s (Quantified q p n range e) = quantified_type q (elements_over q (list_of s range) (known s range))
       (known (with_variable s (element_named n (elements_over q (list_of s range) (known s range)))) e)
   known s (Group p e) = known s e
@@ -227,7 +227,7 @@ name_said None = said.Null
 name_said (Some k) = said.Variable k
 
 abbrev mutual
-  -- What a written expression says. What breaks a rule, or isn't evaluated so far, may say `null`.
+  -- What a written expression says. What breaks a rule may say `null`, and so does a `new`: what a whole equation makes is said elsewhere.
   pub body_of : Scope → Expr → Expression
   body_of s (Truth p b) = said.Truth b
   body_of s (Null p) = said.Null

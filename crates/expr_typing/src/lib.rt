@@ -2,6 +2,7 @@
 #![tactic(auto)]
 
 mod calls;
+mod created;
 mod ranges;
 mod set_forms;
 mod sides;
@@ -9,6 +10,7 @@ mod standing;
 mod typed;
 
 pub use calls::{Called, check_call};
+pub use created::{Takes, argument_before, check_child, check_made, check_size, new_said, taken};
 pub use ranges::{
     Elements, check_over, check_range, element_type, elements_over, over_said, quantified_type,
 };
@@ -16,7 +18,7 @@ pub use set_forms::{
     SetForm, check_count, check_one, check_pair, form_named, one_said, one_type, pair_said,
     pair_type, settled,
 };
-pub use sides::{Part, check_choice, check_fit, check_node, check_sides, else_place};
+pub use sides::{Part, check_choice, check_fit, check_node, check_sides, else_place, place_of};
 pub use standing::{Prefix, Stands};
 pub use typed::{
     Typed, all_arguments, called, cast, chosen, common_of, joined, prefixed, result_of, tested,

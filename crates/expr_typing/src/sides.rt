@@ -14,7 +14,7 @@ use broken_rules::{Earliest, Rule};
 use rag_io::Place;
 
 /// The place of the first token of an expression.
-pub(crate) fn place_of(expr: &Expr) -> Place
+pub fn place_of(expr: &Expr) -> Place
     ensures { result ≡ place_of (seen_expr expr.now) }
 {
     match expr {

@@ -7,7 +7,7 @@ use mir.Syntax.{w32}
 use Rattle.std.specs.Option.{option_and_then, option_map, option_or}
 use Rattle.ast_grammar.specs.declared.grammar.ClassId.{ClassId}
 use Rattle.attr_rules.specs.declared.dispatch.Target.{Target}
-use Rattle.attr_rules.specs.Rules.{RuleSet, covering_number, equation_number, target_in}
+use Rattle.attr_rules.specs.Rules.{RuleSet, by_component, covering_number, equation_number, target_in}
 use Rattle.attr_equations.proofs.BodiesFound.{body_is}
 use Rattle.attr_rules.proofs.RowLists.{there}
 use Rattle.tree_arena.specs.Nodes.{Node, component_in, index_in, parent_in}
@@ -42,20 +42,20 @@ module _ (p : Program) (by : Naming) (a : ℕ) (xs : Args) (n : ℕ) where
   module _ (u k : ℕ) (up : parent_in p.tree n ≡ Some u) (at : component_in p.tree n ≡ Some k) where
     -- what covers the node at its parent
     covering_is : {o : Option ClassId} → o ≡ class_of p u
-        → covering_site p a given n ≡ option_map (site_above p a given n u) (option_and_then (slice_get p.rules.equations) (option_and_then (λ c. covering_number p.rules c k a) o))
+        → covering_site p a given n ≡ option_map (site_above p a given n u) (option_and_then (slice_get p.rules.equations) (option_and_then (λ c. covering_number p.rules c (by_component k) a) o))
     covering_is {o} of =
         ap (option_and_then (λ v. option_map (site_above p a given n v) (covering_for p a n v))) up
-        ∙ ap (λ (x : Option ClassId). option_map (site_above p a given n u) (option_and_then (slice_get p.rules.equations) (option_and_then (λ c. option_and_then (λ j. covering_number p.rules c j a) (component_in p.tree n)) x))) (sym of)
-        ∙ ap (λ (x : Option ℕ). option_map (site_above p a given n u) (option_and_then (slice_get p.rules.equations) (option_and_then (λ c. option_and_then (λ j. covering_number p.rules c j a) x) o))) at
+        ∙ ap (λ (x : Option ClassId). option_map (site_above p a given n u) (option_and_then (slice_get p.rules.equations) (option_and_then (λ c. option_and_then (λ j. covering_number p.rules c (by_component j) a) (component_in p.tree n)) x))) (sym of)
+        ∙ ap (λ (x : Option ℕ). option_map (site_above p a given n u) (option_and_then (slice_get p.rules.equations) (option_and_then (λ c. option_and_then (λ j. covering_number p.rules c (by_component j) a) x) o))) at
 
     -- the equation that does
-    pub covering_found : {rules others : RuleSet} (e r i : ℕ) (c : ClassId) {t : Target} {index : Args} → reference_by by.node r ≡ At (Source u) → Some c ≡ class_of p u → rules ≡ p.rules → Some e ≡ covering_number rules c k a → e < length rules.equations
+    pub covering_found : {rules others : RuleSet} (e r i : ℕ) (c : ClassId) {t : Target} {index : Args} → reference_by by.node r ≡ At (Source u) → Some c ≡ class_of p u → rules ≡ p.rules → Some e ≡ covering_number rules c (by_component k) a → e < length rules.equations
         → others ≡ p.rules → option_map target_in (slice_get others.equations e) ≡ Some t → index_in p.tree n ≡ Some i → index_values index ≡ bound_values t.reach i
         → (x : Site) × (covering_site p a given n ≡ Some x) × IsSite p by a (record { equation = record { 0 = e }; node = record { 0 = r }; outer = index; inner = xs }) x
     covering_found {rules} {others} e r i c {t} {index} node of same number within other target place bound =
         let found = there p.rules.equations e (subst (λ (x : RuleSet). e < length x.equations) same within) in
         let q = found.0 in
-        let is : covering_number p.rules c k a ≡ Some e = sym (subst (λ (x : RuleSet). Some e ≡ covering_number x c k a) same number) in
+        let is : covering_number p.rules c (by_component k) a ≡ Some e = sym (subst (λ (x : RuleSet). Some e ≡ covering_number x c (by_component k) a) same number) in
         let kept : option_map target_in (slice_get p.rules.equations e) ≡ Some t = subst (λ (x : RuleSet). option_map target_in (slice_get x.equations e) ≡ Some t) other target in
         let one : option_map target_in (slice_get p.rules.equations e) ≡ Some q.target = ap (option_map target_in) found.1 in
         let goal : q.target ≡ t = cc in

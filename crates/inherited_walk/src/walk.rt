@@ -9,7 +9,7 @@ ghost use Rattle.equation_law.specs.Program.{declared_of};
 ghost use Rattle.equation_law.specs.Systems.{program_of};
 ghost use Rattle.inherited_walk.specs.Sites.{FindsEquation, IsFoundFor, index_values};
 
-use attr_rules::{AttrId, Part, Reach};
+use attr_rules::{AttrId, Part, Reach, Via};
 use equation_law::{Args, EqSite, NodeRef, System};
 
 /// Whether an attribute is inherited; one that isn't declared is not.
@@ -39,14 +39,15 @@ pub(crate) fn synthesized(system: &System, attr: AttrId, node: u32, args: Args) 
     })
 }
 
-/// What a path binds towards the node of this place among those that hang at the same component.
+/// What a path binds towards the node of this place among those that hang at the same component. No equation with a path over a
+/// higher-order attribute is found there.
 fn bound_index(reach: Reach, place: u32) -> Args
     ensures row { IsRow result }
     ensures values { index_values result ≡ bound_values reach place }
 {
     match reach {
         Reach::Component(_) => Args::none().with(place),
-        Reach::Own | Reach::Children => Args::none(),
+        Reach::Own | Reach::Created(_) | Reach::Children => Args::none(),
     }
 }
 
@@ -68,7 +69,8 @@ pub(crate) fn covering(
     let tree = system.tree();
     let rules = system.rules();
     let class = tree.class_of(parent);
-    let equation = rules.inh_equation(class, Part(tree.hangs_by(node)), attr)?;
+    let via = Via::Component(Part(tree.hangs_by(node)));
+    let equation = rules.inh_equation(class, via, attr)?;
     Some(EqSite {
         equation,
         node: NodeRef::of_source(Some(parent)),

@@ -1,6 +1,7 @@
 -- What an expression breaks is what the positions that decide say, and the other way round.
 use Rattle.std.proofs.Common.{◌≡◌, ◌↔◌, ℕ, List, [], ◌∷◌, ◌++◌, Bool, true, false, inl, inr, Option, Some, None, refl, ap, sym, ◌∙◌, subst}
 use Rattle.std.specs.List.{Contains as Includes}
+use Rattle.std.proofs.lemmas.List.Elements.{Contains-append_left, Contains-append_right}
 use Rattle.std.specs.Option.{option_or}
 use Rattle.rag_io.specs.declared.Place.{Place}
 use Rattle.broken_rules.specs.declared.broken.Broken.{Broken}
@@ -8,11 +9,11 @@ use Rattle.broken_rules.specs.declared.rule.Rule.{Rule}
 use Rattle.broken_rules.specs.declared.rule.Rule.TheVariants.{M1, M2, M3}
 use Rattle.broken_rules.specs.Answers.{Has}
 use Rattle.broken_rules.specs.Notes.{at}
-use Rattle.attr_rules.specs.Expression.{Expression, Arguments, no_more, argument, Truth, Int, Text, Null, Empty, This, Variable, Source, Child, Element, Count, Has as HasChild, Token, Call, Cast, InstanceOf, Quantified, QuantifiedSet, Each, EachOfSet, Sets, Single, Contains, Size, Not, Negate, Binary, And, Or, OrBoth, If}
+use Rattle.attr_rules.specs.Expression.{Expression, Arguments, no_more, argument, NewArguments, new_end, new_token, new_child, Truth, Int, Text, Null, Empty, This, Variable, Source, Child, Element, Count, Has as HasChild, Token, Call, Cast, InstanceOf, Quantified, QuantifiedSet, Each, EachOfSet, Sets, Single, Contains, Size, Not, Negate, Binary, And, Or, OrBoth, If, New}
 use Rattle.attr_rules.specs.Rising.{has_call}
-use Rattle.monotone_check.specs.Parts.{CallsCircular, listed}
-use Rattle.monotone_check.specs.Positions.{broken_arguments, broken_in, call_broken, choice_broken, in_range}
-use Rattle.monotone_check.specs.Ways.{Breaks, call, choice, Decides, innermost, around, Position, range_of, body_of, second_set, refused_at, Stands, of_child, of_element, index_of_element, of_count, of_optional, of_token, of_call, passed, cast, tested, of_list, body_over_list, over_set, body_over_set, of_list_of_each, each_over_list, over_set_of_each, each_over_set, first_of_sets, second_of_sets, of_single, searched, sought, of_size, denied, negated, left_operand, right_operand, left_of_and, right_of_and, left_of_or, right_of_or, left_of_both, right_of_both, condition, then_part, else_part, Way, arrived, outwards}
+use Rattle.monotone_check.specs.Parts.{CallsCircular, listed, tokens_in}
+use Rattle.monotone_check.specs.Positions.{broken_arguments, broken_in, broken_tokens, call_broken, choice_broken, in_range}
+use Rattle.monotone_check.specs.Ways.{Breaks, call, choice, Decides, innermost, around, Position, range_of, body_of, second_set, refused_at, Stands, of_child, of_element, index_of_element, of_count, of_optional, of_token, of_call, passed, cast, tested, of_list, body_over_list, over_set, body_over_set, of_list_of_each, each_over_list, over_set_of_each, each_over_set, first_of_sets, second_of_sets, of_single, searched, sought, of_size, denied, negated, left_operand, right_operand, left_of_and, right_of_and, left_of_or, right_of_or, left_of_both, right_of_both, condition, then_part, else_part, token_of_new, Way, arrived, outwards}
 use Rattle.monotone_check.proofs.Found.{first_in, found, later_in}
 use Rattle.monotone_check.proofs.Ways.{along, at_same, body_is, in_one_of, range_is, second_is, told, under}
 
@@ -51,17 +52,23 @@ module _ (circular : ℕ → Bool) where
   choice_told true outer c a b (Some place) f is (inl h) = subst (Told circular outer (If c a (Some place) b)) (sym h) (told_choice place ((found circular c).0 is) arrived)
   choice_told true outer c a b (Some place) f is (inr h) = absurd h
 
-  -- what is broken in an argument
-  record ToldIn (es : Arguments) (f : Broken) : Type 0 where
+  -- what is broken in one of some expressions, all of which stand in a position of this rule
+  record ToldIn (m : Rule) (es : List Expression) (f : Broken) : Type 0 where
     part : Expression
-    one : Includes (listed es) part
-    rule : Told circular (Some M2) part f
+    one : Includes es part
+    rule : Told circular (Some m) part f
 
-  argument_first : (e : Expression) (es : Arguments) (f : Broken) → Told circular (Some M2) e f → ToldIn (argument e es) f
-  argument_first e es f h = record { part = e; one = first_in e (listed es); rule = h }
+  told_first : (m : Rule) (e : Expression) (es : List Expression) (f : Broken) → Told circular (Some m) e f → ToldIn m (e ∷ es) f
+  told_first m e es f h = record { part = e; one = first_in e es; rule = h }
 
-  argument_later : (e : Expression) (es : Arguments) (f : Broken) → ToldIn es f → ToldIn (argument e es) f
-  argument_later e es f h = record { part = h.part; one = later_in e h.part (listed es) h.one; rule = h.rule }
+  told_later : (m : Rule) (e : Expression) (es : List Expression) (f : Broken) → ToldIn m es f → ToldIn m (e ∷ es) f
+  told_later m e es f h = record { part = h.part; one = later_in e h.part es h.one; rule = h.rule }
+
+  told_left : (m : Rule) (es fs : List Expression) (f : Broken) → ToldIn m es f → ToldIn m (es ++ fs) f
+  told_left m es fs f h = record { part = h.part; one = Contains-append_left es fs h.part h.one; rule = h.rule }
+
+  told_right : (m : Rule) (es fs : List Expression) (f : Broken) → ToldIn m fs f → ToldIn m (es ++ fs) f
+  told_right m es fs f h = record { part = h.part; one = Contains-append_right es fs h.part h.one; rule = h.rule }
 
   mutual
     -- Inwards: what is broken in a form is broken by a call or a choice in it.
@@ -104,10 +111,18 @@ module _ (circular : ℕ → Bool) where
         either_of (broken_in circular outer c) _ f (λ x. moved outer (condition place) (finds outer c f x))
         (either_of (choice_broken (has_call circular c) place) _ f (choice_told (has_call circular c) outer c a b place f refl)
         (either_of (broken_in circular outer a) _ f (λ x. moved outer (then_part place) (finds outer a f x)) (λ x. moved outer (else_part place) (finds outer b f x)))) h
+    finds outer (New c parts) f h = let l = finds_token parts f h in moved outer (token_of_new c l.one) l.rule
 
-    finds_in : (es : Arguments) (f : Broken) → Has (broken_arguments circular es) f → ToldIn es f
+    finds_in : (es : Arguments) (f : Broken) → Has (broken_arguments circular es) f → ToldIn M2 (listed es) f
     finds_in no_more f h = absurd h
-    finds_in (argument e es) f h = either_of (broken_in circular (Some M2) e) _ f (λ x. argument_first e es f (finds (Some M2) e f x)) (λ x. argument_later e es f (finds_in es f x)) h
+    finds_in (argument e es) f h = either_of (broken_in circular (Some M2) e) _ f (λ x. told_first M2 e (listed es) f (finds (Some M2) e f x)) (λ x. told_later M2 e (listed es) f (finds_in es f x)) h
+
+    finds_token : (parts : NewArguments) (f : Broken) → Has (broken_tokens circular parts) f → ToldIn M1 (tokens_in parts) f
+    finds_token new_end f h = absurd h
+    finds_token (new_token k e rest) f h =
+        either_of (broken_in circular (Some M1) e) _ f (λ x. told_first M1 e (tokens_in rest) f (finds (Some M1) e f x)) (λ x. told_later M1 e (tokens_in rest) f (finds_token rest f x)) h
+    finds_token (new_child c parts rest) f h =
+        either_of (broken_tokens circular parts) _ f (λ x. told_left M1 (tokens_in parts) (tokens_in rest) f (finds_token parts f x)) (λ x. told_right M1 (tokens_in parts) (tokens_in rest) f (finds_token rest f x)) h
 
 -- the position that decides, by its rule
 record Deciding (m : Rule) (ps : List Position) : Type 0 where

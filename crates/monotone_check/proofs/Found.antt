@@ -1,10 +1,11 @@
 -- The test for calls of circular attributes finds exactly those that there are.
-use Rattle.std.proofs.Common.{◌≡◌, ◌<◌, ◌↔◌, ℕ, zero, suc, List, [], ◌∷◌, Bool, true, false, ◌||◌, ◌⊎◌, inl, inr, refl, ap, sym, ◌∙◌, arith}
+use Rattle.std.proofs.Common.{◌≡◌, ◌<◌, ◌↔◌, ℕ, zero, suc, List, [], ◌∷◌, Bool, true, false, ◌||◌, ◌⊎◌, inl, inr, refl, ap, sym, ◌∙◌, ◌++◌, arith}
 use Rattle.std.specs.List.{Contains as Includes}
+use Rattle.std.proofs.lemmas.List.Elements.{Contains-append_left, Contains-append_right}
 use Rattle.rag_io.specs.declared.Place.{Place}
-use Rattle.attr_rules.specs.Expression.{Expression, Arguments, no_more, argument, Truth, Int, Text, Null, Empty, This, Variable, Source, Child, Element, Count, Has, Token, Call, Cast, InstanceOf, Quantified, QuantifiedSet, Each, EachOfSet, Sets, Single, Contains, Size, Not, Negate, Binary, And, Or, OrBoth, If}
-use Rattle.attr_rules.specs.Rising.{has_call, have_call}
-use Rattle.monotone_check.specs.Parts.{Calls, CallsCircular, itself, in_part, listed, parts_of}
+use Rattle.attr_rules.specs.Expression.{Expression, Arguments, no_more, argument, NewArguments, new_end, new_token, new_child, Truth, Int, Text, Null, Empty, This, Variable, Source, Child, Element, Count, Has, Token, Call, Cast, InstanceOf, Quantified, QuantifiedSet, Each, EachOfSet, Sets, Single, Contains, Size, Not, Negate, Binary, And, Or, OrBoth, If, New}
+use Rattle.attr_rules.specs.Rising.{has_call, have_call, tokens_call}
+use Rattle.monotone_check.specs.Parts.{Calls, CallsCircular, itself, in_part, listed, parts_of, tokens_in}
 
 one_of : (x y : Bool) → (x || y) ≡ true → (x ≡ true) ⊎ (y ≡ true)
 one_of true y h = inl refl
@@ -47,6 +48,10 @@ in_either : {circular : ℕ → Bool} (e : Expression) (es : List Expression) �
 in_either e es (inl h) = in_first e es h
 in_either e es (inr f) = in_later e es f
 
+in_one : {circular : ℕ → Bool} (es fs : List Expression) → FoundIn circular es ⊎ FoundIn circular fs → FoundIn circular (es ++ fs)
+in_one es fs (inl f) = record { part = f.part; within = Contains-append_left es fs f.part f.within; found = f.found }
+in_one es fs (inr f) = record { part = f.part; within = Contains-append_right es fs f.part f.within; found = f.found }
+
 in_call : {circular : ℕ → Bool} (a : ℕ) (place : Place) (e : Expression) (es : Arguments) → (circular a ≡ true) ⊎ FoundIn circular (e ∷ listed es) → CallsCircular circular (Call a place e es)
 in_call a place e es (inl h) = record { attribute = a; is = h; called = itself place }
 in_call a place e es (inr f) = from_parts (Call a place e es) f
@@ -84,10 +89,16 @@ mutual
   finds circular (OrBoth a b) h = from_parts (OrBoth a b) (in_two a b (either (finds circular a) (finds circular b) (one_of _ _ h)))
   finds circular (Call a place e es) h = in_call a place e es (either (λ k. k) (λ k. in_either e (listed es) (either (finds circular e) (finds_in circular es) (one_of _ _ k))) (one_of _ _ h))
   finds circular (If c a place b) h = from_parts (If c a place b) (in_either c (a ∷ b ∷ []) (either (finds circular c) (λ k. in_two a b (either (finds circular a) (finds circular b) (one_of _ _ k))) (one_of _ _ h)))
+  finds circular (New c parts) h = from_parts (New c parts) (finds_token circular parts h)
 
   finds_in : (circular : ℕ → Bool) (es : Arguments) → have_call circular es ≡ true → FoundIn circular (listed es)
   finds_in circular no_more h = cc
   finds_in circular (argument e es) h = in_either e (listed es) (either (finds circular e) (finds_in circular es) (one_of _ _ h))
+
+  finds_token : (circular : ℕ → Bool) (parts : NewArguments) → tokens_call circular parts ≡ true → FoundIn circular (tokens_in parts)
+  finds_token circular new_end h = cc
+  finds_token circular (new_token k e rest) h = in_either e (tokens_in rest) (either (finds circular e) (finds_token circular rest) (one_of _ _ h))
+  finds_token circular (new_child c parts rest) h = in_one (tokens_in parts) (tokens_in rest) (either (finds_token circular parts) (finds_token circular rest) (one_of _ _ h))
 
 -- The other way round: the test of some expressions, one after the other.
 abbrev any_has : (ℕ → Bool) → List Expression → Bool
@@ -126,6 +137,19 @@ all_listed : (circular : ℕ → Bool) (es : Arguments) → any_has circular (li
 all_listed circular no_more = refl
 all_listed circular (argument e es) = ap (λ x. has_call circular e || x) (all_listed circular es)
 
+any_append : (circular : ℕ → Bool) (es fs : List Expression) → any_has circular (es ++ fs) ≡ (any_has circular es || any_has circular fs)
+any_append circular [] fs = refl
+any_append circular (e ∷ es) fs = ap (λ x. has_call circular e || x) (any_append circular es fs) ∙ one_after (has_call circular e) _ _
+  where
+    one_after : (x y z : Bool) → (x || (y || z)) ≡ ((x || y) || z)
+    one_after true y z = refl
+    one_after false y z = refl
+
+all_tokens : (circular : ℕ → Bool) (parts : NewArguments) → any_has circular (tokens_in parts) ≡ tokens_call circular parts
+all_tokens circular new_end = refl
+all_tokens circular (new_token k e rest) = ap (λ x. has_call circular e || x) (all_tokens circular rest)
+all_tokens circular (new_child c parts rest) = any_append circular (tokens_in parts) (tokens_in rest) ∙ (λ i. all_tokens circular parts i || all_tokens circular rest i)
+
 of_parts : (circular : ℕ → Bool) (e : Expression) → any_has circular (parts_of e) ≡ true → has_call circular e ≡ true
 of_parts circular (Truth b) h = h
 of_parts circular (Int z) h = h
@@ -158,6 +182,7 @@ of_parts circular (Or a b) h = pair _ _ h
 of_parts circular (OrBoth a b) h = pair _ _ h
 of_parts circular (Call a place e es) h = there (circular a) _ (ap (λ x. has_call circular e || x) (sym (all_listed circular es)) ∙ h)
 of_parts circular (If c a place b) h = triple (has_call circular c) (has_call circular a) (has_call circular b) h
+of_parts circular (New c parts) h = sym (all_tokens circular parts) ∙ h
 
 is_found : (circular : ℕ → Bool) {a : ℕ} {e : Expression} → circular a ≡ true → Calls a e → has_call circular e ≡ true
 is_found circular h (itself place) = here _ _ h

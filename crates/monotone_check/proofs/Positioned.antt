@@ -8,10 +8,10 @@ use Rattle.broken_rules.specs.declared.rule.Rule.TheVariants.{M1, M2, M4, M5}
 use Rattle.broken_rules.proofs.Clean.{append_none}
 use Rattle.attr_rules.specs.declared.expression.Quantifier.TheVariants.{Any, All, First}
 use Rattle.attr_rules.specs.declared.expression.SetOperator.TheVariants.{Union, Inter, Minus}
-use Rattle.attr_rules.specs.Expression.{Expression, Arguments, no_more, argument, Truth, Int, Text, Null, Empty, This, Variable, Source, Child, Element, Count, Has, Token, Call, Cast, InstanceOf, Quantified, QuantifiedSet, Each, EachOfSet, Sets, Single, Contains, Size, Not, Negate, Binary, And, Or, OrBoth, If}
-use Rattle.attr_rules.specs.Rising.{has_call, have_call}
+use Rattle.attr_rules.specs.Expression.{Expression, Arguments, no_more, argument, NewArguments, new_end, new_token, new_child, Truth, Int, Text, Null, Empty, This, Variable, Source, Child, Element, Count, Has, Token, Call, Cast, InstanceOf, Quantified, QuantifiedSet, Each, EachOfSet, Sets, Single, Contains, Size, Not, Negate, Binary, And, Or, OrBoth, If, New}
+use Rattle.attr_rules.specs.Rising.{has_call, have_call, tokens_call}
 use Rattle.monotone_check.specs.Permitted.{IsPermitted, without, call, and, or, or_both, choice, any, all, any_of_set, all_of_set, each, each_of_set, union, inter, minus, contains}
-use Rattle.monotone_check.specs.Positions.{broken_arguments, broken_in, call_broken, choice_broken, in_body, in_range, in_second}
+use Rattle.monotone_check.specs.Positions.{broken_arguments, broken_in, broken_tokens, call_broken, choice_broken, in_body, in_range, in_second}
 
 -- two lists that are empty where two tests fail
 both_none : (bs cs : List Broken) (x y : Bool) → (x ≡ false → bs ≡ []) → (y ≡ false → cs ≡ []) → (x || y) ≡ false → bs ++ cs ≡ []
@@ -68,10 +68,16 @@ mutual
   no_call circular refused (If c a place b) h =
       let parts = or_parts (has_call circular c) _ h in
       (λ i. no_call circular refused c parts.0 i ++ (choice_none (has_call circular c) place parts.0 i ++ both_none _ _ _ _ (no_call circular refused a) (no_call circular refused b) parts.1 i))
+  no_call circular refused (New c parts) h = no_token_calls circular parts h
 
   pub no_calls : (circular : ℕ → Bool) (es : Arguments) → have_call circular es ≡ false → broken_arguments circular es ≡ []
   no_calls circular no_more h = refl
   no_calls circular (argument e es) h = both_none _ _ _ _ (no_call circular (Some M2) e) (no_calls circular es) h
+
+  no_token_calls : (circular : ℕ → Bool) (parts : NewArguments) → tokens_call circular parts ≡ false → broken_tokens circular parts ≡ []
+  no_token_calls circular new_end h = refl
+  no_token_calls circular (new_token k e rest) h = both_none _ _ _ _ (no_call circular (Some M1) e) (no_token_calls circular rest) h
+  no_token_calls circular (new_child c parts rest) h = both_none _ _ _ _ (no_token_calls circular parts) (no_token_calls circular rest) h
 
 mutual
   -- where a position around it isn't permitted, an expression that breaks nothing has no such calls
@@ -116,10 +122,16 @@ mutual
       let parts = append_none (broken_in circular (Some m) c) _ h in
       let others = append_none (choice_broken (has_call circular c) place) _ parts.1 in
       or_from (has_call circular c) _ (refused_none circular m c parts.0) (both_fail _ _ _ _ (refused_none circular m a) (refused_none circular m b) others.1)
+  refused_none circular m (New c parts) h = tokens_none circular parts h
 
   pub arguments_none : (circular : ℕ → Bool) (es : Arguments) → broken_arguments circular es ≡ [] → have_call circular es ≡ false
   arguments_none circular no_more h = refl
   arguments_none circular (argument e es) h = both_fail _ _ _ _ (refused_none circular M2 e) (arguments_none circular es) h
+
+  pub tokens_none : (circular : ℕ → Bool) (parts : NewArguments) → broken_tokens circular parts ≡ [] → tokens_call circular parts ≡ false
+  tokens_none circular new_end h = refl
+  tokens_none circular (new_token k e rest) h = both_fail _ _ _ _ (refused_none circular M1 e) (tokens_none circular rest) h
+  tokens_none circular (new_child c parts rest) h = both_fail _ _ _ _ (tokens_none circular parts) (tokens_none circular rest) h
 
 choice_place : (b : Bool) (place : Option Place) → choice_broken b place ≡ [] → b ≡ true → place ≡ None
 choice_place false place h k = cc
@@ -174,6 +186,7 @@ permits circular (If c a place b) h =
     let others = append_none (choice_broken (has_call circular c) place) _ parts.1 in
     let last = append_none (broken_in circular None a) (broken_in circular None b) others.1 in
     choice place (permits circular c parts.0) (permits circular a last.0) (permits circular b last.1) (choice_place (has_call circular c) place others.0)
+permits circular (New c parts) h = without (tokens_none circular parts h)
 
 call_at : (b : Bool) (place : Place) → call_broken b None place ≡ []
 call_at false place = refl

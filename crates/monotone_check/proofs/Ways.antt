@@ -1,6 +1,7 @@
 -- What an expression breaks is what the positions that decide say.
 use Rattle.std.proofs.Common.{◌≡◌, ℕ, ◌<◌, zero, suc, List, [], ◌∷◌, ◌++◌, Bool, true, false, ◌⊎◌, inl, inr, Option, Some, None, refl, ap, sym, ◌∙◌, subst, arith}
 use Rattle.std.specs.List.{Contains as Includes}
+use Rattle.std.proofs.lemmas.List.Elements.{Contains-append_cases}
 use Rattle.std.specs.Option.{option_or}
 use Rattle.rag_io.specs.declared.Place.{Place}
 use Rattle.broken_rules.specs.declared.broken.Broken.{Broken}
@@ -12,11 +13,11 @@ use Rattle.attr_rules.specs.declared.expression.Quantifier.{Quantifier}
 use Rattle.attr_rules.specs.declared.expression.Quantifier.TheVariants.{Any, All, First}
 use Rattle.attr_rules.specs.declared.expression.SetOperator.{SetOperator}
 use Rattle.attr_rules.specs.declared.expression.SetOperator.TheVariants.{Union, Inter, Minus}
-use Rattle.attr_rules.specs.Expression.{Expression, Arguments, no_more, argument, Call}
+use Rattle.attr_rules.specs.Expression.{Expression, Arguments, no_more, argument, NewArguments, new_end, new_token, new_child, Call}
 use Rattle.attr_rules.specs.Rising.{has_call}
-use Rattle.monotone_check.specs.Parts.{listed}
-use Rattle.monotone_check.specs.Positions.{broken_arguments, broken_in, call_broken, choice_broken, in_body, in_range, in_second}
-use Rattle.monotone_check.specs.Ways.{Breaks, call, choice, Decides, innermost, around, Position, range_of, body_of, second_set, refused_at, Stands, of_child, of_element, index_of_element, of_count, of_optional, of_token, of_call, passed, cast, tested, of_list, body_over_list, over_set, body_over_set, of_list_of_each, each_over_list, over_set_of_each, each_over_set, first_of_sets, second_of_sets, of_single, searched, sought, of_size, denied, negated, left_operand, right_operand, left_of_and, right_of_and, left_of_or, right_of_or, left_of_both, right_of_both, condition, then_part, else_part, Way, arrived, outwards}
+use Rattle.monotone_check.specs.Parts.{listed, tokens_in}
+use Rattle.monotone_check.specs.Positions.{broken_arguments, broken_in, broken_tokens, call_broken, choice_broken, in_body, in_range, in_second}
+use Rattle.monotone_check.specs.Ways.{Breaks, call, choice, Decides, innermost, around, Position, range_of, body_of, second_set, refused_at, Stands, of_child, of_element, index_of_element, of_count, of_optional, of_token, of_call, passed, cast, tested, of_list, body_over_list, over_set, body_over_set, of_list_of_each, each_over_list, over_set_of_each, each_over_set, first_of_sets, second_of_sets, of_single, searched, sought, of_size, denied, negated, left_operand, right_operand, left_of_and, right_of_and, left_of_or, right_of_or, left_of_both, right_of_both, condition, then_part, else_part, token_of_new, Way, arrived, outwards}
 use Rattle.monotone_check.proofs.Found.{found}
 
 -- Members of lists.
@@ -75,6 +76,15 @@ module _ (circular : ℕ → Bool) (f : Broken) where
   in_passed (argument e es) part (zero, lt, is) h = in_left _ _ f (subst (λ x. Has (broken_in circular (Some M2) x) f) (sym is) h)
   in_passed (argument e es) part (suc k, lt, is) h = in_right (broken_in circular (Some M2) e) _ f (in_passed es part (k, omega arith, is) h)
 
+  in_token : (parts : NewArguments) (part : Expression) → Includes (tokens_in parts) part → Has (broken_in circular (Some M1) part) f → Has (broken_tokens circular parts) f
+  in_token new_end part (k, lt, is) h = absurd (nowhere k lt)
+  in_token (new_token k e rest) part (zero, lt, is) h = in_left _ _ f (subst (λ x. Has (broken_in circular (Some M1) x) f) (sym is) h)
+  in_token (new_token k e rest) part (suc j, lt, is) h = in_right (broken_in circular (Some M1) e) _ f (in_token rest part (j, omega arith, is) h)
+  in_token (new_child c parts rest) part within h = elim (Contains-append_cases (tokens_in parts) (tokens_in rest) part within) [
+    | inl l ↦ in_left _ _ f (in_token parts part l h)
+    | inr r ↦ in_right (broken_tokens circular parts) _ f (in_token rest part r h)
+  ]
+
   step : (outer : Option Rule) {p : Position} {part form : Expression} → Stands p part form → Has (broken_in circular (under p outer) part) f → Has (broken_in circular outer form) f
   step outer (of_child k) h = h
   step outer (of_element k) h = in_left _ _ f h
@@ -113,6 +123,7 @@ module _ (circular : ℕ → Bool) (f : Broken) where
   step outer (condition place) h = in_left _ _ f h
   step outer (then_part {c = c} place) h = in_right (broken_in circular outer c) _ f (in_right (choice_broken (has_call circular c) place) _ f (in_left _ _ f h))
   step outer (else_part {c = c} {a = a} place) h = in_right (broken_in circular outer c) _ f (in_right (choice_broken (has_call circular c) place) _ f (in_right (broken_in circular outer a) _ f h))
+  step outer (token_of_new {part = part} {parts = parts} c is) h = in_token parts part is h
 
   climb : (outer : Option Rule) {ps : List Position} {part whole : Expression} → Way part ps whole → Has (broken_in circular (along ps outer) part) f → Has (broken_in circular outer whole) f
   climb outer arrived h = h

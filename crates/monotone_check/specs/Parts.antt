@@ -1,12 +1,18 @@
 -- Which attributes an expression calls, by its parts.
-use Rattle.std.specs.Prelude.{◌≡◌, ℕ, List, [], ◌∷◌, Bool, true}
+use Rattle.std.specs.Prelude.{◌≡◌, ℕ, List, [], ◌∷◌, ◌++◌, Bool, true}
 use Rattle.std.specs.List.{Contains as Includes}
 use Rattle.rag_io.specs.declared.Place.{Place}
-use Rattle.attr_rules.specs.Expression.{Expression, Arguments, no_more, argument, Truth, Int, Text, Null, Empty, This, Variable, Source, Child, Element, Count, Has, Token, Call, Cast, InstanceOf, Quantified, QuantifiedSet, Each, EachOfSet, Sets, Single, Contains, Size, Not, Negate, Binary, And, Or, OrBoth, If}
+use Rattle.attr_rules.specs.Expression.{Expression, Arguments, no_more, argument, NewArguments, new_end, new_token, new_child, Truth, Int, Text, Null, Empty, This, Variable, Source, Child, Element, Count, Has, Token, Call, Cast, InstanceOf, Quantified, QuantifiedSet, Each, EachOfSet, Sets, Single, Contains, Size, Not, Negate, Binary, And, Or, OrBoth, If, New}
 
 abbrev pub listed : Arguments → List Expression
 listed no_more = []
 listed (argument e es) = e ∷ listed es
+
+-- the tokens of a `new`, from the left, with those of the trees that are children in it
+abbrev pub tokens_in : NewArguments → List Expression
+tokens_in new_end = []
+tokens_in (new_token k e rest) = e ∷ tokens_in rest
+tokens_in (new_child c parts rest) = tokens_in parts ++ tokens_in rest
 
 -- the parts of an expression, from the left
 abbrev pub parts_of : Expression → List Expression
@@ -41,6 +47,7 @@ parts_of (And a b) = a ∷ b ∷ []
 parts_of (Or a b) = a ∷ b ∷ []
 parts_of (OrBoth a b) = a ∷ b ∷ []
 parts_of (If c a place b) = c ∷ a ∷ b ∷ []
+parts_of (New c parts) = tokens_in parts
 
 -- an expression calls the attribute of this number, itself or in a part of it
 pub data Calls (a : ℕ) : Expression → Type 0 where

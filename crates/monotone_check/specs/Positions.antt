@@ -9,7 +9,7 @@ use Rattle.attr_rules.specs.declared.expression.Quantifier.{Quantifier}
 use Rattle.attr_rules.specs.declared.expression.Quantifier.TheVariants.{Any, All, First}
 use Rattle.attr_rules.specs.declared.expression.SetOperator.{SetOperator}
 use Rattle.attr_rules.specs.declared.expression.SetOperator.TheVariants.{Union, Inter, Minus}
-use Rattle.attr_rules.specs.Expression.{Expression, Arguments, no_more, argument, Truth, Int, Text, Null, Empty, This, Variable, Source, Child, Element, Count, Has, Token, Call, Cast, InstanceOf, Quantified, QuantifiedSet, Each, EachOfSet, Sets, Single, Contains, Size, Not, Negate, Binary, And, Or, OrBoth, If}
+use Rattle.attr_rules.specs.Expression.{Expression, Arguments, no_more, argument, NewArguments, new_end, new_token, new_child, Truth, Int, Text, Null, Empty, This, Variable, Source, Child, Element, Count, Has, Token, Call, Cast, InstanceOf, Quantified, QuantifiedSet, Each, EachOfSet, Sets, Single, Contains, Size, Not, Negate, Binary, And, Or, OrBoth, If, New}
 use Rattle.attr_rules.specs.Rising.{has_call}
 
 -- The rule of the innermost position around a part that isn't permitted; none where all of them are, up to the whole equation.
@@ -79,8 +79,15 @@ abbrev mutual
   broken_in circular refused (Or a b) = broken_in circular refused a ++ broken_in circular refused b
   broken_in circular refused (OrBoth a b) = broken_in circular refused a ++ broken_in circular refused b
   broken_in circular refused (If c a place b) = broken_in circular refused c ++ (choice_broken (has_call circular c) place ++ (broken_in circular refused a ++ broken_in circular refused b))
+  broken_in circular refused (New c parts) = broken_tokens circular parts
 
   -- what those in the arguments of a call break
   pub broken_arguments : (ℕ → Bool) → Arguments → List Broken
   broken_arguments circular no_more = []
   broken_arguments circular (argument e es) = broken_in circular (Some M2) e ++ broken_arguments circular es
+
+  -- what those in the tokens of a `new` break
+  pub broken_tokens : (ℕ → Bool) → NewArguments → List Broken
+  broken_tokens circular new_end = []
+  broken_tokens circular (new_token k e rest) = broken_in circular (Some M1) e ++ broken_tokens circular rest
+  broken_tokens circular (new_child c parts rest) = broken_tokens circular parts ++ broken_tokens circular rest

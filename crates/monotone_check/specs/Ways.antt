@@ -13,10 +13,10 @@ use Rattle.attr_rules.specs.declared.expression.Quantifier.{Quantifier}
 use Rattle.attr_rules.specs.declared.expression.Quantifier.TheVariants.{Any, All, First}
 use Rattle.attr_rules.specs.declared.expression.SetOperator.{SetOperator}
 use Rattle.attr_rules.specs.declared.expression.SetOperator.TheVariants.{Union, Inter, Minus}
-use Rattle.attr_rules.specs.Expression.{Expression, Arguments, Child, Element, Count, Has, Token, Call, Cast, InstanceOf, Quantified, QuantifiedSet, Each, EachOfSet, Sets, Single, Contains, Size, Not, Negate, Binary, And, Or, OrBoth, If}
+use Rattle.attr_rules.specs.Expression.{Expression, Arguments, NewArguments, Child, Element, Count, Has, Token, Call, Cast, InstanceOf, Quantified, QuantifiedSet, Each, EachOfSet, Sets, Single, Contains, Size, Not, Negate, Binary, And, Or, OrBoth, If, New}
 use Rattle.attr_rules.specs.Rules.{Equation, RuleSet}
 use Rattle.monotone_check.specs.Equations.{is_circular}
-use Rattle.monotone_check.specs.Parts.{CallsCircular, listed}
+use Rattle.monotone_check.specs.Parts.{CallsCircular, listed, tokens_in}
 
 -- a position in which a part of a form stands
 pub data Position : Type 0 where
@@ -99,6 +99,7 @@ pub data Stands : Position → Expression → Expression → Type 0 where
   condition : {c a b : Expression} (place : Option Place) → Stands part_of_choice c (If c a place b)
   then_part : {c a b : Expression} (place : Option Place) → Stands part_of_choice a (If c a place b)
   else_part : {c a b : Expression} (place : Option Place) → Stands part_of_choice b (If c a place b)
+  token_of_new : {part : Expression} {parts : NewArguments} (c : _) → Includes (tokens_in parts) part → Stands other part (New c parts)
 
 -- the way from a part outwards to the whole expression, with its positions, the innermost first
 pub data Way : Expression → List Position → Expression → Type 0 where

@@ -1,15 +1,15 @@
 // The positions of calls in an expression.
 ghost use Rattle.std.specs.Prelude.{◌≡◌, ◌++◌, ◌||◌};
-ghost use Rattle.attr_rules.specs.Expression.{arguments_of};
+ghost use Rattle.attr_rules.specs.Expression.{arguments_of, new_arguments_of};
 ghost use Rattle.attr_equations.specs.Kept.{rules_in};
-ghost use Rattle.attr_rules.specs.Rising.{have_call};
+ghost use Rattle.attr_rules.specs.Rising.{have_call, tokens_call};
 ghost use Rattle.broken_rules.specs.Notes.{Notes};
 ghost use Rattle.monotone_check.specs.Equations.{is_circular};
 ghost use Rattle.monotone_check.specs.Kept.{broken_at, has_circular};
-ghost use Rattle.monotone_check.specs.Positions.{broken_arguments, call_broken, choice_broken, in_body, in_range, in_second};
+ghost use Rattle.monotone_check.specs.Positions.{broken_arguments, broken_tokens, call_broken, choice_broken, in_body, in_range, in_second};
 
 use attr_equations::Rules;
-use attr_rules::{AttrId, Quantifier, SetOperator, TArgs, TExpr};
+use attr_rules::{AttrId, NewArgs, Quantifier, SetOperator, TArgs, TExpr};
 use broken_rules::{Earliest, Rule};
 use rag_io::Place;
 
@@ -131,6 +131,27 @@ fn check_arguments(rules: &Rules, arguments: &TArgs, faults: &mut Earliest) -> b
     }
 }
 
+// The same of the tokens of a `new`.
+#[cycle(calls)]
+fn check_tokens(rules: &Rules, arguments: &NewArgs, faults: &mut Earliest) -> bool
+    ensures noted { Notes (broken_tokens (is_circular (rules_in rules.now)) (new_arguments_of arguments.now)) faults.old faults.new }
+    ensures calls { result ≡ tokens_call (is_circular (rules_in rules.now)) (new_arguments_of arguments.now) }
+{
+    match arguments {
+        NewArgs::End => false,
+        NewArgs::Token(_, token, rest) => {
+            let in_token = check_calls(rules, token, OTHER, faults);
+            let in_rest = check_tokens(rules, rest, faults);
+            in_token || in_rest
+        }
+        NewArgs::Child(_, child, rest) => {
+            let in_child = check_tokens(rules, child, faults);
+            let in_rest = check_tokens(rules, rest, faults);
+            in_child || in_rest
+        }
+    }
+}
+
 /// Notes what the calls in an expression break that stands in such a position, in one walk down the expression, which has at most 400 tokens.
 /// It answers whether there is the call of a circular attribute in it, at any depth.
 #[cycle(calls)]
@@ -180,5 +201,6 @@ pub(crate) fn check_calls(
             let in_parts = check_two(rules, then, refused, otherwise, refused, faults);
             in_condition || in_parts
         }
+        TExpr::New(_, arguments) => check_tokens(rules, arguments, faults),
     }
 }

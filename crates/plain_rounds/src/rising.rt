@@ -1,13 +1,13 @@
 // Which expressions are rising, by the positions of the calls of circular attributes.
 ghost use Rattle.std.specs.Prelude.{◌≡◌, ◌&&◌, ◌||◌, not};
-ghost use Rattle.attr_rules.specs.Expression.{arguments_of, expression_of};
+ghost use Rattle.attr_rules.specs.Expression.{arguments_of, expression_of, new_arguments_of};
 ghost use Rattle.attr_equations.specs.Kept.{rules_in};
 ghost use Rattle.attr_rules.specs.Rising as spec;
 ghost use Rattle.attr_rules.specs.Rules.{circular_at};
 ghost use Rattle.plain_rounds.specs.Rising.{body_permits, calls_circular, range_permits, rises_by, second_permits};
 
 use attr_equations::Rules;
-use attr_rules::{Quantifier, SetOperator, TArgs, TExpr};
+use attr_rules::{NewArgs, Quantifier, SetOperator, TArgs, TExpr};
 
 /// Whether one of two expressions calls a circular attribute.
 #[cycle(calls)]
@@ -29,6 +29,26 @@ fn calls_in(rules: &Rules, arguments: &TArgs) -> bool
         TArgs::More(first, rest) => {
             let in_first = calls(rules, first);
             let in_rest = calls_in(rules, rest);
+            in_first || in_rest
+        }
+    }
+}
+
+/// Whether one of the tokens of a `new` does.
+#[cycle(calls)]
+fn calls_in_tokens(rules: &Rules, arguments: &NewArgs) -> bool
+    ensures { result ≡ spec.tokens_call (circular_at (rules_in rules.now).attributes) (new_arguments_of arguments.now) }
+{
+    match arguments {
+        NewArgs::End => false,
+        NewArgs::Token(_, first, rest) => {
+            let in_first = calls(rules, first);
+            let in_rest = calls_in_tokens(rules, rest);
+            in_first || in_rest
+        }
+        NewArgs::Child(_, first, rest) => {
+            let in_first = calls_in_tokens(rules, first);
+            let in_rest = calls_in_tokens(rules, rest);
             in_first || in_rest
         }
     }
@@ -69,6 +89,7 @@ fn calls(rules: &Rules, expression: &TExpr) -> bool
             let in_parts = one_calls(rules, then, otherwise);
             in_condition || in_parts
         }
+        TExpr::New(_, arguments) => calls_in_tokens(rules, arguments),
     }
 }
 
@@ -216,5 +237,6 @@ pub(crate) fn rises(rules: &Rules, expression: &TExpr) -> bool
             let starts = !calls(rules, condition) || is_bottom(otherwise);
             condition_rises && parts_rise && starts
         }
+        TExpr::New(_, arguments) => !calls_in_tokens(rules, arguments),
     }
 }

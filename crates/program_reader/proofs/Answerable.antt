@@ -15,7 +15,7 @@ use Rattle.attr_types.proofs.MadeWell.{equations_made}
 use Rattle.aspect_items.specs.Items.{Item as AspectItem}
 use Rattle.monotone_check.specs.Equations.{equations_broken}
 use Rattle.monotone_check.proofs.PermittedRises.{equations_rise}
-use Rattle.equation_law.specs.Checked.{IsProgram, IsTyped}
+use Rattle.equation_law.specs.Checked.{IsProgram, IsTyped, NoneCreated}
 use Rattle.tree_arena.specs.Nodes.{Node}
 use Rattle.tree_arena.specs.Terms.{IsTreeOf}
 use Rattle.tree_reader.specs.FromBytes.{ReadsTree}
@@ -26,6 +26,7 @@ use Rattle.run_io.specs.Files.{Contents}
 use Rattle.program_reader.specs.Queries.{SaysLines, over, silent, query, SaysQuery, SaysQueries}
 use Rattle.rag_io.specs.Decimal.{decimal}
 use Rattle.program_reader.specs.Tokens.{place_at, text_at}
+use Rattle.program_reader.proofs.NoneCreated.{none_created}
 use Rattle.program_reader.proofs.Pooled.{kept_pooled, one_pooled}
 use Rattle.program_reader.proofs.Tested.{clean_front, clean_last}
 
@@ -65,7 +66,7 @@ tree_allowed {g} {tree = tree} s = subst (λ (x : List (List ℕ)). IsTreeOf g (
 
 -- accepted aspects make rules of the grammar
 rules_allowed : (rules : RuleSet) (g : List Class) (aspects : List AspectItem) → IsGrammar g → AreAccepted g aspects → rules ≡ rules_of g aspects → AreRules g rules
-rules_allowed rules g aspects grammar a are = subst (AreRules g) (sym are) (accepted g aspects grammar a.built (clean_front (phases_of g aspects) (equations_broken (rules_of g aspects)) a.clean))
+rules_allowed rules g aspects grammar a are = subst (AreRules g) (sym are) (accepted g aspects grammar (clean_front (phases_of g aspects) (equations_broken (rules_of g aspects)) a.clean))
 
 -- and the equations of circular attributes in them rise
 rules_rise : (rules : RuleSet) (g : List Class) (aspects : List AspectItem) → AreAccepted g aspects → rules ≡ rules_of g aspects → EquationsRise rules
@@ -79,6 +80,7 @@ is_program held p s pooled =
       grammar = grammar_allowed s.grammar;
       rules = rules;
       rising = rules_rise p.rules p.grammar s.written s.accepted s.rules;
+      plain = subst NoneCreated (sym s.rules) (none_created p.grammar s.written s.accepted.built);
       texts = pooled;
       tree = tree_allowed s.tree;
       queries = queries_typed p rules s.queries;

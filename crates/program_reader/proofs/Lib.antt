@@ -1,6 +1,7 @@
 pub mod Answerable
 pub mod Contributed
 pub mod Lines
+pub mod NoneCreated
 pub mod OneReading
 pub mod Pooled
 pub mod SayingQueries

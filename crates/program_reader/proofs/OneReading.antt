@@ -1,5 +1,6 @@
 -- What the bytes of files say is one thing.
 use Rattle.std.proofs.Common.{◌≡◌, Bool, ℕ, List, true, false, Some, None, sym, ap, subst, ◌∙◌}
+use Rattle.broken_rules.specs.Answers.{Answers}
 use Rattle.broken_rules.specs.declared.broken.Broken.{Broken}
 use Rattle.broken_rules.proofs.Answering.{one_answer}
 use Rattle.ast_grammar.specs.Grammar.{Class}
@@ -16,7 +17,7 @@ use Rattle.tree_arena.specs.Nodes.{Node}
 use Rattle.tree_reader.specs.FromBytes.{BreaksTree, ReadsTree}
 use Rattle.tree_reader.proofs.OneFile.{same_texts, same_tree}
 use Rattle.equation_law.specs.Program.{Program}
-use Rattle.program_reader.specs.Files.{AreAccepted, AreRefused, SaysProgram, no_texts}
+use Rattle.program_reader.specs.Files.{AreAccepted, AreRefused, BreakFirst, SaysProgram, no_texts}
 use Rattle.run_io.specs.Files.{Contents}
 use Rattle.program_reader.specs.Queries.{SaysQueries}
 use Rattle.program_reader.proofs.SayingQueries.{one_queries}
@@ -37,13 +38,20 @@ module _ {bytes : List ℕ} {g h : List Class} {p q : List (List ℕ)} (classes 
   pub both_texts : {s t : List Node} {x y : List (List ℕ)} → ReadsTree g p bytes s x → ReadsTree h q bytes t y → x ≡ y
   both_texts r s = same_texts r (tree_there s)
 
+-- phases that answer with a breach first answer with no other, and not with none
+pub one_first : {phases : List (List Broken)} {b c : Broken} → Answers phases (Some b) → Answers phases (Some c) → b ≡ c
+one_first {phases} {b} {c} r s = let both : Some b ≡ Some c = one_answer r s in cc
+
+pub clean_or_broken : {phases : List (List Broken)} {b : Broken} → Answers phases None → Answers phases (Some b) → ⊥
+clean_or_broken {phases} {b} r s = let both : None ≡ Some b = one_answer r s in absurd cc
+
 -- some aspects break one rule first over a grammar, or none, or have a form that isn't evaluated so far
 module _ {g : List Class} {aspects : List AspectItem} where
   pub one_refusal : {b c : Broken} → AreRefused g aspects b → AreRefused g aspects c → b ≡ c
-  one_refusal {b} {c} r s = let both : Some b ≡ Some c = one_answer r.breaks s.breaks in cc
+  one_refusal r s = one_first r.breaks s.breaks
 
   pub accepted_or_refused : {b : Broken} → AreAccepted g aspects → AreRefused g aspects b → ⊥
-  accepted_or_refused {b} r s = let both : None ≡ Some b = one_answer r.clean s.breaks in absurd cc
+  accepted_or_refused r s = clean_or_broken r.clean s.breaks
 
 pub built_or_not : {is_built : Bool} → is_built ≡ true → is_built ≡ false → ⊥
 built_or_not a b = let both : true ≡ false = sym a ∙ b in absurd cc
@@ -61,6 +69,11 @@ module _ {ast jrag : List ℕ} {g h : List Class} {written other : List AspectIt
 
   pub unbuilt_there : all_built other ≡ false → all_built written ≡ false
   unbuilt_there e = ap all_built (same_aspects i j) ∙ e
+
+  -- the same of `check`
+  pub first_there : {x : Broken} → BreakFirst h other x → BreakFirst g written x
+  first_there {x} s =
+      subst (λ (c : List Class). BreakFirst c written x) (sym (same_grammar a b)) (subst (λ (w : List AspectItem). BreakFirst h w x) (sym (same_aspects i j)) s)
 
   pub both_rules : rules_of g written ≡ rules_of h other
   both_rules = ap (λ (c : List Class). rules_of c written) (same_grammar a b) ∙ ap (rules_of h) (same_aspects i j)

@@ -13,8 +13,8 @@ use Rattle.built_forms.specs.Built.{all_built}
 use Rattle.aspect_items.specs.Items.{Item as AspectItem}
 use Rattle.monotone_check.specs.Equations.{equations_broken}
 use Rattle.program_reader.specs.declared.files.Unread.{Unread}
-use Rattle.program_reader.specs.Built.{AnswersRules}
-use Rattle.program_reader.specs.Files.{AreAccepted, AreRefused}
+use Rattle.program_reader.specs.Built.{AnswersChecked, AnswersRules}
+use Rattle.program_reader.specs.Files.{AreClean, BreakFirst}
 use Rattle.program_reader.specs.Unread.{unread_for}
 
 -- phases that break nothing leave the answer to those behind them
@@ -39,27 +39,30 @@ clean_last [] last (passes a) = refl
 clean_last (bs ∷ phases) last (passes a) = clean_last phases last a
 
 -- aspects that break nothing in the phases of `check`
-module _ (g : List Class) (written : List AspectItem) (built : all_built written ≡ true) where
+module _ (g : List Class) (written : List AspectItem) where
   module _ (rules : RuleSet) (passed : Answers (phases_of g written) None) (are : rules ≡ rules_of g written) where
     -- and whose equations break nothing either
-    pub accepted_last : equations_broken rules ≡ [] → AreAccepted g written
-    accepted_last none = record {
-      built = built;
-      clean = answers_behind (phases_of g written) (equations_broken (rules_of g written) ∷ []) passed
-          (subst (λ (bs : List Broken). Answers (bs ∷ []) None) (sym (ap equations_broken (sym are) ∙ none)) (passes clean));
-    }
+    pub clean_behind : equations_broken rules ≡ [] → AreClean g written
+    clean_behind none =
+        answers_behind (phases_of g written) (equations_broken (rules_of g written) ∷ []) passed
+        (subst (λ (bs : List Broken). Answers (bs ∷ []) None) (sym (ap equations_broken (sym are) ∙ none)) (passes clean))
 
     -- or whose equations break this first
-    pub refused_last : (b : Broken) → IsFirst (equations_broken rules) b → AreRefused g written b
-    refused_last b first = record {
-      built = built;
-      breaks = answers_behind (phases_of g written) (equations_broken (rules_of g written) ∷ []) passed
-          (breaks (subst (λ (r : RuleSet). IsFirst (equations_broken r) b) are first));
-    }
+    pub broken_behind : (b : Broken) → IsFirst (equations_broken rules) b → BreakFirst g written b
+    broken_behind b first =
+        answers_behind (phases_of g written) (equations_broken (rules_of g written) ∷ []) passed
+        (breaks (subst (λ (r : RuleSet). IsFirst (equations_broken r) b) are first))
 
   -- what those phases refuse
-  pub refused_before : (fault : ReadFault) (r : Result Rules Unread) → IsErr r × IsErrAnd r (λ u. u ≡ unread_for fault) → Refuses (phases_of g written) fault → AnswersRules g written r
+  pub refused_before : (fault : ReadFault) (r : Result Rules ReadFault) → IsErr r × IsErrAnd r (λ u. u ≡ fault) → Refuses (phases_of g written) fault → AnswersChecked g written r
   refused_before fault (Ok x) h refuses = let missing = h.0 in cc
   refused_before (faults.Broken b) (Err u) h refuses =
-      subst (λ (x : Unread). AnswersRules g written (Err x)) (sym h.1) (record { built = built; breaks = answers_before (phases_of g written) (equations_broken (rules_of g written) ∷ []) refuses })
-  refused_before faults.Memory (Err u) h refuses = subst (λ (x : Unread). AnswersRules g written (Err x)) (sym h.1) tt
+      subst (λ (x : ReadFault). AnswersChecked g written (Err x)) (sym h.1) (answers_before (phases_of g written) (equations_broken (rules_of g written) ∷ []) refuses)
+  refused_before faults.Memory (Err u) h refuses = subst (λ (x : ReadFault). AnswersChecked g written (Err x)) (sym h.1) tt
+
+  -- what is refused of aspects that are evaluated so far
+  module _ (built : all_built written ≡ true) where
+    pub refused_built : (fault : ReadFault) (r : Result Rules Unread) → IsErr r × IsErrAnd r (λ u. u ≡ unread_for fault) → AnswersChecked g written (Err fault) → AnswersRules g written r
+    refused_built fault (Ok x) h refuses = let missing = h.0 in cc
+    refused_built (faults.Broken b) (Err u) h refuses = subst (λ (x : Unread). AnswersRules g written (Err x)) (sym h.1) (record { built = built; breaks = refuses })
+    refused_built faults.Memory (Err u) h refuses = subst (λ (x : Unread). AnswersRules g written (Err x)) (sym h.1) tt

@@ -26,7 +26,7 @@ use Rattle.program_reader.specs.declared.files.Refusal.TheVariants as refusals
 use Rattle.program_reader.specs.declared.files.Unread.{Unread}
 use Rattle.program_reader.specs.declared.files.Unread.TheVariants.{Broken as Unaccepted, NotBuilt, Memory}
 use Rattle.run_io.specs.declared.words.FileKind.TheVariants as files
-use Rattle.program_reader.specs.Built.{AnswersRules, BreaksFile, IsCheckRefusal, IsRefusal, IsTreeRefusal, Refuses}
+use Rattle.program_reader.specs.Built.{AnswersChecked, AnswersRules, BreaksFile, IsCheckRefusal, IsRefusal, IsTreeRefusal, Refuses}
 use Rattle.tree_reader.specs.FromBytes.{AnswersTree, ReadsTree}
 use Rattle.program_reader.specs.Files as held
 use Rattle.run_io.specs.Files.{PairContents, Contents, File}
@@ -161,12 +161,11 @@ module _ (contents : PairContents) (refusal : Refusal) where
         | faults.Memory ↦ λ a e. subst (IsCheckRefusal contents) (sym e) tt
       ] answer is
 
-  pub check_rules_refused : (unread : Unread) {g : List Class} {written : List AspectItem} {between : List (List ℕ)} → ReadsGrammar contents.ast g
-      → ReadsAspects no_texts contents.other written between → AnswersRules g written (Err unread) → Refuses files.Jrag unread refusal → IsCheckRefusal contents refusal
-  check_rules_refused unread {g} {written} {between} grammar aspects answer is = elim unread as (λ u. AnswersRules g written (Err u) → Refuses files.Jrag u refusal → IsCheckRefusal contents refusal) [
-    | Unaccepted b ↦ λ a e. subst (IsCheckRefusal contents) (sym e) (held.IsCheckBroken.checked grammar aspects a)
-    | NotBuilt ↦ λ a e. subst (IsCheckRefusal contents) (sym e) (record { of = refl; classes = g; aspects = written; between = between; grammar = grammar; written = aspects; forms = a })
-    | Memory ↦ λ a e. subst (IsCheckRefusal contents) (sym e) tt
+  pub check_rules_refused : (fault : ReadFault) {g : List Class} {written : List AspectItem} {between : List (List ℕ)} → ReadsGrammar contents.ast g
+      → ReadsAspects no_texts contents.other written between → AnswersChecked g written (Err fault) → BreaksFile files.Jrag fault refusal → IsCheckRefusal contents refusal
+  check_rules_refused fault {g} {written} grammar aspects answer is = elim fault as (λ f. AnswersChecked g written (Err f) → BreaksFile files.Jrag f refusal → IsCheckRefusal contents refusal) [
+    | faults.Broken b ↦ λ a e. subst (IsCheckRefusal contents) (sym e) (held.IsCheckBroken.checked grammar aspects a)
+    | faults.Memory ↦ λ a e. subst (IsCheckRefusal contents) (sym e) tt
   ] answer is
 
 -- no more queries than lines

@@ -20,17 +20,28 @@ use Rattle.program_reader.specs.declared.files.Refusal.TheVariants as refusals
 use Rattle.program_reader.specs.declared.files.Unread.{Unread}
 use Rattle.program_reader.specs.declared.files.Unread.TheVariants.{Broken as Unaccepted, NotBuilt, Memory}
 use Rattle.run_io.specs.declared.words.FileKind.{FileKind}
-use Rattle.program_reader.specs.Files.{AreAccepted, AreRefused, IsBroken, IsCheckBroken, IsCheckNotBuilt, IsNotBuilt, IsTreeBroken, is_contribution}
+use Rattle.program_reader.specs.Files.{AreAccepted, AreClean, AreRefused, BreakFirst, IsBroken, IsCheckBroken, IsNotBuilt, IsTreeBroken, is_contribution}
 use Rattle.run_io.specs.Files.{Contents, PairContents}
 use Rattle.run_io.specs.Named.{seen_file}
 use Rattle.program_reader.specs.Queries.{SaysQueries}
 
 -- The aspects break no rule over a grammar, and these are their rules.
+pub record HasRules (g : List Class) (aspects : List AspectItem) (rules : RuleSet) : Type 0 where
+  pub clean : AreClean g aspects
+  pub are : rules ≡ rules_of g aspects
+
+-- The rules of some aspects; or the first rule that they break.
+abbrev pub AnswersChecked : List Class → List AspectItem → Result Rules ReadFault → Type 0
+AnswersChecked g aspects (Ok rules) = HasRules g aspects (rules_in rules)
+AnswersChecked g aspects (Err (faults.Broken b)) = BreakFirst g aspects b
+AnswersChecked g aspects (Err faults.Memory) = Unit {0}
+
+-- They are evaluated so far and break no rule over a grammar, and these are their rules.
 pub record MakesRules (g : List Class) (aspects : List AspectItem) (rules : RuleSet) : Type 0 where
   pub accepted : AreAccepted g aspects
   pub are : rules ≡ rules_of g aspects
 
--- The rules of some aspects; or the first rule that they break, or a form of theirs isn't evaluated so far.
+-- The rules of some aspects; or the first rule that they break, or an item of theirs isn't evaluated so far.
 abbrev pub AnswersRules : List Class → List AspectItem → Result Rules Unread → Type 0
 AnswersRules g aspects (Ok rules) = MakesRules g aspects (rules_in rules)
 AnswersRules g aspects (Err (Unaccepted b)) = AreRefused g aspects b
@@ -63,7 +74,7 @@ IsRefusal held refusals.Memory = Unit {0}
 -- why two files say no grammar with aspects that break no rule
 abbrev pub IsCheckRefusal : PairContents → Refusal → Type 0
 IsCheckRefusal held (refusals.Broken file b) = IsCheckBroken held (seen_file file) b
-IsCheckRefusal held (refusals.NotBuilt file) = IsCheckNotBuilt held (seen_file file)
+IsCheckRefusal held (refusals.NotBuilt file) = ⊥
 IsCheckRefusal held refusals.Memory = Unit {0}
 
 -- why two files say no tree

@@ -30,15 +30,23 @@ no_texts = [] ∷ []
 abbrev pub tested : List Class → List AspectItem → List (List Broken)
 tested g aspects = phases_of g aspects ++ equations_broken (rules_of g aspects) ∷ []
 
--- All forms of some aspects are evaluated so far, and they break no rule over a grammar.
-pub record AreAccepted (g : List Class) (aspects : List AspectItem) : Type 0 where
-  pub built : all_built aspects ≡ true
-  pub clean : Answers (tested g aspects) None
+-- They break no rule over it.
+abbrev pub AreClean : List Class → List AspectItem → Type 0
+AreClean g aspects = Answers (tested g aspects) None
 
 -- This is the first rule that they break.
+abbrev pub BreakFirst : List Class → List AspectItem → Broken → Type 0
+BreakFirst g aspects b = Answers (tested g aspects) (Some b)
+
+-- All items of some aspects are evaluated so far, and they break no rule over a grammar.
+pub record AreAccepted (g : List Class) (aspects : List AspectItem) : Type 0 where
+  pub built : all_built aspects ≡ true
+  pub clean : AreClean g aspects
+
+-- They are evaluated so far, and this is the first rule that they break.
 pub record AreRefused (g : List Class) (aspects : List AspectItem) (b : Broken) : Type 0 where
   pub built : all_built aspects ≡ true
-  pub breaks : Answers (tested g aspects) (Some b)
+  pub breaks : BreakFirst g aspects b
 
 -- The four files say this program. The texts of the aspects are pooled first, and those of the tree then.
 pub record SaysProgram (held : Contents) (p : Program) : Type 0 where
@@ -101,7 +109,7 @@ pub record SaysCounts (held : PairContents) (text : List ℕ) : Type 0 where
   pub between : List (List ℕ)
   pub grammar : ReadsGrammar held.ast classes
   pub written : ReadsAspects no_texts held.other aspects between
-  pub accepted : AreAccepted classes aspects
+  pub clean : AreClean classes aspects
   pub counted : text ≡ counts_of classes (rules_of classes aspects) aspects
 
 -- Of the two files this one is the first that breaks a rule, and this is the first rule that it breaks.
@@ -109,17 +117,7 @@ pub data IsCheckBroken (held : PairContents) : File → Broken → Type 0 where
   grammar : {b : Broken} → BreaksGrammar held.ast b → IsCheckBroken held Ast b
   aspects : {g : List Class} {b : Broken} → ReadsGrammar held.ast g → BreaksAspects no_texts held.other b → IsCheckBroken held Jrag b
   checked : {g : List Class} {written : List AspectItem} {between : List (List ℕ)} {b : Broken} → ReadsGrammar held.ast g
-      → ReadsAspects no_texts held.other written between → AreRefused g written b → IsCheckBroken held Jrag b
-
--- They break no rule by themselves, and a form of the aspects isn't evaluated so far.
-pub record IsCheckNotBuilt (held : PairContents) (file : File) : Type 0 where
-  pub of : file ≡ Jrag
-  pub classes : List Class
-  pub aspects : List AspectItem
-  pub between : List (List ℕ)
-  pub grammar : ReadsGrammar held.ast classes
-  pub written : ReadsAspects no_texts held.other aspects between
-  pub forms : all_built aspects ≡ false
+      → ReadsAspects no_texts held.other written between → BreakFirst g written b → IsCheckBroken held Jrag b
 
 -- The two files say a tree, and this is its canonical text.
 pub record SaysText (held : PairContents) (text : List ℕ) : Type 0 where

@@ -8,7 +8,7 @@ ghost use Rattle.equation_law.specs.Systems.{program_of};
 ghost use Rattle.aspect_items.specs.Items.{seen_aspects};
 ghost use Rattle.program_reader.specs.declared.files.Refusal.TheVariants.{Memory as NoMemory};
 ghost use Rattle.program_reader.specs.Unread.{unread_for};
-ghost use Rattle.program_reader.specs.Built.{AnswersRules, AnswersAsked, BreaksFile, Refuses, IsRefusal, IsCheckRefusal, IsTreeRefusal, is_contributed};
+ghost use Rattle.program_reader.specs.Built.{AnswersAsked, AnswersChecked, AnswersRules, BreaksFile, Refuses, IsRefusal, IsCheckRefusal, IsTreeRefusal, is_contributed};
 ghost use Rattle.program_reader.specs.Steps.{AnswersAspectRules, RefusesTreeOrQueries, SaysRead};
 ghost use Rattle.run_io.specs.Fetched.{seen_contents, seen_pair, AreShort, AreBothShort};
 ghost use Rattle.program_reader.specs.Files.{SaysCounts, SaysProgram, SaysText, counts_of, line_of, no_texts};
@@ -81,19 +81,25 @@ fn refusal_of(file: FileKind, unread: Unread) -> Refusal
     }
 }
 
-// The rules of the aspects, where all of their forms are evaluated so far and they break no rule over the grammar. Those on rising equations are
-// tested last.
+// The rules of the aspects, where they break no rule over the grammar. Those on rising equations are tested last.
+fn check_rules(alloc: Global, grammar: &Grammar, aspects: &Aspects) -> Result<Rules, ReadFault>
+    ensures { AnswersChecked grammar.now (seen_aspects aspects.now) result }
+{
+    let rules = check(alloc, grammar, aspects)?;
+    match check_monotone(&rules) {
+        Ok(()) => Ok(rules),
+        Err(broken) => Err(ReadFault::Broken(broken)),
+    }
+}
+
+// The same, where all of their items are evaluated so far.
 fn read_rules(alloc: Global, grammar: &Grammar, aspects: &Aspects) -> Result<Rules, Unread>
     ensures { AnswersRules grammar.now (seen_aspects aspects.now) result }
 {
     if !built(aspects) {
         return Err(Unread::NotBuilt);
     }
-    let rules = check(alloc, grammar, aspects)?;
-    match check_monotone(&rules) {
-        Ok(()) => Ok(rules),
-        Err(broken) => Err(Unread::Broken(broken)),
-    }
+    Ok(check_rules(alloc, grammar, aspects)?)
 }
 
 fn read_asked(
@@ -284,9 +290,9 @@ pub fn counts_text(alloc: Global, contents: &PairContents) -> Result<Vec<u8>, Re
         Ok(aspects) => aspects,
         Err(fault) => return Err(broken_file(FileKind::Jrag, fault)),
     };
-    let counts = match read_rules(alloc, &grammar, &aspects) {
+    let counts = match check_rules(alloc, &grammar, &aspects) {
         Ok(rules) => counted(&grammar, &rules, &aspects),
-        Err(unread) => return Err(refusal_of(FileKind::Jrag, unread)),
+        Err(fault) => return Err(broken_file(FileKind::Jrag, fault)),
     };
     or_refused(line_of(alloc, counts))
 }

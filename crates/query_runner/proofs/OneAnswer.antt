@@ -15,14 +15,14 @@ use Rattle.tree_writer.specs.Canonical.{canonical}
 use Rattle.equation_law.specs.Program.{Program}
 use Rattle.program_reader.specs.Files as files
 use Rattle.run_io.specs.Files.{PairContents, Contents, File}
-use Rattle.program_reader.specs.Files.{IsBroken, IsCheckBroken, IsCheckNotBuilt, IsNotBuilt, IsTreeBroken, SaysCounts, SaysProgram, SaysText, counts_of, forms, no_queries}
+use Rattle.program_reader.specs.Files.{IsBroken, IsCheckBroken, IsNotBuilt, IsTreeBroken, SaysCounts, SaysProgram, SaysText, counts_of, forms, no_queries}
 use Rattle.run_io.specs.Holding.{here, later}
-use Rattle.query_runner.specs.Output.{Answers, CheckOutput, IsRefused, Output, TreeOutput, broken, broken_check, broken_line, broken_tree, check_not_built, counted, full, misused, not_built, printed, refused, replied, too_long}
+use Rattle.query_runner.specs.Output.{Answers, CheckOutput, IsRefused, Output, TreeOutput, broken, broken_check, broken_line, broken_tree, counted, full, misused, not_built, printed, refused, replied, too_long}
 use Rattle.query_replies.specs.Replies.{AreReplies}
 use Rattle.run_io.specs.Holding.{HoldsAll, HoldsPair, HoldsShort, IsFirstLong}
 use Rattle.run_io.specs.Files.{pair_in_order, pair_name_of, files_of, in_order, name_of}
 use Rattle.run_io.specs.Words.{Check, PairNames, Command, FileNames, PrintTree, Run, command_of}
-use Rattle.program_reader.proofs.OneReading.{accepted_or_refused, accepted_there, both_rules, both_texts, both_trees, breaks_there, broken_there, built_or_not, nodes_there, one_refusal, queries_there, refused_there, same_program, unbuilt_there}
+use Rattle.program_reader.proofs.OneReading.{accepted_or_refused, accepted_there, both_rules, both_texts, both_trees, breaks_there, broken_there, built_or_not, clean_or_broken, first_there, nodes_there, one_first, one_refusal, queries_there, refused_there, same_program, unbuilt_there}
 use Rattle.query_replies.proofs.OneReply.{one_replies}
 
 -- a file is held once
@@ -139,21 +139,13 @@ module _ (held : PairContents) where
   one_check_breaking (files.IsCheckBroken.aspects g a) (files.IsCheckBroken.checked h i b) = absurd (aspects_or_break i a)
   one_check_breaking (files.IsCheckBroken.checked g i a) (files.IsCheckBroken.grammar b) = absurd (says_or_breaks g b)
   one_check_breaking (files.IsCheckBroken.checked g i a) (files.IsCheckBroken.aspects h b) = absurd (aspects_or_break i b)
-  one_check_breaking (files.IsCheckBroken.checked g i a) (files.IsCheckBroken.checked h j b) = (refl, one_refusal a (refused_there g h i j b))
-
-  check_breaks_or_refuses : {f g : File} {b : Broken} → IsCheckBroken held f b → IsCheckNotBuilt held g → ⊥
-  check_breaks_or_refuses (files.IsCheckBroken.grammar a) n = says_or_breaks n.grammar a
-  check_breaks_or_refuses (files.IsCheckBroken.aspects g a) n = aspects_or_break n.written a
-  check_breaks_or_refuses (files.IsCheckBroken.checked g i a) n = built_or_not a.built (unbuilt_there g n.grammar i n.written n.forms)
+  one_check_breaking (files.IsCheckBroken.checked g i a) (files.IsCheckBroken.checked h j b) = (refl, one_first a (first_there g h i j b))
 
   module _ {t : List ℕ} (a : SaysCounts held t) where
-    counts_or_refused : {f : File} → IsCheckNotBuilt held f → ⊥
-    counts_or_refused n = built_or_not a.accepted.built (unbuilt_there a.grammar n.grammar a.written n.written n.forms)
-
     counts_or_broken : {f : File} {b : Broken} → IsCheckBroken held f b → ⊥
     counts_or_broken (files.IsCheckBroken.grammar b) = says_or_breaks a.grammar b
     counts_or_broken (files.IsCheckBroken.aspects g b) = aspects_or_break a.written b
-    counts_or_broken (files.IsCheckBroken.checked g i b) = accepted_or_refused a.accepted (refused_there a.grammar g a.written i b)
+    counts_or_broken (files.IsCheckBroken.checked g i b) = clean_or_broken a.clean (first_there a.grammar g a.written i b)
 
     one_counts : {u : List ℕ} → SaysCounts held u → t ≡ u
     one_counts b =
@@ -251,7 +243,6 @@ module _ (words : List (List ℕ)) (files : List Named) where
   one_line (too_long r l) (broken s h b) = absurd (none_long r s l h)
   one_line (too_long r l) (not_built s h b) = absurd (none_long r s l h)
   one_line (too_long r l) (broken_check s h b) = absurd (check_long r s l h)
-  one_line (too_long r l) (check_not_built s h b) = absurd (check_long r s l h)
   one_line (too_long r l) (broken_tree s h b) = absurd (pair_long r s l h)
   one_line (broken r h a) (too_long s l) = absurd (none_long s r l h)
   one_line (broken {names = n} {contents = c} {file = f} {b = x} r h a) (broken {names = m} {file = g} {b = y} s k b) =
@@ -259,7 +250,6 @@ module _ (words : List (List ℕ)) (files : List Named) where
       ap (λ (z : FileNames). broken_line (name_of z f) x) (same_names r s) ∙ ap (λ (z : File). broken_line (name_of m z) x) both.0 ∙ ap (broken_line (name_of m g)) both.1
   one_line (broken {contents = c} r h a) (not_built {file = f} s k b) = absurd (breaks_or_refuses c a (subst (λ (z : Contents). IsNotBuilt z f) (held_once r s h k) b))
   one_line (broken r h a) (broken_check s k b) = run_or_check r s
-  one_line (broken r h a) (check_not_built s k b) = run_or_check r s
   one_line (broken r h a) (broken_tree s k b) = run_or_tree r s
   one_line (not_built r h a) (too_long s l) = absurd (none_long s r l h)
   one_line (not_built {file = f} r h a) (broken {contents = d} s k b) = absurd (breaks_or_refuses d b (subst (λ (z : Contents). IsNotBuilt z f) (held_once s r k h) a))
@@ -268,7 +258,6 @@ module _ (words : List (List ℕ)) (files : List Named) where
       let file : f ≡ g = one_file c a (subst (λ (x : Contents). IsNotBuilt x g) (held_once r s h k) b) in
       cc
   one_line (not_built r h a) (broken_check s k b) = run_or_check r s
-  one_line (not_built r h a) (check_not_built s k b) = run_or_check r s
   one_line (not_built r h a) (broken_tree s k b) = run_or_tree r s
   one_line (broken_check r h a) (too_long s l) = absurd (check_long s r l h)
   one_line (broken_check r h a) (broken s k b) = run_or_check s r
@@ -276,20 +265,11 @@ module _ (words : List (List ℕ)) (files : List Named) where
   one_line (broken_check {names = n} {contents = c} {file = f} {b = x} r h a) (broken_check {names = m} {file = g} {b = y} s k b) =
       let both = one_check_breaking c a (subst (λ (z : PairContents). IsCheckBroken z g y) (check_once r s h k) b) in
       ap (λ (z : PairNames). broken_line (pair_name_of z f) x) (same_check_names r s) ∙ ap (λ (z : File). broken_line (pair_name_of m z) x) both.0 ∙ ap (broken_line (pair_name_of m g)) both.1
-  one_line (broken_check {contents = c} r h a) (check_not_built {file = f} s k b) = absurd (check_breaks_or_refuses c a (subst (λ (z : PairContents). IsCheckNotBuilt z f) (check_once r s h k) b))
   one_line (broken_check r h a) (broken_tree s k b) = check_or_tree r s
-  one_line (check_not_built r h a) (too_long s l) = absurd (check_long s r l h)
-  one_line (check_not_built r h a) (broken s k b) = run_or_check s r
-  one_line (check_not_built r h a) (not_built s k b) = run_or_check s r
-  one_line (check_not_built {file = f} r h a) (broken_check {contents = d} s k b) = absurd (check_breaks_or_refuses d b (subst (λ (z : PairContents). IsCheckNotBuilt z f) (check_once s r k h) a))
-  one_line (check_not_built {names = n} {contents = c} {file = f} r h a) (check_not_built {names = m} {file = g} s k b) =
-      ap (λ (z : PairNames). pair_name_of z f ++ codes ": not built\n") (same_check_names r s) ∙ ap (λ (z : File). pair_name_of m z ++ codes ": not built\n") (a.of ∙ sym b.of)
-  one_line (check_not_built r h a) (broken_tree s k b) = check_or_tree r s
   one_line (broken_tree r h a) (too_long s l) = absurd (pair_long s r l h)
   one_line (broken_tree r h a) (broken s k b) = run_or_tree s r
   one_line (broken_tree r h a) (not_built s k b) = run_or_tree s r
   one_line (broken_tree r h a) (broken_check s k b) = check_or_tree s r
-  one_line (broken_tree r h a) (check_not_built s k b) = check_or_tree s r
   one_line (broken_tree {names = n} {contents = c} {file = f} {b = x} r h a) (broken_tree {names = m} {file = g} {b = y} s k b) =
       let both = one_tree_breaking c a (subst (λ (z : PairContents). IsTreeBroken z g y) (pair_once r s h k) b) in
       ap (λ (z : PairNames). broken_line (pair_name_of z f) x) (same_tree_names r s) ∙ ap (λ (z : File). broken_line (pair_name_of m z) x) both.0 ∙ ap (broken_line (pair_name_of m g)) both.1
@@ -301,7 +281,6 @@ module _ (words : List (List ℕ)) (files : List Named) where
     program_or_line (broken {file = f} {b = b} r h breaks) = program_or_broken c p said (subst (λ (x : Contents). IsBroken x f b) (held_once read r held h) breaks)
     program_or_line (not_built {file = f} r h b) = says_or_refuses c p said (subst (λ (x : Contents). IsNotBuilt x f) (held_once read r held h) b)
     program_or_line (broken_check r h b) = run_or_check read r
-    program_or_line (check_not_built r h b) = run_or_check read r
     program_or_line (broken_tree r h b) = run_or_tree read r
 
   output_or_line : (t : List ℕ) {u : List ℕ} → Output words files t → IsRefused words files u → ⊥
@@ -312,7 +291,6 @@ module _ (words : List (List ℕ)) (files : List Named) where
   check_or_line t a (broken r h b) = run_or_check r a.read
   check_or_line t a (not_built r h b) = run_or_check r a.read
   check_or_line t a (broken_check {file = f} {b = b} r h breaks) = counts_or_broken a.contents a.said (subst (λ (x : PairContents). IsCheckBroken x f b) (check_once a.read r a.held h) breaks)
-  check_or_line t a (check_not_built {file = f} r h b) = counts_or_refused a.contents a.said (subst (λ (x : PairContents). IsCheckNotBuilt x f) (check_once a.read r a.held h) b)
   check_or_line t a (broken_tree r h b) = check_or_tree a.read r
 
   tree_or_line : (t : List ℕ) {u : List ℕ} → TreeOutput words files t → IsRefused words files u → ⊥
@@ -320,7 +298,6 @@ module _ (words : List (List ℕ)) (files : List Named) where
   tree_or_line t a (broken r h b) = run_or_tree r a.read
   tree_or_line t a (not_built r h b) = run_or_tree r a.read
   tree_or_line t a (broken_check r h b) = check_or_tree r a.read
-  tree_or_line t a (check_not_built r h b) = check_or_tree r a.read
   tree_or_line t a (broken_tree {file = f} {b = b} r h breaks) = text_or_broken a.contents a.said (subst (λ (x : PairContents). IsTreeBroken x f b) (pair_once a.read r a.held h) breaks)
 
   -- something is asked for, or nothing
@@ -332,7 +309,6 @@ module _ (words : List (List ℕ)) (files : List Named) where
   command_refused (broken r h b) e = given r e
   command_refused (not_built r h b) e = given r e
   command_refused (broken_check r h b) e = given r e
-  command_refused (check_not_built r h b) e = given r e
   command_refused (broken_tree r h b) e = given r e
 
   pub one_answer : (s r : ℕ) (t u : List ℕ) → Answers words files s t → Answers words files r u → s ≤ 2 → r ≤ 2 → (s ≡ r) × (t ≡ u)

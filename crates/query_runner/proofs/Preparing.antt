@@ -11,8 +11,8 @@ use Rattle.query_runner.specs.declared.running.Failure.TheVariants as failures
 use Rattle.query_runner.specs.Answered.{AnswersWhereTold, Stopped, status_of, text_of}
 use Rattle.run_io.specs.Fetched.{FirstLongWhereTold, HoldsPairFetched, HoldsFetched, StopsAll}
 use Rattle.run_io.specs.Files.{PairContents, Contents, File}
-use Rattle.program_reader.specs.Files.{IsBroken, IsCheckBroken, IsCheckNotBuilt, IsNotBuilt, IsTreeBroken, SaysCounts, SaysProgram, SaysText}
-use Rattle.query_runner.specs.Output.{Answers, broken, broken_check, broken_line, broken_tree, check_not_built, counted, full, misused, most_cells, printed, refused, replied, too_long, not_built}
+use Rattle.program_reader.specs.Files.{IsBroken, IsCheckBroken, IsNotBuilt, IsTreeBroken, SaysCounts, SaysProgram, SaysText}
+use Rattle.query_runner.specs.Output.{Answers, broken, broken_check, broken_line, broken_tree, counted, full, misused, most_cells, printed, refused, replied, too_long, not_built}
 use Rattle.query_replies.specs.Replies.{AreReplies}
 use Rattle.run_io.specs.Files.{pair_name_of, files_of, name_of}
 use Rattle.caller_pass.specs.Overfull.{IsOverfull}
@@ -76,12 +76,6 @@ pub broken_check_answer : (words : List (List ℕ)) (files : Option (List Named)
 broken_check_answer words None names held file b (Ok a) read holds cause e = tt
 broken_check_answer words (Some files) names held file b (Ok a) read holds cause e = line_answer words files (broken_line (pair_name_of names file) b) a (refused (broken_check read holds cause)) e
 broken_check_answer words files names held file b (Err f) read holds cause e = tt
-
-pub unbuilt_check_answer : (words : List (List ℕ)) (files : Option (List Named)) (names : PairNames) (held : PairContents) (file : File) (r : Result Answer Failure) → command_of words ≡ Some (Check names) → HoldsPairFetched files names held
-    → IsCheckNotBuilt held file → IfOk r (λ a. (status_of a ≡ 1) × (text_of a ≡ pair_name_of names file ++ codes ": not built\n")) → IfOk r (λ a. AnswersWhereTold words files a)
-unbuilt_check_answer words None names held file (Ok a) read holds cause e = tt
-unbuilt_check_answer words (Some files) names held file (Ok a) read holds cause e = line_answer words files (pair_name_of names file ++ codes ": not built\n") a (refused (check_not_built read holds cause)) e
-unbuilt_check_answer words files names held file (Err f) read holds cause e = tt
 
 pub counts_answer : (words : List (List ℕ)) (files : Option (List Named)) (names : PairNames) (held : PairContents) (text : List ℕ) → command_of words ≡ Some (Check names) → HoldsPairFetched files names held → SaysCounts held text
     → (a : Answer) → status_of a ≡ 0 → text_of a ≡ text → AnswersWhereTold words files a

@@ -9,7 +9,7 @@ use Rattle.caller_pass.specs.Overfull.{IsOverfull}
 use Rattle.query_replies.specs.Replies.{AreReplies}
 use Rattle.run_io.specs.Files.{Contents, PairContents, File, files_of, name_of, pair_name_of}
 use Rattle.run_io.specs.Holding.{HoldsAll, HoldsPair, IsFirstLong}
-use Rattle.program_reader.specs.Files.{SaysCounts, SaysProgram, SaysText, IsBroken, IsCheckBroken, IsCheckNotBuilt, IsNotBuilt, IsTreeBroken}
+use Rattle.program_reader.specs.Files.{SaysCounts, SaysProgram, SaysText, IsBroken, IsCheckBroken, IsNotBuilt, IsTreeBroken}
 use Rattle.run_io.specs.Words.{Check, Command, FileNames, PairNames, PrintTree, Run, command_of}
 
 -- The output for some words, over the files that a shelf holds: the replies of the program that they say.
@@ -52,8 +52,6 @@ pub data IsRefused (words : List (List ℕ)) (files : List Named) : List ℕ →
       → IsRefused words files (name_of names file ++ codes ": not built\n")
   broken_check : {names : PairNames} {contents : PairContents} {file : File} {b : Broken} → command_of words ≡ Some (Check names) → HoldsPair files names contents → IsCheckBroken contents file b
       → IsRefused words files (broken_line (pair_name_of names file) b)
-  check_not_built : {names : PairNames} {contents : PairContents} {file : File} → command_of words ≡ Some (Check names) → HoldsPair files names contents → IsCheckNotBuilt contents file
-      → IsRefused words files (pair_name_of names file ++ codes ": not built\n")
   broken_tree : {names : PairNames} {contents : PairContents} {file : File} {b : Broken} → command_of words ≡ Some (PrintTree names) → HoldsPair files names contents → IsTreeBroken contents file b
       → IsRefused words files (broken_line (pair_name_of names file) b)
 

@@ -156,7 +156,7 @@ fn answer_check<S: Shelf>(
         Err(Refusal::Broken(file, broken)) => {
             refuse_broken(alloc, pair_name_of(names, file), broken)
         }
-        Err(Refusal::NotBuilt(file)) => refuse(alloc, pair_name_of(names, file), ": not built\n"),
+        Err(Refusal::NotBuilt(_)) => unreachable!(),
     }
 }
 

@@ -10,7 +10,7 @@ use ast_grammar::{ClassId, Grammar};
 use attr_equations::{KeptEquation, Rules};
 use attr_rules::{
     Attr, AttrId, Attributes, Dispatch, EqId, Kind, NamedAttr, Params, Part, Reach, Sort, Start,
-    TExpr, Target, ValueType, accessor_of, is_spelled,
+    TExpr, Target, ValueType, Via, accessor_of, is_spelled,
 };
 use broken_rules::ReadFault;
 use std::alloc::{AllocError, Global};
@@ -283,7 +283,7 @@ const NUMBERED: [(u16, u32, u16, Numbered); 23] = [
 fn other_number(rules: &Rules) -> Option<(u16, u32, u16)> {
     for (class, component, attribute, want) in &NUMBERED {
         let (at, of) = (ClassId(*class), AttrId(*attribute));
-        let covering = rules.inh_equation(at, Part(*component), of);
+        let covering = rules.inh_equation(at, Via::Component(Part(*component)), of);
         let own = rules.syn_equation(at, of);
         let first = rules.attributes().first_of_name(of);
         if (covering, own, first) != *want {

@@ -4,7 +4,7 @@ use Rattle.solutions.specs.Asking.{Demands, Ends, Halts}
 use Rattle.solutions.specs.Rounds.{Equations, Graph, HasValue, RoundsEnd, is_in}
 use Rattle.solutions.specs.Rising.{AgreeBelow, LiesBelow, Rise, Under}
 use Rattle.solutions.specs.Leading.{AreUndeclared, HasAllDemands, HasDemands, Mixed, raised}
-use Rattle.solutions.specs.Orders.{Order, IsAtMost, Fits, HasLoopIn, IsClosedIn, IsLowerIn, Related}
+use Rattle.solutions.specs.Orders.{Order, IsAtMost, Fits, HasLoopIn, IsClosedIn, IsLowerIn, LeadsIn, Related}
 
 -- an instance whose equation is stuck under the solution has no value
 abbrev pub HasNoneWhereStuck : {I V : Type 0} → Equations I V → I → Type 0
@@ -73,3 +73,15 @@ PlainRoundsTell {I} {V} G o = (J : List I) (A : I → Option V) → IsLeftByPlai
 -- and so does what any rounds leave
 abbrev pub RoundsTell : {I V : Type 0} → Equations I V → Order I V → Type 0
 RoundsTell {I} {V} G o = (J : List I) (A : I → Option V) → IsLeft G J A → LeavesValuesAndLoops G o J A
+
+-- a list of instances has all that its members lead to
+abbrev pub HasAllLed : {I V : Type 0} → Equations I V → Order I V → List I → Type 0
+HasAllLed {I} G o J = (i j : I) → is_in G.same J i ≡ true → LeadsIn G o i j → is_in G.same J j ≡ true
+
+-- rounds over such a list ran until nothing was added, and left A
+abbrev pub IsLeftByLed : {I V : Type 0} → Equations I V → Order I V → List I → (I → Option V) → Type 0
+IsLeftByLed G o J A = RoundsEnd G J A × HasAllLed G o J
+
+-- what these leave tells values from loops too
+abbrev pub LedRoundsTell : {I V : Type 0} → Equations I V → Order I V → Type 0
+LedRoundsTell {I} {V} G o = (J : List I) (A : I → Option V) → IsLeftByLed G o J A → LeavesValuesAndLoops G o J A

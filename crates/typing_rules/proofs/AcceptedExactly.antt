@@ -1,19 +1,18 @@
 -- Aspects that break no rule.
-use Rattle.std.proofs.Common.{◌≡◌, ◌↔◌, List, [], ◌∷◌, true, None, sym, subst}
+use Rattle.std.proofs.Common.{◌≡◌, ◌↔◌, List, [], ◌∷◌, None, sym, subst}
 use Rattle.std.specs.List.{flat_map}
 use Rattle.broken_rules.specs.Answers.{Answers, clean, passes}
 use Rattle.broken_rules.specs.declared.broken.Broken.{Broken}
 use Rattle.broken_rules.proofs.Clean.{append_none, phase_none}
 use Rattle.ast_grammar.specs.Grammar.{Class}
 use Rattle.aspect_items.specs.Items.{Item}
-use Rattle.built_forms.specs.Built.{all_built}
 use Rattle.attr_scope.specs.Written.{contributions, declarations, givens}
 use Rattle.attr_heads.specs.Contributions.{contributions_broken}
 use Rattle.attr_heads.specs.Heads.{attributes_of}
 use Rattle.attr_heads.specs.Targets.{targets_broken}
 use Rattle.attr_types.specs.Phases.{equation_broken, expressions_broken, phases_of}
 use Rattle.typing_rules.specs.EquationTypes.{IsAccepted}
-use Rattle.typing_rules.proofs.ContributionsTyped.{contributions_built, contributions_exactly}
+use Rattle.typing_rules.proofs.ContributionsTyped.{contributions_exactly}
 use Rattle.typing_rules.proofs.EquationsTyped.{equations_exactly}
 use Rattle.typing_rules.proofs.NothingBroken.{none_after}
 
@@ -21,11 +20,11 @@ use Rattle.typing_rules.proofs.NothingBroken.{none_after}
 four_passed : {a b c d : List Broken} → a ≡ [] → b ≡ [] → c ≡ [] → d ≡ [] → Answers (a ∷ b ∷ c ∷ d ∷ []) None
 four_passed h i j k = subst (λ (x : Type 0). x) (λ l. Answers (sym h l ∷ sym i l ∷ sym j l ∷ sym k l ∷ []) None) (passes (passes (passes (passes clean))))
 
-pub accepted_exactly : (g : List Class) (items : List Item) → all_built items ≡ true → Answers (phases_of g items) None ↔ IsAccepted g items
-accepted_exactly g items built =
+pub accepted_exactly : (g : List Class) (items : List Item) → Answers (phases_of g items) None ↔ IsAccepted g items
+accepted_exactly g items =
     let attributes = attributes_of g (declarations items) in
-    let equations = equations_exactly g attributes items built in
-    let offered = contributions_exactly g attributes (contributions items) (contributions_built items built) in (
+    let equations = equations_exactly g attributes (givens items) in
+    let offered = contributions_exactly g attributes (contributions items) in (
       (λ a.
           let heads = phase_none a in
           let uses = phase_none heads.1 in

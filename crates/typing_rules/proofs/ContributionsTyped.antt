@@ -1,56 +1,39 @@
--- The expressions of contributions that are built.
-use Rattle.std.proofs.Common.{◌≡◌, ◌↔◌, List, [], ◌++◌, All, true, Option, Some, None, refl, subst, ◌&&◌}
+-- The expressions of contributions.
+use Rattle.std.proofs.Common.{◌≡◌, ◌↔◌, List, [], ◌++◌, All, Option, Some, None, refl}
 use Rattle.std.specs.List.{flat_map}
-use Rattle.std.proofs.lemmas.Bool.{and_parts}
 use Rattle.std.proofs.lemmas.List.Elements.{All-nil}
 use Rattle.broken_rules.proofs.Clean.{append_none, flat_map_found}
 use Rattle.ast_grammar.specs.Grammar.{Class}
 use Rattle.aspect_items.specs.Expressions.{Expr}
-use Rattle.aspect_items.specs.Items.{Collects, Contributes, Contribution, Declared, Equates, Inherits, Item}
+use Rattle.aspect_items.specs.Items.{Contribution}
 use Rattle.attr_rules.specs.declared.kinds.Kind.TheVariants as kinds
 use Rattle.attr_rules.specs.Rules.{Attribute}
-use Rattle.built_forms.specs.Built.{all_built, is_built, is_built_body, is_built_item}
 use Rattle.attr_scope.specs.Scope.{Scope}
-use Rattle.attr_scope.specs.Written.{contributed_in, contributions}
 use Rattle.attr_scope.proofs.ItemsFound.{all_found}
 use Rattle.attr_heads.specs.Contributions.{aim_of}
 use Rattle.expr_typing.specs.declared.standing.Stands.TheVariants.{Anywhere}
 use Rattle.attr_bodies.specs.Bodies.{operand_broken}
 use Rattle.attr_types.specs.Phases.{condition_broken, expressions_broken, wanted_from}
-use Rattle.attr_types.proofs.BuiltFound.{built_found}
-use Rattle.typing_rules.specs.ContributionTypes.{AreWellTyped, IsBuilt, IsCondition, scope_in}
+use Rattle.typing_rules.specs.ContributionTypes.{AreWellTyped, IsCondition, scope_in}
 use Rattle.typing_rules.specs.TypeRules.{NamesAreKnown}
 use Rattle.typing_rules.proofs.EquationsTyped.{IsKnown, all_at, none_each}
 use Rattle.typing_rules.proofs.NothingBroken.{none_after}
 use Rattle.typing_rules.proofs.WellTyped.{exactly}
 
--- the expressions of a contribution among built items are built
-built_in : (item : Item) (c : Contribution) → is_built_item item ≡ true → contributed_in item ≡ Some c → IsBuilt c
-built_in (Declared s) c built is = absurd (cc)
-built_in (Inherits i) c built is = absurd (cc)
-built_in (Equates e) c built is = absurd (cc)
-built_in (Collects k) c built is = absurd (cc)
-built_in (Contributes d) c built is = let same : d ≡ c = cc in subst IsBuilt same built
-
-pub contributions_built : (items : List Item) → all_built items ≡ true → All IsBuilt (contributions items)
-contributions_built items built = all_found IsBuilt (contributions items) (λ i c is. (let from = built_found contributed_in items i c built is in built_in from.item c from.built from.gives))
-
-condition_exactly : (s : Scope) (o : Option Expr) → NamesAreKnown s → is_built_body o ≡ true → (condition_broken s o ≡ []) ↔ IsCondition s o
-condition_exactly s None known built = ((λ none. tt), (λ nothing. refl))
-condition_exactly s (Some e) known built = exactly s e kinds.Truth known built
+condition_exactly : (s : Scope) (o : Option Expr) → NamesAreKnown s → (condition_broken s o ≡ []) ↔ IsCondition s o
+condition_exactly s None known = ((λ none. tt), (λ nothing. refl))
+condition_exactly s (Some e) known = exactly s e kinds.Truth known
 
 module _ (g : List Class) (attributes : List Attribute) where
-  contribution_exactly : (c : Contribution) → IsBuilt c → (expressions_broken g attributes c ≡ []) ↔ AreWellTyped g attributes c
-  contribution_exactly c built =
-      let first = and_parts (is_built c.value) (is_built_body c.condition && is_built c.receiver) built in
-      let others = and_parts (is_built_body c.condition) (is_built c.receiver) first.1 in
+  contribution_exactly : (c : Contribution) → (expressions_broken g attributes c ≡ []) ↔ AreWellTyped g attributes c
+  contribution_exactly c =
       let s = scope_in g attributes c in
       let aim = aim_of g attributes c in
       let wanted = wanted_from attributes aim.collection.0 in
       let no_names : NamesAreKnown s = All-nil IsKnown in
-      let condition = condition_exactly s c.condition no_names others.0 in
-      let receiver = exactly s c.receiver (kinds.Node aim.receiver) no_names others.1 in
-      let value = exactly s c.value wanted no_names first.0 in
+      let condition = condition_exactly s c.condition no_names in
+      let receiver = exactly s c.receiver (kinds.Node aim.receiver) no_names in
+      let value = exactly s c.value wanted no_names in
       let last = operand_broken s Anywhere wanted c.value in
       let rest = operand_broken s Anywhere (kinds.Node aim.receiver) c.receiver ++ last in (
         (λ none.
@@ -61,8 +44,8 @@ module _ (g : List Class) (attributes : List Attribute) where
       )
 
   -- they break nothing exactly where each is well typed
-  pub contributions_exactly : (offered : List Contribution) → All IsBuilt offered → (flat_map (expressions_broken g attributes) offered ≡ []) ↔ All (AreWellTyped g attributes) offered
-  contributions_exactly offered built = (
-    (λ none. all_found (AreWellTyped g attributes) offered (λ i c is. (contribution_exactly c (all_at IsBuilt offered i c built is)).0 (flat_map_found (expressions_broken g attributes) offered i c none is))),
-    (λ all. none_each (expressions_broken g attributes) offered (λ i c is. (contribution_exactly c (all_at IsBuilt offered i c built is)).1 (all_at (AreWellTyped g attributes) offered i c all is))),
+  pub contributions_exactly : (offered : List Contribution) → (flat_map (expressions_broken g attributes) offered ≡ []) ↔ All (AreWellTyped g attributes) offered
+  contributions_exactly offered = (
+    (λ none. all_found (AreWellTyped g attributes) offered (λ i c is. (contribution_exactly c).0 (flat_map_found (expressions_broken g attributes) offered i c none is))),
+    (λ all. none_each (expressions_broken g attributes) offered (λ i c is. (contribution_exactly c).1 (all_at (AreWellTyped g attributes) offered i c all is))),
   )

@@ -1,6 +1,7 @@
 pub mod AcceptedExactly
 pub mod AccessorsSpelled
 pub mod ContributionsTyped
+pub mod CreatedTyped
 pub mod EquationsTyped
 pub mod MembersNamed
 pub mod NamesMean

@@ -147,7 +147,8 @@ module _ (g : List Class) where
     compared_none o v w rules.equal h j same = equal_none v w h j same
     compared_none o v w rules.differ h j same = equal_none v w h j same
 
-  class_none : (n : Name) (c : ℕ) → class_named g n.text ≡ Some c → class_broken g n ≡ []
+  -- a class that is named
+  pub class_none : (n : Name) (c : ℕ) → class_named g n.text ≡ Some c → class_broken g n ≡ []
   class_none n c is = none_if (at n.place J2) (ap is_none is)
 
 node_none : (o : Option ValueType) (t : ValueType) (e : Expr) → o ≡ Some t → is_node t ≡ true → no_node o e ≡ []

@@ -2,7 +2,7 @@
 use Rattle.std.proofs.Common.{◌≡◌, ℕ, ◌≤◌, ◌==◌, ◌⊎◌, inl, inr, List, [], ◌∷◌, ◌++◌, Bool, true, false, not, ◌&&◌, Option, Some, None, IsSome, is_none, length, nat_lt, refl, ap, sym, ◌∙◌, subst, arith, if◌then◌else◌, eqb-true}
 use Rattle.std.specs.Option.{option_and_then, option_map}
 use Rattle.std.specs.Str.{bytes_eq}
-use Rattle.std.proofs.lemmas.Bool.{and_parts, ltb-false, not-false}
+use Rattle.std.proofs.lemmas.Bool.{ltb-false, not-false}
 use Rattle.std.proofs.lemmas.List.Elements.{All-cons}
 use Rattle.rag_io.specs.declared.token.Place.{Place}
 use Rattle.broken_rules.specs.declared.rule.Rule.TheVariants.{J9, J10, J11, J17}
@@ -27,7 +27,6 @@ use Rattle.aspect_items.specs.declared.expression.Operator.TheVariants as signs
 use Rattle.aspect_items.specs.declared.expression.Quantifier.{Quantifier}
 use Rattle.aspect_items.specs.declared.expression.Quantifier.TheVariants as quantifiers
 use Rattle.aspect_items.specs.Expressions.{Expr, Arguments, Name, no_more, argument, Truth, Null, Empty, This, Int, Text, Source, Variable as Named, Call, Member, New, Quantified, Group, Cast, Not, Negate, Binary, InstanceOf, If}
-use Rattle.built_forms.specs.Built.{are_built, is_built}
 use Rattle.attr_scope.specs.declared.scope.Member as member
 use Rattle.attr_scope.specs.declared.scope.Member.TheVariants as members
 use Rattle.attr_scope.specs.Classes.{class_broken}
@@ -474,92 +473,85 @@ module _ (s : Scope) (n : Name) (es : Arguments) (fit : IsFitted s n es) (formed
 
 mutual
   -- what breaks nothing where it stands, has a type, or is what may stand there alone
-  found : (s : Scope) → NamesAreKnown s → (e : Expr) (w : Stands) → is_built e ≡ true → expr_broken s w e ≡ [] → Good s e w
-  found s all (Truth p b) w built none = good w (record { type = types.Of kinds.Truth; is = refl; typed = rules.truth p b })
-  found s all (Null p) w built none = good w (record { type = types.Null; is = refl; typed = rules.null p })
-  found s all (Empty p) w built none = good w (record { type = types.Empty; is = refl; typed = rules.empty p })
-  found s all (This p) w built none = good w (record { type = of_class s.this; is = refl; typed = rules.this p })
-  found s all (Int p n) w built none = literal_good s w p n none
-  found s all (Text p n) w built none = good w (record { type = types.Of kinds.Text; is = refl; typed = rules.text p n })
-  found s all (Source p n) w built none = absurd (cc)
-  found s all (Named n) w built none = good w (variable_found s all n (not_broken (is_none (variable_named s n.text)) (at n.place J9) none))
-  found s all (Call n es) w built none =
+  found : (s : Scope) → NamesAreKnown s → (e : Expr) (w : Stands) → expr_broken s w e ≡ [] → Good s e w
+  found s all (Truth p b) w none = good w (record { type = types.Of kinds.Truth; is = refl; typed = rules.truth p b })
+  found s all (Null p) w none = good w (record { type = types.Null; is = refl; typed = rules.null p })
+  found s all (Empty p) w none = good w (record { type = types.Empty; is = refl; typed = rules.empty p })
+  found s all (This p) w none = good w (record { type = of_class s.this; is = refl; typed = rules.this p })
+  found s all (Int p n) w none = literal_good s w p n none
+  found s all (Text p n) w none = good w (record { type = types.Of kinds.Text; is = refl; typed = rules.text p n })
+  found s all (Source p n) w none = absurd (cc)
+  found s all (Named n) w none = good w (variable_found s all n (not_broken (is_none (variable_named s n.text)) (at n.place J9) none))
+  found s all (Call n es) w none =
       placed s (Call n es) w
-      (alone_found s n es (λ ks inner many. fitted s all es ks built inner many) (λ f form inner none. formed s all f n es form built inner none) (is_range w) (form_named n.text) refl none)
-  found s all (Member e n es) w built none =
+      (alone_found s n es (λ ks inner many. fitted s all es ks inner many) (λ f form inner none. formed s all f n es form inner none) (is_range w) (form_named n.text) refl none)
+  found s all (Member e n es) w none =
       let wanted = wanted_for s (member_on s (known s e) n.text (count es)) (count es) in
       let call = call_broken s (is_range w) n (count es) (place_of e) (known s e) in
       let parts = append_none (expr_broken s Anywhere e) (call ++ arguments_broken s wanted es) none in
       let rest = append_none call (arguments_broken s wanted es) parts.1 in
-      let both = and_parts (is_built e) (are_built es) built in
-      placed s (Member e n es) w (member_found s n es (λ ks inner many. fitted s all es ks both.1 inner many) (is_range w) e (found s all e Anywhere both.0 parts.0) rest.0 rest.1)
-  found s all (New p n es) w built none = absurd (cc)
-  found s all (Quantified q p n r e) w built none =
+      placed s (Member e n es) w (member_found s n es (λ ks inner many. fitted s all es ks inner many) (is_range w) e (found s all e Anywhere parts.0) rest.0 rest.1)
+  found s all (New p n es) w none = absurd (cc)
+  found s all (Quantified q p n r e) w none =
       let fit = body_misfit s.grammar q (known (inside s q n r) e) e in
       let parts = append_none (expr_broken s Range r ++ no_range q (known s r) r) (expr_broken (inside s q n r) Anywhere e ++ fit) none in
       let first = append_none (expr_broken s Range r) (no_range q (known s r) r) parts.0 in
       let last = append_none (expr_broken (inside s q n r) Anywhere e) fit parts.1 in
-      let both = and_parts (is_built r) (is_built e) built in
-      let range = range_found s r q (found s all r Range both.0 first.0) first.1 in
-      let body = found (inside s q n r) (inside_known s p n r e q range.over range.is all) e Anywhere both.1 last.0 in
+      let range = range_found s r q (found s all r Range first.0) first.1 in
+      let body = found (inside s q n r) (inside_known s p n r e q range.over range.is all) e Anywhere last.0 in
       good w (quantified_found s p n r e q range body last.1)
-  found s all (Group p e) w built none = let h = found s all e Anywhere built none in good w (record { type = h.type; is = h.is; typed = rules.group p h.type h.typed })
-  found s all (Cast p n e) w built none =
+  found s all (Group p e) w none = let h = found s all e Anywhere none in good w (record { type = h.type; is = h.is; typed = rules.group p h.type h.typed })
+  found s all (Cast p n e) w none =
       let node = no_node (known s e) e in
       let parts = append_none (class_broken s.grammar n) (expr_broken s Anywhere e ++ node) none in
       let rest = append_none (expr_broken s Anywhere e) node parts.1 in
-      good w (cast_found s e (found s all e Anywhere built rest.0) p n parts.0 rest.1)
-  found s all (Not p e) w built none =
+      good w (cast_found s e (found s all e Anywhere rest.0) p n parts.0 rest.1)
+  found s all (Not p e) w none =
       let parts = append_none (expr_broken s Anywhere e) (misfit s.grammar kinds.Truth (known s e) e) none in
-      good w (record { type = types.Of kinds.Truth; is = refl; typed = rules.not p (wanted_truth s e (found s all e Anywhere built parts.0) parts.1) })
-  found s all (Negate p e) w built none =
+      good w (record { type = types.Of kinds.Truth; is = refl; typed = rules.not p (wanted_truth s e (found s all e Anywhere parts.0) parts.1) })
+  found s all (Negate p e) w none =
       let parts = append_none (expr_broken s Negated e) (misfit s.grammar kinds.Int (known s e) e) none in
-      good w (negate_found s p e (found s all e Negated built parts.0) parts.1)
-  found s all (Binary o a b) w built none =
+      good w (negate_found s p e (found s all e Negated parts.0) parts.1)
+  found s all (Binary o a b) w none =
       let sides = sides_broken s.grammar o (known s a) a (known s b) b in
       let parts = append_none (expr_broken s Anywhere a) (expr_broken s Anywhere b ++ sides) none in
       let rest = append_none (expr_broken s Anywhere b) sides parts.1 in
-      let both = and_parts (is_built a) (is_built b) built in
-      good w (binary_found s a b (found s all a Anywhere both.0 parts.0) (found s all b Anywhere both.1 rest.0) o rest.1)
-  found s all (InstanceOf e n) w built none =
+      good w (binary_found s a b (found s all a Anywhere parts.0) (found s all b Anywhere rest.0) o rest.1)
+  found s all (InstanceOf e n) w none =
       let node = no_node (known s e) e in
       let parts = append_none (class_broken s.grammar n) (expr_broken s Anywhere e ++ node) none in
       let rest = append_none (expr_broken s Anywhere e) node parts.1 in
-      good w (test_found s e (found s all e Anywhere built rest.0) n parts.0 rest.1)
-  found s all (If c a b) w built none =
+      good w (test_found s e (found s all e Anywhere rest.0) n parts.0 rest.1)
+  found s all (If c a b) w none =
       let choice = choice_broken s.grammar (known s c) c (known s a) (known s b) b in
       let parts = append_none (expr_broken s Anywhere c) (expr_broken s Anywhere a ++ (expr_broken s Anywhere b ++ choice)) none in
       let rest = append_none (expr_broken s Anywhere a) (expr_broken s Anywhere b ++ choice) parts.1 in
       let last = append_none (expr_broken s Anywhere b) choice rest.1 in
-      let three = and_parts (is_built c) (is_built a && is_built b) built in
-      let both = and_parts (is_built a) (is_built b) three.1 in
-      good w (choice_found s a b (found s all a Anywhere both.0 rest.0) (found s all b Anywhere both.1 last.0) c (found s all c Anywhere three.0 parts.0) last.1)
+      good w (choice_found s a b (found s all a Anywhere rest.0) (found s all b Anywhere last.0) c (found s all c Anywhere parts.0) last.1)
 
   -- one of the forms of sets
-  formed : (s : Scope) → NamesAreKnown s → (f : SetForm) (n : Name) (es : Arguments) → IsForm n.text f → are_built es ≡ true → arguments_broken s [] es ≡ [] → form_broken s f n es ≡ [] → FormFound s f n es
-  formed s all f n no_more form built inner none = absurd (cc)
-  formed s all f n (argument a no_more) form built inner none =
+  formed : (s : Scope) → NamesAreKnown s → (f : SetForm) (n : Name) (es : Arguments) → IsForm n.text f → arguments_broken s [] es ≡ [] → form_broken s f n es ≡ [] → FormFound s f n es
+  formed s all f n no_more form inner none = absurd (cc)
+  formed s all f n (argument a no_more) form inner none =
       let first = append_none (expr_broken s Anywhere a) [] inner in
-      one_found s n a (found s all a Anywhere (and_parts (is_built a) true built).0 first.0) f form none
-  formed s all f n (argument a (argument b no_more)) form built inner none =
-      let both = and_parts (is_built a) (is_built b && true) built in
+      one_found s n a (found s all a Anywhere first.0) f form none
+  formed s all f n (argument a (argument b no_more)) form inner none =
       let first = append_none (expr_broken s Anywhere a) (expr_broken s Anywhere b ++ []) inner in
       let second = append_none (expr_broken s Anywhere b) [] first.1 in
-      pair_found s n a (found s all a Anywhere both.0 first.0) b (found s all b Anywhere (and_parts (is_built b) true both.1).0 second.0) f form none
-  formed s all f n (argument a (argument b (argument c es))) form built inner none = absurd (cc)
+      pair_found s n a (found s all a Anywhere first.0) b (found s all b Anywhere second.0) f form none
+  formed s all f n (argument a (argument b (argument c es))) form inner none = absurd (cc)
 
   -- the arguments of a call, which are as many as are wanted
-  fitted : (s : Scope) → NamesAreKnown s → (es : Arguments) (ks : List Kind) → are_built es ≡ true → arguments_broken s ks es ≡ [] → length ks ≡ count es → Fit s es ks
-  fitted s all no_more [] built none many = rules.end
-  fitted s all no_more (k ∷ ks) built none many = absurd (omega (arith, many))
-  fitted s all (argument e es) [] built none many = absurd (omega (arith, many))
-  fitted s all (argument e es) (k ∷ ks) built none many =
-      let both = and_parts (is_built e) (are_built es) built in
+  fitted : (s : Scope) → NamesAreKnown s → (es : Arguments) (ks : List Kind) → arguments_broken s ks es ≡ [] → length ks ≡ count es → Fit s es ks
+  fitted s all no_more [] none many = rules.end
+  fitted s all no_more (k ∷ ks) none many = absurd (omega (arith, many))
+  fitted s all (argument e es) [] none many = absurd (omega (arith, many))
+  fitted s all (argument e es) (k ∷ ks) none many =
       let parts = append_none (expr_broken s Anywhere e) (misfit s.grammar k (known s e) e ++ arguments_broken s ks es) none in
       let rest = append_none (misfit s.grammar k (known s e) e) (arguments_broken s ks es) parts.1 in
-      let first = found s all e Anywhere both.0 parts.0 in
-      rules.more first.type first.typed (fitting s.grammar (known s e) first.type e first.is k rest.0) (fitted s all es ks both.1 rest.1 (omega (arith, many)))
+      let first = found s all e Anywhere parts.0 in
+      rules.more first.type first.typed (fitting s.grammar (known s e) first.type e first.is k rest.0) (fitted s all es ks rest.1 (omega (arith, many)))
 
 -- an expression that breaks nothing has a type
-pub type_found : (s : Scope) → NamesAreKnown s → (e : Expr) → is_built e ≡ true → expr_broken s Anywhere e ≡ [] → Found s e
-type_found s all e built none = found s all e Anywhere built none
+pub type_found : (s : Scope) → NamesAreKnown s → (e : Expr) → expr_broken s Anywhere e ≡ [] → Found s e
+type_found s all e none = found s all e Anywhere none

@@ -1,20 +1,14 @@
 -- Contributions whose expressions are well typed.
-use Rattle.std.specs.Prelude.{◌≡◌, ◌↔◌, All, true, List, [], Option, Some, None}
+use Rattle.std.specs.Prelude.{◌≡◌, ◌↔◌, All, List, [], Option, Some, None}
 use Rattle.ast_grammar.specs.Grammar.{Class}
-use Rattle.attr_rules.specs.declared.kinds.Kind.{Kind}
 use Rattle.attr_rules.specs.declared.kinds.Kind.TheVariants as kinds
 use Rattle.attr_rules.specs.Rules.{Attribute}
 use Rattle.aspect_items.specs.Expressions.{Expr}
 use Rattle.aspect_items.specs.Items.{Contribution}
-use Rattle.built_forms.specs.Built.{is_built_contribution}
 use Rattle.attr_scope.specs.Scope.{Scope}
 use Rattle.attr_heads.specs.Contributions.{aim_of}
 use Rattle.attr_types.specs.Phases.{offers_broken, scope_at, wanted_from}
 use Rattle.typing_rules.specs.TypeRules.{IsOf}
-
--- the expressions of a contribution are evaluated so far
-abbrev pub IsBuilt : Contribution → Type 0
-IsBuilt c = is_built_contribution c ≡ true
 
 -- a condition is a truth value, where one is written
 abbrev pub IsCondition : Scope → Option Expr → Type 0

@@ -1,4 +1,5 @@
 pub mod ContributionTypes
+pub mod CreatedTypes
 pub mod EquationTypes
 pub mod FittingRules
 pub mod MemberRules

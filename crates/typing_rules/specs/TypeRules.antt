@@ -79,8 +79,8 @@ abbrev pub with_element : Scope → Name → Kind → Scope
 with_element s n k = with_variable s (record { name = n.text; type = Some (types.Of k) })
 
 mutual
-  -- In a scope, an expression is of a type. A source node `@k` and `new` are of none: the first stands in queries alone, and the second isn't
-  -- evaluated so far.
+  -- In a scope, an expression is of a type. A source node `@k` and `new` are of none: the first stands in queries alone, and the second makes a tree,
+  -- as the whole right side of an equation of a higher-order attribute or as a child of another `new`.
   pub data IsTyped : Scope → Expr → ValueType → Type 0 where
     truth : {s : Scope} (p : Place) (b : Bool) → IsTyped s (Truth p b) (types.Of kinds.Truth)
     null : {s : Scope} (p : Place) → IsTyped s (Null p) types.Null

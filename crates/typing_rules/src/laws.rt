@@ -1,5 +1,5 @@
 // That exactly the expressions that have no type by the rules break one.
-ghost use Rattle.std.specs.Prelude.{◌≡◌, ◌↔◌, ℕ, All, List, [], None, Some, true};
+ghost use Rattle.std.specs.Prelude.{◌≡◌, ◌↔◌, ℕ, List, [], None, Some, true};
 ghost use Rattle.broken_rules.specs.Answers.{Answers};
 ghost use Rattle.ast_grammar.specs.declared.grammar.ClassId.{ClassId};
 ghost use Rattle.ast_grammar.specs.Grammar.{Class, IsGrammar};
@@ -11,14 +11,16 @@ ghost use Rattle.attr_rules.specs.Rules.{Attribute};
 ghost use Rattle.attr_rules.specs.Types.{common, fits};
 ghost use Rattle.aspect_items.specs.Expressions.{Expr};
 ghost use Rattle.aspect_items.specs.Items.{Contribution, Item};
-ghost use Rattle.built_forms.specs.Built.{all_built, is_built};
 ghost use Rattle.attr_scope.specs.Scope.{Scope};
+ghost use Rattle.attr_scope.specs.Written.{Given};
 ghost use Rattle.expr_typing.specs.declared.standing.Stands.{Stands};
 ghost use Rattle.expr_typing.specs.declared.standing.Stands.TheVariants.{Anywhere};
 ghost use Rattle.expr_typing.specs.Typed.{known};
 ghost use Rattle.attr_bodies.specs.Bodies.{expr_broken, operand_broken};
+ghost use Rattle.attr_bodies.specs.Created.{created_broken};
 ghost use Rattle.attr_types.specs.Phases.{phases_of};
-ghost use Rattle.typing_rules.specs.ContributionTypes.{IsBuilt, OffersExactly};
+ghost use Rattle.typing_rules.specs.ContributionTypes.{OffersExactly};
+ghost use Rattle.typing_rules.specs.CreatedTypes.{IsCreated};
 ghost use Rattle.typing_rules.specs.EquationTypes.{EquationsExactly, HaveTargets, IsAccepted};
 ghost use Rattle.typing_rules.specs.FittingRules.{BothFit, Fits};
 ghost use Rattle.typing_rules.specs.MemberRules.{Calls, IsNamedAlone, IsOverGrammar, IsSpelled, Reads};
@@ -27,7 +29,13 @@ ghost use Rattle.typing_rules.specs.TypeRules.{IsOf, IsTyped, NamesAreKnown};
 /// Where the types of all names are known, an expression of which a type is wanted breaks no rule exactly where it has a type by the rules that
 /// fits: nothing that is well typed is refused, and nothing else is let through.
 pub fn well_typed_exactly()
-    ensures { (s : Scope) (e : Expr) (wanted : Kind) → NamesAreKnown s → is_built e ≡ true → (operand_broken s Anywhere wanted e ≡ []) ↔ IsOf s wanted e }
+    ensures { (s : Scope) (e : Expr) (wanted : Kind) → NamesAreKnown s → (operand_broken s Anywhere wanted e ≡ []) ↔ IsOf s wanted e }
+{}
+
+/// Where the types of all names are known, the right side of an equation of a higher-order attribute breaks no rule exactly where it makes a tree by the
+/// rules, of a class that fits, with no more than 16 nodes and 16 token values.
+pub fn created_exactly()
+    ensures { (s : Scope) (e : Expr) (wanted : Kind) → NamesAreKnown s → (created_broken s wanted e ≡ []) ↔ IsCreated s wanted e }
 {}
 
 /// What has a type breaks nothing wherever it stands, behind a minus and as a range too.
@@ -60,19 +68,20 @@ pub fn common_types_are_least()
     ensures none { (g : List Class) (t u : ValueType) (k : Kind) → IsGrammar g → common g t u ≡ None → BothFit g t u k → ⊥ }
 {}
 
-/// Equations whose targets break nothing break no rule on expressions exactly where each right side has a type by the rules that fits its attribute.
+/// Equations whose targets break nothing break no rule on expressions exactly where each right side fits its attribute: that of a higher-order one makes
+/// a tree by the rules, and the others have a type by them.
 pub fn equations_well_typed_exactly()
-    ensures { (g : List Class) (attributes : List Attribute) (items : List Item) → HaveTargets g attributes items → EquationsExactly g attributes items }
+    ensures { (g : List Class) (attributes : List Attribute) (list : List Given) → HaveTargets g attributes list → EquationsExactly g attributes list }
 {}
 
 /// Contributions break no rule on expressions exactly where each condition is a truth value by the rules, each receiver has a type that fits the class
 /// behind `to`, and each value one that fits what is contributed to the collection.
 pub fn contributions_well_typed_exactly()
-    ensures { (g : List Class) (attributes : List Attribute) (offered : List Contribution) → All IsBuilt offered → OffersExactly g attributes offered }
+    ensures { (g : List Class) (attributes : List Attribute) (offered : List Contribution) → OffersExactly g attributes offered }
 {}
 
 /// Aspects break no rule exactly where their declarations, what their equations and contributions are for, and completeness break none, each right side
-/// has a type by the rules that fits, and so have the expressions of each contribution.
+/// fits by the rules, and so do the expressions of each contribution.
 pub fn accepted_exactly()
-    ensures { (g : List Class) (items : List Item) → all_built items ≡ true → Answers (phases_of g items) None ↔ IsAccepted g items }
+    ensures { (g : List Class) (items : List Item) → Answers (phases_of g items) None ↔ IsAccepted g items }
 {}

@@ -1,6 +1,5 @@
 use Rattle.std.proofs.Common.{◌≡◌, ◌∙◌, ap, option_map, subst, sym}
 use Rattle.std.specs.Borrow.{Bor}
-use Rattle.ast_grammar.specs.Grammar.{Class}
 use Rattle.broken_rules.specs.declared.rule.Rule.TheVariants.{J13}
 use Rattle.broken_rules.specs.Notes.{Notes, at}
 use Rattle.broken_rules.proofs.Noting.{notes_if, notes_then}

@@ -18,7 +18,9 @@ loop-count-preserved c =
     let longer = sym (taken seen_head xs i c.index-heads-count.is c.loop-count-test.true) in
     record {
       noted = notes_each_after_seen seen_head xs i (head_broken g) c.index-heads-count.is c.loop-count-test.true c.loop-count.invariant.noted
-          (notes_then (c.in_ok-check_named.ensures.noted before told (length-taken seen_head xs i c.loop-count-test.true)) (notes_then c.check_start.ensures (notes_then (c.in_ok-check_other.ensures.noted before first) (notes_then c.check_collection.ensures c.in_ok-check_own_parameters.ensures))));
+          (notes_then (c.in_ok-check_named.ensures.noted before told (length-taken seen_head xs i c.loop-count-test.true))
+          (notes_then c.check_start.ensures (notes_then c.check_created_type.ensures
+          (notes_then (c.in_ok-check_other.ensures.noted before first) (notes_then c.check_collection.ensures c.in_ok-check_own_parameters.ensures)))));
       told = subst (λ zs. Tells g zs c.check_named.new.declared) longer (c.in_ok-check_named.ensures.told before told);
       first = subst (λ zs. TellsFirst zs c.check_other.new.inheriting.heads) longer (c.in_ok-check_other.ensures.told before first);
     }

@@ -1,5 +1,6 @@
 -- The calls go down the expression.
 use Rattle.std.proofs.Common.{◌+◌, ◌*◌, max}
+use Rattle.attr_rules.proofs.expression.NewArgs.TheLaws.{the_size as new_size}
 use Rattle.attr_rules.proofs.expression.TArgs.TheLaws.{the_size as arguments_size}
 use Rattle.attr_rules.proofs.expression.TExpr.TheLaws.{the_size}
 use Rattle.attr_types.proofs.both_sides.+sides.Given as goal
@@ -12,3 +13,6 @@ decreases-set_pair a = 2 * max (the_size a.first.now) (the_size a.second.now) + 
 
 abbrev pub decreases-set_arguments : goal.decreases-set_arguments
 decreases-set_arguments a = 2 * arguments_size a.arguments.now
+
+abbrev pub decreases-set_new : goal.decreases-set_new
+decreases-set_new a = 2 * new_size a.arguments.now

@@ -1,5 +1,4 @@
 use Rattle.aspect_items.specs.Items.{seen_contribution}
-use Rattle.attr_rules.specs.Expression.{expression_of}
 use Rattle.attr_types.proofs.ContributionBodies.{contribution_noted, contribution_said}
 use Rattle.attr_types.proofs.contributions.type_contribution.Goals as goal
 

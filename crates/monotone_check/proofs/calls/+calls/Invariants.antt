@@ -1,5 +1,6 @@
 -- The calls go down the expression.
 use Rattle.std.proofs.Common.{◌+◌, ◌*◌, max}
+use Rattle.attr_rules.proofs.expression.NewArgs.TheLaws.{the_size as new_size}
 use Rattle.attr_rules.proofs.expression.TArgs.TheLaws.{the_size as arguments_size}
 use Rattle.attr_rules.proofs.expression.TExpr.TheLaws.{the_size}
 use Rattle.monotone_check.proofs.calls.+calls.Given as goal
@@ -12,6 +13,9 @@ decreases-check_two a = 3 * max (the_size a.first.now) (the_size a.second.now) +
 
 abbrev pub decreases-check_arguments : goal.decreases-check_arguments
 decreases-check_arguments a = 3 * arguments_size a.arguments.now
+
+abbrev pub decreases-check_tokens : goal.decreases-check_tokens
+decreases-check_tokens a = 3 * new_size a.arguments.now
 
 abbrev pub decreases-check_over : goal.decreases-check_over
 decreases-check_over a = 3 * max (the_size a.set.now) (the_size a.body.now) + 2

@@ -1,5 +1,6 @@
 -- The calls go down the expression.
 use Rattle.std.proofs.Common.{◌+◌, ◌*◌, max}
+use Rattle.attr_rules.proofs.expression.NewArgs.TheLaws.{the_size as new_size}
 use Rattle.attr_rules.proofs.expression.TArgs.TheLaws.{the_size as arguments_size}
 use Rattle.attr_rules.proofs.expression.TExpr.TheLaws.{the_size}
 use Rattle.plain_rounds.proofs.rising.+calls.Given as goal
@@ -12,3 +13,6 @@ decreases-one_calls a = 3 * max (the_size a.first.now) (the_size a.second.now) +
 
 abbrev pub decreases-calls_in : goal.decreases-calls_in
 decreases-calls_in a = 3 * arguments_size a.arguments.now
+
+abbrev pub decreases-calls_in_tokens : goal.decreases-calls_in_tokens
+decreases-calls_in_tokens a = 3 * new_size a.arguments.now

@@ -22,12 +22,12 @@ returns-in-Err-read_jrag_bytes-clause-refused c =
     (written_there c.read_jrag_bytes.new.pool c.in_ok-pool.ensures.said c.deref-2.ensures.value (Err fault) c.in-Err-read_jrag_bytes.ensures.says)
     c.broken_file-in-Err-read_jrag_bytes.ensures
 
-pub returns-in-Err-read_rules-clause-refused : goal.returns-in-Err-read_rules-clause-refused
-returns-in-Err-read_rules-clause-refused c =
-    check_rules_refused (seen_pair c.args.contents.now) c.refusal_of.result c.in-Err-read_rules.unread
+pub returns-in-Err-check_rules-clause-refused : goal.returns-in-Err-check_rules-clause-refused
+returns-in-Err-check_rules-clause-refused c =
+    check_rules_refused (seen_pair c.args.contents.now) c.broken_file-in-Err-check_rules.result c.in-Err-check_rules.fault
     (subst (λ (b : List ℕ). ReadsGrammar b c.in-Ok.grammar) c.deref.ensures.value c.in-Ok.ensures)
     (written_there c.read_jrag_bytes.new.pool c.in_ok-pool.ensures.said c.deref-2.ensures.value (Ok c.in-Ok-read_jrag_bytes.aspects) c.in-Ok-read_jrag_bytes.ensures.says)
-    c.in-Err-read_rules.ensures c.refusal_of.ensures
+    c.in-Err-check_rules.ensures c.broken_file-in-Err-check_rules.ensures
 
 pub returns-clause-said : goal.returns-clause-said
 returns-clause-said c =
@@ -41,8 +41,8 @@ returns-clause-said c =
       between = c.read_jrag_bytes.new.pool;
       grammar = subst (λ (b : List ℕ). ReadsGrammar b g) c.deref.ensures.value c.in-Ok.ensures;
       written = written_there c.read_jrag_bytes.new.pool c.in_ok-pool.ensures.said c.deref-2.ensures.value (Ok c.in-Ok-read_jrag_bytes.aspects) c.in-Ok-read_jrag_bytes.ensures.says;
-      accepted = c.in-Ok-read_rules.ensures.accepted;
-      counted = IfOk-at_ok _ same c.line_of.ensures ∙ c.counted-counts.ensures ∙ ap (λ (r : RuleSet). counts_of g r aspects) c.in-Ok-read_rules.ensures.are;
+      clean = c.in-Ok-check_rules.ensures.clean;
+      counted = IfOk-at_ok _ same c.line_of.ensures ∙ c.counted-counts.ensures ∙ ap (λ (r : RuleSet). counts_of g r aspects) c.in-Ok-check_rules.ensures.are;
     })
     c.or_refused.ensures.said
 

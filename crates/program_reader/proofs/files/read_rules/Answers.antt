@@ -1,17 +1,14 @@
 use Rattle.std.proofs.Common.{rules}
-use Rattle.attr_equations.specs.Kept.{rules_in}
 use Rattle.aspect_items.specs.Items.{seen_aspects}
-use Rattle.program_reader.proofs.Tested.{accepted_last, refused_before, refused_last}
+use Rattle.program_reader.proofs.Tested.{refused_built}
 use Rattle.program_reader.proofs.files.read_rules.Goals as goal
 
-pub returns-in_err-rules : goal.returns-in_err-rules
-returns-in_err-rules c = refused_before c.args.grammar.now (seen_aspects c.args.aspects.now) (search rules) c.in_err-rules.field-0.0 c.from_residual.result c.from_residual.ensures c.in_err-rules.ensures.phases
+pub returns-in_err-check_rules : goal.returns-in_err-check_rules
+returns-in_err-check_rules c =
+    refused_built c.args.grammar.now (seen_aspects c.args.aspects.now) (search rules) c.in_err-check_rules.field-0.0 c.from_residual.result c.from_residual.ensures c.in_err-check_rules.ensures
 
-pub returns-in-Ok : goal.returns-in-Ok
-returns-in-Ok c = record {
-  accepted = accepted_last c.args.grammar.now (seen_aspects c.args.aspects.now) (search rules) (rules_in c.in_ok-rules.rules) c.in_ok-rules.ensures.phases c.in_ok-rules.ensures.rules c.in-Ok.ensures;
-  are = c.in_ok-rules.ensures.rules;
+pub returns : goal.returns
+returns c = record {
+  accepted = record { built = search rules; clean = c.in_ok-check_rules.ensures.clean };
+  are = c.in_ok-check_rules.ensures.are;
 }
-
-pub returns-in-Err : goal.returns-in-Err
-returns-in-Err c = refused_last c.args.grammar.now (seen_aspects c.args.aspects.now) (search rules) (rules_in c.in_ok-rules.rules) c.in_ok-rules.ensures.phases c.in_ok-rules.ensures.rules c.in-Err.broken c.in-Err.ensures

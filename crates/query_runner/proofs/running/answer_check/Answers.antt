@@ -1,12 +1,12 @@
 -- Each end of the counting has its answer.
-use Rattle.std.proofs.Common.{◌≡◌, ℕ, List, ◌++◌, IfOk, codes, refl, subst}
+use Rattle.std.proofs.Common.{◌≡◌, ℕ, List, IfOk, refl, subst}
 use Rattle.query_runner.specs.Answered.{status_of, text_of}
 use Rattle.run_io.specs.Fetched.{seen_pair}
 use Rattle.run_io.specs.Named.{seen_file, seen_pair_names}
 use Rattle.query_runner.specs.Output.{broken_line}
 use Rattle.run_io.specs.Words.{Check}
 use Rattle.query_runner.specs.declared.running.Answer.TheVariants.{Output}
-use Rattle.query_runner.proofs.Preparing.{broken_check_answer, counts_answer, stop_answer, unbuilt_check_answer}
+use Rattle.query_runner.proofs.Preparing.{broken_check_answer, counts_answer, stop_answer}
 use Rattle.query_runner.proofs.running.answer_check.Goals as goal
 
 pub returns-in-Err-clause-answer : goal.returns-in-Err-clause-answer
@@ -26,11 +26,3 @@ returns-in-Err-Broken-clause-answer g c = λ words asked.
     broken_check_answer words (g.S.Shelf.files c.args.shelf.now) (seen_pair_names c.args.names) (seen_pair c.in-Ok.contents) (seen_file file) broken c.refuse_broken.result
     asked c.in-Ok.ensures.held cause
     (subst (λ (name : List ℕ). IfOk c.refuse_broken.result (λ a. (status_of a ≡ 1) × (text_of a ≡ broken_line name broken))) c.pair_name_of.ensures c.refuse_broken.ensures.line)
-
-pub returns-clause-answer : goal.returns-clause-answer
-returns-clause-answer g c = λ words asked.
-    let file = c.in-Err-NotBuilt.file in
-    let cause = rw c.in-Err-NotBuilt.field-0-is at c.in-Err-NotBuilt.ensures.refused in
-    unbuilt_check_answer words (g.S.Shelf.files c.args.shelf.now) (seen_pair_names c.args.names) (seen_pair c.in-Ok.contents) (seen_file file) c.refuse.result
-    asked c.in-Ok.ensures.held cause
-    (subst (λ (name : List ℕ). IfOk c.refuse.result (λ a. (status_of a ≡ 1) × (text_of a ≡ name ++ codes ": not built\n"))) c.pair_name_of-in-Err-NotBuilt.ensures c.refuse.ensures.line)

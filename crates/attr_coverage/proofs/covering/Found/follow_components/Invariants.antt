@@ -6,7 +6,7 @@ use Rattle.attr_rules.specs.Rules.{number_of_attribute}
 use Rattle.attr_coverage.specs.Covering.{is_covered}
 use Rattle.attr_coverage.specs.CoveringKept.{Adds, Grows}
 use Rattle.attr_coverage.proofs.Following.{hangs_before}
-use Rattle.attr_coverage.proofs.covering.Found.follow.Given as goal
+use Rattle.attr_coverage.proofs.covering.Found.follow_components.Given as goal
 
 abbrev pub invariant-loop-k : goal.invariant-loop-k
 invariant-loop-k l = record {
