@@ -1,30 +1,29 @@
 -- Equations that are found for attributes: of synthesized ones at the class of a node, of inherited ones above it. In rules that break
 -- nothing there is one for each.
-use Rattle.std.proofs.Common.{◌≡◌, ℕ, zero, suc, ◌<◌, ◌≤◌, Bool, true, false, ◌&&◌, ◌||◌, List, [], ◌∷◌, eqb, get_or, map, Option, Some, None, All, IsSome, length, slice_get, refl, sym, ap, subst, ◌∙◌, arith}
+use Rattle.std.proofs.Common.{◌≡◌, ℕ, zero, suc, ◌<◌, ◌≤◌, Bool, true, false, ◌&&◌, ◌||◌, ◌⊎◌, inl, inr, List, [], ◌∷◌, eqb, get_or, map, Option, Some, None, All, IsSome, length, slice_get, refl, sym, ap, subst, ◌∙◌, arith}
 use Rattle.std.specs.List.{list_any}
 use Rattle.std.specs.Option.{option_and_then, option_map, option_or}
-use Rattle.std.proofs.lemmas.Bool.{eq-eqb, or_right}
+use Rattle.std.proofs.lemmas.Bool.{eq-eqb, eqb-true, or_right}
 use Rattle.std.proofs.lemmas.List.Elements.{All-weaker}
 use Rattle.std.proofs.lemmas.List.Quantifiers.{position-Some}
 use Rattle.std.proofs.lemmas.Option.{get_or_from_slice_get, slice_get-get_or, slice_get-map, slice_get_within}
 use Rattle.superclasses.specs.Superclasses.{is_sub as is_below, upwards}
 use Rattle.ast_grammar.specs.declared.grammar.ClassId.{ClassId}
-use Rattle.ast_grammar.specs.Grammar.{IsClass, is_sub}
+use Rattle.ast_grammar.specs.Grammar.{IsClass}
 use Rattle.attr_rules.specs.declared.dispatch.Reach.{Reach}
 use Rattle.attr_rules.specs.declared.dispatch.Reach.TheVariants.{Own, Component, Created, Children}
 use Rattle.attr_rules.specs.declared.dispatch.Target.{Target}
-use Rattle.attr_rules.specs.declared.kinds.Attr.{Attr}
-use Rattle.attr_rules.specs.Rules.{Equation, RuleSet, Uncovered, at_component, attribute_at, below, by_component, covering_equation, covering_number, equation_at, first_of_line, first_of_name, is_inherited, is_target, nearest_equation, own_covering, own_equation, root, same_reach, target_in}
+use Rattle.attr_rules.specs.declared.dispatch.Via.{Via}
+use Rattle.attr_rules.specs.Rules.{Equation, RuleSet, by_component, covering_equation, covering_number, equation_at, first_of_line, first_of_name, is_target, nearest_equation, own_covering, own_equation, reach_via, same_reach, target_in}
 use Rattle.tree_arena.specs.Nodes.{Node as TreeNode, component_in, parent_in}
 use Rattle.tree_arena.specs.Terms.{HasFew, IsTree}
 use Rattle.tree_arena.proofs.Seen.{hung_at}
 use Rattle.equation_law.specs.Checked.{IsProgram}
-use Rattle.equation_law.specs.Equations.{Site, covering_for, covering_site, first_site, followed, inherited_site, site_above, upwards_from}
-use Rattle.equation_law.specs.Names.{Argument}
-use Rattle.equation_law.specs.Program.{Program, class_of}
+use Rattle.equation_law.specs.Equations.{Site, covering_by, covering_for, covering_site, first_site, followed, inherited_site, site_at_parent, site_within, upwards_from, where_made}
+use Rattle.equation_law.specs.Names.{Argument, NodeName, Reference, Source}
+use Rattle.equation_law.specs.Program.{Program, class_at}
 use Rattle.equation_law.proofs.Keys.{both_equal}
 use Rattle.equation_law.proofs.Lists.{some_of}
-use Rattle.equation_law.proofs.Preordered.{node_concrete, node_placed, root_below}
 
 -- what holds of all elements holds of each
 pub each_of : {A : Type 0} (P : A → Type 0) (xs : List A) (k : ℕ) (x : A) → All P xs → slice_get xs k ≡ Some x → P x
@@ -46,14 +45,19 @@ map_nothing f None e = refl
 map_nothing f (Some x) e = cc
 
 -- one of two is nothing where neither is there
-or_nothing : {A : Type 0} (o q : Option A) → option_or o q ≡ None → (o ≡ None) × (q ≡ None)
+pub or_nothing : {A : Type 0} (o q : Option A) → option_or o q ≡ None → (o ≡ None) × (q ≡ None)
 or_nothing None q e = (refl, e)
 or_nothing (Some x) q e = cc
 
 -- what one of two has
-or_either : {A : Type 0} (P : Type 0) (o q : Option A) (y : A) → (o ≡ Some y → P) → (q ≡ Some y → P) → option_or o q ≡ Some y → P
+pub or_either : {A : Type 0} (P : Type 0) (o q : Option A) (y : A) → (o ≡ Some y → P) → (q ≡ Some y → P) → option_or o q ≡ Some y → P
 or_either P None q y f g e = g e
 or_either P (Some x) q y f g e = f e
+
+-- what is had of a node that was made is had where there is such a node
+pub where_there : {A : Type 0} (o : Option ClassId) (x : Option A) (y : A) → where_made o x None ≡ Some y → x ≡ Some y
+where_there None x y e = cc
+where_there (Some c) x y e = e
 
 -- what the first of a line has, one of the line has
 on_line : (f : ℕ → Option ℕ) (line : List ℕ) (k : ℕ) → first_of_line f line ≡ Some k → (b : ℕ) × (list_any (λ c. eqb c b) line ≡ true) × (f b ≡ Some k)
@@ -90,33 +94,42 @@ are_created (Component k) = false
 are_created (Created b) = true
 are_created Children = false
 
--- equations for the same nodes are for such roots alike
-pub created_alike : (r w : Reach) → same_reach r w ≡ true → are_created w ≡ false → are_created r ≡ false
-created_alike Own w e f = refl
-created_alike (Component k) w e f = refl
-created_alike (Created b) Own e f = cc
-created_alike (Created b) (Component k) e f = cc
-created_alike (Created b) (Created c) e f = cc
-created_alike (Created b) Children e f = cc
-created_alike Children w e f = refl
+-- those for the same nodes are one
+pub same_reach_is : (r w : Reach) → same_reach r w ≡ true → r ≡ w
+same_reach_is Own Own e = refl
+same_reach_is Own (Component k) e = cc
+same_reach_is Own (Created b) e = cc
+same_reach_is Own Children e = cc
+same_reach_is (Component j) Own e = cc
+same_reach_is (Component j) (Component k) e = ap (λ (n : ℕ). Component (record { 0 = n })) (eqb-true j.0 k.0 e)
+same_reach_is (Component j) (Created b) e = cc
+same_reach_is (Component j) Children e = cc
+same_reach_is (Created a) Own e = cc
+same_reach_is (Created a) (Component k) e = cc
+same_reach_is (Created a) (Created b) e = ap (λ (n : ℕ). Created (record { 0 = n })) (eqb-true a.0 b.0 e)
+same_reach_is (Created a) Children e = cc
+same_reach_is Children Own e = cc
+same_reach_is Children (Component k) e = cc
+same_reach_is Children (Created b) e = cc
+same_reach_is Children Children e = refl
 
--- An equation that covers, for an inherited attribute, what hangs at a component of nodes of a class: it is of the class or of one above it,
--- for the first attribute of the name, and has no path over a higher-order attribute.
-pub record Covers (r : RuleSet) (a : ℕ) (c : ClassId) (e : ℕ) : Type 0 where
+-- An equation that covers, for an inherited attribute, what hangs by a component or an attribute at nodes of a class: it is of the class or of
+-- one above it, for the first attribute of the name, and for just that or for every child.
+pub record CoversBy (r : RuleSet) (a : ℕ) (c : ClassId) (v : Via) (e : ℕ) : Type 0 where
   pub equation : Equation
   pub is : slice_get r.equations e ≡ Some equation
   pub first : ℕ
   pub named : first_of_name r.attributes a ≡ Some first
   pub attribute : equation.target.attribute.0 ≡ first
   pub above : is_below r.superclasses c.0 equation.target.class.0 ≡ true
-  pub hung : are_created equation.target.reach ≡ false
+  pub reach : (equation.target.reach ≡ reach_via v) ⊎ (equation.target.reach ≡ Children)
 
-pub covers : (r : RuleSet) (a : ℕ) (c : ClassId) (k e : ℕ) → covering_number r c (by_component k) a ≡ Some e → Covers r a c e
-covers r a c k e h =
+pub covers : (r : RuleSet) (a : ℕ) (c : ClassId) (v : Via) (e : ℕ) → covering_number r c v a ≡ Some e → CoversBy r a c v e
+covers r a c v e h =
     let targets = map target_in r.equations in
-    let name = through (covering_equation r.superclasses targets c.0 (by_component k)) (first_of_name r.attributes a) e h in
-    let near = on_line (own_covering targets (by_component k) name.0) (upwards r.superclasses c.0) e name.2 in
-    let found : (w : Reach) → are_created w ≡ false → equation_at targets near.0 w name.0 ≡ Some e → Covers r a c e = λ w hung is.
+    let name = through (covering_equation r.superclasses targets c.0 v) (first_of_name r.attributes a) e h in
+    let near = on_line (own_covering targets v name.0) (upwards r.superclasses c.0) e name.2 in
+    let found : (w : Reach) → ((s : Reach) → s ≡ w → (s ≡ reach_via v) ⊎ (s ≡ Children)) → equation_at targets near.0 w name.0 ≡ Some e → CoversBy r a c v e = λ w one is.
     let q = target_found r.equations near.0 w name.0 e is in
     record {
       equation = q.0;
@@ -125,9 +138,9 @@ covers r a c k e h =
       named = name.1;
       attribute = q.3;
       above = subst (λ (x : ℕ). is_below r.superclasses c.0 x ≡ true) (sym q.2) near.1;
-      hung = created_alike q.0.target.reach w q.4 hung;
+      reach = one q.0.target.reach (same_reach_is q.0.target.reach w q.4);
     } in
-    or_either (Covers r a c e) (equation_at targets near.0 (at_component k) name.0) (equation_at targets near.0 Children name.0) e (found (at_component k) refl) (found Children refl) near.2
+    or_either (CoversBy r a c v e) (equation_at targets near.0 (reach_via v) name.0) (equation_at targets near.0 Children name.0) e (found (reach_via v) (λ s f. inl f)) (found Children (λ s f. inr f)) near.2
 
 -- each parent in a tree has a smaller number
 abbrev pub Falls : List TreeNode → Type 0
@@ -172,30 +185,38 @@ pub first_found : (f : ℕ → Option Site) (ns : List ℕ) (s : Site) → first
 first_found f [] s e = cc
 first_found f (n ∷ ns) s e = or_either ((m : ℕ) × (f m ≡ Some s)) (f n) (first_site f ns) s (λ h. (n, h)) (first_found f ns s) e
 
-module _ (p : Program) (a : ℕ) (xs : List Argument) where
-  -- the equation of an inherited attribute at a node is the one that covers it at its parent, and else that at the parent
-  pub inherited_step : Falls p.tree → (n u : ℕ) → parent_in p.tree n ≡ Some u → inherited_site p a xs n ≡ option_or (covering_site p a xs n) (inherited_site p a xs u)
-  inherited_step falls n u e = ap (first_site (covering_site p a xs)) (upwards_step p.tree falls n u e)
+-- a class without an equation that covers something has no number of one
+pub covered_none : (p : Program) (a : ℕ) (c : ClassId) (v : Via) → covering_by p a v c ≡ None → covering_number p.rules c v a ≡ None
+covered_none p a c v e = elim (covering_number p.rules c v a) as (λ o. covering_number p.rules c v a ≡ o → option_and_then (slice_get p.rules.equations) o ≡ None → o ≡ None) [
+  | None ↦ λ is h. refl
+  | Some k ↦ λ is h. let q = covers p.rules a c v k is in let there = q.is in absurd (cc)
+] refl e
 
-  -- the root has none
-  pub inherited_end : (n : ℕ) → parent_in p.tree n ≡ None → Falls p.tree → inherited_site p a xs n ≡ None
-  inherited_end n e falls =
-      ap (first_site (covering_site p a xs)) (upwards_end p.tree falls n e) ∙ ap (λ (o : Option ℕ). option_or (option_and_then (λ u. option_map (site_above p a xs n u) (covering_for p a n u)) o) None) e
+module _ (p : Program) (tree : List TreeNode) (name : ℕ → NodeName) (a : ℕ) (xs : List Argument) (root : Reference) where
+  -- in a tree the equation of an inherited attribute at a node is the one that covers it at its parent, and else that at the parent
+  pub within_step : Falls tree → (n u : ℕ) → parent_in tree n ≡ Some u → site_within p tree name a xs root n ≡ option_or (covering_site p tree name a xs root n) (site_within p tree name a xs root u)
+  within_step falls n u e = ap (first_site (covering_site p tree name a xs root)) (upwards_step tree falls n u e)
+
+  -- the root has none there
+  pub within_end : Falls tree → (n : ℕ) → parent_in tree n ≡ None → site_within p tree name a xs root n ≡ None
+  within_end falls n e =
+      ap (first_site (covering_site p tree name a xs root)) (upwards_end tree falls n e) ∙ ap (λ (o : Option ℕ). option_or (option_and_then (λ u. option_map (site_at_parent p tree name a xs root n u) (covering_for p tree name a n u)) o) None) e
 
   -- where nothing covers a node at its parent, no equation of the parent's class covers what hangs there
-  pub covering_none : (n u k : ℕ) (c : ClassId) → parent_in p.tree n ≡ Some u → class_of p u ≡ Some c → component_in p.tree n ≡ Some k → covering_site p a xs n ≡ None → covering_number p.rules c (by_component k) a ≡ None
+  pub covering_none : (n u k : ℕ) (c : ClassId) → parent_in tree n ≡ Some u → class_at p (name u) ≡ Some c → component_in tree n ≡ Some k → covering_site p tree name a xs root n ≡ None → covering_number p.rules c (by_component k) a ≡ None
   covering_none n u k c up of at none =
-      let here : option_map (site_above p a xs n u) (covering_for p a n u) ≡ None = sym (ap (option_and_then (λ v. option_map (site_above p a xs n v) (covering_for p a n v))) up) ∙ none in
-      let number = covering_number p.rules c (by_component k) a in
-      let equation : option_and_then (slice_get p.rules.equations) number ≡ None =
-      sym (ap (λ (o : Option ℕ). option_and_then (slice_get p.rules.equations) (option_and_then (λ j. covering_number p.rules c (by_component j) a) o)) at)
-      ∙ sym (ap (λ (o : Option ClassId). option_and_then (slice_get p.rules.equations) (option_and_then (λ d. option_and_then (λ j. covering_number p.rules d (by_component j) a) (component_in p.tree n)) o)) of)
-      ∙ map_nothing (site_above p a xs n u) (covering_for p a n u) here
+      let here : option_map (site_at_parent p tree name a xs root n u) (covering_for p tree name a n u) ≡ None = sym (ap (option_and_then (λ v. option_map (site_at_parent p tree name a xs root n v) (covering_for p tree name a n v))) up) ∙ none in
+      let found : covering_by p a (by_component k) c ≡ None =
+      sym (ap (option_and_then (λ j. covering_by p a (by_component j) c)) at)
+      ∙ sym (ap (option_and_then (λ d. option_and_then (λ j. covering_by p a (by_component j) d) (component_in tree n))) of)
+      ∙ map_nothing (site_at_parent p tree name a xs root n u) (covering_for p tree name a n u) here
       in
-      elim number as (λ o. number ≡ o → option_and_then (slice_get p.rules.equations) o ≡ None → o ≡ None) [
-        | None ↦ λ e h. refl
-        | Some e ↦ λ is h. let q = covers p.rules a c k e is in let there = q.is in absurd (cc)
-      ] refl equation
+      covered_none p a c (by_component k) found
+
+-- In the source tree that is so of all nodes.
+module _ (p : Program) (a : ℕ) (xs : List Argument) (root : Reference) where
+  pub inherited_step : Falls p.tree → (n u : ℕ) → parent_in p.tree n ≡ Some u → inherited_site p a xs root (Source n) ≡ option_or (covering_site p p.tree Source a xs root n) (inherited_site p a xs root (Source u))
+  inherited_step falls n u e = within_step p p.tree Source a xs root falls n u e
 
 module _ (p : Program) (good : IsProgram p) where
   -- the tree of a program is a tree
@@ -209,68 +230,3 @@ module _ (p : Program) (good : IsProgram p) where
 
   pub falls : Falls p.tree
   falls = tree_falls p.tree program_tree
-
-  module _ (a : ℕ) (xs : List Argument) where
-    -- a node at which an inherited attribute has no equation is of a class that is uncovered
-    uncovered : (most n : ℕ) (c : ClassId) → n ≤ most → class_of p n ≡ Some c → inherited_site p a xs n ≡ None → Uncovered p.grammar p.rules a c.0
-    uncovered most zero c l of none = root (node_concrete p.grammar (length p.texts) p.tree good.tree 0 c of) (root_below p.grammar (length p.texts) p.tree good.tree c of)
-    uncovered zero (suc m) c l of none = absurd (omega (arith, l))
-    uncovered (suc most) (suc m) c l of none =
-        let x = some_of (λ (y : TreeNode). y.class) (slice_get p.tree (suc m)) c of in
-        let u = x.0.parent in
-        let up : parent_in p.tree (suc m) ≡ Some u = ap (option_map (λ (y : TreeNode). y.parent)) x.1 in
-        let at : component_in p.tree (suc m) ≡ Some x.0.component = ap (option_map (λ (y : TreeNode). y.component)) x.1 in
-        let placed = node_placed p.grammar (length p.texts) p.tree good.tree m x.0 x.1 in
-        let smaller = falls (suc m) u up in
-        let both = or_nothing (covering_site p a xs (suc m)) (inherited_site p a xs u) (sym (inherited_step p a xs falls (suc m) u up) ∙ none) in
-        let higher = uncovered most u placed.parent (omega (arith, l, smaller)) placed.of both.1 in
-        subst (λ (d : ClassId). Uncovered p.grammar p.rules a d.0) x.2
-        (below x.0.component placed.component higher placed.has placed.shape (covering_none p a xs (suc m) u x.0.component placed.parent up placed.of at both.0) placed.concrete placed.below)
-
-    is_some_where : (o : Option Site) → (o ≡ None → ⊥) → IsSome o
-    is_some_where None h = absurd (h refl)
-    is_some_where (Some s) h = refl
-
-    -- an inherited attribute has an equation at each node whose class has the attribute
-    pub inherited_there : (k : ℕ) (c : ClassId) (d : Attr) → class_of p k ≡ Some c → attribute_at p.rules a ≡ Some d → is_inherited d.sort ≡ true → is_sub p.grammar c.0 d.class.0 ≡ true → IsSome (inherited_site p a xs k)
-    inherited_there k c d of declared is b =
-        is_some_where (inherited_site p a xs k) (λ none. good.rules.covered c a d declared is (node_concrete p.grammar (length p.texts) p.tree good.tree k c of) b (uncovered k k c (omega arith) of none))
-
--- An equation that is read above a node.
-pub record IsAbove (p : Program) (a : ℕ) (xs : List Argument) (s : Site) : Type 0 where
-  pub child : ℕ
-  pub node : ℕ
-  pub class : ClassId
-  pub of : class_of p node ≡ Some class
-  pub number : ℕ
-  pub found : Covers p.rules a class number
-  pub is : site_above p a xs child node found.equation ≡ s
-
--- the equation that covers is the one of its number
-covers_same : (p : Program) (a : ℕ) (xs : List Argument) (n u : ℕ) (c : ClassId) (e : ℕ) (q : Equation) (s : Site) (f : Covers p.rules a c e)
-    → slice_get p.rules.equations e ≡ Some q → site_above p a xs n u q ≡ s → site_above p a xs n u f.equation ≡ s
-covers_same p a xs n u c e q s f is read =
-    let one = f.is in
-    let same : f.equation ≡ q = cc in
-    ap (site_above p a xs n u) same ∙ read
-
-pub inherited_above : (p : Program) (a : ℕ) (xs : List Argument) (n : ℕ) (s : Site) → inherited_site p a xs n ≡ Some s → IsAbove p a xs s
-inherited_above p a xs n s e =
-    let at = first_found (covering_site p a xs) (upwards_from n p.tree n) s e in
-    let m = at.0 in
-    let up = through (λ u. option_map (site_above p a xs m u) (covering_for p a m u)) (parent_in p.tree m) s at.1 in
-    let u = up.0 in
-    let q = some_of (site_above p a xs m u) (covering_for p a m u) s up.2 in
-    let number = through (slice_get p.rules.equations) (option_and_then (λ c. option_and_then (λ k. covering_number p.rules c (by_component k) a) (component_in p.tree m)) (class_of p u)) q.0 q.1 in
-    let class = through (λ c. option_and_then (λ k. covering_number p.rules c (by_component k) a) (component_in p.tree m)) (class_of p u) number.0 number.1 in
-    let component = through (λ k. covering_number p.rules class.0 (by_component k) a) (component_in p.tree m) number.0 class.2 in
-    let c = covers p.rules a class.0 component.0 number.0 component.2 in
-    record {
-      child = m;
-      node = u;
-      class = class.0;
-      of = class.1;
-      number = number.0;
-      found = c;
-      is = covers_same p a xs m u class.0 number.0 q.0 s c number.2 q.2;
-    }

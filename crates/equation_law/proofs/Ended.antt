@@ -2,7 +2,7 @@
 use Rattle.std.proofs.Common.{◌≡◌, ◌↔◌, true, false, List, Option, Some, None}
 use Rattle.solutions.specs.Asking.{Ends}
 use Rattle.solutions.specs.Rounds.{Graph, RoundsEnd, is_in}
-use Rattle.solutions.specs.Leading.{AreUndeclared, HasAllDemands, HasDemands}
+use Rattle.solutions.specs.Leading.{AreUndeclared, HasDemands}
 use Rattle.solutions.proofs.Dropping.{any_left_loop, any_loop_left, any_value_left}
 use Rattle.solutions.proofs.Ended.{ended_left, left_val}
 use Rattle.solutions.proofs.Looping.{left_loop, loop_left, value_left}
@@ -10,7 +10,7 @@ use Rattle.equation_law.specs.Names.{Instance, same_instance}
 use Rattle.equation_law.specs.Values.{Value}
 use Rattle.equation_law.specs.Program.{Program}
 use Rattle.equation_law.specs.Equations.{HasValue, equations_of}
-use Rattle.equation_law.specs.Loops.{order_in, fits_in, join_in, HasLoop}
+use Rattle.equation_law.specs.Loops.{HasAllLed, HasLoop, fits_in, join_in, order_in}
 use Rattle.equation_law.proofs.Solution.{are_joins, are_rising}
 
 module _ (p : Program) (names : List Instance) (A : Instance → Option Value) (r : RoundsEnd (equations_of p) names A) where
@@ -40,16 +40,16 @@ module _ (p : Program) (names : List Instance) (A : Instance → Option Value) (
     unfolding equations_of
     left_is_loop = loop_left (equations_of p) (order_in p) (fits_in p) (join_in p) (are_rising p) names A r plain whole (are_joins p) i m
 
-  -- the same of any list that has all demands, circular instances and all
-  module _ (whole : HasAllDemands (equations_of p) names A) (i : Instance) (m : is_in same_instance names i ≡ true) where
-    pub any_has_loop : A i ≡ None → HasLoop p i
+  -- the same of any list that has all that its members lead to, circular instances and all
+  module _ (led : HasAllLed p names) (i : Instance) (m : is_in same_instance names i ≡ true) where
+    pub led_has_loop : A i ≡ None → HasLoop p i
     unfolding equations_of
-    any_has_loop n = any_left_loop (equations_of p) (order_in p) (fits_in p) (join_in p) (are_rising p) (are_joins p) names A r (λ k j l in_j meets leads. whole k j l in_j meets) i m n
+    led_has_loop n = any_left_loop (equations_of p) (order_in p) (fits_in p) (join_in p) (are_rising p) (are_joins p) names A r (λ k j l in_j meets leads. led j l in_j leads) i m n
 
-    pub any_is_value : (v : Value) → A i ≡ Some v ↔ HasValue p i v
+    pub led_is_value : (v : Value) → A i ≡ Some v ↔ HasValue p i v
     unfolding equations_of
-    any_is_value v = any_value_left (equations_of p) (order_in p) (fits_in p) (join_in p) (are_rising p) (are_joins p) names A r (λ k j l in_j meets leads. whole k j l in_j meets) i m v
+    led_is_value v = any_value_left (equations_of p) (order_in p) (fits_in p) (join_in p) (are_rising p) (are_joins p) names A r (λ k j l in_j meets leads. led j l in_j leads) i m v
 
-    pub any_is_loop : A i ≡ None ↔ HasLoop p i
+    pub led_is_loop : A i ≡ None ↔ HasLoop p i
     unfolding equations_of
-    any_is_loop = any_loop_left (equations_of p) (order_in p) (fits_in p) (join_in p) (are_rising p) (are_joins p) names A r (λ k j l in_j meets leads. whole k j l in_j meets) i m
+    led_is_loop = any_loop_left (equations_of p) (order_in p) (fits_in p) (join_in p) (are_rising p) (are_joins p) names A r (λ k j l in_j meets leads. led j l in_j leads) i m

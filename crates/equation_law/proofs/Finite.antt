@@ -1,5 +1,5 @@
 -- What finitely many elements are: a list has exactly these.
-use Rattle.std.proofs.Common.{◌≡◌, ℕ, zero, suc, ◌<◌, Bool, true, false, List, [], ◌∷◌, ◌++◌, map, length, get_or, refl, sym, subst, inl, inr, ◌⊎◌, arith, Contains}
+use Rattle.std.proofs.Common.{◌≡◌, ℕ, zero, suc, ◌<◌, List, [], ◌∷◌, ◌++◌, map, length, get_or, refl, sym, subst, inl, inr, ◌⊎◌, arith}
 use Rattle.std.proofs.lemmas.Bool.{cases_lt}
 
 -- x is an element
@@ -34,10 +34,7 @@ in_either (y ∷ xs) ys x h = elim h [
   ]
 ]
 
-pub finite_none : {A : Type 0} → Finite (λ (x : A). ⊥)
-finite_none {A} = record { elements = []; sound = λ x h. h; whole = λ x h. h }
-
-pub finite_one : {A : Type 0} (a : A) → Finite (λ (x : A). x ≡ a)
+finite_one : {A : Type 0} (a : A) → Finite (λ (x : A). x ≡ a)
 finite_one a = record {
   elements = a ∷ [];
   sound = λ x h. elim h [
@@ -47,37 +44,9 @@ finite_one a = record {
   whole = λ x e. inl e;
 }
 
--- the two truth values
-pub finite_truths : Finite (λ (b : Bool). Unit {0})
-finite_truths = record { elements = true ∷ false ∷ []; sound = λ b h. tt; whole = λ b h. either b }
-  where
-    either : (b : Bool) → In (true ∷ false ∷ []) b
-    either true = inl refl
-    either false = inr (inl refl)
-
 -- the same, said in other words
-pub finite_same : {A : Type 0} {P Q : A → Type 0} → Finite P → ((x : A) → P x → Q x) → ((x : A) → Q x → P x) → Finite Q
+finite_same : {A : Type 0} {P Q : A → Type 0} → Finite P → ((x : A) → P x → Q x) → ((x : A) → Q x → P x) → Finite Q
 finite_same f to from = record { elements = f.elements; sound = λ x h. to x (f.sound x h); whole = λ x h. f.whole x (from x h) }
-
-pub finite_both : {A : Type 0} {P Q : A → Type 0} → Finite P → Finite Q → Finite (λ (x : A). P x ⊎ Q x)
-finite_both f g = record {
-  elements = f.elements ++ g.elements;
-  sound = λ x h. elim (in_either f.elements g.elements x h) [
-    | inl a ↦ inl (f.sound x a)
-    | inr b ↦ inr (g.sound x b)
-  ];
-  whole = λ x h. elim h [
-    | inl a ↦ in_left f.elements g.elements x (f.whole x a)
-    | inr b ↦ in_right f.elements g.elements x (g.whole x b)
-  ];
-}
-
--- those where a condition holds
-pub finite_where : {A : Type 0} {Q : A → Type 0} (P : Type 0) → P ⊎ (P → ⊥) → Finite Q → Finite (λ (x : A). P × Q x)
-finite_where P either f = elim either [
-  | inl h ↦ record { elements = f.elements; sound = λ x i. (h, f.sound x i); whole = λ x i. f.whole x i.1 }
-  | inr n ↦ record { elements = []; sound = λ x i. absurd i; whole = λ x i. absurd (n i.0) }
-]
 
 -- what they are mapped to
 in_map : {A B : Type 0} (f : A → B) (xs : List A) (x : A) → In xs x → In (map f xs) (f x)
@@ -102,7 +71,7 @@ finite_map f g = record {
 }
 
 -- those of each number below n
-pub finite_over : {A : Type 0} (Q : ℕ → A → Type 0) (n : ℕ) → ((k : ℕ) → Finite (Q k)) → Finite (λ (x : A). (k : ℕ) × (k < n) × Q k x)
+finite_over : {A : Type 0} (Q : ℕ → A → Type 0) (n : ℕ) → ((k : ℕ) → Finite (Q k)) → Finite (λ (x : A). (k : ℕ) × (k < n) × Q k x)
 finite_over Q zero f = record { elements = []; sound = λ x h. absurd h; whole = λ x h. absurd (let below = h.1 in omega arith) }
 finite_over Q (suc n) f =
     let rest = finite_over Q n f in
@@ -123,44 +92,8 @@ finite_over Q (suc n) f =
 pub finite_below : (n : ℕ) → Finite (λ (k : ℕ). k < n)
 finite_below n = finite_same (finite_over (λ j k. k ≡ j) n (λ j. finite_one j)) (λ k h. subst (λ j. j < n) (sym h.2) h.1) (λ k h. (k, h, refl))
 
--- an element in front of a list
-abbrev all_behind : {A : Type 0} → List A → List (List A) → List (List A)
-all_behind [] yss = []
-all_behind (x ∷ xs) yss = map (λ ys. x ∷ ys) yss ++ all_behind xs yss
-
-in_behind : {A : Type 0} (xs : List A) (yss : List (List A)) (x : A) (ys : List A) → In xs x → In yss ys → In (all_behind xs yss) (x ∷ ys)
-in_behind [] yss x ys h k = absurd h
-in_behind (z ∷ xs) yss x ys h k = elim h [
-  | inl e ↦ in_left (map (λ zs. z ∷ zs) yss) (all_behind xs yss) (x ∷ ys) (subst (λ w. In (map (λ zs. z ∷ zs) yss) (w ∷ ys)) (sym e) (in_map (λ zs. z ∷ zs) yss ys k))
-  | inr l ↦ in_right (map (λ zs. z ∷ zs) yss) (all_behind xs yss) (x ∷ ys) (in_behind xs yss x ys l k)
-]
-
-behind_in : {A : Type 0} (xs : List A) (yss : List (List A)) (zs : List A) → In (all_behind xs yss) zs → (x : A) × (ys : List A) × In xs x × In yss ys × (zs ≡ x ∷ ys)
-behind_in [] yss zs h = absurd h
-behind_in (x ∷ xs) yss zs h = elim (in_either (map (λ ys. x ∷ ys) yss) (all_behind xs yss) zs h) [
-  | inl a ↦ (let from = map_in (λ ys. x ∷ ys) yss zs a in (x, from.0, inl refl, from.1, from.2))
-  | inr b ↦ (let from = behind_in xs yss zs b in (from.0, from.1, inr from.2, from.3, from.4))
-]
-
-pub finite_behind : {A : Type 0} {P : A → Type 0} {Q : List A → Type 0} → Finite P → Finite Q → Finite (λ (zs : List A). (x : A) × (ys : List A) × P x × Q ys × (zs ≡ x ∷ ys))
-finite_behind f g = record {
-  elements = all_behind f.elements g.elements;
-  sound = λ zs h. let from = behind_in f.elements g.elements zs h in (from.0, from.1, f.sound from.0 from.2, g.sound from.1 from.3, from.4);
-  whole = λ zs h. subst (λ ws. In (all_behind f.elements g.elements) ws) (sym h.4) (in_behind f.elements g.elements h.0 h.1 (f.whole h.0 h.2) (g.whole h.1 h.3));
-}
-
--- the elements of a list
-listed : {A : Type 0} (xs : List A) (x : A) → In xs x → Contains xs x
-listed [] x h = absurd h
-listed (y ∷ xs) x h = elim h [
-  | inl e ↦ (0, omega arith, sym e)
-  | inr k ↦ (let rest = listed xs x k in (suc rest.0, (let below = rest.1 in omega arith), rest.2))
-]
-
+-- each element of a list is among them
 pub at_place : {A : Type 0} (xs : List A) (k : ℕ) (x : A) → k < length xs → get_or xs k x ≡ x → In xs x
 at_place [] k x h e = absurd (omega arith)
 at_place (y ∷ xs) zero x h e = inl (sym e)
 at_place (y ∷ xs) (suc k) x h e = inr (at_place xs k x (omega arith) e)
-
-pub finite_list : {A : Type 0} (xs : List A) → Finite (Contains xs)
-finite_list xs = record { elements = xs; sound = λ x h. listed xs x h; whole = λ x h. at_place xs h.0 x h.1 h.2 }

@@ -8,22 +8,22 @@ use Rattle.ast_grammar.specs.declared.grammar.ClassId.{ClassId}
 use Rattle.attr_rules.specs.declared.expression.SetOperator.TheVariants.{Union, Inter, Minus}
 use Rattle.attr_rules.specs.declared.kinds.Kind.{Kind}
 use Rattle.attr_rules.specs.declared.kinds.Kind.TheVariants as kinds
-use Rattle.attr_rules.specs.Expression.{Expression, Arguments, no_more, argument, Truth as TruthLiteral, Int as IntLiteral, Text as TextLiteral, Null as NullLiteral, Empty, This, Variable, Source as SourceNode, Child, Element, Count, Has, Token, Call, Cast, InstanceOf, Quantified, QuantifiedSet, Each, EachOfSet, Sets, Single, Contains, Size, Not, Negate, Binary, And, Or, OrBoth, If, New}
-use Rattle.attr_rules.specs.Rising.{IsRising, has_call, have_call, is_bottom}
+use Rattle.attr_rules.specs.Expression.{Expression, Arguments, no_more, argument, NewArguments, Truth as TruthLiteral, Int as IntLiteral, Text as TextLiteral, Null as NullLiteral, Empty, This, Variable, Source as SourceNode, Child, Element, Count, Has, Token, Call, Cast, InstanceOf, Quantified, QuantifiedSet, Each, EachOfSet, Sets, Single, Contains, Size, Not, Negate, Binary, And, Or, OrBoth, If, New}
+use Rattle.attr_rules.specs.Rising.{IsRising, has_call, have_call, is_bottom, tokens_call}
 use Rattle.attr_rules.specs.Rising as rising
 use Rattle.attr_rules.proofs.Permitted.{neither}
 use Rattle.solutions.specs.Asking.{Demands, Gives, Needs, next}
 use Rattle.solutions.specs.Rising.{Part, none, keep, skip, Rise, leaves, fixed, grows, more}
 use Rattle.solutions.proofs.Composing.{IsPlain, plain_rise, rise_after, rise_next, rise_same}
 use Rattle.solutions.proofs.Runs.{and_true, or_left, or_right}
-use Rattle.equation_law.specs.Meaning.{World, Place, at_each, call_at, elements_at, meaning_of, united, with_arguments, with_name}
+use Rattle.equation_law.specs.Meaning.{World, Place, at_each, call_at, elements_at, meaning_of, united, with_arguments, with_name, with_tokens}
 use Rattle.equation_law.specs.Names.{Argument, At, Attribute, Instance, Null, Reference, node_cmp, text_cmp}
 use Rattle.equation_law.specs.Orders.{IsAtMost}
 use Rattle.equation_law.specs.Sets.{SetBy, IsPart, elements, has, inter, minus, no_elements, union}
-use Rattle.equation_law.specs.Values.{Value, Truth, Int, Text, Node, Texts, Nodes, as_arguments, as_kind, contains, default_of, elements_of, has_node, node, nodes, of_node, set_operate, text, texts, truth}
+use Rattle.equation_law.specs.Values.{Value, Truth, Int, Text, Node, Texts, Nodes, Tree, as_arguments, as_kind, contains, default_of, elements_of, has_node, node, nodes, of_node, set_operate, text, texts, truth}
 use Rattle.equation_law.proofs.Names.{code_anti, node_anti}
 use Rattle.equation_law.proofs.Orders.{at_most_itself, default_least, node_total}
-use Rattle.equation_law.proofs.Quiet.{AreTokensPlain, quiet_plain}
+use Rattle.equation_law.proofs.Quiet.{AreTokensPlain, quiet_plain, quiet_tokens}
 use Rattle.equation_law.proofs.Sets.{has-inter, has-minus, none_has, or_least, part_elements, part_nil, part_union, part_union_right, union_least}
 use Rattle.equation_law.proofs.SetsOrder.{elements_none}
 
@@ -105,6 +105,7 @@ text_in (Text t) q h x e = absurd (none_has text_cmp q h)
 text_in (Node r) q h x e = absurd (none_has text_cmp q h)
 text_in (Texts s) q h x e = ap (has s) e ∙ h
 text_in (Nodes s) q h x e = absurd (none_has text_cmp q h)
+text_in (Tree m ts) q h x e = absurd (none_has text_cmp q h)
 
 never : (r : Reference) → has_node no_elements r ≡ true → ⊥
 never Null g = cc
@@ -117,6 +118,7 @@ node_in (Text t) r h x e = absurd (never r h)
 node_in (Node m) r h x e = absurd (never r h)
 node_in (Texts s) r h x e = absurd (never r h)
 node_in (Nodes s) r h x e = ap (has_node s) e ∙ h
+node_in (Tree m ts) r h x e = absurd (never r h)
 
 part_node : (s t : SetBy node_cmp) → IsPart s t → (r : Reference) → has_node s r ≡ true → has_node t r ≡ true
 part_node s t f Null h = h
@@ -129,6 +131,7 @@ contains_below (Text t) w x l e = cc
 contains_below (Node r) w x l e = cc
 contains_below (Texts s) w x l e = text_in w (text x) (l.in_texts (text x) e) x refl
 contains_below (Nodes s) w x l e = node_in w (node x) (part_node s (nodes w) l.in_nodes (node x) e) x refl
+contains_below (Tree r ts) w x l e = cc
 
 -- the elements of a greater set are those of the smaller one and others, in the same order
 part_itself : {K : Type 0} (xs : List K) → Part xs xs
@@ -154,6 +157,7 @@ texts_part s w f = by w (part_elements nat_list_cmp_total code_anti s (texts w) 
     by (Node r) p = nothing_part _ _ (part_map Text (subst (Part (elements s)) (elements_none text_cmp) p))
     by (Texts t) p = part_map Text p
     by (Nodes t) p = nothing_part _ _ (part_map Text (subst (Part (elements s)) (elements_none text_cmp) p))
+    by (Tree r ts) p = nothing_part _ _ (part_map Text (subst (Part (elements s)) (elements_none text_cmp) p))
 
 nodes_part : (s : SetBy node_cmp) (w : Value) → IsPart s (nodes w) → Part (map of_node (elements s)) (elements_of w)
 nodes_part s w f = by w (part_elements node_total node_anti s (nodes w) f)
@@ -165,6 +169,7 @@ nodes_part s w f = by w (part_elements node_total node_anti s (nodes w) f)
     by (Node r) p = nothing_part _ _ (part_map of_node (subst (Part (elements s)) (elements_none node_cmp) p))
     by (Texts t) p = nothing_part _ _ (part_map of_node (subst (Part (elements s)) (elements_none node_cmp) p))
     by (Nodes t) p = part_map of_node p
+    by (Tree r ts) p = nothing_part _ _ (part_map of_node (subst (Part (elements s)) (elements_none node_cmp) p))
 
 elements_part : (v w : Value) → IsAtMost v w → Part (elements_of v) (elements_of w)
 elements_part (Truth b) w l = part_nil _
@@ -173,6 +178,7 @@ elements_part (Text t) w l = part_nil _
 elements_part (Node r) w l = part_nil _
 elements_part (Texts s) w l = texts_part s w l.in_texts
 elements_part (Nodes s) w l = nodes_part s w l.in_nodes
+elements_part (Tree r ts) w l = part_nil _
 
 -- the order of the values of instances
 abbrev pub order : Instance → Value → Value → Type 0
@@ -353,3 +359,7 @@ module _ (W : World) (circular : Instance → Bool) (declared : ℕ → Bool) (f
   rises (rising.minus {a = a} {b = b} t r q) p = up_next (Meaning a p) (Meaning a p) _ _ (rises r p) (λ v w l. up_same (Meaning b p) _ _ (quiet b q p) (λ x. leaves (minus_below t v w x l)))
   rises (rising.contains {a = a} {b = b} r q) p =
       up_next (Meaning a p) (Meaning a p) _ _ (rises r p) (λ v w l. up_same (Meaning b p) _ _ (quiet b q p) (λ x. leaves (truth_below _ _ (contains_below v w x l))))
+
+  -- a `new` whose tokens call nothing that counts
+  pub rising_tokens : (parts : NewArguments) → tokens_call declared parts ≡ false → (p : Place) (value : List Argument → Value) → Up (with_tokens W parts p (λ ts. Gives (value ts))) (with_tokens W parts p (λ ts. Gives (value ts)))
+  rising_tokens parts q p value = plain_up (with_tokens W parts p (λ ts. Gives (value ts))) (quiet_tokens W circular declared free tokens parts q p (λ ts. Gives (value ts)) (λ ts. tt))

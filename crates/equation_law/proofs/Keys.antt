@@ -176,7 +176,10 @@ module _ (p : Program) (pooled : ArePooled p.texts) where
   one_key a b v w e = one_key_by (sources_named p) a b v w e
 
   -- well coded instances are equal where they stand for one instance
+  pub key_same_by : {n : Naming} → IsNamingOf p n → (a b : CodedInstance) → IsCoded p a → IsCoded p b → equality.ghosts.eq a b ≡ same_instance (instance_by p n a) (instance_by p n b)
+  key_same_by {n} h a b v w =
+      both_ways (equality.ghosts.eq a b) (same_instance (instance_by p n a) (instance_by p n b)) (λ e. same_as (instance_by p n a) (instance_by p n b) (ap (instance_by p n) (key_is a b e)))
+      (λ e. let one = one_key_by h a b v w (same_instance_is (instance_by p n a) (instance_by p n b) e) in subst (λ (x : CodedInstance). equality.ghosts.eq a x ≡ true) one (key_self a))
+
   pub key_same : (a b : CodedInstance) → IsCoded p a → IsCoded p b → equality.ghosts.eq a b ≡ same_instance (instance_of p a) (instance_of p b)
-  key_same a b v w =
-      both_ways (equality.ghosts.eq a b) (same_instance (instance_of p a) (instance_of p b)) (λ e. same_as (instance_of p a) (instance_of p b) (ap (instance_of p) (key_is a b e)))
-      (λ e. let one = one_key a b v w (same_instance_is (instance_of p a) (instance_of p b) e) in subst (λ (x : CodedInstance). equality.ghosts.eq a x ≡ true) one (key_self a))
+  key_same a b v w = key_same_by (sources_named p) a b v w

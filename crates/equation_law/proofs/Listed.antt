@@ -1,4 +1,4 @@
--- The instances that are listed are those of the program.
+-- The instances that are listed are those of the program at source nodes without arguments, and its queries.
 use Rattle.std.proofs.Common.{◌≡◌, ℕ, zero, suc, ◌+◌, Bool, true, false, ◌||◌, cond, List, [], ◌∷◌, ◌++◌, Option, Some, inl, inr, map, slice_get, take, ◌==◌, if◌then◌else◌, refl, sym, ap, subst, ◌∙◌, arith}
 use Rattle.std.specs.Option.{option_map}
 use Rattle.std.proofs.lemmas.Bool.{or_right}
@@ -13,10 +13,11 @@ use Rattle.attr_rules.specs.Types.{parameter_kinds}
 use Rattle.attr_rules.specs.Queries.{Query as Asked}
 use Rattle.attr_rules.specs.Rules.{Attribute as DeclaredAttribute}
 use Rattle.solutions.specs.Rounds.{is_in}
-use Rattle.equation_law.specs.Checked.{AreArguments, HasNoArguments, IsInstance, of_attribute, of_query}
-use Rattle.equation_law.specs.Names.{Argument, At, Attribute, Instance, Query, Source, same_instance}
+use Rattle.equation_law.specs.Checked.{AreArguments, IsAt, IsInstance, IsNodeAt, StandsInSource, of_attribute, of_query}
+use Rattle.equation_law.specs.Names.{Argument, At, Attribute, Instance, Made, NodeName, Query, Source, same_instance}
 use Rattle.tree_arena.specs.Nodes.{Node}
 use Rattle.equation_law.specs.Program.{Program, at_source, attribute_instances, class_of, declared_of, nodes_of, query_instances, source_instances}
+use Rattle.equation_law.proofs.Checked.{source_at}
 use Rattle.equation_law.proofs.Lists.{some_of}
 use Rattle.equation_law.proofs.Names.{same_instance_is, same_instance_self}
 
@@ -73,7 +74,7 @@ module _ (p : Program) where
   no_parameters ps z = subst (λ (n : ℕ). AreArguments p (take n (ps.first ∷ ps.second ∷ ps.third ∷ [])) []) (sym z) tt
 
   abbrev IsPlain : Instance → Type 0
-  IsPlain i = IsInstance p i × HasNoArguments i
+  IsPlain i = IsInstance p i × StandsInSource i
 
   -- the superclasses of its grammar
   abbrev superclasses : List (Option ℕ)
@@ -85,7 +86,9 @@ module _ (p : Program) where
   nodes_are a d e z (x ∷ nodes) n h =
       let rest = nodes_are a d e z nodes (suc n) (λ k m y l s. h (suc k) m y (omega (arith, l)) s) in
       elim (is_below superclasses x.class.0 d.class.0) as (λ b. is_below superclasses x.class.0 d.class.0 ≡ b → AllAre IsPlain (map (at_source a) (cond b (n ∷ nodes_of superclasses nodes d.class (suc n)) (nodes_of superclasses nodes d.class (suc n))))) [
-        | true ↦ λ s. ((of_attribute d x.class e (h 0 n x (omega arith) refl) s (no_parameters d.params z), refl), rest)
+        | true ↦ λ s.
+            let stands : IsAt p n d.class = record { class = x.class; of = h 0 n x (omega arith) refl; below = s } in
+            ((of_attribute d e (source_at p n d.class stands) (no_parameters d.params z), (tt, refl)), rest)
         | false ↦ λ s. rest
       ] refl
 
@@ -101,7 +104,7 @@ module _ (p : Program) where
   queries_are (e ∷ queries) q h = ((of_query e (h 0 q e (omega arith) refl), tt), queries_are queries (suc q) (λ k m x l s. h (suc k) m x (omega (arith, l)) s))
 
   -- what is listed is an instance
-  pub listed_is : (i : Instance) → is_in same_instance (source_instances p) i ≡ true → IsInstance p i × HasNoArguments i
+  pub listed_is : (i : Instance) → is_in same_instance (source_instances p) i ≡ true → IsInstance p i × StandsInSource i
   unfolding source_instances
   listed_is i h =
       found_is IsPlain (source_instances p) i
@@ -166,11 +169,16 @@ module _ (p : Program) where
       subst (λ (zs : List Argument). is_in same_instance (source_instances p) (Attribute a (At (Source k)) zs) ≡ true) (sym none)
       (in_left (attribute_instances superclasses p.rules.attributes 0 p.tree) (query_instances p.queries 0) (at_source a k) listed)
 
+  node_listed : (a : ℕ) (n : NodeName) (xs : List Argument) (d : Attr) → declared_of p a ≡ Some d → IsNodeAt p n d.class → AreArguments p (parameter_kinds d.params) xs → StandsInSource (Attribute a (At n) xs)
+      → is_in same_instance (source_instances p) (Attribute a (At n) xs) ≡ true
+  node_listed a (Source k) xs d e h q stands = attribute_listed a k xs d h.class e h.of h.below q stands.1
+  node_listed a (Made b r ys m) xs d e h q stands = absurd stands.0
+
   query_listed : (q : ℕ) (e : Asked) → slice_get p.queries q ≡ Some e → is_in same_instance (source_instances p) (Query q) ≡ true
   unfolding source_instances
   query_listed q e o = in_right (attribute_instances superclasses p.rules.attributes 0 p.tree) (query_instances p.queries 0) (Query q) (query_in p.queries 0 q q e (omega arith) o)
 
-  -- and each instance without arguments is listed
-  pub is_listed : (i : Instance) → IsInstance p i → HasNoArguments i → is_in same_instance (source_instances p) i ≡ true
-  is_listed i (of_attribute {a = a} {k = k} {xs = xs} d c e f b q) none = attribute_listed a k xs d c e f b q none
-  is_listed i (of_query {q = q} e o) none = query_listed q e o
+  -- and each instance at a source node without arguments is listed, and so is each query
+  pub is_listed : (i : Instance) → IsInstance p i → StandsInSource i → is_in same_instance (source_instances p) i ≡ true
+  is_listed i (of_attribute {a = a} {n = n} {xs = xs} d e h q) stands = node_listed a n xs d e h q stands
+  is_listed i (of_query {q = q} e o) stands = query_listed q e o

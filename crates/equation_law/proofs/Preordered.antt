@@ -1,5 +1,6 @@
--- In a tree of a grammar each node is of the class of the component at which it hangs, or of a subclass.
-use Rattle.std.proofs.Common.{◌≡◌, ℕ, zero, suc, ◌+◌, ◌≤◌, Bool, true, false, eqb, ◌&&◌, cond, List, [], ◌∷◌, ◌++◌, Option, Some, None, length, slice_get, refl, sym, ap, subst, ◌∙◌, arith}
+-- In a tree of a grammar each node is of the class of the component at which it hangs, or of a subclass. So it is in a tree that a `new` makes, whose
+-- root may be of any class.
+use Rattle.std.proofs.Common.{◌≡◌, ℕ, zero, suc, ◌+◌, ◌<◌, ◌≤◌, Bool, true, false, eqb, ◌&&◌, cond, List, [], ◌∷◌, ◌++◌, Option, Some, None, length, slice_get, refl, sym, ap, subst, ◌∙◌, arith}
 use Rattle.std.specs.Option.{option_map}
 use Rattle.std.proofs.lemmas.List.{length-append}
 use Rattle.std.proofs.lemmas.Option.{slice_get_past}
@@ -7,10 +8,12 @@ use Rattle.ast_grammar.specs.declared.grammar.ClassId.{ClassId}
 use Rattle.ast_grammar.specs.declared.grammar.Shape.{Shape}
 use Rattle.ast_grammar.specs.declared.grammar.Shape.TheVariants as shapes
 use Rattle.ast_grammar.specs.Grammar.{Class, Component, component_at, components_of, is_sub}
+use Rattle.attr_rules.specs.Expression.{NewArguments}
 use Rattle.attr_rules.specs.Rules.{is_for_nodes}
-use Rattle.attr_rules.specs.Typing.{IsConcrete}
-use Rattle.tree_arena.specs.Nodes.{Node, child_in, class_in, count_in, hanging, hanging_from}
+use Rattle.attr_rules.specs.Typing.{FitComponents, IsConcrete, Makes, Names, child_fits, no_more_components, token_fits}
+use Rattle.tree_arena.specs.Nodes.{Node, child_in, class_in, count_in, hanging, hanging_from, parent_in}
 use Rattle.tree_arena.specs.Terms.{Empty, Fits, Forest, Hangs, IsTerm, IsTree, IsTreeOf, MayHaveOne, Tree, element, nodes_from, nodes_of, none, one, over, root, size, token}
+use Rattle.equation_law.specs.Created.{Making, no_codes, tree_of, trees_from}
 use Rattle.equation_law.proofs.Keys.{both_equal}
 
 -- how many nodes trees have
@@ -111,6 +114,21 @@ module _ (g : List Class) (cls : ℕ → Option ClassId) where
         (trees_placed t p (suc n + size below) c o at (of_beside p n k b tokens below beside a)),
   )
 
+  -- and so do the nodes of the trees that the arguments of a `new` make
+  parts_placed : {N : Names} {parts : NewArguments} {xs : List Component} → FitComponents N parts xs → N.grammar ≡ g → (k p n : ℕ) (c : ClassId) → cls p ≡ Some c → AreFrom c k xs → AreOf n (nodes_from p n (trees_from k parts)) → ArePlaced (nodes_from p n (trees_from k parts))
+  parts_placed no_more_components same k p n c o at a = tt
+  parts_placed (token_fits {xs = xs} x t u got typed fit h) same k p n c o at a = parts_placed h same (suc k) p n c o (later c k x xs at) a
+  parts_placed (child_fits {parts = parts} {rest = rest} {xs = xs} x b shape fit concrete inner h) same k p n c o at a =
+      let tokens = no_codes parts in
+      let below = trees_from 0 parts in
+      let beside = trees_from (suc k) rest in
+      let fits : Fits g x.class b = record { below = subst (λ (f : List Class). is_sub f b.0 x.class.0 ≡ true) same fit; concrete = subst (λ (f : List Class). IsConcrete f b.0) same concrete } in
+      let whole = subst (λ (f : List Class). AreFrom b 0 (components_of f b.0)) (sym same) (whole_class b) in (
+        root_placed p k c b x xs o at (ap is_for_nodes shape) fits,
+        both_placed (nodes_from n (suc n) below) (nodes_from p (suc n + size below) beside) (parts_placed inner same 0 n (suc n) b a.0 whole (of_below p n k b tokens below beside a))
+            (parts_placed h same (suc k) p (suc n + size below) c o (later c k x xs at) (of_beside p n k b tokens below beside a)),
+      )
+
   -- the first of some nodes at a component, or one behind it
   first_or_later : (n k i m : ℕ) (c : ClassId) (ms : List ℕ) → IsPlaced c n k → cls i ≡ Some c → ((j : ℕ) → slice_get ms j ≡ Some m → (b : ClassId) × (cls m ≡ Some b) × IsPlaced b n k) → (j : ℕ) → slice_get (i ∷ ms) j ≡ Some m → (b : ClassId) × (cls m ≡ Some b) × IsPlaced b n k
   first_or_later n k i m c ms a o h zero e = let same : i ≡ m = cc in (c, ap cls (sym same) ∙ o, a)
@@ -148,17 +166,17 @@ module _ (g : List Class) (cls : ℕ → Option ClassId) where
       ] refl
 
 -- The nodes of a tree behind its root hang where they should.
-record AreGrown (g : List Class) (nodes : List Node) : Type 0 where
+pub record AreGrown (g : List Class) (nodes : List Node) : Type 0 where
   first : Node
   rest : List Node
   are : nodes ≡ first ∷ rest
   concrete : IsConcrete g first.class.0
-  below : is_sub g first.class.0 0 ≡ true
   of : AreOf g (class_in (first ∷ rest)) 1 rest
   placed : ArePlaced g (class_in (first ∷ rest)) rest
 
-term_grown : {g : List Class} {texts : ℕ} {term : Forest} → IsTerm g texts term → AreGrown g (nodes_of term)
-term_grown {g} (root {c = c} {tokens = tokens} {below = below} f h) =
+-- those of a tree of which the nodes below the root do
+root_grown : (g : List Class) (c : ClassId) (tokens : List ℕ) (below : Forest) → IsConcrete g c.0 → ((cls : ℕ → Option ClassId) → cls 0 ≡ Some c → AreOf g cls 1 (nodes_from 0 1 below) → ArePlaced g cls (nodes_from 0 1 below)) → AreGrown g (nodes_of (Tree c 0 tokens below Empty))
+root_grown g c tokens below concrete placed =
     let first : Node = record { class = c; parent = 0; component = 0; tokens = tokens } in
     let rest = nodes_from 0 1 below ++ [] in
     let cls : ℕ → Option ClassId = class_in (first ∷ rest) in
@@ -167,14 +185,53 @@ term_grown {g} (root {c = c} {tokens = tokens} {below = below} f h) =
       first = first;
       rest = rest;
       are = refl;
-      concrete = f.concrete;
-      below = f.below;
+      concrete = concrete;
       of = of;
-      placed = both_placed g cls (nodes_from 0 1 below) [] (trees_placed g cls h 0 1 c refl (whole_class g cls c) (of_left g cls 1 (nodes_from 0 1 below) [] of)) tt;
+      placed = both_placed g cls (nodes_from 0 1 below) [] (placed cls refl (of_left g cls 1 (nodes_from 0 1 below) [] of)) tt;
     }
 
-tree_grown : (g : List Class) (texts : ℕ) (nodes : List Node) → IsTreeOf g texts nodes → AreGrown g nodes
+term_grown : {g : List Class} {texts : ℕ} {term : Forest} → IsTerm g texts term → AreGrown g (nodes_of term)
+term_grown {g} (root {c = c} {tokens = tokens} {below = below} f h) = root_grown g c tokens below f.concrete (λ cls o of. trees_placed g cls h 0 1 c o (whole_class g cls c) of)
+
+pub tree_grown : (g : List Class) (texts : ℕ) (nodes : List Node) → IsTreeOf g texts nodes → AreGrown g nodes
 tree_grown g texts nodes t = subst (AreGrown g) (sym t.are) (term_grown t.grown)
+
+-- and those of a tree that is made
+pub making_grown : (g : List Class) (N : Names) (m : Making) → Makes N m.class m.arguments → N.grammar ≡ g → AreGrown g (tree_of m)
+making_grown g N m makes same =
+    let parts = m.arguments in
+    root_grown g m.class (no_codes parts) (trees_from 0 parts) (subst (λ (f : List Class). IsConcrete f m.class.0) same makes.concrete)
+    (λ cls o of. parts_placed g cls makes.fit same 0 0 1 m.class o (subst (λ (f : List Class). AreFrom g cls m.class 0 (components_of f m.class.0)) (sym same) (whole_class g cls m.class)) of)
+
+-- The parents of these nodes, numbered from n on, have smaller numbers.
+abbrev AreBehind : ℕ → List Node → Type 0
+AreBehind n [] = Unit {0}
+AreBehind n (x ∷ xs) = (x.parent < n) × AreBehind (suc n) xs
+
+both_behind : (n m : ℕ) (xs ys : List Node) → n + length xs ≡ m → AreBehind n xs → AreBehind m ys → AreBehind n (xs ++ ys)
+both_behind n m [] ys l a b = let same : m ≡ n = omega (arith, l) in subst (λ (i : ℕ). AreBehind i ys) same b
+both_behind n m (x ∷ xs) ys l a b = (a.0, both_behind (suc n) m xs ys (omega (arith, l)) a.1 b)
+
+trees_behind : (p n : ℕ) (trees : Forest) → p < n → AreBehind n (nodes_from p n trees)
+trees_behind p n Empty l = tt
+trees_behind p n (Tree c k tokens below beside) l = (
+  l,
+  both_behind (suc n) (suc n + size below) (nodes_from n (suc n) below) (nodes_from p (suc n + size below) beside) (beside_at n below) (trees_behind n (suc n) below (omega arith)) (trees_behind p (suc n + size below) beside (omega (arith, l))),
+)
+
+behind_each : (n j u : ℕ) (xs : List Node) → AreBehind n xs → option_map (λ (x : Node). x.parent) (slice_get xs j) ≡ Some u → u < n + j
+behind_each n j u [] a e = cc
+behind_each n zero u (x ∷ xs) a e = let same : x.parent ≡ u = cc in let before = a.0 in omega (arith, same, before)
+behind_each n (suc j) u (x ∷ xs) a e = let later = behind_each (suc n) j u xs a.1 e in omega (arith, later)
+
+-- each parent in the tree of a term has a smaller number
+pub term_falls : (term : Forest) (n u : ℕ) → parent_in (nodes_of term) n ≡ Some u → u < n
+term_falls term zero u e = cc
+term_falls Empty (suc n) u e = cc
+term_falls (Tree c k tokens below beside) (suc n) u e =
+    let behind = both_behind 1 (1 + size below) (nodes_from 0 1 below) (nodes_from 0 (1 + size below) beside) (beside_at 0 below) (trees_behind 0 1 below (omega arith)) (trees_behind 0 (1 + size below) beside (omega arith)) in
+    let before = behind_each 1 n u (nodes_from 0 1 below ++ nodes_from 0 (1 + size below) beside) behind e in
+    omega (arith, before)
 
 -- Nothing hangs at a number past the last node.
 none_hangs : (nodes : List Node) → IsTree nodes → (n k : ℕ) → length nodes ≤ n → hanging nodes n k ≡ []
@@ -190,27 +247,30 @@ pub none_counted : (nodes : List Node) → IsTree nodes → (n k : ℕ) → leng
 none_counted nodes t n k l = ap length (none_hangs nodes t n k l)
 
 -- a node is of a class that is not abstract
-pub node_concrete : (g : List Class) (texts : ℕ) (nodes : List Node) → IsTreeOf g texts nodes → (n : ℕ) (c : ClassId) → class_in nodes n ≡ Some c → IsConcrete g c.0
-node_concrete g texts nodes t n c e = at n (subst (λ (xs : List Node). class_in xs n ≡ Some c) a.are e)
+pub grown_concrete : (g : List Class) (nodes : List Node) → AreGrown g nodes → (n : ℕ) (c : ClassId) → class_in nodes n ≡ Some c → IsConcrete g c.0
+grown_concrete g nodes a n c e = at n (subst (λ (xs : List Node). class_in xs n ≡ Some c) a.are e)
   where
-    a : AreGrown g nodes
-    a = tree_grown g texts nodes t
-
     at : (n : ℕ) → class_in (a.first ∷ a.rest) n ≡ Some c → IsConcrete g c.0
     at zero h = let same : a.first.class ≡ c = cc in subst (λ (z : ClassId). IsConcrete g z.0) same a.concrete
     at (suc n) h = concrete_placed g (class_in (a.first ∷ a.rest)) n c a.rest a.placed h
 
+pub node_concrete : (g : List Class) (texts : ℕ) (nodes : List Node) → IsTreeOf g texts nodes → (n : ℕ) (c : ClassId) → class_in nodes n ≡ Some c → IsConcrete g c.0
+node_concrete g texts nodes t n c e = grown_concrete g nodes (tree_grown g texts nodes t) n c e
+
 -- What hangs at a component of a node is of the component's class or of a subclass.
-pub child_below : (g : List Class) (texts : ℕ) (nodes : List Node) → IsTreeOf g texts nodes → (n k i m : ℕ) (c : ClassId) (x : Component) → class_in nodes n ≡ Some c → component_at g c.0 k ≡ Some x → child_in nodes n k i ≡ Some m
+pub grown_child : (g : List Class) (nodes : List Node) → AreGrown g nodes → (n k i m : ℕ) (c : ClassId) (x : Component) → class_in nodes n ≡ Some c → component_at g c.0 k ≡ Some x → child_in nodes n k i ≡ Some m
     → (b : ClassId) × (class_in nodes m ≡ Some b) × (is_sub g b.0 x.class.0 ≡ true)
-child_below g texts nodes t n k i m c x y e h =
-    let a = tree_grown g texts nodes t in
+grown_child g nodes a n k i m c x y e h =
     let here : class_in (a.first ∷ a.rest) n ≡ Some c = subst (λ (xs : List Node). class_in xs n ≡ Some c) a.are y in
     let f = hung_placed g (class_in (a.first ∷ a.rest)) n k 1 i m a.rest a.placed a.of (subst (λ (xs : List Node). child_in xs n k i ≡ Some m) a.are h) in
     let placed = f.2 in
     let parent : placed.parent ≡ c = let o = placed.of in cc in
     let component : placed.component ≡ x = let o = subst (λ (z : ClassId). component_at g z.0 k ≡ Some placed.component) parent placed.has in cc in
     (f.0, ap (λ (xs : List Node). class_in xs m) a.are ∙ f.1, subst (λ (z : Component). is_sub g f.0.0 z.class.0 ≡ true) component placed.below)
+
+pub child_below : (g : List Class) (texts : ℕ) (nodes : List Node) → IsTreeOf g texts nodes → (n k i m : ℕ) (c : ClassId) (x : Component) → class_in nodes n ≡ Some c → component_at g c.0 k ≡ Some x → child_in nodes n k i ≡ Some m
+    → (b : ClassId) × (class_in nodes m ≡ Some b) × (is_sub g b.0 x.class.0 ≡ true)
+child_below g texts nodes t n k i m c x y e h = grown_child g nodes (tree_grown g texts nodes t) n k i m c x y e h
 
 -- each of some placed nodes is placed
 placed_node : (g : List Class) (cls : ℕ → Option ClassId) (xs : List Node) (j : ℕ) (x : Node) → ArePlaced g cls xs → slice_get xs j ≡ Some x → IsPlaced g cls x.class x.parent x.component
@@ -219,16 +279,17 @@ placed_node g cls (y ∷ xs) zero x a e = let same : y ≡ x = cc in subst (λ (
 placed_node g cls (y ∷ xs) (suc j) x a e = placed_node g cls xs j x a.1 e
 
 -- a node that isn't the root hangs at a component of its parent's class
-pub node_placed : (g : List Class) (texts : ℕ) (nodes : List Node) → IsTreeOf g texts nodes → (n : ℕ) (x : Node) → slice_get nodes (suc n) ≡ Some x → IsPlaced g (class_in nodes) x.class x.parent x.component
-node_placed g texts nodes t n x e =
-    let a = tree_grown g texts nodes t in
+pub grown_placed : (g : List Class) (nodes : List Node) → AreGrown g nodes → (n : ℕ) (x : Node) → slice_get nodes (suc n) ≡ Some x → IsPlaced g (class_in nodes) x.class x.parent x.component
+grown_placed g nodes a n x e =
     let there : slice_get (a.first ∷ a.rest) (suc n) ≡ Some x = subst (λ (xs : List Node). slice_get xs (suc n) ≡ Some x) a.are e in
     subst (λ (xs : List Node). IsPlaced g (class_in xs) x.class x.parent x.component) (sym a.are) (placed_node g (class_in (a.first ∷ a.rest)) a.rest n x a.placed there)
 
--- the root is of the first class or of a subclass
+pub node_placed : (g : List Class) (texts : ℕ) (nodes : List Node) → IsTreeOf g texts nodes → (n : ℕ) (x : Node) → slice_get nodes (suc n) ≡ Some x → IsPlaced g (class_in nodes) x.class x.parent x.component
+node_placed g texts nodes t n x e = grown_placed g nodes (tree_grown g texts nodes t) n x e
+
+-- the root of a source tree is of the first class or of a subclass
+term_below : {g : List Class} {texts : ℕ} {term : Forest} → IsTerm g texts term → (c : ClassId) → class_in (nodes_of term) 0 ≡ Some c → is_sub g c.0 0 ≡ true
+term_below {g} (root {c = b} f h) c e = let same : b ≡ c = cc in subst (λ (z : ClassId). is_sub g z.0 0 ≡ true) same f.below
+
 pub root_below : (g : List Class) (texts : ℕ) (nodes : List Node) → IsTreeOf g texts nodes → (c : ClassId) → class_in nodes 0 ≡ Some c → is_sub g c.0 0 ≡ true
-root_below g texts nodes t c e =
-    let a = tree_grown g texts nodes t in
-    let there : class_in (a.first ∷ a.rest) 0 ≡ Some c = subst (λ (xs : List Node). class_in xs 0 ≡ Some c) a.are e in
-    let same : a.first.class ≡ c = cc in
-    subst (λ (z : ClassId). is_sub g z.0 0 ≡ true) same a.below
+root_below g texts nodes t c e = term_below t.grown c (subst (λ (xs : List Node). class_in xs 0 ≡ Some c) t.are e)

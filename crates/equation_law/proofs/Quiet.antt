@@ -1,17 +1,17 @@
 -- An expression without a call of a circular attribute demands instances alone that aren't circular.
-use Rattle.std.proofs.Common.{◌≡◌, ℕ, Bool, true, false, cond, ◌&&◌, ◌||◌, List, [], ◌∷◌}
+use Rattle.std.proofs.Common.{◌≡◌, ℕ, Bool, true, false, cond, ◌&&◌, ◌||◌, List, [], ◌∷◌, ◌++◌}
 use Rattle.attr_rules.specs.declared.expression.Quantifier.{Quantifier}
 use Rattle.attr_rules.specs.declared.expression.Quantifier.TheVariants.{Any, All, First}
 use Rattle.attr_rules.specs.declared.expression.SetOperator.TheVariants.{Union}
 use Rattle.attr_rules.specs.declared.kinds.Kind.{Kind}
-use Rattle.attr_rules.specs.Expression.{Expression, Arguments, no_more, argument, Truth as TruthLiteral, Int as IntLiteral, Text as TextLiteral, Null as NullLiteral, Empty, This, Variable, Source as SourceNode, Child, Element, Count, Has, Token, Call, Cast, InstanceOf, Quantified, QuantifiedSet, Each, EachOfSet, Sets, Single, Contains, Size, Not, Negate, Binary, And, Or, OrBoth, If, New}
-use Rattle.attr_rules.specs.Rising.{has_call, have_call}
+use Rattle.attr_rules.specs.Expression.{Expression, Arguments, no_more, argument, NewArguments, new_child, new_end, new_token, Truth as TruthLiteral, Int as IntLiteral, Text as TextLiteral, Null as NullLiteral, Empty, This, Variable, Source as SourceNode, Child, Element, Count, Has, Token, Call, Cast, InstanceOf, Quantified, QuantifiedSet, Each, EachOfSet, Sets, Single, Contains, Size, Not, Negate, Binary, And, Or, OrBoth, If, New}
+use Rattle.attr_rules.specs.Rising.{has_call, have_call, tokens_call}
 use Rattle.attr_rules.proofs.Permitted.{neither}
 use Rattle.solutions.specs.Asking.{Demands, next}
 use Rattle.solutions.proofs.Composing.{IsPlain, plain_next}
-use Rattle.equation_law.specs.Meaning.{World, Place, at_each, call_at, elements_at, first_with, meaning_of, over_elements, token_at, united, with_arguments, with_name}
+use Rattle.equation_law.specs.Meaning.{World, Place, at_each, call_at, elements_at, first_with, meaning_of, over_elements, token_at, united, with_arguments, with_name, with_tokens}
 use Rattle.equation_law.specs.Names.{Argument, At, Attribute, Instance, NodeName, Null, Reference}
-use Rattle.equation_law.specs.Values.{Value, default_of, elements_of, node, set_operate, truth}
+use Rattle.equation_law.specs.Values.{Value, as_argument, default_of, elements_of, node, set_operate, truth}
 
 -- tokens demand instances alone that aren't circular
 abbrev pub AreTokensPlain : World → (Instance → Bool) → Type 0
@@ -121,3 +121,13 @@ module _ (W : World) (circular : Instance → Bool) (declared : ℕ → Bool) (f
     quiet_arguments (argument e es) q p go g =
         let n = neither (has_call declared e) (have_call declared es) q in
         then (meaning_of W e p) _ (quiet_plain e n.0 p) (λ v. quiet_arguments es n.1 p _ (λ vs. g (v ∷ vs)))
+
+  -- and so do the tokens of a `new`
+  pub quiet_tokens : (parts : NewArguments) → tokens_call declared parts ≡ false → (p : Place) (go : List Argument → Demands Instance Value) → ((ts : List Argument) → Plain (go ts)) → Plain (with_tokens W parts p go)
+  quiet_tokens new_end q p go g = g []
+  quiet_tokens (new_token k e rest) q p go g =
+      let n = neither (has_call declared e) (tokens_call declared rest) q in
+      then (meaning_of W e p) _ (quiet_plain e n.0 p) (λ v. quiet_tokens rest n.1 p _ (λ ts. g (as_argument k v ∷ ts)))
+  quiet_tokens (new_child c parts rest) q p go g =
+      let n = neither (tokens_call declared parts) (tokens_call declared rest) q in
+      quiet_tokens parts n.0 p _ (λ ts. quiet_tokens rest n.1 p _ (λ us. g (ts ++ us)))

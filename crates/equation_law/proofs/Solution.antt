@@ -1,10 +1,11 @@
 -- The laws of the solution of a program: the equations of its circular instances rise, and their values have an order, joins and heights.
-use Rattle.std.proofs.Common.{◌≡◌, ◌↔◌, ℕ, true, false, ◌&&◌, cond, List, Option, Some, None, refl, sym, ap, subst}
+use Rattle.std.proofs.Common.{◌≡◌, ◌↔◌, ◌∙◌, ℕ, Bool, true, false, not, ◌&&◌, cond, List, [], ◌∷◌, ◌++◌, Option, Some, None, refl, sym, ap, subst}
 use Rattle.std.specs.Option.{option_and_then, option_map, option_or}
+use Rattle.ast_grammar.specs.declared.grammar.ClassId.{ClassId}
 use Rattle.attr_rules.specs.declared.kinds.Kind.{Kind}
 use Rattle.attr_rules.specs.declared.kinds.Kind.TheVariants as kinds
-use Rattle.attr_rules.specs.Expression.{Expression}
-use Rattle.attr_rules.specs.Rising.{IsRising, rises}
+use Rattle.attr_rules.specs.Expression.{Expression, NewArguments, new_child, new_end, new_token}
+use Rattle.attr_rules.specs.Rising.{IsRising, rises, tokens_call}
 use Rattle.attr_rules.specs.Rules.{circular_at}
 use Rattle.attr_rules.proofs.Permitted.{test_rising}
 use Rattle.solutions.specs.Asking.{Demands, Ends, Gives, Halts, Meets, Needs, next}
@@ -14,7 +15,7 @@ use Rattle.solutions.specs.Leading.{AreJoins, Demanded, Mixed}
 use Rattle.solutions.proofs.Assigned.{demands_assigned, values_assigned}
 use Rattle.solutions.proofs.Cleaning.{val_finished}
 use Rattle.solutions.proofs.Closed.{closed_val}
-use Rattle.solutions.proofs.Composing.{rise_next}
+use Rattle.solutions.proofs.Composing.{IsPlain, rise_next}
 use Rattle.solutions.proofs.Growing.{done_below, growing}
 use Rattle.solutions.proofs.Loops.{no_loop}
 use Rattle.solutions.proofs.Lower.{joined_lower, lower_below, raised_lower}
@@ -22,18 +23,20 @@ use Rattle.solutions.proofs.Reaching.{reach_is}
 use Rattle.solutions.proofs.Runs.{and_true}
 use Rattle.solutions.proofs.Solved.{met_leads as met_leads_in, solved}
 use Rattle.solutions.proofs.Unique.{stuck_no_val, unique}
-use Rattle.equation_law.specs.Names.{Argument, At, Attribute, Instance, Null, Query, Reference, Source, same_instance}
-use Rattle.equation_law.specs.Values.{Value, as_kind, default_of, nodes, texts, truth}
-use Rattle.equation_law.specs.Program.{Program, class_of, declared_of}
-use Rattle.equation_law.specs.Equations.{HasValue, InstanceEquation, OfCollection, OfSite, Site, attribute_kind, collection_of, equation_demands, equation_for, equation_of, equation_rises, equations_of, inherited_site, inherits, is_circular, is_ordered, kind_in, site_at, site_of, synthesized_site, world_of}
+use Rattle.equation_law.specs.Created.{Making, making_in}
+use Rattle.equation_law.specs.Names.{Argument, At, Attribute, Instance, Made, Null, Query, Reference, Source, list_of, made_by, same_instance}
+use Rattle.equation_law.specs.Values.{Value, as_argument, as_kind, as_tree, default_of, nodes, texts, tokens, truth}
+use Rattle.equation_law.specs.Program.{Program, class_at, declared_of, equation_for, making_of}
+use Rattle.equation_law.specs.Equations.{HasValue, InstanceEquation, OfCollection, OfSite, Site, attribute_kind, body_demands, collection_of, equation_demands, equation_of, equation_rises, equations_of, inherited_site, inherits, is_circular, is_ordered, kind_in, site_at, site_of, synthesized_site, token_place, token_value, where_made, world_of}
 use Rattle.equation_law.specs.Loops.{order_in, fits_in, join_in, Chain, HasLoop, Leads}
 use Rattle.equation_law.specs.Lower.{IsClosed, IsLower, joined, raised_at}
-use Rattle.equation_law.specs.Meaning.{Place, meaning_of}
+use Rattle.equation_law.specs.Meaning.{Place, World, meaning_of, with_tokens}
 use Rattle.equation_law.specs.Orders.{IsAtMost, FitsKind}
-use Rattle.equation_law.proofs.Above.{inherited_above}
-use Rattle.equation_law.proofs.Growing.{kind_below, rises as rising_meaning}
+use Rattle.equation_law.proofs.Growing.{kind_below, rises as rising_meaning, rising_tokens}
 use Rattle.equation_law.proofs.Heights.{height_of, height_grows, height_strict}
+use Rattle.equation_law.proofs.Inherited.{inherited_kind}
 use Rattle.equation_law.proofs.Lists.{some_of}
+use Rattle.equation_law.proofs.Makings.{found_new}
 use Rattle.equation_law.proofs.Names.{same_instance_is, same_instance_self}
 use Rattle.equation_law.proofs.Quiet.{AreTokensPlain}
 use Rattle.equation_law.proofs.Sites.{collection_equation}
@@ -43,9 +46,21 @@ use Rattle.equation_law.proofs.Orders.{at_most_both, at_most_itself, at_most_thr
 pub not_circular : (p : Program) (a : ℕ) (r : Reference) (xs : List Argument) → circular_at p.rules.attributes a ≡ false → is_circular p (Attribute a r xs) ≡ false
 not_circular p a r xs e = ap (λ b. b && (is_ordered (attribute_kind p a) && equation_rises (circular_at p.rules.attributes) (equation_of p (Attribute a r xs)))) e
 
--- tokens of source nodes demand nothing
+-- tokens of source nodes demand nothing, and those of nodes that were made what isn't circular
 tokens_plain : (p : Program) → AreTokensPlain (world_of p) (is_circular p)
 tokens_plain p t (Source n) k = tt
+tokens_plain p t (Made a r xs q) k = made (class_at p (Made a r xs q))
+  where
+    value : Value → Demands Instance Value
+    value v = Gives (as_kind t (token_value (tokens v) (token_place (making_of p a r) q k)))
+
+    either : (b : Bool) → circular_at p.rules.attributes a ≡ b → IsPlain (is_circular p) (cond b (Gives (default_of t)) (Needs (Attribute a r (list_of xs)) value))
+    either true e = tt
+    either false e = (not_circular p a r (list_of xs) e, λ v. tt)
+
+    made : (o : Option ClassId) → IsPlain (is_circular p) (where_made o (cond (circular_at p.rules.attributes a) (Gives (default_of t)) (Needs (Attribute a r (list_of xs)) value)) (Gives (default_of t)))
+    made None = tt
+    made (Some c) = either (circular_at p.rules.attributes a) refl
 
 -- where no attribute is declared so, no instance is
 pub none_circular : (p : Program) → ((a : ℕ) → circular_at p.rules.attributes a ≡ false) → (i : Instance) → (equations_of p).circular i ≡ false
@@ -73,10 +88,11 @@ default_fits (kinds.Nodes c) e = (_, refl)
 -- an equation is read at the type of its attribute
 site_kind : (p : Program) (a : ℕ) (r : Reference) (xs : List Argument) (s : Site) → site_of p (Attribute a r xs) ≡ Some s → s.kind ≡ attribute_kind p a
 site_kind p a Null xs s e = cc
-site_kind p a (At (Source k)) xs s e =
-    elim (inherits (declared_of p a)) as (λ b. cond b (inherited_site p a xs k) (synthesized_site p a k xs) ≡ Some s → s.kind ≡ attribute_kind p a) [
-      | true ↦ λ h. ap (λ (x : Site). x.kind) (sym (inherited_above p a xs k s h).is)
-      | false ↦ λ h. ap (λ (x : Site). x.kind) (sym (some_of (site_at p a k xs) (option_and_then (equation_for p a) (class_of p k)) s h).2)
+site_kind p a (At n) xs s e =
+    let root = made_by (Attribute a (At n) xs) 0 in
+    elim (inherits (declared_of p a)) as (λ b. cond b (inherited_site p a xs root n) (synthesized_site p a n xs) ≡ Some s → s.kind ≡ attribute_kind p a) [
+      | true ↦ λ h. sym (inherited_kind p a xs root n s h)
+      | false ↦ λ h. ap (λ (x : Site). x.kind) (sym (some_of (site_at p a n xs) (option_and_then (equation_for p a) (class_at p n)) s h).2)
     ] e
 
 -- an equation that rises is an expression
@@ -97,6 +113,7 @@ pub record HasSite (p : Program) (i : Instance) : Type 0 where
   pub site : Site
   pub is : equation_of p i ≡ Some (OfSite site)
   pub rising : IsRising (circular_at p.rules.attributes) site.body
+  pub rises : rises (circular_at p.rules.attributes) site.body ≡ true
   pub kind : site.kind ≡ kind_in p i
   pub ordered : is_ordered (kind_in p i) ≡ true
 
@@ -111,6 +128,7 @@ circular_site p (Attribute a r xs) c =
       site = s.0;
       is = s.2;
       rising = test_rising declared s.0.body s.3;
+      rises = s.3;
       kind = site_kind p a r xs s.0 s.1;
       ordered = e.0;
     }
@@ -131,20 +149,52 @@ leaves_next : {I V : Type 0} (P : V → Type 0) (c : Demands I V) (k : V → Dem
 leaves_next P (Gives v) k h = h v
 leaves_next P (Needs j f) k h = λ v. leaves_next P (f v) k h
 
+tokens_leave : (P : Value → Type 0) (W : World) (parts : NewArguments) (place : Place) (k : List Argument → Demands Instance Value) → ((ts : List Argument) → Leaves P (k ts)) → Leaves P (with_tokens W parts place k)
+tokens_leave P W new_end place k h = h []
+tokens_leave P W (new_token t e rest) place k h = leaves_next P (meaning_of W e place) _ (λ v. tokens_leave P W rest place _ (λ ts. h (as_argument t v ∷ ts)))
+tokens_leave P W (new_child c parts rest) place k h = tokens_leave P W parts place _ (λ ts. tokens_leave P W rest place _ (λ us. h (ts ++ us)))
+
+-- a tree is of no type that has an order: the default is made
+tree_fits : (k : Kind) → is_ordered k ≡ true → (r : Reference) (ts : List Argument) → FitsKind k (as_tree k r ts)
+tree_fits kinds.Truth e r ts = (_, refl)
+tree_fits kinds.Int e r ts = cc
+tree_fits kinds.Text e r ts = cc
+tree_fits (kinds.Node c) e r ts = cc
+tree_fits kinds.Texts e r ts = (_, refl)
+tree_fits (kinds.Nodes c) e r ts = (_, refl)
+
+body_fits : (W : World) (s : Site) (k : Kind) → s.kind ≡ k → is_ordered k ≡ true → (o : Option Making) → Leaves (FitsKind k) (body_demands W s o)
+body_fits W s k same e None = leaves_next (FitsKind k) (meaning_of W s.body s.place) (λ v. Gives (as_kind s.kind v)) (λ v. subst (λ (t : Kind). FitsKind k (as_kind t v)) (sym same) (read_fits k e v))
+body_fits W s k same e (Some m) = tokens_leave (FitsKind k) W m.arguments s.place (λ ts. Gives (as_tree s.kind s.root ts)) (λ ts. subst (λ (t : Kind). FitsKind k (as_tree t s.root ts)) (sym same) (tree_fits k e s.root ts))
+
 -- it comes to values of the instance's type
 circular_fits : (p : Program) (i : Instance) → is_circular p i ≡ true → Leaves (fits_in p i) (equation_demands (world_of p) (equation_of p i))
 circular_fits p i c =
     let s = circular_site p i c in
-    subst (λ (o : Option InstanceEquation). Leaves (fits_in p i) (equation_demands (world_of p) o)) (sym s.is)
-    (leaves_next (fits_in p i) (meaning_of (world_of p) s.site.body s.site.place) (λ v. Gives (as_kind s.site.kind v)) (λ v. subst (λ (k : Kind). FitsKind (kind_in p i) (as_kind k v)) (sym s.kind) (read_fits (kind_in p i) s.ordered v)))
+    subst (λ (o : Option InstanceEquation). Leaves (fits_in p i) (equation_demands (world_of p) o)) (sym s.is) (body_fits (world_of p) s.site (kind_in p i) s.kind s.ordered (making_in s.site.body))
+
+-- no token of a `new` that rises has a call that counts
+quiet_new : (circular : ℕ → Bool) (e : Expression) (m : Making) → making_in e ≡ Some m → rises circular e ≡ true → tokens_call circular m.arguments ≡ false
+quiet_new circular e m is up =
+    let both : not (tokens_call circular m.arguments) ≡ true = ap (rises circular) (sym (found_new e m is)) ∙ up in
+    elim (tokens_call circular m.arguments) as (λ b. not b ≡ true → b ≡ false) [
+      | true ↦ λ h. absurd (cc)
+      | false ↦ λ h. refl
+    ] both
 
 -- and rises
 circular_rises : (p : Program) (i : Instance) → is_circular p i ≡ true → Rise (is_circular p) (order_in p) (order_in p i) (equation_demands (world_of p) (equation_of p i)) (equation_demands (world_of p) (equation_of p i))
 circular_rises p i c =
     let s = circular_site p i c in
-    let up = rising_meaning (world_of p) (is_circular p) (circular_at p.rules.attributes) (not_circular p) (tokens_plain p) s.rising s.site.place in
-    subst (λ (o : Option InstanceEquation). Rise (is_circular p) (order_in p) (order_in p i) (equation_demands (world_of p) o) (equation_demands (world_of p) o)) (sym s.is)
-    (rise_next (λ v. Gives (as_kind s.site.kind v)) (λ v. Gives (as_kind s.site.kind v)) up (λ v w l. leaves (kind_below s.site.kind v w l)))
+    let W = world_of p in
+    let declared = circular_at p.rules.attributes in
+    let up = rising_meaning W (is_circular p) declared (not_circular p) (tokens_plain p) s.rising s.site.place in
+    let Grows : Demands Instance Value → Type 0 = λ d. Rise (is_circular p) (order_in p) (order_in p i) d d in
+    subst (λ (o : Option InstanceEquation). Grows (equation_demands W o)) (sym s.is)
+    (elim (making_in s.site.body) as (λ o. making_in s.site.body ≡ o → Grows (body_demands W s.site o)) [
+      | None ↦ λ none. rise_next (λ v. Gives (as_kind s.site.kind v)) (λ v. Gives (as_kind s.site.kind v)) up (λ v w l. leaves (kind_below s.site.kind v w l))
+      | Some m ↦ λ is. rising_tokens W (is_circular p) declared (not_circular p) (tokens_plain p) m.arguments (quiet_new declared s.site.body m is s.rises) s.site.place (as_tree s.site.kind s.site.root)
+    ] refl)
 
 -- all rules of rising equations hold
 pub are_rising : (p : Program) → AreRising (equations_of p) (order_in p) (fits_in p)

@@ -20,11 +20,12 @@ use Rattle.attr_rules.specs.declared.types.ValueType.TheVariants as types
 use Rattle.attr_rules.specs.Rules.{is_single}
 use Rattle.attr_rules.specs.Types.{class_of_number, common, common_class, common_element, common_node, common_nodes, element_class, elements_of as element_of_type, fits, fits_class, fits_nodes, is_int, is_node, is_set, is_text, is_texts, is_truth, kept_kind, kind_class, nodes_of_number, of_class, of_nodes, set_of as set_of_type, type_where}
 use Rattle.solutions.proofs.Runs.{or_left, or_right}
-use Rattle.equation_law.specs.Checked.{IsAt, IsNodeOf, IsValue, at, null, int as int_value, node as node_value, nodes as nodes_value, text as text_value, texts as texts_value, truth as truth_value}
-use Rattle.equation_law.specs.Names.{At, NodeName, Null, Reference, node_cmp, text_cmp}
+use Rattle.equation_law.specs.Checked.{IsNodeAt, IsNodeOf, IsValue, at, null, int as int_value, node as node_value, nodes as nodes_value, text as text_value, texts as texts_value, tree as tree_value, truth as truth_value}
+use Rattle.equation_law.specs.Names.{Argument, At, NodeName, Null, OfInt, OfNode, OfText, OfTruth, Reference, node_cmp, text_cmp}
 use Rattle.equation_law.specs.Program.{Program}
 use Rattle.equation_law.specs.Sets.{elements, has, no_elements, set_of}
-use Rattle.equation_law.specs.Values.{Value, Truth, Int, Text, Node, Texts, Nodes, argument_value, as_argument, as_kind, combined, default_of, elements_of, nodes, of_node as node_at, set_operate, single, texts}
+use Rattle.equation_law.specs.Values.{Value, Truth, Int, Text, Node, Texts, Nodes, Tree, argument_value, as_argument, as_kind, combined, default_of, elements_of, node, nodes, of_node as node_at, set_operate, single, texts}
+use Rattle.equation_law.proofs.Among.{Among, HasArgument, HasReference}
 use Rattle.equation_law.proofs.Lists.{some_of}
 use Rattle.equation_law.proofs.Names.{code_anti, node_anti}
 use Rattle.equation_law.proofs.Orders.{node_total}
@@ -81,15 +82,63 @@ single_no_set (kinds.Nodes c) e s = cc
 
 module _ (p : Program) where
   -- a node of a class is one of each class above it
-  at_above : (c d : ClassId) (k : ℕ) → is_sub p.grammar c.0 d.0 ≡ true → IsAt p k c → IsAt p k d
-  at_above c d k s a = record { class = a.class; of = a.of; below = sub_then (superclasses_of p.grammar) a.class.0 c.0 d.0 a.below s }
+  at_above : (c d : ClassId) (n : NodeName) → is_sub p.grammar c.0 d.0 ≡ true → IsNodeAt p n c → IsNodeAt p n d
+  at_above c d n s a = record { there = a.there; class = a.class; of = a.of; below = sub_then (superclasses_of p.grammar) a.class.0 c.0 d.0 a.below s }
 
   pub node_above : (c d : ClassId) (r : Reference) → is_sub p.grammar c.0 d.0 ≡ true → IsNodeOf p c r → IsNodeOf p d r
   node_above c d _ s null = null
-  node_above c d _ s (at {k = k} h) = at (at_above c d k s h)
+  node_above c d _ s (at {n = n} h) = at (at_above c d n s h)
 
--- Values of types: of the integers those of which this holds, of the texts those of which that does.
-module _ (p : Program) (I : ℤ → Type 0) (T : List ℕ → Type 0) where
+-- a tree, and no other value
+abbrev is_tree : Value → Bool
+is_tree (Truth b) = false
+is_tree (Int z) = false
+is_tree (Text t) = false
+is_tree (Node r) = false
+is_tree (Texts s) = false
+is_tree (Nodes s) = false
+is_tree (Tree r ts) = true
+
+-- no argument is one
+no_tree : (x : Argument) → is_tree (argument_value x) ≡ false
+no_tree (OfTruth b) = refl
+no_tree (OfInt z) = refl
+no_tree (OfText t) = refl
+no_tree (OfNode r) = refl
+
+-- a value of a type that is no tree stays where it is read at it
+read_same : (p : Program) (k : Kind) (v : Value) → IsValue p k v → is_tree v ≡ false → as_kind k v ≡ v
+read_same p _ _ (truth_value b) e = refl
+read_same p _ _ (int_value z h) e = refl
+read_same p _ _ (text_value t h) e = refl
+read_same p _ _ (node_value c r h) e = refl
+read_same p _ _ (texts_value s h) e = refl
+read_same p _ _ (tree_value c r ts h) e = cc
+read_same p _ _ (nodes_value c s h) e = refl
+
+-- no type is one of nodes and of sets
+no_set_node : (t : ValueType) → is_node t ≡ true → is_set t ≡ true → ⊥
+no_set_node types.Null e s = cc
+no_set_node types.Empty e s = cc
+no_set_node (types.Of kinds.Truth) e s = cc
+no_set_node (types.Of kinds.Int) e s = cc
+no_set_node (types.Of kinds.Text) e s = cc
+no_set_node (types.Of (kinds.Node c)) e s = cc
+no_set_node (types.Of kinds.Texts) e s = cc
+no_set_node (types.Of (kinds.Nodes c)) e s = cc
+
+-- Values of types, among some integers, texts and nodes.
+module _ (p : Program) (U : Among) where
+  -- null, or a node of the class or of a subclass, that is among them
+  abbrev pub IsRefOf : ClassId → Reference → Type 0
+  IsRefOf c r = IsNodeOf p c r × HasReference U.nodes r
+
+  ref_above : (c d : ClassId) (r : Reference) → is_sub p.grammar c.0 d.0 ≡ true → IsRefOf c r → IsRefOf d r
+  ref_above c d r s h = (node_above p c d r s h.0, h.1)
+
+  pub null_ref : (c : ClassId) → IsRefOf c Null
+  null_ref c = (null, tt)
+
   -- what may be an element of a set of a type; of `empty` nothing may
   abbrev pub IsTextIn : ValueType → List ℕ → Type 0
   IsTextIn types.Null t = ⊥
@@ -98,7 +147,7 @@ module _ (p : Program) (I : ℤ → Type 0) (T : List ℕ → Type 0) where
   IsTextIn (types.Of kinds.Int) t = ⊥
   IsTextIn (types.Of kinds.Text) t = ⊥
   IsTextIn (types.Of (kinds.Node c)) t = ⊥
-  IsTextIn (types.Of kinds.Texts) t = T t
+  IsTextIn (types.Of kinds.Texts) t = U.texts t
   IsTextIn (types.Of (kinds.Nodes c)) t = ⊥
 
   abbrev pub IsNodeIn : ValueType → NodeName → Type 0
@@ -109,7 +158,7 @@ module _ (p : Program) (I : ℤ → Type 0) (T : List ℕ → Type 0) where
   IsNodeIn (types.Of kinds.Text) n = ⊥
   IsNodeIn (types.Of (kinds.Node c)) n = ⊥
   IsNodeIn (types.Of kinds.Texts) n = ⊥
-  IsNodeIn (types.Of (kinds.Nodes c)) n = IsNodeOf p c (At n)
+  IsNodeIn (types.Of (kinds.Nodes c)) n = IsRefOf c (At n)
 
   -- all that a value has as elements may be elements of a set of the type
   pub record HasElements (t : ValueType) (v : Value) : Type 0 where
@@ -119,16 +168,25 @@ module _ (p : Program) (I : ℤ → Type 0) (T : List ℕ → Type 0) where
   -- An empty set is of each type of sets, whatever set it is.
   pub data IsOf : ValueType → Value → Type 0 where
     of_truth : (b : Bool) → IsOf (types.Of kinds.Truth) (Truth b)
-    of_int : (z : ℤ) → I z → IsOf (types.Of kinds.Int) (Int z)
-    of_text : (t : List ℕ) → T t → IsOf (types.Of kinds.Text) (Text t)
-    of_node : (c : ClassId) (r : Reference) → IsNodeOf p c r → IsOf (of_class c) (Node r)
+    of_int : (z : ℤ) → U.ints z → IsOf (types.Of kinds.Int) (Int z)
+    of_text : (t : List ℕ) → U.texts t → IsOf (types.Of kinds.Text) (Text t)
+    of_node : (c : ClassId) (r : Reference) → IsRefOf c r → IsOf (of_class c) (Node r)
     of_null : IsOf types.Null (Node Null)
     of_set : (t : ValueType) (v : Value) → is_set t ≡ true → HasElements t v → IsOf t v
 
-  -- what holds of all nodes of a class holds of the values of that type
-  pub on_node : (c : ClassId) (P : Value → Type 0) (v : Value) → IsOf (of_class c) v → ((r : Reference) → IsNodeOf p c r → P (Node r)) → P v
+  -- what holds of all nodes of a class holds of what the values of that type stand for
+  pub on_node : (c : ClassId) (P : Reference → Type 0) (v : Value) → IsOf (of_class c) v → ((r : Reference) → IsRefOf c r → P r) → P (node v)
   on_node c P _ (of_node _ r h) f = f r h
   on_node c P v (of_set _ _ s h) f = cc
+
+  -- and what holds of all nodes holds of what the values of a type of nodes stand for
+  pub on_any : (t : ValueType) → is_node t ≡ true → (P : Reference → Type 0) (v : Value) → IsOf t v → P Null → ((c : ClassId) (r : Reference) → IsRefOf c r → P r) → P (node v)
+  on_any _ e P _ (of_truth b) z f = z
+  on_any _ e P _ (of_int i h) z f = z
+  on_any _ e P _ (of_text t h) z f = z
+  on_any _ e P _ (of_node c r h) z f = f c r h
+  on_any _ e P _ of_null z f = z
+  on_any t e P v (of_set _ _ s h) z f = absurd (no_set_node t e s)
 
   -- null is of each type of nodes
   null_of : (t : ValueType) → is_node t ≡ true → IsOf t (Node Null)
@@ -137,7 +195,7 @@ module _ (p : Program) (I : ℤ → Type 0) (T : List ℕ → Type 0) where
   null_of (types.Of kinds.Truth) e = cc
   null_of (types.Of kinds.Int) e = cc
   null_of (types.Of kinds.Text) e = cc
-  null_of (types.Of (kinds.Node c)) e = of_node c Null null
+  null_of (types.Of (kinds.Node c)) e = of_node c Null (null_ref c)
   null_of (types.Of kinds.Texts) e = cc
   null_of (types.Of (kinds.Nodes c)) e = cc
 
@@ -181,7 +239,7 @@ module _ (p : Program) (I : ℤ → Type 0) (T : List ℕ → Type 0) where
   wider_empty t e = record { set = e; text = λ q h. absurd h; node = λ n h. absurd h }
 
   wider_class : (c d : ClassId) → is_sub p.grammar c.0 d.0 ≡ true → IsWider (of_nodes c) (of_nodes d)
-  wider_class c d e = record { set = refl; text = λ q h. h; node = λ n h. node_above p c d (At n) e h }
+  wider_class c d e = record { set = refl; text = λ q h. h; node = λ n h. ref_above c d (At n) e h }
 
   widened : (s t : ValueType) (v : Value) → is_set s ≡ true → IsWider s t → IsOf s v → IsOf t v
   widened s t v e w h = let a = elements_in s v e h in of_set t v w.set (record { text = λ q i. w.text q (a.text q i); node = λ n i. w.node n (a.node n i) })
@@ -248,14 +306,14 @@ module _ (p : Program) (I : ℤ → Type 0) (T : List ℕ → Type 0) where
   common_set s u t e f = (wider_left s u t e f).set
 
   -- a value of one of two types is of their common type
-  common_class_left : (c : ClassId) (o : Option ClassId) (t : ValueType) → common_class p.grammar c o ≡ Some t → (r : Reference) → IsNodeOf p c r → IsOf t (Node r)
+  common_class_left : (c : ClassId) (o : Option ClassId) (t : ValueType) → common_class p.grammar c o ≡ Some t → (r : Reference) → IsRefOf c r → IsOf t (Node r)
   common_class_left c None t e r h = cc
   common_class_left c (Some d) t e r h =
       let s = some_of class_of_number (nearest_common (superclasses_of p.grammar) c.0 d.0) t e in
       let above : ClassId = record { 0 = s.0 } in
-      subst (λ (x : ValueType). IsOf x (Node r)) s.2 (of_node above r (node_above p c above r (common_sub (superclasses_of p.grammar) c.0 d.0 s.0 s.1).0 h))
+      subst (λ (x : ValueType). IsOf x (Node r)) s.2 (of_node above r (ref_above c above r (common_sub (superclasses_of p.grammar) c.0 d.0 s.0 s.1).0 h))
 
-  common_node_left : (c : ClassId) (u t : ValueType) → common_node p.grammar c u ≡ Some t → (r : Reference) → IsNodeOf p c r → IsOf t (Node r)
+  common_node_left : (c : ClassId) (u t : ValueType) → common_node p.grammar c u ≡ Some t → (r : Reference) → IsRefOf c r → IsOf t (Node r)
   common_node_left c types.Null t e r h = let same : of_class c ≡ t = cc in subst (λ (x : ValueType). IsOf x (Node r)) same (of_node c r h)
   common_node_left c types.Empty t e r h = cc
   common_node_left c (types.Of k) t e r h = common_class_left c (kind_class k) t e r h
@@ -286,8 +344,8 @@ module _ (p : Program) (I : ℤ → Type 0) (T : List ℕ → Type 0) where
   common_node_right c _ t e _ (of_node d r h) =
       let s = some_of class_of_number (nearest_common (superclasses_of p.grammar) c.0 d.0) t e in
       let above : ClassId = record { 0 = s.0 } in
-      subst (λ (x : ValueType). IsOf x (Node r)) s.2 (of_node above r (node_above p d above r (common_sub (superclasses_of p.grammar) c.0 d.0 s.0 s.1).1 h))
-  common_node_right c _ t e _ of_null = let same : of_class c ≡ t = cc in subst (λ (x : ValueType). IsOf x (Node Null)) same (of_node c Null null)
+      subst (λ (x : ValueType). IsOf x (Node r)) s.2 (of_node above r (ref_above d above r (common_sub (superclasses_of p.grammar) c.0 d.0 s.0 s.1).1 h))
+  common_node_right c _ t e _ of_null = let same : of_class c ≡ t = cc in subst (λ (x : ValueType). IsOf x (Node Null)) same (of_node c Null (null_ref c))
   common_node_right c _ t e _ (of_set u v s h) = absurd (no_common c u t s e)
 
   pub common_right : (s u t : ValueType) → common p.grammar s u ≡ Some t → (v : Value) → IsOf u v → IsOf t v
@@ -326,8 +384,8 @@ module _ (p : Program) (I : ℤ → Type 0) (T : List ℕ → Type 0) where
   fits_node c _ e _ (of_truth b) = cc
   fits_node c _ e _ (of_int z h) = cc
   fits_node c _ e _ (of_text t h) = cc
-  fits_node c _ e _ (of_node d r h) = of_node c r (node_above p d c r e h)
-  fits_node c _ e _ of_null = of_node c Null null
+  fits_node c _ e _ (of_node d r h) = of_node c r (ref_above d c r e h)
+  fits_node c _ e _ of_null = of_node c Null (null_ref c)
   fits_node c _ e _ (of_set t v s h) = absurd (no_fit c t s e)
 
   -- and of one that fits a set of nodes of a class has such nodes alone
@@ -355,7 +413,7 @@ module _ (p : Program) (I : ℤ → Type 0) (T : List ℕ → Type 0) where
   kept types.Null v h = null_kept v h
     where
       null_kept : (w : Value) → IsOf types.Null w → IsOf (of_class (record { 0 = 0 })) w
-      null_kept _ of_null = of_node (record { 0 = 0 }) Null null
+      null_kept _ of_null = of_node (record { 0 = 0 }) Null (null_ref (record { 0 = 0 }))
       null_kept _ (of_set _ _ s i) = cc
   kept types.Empty v h = widened types.Empty (types.Of kinds.Texts) v refl (wider_empty (types.Of kinds.Texts) refl) h
   kept (types.Of k) v h = h
@@ -392,13 +450,13 @@ module _ (p : Program) (I : ℤ → Type 0) (T : List ℕ → Type 0) where
   sets_keep o (types.Of (kinds.Nodes c)) e v w g h = made_nodes o (of_nodes c) e v w (elements_in (of_nodes c) v e g) (elements_in (of_nodes c) w e h)
 
   -- the set of one element
-  single_text : (t : List ℕ) → T t → IsOf (types.Of kinds.Texts) (Texts (set_of (t ∷ [])))
-  single_text t h = of_set (types.Of kinds.Texts) _ refl (record { text = λ q i. subst T (sym (only_one texts_total code_anti t q i)) h; node = λ n i. absurd (none_has node_cmp n i) })
+  single_text : (t : List ℕ) → U.texts t → IsOf (types.Of kinds.Texts) (Texts (set_of (t ∷ [])))
+  single_text t h = of_set (types.Of kinds.Texts) _ refl (record { text = λ q i. subst U.texts (sym (only_one texts_total code_anti t q i)) h; node = λ n i. absurd (none_has node_cmp n i) })
 
-  single_node : (c : ClassId) (r : Reference) → IsNodeOf p c r → IsOf (of_nodes c) (single (Node r))
+  single_node : (c : ClassId) (r : Reference) → IsRefOf c r → IsOf (of_nodes c) (single (Node r))
   single_node c Null h = no_nodes (of_nodes c) refl
   single_node c (At m) h =
-      of_set (of_nodes c) _ refl (record { text = λ q i. absurd (none_has text_cmp q i); node = λ n i. subst (λ (x : NodeName). IsNodeOf p c (At x)) (sym (only_one node_total node_anti m n i)) h })
+      of_set (of_nodes c) _ refl (record { text = λ q i. absurd (none_has text_cmp q i); node = λ n i. subst (λ (x : NodeName). IsRefOf c (At x)) (sym (only_one node_total node_anti m n i)) h })
 
   -- there is none of a set
   no_set_of : (t u : ValueType) → is_set t ≡ true → set_of_type t ≡ Some u → ⊥
@@ -465,43 +523,69 @@ module _ (p : Program) (I : ℤ → Type 0) (T : List ℕ → Type 0) where
   listed t k e (Int z) h = tt
   listed t k e (Text q) h = tt
   listed t k e (Node r) h = tt
+  listed t k e (Tree r ts) h = tt
   listed t k e (Texts s) h = each_of texts_total (types.Of k) Text (elements s) (λ q i. text_in t k e q (h.text q (contains_key-keys s q ∙ i)))
   listed t k e (Nodes s) h = each_of node_total (types.Of k) node_at (elements s) (λ n i. node_in t k e n (h.node n (contains_key-keys s n ∙ i)))
 
   pub elements_keep : (t : ValueType) (k : Kind) → element_of_type t ≡ Some k → (v : Value) → IsOf t v → AreOf (types.Of k) (elements_of v)
   elements_keep t k e v h = listed t k e v (elements_in t v (set_with t k e) h)
 
+  -- a value whose nodes are among them
+  abbrev pub HasNodes : Value → Type 0
+  HasNodes (Truth b) = Unit {0}
+  HasNodes (Int z) = Unit {0}
+  HasNodes (Text t) = Unit {0}
+  HasNodes (Node r) = HasReference U.nodes r
+  HasNodes (Texts s) = Unit {0}
+  HasNodes (Nodes s) = (n : NodeName) → has s n ≡ true → U.nodes n
+  HasNodes (Tree r ts) = HasReference U.nodes r
+
+  argument_nodes : (x : Argument) → HasArgument U.nodes x → HasNodes (argument_value x)
+  argument_nodes (OfTruth b) h = tt
+  argument_nodes (OfInt z) h = tt
+  argument_nodes (OfText t) h = tt
+  argument_nodes (OfNode r) h = h
+
+  -- a value of a type, whose nodes are among them
+  abbrev pub IsValueIn : Kind → Value → Type 0
+  IsValueIn k v = IsValue p k v × HasNodes v
+
   -- where integers and texts are values, a value of a type, read at it, is one
-  module _ (wrapped : (z : ℤ) → I z → int_wrap w32 z ≡ z) (known : (t : List ℕ) → T t → Contains p.texts t) where
-    pub value_read : (k : Kind) (v : Value) → IsOf (types.Of k) v → IsValue p k (as_kind k v)
-    value_read _ _ (of_truth b) = truth_value b
-    value_read _ _ (of_int z h) = int_value z (wrapped z h)
-    value_read _ _ (of_text t h) = text_value t (known t h)
-    value_read _ _ (of_node c r h) = node_value c r h
+  module _ (wrapped : (z : ℤ) → U.ints z → int_wrap w32 z ≡ z) (known : (t : List ℕ) → U.texts t → Contains p.texts t) where
+    pub value_read : (k : Kind) (v : Value) → IsOf (types.Of k) v → IsValueIn k (as_kind k v)
+    value_read _ _ (of_truth b) = (truth_value b, tt)
+    value_read _ _ (of_int z h) = (int_value z (wrapped z h), tt)
+    value_read _ _ (of_text t h) = (text_value t (known t h), tt)
+    value_read _ _ (of_node c r h) = (node_value c r h.0, h.1)
     value_read k v (of_set _ _ s h) = set_read k s h
       where
-        set_read : (j : Kind) → is_set (types.Of j) ≡ true → HasElements (types.Of j) v → IsValue p j (as_kind j v)
+        set_read : (j : Kind) → is_set (types.Of j) ≡ true → HasElements (types.Of j) v → IsValueIn j (as_kind j v)
         set_read kinds.Truth e i = cc
         set_read kinds.Int e i = cc
         set_read kinds.Text e i = cc
         set_read (kinds.Node c) e i = cc
-        set_read kinds.Texts e i = texts_value (texts v) (λ t a. known t (i.text t a))
-        set_read (kinds.Nodes c) e i = nodes_value c (nodes v) i.node
+        set_read kinds.Texts e i = (texts_value (texts v) (λ t a. known t (i.text t a)), tt)
+        set_read (kinds.Nodes c) e i = (nodes_value c (nodes v) (λ n a. (i.node n a).0), λ n a. (i.node n a).1)
 
     -- and so is the argument that it is
-    pub argument_of : (k : Kind) → is_single k ≡ true → (v : Value) → IsOf (types.Of k) v → IsValue p k (argument_value (as_argument k v))
-    argument_of _ e _ (of_truth b) = truth_value b
-    argument_of _ e _ (of_int z h) = int_value z (wrapped z h)
-    argument_of _ e _ (of_text t h) = text_value t (known t h)
-    argument_of _ e _ (of_node c r h) = node_value c r h
+    pub argument_of : (k : Kind) → is_single k ≡ true → (v : Value) → IsOf (types.Of k) v → IsValueIn k (argument_value (as_argument k v))
+    argument_of _ e _ (of_truth b) = (truth_value b, tt)
+    argument_of _ e _ (of_int z h) = (int_value z (wrapped z h), tt)
+    argument_of _ e _ (of_text t h) = (text_value t (known t h), tt)
+    argument_of _ e _ (of_node c r h) = (node_value c r h.0, h.1)
     argument_of k e v (of_set _ _ s h) = absurd (single_no_set k e s)
 
-  -- a value is of its type where its integers and texts are
-  module _ (wrapped : (z : ℤ) → int_wrap w32 z ≡ z → I z) (known : (t : List ℕ) → Contains p.texts t → T t) where
-    pub of_value : (k : Kind) (v : Value) → IsValue p k v → IsOf (types.Of k) v
-    of_value _ _ (truth_value b) = of_truth b
-    of_value _ _ (int_value z h) = of_int z (wrapped z h)
-    of_value _ _ (text_value t h) = of_text t (known t h)
-    of_value _ _ (node_value c r h) = of_node c r h
-    of_value _ _ (texts_value s h) = of_set (types.Of kinds.Texts) (Texts s) refl (record { text = λ q i. known q (h q i); node = λ n i. absurd (none_has node_cmp n i) })
-    of_value _ _ (nodes_value c s h) = of_set (of_nodes c) (Nodes s) refl (record { text = λ q i. absurd (none_has text_cmp q i); node = h })
+  -- a value, read at its type, is of it where its integers, texts and nodes are among them
+  module _ (wrapped : (z : ℤ) → int_wrap w32 z ≡ z → U.ints z) (known : (t : List ℕ) → Contains p.texts t → U.texts t) where
+    pub of_value : (k : Kind) (v : Value) → IsValue p k v → HasNodes v → IsOf (types.Of k) (as_kind k v)
+    of_value _ _ (truth_value b) i = of_truth b
+    of_value _ _ (int_value z h) i = of_int z (wrapped z h)
+    of_value _ _ (text_value t h) i = of_text t (known t h)
+    of_value _ _ (node_value c r h) i = of_node c r (h, i)
+    of_value _ _ (texts_value s h) i = of_set (types.Of kinds.Texts) (Texts s) refl (record { text = λ q a. known q (h q a); node = λ n a. absurd (none_has node_cmp n a) })
+    of_value _ _ (tree_value c r ts h) i = of_node c r (h.root, i)
+    of_value _ _ (nodes_value c s h) i = of_set (of_nodes c) (Nodes s) refl (record { text = λ q a. absurd (none_has text_cmp q a); node = λ n a. (h n a, i n a) })
+
+    -- an argument is of its type as it stands
+    pub of_argument : (k : Kind) (x : Argument) → IsValue p k (argument_value x) → HasArgument U.nodes x → IsOf (types.Of k) (argument_value x)
+    of_argument k x h i = subst (IsOf (types.Of k)) (read_same p k (argument_value x) h (no_tree x)) (of_value k (argument_value x) h (argument_nodes x i))

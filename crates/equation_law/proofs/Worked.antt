@@ -15,7 +15,7 @@ use Rattle.solutions.proofs.Finishing.{inner_stable}
 use Rattle.solutions.specs.Asking.{Gives, Needs}
 use Rattle.tree_arena.specs.Nodes.{Node as TreeNode}
 use Rattle.tree_arena.specs.Terms.{Empty, Fits, Forest, IsTreeOf, Tree, element, none, one, over, root as whole, token}
-use Rattle.equation_law.specs.Names.{At, Attribute, Instance, Null, Query, Source}
+use Rattle.equation_law.specs.Names.{At, Attribute, Instance, Null, Query, Source, made_by}
 use Rattle.equation_law.specs.Values.{Int, Node, Text, Truth, as_kind, truth}
 use Rattle.equation_law.specs.Meaning.{Place, meaning_of, operate}
 use Rattle.equation_law.specs.Program.{Program, at_source, source_instances}
@@ -116,12 +116,12 @@ unfolding source_instances superclasses_of line_of
 instances = refl
 
 -- the equation of its attribute at the root
-of_attribute : equation_of small (at_source 0 0) ≡ Some (OfSite (record { body = IntLiteral (pos 5); kind = kinds.Int; place = root }))
+of_attribute : equation_of small (at_source 0 0) ≡ Some (OfSite (record { body = IntLiteral (pos 5); kind = kinds.Int; place = root; root = made_by (at_source 0 0) 0 }))
 unfolding superclasses_of line_of
 of_attribute = refl
 
 -- that of the query
-of_query : equation_of small (Query 0) ≡ Some (OfSite (record { body = v; kind = kinds.Int; place = root }))
+of_query : equation_of small (Query 0) ≡ Some (OfSite (record { body = v; kind = kinds.Int; place = root; root = Null }))
 unfolding superclasses_of line_of
 of_query = refl
 

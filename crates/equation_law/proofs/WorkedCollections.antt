@@ -21,7 +21,7 @@ use Rattle.attr_rules.specs.Rules.{Attribute as DeclaredAttribute, Contribution,
 use Rattle.solutions.specs.Asking.{Done, Gives, Needs, run}
 use Rattle.equation_law.specs.Collections.{Collection, Offer, collection_demands, combine, fresh}
 use Rattle.equation_law.specs.Equations.{collection_of, collection_root, equations_of, subtree, world_of}
-use Rattle.equation_law.specs.Names.{At, Attribute, Instance, NodeName, Null, Query, Reference, Source, node_cmp, same_reference, text_cmp}
+use Rattle.equation_law.specs.Names.{At, Attribute, Instance, Made, NodeName, Null, Query, Reference, Source, node_cmp, same_reference, text_cmp}
 use Rattle.equation_law.specs.Program.{Program, at_source}
 use Rattle.equation_law.specs.Sets.{has, no_elements, set_of}
 use Rattle.equation_law.specs.Values.{Int, Node, Text, Texts, Truth, Value, as_kind, node, nodes, texts, truth}
@@ -158,6 +158,7 @@ above_at k = get_or (Null ∷ Null ∷ Null ∷ At (Source 1) ∷ Null ∷ At (S
 abbrev told : Instance → Option Value
 told (Attribute zero (At (Source k)) xs) = Some (Node (box_at k))
 told (Attribute (suc a) (At (Source k)) xs) = Some (Node (above_at k))
+told (Attribute a (At (Made b r ys q)) xs) = None
 told (Attribute a Null xs) = None
 told (Query q) = None
 
@@ -215,6 +216,7 @@ next_at k = get_or (Null ∷ At (Source 2) ∷ At (Source 3) ∷ []) k Null
 
 abbrev neighbours : Instance → Option Value
 neighbours (Attribute a (At (Source k)) xs) = Some (Node (next_at k))
+neighbours (Attribute a (At (Made b r ys q)) xs) = None
 neighbours (Attribute a Null xs) = None
 neighbours (Query q) = None
 

@@ -14,7 +14,7 @@ use Rattle.attr_rules.specs.declared.kinds.Start.TheVariants.{Plain}
 use Rattle.attr_rules.specs.Expression.{Binary, Expression, Int as IntLiteral, Variable}
 use Rattle.attr_rules.specs.Rules.{Attribute, Equation, Uncovered, at_component, below, no_params, root}
 use Rattle.equation_law.specs.Equations.{InstanceEquation, OfSite, equation_of}
-use Rattle.equation_law.specs.Names.{At, Source}
+use Rattle.equation_law.specs.Names.{At, Instance, Source, made_by}
 use Rattle.equation_law.specs.Program.{Program, at_source}
 use Rattle.equation_law.specs.Values.{Int, Value}
 
@@ -60,32 +60,32 @@ program equations = record {
   queries = [];
 }
 
--- an expression that is read at a source node, with these names
-abbrev read : Expression → ℕ → List Value → Option InstanceEquation
-read e k names = Some (OfSite (record { body = e; kind = kinds.Int; place = record { this = At (Source k); names = names } }))
+-- an expression that is read for an instance at a source node, with these names
+abbrev read : Instance → Expression → ℕ → List Value → Option InstanceEquation
+read i e k names = Some (OfSite (record { body = e; kind = kinds.Int; place = record { this = At (Source k); names = names }; root = made_by i 0 }))
 
 -- the closest ancestor decides, and the path binds the place in its list
-closest : equation_of (program (of_program ∷ of_statements ∷ [])) (at_source 0 3) ≡ read (Binary Add (Variable 0) (IntLiteral (pos 10))) 1 (Int (pos 1) ∷ [])
+closest : equation_of (program (of_program ∷ of_statements ∷ [])) (at_source 0 3) ≡ read (at_source 0 3) (Binary Add (Variable 0) (IntLiteral (pos 10))) 1 (Int (pos 1) ∷ [])
 unfolding superclasses_of line_of int_wrap
 closest = refl
 
 -- at one ancestor an equation for the component comes before one for every child, wherever they stand
-component_first : equation_of (program (of_block ∷ of_statements ∷ [])) (at_source 0 2) ≡ read (Binary Add (Variable 0) (IntLiteral (pos 10))) 1 (Int (pos 0) ∷ [])
+component_first : equation_of (program (of_block ∷ of_statements ∷ [])) (at_source 0 2) ≡ read (at_source 0 2) (Binary Add (Variable 0) (IntLiteral (pos 10))) 1 (Int (pos 0) ∷ [])
 unfolding superclasses_of line_of int_wrap
 component_first = refl
 
 -- a closer ancestor with an equation for every child comes before one further up
-every_child : equation_of (program (of_program ∷ of_block ∷ [])) (at_source 0 2) ≡ read (IntLiteral (pos 2)) 1 []
+every_child : equation_of (program (of_program ∷ of_block ∷ [])) (at_source 0 2) ≡ read (at_source 0 2) (IntLiteral (pos 2)) 1 []
 unfolding superclasses_of line_of
 every_child = refl
 
 -- what covers the way at an ancestor further up
-further_up : equation_of (program (of_program ∷ [])) (at_source 0 2) ≡ read (IntLiteral (pos 1)) 0 []
+further_up : equation_of (program (of_program ∷ [])) (at_source 0 2) ≡ read (at_source 0 2) (IntLiteral (pos 1)) 0 []
 unfolding superclasses_of line_of
 further_up = refl
 
 -- one equation serves each attribute of the name
-other_class : equation_of (program (of_program ∷ [])) (at_source 1 1) ≡ read (IntLiteral (pos 1)) 0 []
+other_class : equation_of (program (of_program ∷ [])) (at_source 1 1) ≡ read (at_source 1 1) (IntLiteral (pos 1)) 0 []
 unfolding superclasses_of line_of
 other_class = refl
 

@@ -1,5 +1,5 @@
 -- What codes stand for.
-use Rattle.std.specs.Prelude.{ℕ, ◌≡◌, zero, suc, pos, ◌<◌, ◌≤◌, ◌^◌, not, ◌==◌, List, [], ◌∷◌, All, length, map, take}
+use Rattle.std.specs.Prelude.{ℕ, ◌≡◌, zero, suc, pos, ◌+◌, ◌*◌, ◌<◌, ◌≤◌, ◌^◌, not, ◌==◌, List, [], ◌∷◌, All, length, map, take}
 use Rattle.std.specs.declared.cmp.Ordering.TheVariants.{Less}
 use Rattle.std.specs.Int.{int_wrap}
 use mir.Syntax.{w32}
@@ -12,7 +12,8 @@ use Rattle.equation_law.specs.declared.coding.Value.{Value as CodedValue}
 use Rattle.equation_law.specs.declared.coding.Value.TheVariants as coded
 use Rattle.equation_law.specs.declared.coding.Single.{Single}
 use Rattle.equation_law.specs.declared.coding.Single.TheVariants as single
-use Rattle.equation_law.specs.Names.{Argument, At, Attribute, Instance, NodeName, Null, Query, Reference, Source, node_cmp}
+use Rattle.tree_arena.specs.Nodes.{most_nodes}
+use Rattle.equation_law.specs.Names.{Argument, At, Attribute, Instance, Made, NodeName, Null, Query, Reference, Row, Source, list_of, node_cmp}
 use Rattle.equation_law.specs.Program.{Program, attribute_parameters, text_of}
 use Rattle.equation_law.specs.Values.{Int, Node, Nodes, Text, Texts, Truth, Value, as_argument, default_of}
 use Rattle.equation_law.specs.Sets.{set_of}
@@ -23,10 +24,25 @@ pub record Naming : Type 0 where
   pub text : ℕ → List ℕ
   pub node : ℕ → NodeName
 
--- a naming for a program: it has the program's texts, the source nodes come first, and no two codes stand for one node
+-- a tree that is made has at most so many nodes, and so many codes
+abbrev pub most_made : ℕ
+most_made = 16
+
+-- The code that stands at k is one of those of a tree, which come behind those of all source nodes: that of its node at position q. It is
+-- followed by those of the nodes behind. The tree was made with as many arguments as the attribute has parameters.
+pub record IsOfTree (p : Program) (n : Naming) (k a : ℕ) (r : Reference) (xs : Row) (q : ℕ) : Type 0 where
+  pub tree : ℕ
+  pub code : k ≡ most_nodes + (most_made * tree + q)
+  pub few : q < most_made
+  pub whole : (s : ℕ) → s < most_made → n.node (most_nodes + (most_made * tree + s)) ≡ Made a r xs s
+  pub all : length (list_of xs) ≡ length (attribute_parameters p a)
+
+-- A naming for a program: it has the program's texts, the source nodes come first, as many as a tree may have, and no two codes stand for one
+-- node. The codes of the nodes of a tree that was made follow each other.
 pub record IsNamingOf (p : Program) (n : Naming) : Type 0 where
   pub texts : n.text ≡ text_of p
-  pub sources : (k : ℕ) → k < length p.tree → n.node k ≡ Source k
+  pub sources : (k : ℕ) → k < most_nodes → n.node k ≡ Source k
+  pub trees : (k a : ℕ) (r : Reference) (xs : Row) (q : ℕ) → n.node k ≡ Made a r xs q → IsOfTree p n k a r xs q
   pub one_code : (j k : ℕ) → n.node j ≡ n.node k → j ≡ k
 
 -- it holds by each naming for the program, whatever was made

@@ -1,6 +1,7 @@
 pub mod Checked
 pub mod Codes
 pub mod Collections
+pub mod Created
 pub mod Equations
 pub mod Growing
 pub mod Keys

@@ -1,5 +1,5 @@
 -- The meaning of an expression: what it demands, in order, and the value that comes of it.
-use Rattle.std.specs.Prelude.{ℕ, zero, suc, ℤ, pos, ◌+ℤ◌, ◌-ℤ◌, ◌*ℤ◌, neg_ℤ, int_lt, List, [], ◌∷◌, map, Bool, true, false, not, cond, ◌&&◌, ◌||◌}
+use Rattle.std.specs.Prelude.{ℕ, zero, suc, ℤ, pos, ◌+ℤ◌, ◌-ℤ◌, ◌*ℤ◌, neg_ℤ, int_lt, List, [], ◌∷◌, ◌++◌, map, Bool, true, false, not, cond, ◌&&◌, ◌||◌}
 use Rattle.std.specs.Int.{int_wrap}
 use Rattle.std.specs.List.{range_with_len}
 use Rattle.std.specs.Ordering.{int_eq}
@@ -12,11 +12,11 @@ use Rattle.attr_rules.specs.declared.expression.Operator.TheVariants.{Add, Subtr
 use Rattle.attr_rules.specs.declared.expression.Quantifier.{Quantifier}
 use Rattle.attr_rules.specs.declared.expression.Quantifier.TheVariants.{Any, All, First}
 use Rattle.attr_rules.specs.declared.expression.SetOperator.TheVariants.{Union}
-use Rattle.attr_rules.specs.Expression.{Expression, Arguments, no_more, argument, Truth as TruthLiteral, Int as IntLiteral, Text as TextLiteral, Null as NullLiteral, Empty, This, Variable, Source as SourceNode, Child, Element, Count, Has, Token, Call, Cast, InstanceOf, Quantified, QuantifiedSet, Each, EachOfSet, Sets, Single, Contains, Size, Not, Negate, Binary, And, Or, OrBoth, If, New}
+use Rattle.attr_rules.specs.Expression.{Expression, Arguments, no_more, argument, Truth as TruthLiteral, Int as IntLiteral, Text as TextLiteral, Null as NullLiteral, Empty, This, Variable, Source as SourceNode, Child, Element, Count, Has, Token, Call, Cast, InstanceOf, Quantified, QuantifiedSet, Each, EachOfSet, Sets, Single, Contains, Size, Not, Negate, Binary, And, Or, OrBoth, If, New, NewArguments, new_child, new_end, new_token}
 use Rattle.solutions.specs.Asking.{Demands, Gives, Needs, next}
-use Rattle.equation_law.specs.Names.{NodeName, Reference, Null, At, Instance, Attribute, same_reference}
+use Rattle.equation_law.specs.Names.{Argument, NodeName, Reference, Null, At, Instance, Attribute, same_reference}
 use Rattle.equation_law.specs.Sets.{no_elements}
-use Rattle.equation_law.specs.Values.{Value, Truth, Int, Text, Node, Texts, Nodes, truth, int, text, node, as_arguments, as_kind, contains, default_of, elements_of, set_operate, single, size_of}
+use Rattle.equation_law.specs.Values.{Value, Truth, Int, Text, Node, Texts, Nodes, Tree, truth, int, text, node, as_argument, as_arguments, as_kind, contains, default_of, elements_of, set_operate, single, size_of}
 
 -- what the grammar, the rules and the tree say of attributes and nodes
 pub record World : Type 0 where
@@ -61,6 +61,7 @@ equal (Text t) w = bytes_eq t (text w)
 equal (Node n) w = same_reference n (node w)
 equal (Texts s) w = false
 equal (Nodes s) w = false
+equal (Tree r ts) w = false
 
 -- a binary operator on two values; sums, differences and products wrap at 32 bits
 abbrev pub operate : Operator → Value → Value → Value
@@ -174,10 +175,17 @@ abbrev mutual
   meaning_of W (Or a b) p = next (meaning_of W a p) (λ v. cond (truth v) (Gives (Truth true)) (next (meaning_of W b p) (λ w. Gives (Truth (truth w)))))
   meaning_of W (OrBoth a b) p = next (meaning_of W a p) (λ v. next (meaning_of W b p) (λ w. Gives (Truth (truth v || truth w))))
   meaning_of W (If c a at b) p = next (meaning_of W c p) (λ v. cond (truth v) (meaning_of W a p) (meaning_of W b p))
-  -- the equation of a higher-order attribute makes a tree; in itself the expression gives none
+  -- what makes a tree is the equation; the expression by itself gives none
   meaning_of W (New c parts) p = Gives (Node Null)
 
   -- what follows the arguments, of which each is evaluated
   pub with_arguments : World → Arguments → Place → (List Value → Demands Instance Value) → Demands Instance Value
   with_arguments W no_more p then_do = then_do []
   with_arguments W (argument e es) p then_do = next (meaning_of W e p) (λ v. with_arguments W es p (λ vs. then_do (v ∷ vs)))
+
+-- What follows the values of the tokens of a `new`, which are evaluated in the order in which they are written: those of a child where the child
+-- stands.
+abbrev pub with_tokens : World → NewArguments → Place → (List Argument → Demands Instance Value) → Demands Instance Value
+with_tokens W new_end p then_do = then_do []
+with_tokens W (new_token k e rest) p then_do = next (meaning_of W e p) (λ v. with_tokens W rest p (λ ts. then_do (as_argument k v ∷ ts)))
+with_tokens W (new_child c parts rest) p then_do = with_tokens W parts p (λ ts. with_tokens W rest p (λ us. then_do (ts ++ us)))

@@ -1,6 +1,6 @@
 -- A program: a grammar with its rules, a source tree, and queries.
-use Rattle.std.specs.Prelude.{ℕ, suc, List, [], ◌∷◌, ◌++◌, Option, Some, None, map, slice_get, slice_index_or, ◌==◌, if◌then◌else◌}
-use Rattle.std.specs.Option.{option_map}
+use Rattle.std.specs.Prelude.{◌≡◌, ℕ, suc, ◌≤◌, List, [], ◌∷◌, ◌++◌, Option, Some, None, length, map, slice_get, slice_index_or, ◌==◌, if◌then◌else◌}
+use Rattle.std.specs.Option.{option_and_then, option_map}
 use Rattle.ast_grammar.specs.declared.grammar.ClassId.{ClassId}
 use Rattle.superclasses.specs.Superclasses.{is_sub}
 use Rattle.ast_grammar.specs.Grammar.{Class, superclasses_of}
@@ -8,10 +8,11 @@ use Rattle.attr_rules.specs.declared.kinds.Attr.{Attr}
 use Rattle.attr_rules.specs.declared.kinds.Kind.{Kind}
 use Rattle.attr_rules.specs.Types.{parameter_kinds}
 use Rattle.attr_rules.specs.Queries.{Query as Asked}
-use Rattle.attr_rules.specs.Rules.{Attribute as DeclaredAttribute, RuleSet}
+use Rattle.attr_rules.specs.Rules.{Attribute as DeclaredAttribute, Equation, RuleSet, equation_number}
 use Rattle.attr_rules.specs.Typing.{Names}
-use Rattle.tree_arena.specs.Nodes.{Node}
-use Rattle.equation_law.specs.Names.{Instance, Attribute, Query, At, Source}
+use Rattle.tree_arena.specs.Nodes.{Node, class_in, count_in}
+use Rattle.equation_law.specs.Created.{Making, making_in, tree_or_none}
+use Rattle.equation_law.specs.Names.{Instance, Attribute, Query, At, Made, NodeName, Null, Reference, Source}
 
 pub record Program : Type 0 where
   pub grammar : List Class
@@ -26,6 +27,28 @@ declared_of p a = option_map (λ x. x.declared) (slice_get p.rules.attributes a)
 
 abbrev pub class_of : Program → ℕ → Option ClassId
 class_of p k = option_map (λ n. n.class) (slice_get p.tree k)
+
+-- the equation of an attribute at nodes of a class: that of the nearest class, from this one upwards
+abbrev pub equation_for : Program → ℕ → ClassId → Option Equation
+equation_for p a c = option_and_then (slice_get p.rules.equations) (equation_number p.rules c a)
+
+-- the `new` that this equation is, if it is one
+abbrev pub making_at : Program → ℕ → ClassId → Option Making
+making_at p a c = option_and_then (λ (e : Equation). making_in e.body) (equation_for p a c)
+
+-- The class of a node, and the `new` by which an attribute makes a tree at a node. Which tree it is doesn't depend on the arguments.
+abbrev mutual
+  pub class_at : Program → NodeName → Option ClassId
+  class_at p (Source k) = class_of p k
+  class_at p (Made a r xs q) = class_in (tree_or_none (making_of p a r)) q
+
+  pub making_of : Program → ℕ → Reference → Option Making
+  making_of p a Null = None
+  making_of p a (At n) = option_and_then (making_at p a) (class_at p n)
+
+-- the nodes of the tree that an attribute makes at a node
+abbrev pub tree_made : Program → ℕ → Reference → List Node
+tree_made p a r = tree_or_none (making_of p a r)
 
 -- the text of a number; that of a number that no text has is the empty one
 abbrev pub text_of : Program → ℕ → List ℕ
@@ -67,3 +90,7 @@ source_instances p = attribute_instances (superclasses_of p.grammar) p.rules.att
 
 abbrev pub most_replies : ℕ
 most_replies = 262144
+
+-- nothing hangs at a number past the last node
+abbrev pub HangsInside : List Node → Type 0
+HangsInside nodes = (n k : ℕ) → length nodes ≤ n → count_in nodes n k ≡ 0

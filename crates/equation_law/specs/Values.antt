@@ -15,6 +15,8 @@ pub data Value : Type 0 where
   Node : Reference → Value
   Texts : SetBy text_cmp → Value
   Nodes : SetBy node_cmp → Value
+  -- the root of a tree that an attribute makes, and the values of the tokens there, in their order
+  Tree : Reference → List Argument → Value
 
 abbrev pub truth : Value → Bool
 truth (Truth b) = b
@@ -23,6 +25,7 @@ truth (Text t) = false
 truth (Node n) = false
 truth (Texts s) = false
 truth (Nodes s) = false
+truth (Tree r ts) = false
 
 abbrev pub int : Value → ℤ
 int (Truth b) = pos 0
@@ -31,6 +34,7 @@ int (Text t) = pos 0
 int (Node n) = pos 0
 int (Texts s) = pos 0
 int (Nodes s) = pos 0
+int (Tree r ts) = pos 0
 
 abbrev pub text : Value → List ℕ
 text (Truth b) = []
@@ -39,6 +43,7 @@ text (Text t) = t
 text (Node n) = []
 text (Texts s) = []
 text (Nodes s) = []
+text (Tree r ts) = []
 
 abbrev pub node : Value → Reference
 node (Truth b) = Null
@@ -47,6 +52,7 @@ node (Text t) = Null
 node (Node n) = n
 node (Texts s) = Null
 node (Nodes s) = Null
+node (Tree r ts) = r
 
 abbrev pub texts : Value → SetBy text_cmp
 texts (Truth b) = no_elements
@@ -55,6 +61,7 @@ texts (Text t) = no_elements
 texts (Node n) = no_elements
 texts (Texts s) = s
 texts (Nodes s) = no_elements
+texts (Tree r ts) = no_elements
 
 abbrev pub nodes : Value → SetBy node_cmp
 nodes (Truth b) = no_elements
@@ -63,8 +70,19 @@ nodes (Text t) = no_elements
 nodes (Node n) = no_elements
 nodes (Texts s) = no_elements
 nodes (Nodes s) = s
+nodes (Tree r ts) = no_elements
 
--- a value read at a type
+-- the values of the tokens of a tree; other values have none
+abbrev pub tokens : Value → List Argument
+tokens (Truth b) = []
+tokens (Int z) = []
+tokens (Text t) = []
+tokens (Node n) = []
+tokens (Texts s) = []
+tokens (Nodes s) = []
+tokens (Tree r ts) = ts
+
+-- a value read at a type: of a tree that is its root
 abbrev pub as_kind : Kind → Value → Value
 as_kind kinds.Truth v = Truth (truth v)
 as_kind kinds.Int v = Int (int v)
@@ -81,6 +99,15 @@ default_of kinds.Text = Text []
 default_of (kinds.Node c) = Node Null
 default_of kinds.Texts = Texts no_elements
 default_of (kinds.Nodes c) = Nodes no_elements
+
+-- a tree that is made, where the type is that of nodes; an equation of another type makes the type's default
+abbrev pub as_tree : Kind → Reference → List Argument → Value
+as_tree kinds.Truth r ts = default_of kinds.Truth
+as_tree kinds.Int r ts = default_of kinds.Int
+as_tree kinds.Text r ts = default_of kinds.Text
+as_tree (kinds.Node c) r ts = Tree r ts
+as_tree kinds.Texts r ts = default_of kinds.Texts
+as_tree (kinds.Nodes c) r ts = default_of (kinds.Nodes c)
 
 -- the value of an argument, and the argument that a value of a type is
 abbrev pub argument_value : Argument → Value
@@ -112,6 +139,7 @@ single (Node Null) = Nodes no_elements
 single (Node (At n)) = Nodes (set_of (n ∷ []))
 single (Texts s) = Nodes no_elements
 single (Nodes s) = Nodes no_elements
+single (Tree r ts) = Nodes no_elements
 
 -- whether a set of nodes has a node; none has null
 abbrev pub has_node : SetBy node_cmp → Reference → Bool
@@ -126,6 +154,7 @@ contains (Text t) w = false
 contains (Node n) w = false
 contains (Texts s) w = has s (text w)
 contains (Nodes s) w = has_node s (node w)
+contains (Tree r ts) w = false
 
 -- how many elements a set has
 abbrev pub size_of : Value → ℕ
@@ -135,6 +164,7 @@ size_of (Text t) = 0
 size_of (Node n) = 0
 size_of (Texts s) = size s
 size_of (Nodes s) = size s
+size_of (Tree r ts) = 0
 
 abbrev pub of_node : NodeName → Value
 of_node n = Node (At n)
@@ -147,6 +177,7 @@ elements_of (Text t) = []
 elements_of (Node n) = []
 elements_of (Texts s) = map Text (elements s)
 elements_of (Nodes s) = map of_node (elements s)
+elements_of (Tree r ts) = []
 
 abbrev pub combined : {K : Type 0} {R : K → K → Ordering} → SetOperator → SetBy R → SetBy R → SetBy R
 combined Union s t = union s t

@@ -1,5 +1,6 @@
 // Values, nodes and instances by their codes.
-ghost use Rattle.std.specs.Prelude.{◌≡◌, ◌≢◌, ◌<◌, ◌+◌, ◌^◌, [], true, IfNone, IfOk, IfSome};
+ghost use Rattle.std.specs.Prelude.{◌≡◌, ◌≢◌, ◌<◌, ◌+◌, ◌^◌, [], nat_lt, true, IfNone, IfOk, IfSome};
+ghost use Rattle.tree_arena.specs.Nodes.{most_nodes};
 ghost use Rattle.attr_rules.specs.Rules.{is_single};
 ghost use Rattle.equation_law.specs.declared.coding.Single.{Single as CodedSingle};
 ghost use Rattle.equation_law.specs.Codes.{IsSmall, Naming, reference_by, reference_of, single_by, value_by, value_coded};
@@ -10,8 +11,12 @@ use attr_rules::{AttrId, EqId, Kind, TextId};
 use code_sets::{Code, Codes};
 use rag_io::Memory;
 use std::alloc::Global;
+use std::marker::Model;
 
-/// A node: 0 is null, and one more than its number is a source node.
+// A source tree has at most so many nodes.
+const MOST_NODES: u32 = 65_536;
+
+/// A node: 0 is null, and one more than its number is a source node. Position p of the tree t of those that were made is 65,537 + 16 * t + p.
 #[derive(Clone, Copy, Debug, PartialEq, Eq, Hash)]
 pub struct NodeRef(pub u32);
 
@@ -60,7 +65,72 @@ pub enum Value {
     Nodes(Codes),
 }
 
-/// An equation with the node at which it is read, what its path binds (the place of a node in a list), and the arguments of the attribute.
+/// The codes of the values of the tokens of a tree that is made, in the order in which its `new` has them.
+#[derive(Drop)]
+pub struct Tokens {
+    codes: Vec<Code>,
+}
+
+impl Model for Tokens {
+    ghost use Rattle.std.specs.Prelude.{ℕ, List};
+
+    ghost Value = { List ℕ };
+
+    ghost view = { λ tokens. tokens.codes.items };
+}
+
+impl Tokens {
+    ghost use Rattle.std.specs.Prelude.{◌++◌, ◌∷◌, IfOk, OnOk, slice_get};
+
+    /// None.
+    pub fn new(alloc: Global) -> Tokens
+        ensures { result ≡ [] }
+    {
+        Tokens {
+            codes: Vec::new(alloc),
+        }
+    }
+
+    /// One more, which comes last.
+    pub fn push(&mut self, code: Code) -> Result<(), Memory>
+        ensures { OnOk result (self.new ≡ self.old ++ code ∷ []) }
+    {
+        self.codes.push(code).map_err(|_| Memory)
+    }
+
+    /// One by its place, or None where there are no more.
+    pub fn get(&self, place: u32) -> Option<Code>
+        ensures { result ≡ slice_get self.now place }
+    {
+        self.codes.get(place as usize).copied()
+    }
+
+    /// The same codes once more.
+    pub fn copy(&self) -> Result<Tokens, Memory>
+        ensures { IfOk result (λ tokens. tokens ≡ self.now) }
+    {
+        let codes = self.codes.clone().map_err(|_| Memory)?;
+        Ok(Tokens { codes })
+    }
+}
+
+/// A tree that an equation makes: the number of the equation, whose right side is a `new`, and the codes of the values of the tokens.
+#[derive(Drop)]
+pub struct TreeImage {
+    pub equation: EqId,
+    pub tokens: Tokens,
+}
+
+/// What stands above a node of a tree that was made: its parent in the tree, with the component at which it hangs there, or, above the root, the node
+/// at which the attribute made the tree.
+#[derive(Clone, Copy, Debug, PartialEq, Eq)]
+pub enum Up {
+    Inside { parent: NodeRef, component: u32 },
+    Owner { node: NodeRef, attr: AttrId },
+}
+
+/// An equation with the node at which it is read, what its path binds (the place of a node in a list, or the arguments with which a tree was made),
+/// and the arguments of the attribute.
 #[derive(Clone, Copy, Debug, PartialEq, Eq)]
 pub struct EqSite {
     pub equation: EqId,
@@ -180,6 +250,13 @@ impl NodeRef {
             None => NodeRef(0),
             Some(n) => NodeRef(n + 1),
         }
+    }
+
+    /// Whether it is past the codes of all source nodes, and so may be a node of a tree that was made.
+    pub fn is_made(self) -> bool
+        ensures { result ≡ nat_lt most_nodes self.0 }
+    {
+        self.0 > MOST_NODES
     }
 
     /// The number of the source node, or None for null.

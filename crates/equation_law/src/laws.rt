@@ -1,5 +1,5 @@
 // The laws of the solution and of the instances of a program, over the definitions alone.
-ghost use Rattle.std.specs.Prelude.{◌≡◌, ◌↔◌, ◌⊎◌, ◌<◌, ◌≤◌, ℕ, ℤ, Bool, List, Option, Some, None, IsSome, length, true};
+ghost use Rattle.std.specs.Prelude.{◌≡◌, ◌↔◌, ◌<◌, ◌≤◌, ℕ, ℤ, Bool, List, Option, Some, None, IsSome, length, true};
 ghost use Rattle.std.specs.List.{Contains};
 ghost use Rattle.std.specs.Cmp.Lexicographic.{slice_cmp};
 ghost use Rattle.std.specs.Ordering.{bool_cmp, int_cmp, nat_cmp, ordering_then};
@@ -11,7 +11,7 @@ ghost use Rattle.solutions.specs.Asking.{Ends, Halts};
 ghost use Rattle.solutions.specs.Rounds.{Ended, HasFinalValue, is_in};
 ghost use Rattle.solutions.specs.Leading.{Demanded};
 ghost use Rattle.tree_arena.specs.Nodes.{end_in};
-ghost use Rattle.equation_law.specs.Checked.{AreInstances, AreOffersBelow, EndsWellTyped, Fits, HasNoArguments, IsInstance, IsProgram, IsValue, MeetsInstances};
+ghost use Rattle.equation_law.specs.Checked.{AreInstances, AreOffersBelow, EndsWellTyped, Fits, IsInstance, IsProgram, IsValue, MeetsInstances, StandsInSource};
 ghost use Rattle.equation_law.specs.Growing.{AreAtMost, AsksNoMoreUnder, GivesNoMoreUnder, HasGrowingDemands, HasGrowingValues, MayRaise};
 ghost use Rattle.equation_law.specs.Keys.{IsAsked, IsJust, IsKey, IsPrefix, Part, Prefix};
 ghost use Rattle.equation_law.specs.Names.{Instance, Query, int_code, same_instance, text_cmp, text_code, truth_code};
@@ -19,7 +19,7 @@ ghost use Rattle.equation_law.specs.Values.{Value};
 ghost use Rattle.equation_law.specs.Program.{Program, source_instances};
 ghost use Rattle.equation_law.specs.Equations.{HasValue, IsCircularIn, IsOnWay, MayBeRoot, NoneMayBeRoot, StandsUnder, collection_root, demands_of, equation_of};
 ghost use Rattle.equation_law.specs.Equations.{equations_of, is_declared, kind_in, offers_to, subtree, world_of};
-ghost use Rattle.equation_law.specs.Loops.{Chain, HasLoop, order_in};
+ghost use Rattle.equation_law.specs.Loops.{Chain, HasLoop, HasValueOrLoop, LeadsWithin, order_in};
 ghost use Rattle.equation_law.specs.Meaning.{Place, meaning_of};
 ghost use Rattle.equation_law.specs.Lower.{IsClosed, IsLower, joined, raised_at};
 
@@ -48,14 +48,16 @@ pub fn loop_has_no_value()
     ensures { (p : Program) (i : Instance) (v : Value) → HasValue p i v → ¬ HasLoop p i }
 {}
 
-/// Value or loop: each instance of a program has a value or a loop, also where its attribute has parameters, since a program has finitely
-/// many instances. With `loop_has_no_value`, never both.
+/// Value or loop: each of a list of instances of a program, which has all that its members lead to, has a value or a loop. So does every instance
+/// that leads to finitely many others. A tree that is made may make another, and so on without end: such an instance has neither. With
+/// `loop_has_no_value`, never both.
 pub fn value_or_loop()
-    ensures { (p : Program) → IsProgram p → (i : Instance) → IsInstance p i → ((v : Value) × HasValue p i v) ⊎ HasLoop p i }
+    ensures { (p : Program) → IsProgram p → (list : List Instance) (i : Instance) → LeadsWithin p list i → HasValueOrLoop p i }
 {}
 
-/// Rounds end over any list of instances of a program, circular ones and all: some run until nothing is added. A set has texts of the program or
-/// nodes of its tree, so inner rounds make the values of circular instances grow finitely often.
+/// Rounds end over any list of instances of a program, circular ones and all: some run until nothing is added. A set has texts of the program, nodes
+/// of its tree, or nodes of trees that members of the list make or are at, so inner rounds make the values of circular instances grow finitely
+/// often.
 pub fn rounds_end()
     ensures { (p : Program) → IsProgram p → (list : List Instance) → AreInstances p list → Ended (equations_of p) list }
 {}
@@ -114,9 +116,9 @@ pub fn offers_of_collections()
     ensures { (p : Program) → IsProgram p → (a : ℕ) (c : Option ClassId) (k r : ℕ) → collection_root p c k ≡ Some r → AreOffersBelow p a r (offers_to p a c k) }
 {}
 
-/// The instances that are listed are those of the program without arguments.
+/// The instances that are listed are those of the program at source nodes without arguments, and the queries.
 pub fn listed_instances()
-    ensures { (p : Program) (i : Instance) → (is_in same_instance (source_instances p) i ≡ true) ↔ IsInstance p i × HasNoArguments i }
+    ensures { (p : Program) (i : Instance) → (is_in same_instance (source_instances p) i ≡ true) ↔ IsInstance p i × StandsInSource i }
 {}
 
 /// An instance of a program is circular exactly where its attribute is declared so. A query isn't.

@@ -12,7 +12,7 @@ mod system;
 
 pub use chain::Chain;
 pub use code_sets::Code;
-pub use coding::{Args, EqSite, Instance, NodeRef, QueryId, Single, Value};
+pub use coding::{Args, EqSite, Instance, NodeRef, QueryId, Single, Tokens, TreeImage, Up, Value};
 pub use laws::{
     assigned_demands, assigned_values, circular_as_declared, closed_set, demands_instances,
     ended_has_value, finished_rounds, growing_demands, growing_values, instances_have_equations,

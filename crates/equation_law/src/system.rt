@@ -1,16 +1,18 @@
 // A program as the code keeps it.
 ghost use Rattle.std.specs.Prelude.{◌≡◌, ◌<◌, ◌≤◌, ℕ, IfOk, Some, length, map, slice_get};
+ghost use Rattle.ast_grammar.specs.Grammar.{most_classes};
 ghost use Rattle.attr_equations.specs.Kept.{rules_in};
 ghost use Rattle.attr_rules.specs.Queries.{query_of};
 ghost use Rattle.rag_io.specs.Pool.{ArePooled};
-ghost use Rattle.equation_law.specs.Program.{most_replies};
+ghost use Rattle.attr_rules.specs.Types.{parameter_kinds};
+ghost use Rattle.equation_law.specs.Program.{HangsInside, attribute_parameters, most_replies};
 ghost use Rattle.equation_law.specs.Spans.{AreSpans, IsBelow, IsSpan};
 
 use crate::coding::QueryId;
 use crate::spans::{Span, Spans, spans_of};
 use ast_grammar::{ClassId, Grammar};
 use attr_equations::Rules;
-use attr_rules::QueryEq;
+use attr_rules::{AttrId, Kind, Params, QueryEq};
 use rag_io::{Memory, Pool};
 use std::alloc::Global;
 use tree_arena::Tree;
@@ -43,6 +45,8 @@ pub struct System {
     spans: Spans,
     ghost few: { length queries.list.items ≤ most_replies },
     ghost pooled: { ArePooled pool },
+    ghost small: { length grammar ≤ most_classes },
+    ghost whole: { HangsInside tree },
     ghost spanned: { AreSpans grammar tree spans.firsts.items spans.ends.items },
 }
 
@@ -65,6 +69,10 @@ impl System {
     {
         // Each pool has the empty text, as its first.
         prove!(pool.len() > 0);
+        // A grammar has few classes.
+        prove!(grammar.classes() <= 256);
+        // Each tree is one of a grammar, and has a root.
+        prove!(tree.len() > 0);
         let spans = spans_of(alloc, &grammar, &tree)?;
         Ok(System {
             grammar,
@@ -88,6 +96,22 @@ impl System {
         ensures { rules_in result.now ≡ (program_of self.now).rules }
     {
         &self.rules
+    }
+
+    /// The parameters of an attribute; one that isn't declared has none.
+    pub fn parameters(&self, attribute: AttrId) -> Params
+        ensures { parameter_kinds result ≡ attribute_parameters (program_of self.now) attribute.0 }
+    {
+        if u32::from(attribute.0) < self.rules.attrs() {
+            self.rules.attr(attribute).params
+        } else {
+            Params {
+                count: 0,
+                first: Kind::Truth,
+                second: Kind::Truth,
+                third: Kind::Truth,
+            }
+        }
     }
 
     /// The source tree.
