@@ -1,1 +1,4 @@
+mod Arguments
+mod Climbing
+pub mod Classes
 pub mod Walking

@@ -1,13 +1,12 @@
-// The equation of an attribute at a node.
-ghost use Rattle.std.specs.Prelude.{◌≡◌, ◌<◌, IfSome, length, None, Some};
+// The equation of an attribute at a source node.
+ghost use Rattle.std.specs.Prelude.{◌≡◌, ◌<◌, IfSome, Some, [], length};
 ghost use Rattle.tree_arena.specs.Nodes.{most_nodes, parent_in};
-ghost use Rattle.equation_law.specs.Checked.{IsInstance, IsProgram};
-ghost use Rattle.equation_law.specs.Codes.{IsRow, instance_of};
-ghost use Rattle.equation_law.specs.Equations.{bound_values, collection_of, covering_site, inherited_site, inherits, synthesized_site};
-ghost use Rattle.equation_law.specs.declared.coding.Instance.TheVariants.{Attr as attribute_at};
-ghost use Rattle.equation_law.specs.Program.{declared_of};
+ghost use Rattle.equation_law.specs.Codes.{IsRow, Naming};
+ghost use Rattle.equation_law.specs.Equations.{bound_values, inherited_site, inherits, synthesized_site};
+ghost use Rattle.equation_law.specs.Names.{Reference, Source};
+ghost use Rattle.equation_law.specs.Program.{Program, declared_of};
 ghost use Rattle.equation_law.specs.Systems.{program_of};
-ghost use Rattle.inherited_walk.specs.Sites.{FindsEquation, IsFoundFor, index_values};
+ghost use Rattle.inherited_walk.specs.Sites.{IsCoveringFor, IsFoundFor, outer_values};
 
 use attr_rules::{AttrId, Part, Reach, Via};
 use equation_law::{Args, EqSite, NodeRef, System};
@@ -20,9 +19,9 @@ pub(crate) fn is_inherited(system: &System, attr: AttrId) -> bool
     u32::from(attr.0) < rules.attrs() && rules.attr(attr).sort.is_inherited()
 }
 
-/// The equation of a synthesized attribute: that of the nearest class, from the node's class upwards, read at the node.
+/// The equation of a synthesized or higher-order attribute: that of the nearest class, from the node's class upwards, read at the node.
 pub(crate) fn synthesized(system: &System, attr: AttrId, node: u32, args: Args) -> Option<EqSite>
-    ensures found { let p = program_of system.now in IsFoundFor p attr args (synthesized_site p attr.0 node) result }
+    ensures found { let p = program_of system.now in IsFoundFor p attr args (synthesized_site p attr.0 (Source node)) result }
     ensures rows { IsRow args → IfSome result (λ s. IsRow s.outer × IsRow s.inner) }
 {
     let tree = system.tree();
@@ -39,11 +38,10 @@ pub(crate) fn synthesized(system: &System, attr: AttrId, node: u32, args: Args) 
     })
 }
 
-/// What a path binds towards the node of this place among those that hang at the same component. No equation with a path over a
-/// higher-order attribute is found there.
-fn bound_index(reach: Reach, place: u32) -> Args
+/// What a path binds towards a node of this place among those that hang at the same component.
+pub(crate) fn bound_index(reach: Reach, place: u32) -> Args
     ensures row { IsRow result }
-    ensures values { index_values result ≡ bound_values reach place }
+    ensures values { (p : Program) (n : Naming) → outer_values p n reach result ≡ bound_values reach place [] }
 {
     match reach {
         Reach::Component(_) => Args::none().with(place),
@@ -63,7 +61,7 @@ pub(crate) fn covering(
     requires few { node < most_nodes }
     requires parent { parent_in (program_of system.now).tree node ≡ Some parent }
     requires above { parent < node }
-    ensures found { let p = program_of system.now in IsFoundFor p attr args (λ zs. covering_site p attr.0 zs node) result }
+    ensures found { IsCoveringFor (program_of system.now) attr args node result }
     ensures rows { IsRow args → IfSome result (λ s. IsRow s.outer × IsRow s.inner) }
 {
     let tree = system.tree();
@@ -81,7 +79,7 @@ pub(crate) fn covering(
 
 /// The equation of an inherited attribute: from the node upwards, that of the closest ancestor which has one that covers the way to it.
 pub(crate) fn inherited(system: &System, attr: AttrId, args: Args, node: u32) -> Option<EqSite>
-    ensures found { let p = program_of system.now in IsFoundFor p attr args (λ zs. inherited_site p attr.0 zs node) result }
+    ensures found { (root : Reference) → let p = program_of system.now in IsFoundFor p attr args (λ zs. inherited_site p attr.0 zs root (Source node)) result }
     ensures rows { IsRow args → IfSome result (λ s. IsRow s.outer × IsRow s.inner) }
 {
     let tree = system.tree();
@@ -97,31 +95,4 @@ pub(crate) fn inherited(system: &System, attr: AttrId, args: Args, node: u32) ->
         at = parent;
     }
     None
-}
-
-/// The equation of an attribute at a node with arguments, if it has one: none at null, where the node's class doesn't have the attribute, or
-/// where it lacks an equation for it. It takes no memory, and time in proportion to the way upwards.
-pub fn find_equation(system: &System, attr: AttrId, node: NodeRef, args: Args) -> Option<EqSite>
-    ensures found { FindsEquation (program_of system.now) attr node args result }
-    ensures rows { IsRow args → IfSome result (λ s. IsRow s.outer × IsRow s.inner) }
-{
-    let source = node.source()?;
-    if is_inherited(system, attr) {
-        inherited(system, attr, args, source)
-    } else {
-        synthesized(system, attr, source, args)
-    }
-}
-
-/// The equation of an instance of a program that breaks no rule, if it is no collection. It takes no memory, and time in proportion to the way upwards.
-pub fn equation_of(system: &System, attr: AttrId, node: NodeRef, args: Args) -> EqSite
-    requires program { IsProgram (program_of system.now) }
-    requires instance { IsInstance (program_of system.now) (instance_of (program_of system.now) (attribute_at attr node args)) }
-    requires single { collection_of (program_of system.now) (instance_of (program_of system.now) (attribute_at attr node args)) ≡ None }
-    ensures { FindsEquation (program_of system.now) attr node args (Some result) }
-{
-    match find_equation(system, attr, node, args) {
-        Some(site) => site,
-        None => unreachable!(),
-    }
 }

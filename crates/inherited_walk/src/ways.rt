@@ -1,14 +1,13 @@
 // Ways upwards that were climbed already.
-ghost use Rattle.std.specs.Prelude.{◌≡◌, ◌<◌, ◌⊎◌, ℕ, List, IfSome, None, Some, length, false};
+ghost use Rattle.std.specs.Prelude.{◌≡◌, ◌<◌, ◌⊎◌, ℕ, IfSome, None, Some, length, false};
 ghost use Rattle.std.specs.HashMap.{get};
 ghost use Rattle.tree_arena.specs.Nodes.{most_nodes, parent_in};
+ghost use Rattle.equation_law.specs.Checked.{HasSourcesAlone};
 ghost use Rattle.equation_law.specs.Codes.{IsRow};
-ghost use Rattle.equation_law.specs.Equations.{covering_site};
-ghost use Rattle.equation_law.specs.Names.{Argument};
 ghost use Rattle.equation_law.specs.Systems.{program_of};
 ghost use Rattle.inherited_walk.specs.contracts.ways.StartPartialEq.TheImpl as starts;
 ghost use Rattle.inherited_walk.specs.declared.ways.Start.{Start as WayStart};
-ghost use Rattle.inherited_walk.specs.Sites.{FindsEquation};
+ghost use Rattle.inherited_walk.specs.Sites.{FindsEquation, IsUncovered};
 ghost use Rattle.inherited_walk.specs.Ways.{IsWay};
 
 use crate::walk::{covering, inherited, is_inherited, synthesized};
@@ -97,7 +96,7 @@ fn covers(system: &System, attr: AttrId, node: u32, parent: u32) -> bool
     requires few { node < most_nodes }
     requires parent { parent_in (program_of system.now).tree node ≡ Some parent }
     requires above { parent < node }
-    ensures { result ≡ false → (zs : List Argument) → covering_site (program_of system.now) attr.0 zs node ≡ None }
+    ensures { result ≡ false → IsUncovered (program_of system.now) attr node }
 {
     covering(system, attr, Args::none(), node, parent).is_some()
 }
@@ -141,7 +140,7 @@ fn fill(system: &System, ways: &mut Ways, attr: AttrId, node: u32, top: u32)
     }
 }
 
-/// The same as `find_equation`. A way upwards is climbed once: it is noted for each node on it.
+/// The same as `find_equation`, in a program that makes nothing. A way upwards is climbed once: it is noted for each node on it.
 pub fn find_noted(
     system: &System,
     ways: &mut Ways,
@@ -149,7 +148,8 @@ pub fn find_noted(
     node: NodeRef,
     args: Args,
 ) -> Option<EqSite>
-    requires { ways.old ≡ system.now }
+    requires same { ways.old ≡ system.now }
+    requires bare { HasSourcesAlone (program_of system.now) }
     ensures same { ways.new ≡ ways.old }
     ensures found { FindsEquation (program_of system.now) attr node args result }
     ensures rows { IsRow args → IfSome result (λ s. IsRow s.outer × IsRow s.inner) }

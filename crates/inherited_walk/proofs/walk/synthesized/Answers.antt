@@ -1,5 +1,6 @@
-use Rattle.std.proofs.Common.{◌≡◌, ◌<◌, List, Some, ap, length, subst, sym, arith, ◌∙◌}
-use Rattle.tree_arena.specs.Nodes.{Node, class_in}
+use Rattle.std.proofs.Common.{◌≡◌, ◌<◌, List, Some, ap, sym, arith, ◌∙◌}
+use Rattle.tree_arena.specs.Nodes.{Node, class_in, most_nodes}
+use Rattle.equation_law.specs.Names.{Source}
 use Rattle.equation_law.specs.Systems.{program_of}
 use Rattle.equation_law.proofs.Codes.{source_by}
 use Rattle.inherited_walk.proofs.Walking.{synthesized_found}
@@ -9,5 +10,5 @@ pub returns-clause-found : goal.returns-clause-found
 returns-clause-found c by is =
     let p = program_of c.args.system.now in
     let class : class_in p.tree c.args.node ≡ Some c.class_of-class.result = ap (λ (t : List Node). class_in t c.args.node) (sym c.tree-tree.ensures) ∙ c.class_of-class.ensures in
-    let within : c.args.node < length p.tree = subst (λ (t : List Node). c.args.node < length t) c.tree-tree.ensures (omega (arith, c.len.ensures.number, c.if-node-len.false)) in
-    synthesized_found p by c.args.attr.0 c.args.args c.args.node _ c.in_ok-equation.equation.0 c.of_source.result.0 c.class_of-class.result c.none.result c.none.ensures.codes (source_by is (Some c.args.node) within c.of_source.result.0 c.of_source.ensures) (sym class) c.rules.ensures c.in_ok-equation.ensures.number c.in_ok-equation.ensures.within
+    let low : c.args.node < most_nodes = omega (arith, c.len.ensures.few, c.if-node-len.false) in
+    synthesized_found p by c.args.attr.0 c.args.args (Source c.args.node) _ c.in_ok-equation.equation.0 c.of_source.result.0 c.class_of-class.result c.none.result c.none.ensures.codes (source_by is (Some c.args.node) low c.of_source.result.0 c.of_source.ensures) (sym class) c.rules.ensures c.in_ok-equation.ensures.number c.in_ok-equation.ensures.within

@@ -1,5 +1,6 @@
 use Rattle.std.proofs.Common.{sym, ◌∙◌}
 use Rattle.equation_law.specs.Codes.{arguments_for, source_names}
+use Rattle.equation_law.specs.Names.{Null}
 use Rattle.equation_law.specs.Program.{text_of}
 use Rattle.equation_law.specs.Systems.{program_of}
 use Rattle.equation_law.proofs.Codes.{sources_named}
@@ -10,4 +11,4 @@ pub returns : goal.returns
 returns c none =
     let p = program_of c.args.system.now in
     let by = source_names (text_of p) in
-    uncovered_any p by c.args.attr.0 c.args.node (arguments_for p by c.args.attr.0 c.none.result) c.covering.result (c.covering.ensures.found by (sources_named p)) (sym c.is_some.ensures ∙ none)
+    uncovered_any p c.args.attr.0 c.args.node by (arguments_for p by c.args.attr.0 c.none.result) Null c.covering.result (c.covering.ensures.found Null by (sources_named p)) (sym c.is_some.ensures ∙ none)
