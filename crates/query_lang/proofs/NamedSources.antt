@@ -1,10 +1,11 @@
 -- By a naming for a program a value whose nodes are source nodes is that by the names of source nodes.
-use Rattle.std.proofs.Common.{◌≡◌, ℕ, zero, suc, true, List, [], ◌∷◌, ◌||◌, map, Result, Ok, Err, OnOk, refl, sym, ap, subst, ◌∙◌}
+use Rattle.std.proofs.Common.{◌≡◌, ℕ, zero, suc, true, ◌≤◌, List, [], ◌∷◌, ◌||◌, length, map, Result, Ok, Err, OnOk, arith, refl, sym, ap, subst, ◌∙◌}
 use Rattle.std.specs.Cmp.{tied_itself}
 use Rattle.std.specs.List.{list_any}
 use Rattle.std.specs.Ordering.{eq_by_cmp, is_eq}
 use Rattle.std.proofs.lemmas.Bool.{or_right}
 use Rattle.rag_io.specs.declared.Memory.{Memory}
+use Rattle.tree_arena.specs.Nodes.{most_nodes}
 use Rattle.equation_law.specs.declared.coding.Value.{Value as CodedValue}
 use Rattle.equation_law.specs.declared.coding.Value.TheVariants as coded
 use Rattle.equation_law.specs.Codes.{IsNamingOf, Naming, nodes_by, nodes_of, reference_by, reference_of, value_by, value_of}
@@ -14,16 +15,16 @@ use Rattle.equation_law.specs.Sets.{set_of}
 use Rattle.equation_law.specs.Values.{Node, Nodes, Text, Texts}
 use Rattle.equation_law.proofs.Orders.{node_total}
 use Rattle.equation_law.proofs.Sets.{has-set_of}
-use Rattle.query_lang.specs.Named.{AddsTextBy, AreSources, IsSource, null, source}
-use Rattle.query_lang.specs.Replies.{AddsText}
+use Rattle.query_lang.specs.Named.{AddsReplyBy, AreSources, IsSource, null, source}
+use Rattle.query_lang.specs.Replies.{AddsReply}
 
-module _ {p : Program} {n : Naming} (h : IsNamingOf p n) where
+module _ {p : Program} {n : Naming} (few : length p.tree ≤ most_nodes) (h : IsNamingOf p n) where
   -- the node of a code is the source node of its number, where it is a source node of the tree
   source_alike : (k : ℕ) (r : Reference) → r ≡ At (n.node k) → IsSource p r → n.node k ≡ Source k
   source_alike k _ e null = cc
   source_alike k _ e (source {k = j} within) =
       let same : n.node k ≡ Source j = cc in
-      same ∙ ap Source (sym (h.one_code k j (same ∙ sym (h.sources j within))))
+      same ∙ ap Source (sym (h.one_code k j (same ∙ sym (h.sources j (omega (arith, within, few))))))
 
   node_alike : (k : ℕ) → IsSource p (At (n.node k)) → n.node k ≡ Source k
   node_alike k is = source_alike k (At (n.node k)) refl is
@@ -52,6 +53,6 @@ module _ {p : Program} {n : Naming} (h : IsNamingOf p n) where
   value_alike (coded.Nodes cs) are = ap (λ ns. Nodes (set_of {R = node_cmp} ns)) (nodes_alike cs (λ x e. are x (has-set_of node_total (nodes_by n.node cs) x ∙ e)))
 
 -- so its text was added by each naming where it was by the names of source nodes
-pub text_named : (p : Program) (v : CodedValue) (old new : List ℕ) (r : Result Unit Memory) → OnOk r (AddsText (value_of (text_of p) v) old new) → OnOk r (AddsTextBy p v old new)
-text_named p v old new (Ok u) h = λ n is are. subst (λ x. AddsText x old new) (sym (value_alike is v are)) h
-text_named p v old new (Err m) h = tt
+pub reply_named : (p : Program) → length p.tree ≤ most_nodes → (v : CodedValue) (old new : List ℕ) (r : Result Unit Memory) → OnOk r (AddsReply (value_of (text_of p) v) old new) → OnOk r (AddsReplyBy p v old new)
+reply_named p few v old new (Ok u) h = λ n is are. subst (λ x. AddsReply x old new) (sym (value_alike few is v are)) h
+reply_named p few v old new (Err m) h = tt

@@ -5,14 +5,14 @@ ghost use Rattle.rag_io.specs.Quoting.{quoted};
 ghost use Rattle.equation_law.specs.Codes.{AreElements, reference_of, value_of};
 ghost use Rattle.equation_law.specs.Program.{text_of as text_in};
 ghost use Rattle.equation_law.specs.Systems.{program_of};
-ghost use Rattle.query_lang.specs.Named.{AddsReplyBy, AddsTextBy};
+ghost use Rattle.query_lang.specs.Named.{AddsReplyBy};
 ghost use Rattle.query_lang.specs.Replies.{AddsReply, AddsText, in_braces, joined, truth_text};
 ghost use Rattle.query_lang.specs.Singles.{element_text, reference_text, single_text};
 
 use attr_rules::TextId;
 use equation_law::{NodeRef, Single, System, Value};
 use rag_io::{Memory, push_quoted};
-use set_values::elements;
+use set_values::elements_in_order;
 use std::alloc::Global;
 
 fn add(text: &mut Vec<u8>, bytes: &[u8]) -> Result<(), Memory>
@@ -138,8 +138,7 @@ fn add_value(
     value: &Value,
 ) -> Result<(), Memory>
     requires { AreElements (program_of system.now) value.now }
-    ensures sources { OnOk result (AddsText (value_of (text_in (program_of system.now)) value.now) text.old.items text.new.items) }
-    ensures named { OnOk result (AddsTextBy (program_of system.now) value.now text.old.items text.new.items) }
+    ensures { OnOk result (AddsText (value_of (text_in (program_of system.now)) value.now) text.old.items text.new.items) }
 {
     match value {
         Value::Truth(truth) => add_truth(text, *truth),
@@ -147,7 +146,7 @@ fn add_value(
         Value::Text(number) => add_text(system, text, *number),
         Value::Node(node) => add_node(alloc, text, *node),
         Value::Texts(_) | Value::Nodes(_) => {
-            let list = elements(alloc, system, value)?;
+            let list = elements_in_order(alloc, system, value)?;
             add_set(alloc, system, text, &list)
         }
     }
@@ -164,6 +163,8 @@ pub fn add_reply(
     ensures sources { OnOk result (AddsReply (value_of (text_in (program_of system.now)) value.now) text.old.items text.new.items) }
     ensures named { OnOk result (AddsReplyBy (program_of system.now) value.now text.old.items text.new.items) }
 {
+    // A tree has at most as many nodes as there are codes of source nodes.
+    prove!(system.tree().len() > 0);
     add_value(alloc, system, text, value)?;
     text.push(b'\n').map_err(|_| Memory)
 }

@@ -3,18 +3,19 @@ use Rattle.std.proofs.Common.{◌≡◌, ℕ, zero, suc, ◌+◌, ◌<◌, false
 use Rattle.std.specs.declared.cmp.Ordering.TheVariants.{Less}
 use Rattle.std.specs.Cmp.{nat_cmp_is, tied_itself}
 use Rattle.std.specs.List.{All}
-use Rattle.std.specs.List.Sorted.{IsSortedByKey}
+use Rattle.std.specs.List.Sorted.{IsPermutation, IsSortedByKey}
 use Rattle.std.specs.FinMap.{nat_cmp-IsAntisymmetric}
 use Rattle.std.specs.Ordering.{eq_by_cmp, is_eq, is_lt, nat_cmp, ordering_reverse}
 use Rattle.std.proofs.lemmas.Cmp.{nat_cmp_total}
 use Rattle.std.proofs.lemmas.List.Elements.{All-get_or, All-head, All-tail, All-weaker}
 use Rattle.std.proofs.lemmas.List.Folds.{list_any_none}
-use Rattle.std.proofs.lemmas.List.Sorted.{IsPermutation-refl}
+use Rattle.std.proofs.lemmas.List.Sorted.{All-permutation, IsPermutation-refl}
 use Rattle.std.proofs.lemmas.Map.Keys.{below_from_sorted}
 use Rattle.code_sets.specs.Members.{AreMade, Rises, has_code}
 use Rattle.attr_rules.specs.declared.expression.SetOperator.{SetOperator}
 use Rattle.equation_law.specs.Codes.{nodes_by, reference_by, reference_of}
 use Rattle.equation_law.specs.Names.{NodeName, Source, node_cmp}
+use Rattle.equation_law.specs.Reading.{reference_cmp}
 use Rattle.equation_law.specs.Sets.{elements, has, set_of, size}
 use Rattle.equation_law.specs.Values.{combined, has_node}
 use Rattle.equation_law.proofs.Codes.{one_source}
@@ -79,6 +80,22 @@ module _ (nodes : ℕ → NodeName) (apart : AreApart nodes) where
 pub has_node_code : (n : ℕ) (cs : List ℕ) → All IsNode cs → has_node (node_set cs) (reference_of n) ≡ has_code cs n
 has_node_code = has_node_by Source one_source
 
+-- codes in the order of names are in that of their nodes
+pub named_order : (nodes : ℕ → NodeName) (cs : List ℕ) → All IsNode cs → IsSortedByKey (reference_by nodes) reference_cmp cs → IsSortedByKey (node_named nodes) node_cmp cs
+named_order nodes cs a s k d l m = as_named (get_or cs k d) (get_or cs (k + 1) d) (All-get_or IsNode cs k d (omega (arith, m)) a) (All-get_or IsNode cs (k + 1) d m a) (s k d l m)
+  where
+    as_named : (x y : ℕ) → IsNode x → IsNode y → is_lt (reference_cmp (reference_by nodes y) (reference_by nodes x)) ≡ false → is_lt (node_cmp (node_named nodes y) (node_named nodes x)) ≡ false
+    as_named zero y h g e = absurd (omega (arith, h))
+    as_named (suc x) zero h g e = absurd (omega (arith, g))
+    as_named (suc x) (suc y) h g e = e
+
+-- the elements of a set of nodes, by its codes in the order of their nodes
+pub elements_ordered : (nodes : ℕ → NodeName) → AreApart nodes → (cs ns : List ℕ) → Rises cs → All IsNode cs → IsPermutation cs ns → IsSortedByKey (node_named nodes) node_cmp ns → elements (nodes_set nodes cs) ≡ nodes_by nodes ns
+elements_ordered nodes apart cs ns r a moved s =
+    ap (λ xs. elements (set_of {R = node_cmp} xs)) (nodes_named nodes cs a)
+    ∙ elements_coded node_total node_anti (node_named nodes) IsNode (nodes_tied nodes apart) cs ns r a moved s
+    ∙ sym (nodes_named nodes ns (All-permutation IsNode cs ns moved a))
+
 -- the codes of a set of nodes are in the order of the nodes where all codes are
 module _ (nodes : ℕ → NodeName) (apart : AreApart nodes) (rise : (j k : ℕ) → j < k → node_cmp (nodes j) (nodes k) ≡ Less) where
   in_order : (cs : List ℕ) → Rises cs → All IsNode cs → IsSortedByKey (node_named nodes) node_cmp cs
@@ -90,7 +107,4 @@ module _ (nodes : ℕ → NodeName) (apart : AreApart nodes) (rise : (j k : ℕ)
       not_below (suc x) (suc y) h g w = ap is_lt (node_total.antisymm (nodes y) (nodes x) ∙ ap ordering_reverse (rise x y (omega (arith, w))))
 
   pub nodes_in_order : (cs : List ℕ) → Rises cs → All IsNode cs → elements (nodes_set nodes cs) ≡ nodes_by nodes cs
-  nodes_in_order cs r a =
-      ap (λ ns. elements (set_of {R = node_cmp} ns)) (nodes_named nodes cs a)
-      ∙ elements_coded node_total node_anti (node_named nodes) IsNode (nodes_tied nodes apart) cs cs r a (IsPermutation-refl cs) (in_order cs r a)
-      ∙ sym (nodes_named nodes cs a)
+  nodes_in_order cs r a = elements_ordered nodes apart cs cs r a (IsPermutation-refl cs) (in_order cs r a)

@@ -1,1 +1,2 @@
 pub mod CodedSets
+pub mod Ordered

@@ -4,7 +4,8 @@
 mod combining;
 mod listing;
 mod members;
+mod ordering;
 
 pub use combining::set_operate;
-pub use listing::elements;
+pub use listing::{elements, elements_in_order};
 pub use members::{contains, count, known_text, single_set, size};
