@@ -61,7 +61,7 @@ survey_new {p = p} t named is new = record { gone = λ names in_it. gone_nowhere
 
 -- by what a reader may be read is a naming for its program
 pub naming_of : {S : Type 0} {p : Program} {t : Told S} → IsSound p t → ByEachIn t (IsNamingOf p)
-naming_of sound names is = (sound.named names is).0
+naming_of sound names is = sound.named names is
 
 -- the same of collections that are the same by what the reader may be read
 pub surveyed_as : {S : Type 0} {p : Program} {t : Told S} {c d : Collections} {s : Survey} → ByEachIn t (λ names. c names ≡ d names) → IsSurveyed p t c s → IsSurveyed p t d s

@@ -6,14 +6,15 @@ use Rattle.attr_rules.specs.Expression.{Expression}
 use Rattle.attr_rules.specs.Rules.{Contribution}
 use Rattle.equation_law.specs.declared.coding.Instance.{Instance as CodedInstance}
 use Rattle.equation_law.specs.declared.coding.Value.{Value as CodedValue}
-use Rattle.equation_law.specs.Codes.{Naming, instance_by, value_by}
+use Rattle.equation_law.specs.Codes.{Naming, arguments_by, instance_by, value_by}
 use Rattle.equation_law.specs.Collections.{Offer, offer_place}
+use Rattle.equation_law.specs.Created.{token_kinds}
 use Rattle.equation_law.specs.Equations.{world_of}
 use Rattle.equation_law.specs.Meaning.{meaning_of}
 use Rattle.equation_law.specs.Names.{At, Instance, NodeName, Reference, Source}
 use Rattle.equation_law.specs.Program.{Program}
 use Rattle.equation_law.specs.Reading.{ByEachIn, Told}
-use Rattle.equation_law.specs.Values.{Value, node, truth}
+use Rattle.equation_law.specs.Values.{Tree, Value, node, truth}
 use Rattle.expr_eval.specs.declared.sites.Turn.{Turn}
 use Rattle.expr_eval.specs.declared.sites.Turn.TheVariants as turns
 use Rattle.expr_eval.specs.Evaluating.{AnswersTurn, Asks, Comes, Evaluates, Given, Stopped, Wants, place_kept, read_at}
@@ -33,6 +34,13 @@ module _ {S : Type 0} {p : Program} {r s : Told S} {d : Asks} {t : Turn} (e : Ev
 answers_as : {S : Type 0} (p : Program) (s : Told S) {c d : Asks} → ByEachIn s (λ names. c names ≡ d names) → (result : Result Turn Memory) → AnswersTurn p s c result → AnswersTurn p s d result
 answers_as p s same (Ok (turns.Done v)) h = record { comes = λ names in_it. subst (λ (x : Demands Instance Value). Comes s.has x (value_by names v)) (same names in_it) (h.comes names in_it); coded = h.coded }
 answers_as p s same (Ok (turns.Need i)) h = record { wants = λ names in_it. subst (λ (x : Demands Instance Value). Wants s.has x (instance_by p names i)) (same names in_it) (h.wants names in_it); coded = h.coded }
+answers_as p s same (Ok (turns.Image t)) h = record {
+  making = h.making;
+  is = h.is;
+  comes = λ names in_it. let x = h.comes names in_it in (x.0, subst (λ (d : Demands Instance Value). Comes s.has d (Tree x.0 (arguments_by names (token_kinds h.making.arguments) t.tokens))) (same names in_it) x.1);
+  all = h.all;
+  codes = h.codes;
+}
 answers_as p s same (Err m) h = tt
 
 pub evaluates_as : {S : Type 0} {p : Program} {r s : Told S} {c d : Asks} {result : Result Turn Memory} → ByEachIn s (λ names. c names ≡ d names) → Evaluates p r s c result → Evaluates p r s d result

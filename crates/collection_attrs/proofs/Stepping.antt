@@ -1,5 +1,5 @@
 -- A walk passes the next offer, or stands before one that is stuck.
-use Rattle.std.proofs.Common.{◌≡◌, ℕ, ◌+◌, ◌^◌, ◌<◌, ◌≤◌, true, [], ◌∷◌, ◌++◌, Option, Some, None, IfSome, length, slice_get, refl, sym, ap, subst, arith, ◌∙◌}
+use Rattle.std.proofs.Common.{◌≡◌, ℕ, ◌+◌, ◌^◌, ◌<◌, ◌≤◌, true, List, [], ◌∷◌, ◌++◌, Option, Some, None, IfSome, length, slice_get, refl, sym, ap, subst, arith, ◌∙◌}
 use Rattle.std.specs.Option.{option_map}
 use Rattle.std.proofs.lemmas.List.{length-append}
 use Rattle.std.proofs.lemmas.Option.{slice_get_within}
@@ -8,7 +8,7 @@ use Rattle.attr_equations.specs.KeptContributions.{IsContributionAt}
 use Rattle.attr_rules.specs.declared.kinds.EqId.{EqId}
 use Rattle.attr_rules.specs.Expression.{Expression, Truth}
 use Rattle.attr_rules.specs.Rules.{RuleSet, bodies, body_at}
-use Rattle.tree_arena.specs.Nodes.{end_in}
+use Rattle.tree_arena.specs.Nodes.{Node, end_in, most_nodes}
 use Rattle.equation_law.specs.declared.coding.Instance.{Instance as CodedInstance}
 use Rattle.equation_law.specs.Codes.{IsNamingOf, instance_by, reference_by}
 use Rattle.equation_law.specs.Collections.{Offer}
@@ -46,6 +46,10 @@ module _ (p : Program) {rules : RuleSet} (same : rules ≡ p.rules) {k : ℕ} {c
 
   pub value_known : c.value.0 < length (bodies p.rules)
   value_known = slice_get_within (bodies p.rules) c.value.0 at_rules.contribution.value at_rules.value
+
+-- a tree has no more nodes than there are codes of source nodes
+pub few_nodes : (p : Program) {tree : List Node} {k : ℕ} → tree ≡ p.tree → k ≡ length tree → k ≤ most_nodes → length p.tree ≤ most_nodes
+few_nodes p same is few = let long = ap length same in omega (arith, long, is, few)
 
 -- ---- a step
 
@@ -85,11 +89,11 @@ module _ {S : Type 0} (p : Program) (t : Told S) (v w : Walk) (h : IsWalk p t v)
     stands_before j s = record { before = before; is = at; stuck = s }
 
 -- what was weighed of the offer at which a walk stands
-pub weighed_at : {S : Type 0} (p : Program) (t : Told S) → ByEachIn t (IsNamingOf p) → (w : Walk) (n k : ℕ) → IsStanding p w → w.node < end_in p.tree w.root → n ≡ w.node → k ≡ w.contribution → (at : IsOfferedAt p w) → {x y : Weighed} → x ≡ y → IsWeighedAt p t k n x
+pub weighed_at : {S : Type 0} (p : Program) (t : Told S) → ByEachIn t (IsNamingOf p) → length p.tree ≤ most_nodes → (w : Walk) (n k : ℕ) → IsStanding p w → w.node < end_in p.tree w.root → n ≡ w.node → k ≡ w.contribution → (at : IsOfferedAt p w) → {x y : Weighed} → x ≡ y → IsWeighedAt p t k n x
     → IsWeighed p t (record { contribution = at.contribution; node = w.node }) y
-weighed_at p t named w n k stands before node number at {x} is weighed =
+weighed_at p t named few w n k stands before node number at {x} is weighed =
     subst (IsWeighed p t (record { contribution = at.contribution; node = w.node })) is
-    (subst (λ (m : ℕ). IsWeighed p t (record { contribution = at.contribution; node = m }) x) node (weighed at.contribution (ap (slice_get p.rules.contributions) number ∙ at.is) (λ names in_it. (named names in_it).sources n (let within = node_within p t w stands before in omega (arith, node, within)))))
+    (subst (λ (m : ℕ). IsWeighed p t (record { contribution = at.contribution; node = m }) x) node (weighed at.contribution (ap (slice_get p.rules.contributions) number ∙ at.is) (λ names in_it. (named names in_it).sources n (let within = node_within p t w stands before in omega (arith, node, within, few)))))
 
 -- a node that has a code
 pub code_of : {n m : ℕ} → n ≡ m → n + 1 < 2 ^ 32 → m + 1 < 2 ^ 32

@@ -13,11 +13,10 @@ use Rattle.equation_law.specs.Collections.{Collection, Offer, collection_demands
 use Rattle.equation_law.specs.Equations.{offers_below, world_of}
 use Rattle.equation_law.specs.Names.{At, Instance}
 use Rattle.equation_law.specs.Program.{Program}
-use Rattle.equation_law.specs.Reading.{ByEachIn, IsSound, Told}
+use Rattle.equation_law.specs.Reading.{ByEachIn, Grows, IsSound, Told}
 use Rattle.equation_law.specs.Values.{Value}
 use Rattle.expr_eval.specs.declared.sites.Turn.TheVariants as turns
 use Rattle.expr_eval.specs.Evaluating.{Comes as ComesUnder, Evaluates, Wants}
-use Rattle.expr_eval.proofs.Forms.{grows_self}
 use Rattle.collection_attrs.specs.declared.collectors.Collector.{Collector}
 use Rattle.collection_attrs.specs.declared.surveys.Survey.{Survey}
 use Rattle.collection_attrs.specs.Evaluations.{demands_of}
@@ -39,8 +38,9 @@ one_value sound j x y a b = sound.one_value j x y (sound.within j x a) (sound.wi
 pub passed_within : (p : Program) (w : Walk) → IsStanding p w → length (passed_by p w) ≤ length (offers_below p w.attribute (Some w.root))
 passed_within p w h = let split = offers_split p w h in let long = ap length split.1 in omega (arith, long, length-append (passed_by p w) split.0)
 
-pub for_same : (p : Program) (c : Collections) (w u : Walk) → u.attribute ≡ w.attribute → u.root ≡ w.root → IsForEach p w c → IsForEach p u c
-for_same p c w u attr root is = λ names named. is names named ∙ sym (λ i. offers_below p (attr i) (Some (root i)))
+-- a walk that is for a collection is so while a reader comes to have more, and with it each of the same root
+pub for_same : {S : Type 0} (p : Program) {r s : Told S} (c : Collections) (w u : Walk) → Grows p r s → u.attribute ≡ w.attribute → u.root ≡ w.root → IsForEach p r w c → IsForEach p s u c
+for_same p c w u kept attr root is = λ names in_it. is names (kept.names names in_it) ∙ sym (λ i. offers_below p (attr i) (Some (root i)))
 
 -- ---- by one naming
 
@@ -106,15 +106,15 @@ module _ {S : Type 0} (p : Program) (t : Told S) (c : Collections) where
     coded = h.coded;
   }
 
-  module _ (sound : IsSound p t) (w : Walk) (h : IsWalk p t w) (is : IsForEach p w c) (s : Survey) where
+  module _ (sound : IsSound p t) (w : Walk) (h : IsWalk p t w) (is : IsForEach p t w c) (s : Survey) where
     -- at the end of the subtree it has its value
     pub counted_ends : IsCounted p t w c s → w.node ≡ end_in p.tree w.root → ByEachIn t (λ names. ComesUnder t.has (demands_of p c names) (value_by names s.so_far))
-    counted_ends v e = λ names in_it. survey_done p t.has names (c names) w (walk_by h names in_it) (value_by names s.so_far) (v.survey names in_it) (is names (naming_of sound names in_it)) e
+    counted_ends v e = λ names in_it. survey_done p t.has names (c names) w (walk_by h names in_it) (value_by names s.so_far) (v.survey names in_it) (is names in_it) e
 
     -- before an offer that is stuck it is stuck there
     pub counted_stuck : IsCounted p t w c s → (j : CodedInstance) → IsStuck p t w j → ByEachIn t (λ names. Wants t.has (demands_of p c names) (instance_by p names j))
     counted_stuck v j f = λ names in_it.
-        stuck_so p t.has names (c names) w (walk_by h names in_it) (is names (naming_of sound names in_it)) (value_by names s.so_far) (v.survey names in_it) f.before f.is (instance_by p names j) (f.stuck names in_it)
+        stuck_so p t.has names (c names) w (walk_by h names in_it) (is names in_it) (value_by names s.so_far) (v.survey names in_it) f.before f.is (instance_by p names j) (f.stuck names in_it)
 
     module _ {of : Collector} (its : IsCollectorOf p of c) (v : IsSurveyed p t c s) (enough : s.taken ≤ length w.notes) where
       -- without an offer for its node it has counted all that is kept
@@ -122,7 +122,7 @@ module _ {S : Type 0} (p : Program) (t : Told S) (c : Collections) where
       counts_all none = record {
         survey = λ names in_it.
             let named = naming_of sound names in_it in
-            over_all p t.has (one_value sound) names named (c names) w (walk_by h names in_it) (is names named) s (v.gone names in_it) enough of.node.0 (node_is p (its names named)) none;
+            over_all p t.has (one_value sound) names named (c names) w (walk_by h names in_it) (is names in_it) s (v.gone names in_it) enough of.node.0 (node_is p (its names named)) none;
         coded = v.coded;
       }
 
@@ -136,7 +136,7 @@ module _ {S : Type 0} (p : Program) (t : Told S) (c : Collections) where
           gone = λ names in_it.
               let named = naming_of sound names in_it in
               let by = its names named in
-              one_more p t.has (one_value sound) names named (c names) w (walk_by h names in_it) (is names named) s (v.gone names in_it) enough of.node.0 (node_is p by) place may n there b known x by.method by.kind taken (value names named) (comes names in_it);
+              one_more p t.has (one_value sound) names named (c names) w (walk_by h names in_it) (is names in_it) s (v.gone names in_it) enough of.node.0 (node_is p by) place may n there b known x by.method by.kind taken (value names named) (comes names in_it);
           coded = coded;
         }
 
@@ -144,7 +144,7 @@ module _ {S : Type 0} (p : Program) (t : Told S) (c : Collections) where
         pub counts_not : (j : CodedInstance) → ByEachIn t (λ names. Wants t.has (contributed p own) (instance_by p names j)) → ByEachIn t (λ names. Wants t.has (demands_of p c names) (instance_by p names j))
         counts_not j wants = λ names in_it.
             let named = naming_of sound names in_it in
-            stops_here p t.has (one_value sound) names named (c names) w (walk_by h names in_it) (is names named) s (v.gone names in_it) enough of.node.0 (node_is p (its names named)) place may n there b known (instance_by p names j) (wants names in_it)
+            stops_here p t.has (one_value sound) names named (c names) w (walk_by h names in_it) (is names in_it) s (v.gone names in_it) enough of.node.0 (node_is p (its names named)) place may n there b known (instance_by p names j) (wants names in_it)
 
 -- ---- a code says one collection by each naming
 
@@ -173,16 +173,16 @@ fitted p t sound {c = c} is s x w (inl e) h = (subst (IsSurveyed p t c) (sym e.0
 fitted p t sound is s x w (inr new) h = (survey_new t (naming_of sound) is new, (let none = new.taken in omega (arith, none)))
 
 -- where nothing is offered it has the fresh value
-pub rootless : {S : Type 0} {p : Program} {r : Told S} {of : Collector} {c : Collections} {s : Survey} → IsSound p r → IsCollectorOf p of c → ByEachNaming p (λ names. (c names).offers ≡ []) → IsNew p of s → (v : CodedValue) → v ≡ s.so_far → Evaluates p r r (demands_of p c) (Ok (turns.Done v))
-rootless {p = p} {r = r} {c = c} sound is none new v same = record {
-  kept = grows_self sound;
+pub rootless : {S : Type 0} {p : Program} {q r : Told S} {of : Collector} {c : Collections} {s : Survey} → Grows p q r → IsCollectorOf p of c → ByEachIn r (λ names. (c names).offers ≡ []) → IsNew p of s → (v : CodedValue) → v ≡ s.so_far → Evaluates p q r (demands_of p c) (Ok (turns.Done v))
+rootless {p = p} {r = r} {c = c} kept is none new v same = record {
+  kept = kept;
   answer = record {
     comes = λ names in_it.
-        let named = naming_of sound names in_it in
+        let named = naming_of kept.sound names in_it in
         let x = c names in
         let by = is names named in
         let value : value_by names v ≡ fresh x.method x.kind = ap (value_by names) same ∙ new.so_far names named ∙ sym (λ i. fresh (by.method i) (by.kind i)) in
-        subst (λ (os : List Offer). ComesUnder r.has (gathered (world_of p) x.method x.kind (At x.node) (fresh x.method x.kind) os) (value_by names v)) (sym (none names named))
+        subst (λ (os : List Offer). ComesUnder r.has (gathered (world_of p) x.method x.kind (At x.node) (fresh x.method x.kind) os) (value_by names v)) (sym (none names in_it))
         ([], subst (λ (y : Value). Ends r.has (Gives (fresh x.method x.kind)) y []) (sym value) gives);
     coded = subst (AreElements p) (sym same) new.coded;
   };

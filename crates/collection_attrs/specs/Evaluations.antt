@@ -31,7 +31,7 @@ KeepsValues A B = (i : Instance) (v : Value) → Graph A i v → Graph B i v
 
 -- what a reader tells that has these values and is read by one naming
 abbrev pub reading : Assignment → Naming → Told Unit
-reading A names = record { for = λ p. Unit {0}; has = Graph A; can = Graph A; keeps = λ u. Unit {0}; names = λ n. n ≡ names }
+reading A names = record { for = λ p. Unit {0}; has = Graph A; can = Graph A; keeps = λ u. Unit {0}; names = λ n. n ≡ names; height = λ c. c }
 
 -- by one naming, a survey stays what it is where these values give way to those
 abbrev pub KeepsSurveys : Program → Naming → Assignment → Assignment → Type 0

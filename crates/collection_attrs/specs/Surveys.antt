@@ -1,5 +1,6 @@
 -- Walks and surveys as the code keeps them.
-use Rattle.std.specs.Prelude.{◌≡◌, ℕ, suc, ◌+◌, ◌<◌, ◌≤◌, ◌^◌, ◌++◌, true, List, [], Option, Some, None, length, map, set, slice_get, take}
+use Rattle.std.specs.Prelude.{◌≡◌, ℕ, suc, Bool, ◌+◌, ◌<◌, ◌≤◌, ◌^◌, ◌++◌, true, List, [], Option, Some, None, length, map, set, slice_get, take}
+use Rattle.std.specs.Option.{is_some}
 use Rattle.attr_rules.specs.declared.kinds.EqId.{EqId}
 use Rattle.attr_rules.specs.declared.kinds.Kind.{Kind}
 use Rattle.attr_rules.specs.declared.kinds.Method.{Method}
@@ -72,6 +73,13 @@ AreCollectionOf p i c = ByEachNaming p (λ names. collection_of p (instance_by p
 abbrev pub SaysCollection : Program → CodedInstance → Collector → Type 0
 SaysCollection p i of = (c : Collections) × AreCollectionOf p i c × IsCollectorOf p of c
 
+-- the instance that a code stands for is no collection, and whether it is one
+abbrev pub IsNoCollection : Program → CodedInstance → Type 0
+IsNoCollection p i = ByEachNaming p (λ n. collection_of p (instance_by p n i) ≡ None)
+
+abbrev pub IsCollectionOrNot : Program → CodedInstance → Bool → Type 0
+IsCollectionOrNot p i is = ByEachNaming p (λ n. is ≡ is_some (collection_of p (instance_by p n i)))
+
 -- the condition of a contribution: a condition that isn't written is true
 abbrev pub IsCondition : Program → Option EqId → Expression → Type 0
 IsCondition p None e = e ≡ Truth true
@@ -141,13 +149,13 @@ pub record IsNew (p : Program) (of : Collector) (s : Survey) : Type 0 where
   pub so_far : ByEachNaming p (λ names. value_by names s.so_far ≡ fresh of.method of.kind)
   pub coded : AreElements p s.so_far
 
--- a walk is for the collection
-abbrev pub IsForEach : Program → Walk → Collections → Type 0
-IsForEach p w c = ByEachNaming p (λ names. IsFor p w (c names))
+-- a walk is for the collection, by each naming by which the reader may be read
+abbrev pub IsForEach : {S : Type 0} → Program → Told S → Walk → Collections → Type 0
+IsForEach p t w c = ByEachIn t (λ names. IsFor p w (c names))
 
 -- a collection goes along a walk that is for it, and so far it has gone over its offers, whatever walk it went along before
 abbrev pub GoesAlong : {S : Type 0} → Program → Told S → Collector → Walk → Survey → Type 0
-GoesAlong p t of w s = (c : Collections) × IsCollectorOf p of c × IsForEach p w c × IsSurveyed p t c s
+GoesAlong p t of w s = (c : Collections) × IsCollectorOf p of c × IsForEach p t w c × IsSurveyed p t c s
 
 -- it has gone over all that a walk has noted
 abbrev pub HasCounted : {S : Type 0} → Program → Told S → Collector → Walk → Survey → Type 0

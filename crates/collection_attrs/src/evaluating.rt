@@ -1,9 +1,8 @@
 // What collections come to, and the equation of any instance.
-ghost use Rattle.std.specs.Prelude.{◌≡◌, Some};
-ghost use Rattle.equation_law.specs.Codes.{IsCoded, instance_of};
-ghost use Rattle.equation_law.specs.Collections.{Collection};
+ghost use Rattle.std.specs.Prelude.{IsSome};
+ghost use Rattle.equation_law.specs.Codes.{IsCoded, instance_by};
 ghost use Rattle.equation_law.specs.Equations.{collection_of};
-ghost use Rattle.equation_law.specs.Reading.{IsSound};
+ghost use Rattle.equation_law.specs.Reading.{ByEachIn, IsSound};
 ghost use Rattle.equation_law.specs.Systems.{program_of};
 ghost use Rattle.collection_attrs.specs.Evaluations.{EvaluatesCollection};
 ghost use Rattle.expr_eval.specs.Sites.{EvaluatesInstance};
@@ -29,7 +28,7 @@ fn collect<R: Reader>(
     ensures { EvaluatesCollection (program_of system.now) (R.tells reader.old) (R.tells reader.new) of result }
 {
     let mut survey = Survey::new(alloc, system, of);
-    let Some(root) = root_of(system, of) else {
+    let Some(root) = root_of(system, of, reader) else {
         return Ok(Turn::Done(survey.into_value()));
     };
     let mut offers = Offers::new(alloc, of.attr, root);
@@ -44,7 +43,7 @@ pub fn survey<R: Reader>(
     i: &Instance,
     reader: &mut R,
 ) -> Result<Turn, Memory>
-    requires collection { (c : Collection) × (collection_of (program_of system.now) (instance_of (program_of system.now) i.now) ≡ Some c) }
+    requires collection { ByEachIn (R.tells reader.old) (λ n. IsSome (collection_of (program_of system.now) (instance_by (program_of system.now) n i.now))) }
     requires sound { IsSound (program_of system.now) (R.tells reader.old) }
     ensures { EvaluatesInstance (program_of system.now) (R.tells reader.old) (R.tells reader.new) i.now result }
 {

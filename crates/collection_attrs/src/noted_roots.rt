@@ -1,6 +1,7 @@
 // Roots of collections that were found already.
 ghost use Rattle.std.specs.Prelude.{◌≡◌, ◌<◌, IfNone, IfSome, length};
 ghost use Rattle.tree_arena.specs.Terms.{IsTree};
+ghost use Rattle.equation_law.specs.Checked.{HasSourcesAlone};
 ghost use Rattle.equation_law.specs.Systems.{program_of};
 ghost use Rattle.collection_attrs.specs.Roots.{IsRoot, IsRootOf, IsRootless, KeepsAtMost};
 ghost use Rattle.collection_attrs.specs.Surveys.{Collections, IsCollectorOf};
@@ -132,9 +133,10 @@ impl Roots {
         keep(&mut self.notes, Upwards::new(class, node), root);
     }
 
-    /// The same as `root_of`. A way upwards is climbed once: the root is noted for each node on it.
+    /// The same as `root_of`, of a program that makes no trees. A way upwards is climbed once: the root is noted for each node on it.
     pub fn find_root(&mut self, system: &System, of: Collector) -> Option<u32>
         requires same { self.old ≡ system.now }
+        requires bare { HasSourcesAlone (program_of system.now) }
         requires collection { (c : Collections) × IsCollectorOf (program_of system.now) of c }
         ensures same { self.new ≡ self.old }
         ensures within { IfSome result (λ r. r < length (program_of system.now).tree) }

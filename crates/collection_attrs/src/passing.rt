@@ -42,6 +42,8 @@ pub(crate) fn pass_next<'a, R: Reader>(
     ensures passage { IfOk result (λ passage. IsPassage (program_of system.now) (R.tells reader.new) offers.old offers.new passage) }
     ensures saved { AreSaved system.now (R.tells reader.new) saved.new }
 {
+    // The tree has no more nodes than there are codes of source nodes.
+    prove!(system.tree().len() > 0);
     let Some((node, number)) = offers.seek(system) else {
         return Ok(Passage::Ended);
     };

@@ -101,6 +101,8 @@ impl Survey {
         ensures stuck { IfOk result (λ found. IfSome found (IsStuckAt (program_of system.now) (R.tells reader.new) of)) }
         ensures saved { AreSaved system.now (R.tells reader.new) saved.new }
     {
+        // The tree has no more nodes than there are codes of source nodes.
+        prove!(system.tree().len() > 0);
         let rules = system.rules();
         'kept: while let Some(place) = offers.next_for(of.node, self.taken) {
             let entry = offers.entry(place);
@@ -108,6 +110,7 @@ impl Survey {
             match evaluate_part(alloc, system, value, entry.node, reader, saved)? {
                 Turn::Done(value) => self.count(alloc, system, of, place, value)?,
                 Turn::Need(instance) => return Ok(Some(instance)),
+                Turn::Image(_) => unreachable!(),
             }
         }
         Ok(None)

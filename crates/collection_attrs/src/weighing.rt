@@ -4,6 +4,7 @@ ghost use Rattle.attr_rules.specs.Rules.{bodies};
 ghost use Rattle.equation_law.specs.Reading.{Grows, IsSound};
 ghost use Rattle.equation_law.specs.Systems.{program_of};
 ghost use Rattle.expr_eval.specs.Saved.{AreSaved};
+ghost use Rattle.expr_eval.specs.Sites.{IsNoImage};
 ghost use Rattle.collection_attrs.specs.Evaluations.{EvaluatesCondition, EvaluatesPart};
 ghost use Rattle.collection_attrs.specs.Surveys.{IsWeighedAt};
 
@@ -38,6 +39,7 @@ pub(crate) fn evaluate_part<'a, R: Reader>(
     requires sound { IsSound (program_of system.now) (R.tells reader.old) }
     requires saved { AreSaved system.now (R.tells reader.old) saved.old }
     ensures evaluates { EvaluatesPart (program_of system.now) (R.tells reader.old) (R.tells reader.new) expression node result }
+    ensures plain { IsNoImage result }
     ensures saved { AreSaved system.now (R.tells reader.new) saved.new }
 {
     let at = NodeRef::of_source(Some(node));
@@ -62,6 +64,7 @@ fn condition<'a, R: Reader>(
     requires sound { IsSound (program_of system.now) (R.tells reader.old) }
     requires saved { AreSaved system.now (R.tells reader.old) saved.old }
     ensures evaluates { EvaluatesCondition (program_of system.now) (R.tells reader.old) (R.tells reader.new) guard node result }
+    ensures plain { IsNoImage result }
     ensures saved { AreSaved system.now (R.tells reader.new) saved.new }
 {
     match guard {
@@ -97,7 +100,9 @@ pub(crate) fn weigh<'a, R: Reader>(
             match evaluate_part(alloc, system, contribution.receiver, node, reader, saved)? {
                 Turn::Need(instance) => Ok(Weighed::Stuck(instance)),
                 Turn::Done(value) => Ok(Weighed::Met(value.node())),
+                Turn::Image(_) => unreachable!(),
             }
         }
+        Turn::Image(_) => unreachable!(),
     }
 }

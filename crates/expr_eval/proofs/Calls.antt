@@ -15,16 +15,17 @@ use Rattle.equation_law.specs.Names.{At, Attribute, Instance}
 use Rattle.equation_law.specs.Program.{Program}
 use Rattle.equation_law.specs.Reading.{ByEachIn, Grows, HasNone, HasThere, IsSound, Settles, Told}
 use Rattle.equation_law.specs.Values.{Value, as_kind, default_of}
+use Rattle.equation_law.proofs.Grown.{grows_itself}
 use Rattle.expr_eval.specs.declared.evaluation.Halt.{Halt}
 use Rattle.expr_eval.specs.declared.evaluation.Halt.TheVariants.{Need}
 use Rattle.expr_eval.specs.Evaluating.{Answers, AreValues, CallReads, Comes, DemandReads, TokenReads, Wants, demand_of}
-use Rattle.expr_eval.proofs.Forms.{answers_as, gives_value, grows_self}
+use Rattle.expr_eval.proofs.Forms.{answers_as, gives_value}
 
 module _ {S : Type 0} (p : Program) (r : Told S) (attr : AttrId) (xs : Args) where
   -- on null it is the default of the type
   pub call_null : (m : ℕ) (x : CodedValue) (k : Kind) → IsSound p r → m ≡ 0 → k ≡ attribute_kind p attr.0 → ByEachIn r (λ n. value_by n x ≡ default_of k) → AreElements p x → CallReads p r r attr.0 m xs (Ok x)
   call_null m x k sound null kind e good = record {
-    kept = grows_self sound;
+    kept = grows_itself sound;
     is = λ vs are. subst (λ (o : ℕ). Answers p r (λ n. call_at (world_of p) attr.0 (reference_by n.node o) (vs n)) (Ok x)) (sym null) (gives_value (λ n at. e n at ∙ ap default_of kind) good);
   }
 
@@ -42,7 +43,7 @@ module _ {S : Type 0} (p : Program) (r : Told S) (attr : AttrId) (xs : Args) whe
 -- a token that demands nothing
 pub token_given : {S : Type 0} {p : Program} {r : Told S} {t : Kind} {k m : ℕ} {x : CodedValue} → IsSound p r → ((n : Naming) → r.names n → Gives (value_by n x) ≡ token_at (world_of p) t k (reference_by n.node m)) → AreElements p x → TokenReads p r r t k m (Ok x)
 token_given {p = p} {r = r} {t = t} {k = k} {m = m} {x = x} sound is good = record {
-  kept = grows_self sound;
+  kept = grows_itself sound;
   is = answers_as p r (λ n. Gives (value_by n x)) (λ n. token_at (world_of p) t k (reference_by n.node m)) (Ok x) is (gives_value (λ n at. refl) good);
 }
 

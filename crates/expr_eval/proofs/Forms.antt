@@ -1,5 +1,5 @@
 -- The answers to an expression from those to its parts, form by form.
-use Rattle.std.proofs.Common.{◌≡◌, ℕ, List, Option, None, Some, [], ◌∷◌, ◌++◌, Bool, true, false, cond, Result, Ok, Err, IfOk, refl, sym, ap, subst, ◌∙◌}
+use Rattle.std.proofs.Common.{◌≡◌, ◌≤◌, ℕ, arith, List, Option, None, Some, [], ◌∷◌, ◌++◌, Bool, true, false, cond, Result, Ok, Err, IfOk, refl, sym, ap, subst, ◌∙◌}
 use Rattle.std.specs.Result.{IsErr, IsErrAnd}
 use Rattle.std.proofs.lemmas.Result.{err_from_is_err_and}
 use Rattle.rag_io.specs.declared.Place.{Place as TextPlace}
@@ -12,7 +12,7 @@ use Rattle.solutions.proofs.Runs.{ends_more}
 use Rattle.equation_law.specs.declared.coding.Args.{Args}
 use Rattle.equation_law.specs.declared.coding.Value.{Value as CodedValue}
 use Rattle.equation_law.specs.declared.coding.Value.TheVariants as coded
-use Rattle.equation_law.specs.Codes.{AreElements, ByEachNaming, IsInOrder, IsNamingOf, Naming, instance_by, reference_by, value_by}
+use Rattle.equation_law.specs.Codes.{AreElements, ByEachNaming, IsNamingOf, Naming, instance_by, reference_by, value_by}
 use Rattle.equation_law.specs.Equations.{world_of}
 use Rattle.equation_law.specs.Meaning.{Place, World, call_at, token_at, with_arguments}
 use Rattle.equation_law.specs.Names.{Instance, Reference}
@@ -22,29 +22,24 @@ use Rattle.equation_law.specs.Values.{Value, Truth, node, truth}
 use Rattle.expr_eval.specs.declared.evaluation.Halt.{Halt}
 use Rattle.expr_eval.specs.declared.evaluation.Halt.TheVariants.{Need, Memory}
 use Rattle.expr_eval.specs.Evaluating.{Answers, Asks, CallReads, Collects, Comes, Given, Places, TokenReads, Wants, end, more, read_at, reads_at}
-use Rattle.expr_eval.specs.Parts.{IsMade, IsRounded, IsSaid, OneMakes, TwoMake, is_leaf, leaf_value, made_of_one, made_of_two, part_of, parts_of, token_read}
+use Rattle.expr_eval.specs.Made.{NodeReads}
+use Rattle.expr_eval.specs.Parts.{IsMade, IsRounded, IsSaid, OneMakes, TwoMake, is_leaf, is_node_form, leaf_value, made_of_node, made_of_one, made_of_two, node_part, part_of, parts_of, token_read}
 use Rattle.expr_eval.specs.Reads.{Advances, ArgumentsRead, IsReady, Reads, State, state}
 use Rattle.expr_eval.proofs.Growing.{comes_more, saved_more}
 
 -- what it has it keeps
-pub grows_self : {S : Type 0} {p : Program} {r : Told S} → IsSound p r → Grows p r r
-grows_self h = record { sound = h; values = λ i v a. a; bound = λ i v a. a; kept = λ x a. a; names = λ n a. a }
-
-pub grows_then : {S : Type 0} {p : Program} {r m s : Told S} → Grows p r m → Grows p m s → Grows p r s
-grows_then g h = record { sound = h.sound; values = λ i v a. h.values i v (g.values i v a); bound = λ i v a. g.bound i v (h.bound i v a); kept = λ x a. h.kept x (g.kept x a); names = λ n a. g.names n (h.names n a) }
-
 pub advances_self : {S : Type 0} {p : Program} {r : State S} → IsReady p r → Advances p r r
-advances_self h = record { sound = h; values = λ i v a. a; bound = λ i v a. a; kept = λ x a. a; names = λ n a. a }
+advances_self h = record { sound = h; values = λ i v a. a; bound = λ i v a. a; kept = λ x a. a; names = λ n a. a; heights = λ c. omega arith }
 
 pub advances_then : {S : Type 0} {p : Program} {r m s : State S} → Advances p r m → Advances p m s → Advances p r s
-advances_then g h = record { sound = h.sound; values = λ i v a. h.values i v (g.values i v a); bound = λ i v a. g.bound i v (h.bound i v a); kept = λ x a. h.kept x (g.kept x a); names = λ n a. g.names n (h.names n a) }
+advances_then g h = record { sound = h.sound; values = λ i v a. h.values i v (g.values i v a); bound = λ i v a. g.bound i v (h.bound i v a); kept = λ x a. h.kept x (g.kept x a); names = λ n a. g.names n (h.names n a); heights = λ c. omega (arith, g.heights c, h.heights c) }
 
 -- the reader alone goes on
 pub advances_read : {S : Type 0} {p : Program} {r : State S} {s : Told S} → IsReady p r → Grows p r.told s → Advances p r (state r.system s r.saved)
-advances_read {r = r} h g = record { sound = record { sound = g.sound; saved = saved_more g.values g.names r.saved h.saved }; values = g.values; bound = g.bound; kept = g.kept; names = g.names }
+advances_read {r = r} h g = record { sound = record { sound = g.sound; saved = saved_more g.values g.names r.saved h.saved }; values = g.values; bound = g.bound; kept = g.kept; names = g.names; heights = g.heights }
 
 -- by what it may be read is a naming for the program
-pub naming_in : {S : Type 0} {p : Program} {r s : State S} → Advances p r s → (n : Naming) → s.told.names n → IsNamingOf p n × IsInOrder n
+pub naming_in : {S : Type 0} {p : Program} {r s : State S} → Advances p r s → (n : Naming) → s.told.names n → IsNamingOf p n
 naming_in h n named = h.sound.sound.named n named
 
 -- demands put one after the other
@@ -168,16 +163,34 @@ of_part : (p : Program) (place : Place) (e : TExpr) {b a : TExpr} → Some b ≡
 of_part p place e {b} {a} h made = let same : b ≡ a = cc in subst (MadeOfOne p place e) same made
 
 one_part : (p : Program) (place : Place) (e a : TExpr) → part_of e ≡ Some a → MadeOfOne p place e a
-one_part p place (kept.Child' k o e) a h = of_part p place (kept.Child' k o e) h refl
 one_part p place (kept.Count' k o e) a h = of_part p place (kept.Count' k o e) h refl
-one_part p place (kept.Has' k o e) a h = of_part p place (kept.Has' k o e) h refl
-one_part p place (kept.Cast' c o e) a h = of_part p place (kept.Cast' c o e) h refl
-one_part p place (kept.InstanceOf' c o e) a h = of_part p place (kept.InstanceOf' c o e) h refl
 one_part p place (kept.Single' o e) a h = of_part p place (kept.Single' o e) h refl
 one_part p place (kept.Size' o e) a h = of_part p place (kept.Size' o e) h refl
 one_part p place (kept.Not' o e) a h = of_part p place (kept.Not' o e) h refl
 one_part p place (kept.Negate' o e) a h = of_part p place (kept.Negate' o e) h refl
 one_part p place _ a h = cc
+
+-- a form demands what its part does, and makes its value of the node that the part gives
+abbrev MadeOfNode : Program → Place → TExpr → TExpr → Type 0
+MadeOfNode p place e a = read_at p place (expression_of e) ≡ next (read_at p place (expression_of a)) (λ v. Gives (made_of_node (world_of p) (expression_of e) (node v)))
+
+of_node_part : (p : Program) (place : Place) (e : TExpr) {b a : TExpr} → Some b ≡ Some a → MadeOfNode p place e b → MadeOfNode p place e a
+of_node_part p place e {b} {a} h made = let same : b ≡ a = cc in subst (MadeOfNode p place e) same made
+
+node_parts : (p : Program) (place : Place) (e a : TExpr) → node_part e ≡ Some a → MadeOfNode p place e a
+node_parts p place (kept.Child' k o e) a h = of_node_part p place (kept.Child' k o e) h refl
+node_parts p place (kept.Has' k o e) a h = of_node_part p place (kept.Has' k o e) h refl
+node_parts p place (kept.Cast' c o e) a h = of_node_part p place (kept.Cast' c o e) h refl
+node_parts p place (kept.InstanceOf' c o e) a h = of_node_part p place (kept.InstanceOf' c o e) h refl
+node_parts p place _ a h = cc
+
+-- a form that is kept with such a part is one that makes its value of a node
+pub node_form : (e a : TExpr) → node_part e ≡ Some a → is_node_form (expression_of e) ≡ true
+node_form (kept.Child' k o e) a h = refl
+node_form (kept.Has' k o e) a h = refl
+node_form (kept.Cast' c o e) a h = refl
+node_form (kept.InstanceOf' c o e) a h = refl
+node_form _ a h = cc
 
 -- a form that reads a token demands what its part does, and then what the token of the node demands
 abbrev ReadsToken : Program → Place → TExpr → Kind × ℕ × TExpr → Type 0
@@ -256,7 +269,7 @@ module _ {p : Program} {place : Places} where
 
   -- a form without parts
   pub leaf_reads : {S : Type 0} {r : State S} {e : Expression} {res : Result CodedValue Halt} → IsReady p r → is_leaf e ≡ true → IsMade p (λ n. leaf_value (world_of p) (place n) e) res → Reads p r r place e res
-  leaf_reads {r = r} {e = e} {res = Ok x} h is made = record { kept = advances_self h; is = subst (λ c. Given p r.told c x) (λ i n. sym (leaf_gives p (place n) e is) i) (gives_value (λ n at. made.0 n (h.sound.named n at).0) made.1) }
+  leaf_reads {r = r} {e = e} {res = Ok x} h is made = record { kept = advances_self h; is = subst (λ c. Given p r.told c x) (λ i n. sym (leaf_gives p (place n) e is) i) (gives_value (λ n at. made.0 n (h.sound.named n at)) made.1) }
   leaf_reads {r = r} {e = e} {res = Err k} h is none = subst (λ j. Reads p r r place e (Err j)) (sym none) (record { kept = advances_self h; is = tt })
 
   -- a whole that begins with the part
@@ -273,7 +286,7 @@ module _ {p : Program} {place : Places} where
   ends : {S : Type 0} {r s : State S} (whole part : Expression) (v x : CodedValue) (k : Naming → Value → Demands Instance Value) → Begins p place whole part k → Reads p r s place part (Ok v) → (w : Naming → Value) → ((n : Naming) → k n (value_by n v) ≡ Gives (w n))
       → ByEachNaming p (λ n. value_by n x ≡ w n) → AreElements p x → Reads p r s place whole (Ok x)
   ends {s = s} whole part v x k b a w is e good =
-      goes whole part v (Ok x) k b a (advances_self a.kept.sound) (subst (λ c. Given p s.told c x) (λ i n. sym (is n) i) (gives_value (λ n at. e n (naming_in a.kept n at).0) good))
+      goes whole part v (Ok x) k b a (advances_self a.kept.sound) (subst (λ c. Given p s.told c x) (λ i n. sym (is n) i) (gives_value (λ n at. e n (naming_in a.kept n at)) good))
 
   -- what follows a first part begins with a second one
   second_stops : {S : Type 0} {m s : State S} (part : Expression) (h : Halt) (k : Naming → Value → Demands Instance Value) → Reads p m s place part (Err h) → Answers p s.told (then_asks (reads_at p place part) k) (Err h)
@@ -281,7 +294,7 @@ module _ {p : Program} {place : Places} where
 
   second_goes : {S : Type 0} {m s : State S} (part : Expression) (v x : CodedValue) (k : Naming → Value → Demands Instance Value) → Reads p m s place part (Ok v) → (w : Naming → Value) → ((n : Naming) → k n (value_by n v) ≡ Gives (w n)) → ByEachNaming p (λ n. value_by n x ≡ w n)
       → AreElements p x → Answers p s.told (then_asks (reads_at p place part) k) (Ok x)
-  second_goes {s = s} part v x k a w is e good = part_ok p s.told (reads_at p place part) k v (Ok x) a.is (subst (λ c. Given p s.told c x) (λ i n. sym (is n) i) (gives_value (λ n at. e n (naming_in a.kept n at).0) good))
+  second_goes {s = s} part v x k a w is e good = part_ok p s.told (reads_at p place part) k v (Ok x) a.is (subst (λ c. Given p s.told c x) (λ i n. sym (is n) i) (gives_value (λ n at. e n (naming_in a.kept n at)) good))
 
   -- a call
   pub call_stops : {S : Type 0} {r s : State S} {a : Expression} {es : Arguments} {h : Halt} {t : ℕ} {here : TextPlace} → Reads p r s place a (Err h) → Reads p r s place (Call t here a es) (Err h)
@@ -331,6 +344,16 @@ module _ {p : Program} {place : Places} where
       → Reads p r (state m.system u m.saved) place (expression_of e) res
   token_goes {u = u} e {t = t} {k = k} {a = a} {v = v} {res = res} is there x named c =
       goes (expression_of e) (expression_of a) v res (λ n w. token_at (world_of p) t k (node w)) (λ n. token_part p (place n) e t k a is) (came_as there x) (advances_read x.kept.sound c.kept) (subst (λ (m : Naming → Reference). Answers p u (λ n. token_at (world_of p) t k (m n)) res) (λ i n. named n i) c.is)
+
+  -- a form that makes its value of a node
+  pub node_stops : {S : Type 0} {r s : State S} (e : TExpr) {a : TExpr} {h : Halt} {came : Result CodedValue Halt} → node_part e ≡ Some a → came ≡ Err h → Reads p r s place (expression_of a) came → Reads p r s place (expression_of e) came
+  node_stops e {a = a} {h = h} is stopped x = came_as (sym stopped) (stops (expression_of e) (expression_of a) h (λ n v. Gives (made_of_node (world_of p) (expression_of e) (node v))) (λ n. node_parts p (place n) e a is) (came_as stopped x))
+
+  pub node_goes : {S : Type 0} {r m : State S} {u : Told S} (e : TExpr) {o : ℕ} {a : TExpr} {v : CodedValue} {came res : Result CodedValue Halt} → node_part e ≡ Some a → came ≡ Ok v → Reads p r m place (expression_of a) came → ReadsNode o v → NodeReads p m.told u (expression_of e) o res
+      → Reads p r (state m.system u m.saved) place (expression_of e) res
+  node_goes {u = u} e {a = a} {v = v} {res = res} is there x named c =
+      goes (expression_of e) (expression_of a) v res (λ n w. Gives (made_of_node (world_of p) (expression_of e) (node w))) (λ n. node_parts p (place n) e a is) (came_as there x) (advances_read x.kept.sound c.kept)
+      (subst (λ (m : Naming → Reference). Answers p u (λ n. Gives (made_of_node (world_of p) (expression_of e) (m n))) res) (λ i n. named n i) c.is)
 
   -- a form of two parts
   pub two_stop : {S : Type 0} {r s : State S} (e : TExpr) {a b : TExpr} {h : Halt} {first : Result CodedValue Halt} → parts_of e ≡ Some (a, b) → first ≡ Err h → Reads p r s place (expression_of a) first → Reads p r s place (expression_of e) first

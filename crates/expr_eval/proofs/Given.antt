@@ -156,7 +156,7 @@ module _ {S : Type 0} {p : Program} {place : Places} where
           collects = λ n at. more (ends_more b.kept.values (a.is.comes n (b.kept.names n at)).1) (b.is.collects n at);
           row = row;
           codes = subst (AreCodes p (k ∷ ls)) (sym codes) (code, b.is.codes);
-          are = λ n at. (let named = naming_in b.kept n at in ap (arguments_by n (k ∷ ls)) codes ∙ (λ i. value n named.0 i ∷ b.is.are n at i));
+          are = λ n at. (let named = naming_in b.kept n at in ap (arguments_by n (k ∷ ls)) codes ∙ (λ i. value n named i ∷ b.is.are n at i));
         };
       })
 

@@ -6,10 +6,12 @@ pub mod Found
 pub mod Given
 pub mod Going
 pub mod Growing
+pub mod Hanging
 pub mod Kept
 pub mod Lighter
+pub mod MadeNodes
 pub mod Names
+pub mod NewTokens
 pub mod Over
 pub mod Plain
 pub mod Resuming
-pub mod Trees

@@ -7,7 +7,7 @@ use Rattle.attr_rules.specs.declared.expression.TExpr.{TExpr}
 use Rattle.attr_rules.specs.declared.expression.TExpr.TheVariants as kept
 use Rattle.attr_rules.specs.Expression.{expression_of}
 use Rattle.expr_eval.specs.Evaluating.{is_over_form}
-use Rattle.expr_eval.specs.Parts.{part_of, parts_of, range_and_body, token_read}
+use Rattle.expr_eval.specs.Parts.{node_part, part_of, parts_of, range_and_body, token_read}
 use Rattle.expr_eval.specs.Saved.{body_of, range_of}
 
 -- how many forms an expression has
@@ -58,23 +58,27 @@ lighter {x} {a} n h light = let same : x ≡ a = cc in subst (λ y. weight y < n
 
 -- the part of a form
 pub one_lighter : (e a : TExpr) → part_of e ≡ Some a → weight a < weight e
-one_lighter (kept.Child' k o e) a h = lighter (weight e + 1) h (omega arith)
 one_lighter (kept.Count' k o e) a h = lighter (weight e + 1) h (omega arith)
-one_lighter (kept.Has' k o e) a h = lighter (weight e + 1) h (omega arith)
-one_lighter (kept.Cast' c o e) a h = lighter (weight e + 1) h (omega arith)
-one_lighter (kept.InstanceOf' c o e) a h = lighter (weight e + 1) h (omega arith)
 one_lighter (kept.Single' o e) a h = lighter (weight e + 1) h (omega arith)
 one_lighter (kept.Size' o e) a h = lighter (weight e + 1) h (omega arith)
 one_lighter (kept.Not' o e) a h = lighter (weight e + 1) h (omega arith)
 one_lighter (kept.Negate' o e) a h = lighter (weight e + 1) h (omega arith)
 one_lighter _ a h = absurd (no_some h)
 
-node_lighter : {x y : Kind × ℕ × TExpr} (n : ℕ) → Some x ≡ Some y → weight x.2 < n → weight y.2 < n
-node_lighter {x} {y} n h light = let same : x ≡ y = cc in subst (λ z. weight z.2 < n) same light
+-- the part that gives a node
+pub node_lighter : (e a : TExpr) → node_part e ≡ Some a → weight a < weight e
+node_lighter (kept.Child' k o e) a h = lighter (weight e + 1) h (omega arith)
+node_lighter (kept.Has' k o e) a h = lighter (weight e + 1) h (omega arith)
+node_lighter (kept.Cast' c o e) a h = lighter (weight e + 1) h (omega arith)
+node_lighter (kept.InstanceOf' c o e) a h = lighter (weight e + 1) h (omega arith)
+node_lighter _ a h = absurd (no_some h)
+
+reader_lighter : {x y : Kind × ℕ × TExpr} (n : ℕ) → Some x ≡ Some y → weight x.2 < n → weight y.2 < n
+reader_lighter {x} {y} n h light = let same : x ≡ y = cc in subst (λ z. weight z.2 < n) same light
 
 -- the part that gives the node of a token
 pub token_lighter : (e : TExpr) (t : Kind) (k : ℕ) (a : TExpr) → token_read e ≡ Some (t, k, a) → weight a < weight e
-token_lighter (kept.Token' u m o e) t k a h = node_lighter (weight e + 1) h (omega arith)
+token_lighter (kept.Token' u m o e) t k a h = reader_lighter (weight e + 1) h (omega arith)
 token_lighter _ t k a h = absurd (no_some h)
 
 both_lighter : {x y : TExpr × TExpr} (n : ℕ) → Some x ≡ Some y → (weight x.0 < n) × (weight x.1 < n) → (weight y.0 < n) × (weight y.1 < n)

@@ -10,7 +10,7 @@ use Rattle.equation_law.specs.declared.system.System.{System}
 use Rattle.equation_law.specs.Codes.{AreElements, Naming, single_by, value_by}
 use Rattle.equation_law.specs.Meaning.{named, operate}
 use Rattle.equation_law.specs.Program.{Program}
-use Rattle.equation_law.specs.Values.{Int, Node, Nodes, Text, Texts, Truth, Value}
+use Rattle.equation_law.specs.Values.{Int, Node, Nodes, Text, Texts, Tree, Truth, Value}
 use Rattle.expr_eval.specs.declared.accessors.Origin.{Origin}
 use Rattle.expr_eval.specs.declared.accessors.Origin.TheVariants as origins
 use Rattle.expr_eval.specs.Elements.{element_from}
@@ -22,6 +22,7 @@ is_plain (Text t) = true
 is_plain (Node n) = true
 is_plain (Texts s) = false
 is_plain (Nodes s) = false
+is_plain (Tree r ts) = false
 
 pub plain_coded : (p : Program) (n : Naming) (v : CodedValue) (w : Value) → value_by n v ≡ w → is_plain w ≡ true → AreElements p v
 plain_coded p n (coded.Truth b) w e h = tt

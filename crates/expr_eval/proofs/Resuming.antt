@@ -16,7 +16,7 @@ use Rattle.equation_law.specs.Equations.{world_of}
 use Rattle.equation_law.specs.Meaning.{Place}
 use Rattle.equation_law.specs.Names.{Instance}
 use Rattle.equation_law.specs.Program.{Program}
-use Rattle.equation_law.specs.Reading.{ByEachIn, IsSound, Told}
+use Rattle.equation_law.specs.Reading.{ByEachIn, Grows, IsSound, Told}
 use Rattle.equation_law.specs.Systems.{program_of}
 use Rattle.equation_law.specs.Values.{Value}
 use Rattle.expr_eval.specs.declared.accessors.Elements.{Elements}
@@ -31,8 +31,8 @@ use Rattle.expr_eval.specs.Elements.{Rooms, element_in, elements_in, read_with}
 use Rattle.expr_eval.specs.Evaluating.{Answers, Comes, Given, Places, Stopped, Wants, is_over_form, place_in, places_kept, read_at, reads_at}
 use Rattle.expr_eval.specs.Reads.{Advances, GoesOver, IsStood, Reads, ReadsStand, State, places_with, reads_with, state}
 use Rattle.expr_eval.specs.Saved.{AddsOne, AreRanged, AreSaved, HasGone, IsFirst, IsGoing, IsRanged, IsTaken, Loses, RangesBy, Stands, TakesIn, begun, body_of, done, made, making_of, over, range_of, ranged}
-use Rattle.expr_eval.proofs.Forms.{advances_then, answers_as, comes_next, naming_in, part_err, wants_next}
-use Rattle.expr_eval.proofs.Growing.{stands_more}
+use Rattle.expr_eval.proofs.Forms.{advances_read, advances_then, answers_as, comes_next, naming_in, part_err, wants_next}
+use Rattle.expr_eval.proofs.Growing.{comes_more, stands_more}
 use Rattle.expr_eval.proofs.Over.{done_within, gone_begun, gone_ends, gone_further, gone_halts}
 
 -- the fault that is handed on
@@ -125,16 +125,20 @@ range_stops s {r = r} {t = t} place names e {h = h} form a = record {
 }
 
 -- its elements are known, and it stands before the first of them
-pub stood_first : {S : Type 0} (c : Context) (e : Expression) {r t : State S} {v : CodedValue} {stood : Elements × Stand} → Reads (program_of c.system.now) r t (place_in c) (range_of e) (Ok v) → AreRanged c.system.now e v stood.0
-    → IsFirst c e stood.1 → ReadsStand c.system.now r t (place_in c) c.names.now (making_of e) e (body_of e) (Ok stood)
-stood_first c e {v = v} {stood = stood} a are first = record {
-  kept = a.kept;
+pub stood_first : {S : Type 0} (c : Context) (e : Expression) {r t : State S} {u : Told S} {v : CodedValue} {stood : Elements × Stand} → Reads (program_of c.system.now) r t (place_in c) (range_of e) (Ok v) → Grows (program_of c.system.now) t.told u → AreRanged c.system.now u e v stood.0
+    → IsFirst c e stood.1 → ReadsStand c.system.now r (state t.system u t.saved) (place_in c) c.names.now (making_of e) e (body_of e) (Ok stood)
+stood_first c e {v = v} {stood = stood} a grows are first = record {
+  kept = advances_then a.kept (advances_read a.kept.sound grows);
   is = record {
     room = first.room;
-    ranged = λ n at. let named = naming_in a.kept n at in record { value = value_by n v; comes = a.is.comes n at; are = are n named.0 named.1 };
-    stands = stands_begun stood.1 first.next (λ n at. first.so_far n (naming_in a.kept n at).0) first.coded;
+    ranged = λ n at. record { value = value_by n v; comes = comes_more grows.values (a.is.comes n (grows.names n at)); are = are n at };
+    stands = stands_begun stood.1 first.next (λ n at. first.so_far n (grows.sound.named n at)) first.coded;
   };
 }
+
+-- what is read with names of which an element is the first is read at the element
+pub read_at_element : {S : Type 0} {r s : State S} (c : Context) (x : CodedSingle) {xs : List CodedSingle} {e : Expression} {came : Result CodedValue Halt} → xs ≡ x ∷ c.names.now → Reads (program_of c.system.now) r s (places_kept c.this.0 xs) e came → Reads (program_of c.system.now) r s (places_with c x) e came
+read_at_element {r = r} {s = s} c x {xs} {e} {came} same h = subst (λ ys. Reads (program_of c.system.now) r s (places_kept c.this.0 ys) e came) same h
 
 -- the same names stand behind the first
 one_room : {names more all : List CodedSingle} → Rooms names all → Rooms more all → names ≡ more
@@ -165,11 +169,11 @@ taken {t = t} c e x {found = found} all h =
 module _ {S : Type 0} {p : Program} {q : State S} {s : System} {r : Told S} {x : Saved} where
   -- less is saved
   pub loses : (y : Saved) → Advances p q (state s r x) → Loses x y → Advances p q (state s r y)
-  loses y h less = record { sound = record { sound = h.sound.sound; saved = λ g kept. h.sound.saved g (less g kept) }; values = h.values; bound = h.bound; kept = h.kept; names = h.names }
+  loses y h less = record { sound = record { sound = h.sound.sound; saved = λ g kept. h.sound.saved g (less g kept) }; values = h.values; bound = h.bound; kept = h.kept; names = h.names; heights = h.heights }
 
   -- one more is saved
   pub puts : (y : Saved) (one : Going) → Advances p q (state s r x) → AddsOne x y one → IsGoing s r one → Advances p q (state s r y)
-  puts y one h more is = record { sound = record { sound = h.sound.sound; saved = λ g kept. of g (more g kept) }; values = h.values; bound = h.bound; kept = h.kept; names = h.names }
+  puts y one h more is = record { sound = record { sound = h.sound.sound; saved = λ g kept. of g (more g kept) }; values = h.values; bound = h.bound; kept = h.kept; names = h.names; heights = h.heights }
     where
       of : (g : Going) → Contains x.goings.items g ⊎ (g ≡ one) → IsGoing s r g
       of g (inl there) = h.sound.saved g there
@@ -188,7 +192,7 @@ module _ {S : Type 0} {r m t : State S} {making : Making} {b : Expression} {list
       let s = c.system.now in
       let p = program_of s in
       let more : Stands s t.told (place_in c) making b list now = stands_more a.kept.values a.kept.names stands in
-      let same : ByEachIn t.told (λ n. single_by n x ≡ element_in n s list then.next) = λ n at. is n (naming_in a.kept n at).0 ∙ ap (element_in n s list) (sym next) in
+      let same : ByEachIn t.told (λ n. single_by n x ≡ element_in n s list then.next) = λ n at. is n (naming_in a.kept n at) ∙ ap (element_in n s list) (sym next) in
       record {
         kept = advances_then before a.kept;
         is = (
@@ -218,10 +222,10 @@ pub taken_in : {S : Type 0} {t : Told S} {m : Making} {b : Expression} {list : E
 taken_in {t = t} {m = m} {b = b} {list = list} {now = now} c then x said sound is h within given next value coded =
     let s = c.system.now in
     let p = program_of s in
-    let here : ByEachIn t (λ n. single_by n x ≡ element_in n s list now.next) = λ n at. is n (sound.named n at).0 in
+    let here : ByEachIn t (λ n. single_by n x ≡ element_in n s list now.next) = λ n at. is n (sound.named n at) in
     let ends : ByEachIn t (λ n. Comes t.has (read_with p (place_in c n) b (element_in n s list now.next)) (value_by n said)) = λ n at. subst (λ y. Comes t.has (read_with p (place_in c n) b y) (value_by n said)) (here n at) (given.comes n at) in
     let few = subst (λ k. k ≤ list.count) (sym (next any_names)) (done_within list.count m now.next (value_by any_names said) within) in
-    stands_further then (λ n. value_by n said) h within ends few next (λ n at. value n (sound.named n at).0 ∙ ap (λ y. made m y (value_by n now.so_far) (value_by n said)) (here n at)) coded
+    stands_further then (λ n. value_by n said) h within ends few next (λ n at. value n (sound.named n at) ∙ ap (λ y. made m y (value_by n now.so_far) (value_by n said)) (here n at)) coded
   where
     any_names : Naming
     any_names = source_names (λ k. [])

@@ -1,5 +1,5 @@
 -- The elements of a list or a set that is gone over.
-use Rattle.std.specs.Prelude.{◌≡◌, ℕ, pos, Bool, true, false, ◌&&◌, ◌||◌, List, ◌∷◌, map}
+use Rattle.std.specs.Prelude.{◌≡◌, ℕ, pos, Bool, true, false, ◌&&◌, ◌||◌, List, ◌∷◌, ◌++◌, map}
 use Rattle.std.specs.List.{range_with_len}
 use Rattle.attr_rules.specs.declared.kinds.Kind.{Kind}
 use Rattle.attr_rules.specs.declared.kinds.Kind.TheVariants as kinds
@@ -33,6 +33,10 @@ elements_from n s e i m = map (element_in n s e) (range_with_len i m)
 
 abbrev pub elements_in : Naming → System → Elements → List Value
 elements_in n s e = elements_from n s e 0 e.count
+
+-- by each naming the values of some more stand behind those that there were
+abbrev pub AddsValues : List CodedSingle → List CodedSingle → (Naming → List Value) → Type 0
+AddsValues before after more = (n : Naming) → map (single_by n) after ≡ map (single_by n) before ++ more n
 
 -- these are the elements of the list of a node, by its code, at a component
 abbrev pub AreListed : System → ℕ → ℕ → Elements → Type 0

@@ -1,22 +1,27 @@
 -- What an evaluation over a reader says.
-use Rattle.std.specs.Prelude.{◌≡◌, ℕ, Bool, true, false, List, [], ◌∷◌, Result, Ok, Err, map}
+use Rattle.std.specs.Prelude.{◌≡◌, ℕ, Bool, true, false, List, [], ◌∷◌, ◌++◌, Some, Result, Ok, Err, length, map}
+use Rattle.std.specs.Option.{option_and_then}
+use Rattle.ast_grammar.specs.declared.grammar.ClassId.{ClassId}
 use Rattle.rag_io.specs.declared.Memory.{Memory as NoMemory}
 use Rattle.attr_rules.specs.declared.kinds.Kind.{Kind}
-use Rattle.attr_rules.specs.Expression.{Arguments, Expression, argument, no_more, Quantified, QuantifiedSet, Each, EachOfSet}
+use Rattle.attr_rules.specs.Expression.{Arguments, Expression, NewArguments, argument, new_child, new_end, new_token, no_more, Quantified, QuantifiedSet, Each, EachOfSet}
+use Rattle.attr_rules.specs.Rules.{body_at}
 use Rattle.solutions.specs.Asking.{Demands, Ends, Halts}
 use Rattle.equation_law.specs.declared.coding.Args.{Args}
 use Rattle.equation_law.specs.declared.coding.Instance.{Instance as CodedInstance}
 use Rattle.equation_law.specs.declared.coding.Single.{Single as CodedSingle}
+use Rattle.equation_law.specs.declared.coding.TreeImage.{TreeImage}
 use Rattle.equation_law.specs.declared.coding.Value.{Value as CodedValue}
 use Rattle.equation_law.specs.declared.system.System.{System}
 use Rattle.equation_law.specs.Codes.{AreCodes, AreElements, IsCoded, IsRow, Naming, arguments_by, arguments_for, codes_in, instance_by, reference_by, single_by, value_by}
+use Rattle.equation_law.specs.Created.{Making, making_in, token_kinds}
 use Rattle.equation_law.specs.Equations.{kind_in, world_of}
-use Rattle.equation_law.specs.Meaning.{Place, World, call_at, demand, meaning_of, token_at, with_arguments}
-use Rattle.equation_law.specs.Names.{Instance}
+use Rattle.equation_law.specs.Meaning.{Place, World, call_at, demand, meaning_of, token_at, with_arguments, with_tokens}
+use Rattle.equation_law.specs.Names.{Argument, Instance, Reference}
 use Rattle.equation_law.specs.Program.{Program, attribute_parameters}
 use Rattle.equation_law.specs.Reading.{ByEachIn, Grows, Told}
 use Rattle.equation_law.specs.Systems.{program_of}
-use Rattle.equation_law.specs.Values.{Value, as_arguments}
+use Rattle.equation_law.specs.Values.{Tree, Value, as_argument, as_arguments}
 use Rattle.expr_eval.specs.declared.evaluation.Context.{Context}
 use Rattle.expr_eval.specs.declared.evaluation.Halt.{Halt}
 use Rattle.expr_eval.specs.declared.evaluation.Halt.TheVariants.{Need, Memory}
@@ -119,11 +124,37 @@ AnswersArguments p s place ks es (Ok xs) = ArgumentsGiven p s place ks es xs
 AnswersArguments p s place ks es (Err (Need i)) = ArgumentsStopped p s place es i
 AnswersArguments p s place ks es (Err Memory) = Unit {0}
 
--- What a turn says of some demands: `Done` is the value that they come to under what the reader has at the end, and `Need` the first of
--- them that it has no value for. For want of memory nothing is said.
+-- the tokens of a `new` come to these values, each of them in its turn
+pub data CollectsTokens (A : Instance → Value → Type 0) (W : World) (place : Place) : NewArguments → List Argument → Type 0 where
+  no_tokens : CollectsTokens A W place new_end []
+  token : {k : Kind} {e : Expression} {rest : NewArguments} {v : Value} {ts : List Argument} {demands : List Instance} → Ends A (meaning_of W e place) v demands → CollectsTokens A W place rest ts → CollectsTokens A W place (new_token k e rest) (as_argument k v ∷ ts)
+  child : {c : ClassId} {parts rest : NewArguments} {ts us : List Argument} → CollectsTokens A W place parts ts → CollectsTokens A W place rest us → CollectsTokens A W place (new_child c parts rest) (ts ++ us)
+
+-- their codes
+pub record TokensGiven {S : Type 0} (p : Program) (s : Told S) (place : Places) (parts : NewArguments) (cs : List ℕ) : Type 0 where
+  pub collects : ByEachIn s (λ n. CollectsTokens s.has (world_of p) (place n) parts (arguments_by n (token_kinds parts) cs))
+  pub all : length cs ≡ length (token_kinds parts)
+  pub codes : AreCodes p (token_kinds parts) cs
+
+-- the first demand of theirs that the reader has no value for, whatever is done with them
+pub record TokensStopped {S : Type 0} (p : Program) (s : Told S) (place : Places) (parts : NewArguments) (i : CodedInstance) : Type 0 where
+  pub stopped : ByEachIn s (λ n. (f : List Argument → Demands Instance Value) → Wants s.has (with_tokens (world_of p) parts (place n) f) (instance_by p n i))
+  pub coded : IsCoded p i
+
+-- a tree, which comes under what the reader has, by each naming by which it may be read: of the `new` of the equation, with the codes of its tokens
+pub record GivenTree {S : Type 0} (p : Program) (s : Told S) (c : Asks) (image : TreeImage) : Type 0 where
+  pub making : Making
+  pub is : option_and_then making_in (body_at p.rules image.equation.0) ≡ Some making
+  pub comes : ByEachIn s (λ n. (root : Reference) × Comes s.has (c n) (Tree root (arguments_by n (token_kinds making.arguments) image.tokens)))
+  pub all : length image.tokens ≡ length (token_kinds making.arguments)
+  pub codes : AreCodes p (token_kinds making.arguments) image.tokens
+
+-- What a turn says of some demands: `Done` is the value that they come to under what the reader has at the end, `Image` the tree, and `Need` the
+-- first of them that it has no value for. For want of memory nothing is said.
 abbrev pub AnswersTurn : {S : Type 0} → Program → Told S → Asks → Result Turn NoMemory → Type 0
 AnswersTurn p s c (Ok (turns.Done v)) = Given p s c v
 AnswersTurn p s c (Ok (turns.Need i)) = Stopped p s c i
+AnswersTurn p s c (Ok (turns.Image t)) = GivenTree p s c t
 AnswersTurn p s c (Err m) = Unit {0}
 
 pub record Evaluates {S : Type 0} (p : Program) (r s : Told S) (c : Asks) (result : Result Turn NoMemory) : Type 0 where

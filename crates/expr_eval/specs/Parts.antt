@@ -12,7 +12,7 @@ use Rattle.equation_law.specs.declared.coding.Value.TheVariants as coded
 use Rattle.equation_law.specs.declared.system.System.{System}
 use Rattle.equation_law.specs.Codes.{AreElements, ByEachNaming, Naming, value_by}
 use Rattle.equation_law.specs.Meaning.{Place, World, cast_to, child_at, count_at, element_at, is_instance, is_there, named, operate}
-use Rattle.equation_law.specs.Names.{Null as NoNode}
+use Rattle.equation_law.specs.Names.{Null as NoNode, Reference}
 use Rattle.equation_law.specs.Program.{Program}
 use Rattle.equation_law.specs.Sets.{no_elements}
 use Rattle.equation_law.specs.Systems.{program_of}
@@ -54,11 +54,7 @@ leaf_in c e n = leaf_value (world_in c.system.now) (place_in c n) e
 
 -- the part of a form that makes its value of that of one part
 abbrev pub part_of : TExpr → Option TExpr
-part_of (kept.Child' k p a) = Some a
 part_of (kept.Count' k p a) = Some a
-part_of (kept.Has' k p a) = Some a
-part_of (kept.Cast' c p a) = Some a
-part_of (kept.InstanceOf' c p a) = Some a
 part_of (kept.Single' p a) = Some a
 part_of (kept.Size' p a) = Some a
 part_of (kept.Not' p a) = Some a
@@ -67,11 +63,7 @@ part_of _ = None
 
 -- what it makes
 abbrev pub made_of_one : World → Expression → Value → Value
-made_of_one W (Child k e) v = Node (child_at W k (node v))
 made_of_one W (Count k e) v = Int (count_at W k (node v))
-made_of_one W (Has k e) v = Truth (is_there (child_at W k (node v)))
-made_of_one W (Cast c e) v = Node (cast_to W c (node v))
-made_of_one W (InstanceOf c e) v = Truth (is_instance W c (node v))
 made_of_one W (Single e) v = single v
 made_of_one W (Size e) v = Int (int_wrap w32 (pos (size_of v)))
 made_of_one W (Not e) v = Truth (not (truth v))
@@ -81,6 +73,29 @@ made_of_one W _ v = v
 -- a form makes the second value of the first, which is that of its part
 abbrev pub IsMadeOfOne : System → Expression → CodedValue → CodedValue → Type 0
 IsMadeOfOne s e part whole = ByEachNaming (program_of s) (λ n. value_by n whole ≡ made_of_one (world_in s) e (value_by n part))
+
+-- the part of a form that makes its value of the node of one part
+abbrev pub node_part : TExpr → Option TExpr
+node_part (kept.Child' k p a) = Some a
+node_part (kept.Has' k p a) = Some a
+node_part (kept.Cast' c p a) = Some a
+node_part (kept.InstanceOf' c p a) = Some a
+node_part _ = None
+
+abbrev pub is_node_form : Expression → Bool
+is_node_form (Child k e) = true
+is_node_form (Has k e) = true
+is_node_form (Cast c e) = true
+is_node_form (InstanceOf c e) = true
+is_node_form _ = false
+
+-- what it makes; that of any other form is of no account
+abbrev pub made_of_node : World → Expression → Reference → Value
+made_of_node W (Child k e) r = Node (child_at W k r)
+made_of_node W (Has k e) r = Truth (is_there (child_at W k r))
+made_of_node W (Cast c e) r = Node (cast_to W c r)
+made_of_node W (InstanceOf c e) r = Truth (is_instance W c r)
+made_of_node W _ r = Node r
 
 -- the type at which a form reads a token, the token's component, and the part that gives the node
 abbrev pub token_read : TExpr → Option (Kind × ℕ × TExpr)
@@ -133,6 +148,7 @@ is_further _ = false
 abbrev pub AreParts : TExpr → Parts → Type 0
 AreParts e parts.Leaf = is_leaf (expression_of e) ≡ true
 AreParts e (parts.One a) = part_of e ≡ Some a.now
+AreParts e (parts.Node a) = node_part e ≡ Some a.now
 AreParts e (parts.Token t k a) = token_read e ≡ Some (t.now, k.now.0, a.now)
 AreParts e (parts.Two a b) = parts_of e ≡ Some (a.now, b.now)
 AreParts e (parts.Over a b) = range_and_body e ≡ Some (a.now, b.now)

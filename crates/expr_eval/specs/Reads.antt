@@ -1,11 +1,12 @@
 -- What evaluations say that go on with what is saved.
-use Rattle.std.specs.Prelude.{◌≡◌, ◌<◌, List, Option, Result, Ok, Err}
+use Rattle.std.specs.Prelude.{◌≡◌, ◌<◌, ◌≤◌, ◌++◌, ℕ, List, Option, Result, Ok, Err}
+use Rattle.attr_rules.specs.declared.expression.NewArgs.{NewArgs}
 use Rattle.attr_rules.specs.declared.expression.TArgs.{TArgs}
 use Rattle.attr_rules.specs.declared.expression.TExpr.{TExpr}
 use Rattle.attr_rules.specs.declared.kinds.AttrId.{AttrId}
 use Rattle.attr_rules.specs.declared.kinds.Kind.{Kind}
 use Rattle.attr_rules.specs.declared.kinds.Params.{Params}
-use Rattle.attr_rules.specs.Expression.{Arguments, Call, Expression, If, arguments_of, expression_of}
+use Rattle.attr_rules.specs.Expression.{Arguments, Call, Expression, If, NewArguments, arguments_of, expression_of, new_arguments_of}
 use Rattle.attr_rules.specs.Types.{parameter_kinds}
 use Rattle.rag_io.specs.declared.Memory.{Memory as NoMemory}
 use Rattle.rag_io.specs.declared.Place.{Place as TextPlace}
@@ -29,7 +30,7 @@ use Rattle.expr_eval.specs.declared.saved.Saved.{Saved}
 use Rattle.expr_eval.specs.declared.saved.Stand.{Stand}
 use Rattle.expr_eval.specs.declared.sites.Turn.{Turn}
 use Rattle.expr_eval.specs.Elements.{Rooms, element_in, read_with}
-use Rattle.expr_eval.specs.Evaluating.{Answers, AnswersArguments, AnswersTurn, Asks, Places, Stopped, place_in, reads_at}
+use Rattle.expr_eval.specs.Evaluating.{Answers, AnswersArguments, AnswersTurn, Asks, Places, Stopped, TokensGiven, TokensStopped, place_in, reads_at}
 use Rattle.expr_eval.specs.Saved.{AreSaved, IsRanged, Stands, body_of, making_of}
 
 -- what an evaluation goes by: what its reader tells, and what is saved
@@ -53,6 +54,7 @@ pub record Advances {S : Type 0} (p : Program) (r s : State S) : Type 0 where
   pub bound : (i : Instance) (v : Value) → s.told.can i v → r.told.can i v
   pub kept : (x : S) → r.told.keeps x → s.told.keeps x
   pub names : ByEachIn s.told r.told.names
+  pub heights : (c : ℕ) → s.told.height c ≤ r.told.height c
 
 -- the answer to an expression, by what the reader has at the end
 pub record Reads {S : Type 0} (p : Program) (r s : State S) (place : Places) (e : Expression) (result : Result CodedValue Halt) : Type 0 where
@@ -63,6 +65,16 @@ pub record Reads {S : Type 0} (p : Program) (r s : State S) (place : Places) (e 
 pub record ArgumentsRead {S : Type 0} (p : Program) (r s : State S) (place : Places) (ks : List Kind) (es : Arguments) (result : Result Args Halt) : Type 0 where
   pub kept : Advances p r s
   pub is : AnswersArguments p s.told place ks es result
+
+-- the answer to the tokens of a `new`, whose codes come behind others
+abbrev pub AnswersTokens : {S : Type 0} → Program → Told S → Places → NewArguments → List ℕ → List ℕ → Result Unit Halt → Type 0
+AnswersTokens p s place parts before behind (Ok u) = (cs : List ℕ) × (behind ≡ before ++ cs) × TokensGiven p s place parts cs
+AnswersTokens p s place parts before behind (Err (Need i)) = TokensStopped p s place parts i
+AnswersTokens p s place parts before behind (Err Memory) = Unit {0}
+
+pub record TokensRead {S : Type 0} (p : Program) (r s : State S) (place : Places) (parts : NewArguments) (before behind : List ℕ) (result : Result Unit Halt) : Type 0 where
+  pub kept : Advances p r s
+  pub is : AnswersTokens p s.told place parts before behind result
 
 -- the elements of a form, and where it stands; there is room for one name more
 pub record IsStood {S : Type 0} (s : System) (t : Told S) (place : Places) (names : List CodedSingle) (m : Making) (e b : Expression) (list : Elements) (stand : Stand) : Type 0 where
@@ -124,6 +136,10 @@ module _ {S : Type 0} (c : Context) (r : Told S) (x : Saved) (s : Told S) (y : S
   -- the arguments of a call are read for its parameters
   abbrev pub ArgumentsReadIn : Params → TArgs → Result Args Halt → Type 0
   ArgumentsReadIn parameters arguments result = ArgumentsRead (program_of c.system.now) (state c.system.now r x) (state c.system.now s y) (place_in c) (parameter_kinds parameters) (arguments_of arguments) result
+
+  -- the tokens of a `new` are read, and their codes put behind others
+  abbrev pub TokensReadIn : NewArgs → List ℕ → List ℕ → Result Unit Halt → Type 0
+  TokensReadIn parts before behind result = TokensRead (program_of c.system.now) (state c.system.now r x) (state c.system.now s y) (place_in c) (new_arguments_of parts) before behind result
 
   -- a form's elements are read, and where it stands
   abbrev pub ReadsStandIn : TExpr → Result (Elements × Stand) Halt → Type 0

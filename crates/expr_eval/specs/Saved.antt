@@ -8,7 +8,7 @@ use Rattle.solutions.specs.Asking.{Demands}
 use Rattle.equation_law.specs.declared.coding.Single.{Single as CodedSingle}
 use Rattle.equation_law.specs.declared.coding.Value.{Value as CodedValue}
 use Rattle.equation_law.specs.declared.system.System.{System}
-use Rattle.equation_law.specs.Codes.{AreElements, ByEachNaming, ByEachOrder, Naming, single_by, value_by}
+use Rattle.equation_law.specs.Codes.{AreElements, ByEachNaming, Naming, single_by, value_by}
 use Rattle.equation_law.specs.Meaning.{Place, World, elements_at, over_elements, united}
 use Rattle.equation_law.specs.Names.{Instance, Null}
 use Rattle.equation_law.specs.Reading.{ByEachIn, Told}
@@ -58,8 +58,8 @@ ranged W (EachOfSet t e b) v = elements_of v
 ranged W _ v = []
 
 -- these are its elements, which come from this value; those of a set stand in the order of their codes
-abbrev pub AreRanged : System → Expression → CodedValue → Elements → Type 0
-AreRanged s e from list = ByEachOrder (program_of s) (λ n. elements_in n s list ≡ ranged (world_in s) e (value_by n from))
+abbrev pub AreRanged : {S : Type 0} → System → Told S → Expression → CodedValue → Elements → Type 0
+AreRanged s t e from list = ByEachIn t (λ n. elements_in n s list ≡ ranged (world_in s) e (value_by n from))
 
 -- what is demanded at the elements
 abbrev pub over : Making → List Value → (Value → Demands Instance Value) → Demands Instance Value

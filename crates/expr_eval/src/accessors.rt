@@ -1,10 +1,11 @@
 // Accessors of the components of a node.
-ghost use Rattle.std.specs.Prelude.{◌≡◌, pos, []};
-ghost use Rattle.tree_arena.specs.Nodes.{token_in};
-ghost use Rattle.equation_law.specs.Codes.{ByEachNaming, ByEachOrder, Naming, reference_by, value_by};
+ghost use Rattle.std.specs.Prelude.{◌≡◌, ◌≤◌, pos, []};
+ghost use Rattle.tree_arena.specs.Nodes.{most_nodes, token_in};
+ghost use Rattle.equation_law.specs.Codes.{ByEachNaming, Naming, reference_by, value_by};
+ghost use Rattle.equation_law.specs.Reading.{ByEachIn, Grows, IsSound};
 ghost use Rattle.equation_law.specs.Equations.{count_of, element_of, source_of};
 ghost use Rattle.equation_law.specs.Equations as spec;
-ghost use Rattle.equation_law.specs.Meaning.{cast_to, child_at as child_on, count_at as count_on, element_at as element_on, is_instance, is_there};
+ghost use Rattle.equation_law.specs.Meaning.{child_at as child_on, count_at as count_on, element_at as element_on};
 ghost use Rattle.equation_law.specs.Systems.{program_of};
 ghost use Rattle.equation_law.specs.Codes.{AreElements};
 ghost use Rattle.equation_law.specs.Program.{Program};
@@ -12,9 +13,8 @@ ghost use Rattle.equation_law.specs.Values.{Node};
 ghost use Rattle.expr_eval.specs.Elements.{IsToken, LeadsTo, node_kind};
 ghost use Rattle.expr_eval.specs.Evaluating.{world_in};
 
-use ast_grammar::ClassId;
 use attr_rules::{Kind, Part};
-use equation_law::{NodeRef, Single, System, Value};
+use equation_law::{NodeRef, Reader, Single, System, Value};
 use rag_io::Memory;
 use set_values::elements;
 use std::alloc::Global;
@@ -56,7 +56,7 @@ fn count_at(system: &System, node: u32, k: Part) -> u32
 }
 
 /// The code of the token of a node at a component, 0 where the component is no token, or None where there is no such node or component.
-#[tactic(auto, using(crate::proofs::Trees::no_code_past, crate::proofs::Trees::no_code_behind))]
+#[tactic(auto, using(crate::proofs::Hanging::no_code_past, crate::proofs::Hanging::no_code_behind))]
 fn code_at(tree: &Tree, node: u32, k: Part) -> Option<u32>
     ensures { result ≡ token_in tree.now node k.0 }
 {
@@ -66,21 +66,15 @@ fn code_at(tree: &Tree, node: u32, k: Part) -> Option<u32>
     Some(tree.token(node, k.0))
 }
 
-/// The child, or the optional child, of a receiver at a component, or null.
+/// The child, or the optional child, of a receiver at a component, or null. The receiver is no node that was made.
 pub(crate) fn child(system: &System, k: Part, receiver: NodeRef) -> NodeRef
+    requires { receiver.0 ≤ most_nodes }
     ensures { LeadsTo (program_of system.now) (child_on (world_in system.now) k.0) receiver.0 result.0 }
 {
     match receiver.source() {
         Some(node) => child_at(system, node, k, 0),
         None => NodeRef(0),
     }
-}
-
-/// Whether a receiver has a child at a component; null has none.
-pub(crate) fn has(system: &System, k: Part, receiver: NodeRef) -> bool
-    ensures { ByEachNaming (program_of system.now) (λ n. result ≡ is_there (child_on (world_in system.now) k.0 (reference_by n.node receiver.0))) }
-{
-    child(system, k, receiver).source().is_some()
 }
 
 /// The element of a receiver's list at a place, or null where the list doesn't have that place.
@@ -172,11 +166,18 @@ impl Elements {
     }
 
     /// The elements of a set. What is no set has none.
-    pub(crate) fn of_set(alloc: Global, system: &System, set: &Value) -> Result<Elements, Memory>
-        requires { AreElements (program_of system.now) set.now }
-        ensures { IfOk result (λ all. ByEachOrder (program_of system.now) (λ n. elements_in n system.now all ≡ elements_of (value_by n set.now))) }
+    pub(crate) fn of_set<R: Reader>(
+        alloc: Global,
+        system: &System,
+        set: &Value,
+        reader: &mut R,
+    ) -> Result<Elements, Memory>
+        requires sound { IsSound (program_of system.now) (R.tells reader.old) }
+        requires set { AreElements (program_of system.now) set.now }
+        ensures kept { Grows (program_of system.now) (R.tells reader.old) (R.tells reader.new) }
+        ensures all { IfOk result (λ all. ByEachIn (R.tells reader.new) (λ n. elements_in n system.now all ≡ elements_of (value_by n set.now))) }
     {
-        let values = elements(alloc, system, set)?;
+        let values = elements(alloc, system, set, reader)?;
         let count = values.len();
         Ok(Elements {
             origin: Origin::Set(Singles { values }),
@@ -194,28 +195,6 @@ impl Elements {
             }
             Origin::Set(values) => values.get(place),
         }
-    }
-}
-
-/// Whether a node is of a class or below.
-pub(crate) fn is_of(system: &System, class: ClassId, node: NodeRef) -> bool
-    ensures { ByEachNaming (program_of system.now) (λ n. result ≡ is_instance (world_in system.now) class (reference_by n.node node.0)) }
-{
-    let tree = system.tree();
-    match node.source() {
-        Some(node) if node < tree.len() => system.grammar().is_sub(tree.class_of(node), class),
-        _ => false,
-    }
-}
-
-/// The node where it is of a class or below, or null.
-pub(crate) fn cast(system: &System, class: ClassId, node: NodeRef) -> NodeRef
-    ensures { LeadsTo (program_of system.now) (cast_to (world_in system.now) class) node.0 result.0 }
-{
-    if is_of(system, class, node) {
-        node
-    } else {
-        NodeRef(0)
     }
 }
 
@@ -240,7 +219,7 @@ fn is_node(kind: Kind) -> bool
 }
 
 /// The value that a token's code stands for; a missing one is the type's default, and no token is a node.
-fn decoded(alloc: Global, kind: Kind, code: Option<u32>) -> Value
+pub(crate) fn decoded(alloc: Global, kind: Kind, code: Option<u32>) -> Value
     ensures value { (n : Naming) → n.text 0 ≡ [] → value_by n result ≡ spec.decoded n.text kind code }
     ensures coded { (p : Program) → AreElements p result }
 {
@@ -250,8 +229,10 @@ fn decoded(alloc: Global, kind: Kind, code: Option<u32>) -> Value
     }
 }
 
-/// The token of a receiver at a component, read at a type; on null it is the type's default. Neither demands anything.
+/// The token of a receiver at a component, read at a type; on null it is the type's default. Neither demands anything. The receiver is no node
+/// that was made.
 pub(crate) fn token(alloc: Global, system: &System, kind: Kind, k: Part, receiver: NodeRef) -> Value
+    requires { receiver.0 ≤ most_nodes }
     ensures value { IsToken system.now kind k.0 receiver.0 result }
     ensures coded { (p : Program) → AreElements p result }
 {

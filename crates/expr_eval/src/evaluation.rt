@@ -1,23 +1,24 @@
 // The meaning of an expression under what a reader has.
-ghost use Rattle.std.specs.Prelude.{◌≡◌, ◌<◌, [], IfOk, OnOk, length, true};
+ghost use Rattle.std.specs.Prelude.{◌≡◌, ◌<◌, [], IfOk, OnOk, Some, length, true};
 ghost use Rattle.attr_rules.specs.Expression.{expression_of};
-ghost use Rattle.attr_rules.specs.Types.{parameter_kinds, text_kind};
+ghost use Rattle.attr_rules.specs.Types.{text_kind};
 ghost use Rattle.equation_law.specs.Codes.{AreCodes, AreElements, ByEachNaming, IsCode, IsCoded, IsRow, Naming, codes_in, single_by, value_by, value_coded};
 ghost use Rattle.equation_law.specs.Equations.{attribute_kind as kind_of};
 ghost use Rattle.equation_law.specs.Program.{Program, attribute_parameters, text_of};
-ghost use Rattle.equation_law.specs.Reading.{IsSound};
+ghost use Rattle.equation_law.specs.Reading.{Grows, IsSound};
 ghost use Rattle.equation_law.specs.Values.{as_argument, truth};
 ghost use Rattle.equation_law.specs.Systems.{program_of};
 ghost use Rattle.expr_eval.specs.Elements.{Rooms};
-ghost use Rattle.expr_eval.specs.Evaluating.{CallReads, DemandReads, TokenReads, is_over_form, place_in};
-ghost use Rattle.expr_eval.specs.Parts.{IsCombined, IsRounded, IsSaid, is_further};
+ghost use Rattle.expr_eval.specs.Evaluating.{CallReads, DemandReads, is_over_form, place_in};
+ghost use Rattle.expr_eval.specs.Parts.{IsCombined, IsRounded, IsSaid, is_further, node_part};
 ghost use Rattle.expr_eval.specs.Reads.{ArgumentsReadIn, GoesOverIn, IsReady, ReadsAt, ReadsCall, ReadsChoice, ReadsIn, ReadsStandIn, state};
 ghost use Rattle.expr_eval.specs.Saved.{AreRanged, IsFirst, Stands, TakesIn, begun as begun_with, body_of, done as done_with, range_of};
 
-use crate::accessors::{Elements, token};
+use crate::accessors::Elements;
+use crate::nodes::{put_node, put_token};
 use crate::parts::{Parts, make_both, make_whole, parts_of, put_leaf};
 use crate::saved::{Making, Saved, Stand, making_of};
-use attr_rules::{AttrId, Kind, Params, Part, Quantifier, SetOperator, TArgs, TExpr, TextId};
+use attr_rules::{AttrId, Kind, Params, Quantifier, SetOperator, TArgs, TExpr, TextId};
 use equation_law::{Args, Code, Instance, NodeRef, Reader, Single, System, Value};
 use rag_io::Memory;
 use set_values::set_operate;
@@ -84,23 +85,6 @@ fn demand<R: Reader>(
     }
 }
 
-/// The parameters of an attribute; one that isn't declared has none.
-pub(crate) fn parameters(system: &System, attribute: AttrId) -> Params
-    ensures { parameter_kinds result ≡ attribute_parameters (program_of system.now) attribute.0 }
-{
-    let rules = system.rules();
-    if u32::from(attribute.0) < rules.attrs() {
-        rules.attr(attribute).params
-    } else {
-        Params {
-            count: 0,
-            first: Kind::Truth,
-            second: Kind::Truth,
-            third: Kind::Truth,
-        }
-    }
-}
-
 /// Whether it is the type of texts.
 fn is_text(kind: Kind) -> bool
     ensures { result ≡ text_kind kind }
@@ -124,7 +108,7 @@ fn known_text(system: &System, number: TextId) -> Code
 }
 
 /// The code of an argument for a parameter of this type: each value has one.
-fn argument_code(system: &System, kind: Kind, value: Value) -> Code
+pub(crate) fn argument_code(system: &System, kind: Kind, value: Value) -> Code
     ensures code { IsCode (program_of system.now) kind result }
     ensures value { ByEachNaming (program_of system.now) (λ n. as_argument kind (value_coded n kind result) ≡ as_argument kind (value_by n value)) }
 {
@@ -181,21 +165,6 @@ fn call<R: Reader>(
         return;
     }
     demand(context, Instance::Attr { attr, node, args }, reader, came);
-}
-
-/// Puts the token of a node, or of null, at a component in place, read at a type.
-fn put_token<R: Reader>(
-    context: &Context<'_>,
-    kind: Kind,
-    component: Part,
-    node: NodeRef,
-    reader: &mut R,
-    came: &mut Result<Value, Halt>,
-)
-    requires { IsSound (program_of context.now.system.now) (R.tells reader.old) }
-    ensures { TokenReads (program_of context.now.system.now) (R.tells reader.old) (R.tells reader.new) kind component.0 node.0 came.new }
-{
-    *came = Ok(token(context.alloc, context.system, kind, component, node));
 }
 
 /// The names with room for one more in front.
@@ -377,29 +346,43 @@ fn at_elements<'a, R: Reader>(
 }
 
 /// The elements of a form, from the value that they come from.
-fn elements_of(context: &Context<'_>, form: &TExpr, from: &Value) -> Result<Elements, Memory>
+fn elements_of<R: Reader>(
+    context: &Context<'_>,
+    form: &TExpr,
+    from: &Value,
+    reader: &mut R,
+) -> Result<Elements, Memory>
+    requires sound { IsSound (program_of context.now.system.now) (R.tells reader.old) }
     requires form { is_over_form (expression_of form.now) ≡ true }
     requires from { AreElements (program_of context.now.system.now) from.now }
-    ensures { IfOk result (AreRanged context.now.system.now (expression_of form.now) from.now) }
+    ensures kept { Grows (program_of context.now.system.now) (R.tells reader.old) (R.tells reader.new) }
+    ensures ranged { IfOk result (AreRanged context.now.system.now (R.tells reader.new) (expression_of form.now) from.now) }
 {
     match form {
         TExpr::Quantified(_, k, _, _) => Ok(Elements::of(context.system, *k, from.node())),
         TExpr::Each(_, k, _, _) => Ok(Elements::of(context.system, *k, from.node())),
         TExpr::QuantifiedSet(_, _, _) | TExpr::EachOfSet(_, _, _) => {
-            Elements::of_set(context.alloc, context.system, from)
+            Elements::of_set(context.alloc, context.system, from, reader)
         }
         _ => unreachable!(),
     }
 }
 
 /// The elements of a form, which stands before the first.
-fn at_first(context: &Context<'_>, form: &TExpr, from: &Value) -> Result<(Elements, Stand), Memory>
+fn at_first<R: Reader>(
+    context: &Context<'_>,
+    form: &TExpr,
+    from: &Value,
+    reader: &mut R,
+) -> Result<(Elements, Stand), Memory>
+    requires sound { IsSound (program_of context.now.system.now) (R.tells reader.old) }
     requires form { is_over_form (expression_of form.now) ≡ true }
     requires from { AreElements (program_of context.now.system.now) from.now }
-    ensures elements { IfOk result (λ stood. AreRanged context.now.system.now (expression_of form.now) from.now stood.0) }
+    ensures kept { Grows (program_of context.now.system.now) (R.tells reader.old) (R.tells reader.new) }
+    ensures elements { IfOk result (λ stood. AreRanged context.now.system.now (R.tells reader.new) (expression_of form.now) from.now stood.0) }
     ensures first { IfOk result (λ stood. IsFirst context.now (expression_of form.now) stood.1) }
 {
-    let list = elements_of(context, form, from)?;
+    let list = elements_of(context, form, from, reader)?;
     let names = with_room(context)?;
     let so_far = begun(context.alloc, making_of(form));
     Ok((
@@ -432,7 +415,7 @@ fn standing<'a, R: Reader>(
             let mut came = Err(Halt::Memory);
             meaning(context, range, reader, saved, &mut came);
             let from = came?;
-            Ok(at_first(context, form, &from)?)
+            Ok(at_first(context, form, &from, reader)?)
         }
     }
 }
@@ -515,7 +498,7 @@ fn put_call<'a, R: Reader>(
     match came {
         Ok(receiver) => {
             let node = receiver.node();
-            let wanted = parameters(context.system, called);
+            let wanted = context.system.parameters(called);
             match given(context, wanted, arguments, reader, saved) {
                 Ok(args) => call(context, called, node, args, reader, came),
                 Err(halt) => *came = Err(halt),
@@ -594,6 +577,30 @@ fn further<'a, R: Reader>(
     }
 }
 
+/// Puts the value that a form makes of the node of its part in place.
+#[cycle(meaning)]
+fn put_of_node<'a, R: Reader>(
+    context: &Context<'_>,
+    form: &TExpr,
+    part: &'a TExpr,
+    reader: &mut R,
+    saved: &mut Saved<'a>,
+    came: &mut Result<Value, Halt>,
+)
+    requires ready { IsReady (program_of context.now.system.now) (state context.now.system.now (R.tells reader.old) saved.old) }
+    requires part { node_part form.now ≡ Some part.now }
+    ensures { ReadsIn context.now (R.tells reader.old) saved.old (R.tells reader.new) saved.new form.now came.new }
+{
+    meaning(context, part, reader, saved, came);
+    match came {
+        Ok(part) => {
+            let node = part.node();
+            put_node(context, form, node, reader, came);
+        }
+        Err(_) => {}
+    }
+}
+
 /// Puts the value of an expression in place, or the first demand for which the reader has none. It walks down the expression, which has at
 /// most 400 tokens: what is always evaluated of a form comes first, and then what the form makes of it, which needs no reader.
 #[cycle(meaning)]
@@ -638,5 +645,6 @@ pub(crate) fn meaning<'a, R: Reader>(
             *came = over_form(context, expression, range, body, reader, saved);
         }
         Parts::Further => further(context, expression, reader, saved, came),
+        Parts::Node(part) => put_of_node(context, expression, part, reader, saved, came),
     }
 }

@@ -5,10 +5,12 @@
 mod accessors;
 mod binding;
 mod evaluation;
+mod nodes;
 mod operators;
 mod parts;
 mod saved;
 mod sites;
+mod trees;
 
 pub use saved::Saved;
 pub use sites::{

@@ -7,7 +7,7 @@ ghost use Rattle.equation_law.specs.Systems.{program_of};
 ghost use Rattle.expr_eval.specs.Evaluating.{place_in, world_in};
 ghost use Rattle.expr_eval.specs.Parts.{AreParts, IsMade, IsMadeOfOne, IsMadeOfTwo, OneMakes, TwoMake, leaf_in, made_of_one, made_of_two};
 
-use crate::accessors::{cast, child, count, element, has, is_of, source};
+use crate::accessors::{count, element, source};
 use crate::evaluation::{Context, Halt};
 use crate::operators::operate;
 use attr_rules::{Kind, Part, TExpr};
@@ -23,6 +23,8 @@ pub(crate) enum Parts<'a> {
     Leaf,
     /// One part.
     One(&'a TExpr),
+    /// One part that gives a node, of which it makes its value: the trees that were made are asked for it.
+    Node(&'a TExpr),
     /// The token of a node that one part gives: the type at which it is read, and its component. It may demand something itself.
     Token(&'a Kind, &'a Part, &'a TExpr),
     /// Two parts, of which the first is evaluated first.
@@ -42,9 +44,10 @@ pub(crate) fn parts_of(form: &TExpr) -> Parts<'_>
         TExpr::Truth(_) | TExpr::Int(_) | TExpr::Text(_) | TExpr::Null => Parts::Leaf,
         TExpr::Empty | TExpr::This | TExpr::Variable(_) | TExpr::Source(_) => Parts::Leaf,
         TExpr::New(_, _) => Parts::Leaf,
-        TExpr::Child(_, part) | TExpr::Count(_, part) | TExpr::Has(_, part) => Parts::One(part),
+        TExpr::Child(_, part) | TExpr::Has(_, part) => Parts::Node(part),
+        TExpr::Count(_, part) => Parts::One(part),
         TExpr::Token(kind, component, part) => Parts::Token(kind, component, part),
-        TExpr::Cast(_, part) | TExpr::InstanceOf(_, part) => Parts::One(part),
+        TExpr::Cast(_, part) | TExpr::InstanceOf(_, part) => Parts::Node(part),
         TExpr::Single(part) | TExpr::Size(part) => Parts::One(part),
         TExpr::Not(part) | TExpr::Negate(part) => Parts::One(part),
         TExpr::Element(_, first, second) => Parts::Two(first, second),
@@ -95,11 +98,7 @@ fn make_of_one(context: &Context<'_>, form: &TExpr, part: &mut Value) -> Result<
 {
     let system = context.system;
     match form {
-        TExpr::Child(k, _) => *part = Value::Node(child(system, *k, part.node())),
         TExpr::Count(k, _) => *part = Value::Int(count(system, *k, part.node())),
-        TExpr::Has(k, _) => *part = Value::Truth(has(system, *k, part.node())),
-        TExpr::Cast(class, _) => *part = Value::Node(cast(system, *class, part.node())),
-        TExpr::InstanceOf(class, _) => *part = Value::Truth(is_of(system, *class, part.node())),
         TExpr::Single(_) => *part = single_set(context.alloc, system, part)?,
         TExpr::Size(_) => *part = Value::Int(size(part)),
         TExpr::Not(_) => *part = Value::Truth(!part.truth()),

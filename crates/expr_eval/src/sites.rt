@@ -1,22 +1,26 @@
 // Equations that are evaluated: where they are found, and what they come to.
 ghost use Rattle.std.specs.Prelude.{◌≡◌, ◌<◌, None, length, IfSome};
-ghost use Rattle.attr_rules.specs.Rules.{bodies};
+ghost use Rattle.attr_rules.specs.Rules.{bodies, body_at};
 ghost use Rattle.equation_law.specs.declared.coding.Instance.TheVariants.{Attr as attribute_at, Query as query_at};
 ghost use Rattle.equation_law.specs.Codes.{IsCoded, IsRow, instance_of};
-ghost use Rattle.equation_law.specs.Equations.{collection_of, is_declared, kind_in};
+ghost use Rattle.equation_law.specs.Created.{making_in};
+ghost use Rattle.equation_law.specs.Equations.{is_declared, kind_in};
 ghost use Rattle.equation_law.specs.Names.{Query};
-ghost use Rattle.equation_law.specs.Reading.{IsSound};
+ghost use Rattle.equation_law.specs.Reading.{IsSingleIn, IsSound};
 ghost use Rattle.equation_law.specs.Systems.{program_of};
-ghost use Rattle.expr_eval.specs.Reads.{IsReady, ResumesIn, state};
+ghost use Rattle.expr_eval.specs.Reads.{IsReady, state};
 ghost use Rattle.expr_eval.specs.Saved.{AreSaved};
-ghost use Rattle.inherited_walk.specs.Sites.{FindsEquation};
-ghost use Rattle.expr_eval.specs.Sites.{EvaluatesBody, EvaluatesInstance, EvaluatesQuery, EvaluatesSite, IsTurned, ResumesInstance, ResumesQuery, TurnAs, site_reads};
+ghost use Rattle.inherited_walk.specs.Sites.{FindsIn};
+ghost use Rattle.expr_eval.specs.Sites.{EvaluatesBody, EvaluatesInstance, EvaluatesQuery, EvaluatesSite, ImagesIn, IsNoImage, IsTurned, ResumesInstance, ResumesQuery, ResumesSite, TurnAs, expression_or_null};
 
 use crate::binding::names_of;
 use crate::evaluation::{Context, Halt, attribute_kind, meaning};
 use crate::saved::Saved;
-use attr_rules::{AttrId, EqId, Kind};
-use equation_law::{Args, EqSite, Instance, NodeRef, QueryId, Reader, System, Value};
+use crate::trees::put_tokens;
+use attr_rules::{AttrId, EqId, Kind, NewArgs, TExpr};
+use equation_law::{
+    Args, EqSite, Instance, NodeRef, QueryId, Reader, System, Tokens, TreeImage, Value,
+};
 use inherited_walk::find_equation;
 use rag_io::Memory;
 use std::alloc::Global;
@@ -28,6 +32,8 @@ pub enum Turn {
     Done(Value),
     /// The first demand, in order, for which the reader has no value.
     Need(Instance),
+    /// The tree that a `new` makes.
+    Image(TreeImage),
 }
 
 impl Turn {
@@ -38,6 +44,10 @@ impl Turn {
         match self {
             Turn::Done(value) => Turn::Done(value.read_as(alloc, kind)),
             Turn::Need(instance) => Turn::Need(instance),
+            Turn::Image(image) => match kind {
+                Kind::Node(_) => Turn::Image(image),
+                _ => Turn::Done(Value::default_of(alloc, kind)),
+            },
         }
     }
 }
@@ -75,12 +85,31 @@ pub fn is_declared(system: &System, i: &Instance) -> bool
 
 /// What an evaluation of an expression is to callers.
 fn turned(came: Result<Value, Halt>) -> Result<Turn, Memory>
-    ensures { IsTurned came result }
+    ensures is { IsTurned came result }
+    ensures plain { IsNoImage result }
 {
     match came {
         Ok(value) => Ok(Turn::Done(value)),
         Err(Halt::Need(instance)) => Ok(Turn::Need(instance)),
         Err(Halt::Memory) => Err(Memory),
+    }
+}
+
+/// The tree that a `new` makes which is the right side of an equation.
+fn image<'a, R: Reader>(
+    context: &Context<'_>,
+    equation: EqId,
+    parts: &'a NewArgs,
+    reader: &mut R,
+    saved: &mut Saved<'a>,
+) -> Result<Turn, Memory>
+    requires { IsReady (program_of context.now.system.now) (state context.now.system.now (R.tells reader.old) saved.old) }
+    ensures { ImagesIn context.now (R.tells reader.old) saved.old (R.tells reader.new) saved.new equation parts.now result }
+{
+    let mut tokens = Tokens::new(context.alloc);
+    match put_tokens(context, parts, reader, saved, &mut tokens) {
+        Ok(()) => Ok(Turn::Image(TreeImage { equation, tokens })),
+        Err(halt) => turned(Err(halt)),
     }
 }
 
@@ -98,7 +127,8 @@ fn evaluate_for<'a, R: Reader>(
     requires inner { IsRow site.now.inner }
     requires outer { IsRow site.now.outer }
     requires ready { IsReady (program_of system.now) (state system.now (R.tells reader.old) saved.old) }
-    ensures { ResumesIn system.now (R.tells reader.old) saved.old (R.tells reader.new) saved.new (site_reads (program_of system.now) attr.0 site.now) result }
+    ensures reads { ResumesSite system.now (R.tells reader.old) saved.old (R.tells reader.new) saved.new attr.0 site.now result }
+    ensures plain { making_in (expression_or_null (body_at (program_of system.now).rules site.now.equation.0)) ≡ None → IsNoImage result }
 {
     let Ok(names) = names_of(alloc, system, attr, site) else {
         return Err(Memory);
@@ -109,15 +139,15 @@ fn evaluate_for<'a, R: Reader>(
         this: site.node,
         names: &names,
     };
-    let mut came = Err(Halt::Memory);
-    meaning(
-        &context,
-        system.rules().body(site.equation),
-        reader,
-        saved,
-        &mut came,
-    );
-    turned(came)
+    let body = system.rules().body(site.equation);
+    match body {
+        TExpr::New(_, parts) => image(&context, site.equation, parts, reader, saved),
+        _ => {
+            let mut came = Err(Halt::Memory);
+            meaning(&context, body, reader, saved, &mut came);
+            turned(came)
+        }
+    }
 }
 
 /// The meaning of the equation of a site under what a reader has at the end of the call, or the first demand that it has no value for.
@@ -148,10 +178,10 @@ fn asked<'a, R: Reader>(
 ) -> Result<Turn, Memory>
     requires query { query.0 < length (program_of system.now).queries }
     requires ready { IsReady (program_of system.now) (state system.now (R.tells reader.old) saved.old) }
-    ensures { ResumesQuery system.now (R.tells reader.old) saved.old (R.tells reader.new) saved.new query.0 result }
+    ensures resumes { ResumesQuery system.now (R.tells reader.old) saved.old (R.tells reader.new) saved.new query.0 result }
+    ensures plain { IsNoImage result }
 {
-    // The first code is that of the root, which each tree has.
-    prove!(system.tree().len() > 0);
+    // The first code is that of the root.
     let context = Context {
         alloc,
         system,
@@ -179,7 +209,8 @@ pub fn evaluate_query<R: Reader>(
 ) -> Result<Turn, Memory>
     requires query { query.0 < length (program_of system.now).queries }
     requires sound { IsSound (program_of system.now) (R.tells reader.old) }
-    ensures { EvaluatesQuery (program_of system.now) (R.tells reader.old) (R.tells reader.new) query.0 result }
+    ensures evaluates { EvaluatesQuery (program_of system.now) (R.tells reader.old) (R.tells reader.new) query.0 result }
+    ensures plain { IsNoImage result }
 {
     let mut saved = Saved::new(alloc);
     asked(alloc, system, query, reader, &mut saved)
@@ -198,6 +229,7 @@ pub fn resume_body<'a, R: Reader>(
     requires sound { IsSound (program_of system.now) (R.tells reader.old) }
     requires saved { AreSaved system.now (R.tells reader.old) saved.old }
     ensures evaluates { EvaluatesBody (program_of system.now) (R.tells reader.old) (R.tells reader.new) expression.0 node.0 result }
+    ensures plain { IsNoImage result }
     ensures saved { AreSaved system.now (R.tells reader.new) saved.new }
 {
     let context = Context {
@@ -229,8 +261,8 @@ fn at_site<'a, R: Reader>(
     saved: &mut Saved<'a>,
 ) -> Result<Turn, Memory>
     requires ready { IsReady (program_of system.now) (state system.now (R.tells reader.old) saved.old) }
-    requires single { collection_of (program_of system.now) (instance_of (program_of system.now) (attribute_at attr node args)) ≡ None }
-    requires found { FindsEquation (program_of system.now) attr node args site }
+    requires single { IsSingleIn (program_of system.now) (R.tells reader.old) (attribute_at attr node args) }
+    requires found { FindsIn (program_of system.now) (R.tells reader.old) attr node args site }
     requires rows { IfSome site (λ s. IsRow s.outer × IsRow s.inner) }
     ensures { ResumesInstance system.now (R.tells reader.old) saved.old (R.tells reader.new) saved.new (attribute_at attr node args) result }
 {
@@ -255,10 +287,10 @@ fn evaluate_attribute<'a, R: Reader>(
 ) -> Result<Turn, Memory>
     requires ready { IsReady (program_of system.now) (state system.now (R.tells reader.old) saved.old) }
     requires row { IsRow args }
-    requires single { collection_of (program_of system.now) (instance_of (program_of system.now) (attribute_at attr node args)) ≡ None }
+    requires single { IsSingleIn (program_of system.now) (R.tells reader.old) (attribute_at attr node args) }
     ensures { ResumesInstance system.now (R.tells reader.old) saved.old (R.tells reader.new) saved.new (attribute_at attr node args) result }
 {
-    let site = find_equation(system, attr, node, args);
+    let site = find_equation(system, attr, node, args, reader);
     at_site(alloc, system, attr, node, args, site, reader, saved)
 }
 
@@ -294,7 +326,7 @@ pub fn resume_instance<'a, R: Reader>(
     requires sound { IsSound (program_of system.now) (R.tells reader.old) }
     requires saved { AreSaved system.now (R.tells reader.old) saved.old }
     requires coded { IsCoded (program_of system.now) i.now }
-    requires single { collection_of (program_of system.now) (instance_of (program_of system.now) i.now) ≡ None }
+    requires single { IsSingleIn (program_of system.now) (R.tells reader.old) i.now }
     ensures evaluates { EvaluatesInstance (program_of system.now) (R.tells reader.old) (R.tells reader.new) i.now result }
     ensures saved { AreSaved system.now (R.tells reader.new) saved.new }
 {
@@ -319,8 +351,8 @@ pub fn resume_at<'a, R: Reader>(
 ) -> Result<Turn, Memory>
     requires sound { IsSound (program_of system.now) (R.tells reader.old) }
     requires saved { AreSaved system.now (R.tells reader.old) saved.old }
-    requires single { collection_of (program_of system.now) (instance_of (program_of system.now) (attribute_at attr node args)) ≡ None }
-    requires found { FindsEquation (program_of system.now) attr node args site }
+    requires single { IsSingleIn (program_of system.now) (R.tells reader.old) (attribute_at attr node args) }
+    requires found { FindsIn (program_of system.now) (R.tells reader.old) attr node args site }
     requires rows { IfSome site (λ s. IsRow s.outer × IsRow s.inner) }
     ensures evaluates { EvaluatesInstance (program_of system.now) (R.tells reader.old) (R.tells reader.new) (attribute_at attr node args) result }
     ensures saved { AreSaved system.now (R.tells reader.new) saved.new }
@@ -338,7 +370,7 @@ pub fn evaluate_instance<R: Reader>(
 ) -> Result<Turn, Memory>
     requires sound { IsSound (program_of system.now) (R.tells reader.old) }
     requires coded { IsCoded (program_of system.now) i.now }
-    requires single { collection_of (program_of system.now) (instance_of (program_of system.now) i.now) ≡ None }
+    requires single { IsSingleIn (program_of system.now) (R.tells reader.old) i.now }
     ensures { EvaluatesInstance (program_of system.now) (R.tells reader.old) (R.tells reader.new) i.now result }
 {
     let mut saved = Saved::new(alloc);

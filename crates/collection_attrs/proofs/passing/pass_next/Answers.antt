@@ -3,7 +3,7 @@ use Rattle.std.proofs.lemmas.Option.{slice_get_within}
 use Rattle.equation_law.specs.Systems.{program_of}
 use Rattle.collection_attrs.specs.Walks.{IsWalk, Walk}
 use Rattle.collection_attrs.proofs.Grown.{naming_of, walk_grows}
-use Rattle.collection_attrs.proofs.Stepping.{code_of, passes, sought, stands_before, weighed_at}
+use Rattle.collection_attrs.proofs.Stepping.{code_of, few_nodes, passes, sought, stands_before, weighed_at}
 use Rattle.collection_attrs.proofs.passing.pass_next.Goals as goal
 
 pub weigh-requires-clause-known : goal.weigh-requires-clause-known
@@ -30,7 +30,7 @@ returns-in-Stuck-clause-passage g c =
     let w = c.seek.new.self in
     let grown = walk_grows c.in_ok-weigh.ensures.kept c.requires.walk in
     let some = c.in-Some.ensures.some in
-    let weighed = weighed_at p (g.R.Reader.tells c.weigh.new.reader) (naming_of c.in_ok-weigh.ensures.kept.sound) w c.in-Some.node c.in-Some.number c.seek.ensures.stands some.2 some.0 some.1 some.3 c.in-Stuck.is c.in_ok-weigh.ensures.weighed in
+    let weighed = weighed_at p (g.R.Reader.tells c.weigh.new.reader) (naming_of c.in_ok-weigh.ensures.kept.sound) (few_nodes p c.tree.ensures c.len.ensures.number c.len.ensures.few) w c.in-Some.node c.in-Some.number c.seek.ensures.stands some.2 some.0 some.1 some.3 c.in-Stuck.is c.in_ok-weigh.ensures.weighed in
     (c.seek.ensures.same.2, weighed.0, stands_before p (g.R.Reader.tells c.weigh.new.reader) v w grown c.seek.ensures.same.2 c.seek.ensures.stands c.seek.ensures.passed (code_of some.0 c.in-Some.ensures.few.0) some.2 some.3 c.in-Stuck.instance weighed.1)
 
 pub returns-in-Unmet-clause-walk : goal.returns-in-Unmet-clause-walk
@@ -40,7 +40,7 @@ returns-in-Unmet-clause-walk g c =
     let w = c.seek.new.self in
     let grown = walk_grows c.in_ok-weigh.ensures.kept c.requires.walk in
     let some = c.in-Some.ensures.some in
-    let weighed = weighed_at p (g.R.Reader.tells c.weigh.new.reader) (naming_of c.in_ok-weigh.ensures.kept.sound) w c.in-Some.node c.in-Some.number c.seek.ensures.stands some.2 some.0 some.1 some.3 c.in-Unmet.is c.in_ok-weigh.ensures.weighed in
+    let weighed = weighed_at p (g.R.Reader.tells c.weigh.new.reader) (naming_of c.in_ok-weigh.ensures.kept.sound) (few_nodes p c.tree.ensures c.len.ensures.number c.len.ensures.few) w c.in-Some.node c.in-Some.number c.seek.ensures.stands some.2 some.0 some.1 some.3 c.in-Unmet.is c.in_ok-weigh.ensures.weighed in
     (passes p (g.R.Reader.tells c.weigh.new.reader) v w grown c.seek.ensures.same.2 c.seek.ensures.stands c.seek.ensures.passed (code_of some.0 c.in-Some.ensures.few.0) some.2 some.3 c.pass.new.self None c.pass.ensures weighed).walk
 
 pub returns-in-Unmet-clause-passage : goal.returns-in-Unmet-clause-passage
@@ -50,7 +50,7 @@ returns-in-Unmet-clause-passage g c =
     let w = c.seek.new.self in
     let grown = walk_grows c.in_ok-weigh.ensures.kept c.requires.walk in
     let some = c.in-Some.ensures.some in
-    let weighed = weighed_at p (g.R.Reader.tells c.weigh.new.reader) (naming_of c.in_ok-weigh.ensures.kept.sound) w c.in-Some.node c.in-Some.number c.seek.ensures.stands some.2 some.0 some.1 some.3 c.in-Unmet.is c.in_ok-weigh.ensures.weighed in
+    let weighed = weighed_at p (g.R.Reader.tells c.weigh.new.reader) (naming_of c.in_ok-weigh.ensures.kept.sound) (few_nodes p c.tree.ensures c.len.ensures.number c.len.ensures.few) w c.in-Some.node c.in-Some.number c.seek.ensures.stands some.2 some.0 some.1 some.3 c.in-Unmet.is c.in_ok-weigh.ensures.weighed in
     (passes p (g.R.Reader.tells c.weigh.new.reader) v w grown c.seek.ensures.same.2 c.seek.ensures.stands c.seek.ensures.passed (code_of some.0 c.in-Some.ensures.few.0) some.2 some.3 c.pass.new.self None c.pass.ensures weighed).more
 
 pub returns-in_ok-keep-in-Met-clause-walk : goal.returns-in_ok-keep-in-Met-clause-walk
@@ -60,7 +60,7 @@ returns-in_ok-keep-in-Met-clause-walk g c =
     let w = c.seek.new.self in
     let grown = walk_grows c.in_ok-weigh.ensures.kept c.requires.walk in
     let some = c.in-Some.ensures.some in
-    let weighed = weighed_at p (g.R.Reader.tells c.weigh.new.reader) (naming_of c.in_ok-weigh.ensures.kept.sound) w c.in-Some.node c.in-Some.number c.seek.ensures.stands some.2 some.0 some.1 some.3 c.in-Met.is c.in_ok-weigh.ensures.weighed in
+    let weighed = weighed_at p (g.R.Reader.tells c.weigh.new.reader) (naming_of c.in_ok-weigh.ensures.kept.sound) (few_nodes p c.tree.ensures c.len.ensures.number c.len.ensures.few) w c.in-Some.node c.in-Some.number c.seek.ensures.stands some.2 some.0 some.1 some.3 c.in-Met.is c.in_ok-weigh.ensures.weighed in
     (passes p (g.R.Reader.tells c.weigh.new.reader) v w grown c.seek.ensures.same.2 c.seek.ensures.stands c.seek.ensures.passed (code_of some.0 c.in-Some.ensures.few.0) some.2 some.3 c.keep.new.self (Some c.in-Met.receiver.0) c.in_ok-keep-in-Met.ensures.kept weighed).walk
 
 pub returns-in_ok-keep-in-Met-clause-passage : goal.returns-in_ok-keep-in-Met-clause-passage
@@ -70,7 +70,7 @@ returns-in_ok-keep-in-Met-clause-passage g c =
     let w = c.seek.new.self in
     let grown = walk_grows c.in_ok-weigh.ensures.kept c.requires.walk in
     let some = c.in-Some.ensures.some in
-    let weighed = weighed_at p (g.R.Reader.tells c.weigh.new.reader) (naming_of c.in_ok-weigh.ensures.kept.sound) w c.in-Some.node c.in-Some.number c.seek.ensures.stands some.2 some.0 some.1 some.3 c.in-Met.is c.in_ok-weigh.ensures.weighed in
+    let weighed = weighed_at p (g.R.Reader.tells c.weigh.new.reader) (naming_of c.in_ok-weigh.ensures.kept.sound) (few_nodes p c.tree.ensures c.len.ensures.number c.len.ensures.few) w c.in-Some.node c.in-Some.number c.seek.ensures.stands some.2 some.0 some.1 some.3 c.in-Met.is c.in_ok-weigh.ensures.weighed in
     (passes p (g.R.Reader.tells c.weigh.new.reader) v w grown c.seek.ensures.same.2 c.seek.ensures.stands c.seek.ensures.passed (code_of some.0 c.in-Some.ensures.few.0) some.2 some.3 c.keep.new.self (Some c.in-Met.receiver.0) c.in_ok-keep-in-Met.ensures.kept weighed).more
 
 pub returns-in_err-keep-in-Met-clause-walk : goal.returns-in_err-keep-in-Met-clause-walk

@@ -1,7 +1,7 @@
 use Rattle.std.proofs.Common.{◌∙◌, sym}
 use Rattle.equation_law.specs.Codes.{instance_by, reference_by}
 use Rattle.equation_law.specs.Systems.{program_of}
-use Rattle.expr_eval.proofs.Forms.{grows_then}
+use Rattle.equation_law.proofs.Grown.{grows_on}
 use Rattle.expr_eval.proofs.Growing.{comes_more}
 use Rattle.collection_attrs.proofs.Stepping.{at_rules, condition_is, receiver_known}
 use Rattle.collection_attrs.proofs.Outcomes.{given, stopped, weighs_halted, weighs_met, weighs_stuck, weighs_unmet}
@@ -59,7 +59,7 @@ returns-in_err-instance-in-Done-clause-kept g c =
     let at = at_rules p c.rules.ensures c.contribution-contribution.ensures in
     let first = c.in_ok-instance.ensures.evaluates at.contribution.condition (condition_is p c.rules.ensures c.contribution-contribution.ensures) in
     let second = c.in_err-instance-in-Done.ensures.evaluates at.contribution.receiver at.receiver in
-    grows_then first.kept second.kept
+    grows_on first.kept second.kept
 
 pub returns-in-Need-2-clause-kept : goal.returns-in-Need-2-clause-kept
 returns-in-Need-2-clause-kept g c =
@@ -67,7 +67,7 @@ returns-in-Need-2-clause-kept g c =
     let at = at_rules p c.rules.ensures c.contribution-contribution.ensures in
     let first = c.in_ok-instance.ensures.evaluates at.contribution.condition (condition_is p c.rules.ensures c.contribution-contribution.ensures) in
     let second = c.in_ok-instance-in-Done.ensures.evaluates at.contribution.receiver at.receiver in
-    grows_then first.kept second.kept
+    grows_on first.kept second.kept
 
 pub returns-in-Need-2-clause-weighed : goal.returns-in-Need-2-clause-weighed
 returns-in-Need-2-clause-weighed g c = λ b is stands.
@@ -80,16 +80,16 @@ returns-in-Need-2-clause-weighed g c = λ b is stands.
       λ names in_it. weighs_stuck p (g.R.Reader.tells c.evaluate_part.new.reader).has names c.args.number c.args.node (stands names in_it) at.is is (instance_by p names c.in-Need-2.instance) (comes_more second.kept.values ((given first c.in-Done.is).comes names (second.kept.names names in_it))) (sym (c.truth.ensures names) ∙ c.if-not-truth.false) (stop.wants names in_it),
     )
 
-pub returns-clause-kept : goal.returns-clause-kept
-returns-clause-kept g c =
+pub returns-in-Done-2-clause-kept : goal.returns-in-Done-2-clause-kept
+returns-in-Done-2-clause-kept g c =
     let p = program_of c.args.system.now in
     let at = at_rules p c.rules.ensures c.contribution-contribution.ensures in
     let first = c.in_ok-instance.ensures.evaluates at.contribution.condition (condition_is p c.rules.ensures c.contribution-contribution.ensures) in
     let second = c.in_ok-instance-in-Done.ensures.evaluates at.contribution.receiver at.receiver in
-    grows_then first.kept second.kept
+    grows_on first.kept second.kept
 
-pub returns-clause-weighed : goal.returns-clause-weighed
-returns-clause-weighed g c = λ b is stands.
+pub returns-in-Done-2-clause-weighed : goal.returns-in-Done-2-clause-weighed
+returns-in-Done-2-clause-weighed g c = λ b is stands.
     let p = program_of c.args.system.now in
     let at = at_rules p c.rules.ensures c.contribution-contribution.ensures in
     let first = c.in_ok-instance.ensures.evaluates at.contribution.condition (condition_is p c.rules.ensures c.contribution-contribution.ensures) in

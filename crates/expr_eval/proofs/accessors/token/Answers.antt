@@ -7,7 +7,7 @@ use Rattle.equation_law.specs.Program.{text_of}
 use Rattle.equation_law.specs.Systems.{program_of}
 use Rattle.set_values.proofs.TextCodes.{first_text_by}
 use Rattle.expr_eval.specs.Evaluating.{world_in}
-use Rattle.expr_eval.proofs.Accessed.{on_node, on_null, token_by}
+use Rattle.expr_eval.proofs.Accessed.{on_node, on_null, source_within, token_by}
 use Rattle.expr_eval.proofs.accessors.token.Goals as goal
 
 pub returns-in-None-clause-value : goal.returns-in-None-clause-value
@@ -20,7 +20,7 @@ returns-in-Some-clause-value c n is =
     ap Gives (c.decoded.ensures.value n (first_text_by c.args.system.now is))
     ∙ ap (λ (texts : ℕ → List ℕ). Gives (decoded texts c.args.kind c.code_at.result)) is.texts
     ∙ ap (λ o. Gives (decoded (text_of p) c.args.kind o)) (c.code_at.ensures ∙ ap (λ (nodes : List Node). token_in nodes c.in-Some.node c.args.k.0) c.tree.ensures)
-    ∙ token_by is c.args.kind c.in-Some.node c.args.k.0
+    ∙ token_by is c.args.kind c.in-Some.node c.args.k.0 (source_within c.in-Some.node c.args.receiver.0 c.requires c.in-Some.ensures)
     ∙ on_node is (token_at (world_in c.args.system.now) c.args.kind c.args.k.0) c.in-Some.node c.args.receiver.0 c.in-Some.ensures
 
 pub returns-in-None-clause-coded : goal.returns-in-None-clause-coded

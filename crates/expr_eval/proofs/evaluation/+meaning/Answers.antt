@@ -1,9 +1,9 @@
 -- What the forms' parts that were evaluated give.
-use Rattle.std.proofs.Common.{◌<◌, [], refl, arith, subst, sym}
+use Rattle.std.proofs.Common.{◌<◌, List, [], slice_set, refl, arith, ap, subst, sym, ◌∙◌}
 use Rattle.attr_rules.specs.Expression.{expression_of}
 use Rattle.equation_law.specs.Codes.{Naming, source_names, value_by}
 use Rattle.equation_law.specs.Systems.{program_of}
-use Rattle.expr_eval.proofs.Forms.{advances_self, advances_then, and_ends, and_goes, and_stops, boxed, call_boxed, call_goes, call_stops, call_stops_at, came_as, choice_boxed, if_otherwise, if_stops, if_then, leaf_reads, none_said, one_makes, or_ends, or_goes, or_stops, out_of_memory, read_as, said, said_is, token_goes, token_stops, two_make, two_stop}
+use Rattle.expr_eval.proofs.Forms.{advances_read, advances_self, advances_then, and_ends, and_goes, and_stops, boxed, call_boxed, call_goes, call_stops, call_stops_at, came_as, choice_boxed, if_otherwise, if_stops, if_then, leaf_reads, node_goes, node_stops, none_said, one_makes, or_ends, or_goes, or_stops, out_of_memory, read_as, said, said_is, token_goes, token_stops, two_make, two_stop}
 use Rattle.std.specs.Prelude.{Vec}
 use Rattle.std.specs.declared.alloc.Global.{Global}
 use Rattle.equation_law.specs.declared.coding.Single.{Single}
@@ -15,7 +15,7 @@ use Rattle.attr_rules.specs.Types.{parameter_kinds}
 use Rattle.expr_eval.proofs.Given.{boxed_arguments, first_halts, for_parameters, none_given, one_given, one_more, rest_halts, room_behind, said_arguments, thrown_arguments}
 use Rattle.expr_eval.proofs.Growing.{ranged_more, stands_more}
 use Rattle.expr_eval.proofs.Over.{done_further}
-use Rattle.expr_eval.proofs.Resuming.{going_is, halted, handed, loses, over_by, over_ends, over_halts, puts, range_stops, stood_first, stops_at, taken, taken_in}
+use Rattle.expr_eval.proofs.Resuming.{going_is, halted, handed, loses, over_by, over_ends, over_halts, puts, range_stops, read_at_element, stood_first, stops_at, taken, taken_in}
 use Rattle.expr_eval.proofs.evaluation.+meaning.Goals as goal
 
 any_names : Naming
@@ -124,8 +124,19 @@ standing-returns-in_err-from-in-None g t c =
 pub standing-returns-in_ok-at_first-in-None : goal.standing-returns-in_ok-at_first-in-None
 standing-returns-in_ok-at_first-in-None g t c =
     let range = read_as (sym c.requires.range) (came_as c.in_ok-from-in-None.was c.meaning.ensures) in
-    let stood = stood_first c.args.context.now (expression_of c.args.form.now) range c.in_ok-at_first-in-None.ensures.elements c.in_ok-at_first-in-None.ensures.first in
+    let stood = stood_first c.args.context.now (expression_of c.args.form.now) range c.in_ok-at_first-in-None.ensures.kept c.in_ok-at_first-in-None.ensures.elements c.in_ok-at_first-in-None.ensures.first in
     record { kept = advances_then (loses c.take.new.self (advances_self c.requires.ready) c.in-None.ensures.loses) stood.kept; is = stood.is }
+
+pub standing-returns-in_err-at_first-in-None : goal.standing-returns-in_err-at_first-in-None
+standing-returns-in_err-at_first-in-None g t c =
+    let context = c.args.context.now in
+    let e = expression_of c.args.form.now in
+    let range = read_as (sym c.requires.range) (came_as c.in_ok-from-in-None.was c.meaning.ensures) in
+    let kept = advances_then (loses c.take.new.self (advances_self c.requires.ready) c.in-None.ensures.loses) (advances_then range.kept (advances_read range.kept.sound c.in_err-at_first-in-None.ensures.kept)) in
+    handed (ReadsStand context.system.now _ _ (place_in context) context.names.now (making_of e) e (body_of e)) c.from_residual-in_err-at_first-in-None.ensures (record { kept = kept; is = tt })
+
+pub with_element-returns-clause-reads : goal.with_element-returns-clause-reads
+with_element-returns-clause-reads g t c = read_at_element c.args.context.now c.args.element (c.deref.ensures.value ∙ ap (λ (xs : List Single). slice_set xs 0 c.args.element) c.requires.room.1) c.meaning.ensures
 
 pub meaning-returns-in-Leaf : goal.meaning-returns-in-Leaf
 meaning-returns-in-Leaf g t c = leaf_reads c.requires c.in-Leaf.ensures c.put_leaf.ensures
@@ -138,6 +149,12 @@ meaning-returns-in-Ok g t c = token_goes c.args.expression.now c.in-Token.ensure
 
 pub meaning-returns-in-Err : goal.meaning-returns-in-Err
 meaning-returns-in-Err g t c = token_stops c.args.expression.now c.in-Token.ensures c.in-Err.is c.meaning-in-Token.ensures
+
+pub put_of_node-returns-in-Ok : goal.put_of_node-returns-in-Ok
+put_of_node-returns-in-Ok g t c = node_goes c.args.form.now c.requires.part c.in-Ok.is c.meaning.ensures c.node-node.ensures c.put_node.ensures
+
+pub put_of_node-returns-in-Err : goal.put_of_node-returns-in-Err
+put_of_node-returns-in-Err g t c = node_stops c.args.form.now c.requires.part c.in-Err.is c.meaning.ensures
 
 pub meaning-returns-in-Ok-came : goal.meaning-returns-in-Ok-came
 meaning-returns-in-Ok-came g t c = two_make c.args.expression.now c.in-Two.ensures c.in-Ok-came.is c.meaning-in-Two.ensures c.meaning-in-Ok-came.ensures c.make_both.ensures

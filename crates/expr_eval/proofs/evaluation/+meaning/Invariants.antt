@@ -24,6 +24,9 @@ decreases-put_call g a = 9 * (weight a.receiver.now + arguments_weight a.argumen
 abbrev pub decreases-put_choice : goal.decreases-put_choice
 decreases-put_choice g a = 9 * (weight a.condition.now + weight a.then.now + weight a.otherwise.now) + 7
 
+abbrev pub decreases-put_of_node : goal.decreases-put_of_node
+decreases-put_of_node g a = 9 * weight a.part.now + 7
+
 abbrev pub decreases-over_form : goal.decreases-over_form
 decreases-over_form g a = 9 * max (weight a.range.now) (weight a.body.now) + 9
 

@@ -5,7 +5,7 @@ use Rattle.expr_eval.specs.Saved.{begun}
 use Rattle.expr_eval.proofs.evaluation.at_first.Goals as goal
 
 pub returns-clause-first : goal.returns-clause-first
-returns-clause-first c =
+returns-clause-first g c =
     let system = c.args.context.now.system.now in
     record {
       room = c.in_ok-names.ensures;

@@ -8,7 +8,7 @@ pub returns-then-eq : goal.returns-then-eq
 returns-then-eq g c =
     let system = c.args.context.now.system.now in
     call_null (program_of system) _ c.args.attr c.args.args c.args.node.0 c.default_of.result c.attribute_kind-kind.result c.requires.sound (search rules) c.attribute_kind-kind.ensures
-    (λ n at. c.default_of.ensures.value n (first_text_by system (c.requires.sound.named n at).0)) (c.default_of.ensures.elements (program_of system))
+    (λ n at. c.default_of.ensures.value n (first_text_by system (c.requires.sound.named n at))) (c.default_of.ensures.elements (program_of system))
 
 pub returns : goal.returns
 returns g c =

@@ -20,4 +20,4 @@ returns g c q there =
     let kept : option_map target_in (slice_get p.rules.equations at) ≡ Some c.target.result = ap (λ (rules : RuleSet). option_map target_in (slice_get rules.equations at)) (sym c.rules.ensures) ∙ c.target.ensures in
     let one : Some q.target ≡ Some c.target.result = ap (λ (o : Option Equation). option_map target_in o) (sym there) ∙ kept in
     let same : q.target ≡ c.target.result = cc in
-    subst (λ (target : Target). Evaluates p (g.R.Reader.tells c.args.reader.now) (g.R.Reader.tells c.evaluate_for.new.reader) (site_reads p target.attribute.0 c.args.site.now) c.evaluate_for.result) (sym same) (evaluated c.evaluate_for.ensures)
+    subst (λ (target : Target). Evaluates p (g.R.Reader.tells c.args.reader.now) (g.R.Reader.tells c.evaluate_for.new.reader) (site_reads p target.attribute.0 c.args.site.now) c.evaluate_for.result) (sym same) (evaluated c.evaluate_for.ensures.reads)

@@ -1,17 +1,17 @@
-use Rattle.std.proofs.Common.{◌<◌, arith, length, sym, subst}
+use Rattle.std.proofs.Common.{◌<◌, arith, length, refl, sym, subst}
 use Rattle.attr_rules.specs.Rules.{RuleSet}
 use Rattle.equation_law.specs.Systems.{program_of}
-use Rattle.expr_eval.proofs.Forms.{grows_self, grows_then}
+use Rattle.equation_law.proofs.Grown.{grows_itself, grows_on}
 use Rattle.collection_attrs.specs.Surveys.{noted_in}
 use Rattle.collection_attrs.proofs.Grown.{naming_of, survey_new, surveyed_grows, walk_grows}
 use Rattle.collection_attrs.proofs.Outcomes.{comes_there, given, stopped, wants_there}
-use Rattle.collection_attrs.proofs.Stepping.{at_rules, value_known}
-use Rattle.collection_attrs.proofs.Surveying.{counted_for, counts_all, counts_not, counts_one, surveyed_for, wants_for}
+use Rattle.collection_attrs.proofs.Stepping.{at_rules, few_nodes, value_known}
+use Rattle.collection_attrs.proofs.Surveying.{counted_for, counts_all, counts_not, counts_one, for_same, surveyed_for, wants_for}
 use Rattle.collection_attrs.proofs.surveys.Survey.count_kept.Goals as goal
 
 pub kept-init : goal.kept-init
 kept-init g c = record {
-  kept = grows_self c.requires.sound;
+  kept = grows_itself c.requires.sound;
   survey = surveyed_for c.requires.sound c.requires.collection.1 c.requires.collection.3;
   within = c.requires.within;
   saved = c.requires.saved;
@@ -54,7 +54,6 @@ kept-preserved g c =
     let w = c.args.offers.now in
     let d = c.requires.collection.0 in
     let of = c.requires.collection.1 in
-    let for = c.requires.collection.2 in
     let place = c.in-Some.place in
     let n = noted_in c.entry-entry.result in
     let there = c.entry-entry.ensures in
@@ -63,9 +62,11 @@ kept-preserved g c =
     let step = c.in_ok-value.ensures.evaluates at.contribution.value at.value in
     let done = given step c.in-Done.is in
     let counted = c.in_ok-count-in-Done.ensures.counted in
-    let kept = grows_then i.kept step.kept in
-    let one = counts_one p (g.R.Reader.tells c.evaluate_part.new.reader) d step.kept.sound w (walk_grows kept c.requires.walk) for c.kept.self of (surveyed_grows step.kept (i.survey d of)) i.within place c.in-Some.ensures.some n there at.contribution at.is c.count.new.self _ counted.0 counted.1 counted.2
-    (λ names in_it. comes_there p names at.contribution c.entry-entry.result.node ((naming_of step.kept.sound names in_it).sources c.entry-entry.result.node note.within) at.contribution.value (done.comes names in_it))
+    let kept = grows_on i.kept step.kept in
+    let few = few_nodes p c.tree.ensures c.len.ensures.number c.len.ensures.few in
+    let within = note.within in
+    let one = counts_one p (g.R.Reader.tells c.evaluate_part.new.reader) d step.kept.sound w (walk_grows kept c.requires.walk) (for_same p d w w kept refl refl c.requires.collection.2) c.kept.self of (surveyed_grows step.kept (i.survey d of)) i.within place c.in-Some.ensures.some n there at.contribution at.is c.count.new.self _ counted.0 counted.1 counted.2
+    (λ names in_it. comes_there p names at.contribution c.entry-entry.result.node ((naming_of step.kept.sound names in_it).sources c.entry-entry.result.node (omega (arith, within, few))) at.contribution.value (done.comes names in_it))
     in
     let inside = c.in-Some.ensures.within.1 in
     let taken = counted.0 in
@@ -97,18 +98,20 @@ returns-in-Need-clause-stuck g c =
     let w = c.args.offers.now in
     let d = c.requires.collection.0 in
     let of = c.requires.collection.1 in
-    let for = c.requires.collection.2 in
     let place = c.in-Some.place in
     let n = noted_in c.entry-entry.result in
     let there = c.entry-entry.ensures in
     let note = c.requires.walk.notable place n there in
     let at = at_rules p c.rules-rules.ensures c.contribution.ensures in
     let step = c.in_ok-value.ensures.evaluates at.contribution.value at.value in
-    let stop = stopped step c.in-Need.is in (
+    let stop = stopped step c.in-Need.is in
+    let kept = grows_on i.kept step.kept in
+    let few = few_nodes p c.tree.ensures c.len.ensures.number c.len.ensures.few in
+    let within = note.within in (
       stop.coded,
       wants_for step.kept.sound of c.in-Need.instance
-          (counts_not p (g.R.Reader.tells c.evaluate_part.new.reader) d step.kept.sound w (walk_grows (grows_then i.kept step.kept) c.requires.walk) for c.kept.self of (surveyed_grows step.kept (i.survey d of)) i.within place c.in-Some.ensures.some n there at.contribution at.is c.in-Need.instance
-          (λ names in_it. wants_there p names at.contribution c.entry-entry.result.node ((naming_of step.kept.sound names in_it).sources c.entry-entry.result.node note.within) at.contribution.value (stop.wants names in_it))),
+          (counts_not p (g.R.Reader.tells c.evaluate_part.new.reader) d step.kept.sound w (walk_grows kept c.requires.walk) (for_same p d w w kept refl refl c.requires.collection.2) c.kept.self of (surveyed_grows step.kept (i.survey d of)) i.within place c.in-Some.ensures.some n there at.contribution at.is c.in-Need.instance
+          (λ names in_it. wants_there p names at.contribution c.entry-entry.result.node ((naming_of step.kept.sound names in_it).sources c.entry-entry.result.node (omega (arith, within, few))) at.contribution.value (stop.wants names in_it))),
     )
 
 pub returns-clause-counted : goal.returns-clause-counted
@@ -117,4 +120,5 @@ returns-clause-counted g c =
     let i = c.kept.invariant in
     let d = c.requires.collection.0 in
     let of = c.requires.collection.1 in
-    counted_for i.kept.sound of (counts_all p (g.R.Reader.tells c.kept.reader) d i.kept.sound c.args.offers.now (walk_grows i.kept c.requires.walk) c.requires.collection.2 c.kept.self of (i.survey d of) i.within c.in_default.ensures.none)
+    let w = c.args.offers.now in
+    counted_for i.kept.sound of (counts_all p (g.R.Reader.tells c.kept.reader) d i.kept.sound w (walk_grows i.kept c.requires.walk) (for_same p d w w i.kept refl refl c.requires.collection.2) c.kept.self of (i.survey d of) i.within c.in_default.ensures.none)

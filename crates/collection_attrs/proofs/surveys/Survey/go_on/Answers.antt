@@ -4,7 +4,7 @@ use Rattle.equation_law.specs.Equations.{offers_below}
 use Rattle.equation_law.specs.Systems.{program_of}
 use Rattle.equation_law.specs.Values.{Value}
 use Rattle.expr_eval.specs.Evaluating.{Comes}
-use Rattle.expr_eval.proofs.Forms.{grows_self, grows_then}
+use Rattle.equation_law.proofs.Grown.{grows_itself, grows_on}
 use Rattle.collection_attrs.specs.Evaluations.{IsStuckAt, demands_of}
 use Rattle.collection_attrs.specs.Surveys.{HasCounted, IsPassage}
 use Rattle.collection_attrs.proofs.Grown.{counted_grows, surveyed_grows, walk_grows}
@@ -17,7 +17,7 @@ offers-init g c =
     let t = g.R.Reader.tells c.args.reader.now in
     let begun = fitted p t c.requires.sound c.requires.collection.1 c.args.self.now c.fit.new.self c.args.offers.now c.fit.ensures c.requires.collection.3 in
     record {
-      kept = grows_self c.requires.sound;
+      kept = grows_itself c.requires.sound;
       walk = c.requires.walk;
       same = (refl, refl);
       survey = surveyed_for c.requires.sound c.requires.collection.1 begun.0;
@@ -31,7 +31,7 @@ count_kept-requires-clause-collection g c =
     let i = c.offers.invariant in
     let d = c.requires.collection.0 in
     let of = c.requires.collection.1 in
-    (d, of, for_same p d c.args.offers.now c.offers.offers i.same.0 i.same.1 c.requires.collection.2, i.survey d of)
+    (d, of, for_same p d c.args.offers.now c.offers.offers i.kept i.same.0 i.same.1 c.requires.collection.2, i.survey d of)
 
 pub returns-in_err-instance-clause-walk : goal.returns-in_err-instance-clause-walk
 returns-in_err-instance-clause-walk g c =
@@ -51,7 +51,7 @@ returns-in-Some-clause-evaluates g c =
     let i = c.offers.invariant in
     let counting = c.count_kept.ensures in
     let stop = subst (λ (o : Option CodedInstance). IfSome o (IsStuckAt p (g.R.Reader.tells c.count_kept.new.reader) c.args.of)) c.in-Some.is c.in_ok-instance.ensures.stuck in
-    λ x is. record { kept = grows_then i.kept counting.kept; answer = record { wants = stop.1 x is; coded = stop.0 } }
+    λ x is. record { kept = grows_on i.kept counting.kept; answer = record { wants = stop.1 x is; coded = stop.0 } }
 
 pub returns-in_err-pass_next-clause-survey : goal.returns-in_err-pass_next-clause-survey
 returns-in_err-pass_next-clause-survey g c =
@@ -86,7 +86,7 @@ offers-preserved g c =
     let counting = c.count_kept.ensures in
     let passing = c.pass_next.ensures in
     record {
-      kept = grows_then (grows_then i.kept counting.kept) passing.kept;
+      kept = grows_on (grows_on i.kept counting.kept) passing.kept;
       walk = passing.walk;
       same = (passing.same.0 ∙ i.same.0, passing.same.1 ∙ i.same.1);
       survey = λ x is. surveyed_grows passing.kept (counting.survey x is);
@@ -107,9 +107,9 @@ returns-in-Stuck-clause-evaluates g c =
     let passing = c.pass_next.ensures in
     let same = passing.same in
     let s = c.count_kept.new.self in
-    let kept = grows_then (grows_then i.kept counting.kept) passing.kept in
+    let kept = grows_on (grows_on i.kept counting.kept) passing.kept in
     let counted = subst (λ (o : Option CodedInstance). IfNone o (HasCounted p (g.R.Reader.tells c.count_kept.new.reader) c.args.of w s)) c.in_default.is c.in_ok-instance.ensures.counted in
-    let for = for_same p d w u same.0 same.1 (for_same p d c.args.offers.now w i.same.0 i.same.1 c.requires.collection.2) in
+    let for = for_same p d w u (grows_on counting.kept passing.kept) same.0 same.1 (for_same p d c.args.offers.now w i.kept i.same.0 i.same.1 c.requires.collection.2) in
     let stop = subst (IsPassage p t w u) c.in-Stuck.is c.in_ok-pass_next.ensures.passage in
     let h = counted_stuck p t d kept.sound u passing.walk for s (counted_same p t d w u s stop.0 (counted_grows passing.kept (counted d of))) c.in-Stuck.instance stop.2 in
     λ x is. record { kept = kept; answer = record { wants = wants_for kept.sound of c.in-Stuck.instance h x is; coded = stop.1 } }
@@ -127,9 +127,9 @@ returns-in-Ended-clause-evaluates g c =
     let passing = c.pass_next.ensures in
     let same = passing.same in
     let s = c.count_kept.new.self in
-    let kept = grows_then (grows_then i.kept counting.kept) passing.kept in
+    let kept = grows_on (grows_on i.kept counting.kept) passing.kept in
     let counted = subst (λ (o : Option CodedInstance). IfNone o (HasCounted p (g.R.Reader.tells c.count_kept.new.reader) c.args.of w s)) c.in_default.is c.in_ok-instance.ensures.counted in
-    let for = for_same p d w u same.0 same.1 (for_same p d c.args.offers.now w i.same.0 i.same.1 c.requires.collection.2) in
+    let for = for_same p d w u (grows_on counting.kept passing.kept) same.0 same.1 (for_same p d c.args.offers.now w i.kept i.same.0 i.same.1 c.requires.collection.2) in
     let stop = subst (IsPassage p t w u) c.in-Ended.is c.in_ok-pass_next.ensures.passage in
     let all = counted_same p t d w u s stop.0 (counted_grows passing.kept (counted d of)) in
     let h = counted_ends p t d kept.sound u passing.walk for s all stop.1 in

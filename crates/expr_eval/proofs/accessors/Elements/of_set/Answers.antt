@@ -7,8 +7,8 @@ use Rattle.equation_law.specs.Meaning.{named}
 use Rattle.expr_eval.proofs.Names.{all_named}
 use Rattle.expr_eval.proofs.accessors.Elements.of_set.Goals as goal
 
-pub returns : goal.returns
-returns c n is ordered =
+pub returns-clause-all : goal.returns-clause-all
+returns-clause-all g c n at =
     let values = map (single_by n) c.in_ok-values.values.items in
     let count : c.len-count.result ≡ length values = c.len-count.ensures ∙ c.in_ok-values.values.ok.0 ∙ sym (length-map c.in_ok-values.values.items (single_by n)) in
-    ap (λ (m : ℕ). map (named values) (range_with_len 0 m)) count ∙ all_named values ∙ c.in_ok-values.ensures n is ordered
+    ap (λ (m : ℕ). map (named values) (range_with_len 0 m)) count ∙ all_named values ∙ c.in_ok-values.ensures.list n at

@@ -1,7 +1,7 @@
 -- What a tree has of nodes that it doesn't have, and which numbers its nodes have.
 use Rattle.std.proofs.Common.{◌≡◌, ℕ, zero, suc, ◌+◌, ◌<◌, ◌≤◌, ◌^◌, ◌&&◌, ◌==◌, if◌then◌else◌, true, false, List, [], ◌∷◌, Option, Some, None, IfSome, length, slice_get, refl, sym, subst, arith}
 use Rattle.std.proofs.lemmas.Option.{slice_get_past}
-use Rattle.tree_arena.specs.Nodes.{Node, child_in, hanging_from, token_in, tokens_at}
+use Rattle.tree_arena.specs.Nodes.{Node, child_in, hanging_from, most_nodes, token_in, tokens_at}
 pub use Rattle.equation_law.proofs.Preordered.{none_counted}
 
 -- a node has no codes past its last component
@@ -33,11 +33,12 @@ child_within : (nodes : List Node) (n k i m : ℕ) → child_in nodes n k i ≡ 
 child_within [] n k i m h = absurd (let none : slice_get [] i ≡ None = slice_get_past {X = ℕ} [] i (omega arith) in cc)
 child_within (x ∷ nodes) n k i m h = let w = from_within 1 nodes n k i m h in omega (arith, w)
 
-pub child_inside : (nodes : List Node) (n k i : ℕ) (o : Option ℕ) → o ≡ child_in nodes n k i → IfSome o (λ m. m < length nodes)
-child_inside nodes n k i None e = tt
-child_inside nodes n k i (Some m) e = child_within nodes n k i m (sym e)
+-- so it is one that a source node may have
+pub child_sourced : (nodes : List Node) (n k i : ℕ) (o : Option ℕ) → length nodes ≤ most_nodes → o ≡ child_in nodes n k i → IfSome o (λ m. m < most_nodes)
+child_sourced nodes n k i None few e = tt
+child_sourced nodes n k i (Some m) few e = let w = child_within nodes n k i m (sym e) in omega (arith, w, few)
 
--- so it has a code
+-- and it has a code
 pub child_fits : (nodes : List Node) (n k i : ℕ) (o : Option ℕ) → length nodes < 2 ^ 32 → o ≡ child_in nodes n k i → IfSome o (λ m. m + 1 < 2 ^ 32)
 child_fits nodes n k i None few e = tt
 child_fits nodes n k i (Some m) few e = let w = child_within nodes n k i m (sym e) in omega (arith, w, few)

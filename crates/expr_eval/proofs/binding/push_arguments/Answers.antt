@@ -2,7 +2,7 @@ use Rattle.std.proofs.Common.{◌∙◌}
 use Rattle.attr_rules.specs.Types.{parameter_kinds}
 use Rattle.equation_law.specs.Codes.{codes_in}
 use Rattle.expr_eval.proofs.Bound.{argument_more}
-use Rattle.expr_eval.proofs.binding.arguments.Goals as goal
+use Rattle.expr_eval.proofs.binding.push_arguments.Goals as goal
 
 pub loop-kind-preserved : goal.loop-kind-preserved
 loop-kind-preserved c = record {
