@@ -7,7 +7,7 @@ use Rattle.attr_rules.specs.Rules.{is_single}
 use Rattle.solutions.specs.Leading.{none}
 use Rattle.equation_law.specs.declared.coding.Instance.{Instance as CodedInstance}
 use Rattle.equation_law.specs.declared.coding.Value.{Value as CodedValue}
-use Rattle.equation_law.specs.Checked.{IsInstance, IsProgram, IsValue, int, node, nodes, text, texts, truth}
+use Rattle.equation_law.specs.Checked.{HasSourcesAlone, IsInstance, IsProgram, IsValue, int, node, nodes, text, texts, tree, truth}
 use Rattle.equation_law.specs.Codes.{Naming, instance_by}
 use Rattle.equation_law.specs.Equations.{HasValue, kind_in}
 use Rattle.equation_law.specs.Loops.{HasLoop}
@@ -17,6 +17,7 @@ use Rattle.equation_law.specs.Values.{Value, as_kind}
 use Rattle.equation_law.specs.contracts.coding.InstancePartialEq.TheImpl as equality
 use Rattle.equation_law.proofs.Keys.{key_is}
 use Rattle.equation_law.proofs.QueryValues.{value_typed}
+use Rattle.equation_law.proofs.Tied.{never_makes}
 use Rattle.memo_cells.specs.declared.view.Frame.{Frame}
 use Rattle.memo_cells.specs.declared.view.View.{View}
 use Rattle.memo_cells.specs.Causes.{IsLogOn}
@@ -50,22 +51,23 @@ circular_loop X p names f v i (Circular on chain) a h = ends_has p i _ _ a
 circular_loop X p names f v i CellsFull a h = absurd h
 circular_loop X p names f v i Memory a h = absurd h
 
--- a value of a type is read at it as it is
-pub typed_as : (p : Program) (k : Kind) (v : Value) → IsValue p k v → as_kind k v ≡ v
-typed_as p _ _ (truth b) = refl
-typed_as p _ _ (int z h) = refl
-typed_as p _ _ (text t h) = refl
-typed_as p _ _ (node c r h) = refl
-typed_as p _ _ (texts s h) = refl
-typed_as p _ _ (nodes c s h) = refl
+-- a value of a type is read at it as it is, where nothing is made
+pub typed_as : (p : Program) → HasSourcesAlone p → (k : Kind) (v : Value) → IsValue p k v → as_kind k v ≡ v
+typed_as p bare _ _ (truth b) = refl
+typed_as p bare _ _ (int z h) = refl
+typed_as p bare _ _ (text t h) = refl
+typed_as p bare _ _ (node c r h) = refl
+typed_as p bare _ _ (texts s h) = refl
+typed_as p bare _ _ (tree c r ts h) = absurd (let made = h.made in let none = never_makes p bare h.attribute h.owner in cc)
+typed_as p bare _ _ (nodes c s h) = refl
 
-known_has : (p : Program) (names : Naming) (f : Frame) (v : View) (i : Instance) (x : CodedValue) → IsProgram p → IsInstance p i → IsKnownValue p names v i x → AnswersNoted p names f v i (Ok x)
-known_has p names f v i x good instance k = (subst (HasValue p i) (sym (k.coded ∙ typed_as p (kind_in p i) k.value (value_typed p good i instance k.value k.known.1))) k.known.1, k.known.0, k.elements)
+known_has : (p : Program) → HasSourcesAlone p → (names : Naming) (f : Frame) (v : View) (i : Instance) (x : CodedValue) → IsProgram p → IsInstance p i → IsKnownValue p names v i x → AnswersNoted p names f v i (Ok x)
+known_has p bare names f v i x good instance k = (subst (HasValue p i) (sym (k.coded ∙ typed_as p bare (kind_in p i) k.value (value_typed p good i instance k.value k.known.1))) k.known.1, k.known.0, k.elements)
 
 -- the answer that stood there
-pub asked_known : (p : Program) (names : Naming) (f : Frame) (v w : View) (i : Instance) (x : CodedValue) (n : ℕ) → IsProgram p → IsInstance p i → IsKnownValue p names w i x → w.claims ≡ v.claims → AsksNoted p names f v w i n n (Ok x)
-asked_known p names f v w i x n good instance k claims = record {
-  answer = known_has p names f w i x good instance k;
+pub asked_known : (p : Program) → HasSourcesAlone p → (names : Naming) (f : Frame) (v w : View) (i : Instance) (x : CodedValue) (n : ℕ) → IsProgram p → IsInstance p i → IsKnownValue p names w i x → w.claims ≡ v.claims → AsksNoted p names f v w i n n (Ok x)
+asked_known p bare names f v w i x n good instance k claims = record {
+  answer = known_has p bare names f w i x good instance k;
   circular = λ h. absurd h;
   claims = claims_same p i v w claims;
   known = λ _. (tt, refl);
@@ -104,9 +106,9 @@ module _ (p : Program) (names : Naming) (f : Frame) (v u w : View) (i : Instance
     claims_all : ClaimsKeys p i v w
     claims_all = claims_then p i i v u w none solved.claims kept (claims_same p i u w quiet)
 
-    pub asked_value : (x : CodedValue) → IsProgram p → IsInstance p i → IsKnownValue p names w i x → AsksNoted p names f v w i m n (Ok x)
-    asked_value x good instance k = record {
-      answer = known_has p names f w i x good instance k;
+    pub asked_value : (x : CodedValue) → HasSourcesAlone p → IsProgram p → IsInstance p i → IsKnownValue p names w i x → AsksNoted p names f v w i m n (Ok x)
+    asked_value x bare good instance k = record {
+      answer = known_has p bare names f w i x good instance k;
       circular = λ h. absurd h;
       claims = claims_all;
       known = λ k. absurd (unknown k);

@@ -33,9 +33,9 @@ one_collection p i c d is too = let both : Some d ≡ Some c = sym too ∙ is in
 pub walk_for : (p : Program) (c : Collection) (w : Walk) (a r : ℕ) → c.offers ≡ offers_below p a (Some r) → w.attribute ≡ a → w.root ≡ r → IsFor p w c
 walk_for p c w a r are attribute root = are ∙ ap (λ (b : ℕ). offers_below p b (Some r)) (sym attribute) ∙ ap (λ (s : ℕ). offers_below p w.attribute (Some s)) (sym root)
 
--- the walks that are for a collection by each naming
-pub walk_for_each : (p : Program) (c : Collections) (w : Walk) (a r : ℕ) → ByEachNaming p (λ names. (c names).offers ≡ offers_below p a (Some r)) → w.attribute ≡ a → w.root ≡ r → IsForEach p w c
-walk_for_each p c w a r are attribute root = λ names named. walk_for p (c names) w a r (are names named) attribute root
+-- the walks that are for a collection by each naming by which a desk may be read
+pub walk_for_each : (p : Program) (d : Held) → IsSound p (told_by d) → (c : Collections) (w : Walk) (a r : ℕ) → ByEachNaming p (λ names. (c names).offers ≡ offers_below p a (Some r)) → w.attribute ≡ a → w.root ≡ r → IsForEach p (told_by d) w c
+walk_for_each p d sound c w a r are attribute root = λ names in_it. walk_for p (c names) w a r (are names (naming_of sound names in_it)) attribute root
 
 -- how far it has gone, taken up or new
 pub survey_taken : (p : Program) (d : Held) → IsSound p (told_by d) → (i : CodedInstance) (of : Collector) (c : Collections) (o : Option Survey) (x : Survey) → AreCollectionOf p i c → IsCollectorOf p of c → IfSome o (λ s. x ≡ s) → IfNone o (IsNew p of x)

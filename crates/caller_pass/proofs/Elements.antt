@@ -7,7 +7,7 @@ use Rattle.attr_rules.specs.Rules.{is_single}
 use Rattle.ast_grammar.specs.declared.grammar.ClassId.{ClassId}
 use Rattle.equation_law.specs.declared.coding.Value.{Value as CodedValue}
 use Rattle.equation_law.specs.declared.coding.Value.TheVariants as coded
-use Rattle.equation_law.specs.Checked.{IsNodeOf, IsValue, int, node, nodes, text, texts, truth}
+use Rattle.equation_law.specs.Checked.{HasSourcesAlone, IsNodeOf, IsValue, int, node, nodes, text, texts, tree, truth}
 use Rattle.equation_law.specs.Codes.{AreElements, IsNamingOf, IsReference, Naming, nodes_by, value_by}
 use Rattle.equation_law.specs.Keys.{HasCode, IsElementCode}
 use Rattle.equation_law.specs.Names.{At, Instance, NodeName, node_cmp, text_cmp}
@@ -37,6 +37,7 @@ of_kind p _ _ (int z h) = refl
 of_kind p _ _ (text t h) = refl
 of_kind p _ _ (node c r h) = refl
 of_kind p _ _ (texts s h) = refl
+of_kind p _ _ (tree c r ts h) = refl
 of_kind p _ _ (nodes c s h) = refl
 
 texts_kind : (p : Program) (k : Kind) (v : Value) → IsValue p k v → (s : SetBy text_cmp) → v ≡ Texts s → k ≡ kinds.Texts
@@ -45,6 +46,7 @@ texts_kind p _ _ (int z h) s e = cc
 texts_kind p _ _ (text t h) s e = cc
 texts_kind p _ _ (node c r h) s e = cc
 texts_kind p _ _ (texts t h) s e = refl
+texts_kind p _ _ (tree c r ts h) s e = cc
 texts_kind p _ _ (nodes c t h) s e = cc
 
 nodes_kind : (p : Program) (k : Kind) (v : Value) → IsValue p k v → (s : SetBy node_cmp) → v ≡ Nodes s → (d : ClassId) × (k ≡ kinds.Nodes d) × ((n : NodeName) → has s n ≡ true → IsNodeOf p d (At n))
@@ -53,12 +55,13 @@ nodes_kind p _ _ (int z h) s e = cc
 nodes_kind p _ _ (text t h) s e = cc
 nodes_kind p _ _ (node c r h) s e = cc
 nodes_kind p _ _ (texts t h) s e = cc
+nodes_kind p _ _ (tree c r ts h) s e = cc
 nodes_kind p _ _ (nodes c t h) s e = let same : t ≡ s = cc in (c, refl, subst (λ (u : SetBy node_cmp). (n : NodeName) → has u n ≡ true → IsNodeOf p c (At n)) same h)
 
 not_both : {b : Bool} → b ≡ true → b ≡ false → ⊥
 not_both a b = let both = sym a ∙ b in cc
 
-module _ (p : Program) (names : Naming) (named : IsNamingOf p names) where
+module _ (p : Program) (bare : HasSourcesAlone p) (names : Naming) (named : IsNamingOf p names) where
   -- each code of the set is that of an element of its type
   pub are_elements : (k : Kind) (x : CodedValue) → IsValue p k (value_by names x) → AreElements p x → (c : ℕ) → Has (set_codes x) c → IsElementCode p k c × HasCode p k (value_by names x) c
   are_elements k (coded.Truth b) typed good c h = absurd h
@@ -80,7 +83,7 @@ module _ (p : Program) (names : Naming) (named : IsNamingOf p names) where
       its d of (suc k) some h =
           let n = names.node k in
           let yes = node_in names.node cs (suc k) n refl (is_among cs (suc k) h) in
-          let tied = node_tied p named d (suc k) (of n yes) in
+          let tied = node_tied p bare named d (suc k) (of n yes) in
           ((some, (At n, tied, of n yes)), tied_has p d (value_by names (coded.Nodes cs)) (suc k) (At n) tied yes)
 
   -- where the words show each code, they show the set
@@ -98,5 +101,5 @@ module _ (p : Program) (names : Naming) (named : IsNamingOf p names) where
       let kind = nodes_kind p k (value_by names (coded.Nodes cs)) typed (set_of {R = node_cmp} (nodes_by names.node cs)) refl in
       subst (λ (j : Kind). ShowsAtLeast p v i j (value_by names (coded.Nodes cs))) (sym kind.1) (λ n h.
       let r = node_code names.node cs n h in
-      let tied = subst (IsReference p r.0) r.2 (node_tied p named kind.0 r.0 (subst (IsNodeOf p kind.0) (sym r.2) (kind.2 n h))) in
+      let tied = subst (IsReference p r.0) r.2 (node_tied p bare named kind.0 r.0 (subst (IsNodeOf p kind.0) (sym r.2) (kind.2 n h))) in
       (r.0, tied, shown r.0 (among cs r.0 r.1)))

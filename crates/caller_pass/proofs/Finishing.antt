@@ -2,7 +2,7 @@
 use Rattle.std.proofs.Common.{◌≡◌, ℕ, inl, inr, false, List, Ok, Err, sym, subst}
 use Rattle.solutions.specs.Leading.{none}
 use Rattle.equation_law.specs.declared.coding.Value.{Value as CodedValue}
-use Rattle.equation_law.specs.Checked.{IsInstance, IsProgram, IsValue}
+use Rattle.equation_law.specs.Checked.{HasSourcesAlone, IsInstance, IsProgram, IsValue}
 use Rattle.equation_law.specs.Codes.{IsNamingOf, Naming, value_by}
 use Rattle.equation_law.specs.Equations.{equations_of, kind_in}
 use Rattle.equation_law.specs.Keys.{HasCode, HasElement, IsElementCode}
@@ -25,12 +25,12 @@ use Rattle.caller_pass.specs.Knowing.{HasEnded}
 use Rattle.caller_pass.proofs.Elements.{are_elements, shows_set}
 use Rattle.caller_pass.proofs.Knowing.{ended_value}
 
-module _ (p : Program) (names : Naming) (named : IsNamingOf p names) (good : IsProgram p) (f : Frame) (v : View) (i : Instance) (instance : IsInstance p i) (plain : (equations_of p).circular i ≡ false) (slot : ℕ) (cell : IsCellOf p f v i slot) (x : CodedValue) (ended : HasEnded p names v i x) where
+module _ (p : Program) (bare : HasSourcesAlone p) (names : Naming) (named : IsNamingOf p names) (good : IsProgram p) (f : Frame) (v : View) (i : Instance) (instance : IsInstance p i) (plain : (equations_of p).circular i ≡ false) (slot : ℕ) (cell : IsCellOf p f v i slot) (x : CodedValue) (ended : HasEnded p names v i x) where
   typed : IsValue p (kind_in p i) (value_by names x)
   typed = value_typed p good i instance (value_by names x) (ended_value p names v i x ended)
 
   its_elements : (c : ℕ) → Has (set_codes x) c → IsElementCode p (kind_in p i) c × HasCode p (kind_in p i) (value_by names x) c
-  its_elements = are_elements p names named (kind_in p i) x typed ended.elements
+  its_elements = are_elements p bare names named (kind_in p i) x typed ended.elements
 
   -- so their words are keys of it
   counted : (c : ℕ) → Has (set_codes x) c → IsElementCode p (kind_in p i) c × HasElement p i c
@@ -56,7 +56,7 @@ module _ (p : Program) (names : Naming) (named : IsNamingOf p names) (good : IsP
       show_full h = fills_words p i i none (set_codes x) counted f e.view (subst (λ (cs : List ℕ). LacksWord p f e.view i cs) are (back (λ q g. LacksWord q g e.view i codes) h))
 
       pub show_done : (done : Unit {0}) → ShowsAll (program_at e) e.view i codes → AnswersShow p names f e.view i x (Ok done)
-      show_done done h set = shows_set p names named e.view i (kind_in p i) x typed set (subst (λ (cs : List ℕ). ShowsAll p e.view i cs) are (back (λ q g. ShowsAll q e.view i codes) h))
+      show_done done h set = shows_set p bare names named e.view i (kind_in p i) x typed set (subst (λ (cs : List ℕ). ShowsAll p e.view i cs) are (back (λ q g. ShowsAll q e.view i codes) h))
 
 pub show_fault : (p : Program) (names : Naming) (f : Frame) (v : View) (i : Instance) (x : CodedValue) (e : AskFault) → e ≡ CellsFull → FillsCells p i f v → AnswersShow p names f v i x (Err e)
 show_fault p names f v i x e is full = subst (λ (d : AskFault). AnswersShow p names f v i x (Err d)) (sym is) full

@@ -8,7 +8,7 @@ use Rattle.equation_law.specs.declared.coding.Instance.{Instance as CodedInstanc
 use Rattle.equation_law.specs.declared.coding.Instance.TheVariants as coded_instance
 use Rattle.equation_law.specs.declared.coding.Value.{Value as CodedValue}
 use Rattle.equation_law.specs.declared.system.System.{System}
-use Rattle.equation_law.specs.Checked.{IsInstance, IsProgram, IsValue, int, node, nodes, text, texts, truth}
+use Rattle.equation_law.specs.Checked.{HasSourcesAlone, IsInstance, IsProgram, IsValue, int, node, nodes, text, texts, tree, truth}
 use Rattle.equation_law.specs.Codes.{AreElements, ByEachNaming, ByEachOrder, IsNamingOf, IsSmall, IsValueCode, Naming, instance_by, instance_of, source_names, value_by, value_coded}
 use Rattle.equation_law.specs.Equations.{HasValue, equations_of, is_ordered, kind_in}
 use Rattle.equation_law.specs.Loops.{Leads}
@@ -111,12 +111,12 @@ pub ended_value : (p : Program) (names : Naming) (v : View) (i : Instance) (x : 
 ended_value p names v i x e = ended p i (value_by names x) e.demands (ends_more (λ k w a. a.1) e.ends)
 
 -- an equation that ended with a value by one naming ended with it by each
-pub ended_each : (p : Program) → IsProgram p → (names : Naming) → IsNamingOf p names → (v : View) (i : CodedInstance) (x : CodedValue) → IsInstance p (instance_by p names i) → HasEnded p names v (instance_by p names i) x → ByEachNaming p (λ others. HasEnded p others v (instance_by p others i) x)
-ended_each p good names named v i x instance e others other =
+pub ended_each : (p : Program) → HasSourcesAlone p → IsProgram p → (names : Naming) → IsNamingOf p names → (v : View) (i : CodedInstance) (x : CodedValue) → IsInstance p (instance_by p names i) → HasEnded p names v (instance_by p names i) x → ByEachNaming p (λ others. HasEnded p others v (instance_by p others i) x)
+ended_each p bare good names named v i x instance e others other =
     let j = instance_by p names i in
     let typed = value_typed p good j instance (value_by names x) (ended_value p names v j x e) in
-    let value : value_by others x ≡ value_by names x = typed_tied p named (kind_in p j) x e.elements typed others other in
-    let same : instance_by p others i ≡ j = instance_tied p named i instance others other in
+    let value : value_by others x ≡ value_by names x = typed_tied p bare named (kind_in p j) x e.elements typed others other in
+    let same : instance_by p others i ≡ j = instance_tied p bare named i instance others other in
     record {
       demands = e.demands;
       ends = subst (λ (k : Instance). Ends (IsKnown p v) ((equations_of p).equation k) (value_by others x) e.demands) (sym same) (subst (λ (w : Value). Ends (IsKnown p v) ((equations_of p).equation j) w e.demands) (sym value) e.ends);
@@ -124,10 +124,10 @@ ended_each p good names named v i x instance e others other =
     }
 
 -- so it did where it did by each naming whose codes are in the order of their nodes
-pub ended_by_each : (p : Program) → IsProgram p → (v : View) (i : CodedInstance) (x : CodedValue) → IsInstanceByEach p i → ByEachOrder p (λ names. HasEnded p names v (instance_by p names i) x) → ByEachNaming p (λ names. HasEnded p names v (instance_by p names i) x)
-ended_by_each p good v i x instance h =
+pub ended_by_each : (p : Program) → HasSourcesAlone p → IsProgram p → (v : View) (i : CodedInstance) (x : CodedValue) → IsInstanceByEach p i → ByEachOrder p (λ names. HasEnded p names v (instance_by p names i) x) → ByEachNaming p (λ names. HasEnded p names v (instance_by p names i) x)
+ended_by_each p bare good v i x instance h =
     let plain = source_naming p in
-    ended_each p good (source_names (text_of p)) plain.0 v i x (instance (source_names (text_of p)) plain.0) (h (source_names (text_of p)) plain.0 plain.1)
+    ended_each p bare good (source_names (text_of p)) plain.0 v i x (instance (source_names (text_of p)) plain.0) (h (source_names (text_of p)) plain.0 plain.1)
 
 -- the elements of a value have codes, once the words of a set show it
 codes_of : (p : Program) (v : View) (a : AreApproximations p v) (i : Instance) (x : Value) (k : Kind) → kind_in p i ≡ k → (is_single k ≡ false → ShowsAtLeast p v i k x) → HaveCodes p k x
@@ -145,16 +145,17 @@ read_typed p _ _ (int z h) = int z h
 read_typed p _ _ (text t h) = text t h
 read_typed p _ _ (node c r h) = node c r h
 read_typed p _ _ (texts s h) = texts s h
+read_typed p _ _ (tree c r ts h) = node c r h.root
 read_typed p _ _ (nodes c s h) = nodes c s h
 
 -- so its code is tied to it
-code_tied : (p : Program) {names : Naming} → IsNamingOf p names → (k : Kind) (code : ℕ) (x : Value) → IsValue p k x → value_coded names k code ≡ as_kind k x → IsValueCode p k code (as_kind k x)
-code_tied p named k code x typed is n other = value_tied p named k code (subst (IsValue p k) (sym is) (read_typed p k x typed)) n other ∙ is
+code_tied : (p : Program) → HasSourcesAlone p → {names : Naming} → IsNamingOf p names → (k : Kind) (code : ℕ) (x : Value) → IsValue p k x → value_coded names k code ≡ as_kind k x → IsValueCode p k code (as_kind k x)
+code_tied p bare named k code x typed is n other = value_tied p bare named k code (subst (IsValue p k) (sym is) (read_typed p k x typed)) n other ∙ is
 
 -- its code may be settled, once the words of a set show it
-pub may_settle : (p : Program) (names : Naming) → IsNamingOf p names → IsProgram p → (f : Frame) (u v : View) (i : Instance) (slot code : ℕ) (kind : Kind) (x : CodedValue) → AreApproximations p v → IsInstance p i → IsAtLeast u v → IsCellOf p f v i slot → HasEnded p names u i x → (equations_of p).circular i ≡ false
+pub may_settle : (p : Program) → HasSourcesAlone p → (names : Naming) → IsNamingOf p names → IsProgram p → (f : Frame) (u v : View) (i : Instance) (slot code : ℕ) (kind : Kind) (x : CodedValue) → AreApproximations p v → IsInstance p i → IsAtLeast u v → IsCellOf p f v i slot → HasEnded p names u i x → (equations_of p).circular i ≡ false
     → kind ≡ kind_in p i → (is_single kind ≡ true → value_coded names kind code ≡ as_kind kind (value_by names x)) → IsSmall kind code → code < 2 ^ 32 → (is_single kind ≡ false → ShowsAtLeast p v i kind (value_by names x)) → MaySettle p v slot code
-may_settle p names named good f u v i slot code kind x words instance kept cell done plain kinds is small fits shown = record {
+may_settle p bare names named good f u v i slot code kind x words instance kept cell done plain kinds is small fits shown = record {
   key = cell.0;
   here = cell.1.1;
   settled = record {
@@ -165,7 +166,7 @@ may_settle p names named good f u v i slot code kind x words instance kept cell 
       value = value_by names x;
       has = ended_value p names u i x done;
       coded = subst (λ (k : Kind). is_single k ≡ true → IsValueCode p k code (as_kind k (value_by names x))) kinds
-          (λ single. code_tied p named kind code (value_by names x) (subst (λ (k : Kind). IsValue p k (value_by names x)) (sym kinds) (value_typed p good i instance (value_by names x) (ended_value p names u i x done))) (is single));
+          (λ single. code_tied p bare named kind code (value_by names x) (subst (λ (k : Kind). IsValue p k (value_by names x)) (sym kinds) (value_typed p good i instance (value_by names x) (ended_value p names u i x done))) (is single));
       small = subst (λ (k : Kind). IsSmall k code) kinds small;
       fits = fits;
       elements = codes_of p v words i (value_by names x) (kind_in p i) refl (subst (λ (k : Kind). is_single k ≡ false → ShowsAtLeast p v i k (value_by names x)) kinds shown);

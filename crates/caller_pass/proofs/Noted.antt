@@ -11,7 +11,7 @@ use Rattle.attr_rules.specs.declared.kinds.Kind.{Kind}
 use Rattle.attr_rules.specs.Rules.{is_single}
 use Rattle.equation_law.specs.declared.coding.Instance.{Instance as CodedInstance}
 use Rattle.equation_law.specs.declared.coding.Value.{Value as CodedValue}
-use Rattle.equation_law.specs.Checked.{IsInstance, IsProgram}
+use Rattle.equation_law.specs.Checked.{HasSourcesAlone, IsInstance, IsProgram}
 use Rattle.equation_law.specs.Codes.{AreElements, Naming, instance_by, value_by}
 use Rattle.equation_law.specs.Equations.{kind_in}
 use Rattle.equation_law.specs.Names.{Instance}
@@ -66,10 +66,10 @@ pub known_noted : (p : Program) (names : Naming) (v : View) (i : Instance) (x : 
 known_noted p names v i x h = record { value = h.value; has = h.known.1; coded = h.coded; elements = h.elements }
 
 -- so may that of an equation that ended
-pub ended_noted : (p : Program) (names : Naming) (v : View) (i : Instance) (x : CodedValue) → IsProgram p → IsInstance p i → HasEnded p names v i x → IsValueOf p names i x
-ended_noted p names v i x good instance h =
+pub ended_noted : (p : Program) → HasSourcesAlone p → (names : Naming) (v : View) (i : Instance) (x : CodedValue) → IsProgram p → IsInstance p i → HasEnded p names v i x → IsValueOf p names i x
+ended_noted p bare names v i x good instance h =
     let has = ended_value p names v i x h in
-    record { value = value_by names x; has = has; coded = sym (typed_as p (kind_in p i) (value_by names x) (value_typed p good i instance (value_by names x) has)); elements = h.elements }
+    record { value = value_by names x; has = has; coded = sym (typed_as p bare (kind_in p i) (value_by names x) (value_typed p good i instance (value_by names x) has)); elements = h.elements }
 
 -- a copy of what is noted, if there is memory for one
 pub copy_noted : (p : Program) (i : CodedInstance) (x : CodedValue) (r : Result CodedValue Memory) (o : Option CodedValue) → o ≡ result_ok r → IfOk r (λ y. (n : Naming) → value_by n y ≡ value_by n x) → IfOk r (λ y. (q : Program) → AreElements q x → AreElements q y) → IsNoted p i x → IfSome o (λ y. IsNoted p i y)

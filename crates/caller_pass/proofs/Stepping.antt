@@ -3,7 +3,7 @@ use Rattle.std.proofs.Common.{◌≡◌, Bool, false, true, Option, Some, None, 
 use Rattle.std.specs.Result.{IsErr, IsErrAnd, IsOk}
 use Rattle.solutions.specs.Leading.{more, none}
 use Rattle.equation_law.specs.declared.coding.Instance.{Instance as CodedInstance}
-use Rattle.equation_law.specs.Checked.{IsInstance, IsProgram}
+use Rattle.equation_law.specs.Checked.{HasSourcesAlone, IsInstance, IsProgram}
 use Rattle.equation_law.specs.Codes.{ByEachNaming, ByEachOrder, IsNamingOf, Naming, instance_by, instance_of, source_names}
 use Rattle.equation_law.specs.Equations.{HasValue, equations_of, is_declared}
 use Rattle.equation_law.specs.Loops.{Leads}
@@ -70,6 +70,9 @@ next_local p names f v i l n led local missing = record {
 
 -- what its equation demands where it is stuck: by the names of source nodes, and so by each naming
 module _ (p : Program) (good : IsProgram p) (f : Frame) (same : p ≡ program_of f.system.value) (v : View) (own : IsPassOf f v) (i : CodedInstance) (instance : IsInstanceByEach p i) (n : CodedInstance) (need : ByEachOrder p (λ names. TurnsTo p names v (instance_by p names i) (Ok (turns.Need n)))) where
+  bare : HasSourcesAlone p
+  bare = subst HasSourcesAlone (sym same) own.bare
+
   stuck : TurnsTo p (source_names (text_of p)) v (instance_of p i) (Ok (turns.Need n))
   stuck = need (source_names (text_of p)) (sources_named p) (sources_rise (text_of p))
 
@@ -81,17 +84,17 @@ module _ (p : Program) (good : IsProgram p) (f : Frame) (same : p ≡ program_of
 
   module _ (names : Naming) (named : IsNamingOf p names) where
     need_leads : Leads p (instance_by p names i) (instance_by p names n)
-    need_leads = instance_each p (sources_named p) (λ j. Leads p j (instance_by p names n)) i (instance (source_names (text_of p)) (sources_named p))
-        (instance_each p (sources_named p) (λ j. Leads p (instance_of p i) j) n is_instance (stuck_leads p v (instance_of p i) (instance_of p n) stuck.0 stuck.1) names named) names named
+    need_leads = instance_each p bare (sources_named p) (λ j. Leads p j (instance_by p names n)) i (instance (source_names (text_of p)) (sources_named p))
+        (instance_each p bare (sources_named p) (λ j. Leads p (instance_of p i) j) n is_instance (stuck_leads p v (instance_of p i) (instance_of p n) stuck.0 stuck.1) names named) names named
 
     pub need_instance : IsInstance p (instance_by p names n)
-    need_instance = instance_each p (sources_named p) (IsInstance p) n is_instance is_instance names named
+    need_instance = instance_each p bare (sources_named p) (IsInstance p) n is_instance is_instance names named
 
     need_unknown : ¬ Knows p v (instance_by p names n)
-    need_unknown = instance_each p (sources_named p) (λ j. ¬ Knows p v j) n is_instance is_unknown names named
+    need_unknown = instance_each p bare (sources_named p) (λ j. ¬ Knows p v j) n is_instance is_unknown names named
 
     need_declared : (b : Bool) → is_declared p (instance_of p n) ≡ b → (equations_of p).circular (instance_by p names n) ≡ b
-    need_declared b is = instance_each p (sources_named p) (λ j. (equations_of p).circular j ≡ b) n is_instance (as_declared p good (instance_of p n) is_instance ∙ is) names named
+    need_declared b is = instance_each p bare (sources_named p) (λ j. (equations_of p).circular j ≡ b) n is_instance (as_declared p good (instance_of p n) is_instance ∙ is) names named
 
   -- it waits for that, or a local set does
   pub next_need : is_declared p (instance_of p n) ≡ false → ByEachNaming p (λ names. IsNext p names f v (instance_by p names i) None n)

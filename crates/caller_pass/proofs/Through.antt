@@ -4,6 +4,7 @@ use Rattle.std.specs.Global.{Box}
 use Rattle.std.specs.Result.{IsErr, IsErrAnd}
 use Rattle.solutions.specs.Leading.{more, none}
 use Rattle.equation_law.specs.declared.coding.Instance.{Instance as CodedInstance}
+use Rattle.equation_law.specs.declared.coding.TreeImage.{TreeImage}
 use Rattle.equation_law.specs.declared.coding.Value.{Value as CodedValue}
 use Rattle.equation_law.specs.Checked.{IsProgram}
 use Rattle.equation_law.specs.Codes.{ByEachNaming, ByEachOrder, IsCoded, Naming, instance_by, instance_of, source_names}
@@ -13,6 +14,7 @@ use Rattle.equation_law.specs.Names.{Instance}
 use Rattle.equation_law.specs.Program.{Program, text_of}
 use Rattle.equation_law.specs.Systems.{program_of}
 use Rattle.equation_law.proofs.Codes.{sources_named}
+use Rattle.equation_law.proofs.Sources.{source_naming}
 use Rattle.expr_eval.specs.declared.sites.Turn.TheVariants as turns
 use Rattle.memo_cells.specs.Causes.{WhyUnsettled}
 use Rattle.memo_cells.specs.declared.view.Frame.{Frame}
@@ -46,6 +48,13 @@ use Rattle.caller_pass.proofs.Going.{was_within}
 use Rattle.caller_pass.proofs.Leaving.{left_known}
 use Rattle.memo_cells.proofs.Holding.{goes_then, own_then}
 use Rattle.caller_pass.proofs.Stepping.{err_is, finish_step, local_fault, memory_step, next_local, next_need, way_need}
+
+-- no equation comes to a tree that is made
+pub no_image : (d e : Held) (i : CodedInstance) (t : TreeImage) → TurnsToAt d e i (Ok (turns.Image t)) → ⊥
+no_image d e i t came =
+    let p = program_at d in
+    let plain = source_naming p in
+    came (source_names (text_of p)) plain.0 plain.1
 
 -- the local set through which an instance waits
 pub turn_way : (p : Program) (names : Naming) (f : Frame) (v : View) (i : CodedInstance) (x : Waiter) (l : Local) → HasTurn p names f v (i, x) → way_of x ≡ Some l → HasWay p names f v (instance_by p names i) (Some l)

@@ -69,8 +69,10 @@ pub record HasEnded (p : Program) (names : Naming) (v : View) (i : Instance) (x 
   pub ends : Ends (IsKnown p v) ((equations_of p).equation i) (value_by names x) demands
   pub elements : AreElements p x
 
--- what the equation of i comes to under what the pass knows: its value, or the first demand whose cell isn't seen settled
+-- What the equation of i comes to under what the pass knows: its value, or the first demand whose cell isn't seen settled. A program of cells makes
+-- no trees.
 abbrev pub TurnsTo : Program → Naming → View → Instance → Result Turn Memory → Type 0
 TurnsTo p names v i (Ok (turns.Done x)) = HasEnded p names v i x
 TurnsTo p names v i (Ok (turns.Need j)) = (ds : List Instance) × Halts (IsKnown p v) ((equations_of p).equation i) (instance_by p names j) ds × IsCoded p j
+TurnsTo p names v i (Ok (turns.Image t)) = ⊥
 TurnsTo p names v i (Err m) = Unit {0}

@@ -21,7 +21,7 @@ IsSurveyOf p t i (Some s) = (c : Collections) → AreCollectionOf p i c → IsSu
 
 -- what a pass knows, as a reader of that alone
 abbrev pub reads_known : Program → View → Told Unit
-reads_known p v = record { for = λ q. q ≡ p; has = IsKnown p v; can = HasValue p; keeps = λ u. Unit {0}; names = NamesInOrder p }
+reads_known p v = record { for = λ q. q ≡ p; has = IsKnown p v; can = HasValue p; keeps = λ u. Unit {0}; names = NamesInOrder p; height = λ c. c }
 
 -- all that an evaluation of the equation of an instance left behind is so, by what a reader has
 pub record AreLeft {S : Type 0} (s : System) (t : Told S) (i : CodedInstance) (l : Left) : Type 0 where

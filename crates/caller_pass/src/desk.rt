@@ -3,13 +3,15 @@ ghost use Rattle.std.specs.Prelude.{◌≡◌};
 
 use crate::notebook::Notebook;
 use crate::turns::is_set;
+use ast_grammar::ClassId;
 use attr_rules::{AttrId, Kind};
 use collection_attrs::{Collector, Offers};
-use equation_law::{Args, Code, EqSite, Instance, NodeRef, Reader, System, Value};
+use equation_law::{Args, Code, EqSite, Instance, NodeRef, Reader, System, Up, Value};
 use expr_eval::kind_of;
 use memo_cells::{Cells, CellsFull, Key, Pass, Slot, Words, Work, seek_instance, value_shown};
 use rag_io::Memory;
 use std::alloc::Global;
+use std::cmp::Ordering;
 use std::marker::Model;
 
 /// A pass at its cells, as what local sets are worked out by. `ask` makes one for itself; whoever goes on with a local set without it needs one too.
@@ -45,6 +47,33 @@ impl Reader for Desk<'_> {
 
     fn settled(&mut self, alloc: Global, i: &Instance) -> Result<Option<Value>, Memory> {
         self.known_value(alloc, *i)
+    }
+
+    fn made_class(&mut self, _node: NodeRef) -> ClassId {
+        ClassId(u16::MAX)
+    }
+
+    fn made_child(&mut self, _node: NodeRef, _component: u32) -> NodeRef {
+        NodeRef(0)
+    }
+
+    fn made_token(&mut self, _node: NodeRef, _component: u32) -> Code {
+        0
+    }
+
+    fn made_up(&mut self, _node: NodeRef) -> Up {
+        Up::Owner {
+            node: NodeRef(0),
+            attr: AttrId(0),
+        }
+    }
+
+    fn made_arg(&mut self, _node: NodeRef, _k: u32) -> Code {
+        0
+    }
+
+    fn made_order(&mut self, a: NodeRef, b: NodeRef) -> Ordering {
+        a.0.cmp(&b.0)
     }
 }
 

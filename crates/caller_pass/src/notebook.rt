@@ -1,6 +1,7 @@
 // What a caller notes of a program.
 ghost use Rattle.std.specs.Prelude.{◌≡◌, ◌⊎◌, ◌<◌, IfNone, IfSome, Some, length, true};
 ghost use Rattle.std.specs.HashSet.{contains};
+ghost use Rattle.equation_law.specs.Checked.{HasSourcesAlone};
 ghost use Rattle.equation_law.specs.contracts.coding.InstancePartialEq.TheImpl as equality;
 ghost use Rattle.equation_law.specs.declared.coding.Instance.{Instance as CodedInstance};
 ghost use Rattle.equation_law.specs.Codes.{IsRow};
@@ -136,7 +137,8 @@ impl Notebook {
         node: NodeRef,
         args: Args,
     ) -> Option<EqSite>
-        requires { self.old.system ≡ system.now }
+        requires same { self.old.system ≡ system.now }
+        requires bare { HasSourcesAlone (program_of system.now) }
         ensures same { self.new ≡ self.old }
         ensures found { FindsEquation (program_of system.now) attr node args result }
         ensures rows { IsRow args → IfSome result (λ s. IsRow s.outer × IsRow s.inner) }
@@ -147,6 +149,7 @@ impl Notebook {
     /// The root in whose subtree what is offered to a collection stands. Where there is none, nothing is offered. The way to it is noted.
     pub(crate) fn root_for(&mut self, system: &System, of: Collector) -> Option<u32>
         requires same { self.old.system ≡ system.now }
+        requires bare { HasSourcesAlone (program_of system.now) }
         requires collection { (c : Collections) × IsCollectorOf (program_of system.now) of c }
         ensures same { self.new ≡ self.old }
         ensures within { IfSome result (λ r. r < length (program_of system.now).tree) }

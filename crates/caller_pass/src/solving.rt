@@ -80,6 +80,8 @@ fn evaluate<'a, L: Ledger>(
             waiter.way = Some(start(alloc, next)?);
             Ok(Went::Further)
         }
+        // Its program makes no trees.
+        Turn::Image(_) => unreachable!(),
     }
 }
 

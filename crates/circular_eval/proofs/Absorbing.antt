@@ -105,10 +105,10 @@ module _ (s : System) (d : Held) (l : Local) (r : IsReady s d l) (number : ℕ) 
 
       module _ (f : Held) (q : Result (Option CodedValue) CircFault) (raises : RaisesValue d f place x e.1.value q) where
         claims_by : ClaimsKeys p (instance_by p names l.start) d.view f.view
-        claims_by = claims_raised p (instance_by p names l.start) i chain (local_value p names es) member.is_circular (value_by names x) reaches (set_codes x) (value_elements d names named i place x e.1.value may_by) d.view f.view (raises.claims names named i may_by)
+        claims_by = claims_raised p (instance_by p names l.start) i chain (local_value p names es) member.is_circular (value_by names x) reaches (set_codes x) (value_elements d r.own.bare names named i place x e.1.value may_by) d.view f.view (raises.claims names named i may_by)
 
         fills_by : LacksWord p d.frame f.view i (set_codes x) → FillsCells p (instance_by p names l.start) d.frame f.view
-        fills_by lacks = fills_raised p (instance_by p names l.start) i chain (local_value p names es) member.is_circular (value_by names x) reaches (set_codes x) (value_elements d names named i place x e.1.value may_by) d.frame f.view lacks
+        fills_by lacks = fills_raised p (instance_by p names l.start) i chain (local_value p names es) member.is_circular (value_by names x) reaches (set_codes x) (value_elements d r.own.bare names named i place x e.1.value may_by) d.frame f.view lacks
 
         answer_by : AnswersRaise p names d.frame f.view i x e.1.value q
         answer_by = raises.answer names named i may_by

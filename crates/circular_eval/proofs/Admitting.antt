@@ -6,7 +6,7 @@ use Rattle.attr_rules.specs.declared.kinds.Kind.TheVariants as kinds
 use Rattle.equation_law.specs.declared.coding.Instance.{Instance as CodedInstance}
 use Rattle.equation_law.specs.declared.coding.Value.{Value as CodedValue}
 use Rattle.equation_law.specs.declared.system.System.{System}
-use Rattle.equation_law.specs.Checked.{IsInstance, IsProgram, IsValue, nodes, texts, truth}
+use Rattle.equation_law.specs.Checked.{HasSourcesAlone, IsInstance, IsProgram, IsValue, nodes, texts, truth}
 use Rattle.equation_law.specs.Codes.{AreElements, ByEachNaming, ByEachOrder, IsCoded, IsNamingOf, Naming, instance_by, instance_of, source_names, value_by}
 use Rattle.equation_law.specs.Equations.{HasValue, equations_of, is_ordered, kind_in}
 use Rattle.equation_law.specs.Loops.{Chain}
@@ -65,9 +65,9 @@ ordered_kind p i c = (circular_site p i c).ordered
 abbrev pub IsFitByEach : Program → Frame → View → CodedInstance → Member → Type 0
 IsFitByEach p f v i m = ByEachNaming p (λ names. IsFit p names f v (instance_by p names i) m)
 
-pub fit_each : (p : Program) {names : Naming} (named : IsNamingOf p names) (f : Frame) (v : View) (i : CodedInstance) (m : Member) → IsInstance p (instance_by p names i) → IsFit p names f v (instance_by p names i) m → IsFitByEach p f v i m
-fit_each p {names} named f v i m is fit others other =
-    let j : instance_by p names i ≡ instance_by p others i = sym (instance_tied p named i is others other) in
+pub fit_each : (p : Program) → HasSourcesAlone p → {names : Naming} (named : IsNamingOf p names) (f : Frame) (v : View) (i : CodedInstance) (m : Member) → IsInstance p (instance_by p names i) → IsFit p names f v (instance_by p names i) m → IsFitByEach p f v i m
+fit_each p bare {names} named f v i m is fit others other =
+    let j : instance_by p names i ≡ instance_by p others i = sym (instance_tied p bare named i is others other) in
     let x : value_by names m.value ≡ value_by others m.value = sym (fit.tied others other) in
     record {
       elements = fit.elements;
@@ -176,7 +176,7 @@ module _ (s : System) (d : Held) (l : Local) (r : IsReady s d l) where
         subst (λ (y : Member). IsFit p plain d.frame e.view j y) (λ q. record { slot = sym slot q; value = sym is q; by = n.by })
         (record {
           elements = elements;
-          tied = typed_tied p (sources_named p) k x elements (subst (λ (y : Value). IsValue p k y) (sym same) typed);
+          tied = typed_tied p r.own.bare (sources_named p) k x elements (subst (λ (y : Value). IsValue p k y) (sym same) typed);
           fits = subst (λ (y : Value). FitsKind k y) (sym same) fits;
           shown = inr final;
           placed = final;
@@ -186,7 +186,7 @@ module _ (s : System) (d : Held) (l : Local) (r : IsReady s d l) where
     settled_fit held y t told on x settles n slot is =
         let named = source_naming p in
         let read = settles.0 plain (subst (λ (u : Program). ByEachOrder u t.names) (program_on d (held y) on) told.each plain named.0 named.1) in
-        fit_each p (sources_named p) d.frame (held y).view i n plainly.instance
+        fit_each p r.own.bare (sources_named p) d.frame (held y).view i n plainly.instance
         (sealed_fit (held y) on x
         (read.0, subst (λ (u : Program). IsKnown u (held y).view (instance_by p plain i) read.0) (program_on d (held y) on) (told.known (instance_by p plain i) read.0 read.1), read.2)
         settles.1 n slot is)
@@ -203,7 +203,7 @@ module _ (s : System) (d : Held) (l : Local) (r : IsReady s d l) where
 
     pub begins_here : (e f : Held) → GoesOn d e → (slot : Slot) (kind : Kind) (x : CodedValue) → BeginsAt e f slot.0 kind x → kind ≡ kind_in (program_of s) (instance_of (program_of s) i) → ByEachNaming p (λ names. IsCellOf p d.frame e.view (instance_by p names i) slot.0) → ByEachNaming p (λ names. BeginsWith p names f.view (instance_by p names i) x)
     begins_here e f on slot kind x shown is cell names named =
-        let same : instance_by p names i ≡ instance_by p plain i = instance_tied p (sources_named p) i plainly.instance names named in
+        let same : instance_by p names i ≡ instance_by p plain i = instance_tied p r.own.bare (sources_named p) i plainly.instance names named in
         let source : kind ≡ kind_in p (instance_by p plain i) = subst (λ (u : System). kind ≡ kind_in (program_of u) (instance_of (program_of u) i)) (sym r.same) is in
         let here : kind ≡ kind_in p (instance_by p names i) = source ∙ ap (λ (j : Instance). kind_in p j) (sym same) in
         let at : kind_in (program_at e) (instance_by (program_at e) names i) ≡ kind = subst (λ (u : Program). kind_in u (instance_by u names i) ≡ kind) (sym (program_on d e on)) (sym here) in
@@ -220,7 +220,7 @@ module _ (s : System) (d : Held) (l : Local) (r : IsReady s d l) where
         subst (λ (y : Member). IsFit p names d.frame e.view j y) (λ q. record { slot = sym at q; value = sym is q; by = n.by })
         (record {
           elements = begins.elements;
-          tied = typed_tied p named k x begins.elements (shown_typed p e.view near j k refl (value_by names x) begins.fits begins.shown);
+          tied = typed_tied p r.own.bare named k x begins.elements (shown_typed p e.view near j k refl (value_by names x) begins.fits begins.shown);
           fits = begins.fits;
           shown = inl begins.shown;
           placed = cell names named;

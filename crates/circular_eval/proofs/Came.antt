@@ -56,15 +56,15 @@ module _ (s : System) (d : Held) (l : Local) (r : IsReady s d l) where
     typed = ended_typed p plain (program_is s d l r) d.view (near_is s d l r) d.frame l.start es (local_is_here s d l r plain plainly).set (instance_by p plain came.entry.0) member.instance (value_by plain x) came_plainly.0.0 came_plainly.0.1
 
     value_is_tied : IsTied p plain x
-    value_is_tied = typed_tied p plainly (kind_in p (instance_by p plain came.entry.0)) x came_plainly.1 typed
+    value_is_tied = typed_tied p r.own.bare plainly (kind_in p (instance_by p plain came.entry.0)) x came_plainly.1 typed
 
     pub value_comes : ByEachNaming p (λ names. ComesTo p names d.view es (instance_by p names came.entry.0) (turns.Done x))
     value_comes names named =
-        let same : instance_by p names came.entry.0 ≡ instance_by p plain came.entry.0 = instance_tied p plainly came.entry.0 member.instance names named in (
+        let same : instance_by p names came.entry.0 ≡ instance_by p plain came.entry.0 = instance_tied p r.own.bare plainly came.entry.0 member.instance names named in (
           (
             came_plainly.0.0,
             subst₂ (λ (j : Instance) (y : Value). Ends (ReadsHere p names d.view es) ((equations_of p).equation j) y came_plainly.0.0) (sym same) (sym (value_is_tied names named))
-                (ends_each p d.view es readable_here plainly named came_plainly.0.1),
+                (ends_each p r.own.bare d.view es readable_here plainly named came_plainly.0.1),
           ),
           came_plainly.1,
         )
@@ -82,12 +82,12 @@ module _ (s : System) (d : Held) (l : Local) (r : IsReady s d l) where
 
     pub need_comes : ByEachNaming p (λ names. ComesTo p names d.view es (instance_by p names came.entry.0) (turns.Need n))
     need_comes names named =
-        let same : instance_by p names came.entry.0 ≡ instance_by p plain came.entry.0 = instance_tied p plainly came.entry.0 stuck_member.instance names named in
-        let need : instance_by p names n ≡ instance_by p plain n = instance_tied p plainly n needed names named in (
+        let same : instance_by p names came.entry.0 ≡ instance_by p plain came.entry.0 = instance_tied p r.own.bare plainly came.entry.0 stuck_member.instance names named in
+        let need : instance_by p names n ≡ instance_by p plain n = instance_tied p r.own.bare plainly n needed names named in (
           (
             stuck_plainly.0.0,
             subst₂ (λ (j k : Instance). Halts (ReadsHere p names d.view es) ((equations_of p).equation j) k stuck_plainly.0.0) (sym same) (sym need)
-                (halts_each p d.view es readable_here plainly named stuck_plainly.0.1),
+                (halts_each p r.own.bare d.view es readable_here plainly named stuck_plainly.0.1),
           ),
           stuck_plainly.1,
         )

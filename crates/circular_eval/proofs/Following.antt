@@ -4,6 +4,7 @@ use Rattle.std.proofs.lemmas.Option.{slice_get_within}
 use Rattle.solutions.specs.Asking.{Halts}
 use Rattle.solutions.proofs.Looping.{halts_meets}
 use Rattle.equation_law.specs.declared.coding.Instance.{Instance as CodedInstance}
+use Rattle.equation_law.specs.declared.coding.TreeImage.{TreeImage}
 use Rattle.equation_law.specs.declared.system.System.{System}
 use Rattle.equation_law.specs.Checked.{IsInstance}
 use Rattle.equation_law.specs.Codes.{IsNamingOf, Naming, instance_by, instance_of, source_names}
@@ -14,6 +15,7 @@ use Rattle.equation_law.specs.Program.{Program, text_of}
 use Rattle.equation_law.specs.Systems.{program_of}
 use Rattle.equation_law.specs.Values.{Value}
 use Rattle.equation_law.proofs.Declared.{as_declared}
+use Rattle.equation_law.proofs.Sources.{source_naming}
 use Rattle.expr_eval.specs.declared.sites.Turn.{Turn}
 use Rattle.expr_eval.specs.declared.sites.Turn.TheVariants as turns
 use Rattle.memo_cells.specs.Standing.{Knows}
@@ -45,6 +47,13 @@ admit_refused d e l m number fault h y is = subst (λ (z : Result (Option Visite
 -- what came, by its turn
 pub turn_is : (d : Held) (l : Local) (number : ℕ) (t u : Turn) → t ≡ u → ComesAt d l number t → ComesAt d l number u
 turn_is d l number t u is h = subst (λ (z : Turn). ComesAt d l number z) is h
+
+-- no equation comes to a tree that is made
+pub no_image : (d : Held) (l : Local) (number : ℕ) (t : TreeImage) → ComesAt d l number (turns.Image t) → ⊥
+no_image d l number t came =
+    let p = program_at d in
+    let plain = source_naming p in
+    came.comes (source_names (text_of p)) plain.0 plain.1
 
 module _ (s : System) (d : Held) (l : Local) (r : IsReady s d l) (number : ℕ) (n : CodedInstance) (came : ComesAt d l number (turns.Need n)) where
   abbrev p : Program

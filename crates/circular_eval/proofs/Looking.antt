@@ -1,18 +1,28 @@
 -- What an evaluation under a local set reads.
-use Rattle.std.proofs.Common.{◌≡◌, false, true, refl, sym, ap, subst, ◌∙◌}
+use Rattle.std.proofs.Common.{◌≡◌, ℕ, false, true, refl, sym, ap, subst, ◌∙◌, arith, le_refl}
+use Rattle.std.specs.Ordering.{nat_cmp}
+use Rattle.std.specs.declared.cmp.Ordering.{Ordering}
+use Rattle.ast_grammar.specs.declared.grammar.ClassId.{ClassId}
 use Rattle.attr_rules.specs.declared.kinds.Kind.{Kind}
 use Rattle.attr_rules.specs.declared.kinds.Kind.TheVariants as kinds
+use Rattle.equation_law.specs.declared.coding.NodeRef.{NodeRef}
+use Rattle.equation_law.specs.declared.coding.Up.{Up}
 use Rattle.equation_law.specs.declared.system.System.{System}
-use Rattle.equation_law.specs.Codes.{NamesInOrder, Naming, source_names}
+use Rattle.equation_law.specs.Checked.{HasSourcesAlone}
+use Rattle.equation_law.specs.Codes.{IsNamingOf, NamesInOrder, Naming, source_names}
 use Rattle.equation_law.specs.Equations.{is_declared}
 use Rattle.equation_law.specs.Names.{Instance}
 use Rattle.equation_law.specs.Orders.{FitsKind}
 use Rattle.equation_law.specs.Program.{Program, text_of}
-use Rattle.equation_law.specs.Reading.{Grows, IsSound, Told}
+use Rattle.equation_law.specs.Reading.{ArgumentBy, ChildBy, ClassBy, Grows, IsSound, OrderBy, TokenBy, Told, UpBy, code_above}
 use Rattle.equation_law.specs.Systems.{program_of}
 use Rattle.equation_law.specs.Values.{Value, as_kind}
+use Rattle.equation_law.proofs.Bare.{argument_bare, child_bare, class_bare, order_bare, token_bare, trees_fit, up_bare}
 use Rattle.equation_law.proofs.Codes.{sources_named}
+use Rattle.equation_law.proofs.Grown.{grows_itself}
 use Rattle.equation_law.proofs.Solution.{one}
+use Rattle.equation_law.proofs.Sources.{source_naming}
+use Rattle.equation_law.proofs.Tied.{never_makes}
 use Rattle.expr_eval.specs.declared.saved.Saved.{Saved}
 use Rattle.expr_eval.specs.Saved.{AreSaved}
 use Rattle.expr_eval.proofs.Growing.{saved_more}
@@ -25,8 +35,19 @@ use Rattle.circular_eval.specs.Looking.{told_here}
 use Rattle.circular_eval.proofs.Later.{read_later}
 
 -- a work is a reader for the program of its cells
-pub work_sound : {W : Type 0} (held : W → Held) (x : W) (r : Told W) → TellsPass held x r → IsSound (program_at (held x)) r
-work_sound held x r t = record { for = t.for; within = λ i v h. t.may i v (t.known i v h).1; one_value = λ i v w a b. one (program_at (held x)) i v w (t.can i v a) (t.can i w b); named = t.named }
+pub work_sound : {W : Type 0} (held : W → Held) (x : W) (r : Told W) → TellsPass held x r → IsOwn (held x) → IsSound (program_at (held x)) r
+work_sound held x r t own =
+    let p = program_at (held x) in
+    let plain = source_naming p in
+    record {
+      for = t.for own;
+      within = λ i v h. t.may i v (t.known i v h).1;
+      one_value = λ i v w a b. one p i v w (t.can i v a) (t.can i w b);
+      named = λ n is. (t.named n is).0;
+      some = (source_names (text_of p), t.each (source_names (text_of p)) plain.0 plain.1);
+      fit = trees_fit p own.bare;
+      trees = λ a o xs v may m is. absurd (let none = never_makes p own.bare a o in cc);
+    }
 
 -- what reads with it goes on
 pub work_reads : {W : Type 0} (held : W → Held) (x y : W) (r s : Told W) → TellsPass held x r → TellsPass held y s → IsOwn (held x) → Grows (program_at (held x)) r s → ReadsOn (held x) (held y)
@@ -67,7 +88,10 @@ here_sound d s es keeps p e same own kept = record {
   for = (e, same, own, kept);
   within = λ i v h names named. may_read (h names named);
   one_value = λ i v w a b. let q = program_at d in read_once (a (source_names (text_of q)) (sources_named q)) (b (source_names (text_of q)) (sources_named q));
-  named = λ n is. subst (λ (q : Program). NamesInOrder q n) (sym e) is;
+  named = λ n is. subst (λ (q : Program). IsNamingOf q n) (sym e) is.0;
+  some = let q = program_at d in (source_names (text_of q), source_naming q);
+  fit = trees_fit p (subst HasSourcesAlone (sym e) own.bare);
+  trees = λ a o xs v may m is. absurd (let none = never_makes p (subst HasSourcesAlone (sym e) own.bare) a o in cc);
 }
 
 -- and goes on with one, where what is held goes on
@@ -80,11 +104,38 @@ here_grows d e s es keeps more on kept p sound =
       bound = λ i v h. subst (λ (q : Program). MayReadByEach q es i v) same h;
       kept = kept;
       names = λ n is. subst (λ (q : Program). NamesInOrder q n) same is;
+      heights = λ c. le_refl c;
     }
 
 -- where nothing is read, it is the same
 pub here_same : {S : Type 0} (d : Held) (s : System) (es : Members) (keeps : S → Type 0) (p : Program) → IsSound p (told_here d s es keeps) → Grows p (told_here d s es keeps) (told_here d s es keeps)
-here_same d s es keeps p sound = record { sound = sound; values = λ i v h. h; bound = λ i v h. h; kept = λ x h. h; names = λ n is. is }
+here_same d s es keeps p sound = grows_itself sound
+
+-- nodes that were made there are none
+module _ {S : Type 0} (d : Held) (s : System) (es : Members) (keeps : S → Type 0) where
+  abbrev told : Told S
+  told = told_here d s es keeps
+
+  its_bare : (p : Program) → IsSound p told → (p ≡ program_of d.frame.system.value) × HasSourcesAlone p
+  its_bare p sound = (sound.for.0, subst HasSourcesAlone (sym sound.for.0) sound.for.2.bare)
+
+  pub here_class : (node : NodeRef) (c : ClassId) → c.0 ≡ 65535 → ClassBy told told node c
+  here_class = class_bare told d.frame.system.value its_bare
+
+  pub here_child : (node : NodeRef) (k : ℕ) (result : NodeRef) → result.0 ≡ 0 → ChildBy told told node k result
+  here_child = child_bare told d.frame.system.value its_bare
+
+  pub here_token : (node : NodeRef) (k result : ℕ) → TokenBy told told node k result
+  here_token = token_bare told d.frame.system.value its_bare
+
+  pub here_up : (node : NodeRef) (result : Up) → code_above result ≡ 0 → UpBy told told node result
+  here_up = up_bare told d.frame.system.value its_bare (λ c past. omega (arith, past))
+
+  pub here_argument : (node : NodeRef) (k result : ℕ) → ArgumentBy told told node k result
+  here_argument = argument_bare told d.frame.system.value its_bare
+
+  pub here_order : (a b : NodeRef) (result : Ordering) → result ≡ nat_cmp a.0 b.0 → OrderBy told told a b result
+  here_order = order_bare told d.frame.system.value its_bare (λ p sound n is. is.1)
 
 -- what is saved is so whatever a reader kept
 pub saved_there : {S : Type 0} (d : Held) (s : System) (es : Members) (keeps : S → Type 0) (q : System) (x : Saved) → AreSaved q (reads_here (program_at d) d.view es) x → AreSaved q (told_here d s es keeps) x

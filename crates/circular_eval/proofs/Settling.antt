@@ -15,6 +15,7 @@ use Rattle.equation_law.specs.Program.{Program, text_of}
 use Rattle.equation_law.specs.Reading.{IsSound, SettledBy, Settles, Told}
 use Rattle.equation_law.specs.Systems.{program_of}
 use Rattle.equation_law.specs.Values.{Value, as_kind}
+use Rattle.equation_law.proofs.Bare.{no_right_side}
 use Rattle.equation_law.proofs.Codes.{sources_named}
 use Rattle.equation_law.proofs.Names.{same_instance_is}
 use Rattle.equation_law.proofs.Pooled.{texts_pooled}
@@ -56,7 +57,7 @@ same_settles d s es keeps i r e = record {
 
 -- what reads with a work goes on
 pub reads : {W : Type 0} (held : W → Held) (x y : W) (r t : Told W) → TellsPass held x r → TellsPass held y t → (i : CodedInstance) (result : Result (Option CodedValue) Memory) → SettledBy r t i result → IsOwn (held x) → ReadsOn (held x) (held y)
-reads held x y r t a b i result h own = work_reads held x y r t a b own (h.kept (program_at (held x)) (work_sound held x r a))
+reads held x y r t a b i result h own = work_reads held x y r t a b own (h.kept (program_at (held x)) (work_sound held x r a own))
 
 -- What a work has of an undeclared instance by a naming, a reader over a local set has by it.
 module _ {W S : Type 0} (held : W → Held) (y : W) (t : Told W) (b : TellsPass held y t) (s : System) (es : Members) (more : S → Type 0) (i : CodedInstance) where
@@ -84,7 +85,7 @@ work_settles held x y r t a b s es keeps more goes i result e h = record {
       let on = reads held x y r t a b i result h sound.for.2 in
       let same : p ≡ program_at (held y) = sound.for.0 ∙ sym (program_on (held x) (held y) on.on) in
       let here : program_of s ≡ program_at (held y) = sym (ap program_of sound.for.1) ∙ sym (program_on (held x) (held y) on.on) in
-      let work = work_sound held x r a in
+      let work = work_sound held x r a sound.for.2 in
       let told : Settles p t (λ n. instance_by p n i) result = h.answer p (subst (λ (q : Program). IsSound q r) (sym sound.for.0) work) coded in
       let undeclared = subst (λ (q : Program). is_declared q (instance_of q i) ≡ false) here e in
       here_settles (held y) s es more i result p same
@@ -116,6 +117,7 @@ module _ {S : Type 0} (d : Held) (s : System) (es : Members) (keeps : S → Type
     kept = λ p sound. here_same d s es keeps p sound;
     answer = λ p sound coded.
         let q = held_program in
+        let own : IsOwn d = sound.for.2 in
         let all = readable p sound coded in
         let plain = source_names (text_of q) in
         here_settles d s es keeps i (Ok (Some x)) p sound.for.0 (
@@ -125,7 +127,7 @@ module _ {S : Type 0} (d : Held) (s : System) (es : Members) (keeps : S → Type
               let value = is q (texts_pooled d.frame.system.value) (good p sound coded) names named.0 kept in
               let fits = subst (λ (y : Value). FitsKind (kind_in q j) y) value (local_fits q names es j kept (member q names)) in (
                 local_value q names es j,
-                reads_each q d.view es all named.0 j (local_value q names es j) (here (declared_by p sound coded names) (member q names)),
+                reads_each q own.bare d.view es all named.0 j (local_value q names es j) (here (declared_by p sound coded names) (member q names)),
                 sym (ap (as_kind (kind_in q j)) value ∙ fits_read (kind_in q j) (value_by names x) fits),
               ),
           elements q plain (all plain (sources_named q)).0,
@@ -143,15 +145,16 @@ module _ {S : Type 0} (d : Held) (s : System) (es : Members) (keeps : S → Type
   }
 
 -- what an evaluation came to, by what was read at its end
-came_to : {S : Type 0} (e : Held) (s : System) (es : Members) (keeps : S → Type 0) (i : CodedInstance) (turn : Turn) → AreReadable (program_at e) es → AnswersTurn (program_at e) (told_here e s es keeps) (instance_reads (program_at e) i) (Ok turn) → ByEachOrder (program_at e) (λ names. ComesTo (program_at e) names e.view es (instance_by (program_at e) names i) turn)
-came_to e s es keeps i (turns.Done x) all a names named order =
+came_to : {S : Type 0} (e : Held) (s : System) (es : Members) (keeps : S → Type 0) (i : CodedInstance) (turn : Turn) → IsOwn e → AreReadable (program_at e) es → AnswersTurn (program_at e) (told_here e s es keeps) (instance_reads (program_at e) i) (Ok turn) → ByEachOrder (program_at e) (λ names. ComesTo (program_at e) names e.view es (instance_by (program_at e) names i) turn)
+came_to e s es keeps i (turns.Done x) own all a names named order =
     let came = a.comes names (named, order) in
     ((came.0, ends_more (λ j w h. h names named) came.1), a.coded)
-came_to e s es keeps i (turns.Need n) all a names named order =
+came_to e s es keeps i (turns.Need n) own all a names named order =
     let wanted = a.wants names (named, order) in
-    ((wanted.0, halts_same (λ j w h. h names named) (λ j w h. reads_each (program_at e) e.view es all named j w h) wanted.1), a.coded)
+    ((wanted.0, halts_same (λ j w h. h names named) (λ j w h. reads_each (program_at e) own.bare e.view es all named j w h) wanted.1), a.coded)
+came_to e s es keeps i (turns.Image t) own all a names named order = absurd (no_right_side (program_at e) own.bare t.equation.0 a.making a.is)
 
-pub came_here : {S : Type 0} (p : Program) (e : Held) (s : System) (es : Members) (keeps : S → Type 0) (i : CodedInstance) (turn : Turn) → p ≡ program_at e → AreReadable p es → AnswersTurn p (told_here e s es keeps) (instance_reads p i) (Ok turn) → ByEachOrder (program_at e) (λ names. ComesTo (program_at e) names e.view es (instance_by (program_at e) names i) turn)
-came_here p e s es keeps i turn same all a =
-    came_to e s es keeps i turn (subst (λ (q : Program). AreReadable q es) same all)
+pub came_here : {S : Type 0} (p : Program) (e : Held) (s : System) (es : Members) (keeps : S → Type 0) (i : CodedInstance) (turn : Turn) → p ≡ program_at e → IsOwn e → AreReadable p es → AnswersTurn p (told_here e s es keeps) (instance_reads p i) (Ok turn) → ByEachOrder (program_at e) (λ names. ComesTo (program_at e) names e.view es (instance_by (program_at e) names i) turn)
+came_here p e s es keeps i turn same own all a =
+    came_to e s es keeps i turn own (subst (λ (q : Program). AreReadable q es) same all)
     (subst (λ (q : Program). AnswersTurn q (told_here e s es keeps) (instance_reads q i) (Ok turn)) same a)

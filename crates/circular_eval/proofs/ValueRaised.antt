@@ -12,7 +12,7 @@ use Rattle.attr_rules.specs.Types.{truth_kind}
 use Rattle.equation_law.specs.declared.coding.Value.{Value as CodedValue}
 use Rattle.equation_law.specs.declared.coding.Value.TheVariants as coded
 use Rattle.equation_law.specs.declared.system.System.{System}
-use Rattle.equation_law.specs.Checked.{IsNodeOf, IsValue, int as is_int, node as is_node, nodes as are_nodes, text as is_text}
+use Rattle.equation_law.specs.Checked.{HasSourcesAlone, IsNodeOf, IsValue, int as is_int, node as is_node, nodes as are_nodes, text as is_text}
 use Rattle.equation_law.specs.Codes.{IsNamingOf, Naming, reference_by, value_by}
 use Rattle.equation_law.specs.Equations.{HasValue, kind_in}
 use Rattle.equation_law.specs.Keys.{HasCode, IsElementCode}
@@ -133,28 +133,32 @@ module _ (d : Held) (names : Naming) (named : IsNamingOf (program_at d) names) (
   node_code c h zero low e = absurd (omega (arith, low))
   node_code c h (suc k) low e = h (names.node k) e
 
-  node_element : (c : ClassId) → kind_in p i ≡ kinds.Nodes c → IsValue p (kind_in p i) (Nodes (nodes_set names.node a)) → All IsNode a → (k : ℕ) → Has a k → IsElementCode p (kind_in p i) k × HasCode p (kind_in p i) (value_by names (coded.Nodes a)) k
-  node_element c q typed all k there =
+  node_element : HasSourcesAlone p → (c : ClassId) → kind_in p i ≡ kinds.Nodes c → IsValue p (kind_in p i) (Nodes (nodes_set names.node a)) → All IsNode a → (k : ℕ) → Has a k → IsElementCode p (kind_in p i) k × HasCode p (kind_in p i) (value_by names (coded.Nodes a)) k
+  node_element bare c q typed all k there =
       let low = holds_of IsNode a all k (there_code a k there) in
       let within = has_node_by names.node named.one_code k a all ∙ there_code a k there in
       let of = node_code c (node_there c (kind_in p i) q typed) k low within in
       let x = value_by names (coded.Nodes a) in
-      subst (λ (j : Kind). IsElementCode p j k × HasCode p j x k) (sym q) ((low, (reference_by names.node k, node_tied p named c k of, of)), tied_has p c x k (reference_by names.node k) (node_tied p named c k of) within)
+      subst (λ (j : Kind). IsElementCode p j k × HasCode p j x k) (sym q) ((low, (reference_by names.node k, node_tied p bare named c k of, of)), tied_has p c x k (reference_by names.node k) (node_tied p bare named c k of) within)
 
-  pub nodes_show : MayRise d names i place (coded.Nodes a) b → MayShowAll p d.frame d.view i place a
-  nodes_show may =
+  pub nodes_show : HasSourcesAlone p → MayRise d names i place (coded.Nodes a) b → MayShowAll p d.frame d.view i place a
+  nodes_show bare may =
       let k = kind_of_nodes p (kind_in p i) (nodes_set names.node a) may.typed in
       record {
         cell = may.cell;
         instance = may.instance;
         value = value_by names (coded.Nodes a);
         may = inl (may.is_circular, may.comes);
-        elements = node_element k.0 k.1 may.typed may.elements;
+        elements = node_element bare k.0 k.1 may.typed may.elements;
       }
 
 module _ (d e : Held) (names : Naming) (named : IsNamingOf (program_at d) names) (place : ℕ) (a b : List ℕ) (on : GoesOn d e) where
   abbrev q : Program
   q = program_at d
+
+  -- the program makes nothing
+  its_bare : HasSourcesAlone q
+  its_bare = subst HasSourcesAlone (program_on d e on) on.own.bare
 
   near_now : AreApproximations q e.view
   near_now = subst (λ (u : Program). AreApproximations u e.view) (program_on d e on) on.own.approximations
@@ -175,7 +179,7 @@ module _ (d e : Held) (names : Naming) (named : IsNamingOf (program_at d) names)
 
   nodes_had : (i : Instance) (n : ClassId) → kind_in q i ≡ kinds.Nodes n → MayRise d names i place (coded.Nodes a) (coded.Nodes b) → HasValue q i (value_by names (coded.Nodes b)) → (c : ℕ) → in_codes a c ≡ true → in_codes b c ≡ true
   nodes_had i n k may has c h =
-      let within = (node_element d names named i place a (coded.Nodes b) n k may.typed may.elements c (code_there a c h)).1 in
+      let within = (node_element d names named i place a (coded.Nodes b) its_bare n k may.typed may.elements c (code_there a c h)).1 in
       let more : HasCode q (kind_in q i) (value_by names (coded.Nodes b)) c = has_code_more q (kind_in q i) (value_by names (coded.Nodes a)) (value_by names (coded.Nodes b)) c (final_most i (coded.Nodes a) (coded.Nodes b) may has) within in
       sym (has_node_by names.node named.one_code c b may.of) ∙ subst (λ (j : Kind). HasCode q j (value_by names (coded.Nodes b)) c) k more names named
 
@@ -194,7 +198,7 @@ module _ (d e : Held) (names : Naming) (named : IsNamingOf (program_at d) names)
   nodes_answer i may (Ok None) h = nodes_most d.frame.system.value names named e.view i a b may.of h
   nodes_answer i may (Ok (Some both)) h =
       let k = kind_of_nodes q (kind_in q i) (nodes_set names.node a) may.typed in
-      nodes_risen d.frame.system.value names named e.view i k.0 k.1 near_now a b both h may.elements may.of (typed_tied q named (kind_in q i) (coded.Nodes a) may.elements may.typed) may.tied (later_shown i (kinds.Nodes k.0) (value_by names (coded.Nodes b)) k.1 (λ has. not_both h.in_other (nodes_had i k.0 k.1 may has h.code h.in_set)) may.shown)
+      nodes_risen d.frame.system.value names named e.view i k.0 k.1 near_now a b both h may.elements may.of (typed_tied q its_bare named (kind_in q i) (coded.Nodes a) may.elements may.typed) may.tied (later_shown i (kinds.Nodes k.0) (value_by names (coded.Nodes b)) k.1 (λ has. not_both h.in_other (nodes_had i k.0 k.1 may has h.code h.in_set)) may.shown)
   nodes_answer i may (Err fault) h = h
 
 pub texts_raised : (d e : Held) (place : ℕ) (a b : List ℕ) (r : Result (Option (List ℕ)) CircFault) → RaisesSet d e place a b r → RaisesValue d e place (coded.Texts a) (coded.Texts b) (wrapped coded.Texts r)
@@ -207,8 +211,8 @@ texts_raised d e place a b r h = record {
 pub nodes_raised : (d e : Held) (place : ℕ) (a b : List ℕ) (r : Result (Option (List ℕ)) CircFault) → RaisesSet d e place a b r → RaisesValue d e place (coded.Nodes a) (coded.Nodes b) (wrapped coded.Nodes r)
 nodes_raised d e place a b r h = record {
   on = h.on;
-  answer = λ names named i may. nodes_answer d e names named place a b h.on i may r (h.answer i (nodes_show d names named i place a (coded.Nodes b) may));
-  claims = λ names named i may. h.claims i (nodes_show d names named i place a (coded.Nodes b) may);
+  answer = λ names named i may. nodes_answer d e names named place a b h.on i may r (h.answer i (nodes_show d names named i place a (coded.Nodes b) (subst HasSourcesAlone (program_on d e h.on) h.on.own.bare) may));
+  claims = λ names named i may. h.claims i (nodes_show d names named i place a (coded.Nodes b) (subst HasSourcesAlone (program_on d e h.on) h.on.own.bare) may);
 }
 
 -- the error of raising a set is handed on
@@ -271,12 +275,12 @@ not_single p names k (coded.Texts a) other typed fits x y z = y a refl
 not_single p names k (coded.Nodes a) other typed fits x y z = z a refl
 
 -- the codes of a set to which an equation comes are those of its elements
-pub value_elements : (d : Held) (names : Naming) (named : IsNamingOf (program_at d) names) (i : Instance) (place : ℕ) (value other : CodedValue) → MayRise d names i place value other → (c : ℕ) → Has (set_codes value) c → IsElementCode (program_at d) (kind_in (program_at d) i) c × HasCode (program_at d) (kind_in (program_at d) i) (value_by names value) c
-value_elements d names named i place (coded.Truth b) other may c there = absurd there
-value_elements d names named i place (coded.Int z) other may c there = absurd there
-value_elements d names named i place (coded.Text t) other may c there = absurd there
-value_elements d names named i place (coded.Node n) other may c there = absurd there
-value_elements d names named i place (coded.Texts a) other may c there = text_element d names named i place a other (kind_of_texts (program_at d) (kind_in (program_at d) i) (texts_set names a) may.typed) may.elements c there
-value_elements d names named i place (coded.Nodes a) other may c there =
+pub value_elements : (d : Held) → HasSourcesAlone (program_at d) → (names : Naming) (named : IsNamingOf (program_at d) names) (i : Instance) (place : ℕ) (value other : CodedValue) → MayRise d names i place value other → (c : ℕ) → Has (set_codes value) c → IsElementCode (program_at d) (kind_in (program_at d) i) c × HasCode (program_at d) (kind_in (program_at d) i) (value_by names value) c
+value_elements d bare names named i place (coded.Truth b) other may c there = absurd there
+value_elements d bare names named i place (coded.Int z) other may c there = absurd there
+value_elements d bare names named i place (coded.Text t) other may c there = absurd there
+value_elements d bare names named i place (coded.Node n) other may c there = absurd there
+value_elements d bare names named i place (coded.Texts a) other may c there = text_element d names named i place a other (kind_of_texts (program_at d) (kind_in (program_at d) i) (texts_set names a) may.typed) may.elements c there
+value_elements d bare names named i place (coded.Nodes a) other may c there =
     let k = kind_of_nodes (program_at d) (kind_in (program_at d) i) (nodes_set names.node a) may.typed in
-    node_element d names named i place a other k.0 k.1 may.typed may.elements c there
+    node_element d names named i place a other bare k.0 k.1 may.typed may.elements c there

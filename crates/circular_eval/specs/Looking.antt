@@ -26,12 +26,14 @@ told_here d s es keeps = record {
   can = MayReadByEach (program_at d) es;
   keeps = keeps;
   names = NamesInOrder (program_at d);
+  height = λ c. c;
 }
 
--- what the equation of i came to under the values of the set, by a naming
+-- What the equation of i came to under the values of the set, by a naming. A program of cells makes no trees.
 abbrev pub ComesTo : Program → Naming → View → Members → Instance → Turn → Type 0
 ComesTo p names v es i (turns.Done x) = ((ds : List Instance) × Ends (ReadsHere p names v es) ((equations_of p).equation i) (value_by names x) ds) × AreElements p x
 ComesTo p names v es i (turns.Need n) = ((ds : List Instance) × Halts (ReadsHere p names v es) ((equations_of p).equation i) (instance_by p names n) ds) × IsCoded p n
+ComesTo p names v es i (turns.Image t) = ⊥
 
 -- the same of the instance that is coded so, by what a work holds and under the values of a local set, by each naming whose codes are in the order of their nodes
 abbrev pub ComesHere : Held → Local → CodedInstance → Turn → Type 0

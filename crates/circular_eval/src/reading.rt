@@ -8,11 +8,14 @@ ghost use Rattle.circular_eval.specs.Local.{AreReadable};
 ghost use Rattle.circular_eval.specs.Looking.{AreSavedHere, ComesHere};
 
 use crate::local::Local;
-use equation_law::{Instance, Reader, System, Value};
+use ast_grammar::ClassId;
+use attr_rules::AttrId;
+use equation_law::{Code, Instance, NodeRef, Reader, System, Up, Value};
 use expr_eval::{Saved, Turn, is_declared, resume_instance};
 use memo_cells::Work;
 use rag_io::Memory;
 use std::alloc::Global;
+use std::cmp::Ordering;
 
 /// A reader that has of undeclared instances what the work has, and of circular ones the values of the members of a local set. It notes the
 /// members by their numbers.
@@ -40,6 +43,33 @@ impl<W: Work> Reader for LocalReader<'_, W> {
         };
         self.read.push(number).map_err(|_| Memory)?;
         Ok(Some(value.copy()?))
+    }
+
+    fn made_class(&mut self, _node: NodeRef) -> ClassId {
+        ClassId(u16::MAX)
+    }
+
+    fn made_child(&mut self, _node: NodeRef, _component: u32) -> NodeRef {
+        NodeRef(0)
+    }
+
+    fn made_token(&mut self, _node: NodeRef, _component: u32) -> Code {
+        0
+    }
+
+    fn made_up(&mut self, _node: NodeRef) -> Up {
+        Up::Owner {
+            node: NodeRef(0),
+            attr: AttrId(0),
+        }
+    }
+
+    fn made_arg(&mut self, _node: NodeRef, _k: u32) -> Code {
+        0
+    }
+
+    fn made_order(&mut self, a: NodeRef, b: NodeRef) -> Ordering {
+        a.0.cmp(&b.0)
     }
 }
 

@@ -129,6 +129,8 @@ fn follow<W: Work>(
             local.note_need(number, need);
             Ok(Some(Visited::Need(need)))
         }
+        // Its program makes no trees.
+        Turn::Image(_) => unreachable!(),
     }
 }
 

@@ -98,6 +98,7 @@ module _ (f : Frame) (ts ks vs : List ℕ) (lk : length ks ≡ f.cells) (lv : le
 
     pub add_words : AreWords f ts ks (put word)
     add_words = record {
+      bare = o.bare;
       values = grown.values;
       lower = grown.lower;
       ordered = words_after f ts ks vs v refl p lk lv o.values o.ordered grown.values ts (put word) add_more (kept_safe f ts ks vs v refl p ks (put word) add_more) grown.up
@@ -138,6 +139,7 @@ module _ (f : Frame) (ts ks vs : List ℕ) (lk : length ks ≡ f.cells) (lv : le
 
       pub true_words : AreWords f ts ks (put 1)
       true_words = record {
+        bare = o.bare;
         values = grown_true.values;
         lower = grown_true.lower;
         ordered = words_after f ts ks vs v refl p lk lv o.values o.ordered grown_true.values ts (put 1) true_more (kept_safe f ts ks vs v refl p ks (put 1) true_more) grown_true.up

@@ -4,6 +4,7 @@ use Rattle.std.specs.Int.{bit_at}
 use mathlib.Core.Logic.{dite}
 use native.Mathlib.Decide.{ℕ_discrete}
 use Rattle.solutions.specs.Leading.{bottoms}
+use Rattle.equation_law.specs.Checked.{HasSourcesAlone}
 use Rattle.equation_law.specs.Equations.{equations_of, kind_in}
 use Rattle.equation_law.specs.Program.{Program}
 use Rattle.equation_law.specs.Systems.{program_of}
@@ -114,6 +115,7 @@ module _ (f : Frame) (ts ks vs : List ℕ) (lk : length ks ≡ f.cells) (lv : le
     table = refl;
     frame = refl;
     few = few;
+    bare = o.bare;
     within = inside_there;
     one_key = one_there f ts ks vs lk lv o;
     one_place = once_there;
@@ -153,11 +155,12 @@ first_approximations p f = record {
   final = λ i c k. absurd k.settled;
 }
 
-pub first_own : (f : Frame) → f.cells ≤ 4194304 → IsPassOf f (first_view f)
-first_own f few = record {
+pub first_own : (f : Frame) → f.cells ≤ 4194304 → HasSourcesAlone (program_of f.system.value) → IsPassOf f (first_view f)
+first_own f few bare = record {
   table = refl;
   frame = refl;
   few = few;
+  bare = bare;
   within = λ p k h. absurd h;
   one_key = λ p j k g h. absurd h;
   one_place = λ p q k g h. absurd h;
@@ -182,6 +185,7 @@ told_own f ks vs lk lv o few v told =
       table = told.table;
       frame = told.frame;
       few = few;
+      bare = o.bare;
       within = λ p k h. own.within p k (told.keys p k h);
       one_key = λ p j k g h. own.one_key p j k (told.keys p j g) (told.keys p k h);
       one_place = λ p q k g h. own.one_place p q k (told.keys p k g) (told.keys q k h);
@@ -257,6 +261,7 @@ module _ (f : Frame) (ks vs : List ℕ) (lk : length ks ≡ f.cells) (lv : lengt
 
     pub claimed_words : AreWords f [] (set ks place key) vs
     claimed_words = record {
+      bare = o.bare;
       values = o.values;
       lower = o.lower;
       ordered = ordered_after f [] ks vs u refl p lk lv o.values o.ordered place key inside free nz
@@ -391,7 +396,7 @@ module _ (f : Frame) (ks vs : List ℕ) (lk : length ks ≡ f.cells) (lv : lengt
       unset = found_at found e ∙ z
 
       pub settled_words : AreWords f [] ks put
-      settled_words = subst (λ (w : ℕ). AreWords f [] ks (set vs place w)) (sym is) (record { values = o.values; lower = o.lower; ordered = valued_after f [] ks vs u refl p lk lv o.values o.ordered place code inside unset its })
+      settled_words = subst (λ (w : ℕ). AreWords f [] ks (set vs place w)) (sym is) (record { bare = o.bare; values = o.values; lower = o.lower; ordered = valued_after f [] ks vs u refl p lk lv o.values o.ordered place code inside unset its })
 
       put_long : length put ≡ f.cells
       put_long = length-set vs place left ∙ lv

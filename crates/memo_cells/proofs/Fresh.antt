@@ -4,6 +4,7 @@ use Rattle.memo_cells.specs.declared.view.Frame.{Frame}
 use Rattle.std.specs.Int.{bit_at}
 use Rattle.std.proofs.lemmas.Nat.Bits.{bit_at-zero}
 use Rattle.solutions.specs.Leading.{bottoms}
+use Rattle.equation_law.specs.Checked.{HasSourcesAlone}
 use Rattle.equation_law.specs.Equations.{equations_of}
 use Rattle.equation_law.specs.Systems.{program_of}
 use Rattle.equation_law.proofs.Orders.{at_most_itself}
@@ -54,8 +55,9 @@ fresh_ordered formed settled raised element n m = record {
 }
 
 -- no word is set: each circular instance stands at its bottom
-pub fresh_words : (f : Frame) (m : ℕ) → AreWords f [] (replicate m 0) (replicate m 0)
-fresh_words f m = record {
+pub fresh_words : (f : Frame) → HasSourcesAlone (program_of f.system.value) → (m : ℕ) → AreWords f [] (replicate m 0) (replicate m 0)
+fresh_words f bare m = record {
+  bare = bare;
   values = (equations_of (program_of f.system.value)).bottom;
   lower = record { top = (equations_of (program_of f.system.value)).bottom; reached = bottoms; fits = λ j c. (are_rising (program_of f.system.value)).start j c; below = λ j c. at_most_itself ((equations_of (program_of f.system.value)).bottom j) };
   ordered = fresh_ordered _ _ _ _ f.cells m;

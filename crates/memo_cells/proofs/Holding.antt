@@ -17,7 +17,7 @@ use Rattle.memo_cells.proofs.Ways.{IsOnWay}
 -- a reader that is seen as what it holds
 pub told_pass : (d : Held) → TellsPass (λ (x : Held). x) d (told_by d)
 told_pass d = record {
-  for = refl;
+  for = λ own. (refl, own.bare);
   only = λ p e. e;
   has = λ i w k. k;
   known = λ i w k. k;

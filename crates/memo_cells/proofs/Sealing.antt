@@ -276,6 +276,7 @@ module _ (f : Frame) (slot : ℕ) (us ks vs slots : List ℕ) (sealing : AreSeal
 
   sealed_words : AreWords f us ks ws
   sealed_words = record {
+    bare = o.bare;
     values = o.values;
     lower = o.lower;
     ordered = words_after f ts ks vs v refl p lk lv o.values o.ordered o.values us ws sealed_more all_safe (λ j c. at_most_itself (o.values j))
@@ -320,6 +321,7 @@ module _ (f : Frame) (ks vs : List ℕ) (lk : length ks ≡ f.cells) (lv : lengt
 
   noted_words : AreWords f slots ks vs
   noted_words = record {
+    bare = o.bare;
     values = o.values;
     lower = o.lower;
     ordered = words_after f [] ks vs before refl (program_of f.system.value) lk lv o.values o.ordered o.values slots vs noted_more (safe_later (program_of f.system.value) before noting noted_more (λ s h. absurd h)) (λ j c. at_most_itself (o.values j))

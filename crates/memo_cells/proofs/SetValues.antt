@@ -14,7 +14,7 @@ use Rattle.equation_law.specs.Checked.{IsNodeOf, at, null}
 use Rattle.equation_law.specs.Codes.{ByEachNaming, IsNamingOf, IsReference, Naming, nodes_by, reference_by, reference_of, value_by}
 use Rattle.equation_law.specs.Equations.{HasValue, kind_in}
 use Rattle.equation_law.specs.Keys.{HasCode, IsElementCode}
-use Rattle.equation_law.specs.Names.{At, Instance, NodeName, Null, Reference, node_cmp, text_cmp}
+use Rattle.equation_law.specs.Names.{At, Instance, Made, NodeName, Null, Reference, Source, node_cmp, text_cmp}
 use Rattle.equation_law.specs.Orders.{FitsKind}
 use Rattle.equation_law.specs.Program.{Program, text_of}
 use Rattle.equation_law.specs.Sets.{has, set_of}
@@ -41,8 +41,9 @@ node_between p d first end c _ span e some null = absurd (positive c e some)
     positive : (c : ℕ) → reference_of c ≡ Null → 0 < c → ⊥
     positive zero e some = omega (arith, some)
     positive (suc k) e some = cc
-node_between p d first end zero _ span e some (at {k = k} h) = absurd (omega (arith, some))
-node_between p d first end (suc n) _ span e some (at {k = k} h) =
+node_between p d first end zero _ span e some (at {n = x} h) = absurd (omega (arith, some))
+node_between p d first end (suc n) _ span e some (at {n = Made a r xs q} h) = absurd (cc)
+node_between p d first end (suc n) _ span e some (at {n = Source k} h) =
     let same : n ≡ k = cc in
     let lies = span k (ap (class_below p.grammar d.0) h.of ∙ h.below) in
     let low : first ≤ k = lies.0 in

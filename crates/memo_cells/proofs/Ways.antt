@@ -6,7 +6,7 @@ use Rattle.rag_io.specs.Pool.{ArePooled}
 use Rattle.attr_rules.specs.declared.kinds.Kind.{Kind}
 use Rattle.equation_law.specs.declared.coding.Args.{Args}
 use Rattle.equation_law.specs.declared.coding.Instance.{Instance as CodedInstance}
-use Rattle.equation_law.specs.Checked.{IsInstance}
+use Rattle.equation_law.specs.Checked.{HasSourcesAlone, IsInstance}
 use Rattle.equation_law.specs.Codes.{AreArgumentCodes, AreCodes, ByEachNaming, IsNamingOf, Naming, arguments_by, codes_in, instance_by, reference_by, value_coded}
 use Rattle.equation_law.specs.Names.{Argument, Attribute, Instance, Query}
 use Rattle.equation_law.specs.Program.{Program, attribute_parameters}
@@ -129,14 +129,14 @@ module _ (f : Frame) (v : View) (a n : ℕ) where
         none next.0 (subst (λ (k : ℕ). Has v.keys (next.0, k)) key next.2)
 
 -- a key of the way leads to the instance, whose codes are tied
-module _ (p : Program) {m : Naming} (by : IsNamingOf p m) (v : View) (a n : ℕ) (xs : Args) (good : AreCodes p (attribute_parameters p a) (codes_in xs)) where
+module _ (p : Program) (bare : HasSourcesAlone p) {m : Naming} (by : IsNamingOf p m) (v : View) (a n : ℕ) (xs : Args) (good : AreCodes p (attribute_parameters p a) (codes_in xs)) where
   abbrev of : Instance
   of = Attribute a (reference_by m.node n) (arguments_by m (attribute_parameters p a) (codes_in xs))
 
   pub key_on_way : IsInstance p of → (k : ℕ) (done rest : List ℕ) → done ++ rest ≡ codes_in xs → IsNamed v k a n (reverse done) → IsKeyTo p v of k
   key_on_way is k done rest all h =
       let front = arguments_front m (attribute_parameters p a) done rest in
-      let tied = attribute_tied p by a n (codes_in xs) is in
+      let tied = attribute_tied p bare by a n (codes_in xs) is in
       record {
         prefix = Attribute a (reference_by m.node n) (arguments_by m (attribute_parameters p a) done);
         of = (front.0, ap (Attribute a (reference_by m.node n)) (front.1 ∙ ap (arguments_by m (attribute_parameters p a)) all));
@@ -179,13 +179,13 @@ module _ (f : Frame) (v w : View) (a n : ℕ) (xs : Args) (place s : ℕ) (way :
     next_behind : (take place (codes_in xs) ++ c ∷ []) ++ drop (suc place) (codes_in xs) ≡ codes_in xs
     next_behind = append_assoc (take place (codes_in xs)) (c ∷ []) (drop (suc place) (codes_in xs)) ∙ (take_more (codes_in xs) place c at).1
 
-    pub key_next : (p : Program) {m : Naming} → IsNamingOf p m → AreCodes p (attribute_parameters p a) (codes_in xs) → IsInstance p (Attribute a (reference_by m.node n) (arguments_by m (attribute_parameters p a) (codes_in xs)))
+    pub key_next : (p : Program) → HasSourcesAlone p → {m : Naming} → IsNamingOf p m → AreCodes p (attribute_parameters p a) (codes_in xs) → IsInstance p (Attribute a (reference_by m.node n) (arguments_by m (attribute_parameters p a) (codes_in xs)))
         → IsKeyTo p v (Attribute a (reference_by m.node n) (arguments_by m (attribute_parameters p a) (codes_in xs))) (argument_word s c)
-    key_next p by good is = key_on_way p by v a n xs good is (argument_word s c) (take place (codes_in xs) ++ c ∷ []) (drop (suc place) (codes_in xs)) next_behind word_next
+    key_next p bare by good is = key_on_way p bare by v a n xs good is (argument_word s c) (take place (codes_in xs) ++ c ∷ []) (drop (suc place) (codes_in xs)) next_behind word_next
 
-    pub key_after : (p : Program) (m : Naming) → IsNamingOf p m → AreCodes p (attribute_parameters p a) (codes_in xs) → IsInstance p (Attribute a (reference_by m.node n) (arguments_by m (attribute_parameters p a) (codes_in xs)))
+    pub key_after : (p : Program) → HasSourcesAlone p → (m : Naming) → IsNamingOf p m → AreCodes p (attribute_parameters p a) (codes_in xs) → IsInstance p (Attribute a (reference_by m.node n) (arguments_by m (attribute_parameters p a) (codes_in xs)))
         → IsKeyTo p w (Attribute a (reference_by m.node n) (arguments_by m (attribute_parameters p a) (codes_in xs))) (argument_word s c)
-    key_after p m by good is = key_later v w more p (Attribute a (reference_by m.node n) (arguments_by m (attribute_parameters p a) (codes_in xs))) (argument_word s c) (key_next p by good is)
+    key_after p bare m by good is = key_later v w more p (Attribute a (reference_by m.node n) (arguments_by m (attribute_parameters p a) (codes_in xs))) (argument_word s c) (key_next p bare by good is)
 
     -- whatever the codes stand for
     pub way_key_next : (front behind : List ℕ) × (front ++ behind ≡ codes_in xs) × IsNamed w (argument_word s c) a n (reverse front)

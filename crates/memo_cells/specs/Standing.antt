@@ -9,7 +9,7 @@ use Rattle.attr_rules.specs.declared.kinds.Kind.TheVariants as kinds
 use Rattle.attr_rules.specs.Rules.{is_single}
 use Rattle.attr_rules.specs.Types.{truth_kind}
 use Rattle.equation_law.specs.declared.system.System.{System}
-use Rattle.equation_law.specs.Checked.{IsInstance}
+use Rattle.equation_law.specs.Checked.{HasSourcesAlone, IsInstance}
 use Rattle.equation_law.specs.Codes.{IsReference, IsSmall, IsValueCode}
 use Rattle.equation_law.specs.Equations.{HasValue, equations_of, kind_in}
 use Rattle.equation_law.specs.Keys.{HasCode, IsElementCode}
@@ -124,11 +124,12 @@ pub record AreApproximations (p : Program) (v : View) : Type 0 where
 -- A pass of these cells that has these slots still to seal: what it knows stands in one table, where a place has one key and a key one place. A key
 -- whose way is seen claimed stands for an instance, and what is settled codes the value of each instance that its key stands for. What the words show
 -- are approximations, and where other keys have all the cells than one of a word of a settled set, its value has nothing there. One that has the whole
--- share claimed all that it knows.
+-- share claimed all that it knows. The program makes nothing.
 pub record IsSeatOf (f : Frame) (v : View) (left : List ℕ) : Type 0 where
   pub table : v.table ≡ f.table
   pub frame : v.frame ≡ Some f
   pub few : f.cells ≤ 4194304
+  pub bare : HasSourcesAlone (program_of f.system.value)
   pub within : (p k : ℕ) → Has v.keys (p, k) → p < f.cells
   pub one_key : (p j k : ℕ) → Has v.keys (p, j) → Has v.keys (p, k) → j ≡ k
   pub one_place : (p q k : ℕ) → Has v.keys (p, k) → Has v.keys (q, k) → p ≡ q
@@ -278,8 +279,9 @@ pub record IsElement (p : Program) (v : View) (T : Instance → Value) (k b : �
   pub part : IsPart p T of (64 * word + b)
   pub code : IsElementCode p (kind_in p of) (64 * word + b)
 
--- the words of the cells of a program, if a pass knows all of them and has still to seal these slots
+-- the words of the cells of a program that makes nothing, if a pass knows all of them and has still to seal these slots
 pub record AreWords (f : Frame) (ts ks vs : List ℕ) : Type 0 where
+  pub bare : HasSourcesAlone (program_of f.system.value)
   pub values : Instance → Value
   pub lower : IsLowerOf (program_of f.system.value) values
   pub ordered : AreOrdered (IsFormed (program_of f.system.value) (knows_all f ts ks vs)) (IsFinal (program_of f.system.value) (knows_all f ts ks vs) values) (IsRaised (program_of f.system.value) (knows_all f ts ks vs) values) (IsElement (program_of f.system.value) (knows_all f ts ks vs) values) f.cells (word_at ks) (word_at vs)

@@ -2,7 +2,7 @@
 use Rattle.std.specs.Prelude.{◌≡◌, ℕ, IfNone, IfSome, List, Option}
 use Rattle.equation_law.specs.declared.coding.Instance.{Instance as CodedInstance}
 use Rattle.equation_law.specs.declared.system.System.{System}
-use Rattle.equation_law.specs.Checked.{IsInstance}
+use Rattle.equation_law.specs.Checked.{HasSourcesAlone, IsInstance}
 use Rattle.equation_law.specs.Codes.{ByEachNaming, ByEachOrder, IsCoded, NamesInOrder, instance_by}
 use Rattle.equation_law.specs.Equations.{HasValue}
 use Rattle.equation_law.specs.Names.{Instance}
@@ -172,10 +172,11 @@ abbrev pub ClaimsForSetAt : Held → Held → ℕ → Type 0
 ClaimsForSetAt d e place = ClaimsForSet d.frame d.view e.view place
 
 -- What a reader tells that holds a pass: it is for the program of the cells, it has the values of the instances whose cells are seen
--- settled, and reading lets the pass know no less. It may be read by each naming for the program whose codes are in the order of their nodes.
+-- settled, and reading lets the pass know no less. It may be read by each naming for the program whose codes are in the order of their nodes, and the
+-- program makes nothing.
 pub record TellsPass {S : Type 0} (held : S → Held) (d : S) (r : Told S) : Type 0 where
-  pub for : r.for (program_at (held d))
-  pub only : (p : Program) → r.for p → p ≡ program_at (held d)
+  pub for : IsOwn (held d) → r.for (program_at (held d))
+  pub only : (p : Program) → r.for p → (p ≡ program_at (held d)) × HasSourcesAlone p
   pub has : (i : Instance) (w : Value) → IsKnown (program_at (held d)) (held d).view i w → r.has i w
   pub known : (i : Instance) (w : Value) → r.has i w → IsKnown (program_at (held d)) (held d).view i w
   pub can : (i : Instance) (w : Value) → r.can i w → HasValue (program_at (held d)) i w
@@ -187,4 +188,11 @@ pub record TellsPass {S : Type 0} (held : S → Held) (d : S) (r : Told S) : Typ
 
 -- what such a reader tells, which is seen as what it holds
 abbrev pub told_by : Held → Told Held
-told_by d = record { for = λ p. p ≡ program_at d; has = IsKnown (program_at d) d.view; can = HasValue (program_at d); keeps = λ x. ReadsOn x d; names = NamesInOrder (program_at d) }
+told_by d = record {
+  for = λ p. (p ≡ program_at d) × HasSourcesAlone p;
+  has = IsKnown (program_at d) d.view;
+  can = HasValue (program_at d);
+  keeps = λ x. ReadsOn x d;
+  names = NamesInOrder (program_at d);
+  height = λ c. c;
+}

@@ -1,5 +1,6 @@
 // What callers do with the cells.
 ghost use Rattle.std.specs.Prelude.{◌≡◌, ◌<◌, ◌≤◌, ℕ, IfOk, IfSome, IfNone, OnErr, replicate};
+ghost use Rattle.equation_law.specs.Checked.{HasSourcesAlone};
 ghost use Rattle.equation_law.specs.Systems.{program_of};
 ghost use Rattle.memo_cells.specs.Causes.{IsLogOn, WhyMissing, WhyUnsettled};
 ghost use Rattle.memo_cells.specs.Keys.{Fits, key_word};
@@ -31,9 +32,10 @@ fn no_words(alloc: Global, cells: u32) -> Result<Vec<u64>, Memory>
 }
 
 impl Cells {
-    /// Cells for a system, from 1,024 to 4,194,304, and their first pass. No key is claimed.
+    /// Cells for a system, from 1,024 to 4,194,304, and their first pass. No key is claimed. The system's program makes no nodes.
     pub fn new(alloc: Global, system: &System, cells: u32) -> Result<(Cells, Pass), Memory>
-        requires { (1024 ≤ cells) × (cells ≤ 4194304) }
+        requires size { (1024 ≤ cells) × (cells ≤ 4194304) }
+        requires bare { HasSourcesAlone (program_of system.now) }
         ensures { IfOk result (λ r. AreNew system.now cells r.0 r.1) }
     {
         let keys = no_words(alloc, cells)?;

@@ -22,7 +22,7 @@ use Rattle.equation_law.specs.Names.{Argument, At, Attribute, Instance, Null, Of
 use Rattle.equation_law.specs.Program.{Program, attribute_parameters, class_of, declared_of, kinds_or_none, text_of}
 use Rattle.equation_law.specs.Systems.{program_of}
 use Rattle.equation_law.specs.Values.{int as held_int, Int, Node, Truth, as_argument}
-use Rattle.equation_law.proofs.Checked.{class_there, has, of_kind}
+use Rattle.equation_law.proofs.Checked.{at_of_class, has, of_kind, source_at}
 use Rattle.equation_law.proofs.Pooled.{text_there}
 use Rattle.plain_rounds.specs.declared.naming.NamedArg.{NamedArg}
 use Rattle.plain_rounds.specs.Named.{argument_named}
@@ -42,7 +42,7 @@ module _ (p : Program) where
   null_coded c = (null, refl, omega arith)
 
   pub node_coded : (c : ClassId) (k n : ℕ) (b : Bool) → b ≡ is_below p.grammar (class_of p k) c → b ≡ true → k < most_nodes → reference_of n ≡ At (Source k) → CodesNode p c (At (Source k)) (Some n)
-  node_coded c k n b is t few e = (at (class_there p k c (class_of p k) refl (sym is ∙ t)), e, (let one_more = code_is n k e in omega (arith, few, one_more)))
+  node_coded c k n b is t few e = (at (source_at p k c (at_of_class p k c (class_of p k) refl (sym is ∙ t))), e, (let one_more = code_is n k e in omega (arith, few, one_more)))
 
   pub node_argument : (c : ClassId) (r : Reference) (o : Option ℕ) → CodesNode p c r o → CodesArgument p (kinds.Node c) (OfNode r) o
   node_argument c r None h = λ v. h (of_kind p (kinds.Node c) (Node r) v)
@@ -77,8 +77,8 @@ module _ (p : Program) where
       → CodesInstance p (Attribute a (At (Source k)) xs) (Some (coded.Attr (record { 0 = a }) (record { 0 = n }) r))
   instance_coded a k n xs d b r e is t h m =
       let kinds : attribute_parameters p a ≡ parameter_kinds d.params = ap kinds_or_none e in
-      let there = class_there p k d.class (class_of p k) refl (sym is ∙ t) in
-      (of_attribute d there.class e there.of there.below h.0, (h.1, subst (λ (ks : List Kind). AreCodes p ks (codes_in r)) (sym kinds) h.2), (λ i. Attribute a (m i) ((ap (λ (ks : List Kind). arguments_at (text_of p) ks (codes_in r)) kinds ∙ h.3) i)))
+      let there = source_at p k d.class (at_of_class p k d.class (class_of p k) refl (sym is ∙ t)) in
+      (of_attribute d e there h.0, (h.1, subst (λ (ks : List Kind). AreCodes p ks (codes_in r)) (sym kinds) h.2), (λ i. Attribute a (m i) ((ap (λ (ks : List Kind). arguments_at (text_of p) ks (codes_in r)) kinds ∙ h.3) i)))
 
   pub query_coded : (q : ℕ) → q < length p.queries → CodesInstance p (Query q) (Some (coded.Query (record { 0 = q })))
   query_coded q h = let there = query_there p.queries q h in (of_query there.0 there.1, tt, refl)

@@ -14,7 +14,7 @@ use Rattle.plain_rounds.specs.declared.values.NodeName.TheVariants as names
 use Rattle.plain_rounds.specs.declared.rounds.Table.{Table}
 use Rattle.equation_law.specs.Names.{Argument, OfTruth, OfInt, OfText, OfNode, Instance, Attribute, Query, Reference, Null, At, Source, same_instance}
 use Rattle.equation_law.specs.Codes.{value_of}
-use Rattle.equation_law.specs.Values.{Value, Truth, Int, Text, Node, Texts, Nodes}
+use Rattle.equation_law.specs.Values.{Value, Truth, Int, Text, Node, Texts, Nodes, Tree}
 use Rattle.equation_law.specs.Program.{Program, text_of}
 use Rattle.equation_law.specs.Equations.{equations_of}
 
@@ -61,6 +61,7 @@ IsNoTruth (Text t) = Unit {0}
 IsNoTruth (Node n) = Unit {0}
 IsNoTruth (Texts s) = Unit {0}
 IsNoTruth (Nodes s) = Unit {0}
+IsNoTruth (Tree r ts) = Unit {0}
 
 abbrev pub IsNoInt : Value → Type 0
 IsNoInt (Truth b) = Unit {0}
@@ -69,6 +70,7 @@ IsNoInt (Text t) = Unit {0}
 IsNoInt (Node n) = Unit {0}
 IsNoInt (Texts s) = Unit {0}
 IsNoInt (Nodes s) = Unit {0}
+IsNoInt (Tree r ts) = Unit {0}
 
 abbrev pub IsNoText : Value → Type 0
 IsNoText (Truth b) = Unit {0}
@@ -77,6 +79,7 @@ IsNoText (Text t) = ⊥
 IsNoText (Node n) = Unit {0}
 IsNoText (Texts s) = Unit {0}
 IsNoText (Nodes s) = Unit {0}
+IsNoText (Tree r ts) = Unit {0}
 
 abbrev pub IsNoNode : Value → Type 0
 IsNoNode (Truth b) = Unit {0}
@@ -85,6 +88,7 @@ IsNoNode (Text t) = Unit {0}
 IsNoNode (Node n) = ⊥
 IsNoNode (Texts s) = Unit {0}
 IsNoNode (Nodes s) = Unit {0}
+IsNoNode (Tree r ts) = Unit {0}
 
 abbrev pub values_in : (ℕ → List ℕ) → Table → List (Option Value)
 values_in texts t = map (option_map (value_in texts)) t.values.items

@@ -2,6 +2,7 @@
 use Rattle.std.specs.Prelude.{◌≡◌, Option, Some, None}
 use Rattle.equation_law.specs.declared.coding.Instance.{Instance as CodedInstance}
 use Rattle.equation_law.specs.declared.coding.Value.{Value as CodedValue}
+use Rattle.equation_law.specs.Checked.{HasSourcesAlone}
 use Rattle.equation_law.specs.Codes.{AreElements, instance_of, source_names, value_of}
 use Rattle.equation_law.specs.Equations.{kind_in}
 use Rattle.equation_law.specs.Program.{Program, text_of}
@@ -25,14 +26,16 @@ IsPlaced s = ArePlaced (program_below s) s.names.now s.places.now.map s.values.n
 abbrev pub standing_at : Standing → Instance → Option Value
 standing_at s i = standing (program_of s.system.now) s.names.now s.values.now i
 
--- a reader for its program where the places are those of the list, which has these values and no other, and is read by the names of source nodes
+-- A reader for its program, whose nodes are those of its tree alone, where the places are those of the list. It has these values and no other, and is
+-- read by the names of source nodes.
 abbrev pub told_by : Standing → Told Standing
 told_by s = record {
-  for = λ p. (p ≡ program_of s.system.now) × ArePlaced p s.names.now s.places.now.map s.values.now;
+  for = λ p. (p ≡ program_of s.system.now) × HasSourcesAlone p × ArePlaced p s.names.now s.places.now.map s.values.now;
   has = λ i v. standing_at s i ≡ Some v;
   can = λ i v. standing_at s i ≡ Some v;
   keeps = λ earlier. earlier ≡ s;
   names = λ n. n ≡ source_names (text_of (program_of s.system.now));
+  height = λ c. c;
 }
 
 -- the value, read at its type, with its elements coded well, or None where there is none

@@ -1,5 +1,6 @@
 // The inner rounds: the values of circular instances, over what is settled.
 ghost use Rattle.std.specs.Prelude.{◌≡◌, ◌<◌, All, IfOk, length};
+ghost use Rattle.equation_law.specs.Checked.{HasSourcesAlone};
 ghost use Rattle.equation_law.specs.Systems.{program_of};
 ghost use Rattle.plain_rounds.specs.Places.{ArePlaced, IsHeld};
 ghost use Rattle.plain_rounds.specs.Steps.{AreFirst, AreInnerSteps, AreLeft, IsAfter, IsFirstAt, IsInnerStepAt, inner_at, known};
@@ -25,6 +26,7 @@ fn first_value(
     requires within { k < length names.now }
     requires long { length settled.now ≡ length names.now }
     requires held { All (IsHeld (program_of system.now)) settled.now }
+    requires alone { HasSourcesAlone (program_of system.now) }
     ensures first { IfOk result (λ value. IsFirstAt (program_of system.now) names.now settled.now k value) }
     ensures elements { IfOk result (IsHeld (program_of system.now)) }
 {
@@ -43,6 +45,7 @@ fn first_values(
 ) -> Result<Vec<Option<NamedValue>>, Memory>
     requires long { length settled.now ≡ length names.now }
     requires held { All (IsHeld (program_of system.now)) settled.now }
+    requires alone { HasSourcesAlone (program_of system.now) }
     ensures first { IfOk result (λ values. AreFirst (program_of system.now) names.now settled.now values.items) }
     ensures elements { IfOk result (λ values. All (IsHeld (program_of system.now)) values.items) }
 {
@@ -65,10 +68,11 @@ fn inner_value(
 ) -> Result<Option<NamedValue>, Memory>
     requires placed { ArePlaced (program_of system.now) names.now places.now.map values.now }
     requires within { k < length names.now }
+    requires alone { HasSourcesAlone (program_of system.now) }
     ensures value { IfOk result (λ value. known (program_of system.now) value ≡ inner_at (program_of system.now) names.now values.now k) }
     ensures elements { IfOk result (IsHeld (program_of system.now)) }
 {
-    if !is_circular(system, &names[k]) {
+    if !is_circular(alloc, system, &names[k]) {
         return Ok(None);
     }
     match &values[k] {
@@ -91,6 +95,7 @@ fn inner_step(
     requires within { k < length names.now }
     requires long { length settled.now ≡ length names.now }
     requires held { All (IsHeld (program_of system.now)) settled.now }
+    requires alone { HasSourcesAlone (program_of system.now) }
     ensures step { IfOk result (λ value. IsInnerStepAt (program_of system.now) names.now settled.now values.now k value) }
     ensures elements { IfOk result (IsHeld (program_of system.now)) }
 {
@@ -112,6 +117,7 @@ fn inner_round(
     requires placed { ArePlaced (program_of system.now) names.now places.now.map values.now }
     requires long { length settled.now ≡ length names.now }
     requires held { All (IsHeld (program_of system.now)) settled.now }
+    requires alone { HasSourcesAlone (program_of system.now) }
     ensures round { IfOk result (λ next. AreInnerSteps (program_of system.now) names.now settled.now values.now next.items) }
     ensures elements { IfOk result (λ next. All (IsHeld (program_of system.now)) next.items) }
 {
@@ -134,6 +140,7 @@ pub(crate) fn inner_rounds(
 ) -> Result<Vec<Option<NamedValue>>, Memory>
     requires placed { ArePlaced (program_of system.now) names.now places.now.map settled.now }
     requires after { IsAfter (program_of system.now) names.now settled.now }
+    requires alone { HasSourcesAlone (program_of system.now) }
     ensures left { IfOk result (λ values. AreLeft (program_of system.now) names.now settled.now values.items) }
     ensures elements { IfOk result (λ values. All (IsHeld (program_of system.now)) values.items) }
 {

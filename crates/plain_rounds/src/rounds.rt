@@ -1,6 +1,6 @@
 // The rounds of the model over a list of instances.
 ghost use Rattle.std.specs.Prelude.{◌≡◌, ◌<◌, All, ℕ, List, IfOk, MatchOption, Some, None, count_by, is_none, length, replicate};
-ghost use Rattle.equation_law.specs.Checked.{IsInstance};
+ghost use Rattle.equation_law.specs.Checked.{HasSourcesAlone, IsInstance};
 ghost use Rattle.equation_law.specs.Systems.{program_of};
 ghost use Rattle.plain_rounds.specs.Named.{instances_in, value_in, value_at, Solves};
 ghost use Rattle.plain_rounds.specs.Places.{ArePlaced, IsHeld};
@@ -64,10 +64,11 @@ fn stepped(
     requires long { length inner.now ≡ length names.now }
     requires held { All (IsHeld (program_of system.now)) inner.now }
     requires within { k < length names.now }
+    requires alone { HasSourcesAlone (program_of system.now) }
     ensures step { IfOk result (λ next. IsStepAt (program_of system.now) names.now settled.now inner.now k next) }
     ensures elements { IfOk result (IsHeld (program_of system.now)) }
 {
-    if is_circular(system, &names[k]) {
+    if is_circular(alloc, system, &names[k]) {
         return copied(&inner[k]);
     }
     match &settled[k] {
@@ -86,6 +87,7 @@ fn round(
 ) -> Result<Vec<Option<NamedValue>>, Memory>
     requires placed { ArePlaced (program_of system.now) names.now places.now.map settled.now }
     requires after { IsAfter (program_of system.now) names.now settled.now }
+    requires alone { HasSourcesAlone (program_of system.now) }
     ensures after { IfOk result (λ next. IsNext (program_of system.now) names.now settled.now next.items) }
     ensures elements { IfOk result (λ next. All (IsHeld (program_of system.now)) next.items) }
 {
@@ -128,8 +130,11 @@ fn nothing(alloc: Global, count: usize) -> Result<Vec<Option<NamedValue>>, Memor
 /// or outer, takes time linear in the list and the expressions. There are at most as many outer rounds as there are
 /// instances, and one more, and at most as many inner rounds in one of these as the values of the circular instances
 /// can rise, and these instances can be dropped, and one more.
+///
+/// It takes programs that make no trees as yet: the nodes are those of the source tree alone.
 pub fn plain_rounds(alloc: Global, system: &System, names: &NameList) -> Result<Table, Memory>
-    requires { All (IsInstance (program_of system.now)) (instances_in (program_of system.now) names.now) }
+    requires instances { All (IsInstance (program_of system.now)) (instances_in (program_of system.now) names.now) }
+    requires alone { HasSourcesAlone (program_of system.now) }
     ensures { IfOk result (λ table. Solves (program_of system.now) (instances_in (program_of system.now) names.now) table) }
 {
     let codes = codes_of(alloc, system, names.list())?;

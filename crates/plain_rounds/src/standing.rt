@@ -1,5 +1,6 @@
 // The values that stand in a round, as a reader.
 ghost use Rattle.std.specs.Prelude.{◌≡◌, IfOk};
+ghost use Rattle.equation_law.specs.Checked.{HasSourcesAlone};
 ghost use Rattle.equation_law.specs.Codes.{IsCoded, instance_of};
 ghost use Rattle.equation_law.specs.Systems.{program_of};
 ghost use Rattle.plain_rounds.specs.Places.{ArePlaced, IsHeld};
@@ -7,11 +8,14 @@ ghost use Rattle.plain_rounds.specs.Steps.{comes, known, standing};
 
 use crate::places::Places;
 use crate::values::NamedValue;
+use ast_grammar::ClassId;
+use attr_rules::AttrId;
 use collection_attrs::evaluate_any;
-use equation_law::{Instance, Reader, System, Value};
+use equation_law::{Code, Instance, NodeRef, Reader, System, Up, Value};
 use expr_eval::{Turn, kind_of};
 use rag_io::Memory;
 use std::alloc::Global;
+use std::cmp::Ordering;
 
 /// What stands in a round: a value, or none, for each instance of a list.
 #[derive(Clone, Copy)]
@@ -45,6 +49,33 @@ impl Reader for Standing<'_> {
     fn settled(&mut self, alloc: Global, i: &Instance) -> Result<Option<Value>, Memory> {
         self.value(alloc, *i)
     }
+
+    fn made_class(&mut self, _node: NodeRef) -> ClassId {
+        ClassId(u16::MAX)
+    }
+
+    fn made_child(&mut self, _node: NodeRef, _component: u32) -> NodeRef {
+        NodeRef(0)
+    }
+
+    fn made_token(&mut self, _node: NodeRef, _component: u32) -> Code {
+        0
+    }
+
+    fn made_up(&mut self, _node: NodeRef) -> Up {
+        Up::Owner {
+            node: NodeRef(0),
+            attr: AttrId(0),
+        }
+    }
+
+    fn made_arg(&mut self, _node: NodeRef, _k: u32) -> Code {
+        0
+    }
+
+    fn made_order(&mut self, a: NodeRef, b: NodeRef) -> Ordering {
+        a.0.cmp(&b.0)
+    }
 }
 
 /// The value of an instance's equation under what stands, if it isn't stuck.
@@ -58,6 +89,7 @@ pub(crate) fn equation_value(
 ) -> Result<Option<NamedValue>, Memory>
     requires placed { ArePlaced (program_of system.now) names.now places.now.map values.now }
     requires coded { IsCoded (program_of system.now) name }
+    requires alone { HasSourcesAlone (program_of system.now) }
     ensures value { let p = program_of system.now in IfOk result (λ value. known p value ≡ comes p (standing p names.now values.now) (instance_of p name)) }
     ensures elements { IfOk result (IsHeld (program_of system.now)) }
 {
@@ -71,5 +103,7 @@ pub(crate) fn equation_value(
     match turn {
         Turn::Done(value) => Ok(Some(NamedValue { value })),
         Turn::Need(_) => Ok(None),
+        // Its program makes no trees.
+        Turn::Image(_) => unreachable!(),
     }
 }

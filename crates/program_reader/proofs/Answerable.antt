@@ -15,7 +15,7 @@ use Rattle.attr_types.proofs.MadeWell.{equations_made}
 use Rattle.aspect_items.specs.Items.{Item as AspectItem}
 use Rattle.monotone_check.specs.Equations.{equations_broken}
 use Rattle.monotone_check.proofs.PermittedRises.{equations_rise}
-use Rattle.equation_law.specs.Checked.{IsProgram, IsTyped, NoneCreated}
+use Rattle.equation_law.specs.Checked.{HasSourcesAlone, IsProgram, IsTyped, NoneCreated}
 use Rattle.tree_arena.specs.Nodes.{Node}
 use Rattle.tree_arena.specs.Terms.{IsTreeOf}
 use Rattle.tree_reader.specs.FromBytes.{ReadsTree}
@@ -26,6 +26,7 @@ use Rattle.run_io.specs.Files.{Contents}
 use Rattle.program_reader.specs.Queries.{SaysLines, over, silent, query, SaysQuery, SaysQueries}
 use Rattle.rag_io.specs.Decimal.{decimal}
 use Rattle.program_reader.specs.Tokens.{place_at, text_at}
+use Rattle.equation_law.proofs.Plain.{plain_alone}
 use Rattle.program_reader.proofs.NoneCreated.{none_created}
 use Rattle.program_reader.proofs.Pooled.{kept_pooled, one_pooled}
 use Rattle.program_reader.proofs.Tested.{clean_front, clean_last}
@@ -80,7 +81,6 @@ is_program held p s pooled =
       grammar = grammar_allowed s.grammar;
       rules = rules;
       rising = rules_rise p.rules p.grammar s.written s.accepted s.rules;
-      plain = subst NoneCreated (sym s.rules) (none_created p.grammar s.written s.accepted.built);
       texts = pooled;
       tree = tree_allowed s.tree;
       queries = queries_typed p rules s.queries;
@@ -91,3 +91,7 @@ pub said_program : (held : Contents) (p : Program) → SaysProgram held p → Is
 said_program held p s =
     let between : ArePooled s.between = subst ArePooled (sym s.aspects.are_pooled) (kept_pooled no_texts s.aspects.tokens one_pooled) in
     is_program held p s (subst ArePooled (sym s.tree.pooled) (kept_pooled s.between s.tree.tokens between))
+
+-- and make nothing
+pub said_alone : (held : Contents) (p : Program) → SaysProgram held p → HasSourcesAlone p
+said_alone held p s = plain_alone p (said_program held p s) (subst NoneCreated (sym s.rules) (none_created p.grammar s.written s.accepted.built))

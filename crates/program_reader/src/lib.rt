@@ -8,4 +8,4 @@ mod query_language;
 mod query_table;
 
 pub use files::{Refusal, counts_text, read_system, tree_text};
-pub use laws::said_programs;
+pub use laws::{said_programs, said_sources};

@@ -1,6 +1,6 @@
 // The reply lines.
 ghost use Rattle.std.specs.Prelude.{◌≡◌, ◌≤◌, ◌<◌, ◌++◌, ◌∷◌, [], Err, IfOk, OnOk, length};
-ghost use Rattle.equation_law.specs.Checked.{IsProgram};
+ghost use Rattle.equation_law.specs.Checked.{HasSourcesAlone, IsProgram};
 ghost use Rattle.equation_law.specs.Systems.{program_of};
 ghost use Rattle.equation_law.specs.Names.{Query};
 ghost use Rattle.memo_cells.specs.Claiming.{ClaimsKeys, FillsCells};
@@ -116,7 +116,7 @@ fn add_answers<L: Ledger, G: Gate>(
     Ok(text)
 }
 
-/// The reply lines of all queries, in order, over so many cells. The gate is told after each reply.
+/// The reply lines of all queries, in order, over so many cells. The gate is told after each reply. The system's program makes no nodes.
 pub fn reply_lines<G: Gate>(
     alloc: Global,
     gate: &G,
@@ -124,6 +124,7 @@ pub fn reply_lines<G: Gate>(
     cells: u32,
 ) -> Result<Vec<u8>, ReplyFault>
     requires program { IsProgram (program_of system.now) }
+    requires sources { HasSourcesAlone (program_of system.now) }
     requires cells { (1024 ≤ cells) × (cells ≤ 4194304) }
     ensures replies { IfOk result (λ text. AreReplies (program_of system.now) 0 (program_of system.now).queries text.items) }
     ensures full { result ≡ Err ReplyFault.Cells → IsOverfull (program_of system.now) cells }

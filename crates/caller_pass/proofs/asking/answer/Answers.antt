@@ -11,7 +11,7 @@ use Rattle.caller_pass.specs.declared.faults.AskFault.TheVariants.{Memory}
 use Rattle.caller_pass.specs.Answering.{Solves}
 use Rattle.caller_pass.specs.Knowing.{FindsValue}
 use Rattle.caller_pass.proofs.Asked.{asked_fault, asked_known, asked_memory, asked_unread, asked_value, solves_before}
-use Rattle.memo_cells.proofs.Holding.{goes_then}
+use Rattle.memo_cells.proofs.Holding.{goes_then, own_then}
 use Rattle.caller_pass.proofs.asking.answer.Goals as goal
 
 pub returns-in_err-value-clause-on : goal.returns-in_err-value-clause-on
@@ -24,7 +24,7 @@ pub returns-in-Some-clause-on : goal.returns-in-Some-clause-on
 returns-in-Some-clause-on g c = c.in_ok-value.ensures.on.on
 
 pub returns-in-Some-clause-asked : goal.returns-in-Some-clause-asked
-returns-in-Some-clause-asked g c = λ names named. asked_known (program_at c.args.desk.now) names c.args.desk.now.frame c.args.desk.now.view c.known_value.new.self.view (instance_by (program_at c.args.desk.now) names c.args.i) c.in-Some.value c.args.evals.now c.requires.program (c.requires.instance names named) (subst (λ (o : Option Value). FindsValue (program_at c.args.desk.now) names c.known_value.new.self.view (instance_by (program_at c.args.desk.now) names c.args.i) (Ok o)) c.in-Some.is (c.in_ok-value.ensures.known c.requires.coded names named)) c.in_ok-value.ensures.on.claims
+returns-in-Some-clause-asked g c = λ names named. asked_known (program_at c.args.desk.now) (own_then c.args.desk.now c.known_value.new.self c.in_ok-value.ensures.on.on).bare names c.args.desk.now.frame c.args.desk.now.view c.known_value.new.self.view (instance_by (program_at c.args.desk.now) names c.args.i) c.in-Some.value c.args.evals.now c.requires.program (c.requires.instance names named) (subst (λ (o : Option Value). FindsValue (program_at c.args.desk.now) names c.known_value.new.self.view (instance_by (program_at c.args.desk.now) names c.args.i) (Ok o)) c.in-Some.is (c.in_ok-value.ensures.known c.requires.coded names named)) c.in_ok-value.ensures.on.claims
 
 pub settle-requires-clause-program : goal.settle-requires-clause-program
 settle-requires-clause-program g c = subst (λ (f : Frame). IsProgram (program_of f.system.value)) (sym c.in_ok-value.ensures.on.on.cells) c.requires.program
@@ -54,7 +54,7 @@ pub returns-in-Some-2-clause-on : goal.returns-in-Some-2-clause-on
 returns-in-Some-2-clause-on g c = goes_then c.args.desk.now c.settle.new.desk c.known_value-2.new.self (goes_then c.args.desk.now c.known_value.new.self c.settle.new.desk c.in_ok-value.ensures.on.on c.in_ok-settle.ensures.on) c.in_ok-value-2.ensures.on.on
 
 pub returns-in-Some-2-clause-asked : goal.returns-in-Some-2-clause-asked
-returns-in-Some-2-clause-asked g c = λ names named. asked_value (program_at c.args.desk.now) names c.args.desk.now.frame c.args.desk.now.view c.settle.new.desk.view c.known_value-2.new.self.view (instance_by (program_at c.args.desk.now) names c.args.i) c.args.evals.now c.settle.new.evals (λ k. (subst (λ (o : Option Value). FindsValue (program_at c.args.desk.now) names c.known_value.new.self.view (instance_by (program_at c.args.desk.now) names c.args.i) (Ok o)) c.in_default.is (c.in_ok-value.ensures.known c.requires.coded names named)) (knows_later c.args.desk.now.view c.known_value.new.self.view c.in_ok-value.ensures.on.on.kept (program_at c.args.desk.now) (instance_by (program_at c.args.desk.now) names c.args.i) k)) tt (solves_before (program_at c.args.desk.now) names c.args.desk.now.frame c.args.desk.now.view c.known_value.new.self.view c.settle.new.desk.view (instance_by (program_at c.args.desk.now) names c.args.i) c.args.evals.now c.settle.new.evals (Ok tt) c.in_ok-value.ensures.on.on.kept c.in_ok-value.ensures.on.on.log c.in_ok-value.ensures.on.claims c.in_ok-settle.ensures.on.kept (subst (λ (f : Frame). ByEachNaming (program_of f.system.value) (λ m. Solves (program_of f.system.value) m f c.known_value.new.self.view c.settle.new.desk.view (instance_by (program_of f.system.value) m c.args.i) c.args.evals.now c.settle.new.evals (Ok tt))) c.in_ok-value.ensures.on.on.cells c.in_ok-settle.ensures.solved names named)) c.in_ok-value-2.ensures.on.on.kept c.in_ok-value-2.ensures.on.on.log c.in_ok-value-2.ensures.on.claims c.in-Some-2.value c.requires.program (c.requires.instance names named) (subst (λ (o : Option Value). FindsValue (program_at c.args.desk.now) names c.known_value-2.new.self.view (instance_by (program_at c.args.desk.now) names c.args.i) (Ok o)) c.in-Some-2.is (subst (λ (q : Program). IsCoded q c.args.i → ByEachNaming q (λ m. FindsValue q m c.known_value-2.new.self.view (instance_by q m c.args.i) (Ok c.in_ok-value-2.field-0))) (ap (λ (f : Frame). program_of f.system.value) (c.in_ok-settle.ensures.on.cells ∙ c.in_ok-value.ensures.on.on.cells)) c.in_ok-value-2.ensures.known c.requires.coded names named))
+returns-in-Some-2-clause-asked g c = λ names named. asked_value (program_at c.args.desk.now) names c.args.desk.now.frame c.args.desk.now.view c.settle.new.desk.view c.known_value-2.new.self.view (instance_by (program_at c.args.desk.now) names c.args.i) c.args.evals.now c.settle.new.evals (λ k. (subst (λ (o : Option Value). FindsValue (program_at c.args.desk.now) names c.known_value.new.self.view (instance_by (program_at c.args.desk.now) names c.args.i) (Ok o)) c.in_default.is (c.in_ok-value.ensures.known c.requires.coded names named)) (knows_later c.args.desk.now.view c.known_value.new.self.view c.in_ok-value.ensures.on.on.kept (program_at c.args.desk.now) (instance_by (program_at c.args.desk.now) names c.args.i) k)) tt (solves_before (program_at c.args.desk.now) names c.args.desk.now.frame c.args.desk.now.view c.known_value.new.self.view c.settle.new.desk.view (instance_by (program_at c.args.desk.now) names c.args.i) c.args.evals.now c.settle.new.evals (Ok tt) c.in_ok-value.ensures.on.on.kept c.in_ok-value.ensures.on.on.log c.in_ok-value.ensures.on.claims c.in_ok-settle.ensures.on.kept (subst (λ (f : Frame). ByEachNaming (program_of f.system.value) (λ m. Solves (program_of f.system.value) m f c.known_value.new.self.view c.settle.new.desk.view (instance_by (program_of f.system.value) m c.args.i) c.args.evals.now c.settle.new.evals (Ok tt))) c.in_ok-value.ensures.on.on.cells c.in_ok-settle.ensures.solved names named)) c.in_ok-value-2.ensures.on.on.kept c.in_ok-value-2.ensures.on.on.log c.in_ok-value-2.ensures.on.claims c.in-Some-2.value (own_then c.args.desk.now c.known_value.new.self c.in_ok-value.ensures.on.on).bare c.requires.program (c.requires.instance names named) (subst (λ (o : Option Value). FindsValue (program_at c.args.desk.now) names c.known_value-2.new.self.view (instance_by (program_at c.args.desk.now) names c.args.i) (Ok o)) c.in-Some-2.is (subst (λ (q : Program). IsCoded q c.args.i → ByEachNaming q (λ m. FindsValue q m c.known_value-2.new.self.view (instance_by q m c.args.i) (Ok c.in_ok-value-2.field-0))) (ap (λ (f : Frame). program_of f.system.value) (c.in_ok-settle.ensures.on.cells ∙ c.in_ok-value.ensures.on.on.cells)) c.in_ok-value-2.ensures.known c.requires.coded names named))
 
 pub returns-in-None-clause-on : goal.returns-in-None-clause-on
 returns-in-None-clause-on g c = goes_then c.args.desk.now c.settle.new.desk c.known_value-2.new.self (goes_then c.args.desk.now c.known_value.new.self c.settle.new.desk c.in_ok-value.ensures.on.on c.in_ok-settle.ensures.on) c.in_ok-value-2.ensures.on.on

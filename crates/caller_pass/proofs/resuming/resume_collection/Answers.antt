@@ -4,6 +4,7 @@ use Rattle.equation_law.specs.Codes.{ByEachNaming}
 use Rattle.equation_law.specs.Equations.{offers_below}
 use Rattle.equation_law.specs.Reading.{IsSound}
 use Rattle.equation_law.specs.Systems.{program_of}
+use Rattle.equation_law.proofs.Grown.{grows_itself}
 use Rattle.expr_eval.specs.Saved.{AreSaved}
 use Rattle.expr_eval.specs.declared.sites.Turn.TheVariants as turns
 use Rattle.memo_cells.specs.Working.{Held, told_by}
@@ -25,7 +26,7 @@ returns-in_default-clause-evaluates c =
     let its = c.requires.collection.2 in
     let none : ByEachNaming p (λ names. (k names).offers ≡ []) = subst (λ (s : System). IsRootless (program_of s) c.args.of) c.requires.same c.in_default.ensures.none k its in
     collected p c.args.i k (Ok (turns.Done c.into_value.result)) d d d c.root_for.new.self c.requires.collection.1 refl c.root_for.ensures.same
-    (rootless c.requires.sound its none c.new-none.ensures c.into_value.result c.into_value.ensures)
+    (rootless (grows_itself c.requires.sound) its (λ names in_it. none names (c.requires.sound.named names in_it)) c.new-none.ensures c.into_value.result c.into_value.ensures)
 
 pub returns-in_default-clause-left : goal.returns-in_default-clause-left
 returns-in_default-clause-left c = subst (λ (d : Held). AreLeft c.args.system.now (told_by d) c.args.i c.args.left.now) (sym c.root_for.ensures.same) c.requires.left
@@ -52,7 +53,7 @@ go_on-turn-requires-clause-collection c =
     let gone = survey_taken p c.args.desk.now c.requires.sound c.args.i c.args.of k c.args.left.now.survey c.take_survey-gone.result c.requires.collection.1 its c.take_survey-gone.ensures.own c.take_survey-gone.ensures.new c.requires.left.survey in (
       k,
       its,
-      walk_for_each p k c.take_walk-offers.result a root below c.take_walk-offers.ensures.of.0 c.take_walk-offers.ensures.of.1,
+      walk_for_each p c.take_walk-offers.new.self (subst (λ (d : Held). IsSound p (told_by d)) (sym (c.take_walk-offers.ensures.same ∙ c.root_for.ensures.same)) c.requires.sound) k c.take_walk-offers.result a root below c.take_walk-offers.ensures.of.0 c.take_walk-offers.ensures.of.1,
       subst (λ (d : Held). IsSurveyed p (told_by d) k c.take_survey-gone.result) (sym (c.take_walk-offers.ensures.same ∙ c.root_for.ensures.same)) gone,
     )
 
@@ -64,7 +65,7 @@ put_walk-requires c =
     let p = program_of c.args.system.now in
     let k = c.requires.collection.0 in
     let its = c.requires.collection.2 in
-    walk_known p c.go_on-turn.new.reader c.go_on-turn.new.offers (c.go_on-turn.ensures.evaluates k its).kept.sound.for c.go_on-turn.ensures.walk
+    walk_known p c.go_on-turn.new.reader c.go_on-turn.new.offers (c.go_on-turn.ensures.evaluates k its).kept.sound.for.0 c.go_on-turn.ensures.walk
 
 pub returns-clause-evaluates : goal.returns-clause-evaluates
 returns-clause-evaluates c =

@@ -1,14 +1,17 @@
 use Rattle.std.proofs.Common.{◌≡◌, None, sym, subst}
 use Rattle.equation_law.specs.declared.system.System.{System}
 use Rattle.equation_law.specs.declared.coding.Instance.{Instance as CodedInstance}
-use Rattle.equation_law.specs.Codes.{instance_of}
+use Rattle.equation_law.specs.declared.coding.Instance.TheVariants.{Attr as attribute_at}
+use Rattle.equation_law.specs.Codes.{instance_of, source_names}
 use Rattle.equation_law.specs.Equations.{collection_of}
+use Rattle.equation_law.specs.Program.{text_of}
 use Rattle.equation_law.specs.Reading.{IsSound}
 use Rattle.equation_law.specs.Systems.{program_of}
 use Rattle.expr_eval.specs.Saved.{AreSaved}
 use Rattle.expr_eval.specs.Sites.{EvaluatesInstance}
 use Rattle.inherited_walk.specs.Sites.{FindsEquation}
 use Rattle.memo_cells.specs.Working.{Held, told_by}
+use Rattle.circular_eval.proofs.Tied.{no_collection}
 use Rattle.caller_pass.proofs.resuming.resume_single.Goals as goal
 
 pub resume_at-requires-clause-sound : goal.resume_at-requires-clause-sound
@@ -18,12 +21,15 @@ pub resume_at-requires-clause-saved : goal.resume_at-requires-clause-saved
 resume_at-requires-clause-saved c = subst (λ (d : Held). AreSaved c.args.system.now (told_by d) c.args.saved.now) (sym c.site-site.ensures.same) c.requires.saved
 
 pub resume_at-requires-clause-found : goal.resume_at-requires-clause-found
-resume_at-requires-clause-found c = subst (λ (s : System). FindsEquation (program_of s) c.in-Attr.attr c.in-Attr.node c.in-Attr.args c.site-site.result) c.requires.same c.site-site.ensures.found
+resume_at-requires-clause-found c = λ n is.
+    let found = subst (λ (s : System). FindsEquation (program_of s) c.in-Attr.attr c.in-Attr.node c.in-Attr.args c.site-site.result) c.requires.same c.site-site.ensures.found in
+    found n (c.requires.sound.named n (subst (λ (d : Held). (told_by d).names n) c.site-site.ensures.same is))
 
 pub resume_at-requires-clause-single : goal.resume_at-requires-clause-single
 resume_at-requires-clause-single c =
     let p = program_of c.args.system.now in
-    subst (λ (i : CodedInstance). collection_of p (instance_of p i) ≡ None) c.in-Attr.is c.requires.single
+    let single = subst (λ (i : CodedInstance). collection_of p (instance_of p i) ≡ None) c.in-Attr.is c.requires.single in
+    λ n is. no_collection p (source_names (text_of p)) n (attribute_at c.in-Attr.attr c.in-Attr.node c.in-Attr.args) single
 
 pub returns-in-Attr-clause-evaluates : goal.returns-in-Attr-clause-evaluates
 returns-in-Attr-clause-evaluates c =
@@ -36,4 +42,4 @@ pub returns-in-Query-clause-evaluates : goal.returns-in-Query-clause-evaluates
 returns-in-Query-clause-evaluates c = c.resume_instance.ensures.evaluates
 
 pub resume_instance-requires-clause-single : goal.resume_instance-requires-clause-single
-resume_instance-requires-clause-single c = c.requires.single
+resume_instance-requires-clause-single c = λ n is. let p = program_of c.args.system.now in no_collection p (source_names (text_of p)) n c.args.i c.requires.single

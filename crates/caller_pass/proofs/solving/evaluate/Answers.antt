@@ -12,7 +12,7 @@ use Rattle.circular_eval.specs.Advancing.{AnswersTurn}
 use Rattle.caller_pass.specs.Holding.{TurnsToAt}
 use Rattle.caller_pass.specs.Waiting.{unboxed}
 use Rattle.caller_pass.proofs.Leaving.{kept_left, none_left, taken_left}
-use Rattle.caller_pass.proofs.Through.{at_turn, cell_turn, ended_err, ended_ok, ended_turn, local_closed, local_err, local_need, turn_coded, turn_err, turn_left, turn_local, turn_need, turn_start}
+use Rattle.caller_pass.proofs.Through.{at_turn, cell_turn, ended_err, ended_ok, ended_turn, local_closed, local_err, local_need, no_image, turn_coded, turn_err, turn_left, turn_local, turn_need, turn_start}
 use Rattle.caller_pass.proofs.solving.evaluate.Goals as goal
 
 pub go_on-requires-clause-program : goal.go_on-requires-clause-program
@@ -68,3 +68,6 @@ returns-in_ok-finish-in-Done g c = record { went = ended_ok c.args.desk.now c.tu
 
 pub returns-in_ok-start-in-Need-2 : goal.returns-in_ok-start-in-Need-2
 returns-in_ok-start-in-Need-2 g c = record { went = turn_start c.args.desk.now c.turn.new.desk c.args.i c.args.waiter.now (ap unboxed c.in_default.is) c.requires.program c.requires.turn c.in_ok-value.ensures.on c.args.evals.now c.turn.new.evals c.in_ok-value.ensures.evals c.unless_empty.result (kept_left c.args.i c.unless_empty.result c.turn.new.left c.unless_empty.ensures.own c.in_ok-value.ensures.left) c.in-Need-2.next (subst (λ (t : Turn). TurnsToAt c.args.desk.now c.turn.new.desk c.args.i (Ok t)) c.in-Need-2.is c.in_ok-value.ensures.turned) (subst (λ (s : System). is_declared (program_of s) (instance_of (program_of s) c.in-Need-2.next) ≡ true) (sym c.desk.invariant.1 ∙ ap (λ (h : Held). h.frame.system.value) c.desk.view_is ∙ ap (λ (f : Frame). f.system.value) c.in_ok-value.ensures.on.on.cells) (sym c.is_declared.ensures ∙ c.if-not-is_declared.false)) c.in_ok-start-in-Need-2.field-0 c.in_ok-start-in-Need-2.ensures.start c.in_ok-start-in-Need-2.ensures.local }
+
+pub unreachable-requires : goal.unreachable-requires
+unreachable-requires g c = no_image c.args.desk.now c.turn.new.desk c.args.i c.in-Image.field-0 (subst (λ (t : Turn). TurnsToAt c.args.desk.now c.turn.new.desk c.args.i (Ok t)) c.in-Image.is c.in_ok-value.ensures.turned)

@@ -50,10 +50,10 @@ settle-requires-clause-code c =
     let on = c.in_ok-show.ensures.on in
     let same = sym (sym c.desk.invariant.1 ∙ ap (λ (h : Held). h.frame.system.value) c.desk.view_is ∙ ap (λ (g : Frame). g.system.value) on.cells) in
     let kinds = kind_each d c.desk.inside.system.now c.args.i c.kind_of-kind.result same c.kind_of-kind.ensures names named in
-    let ended = ended_by_each p c.requires.program d.view c.args.i x c.requires.instance c.requires.ended names named in
+    let ended = ended_by_each p c.requires.own.bare c.requires.program d.view c.args.i x c.requires.instance c.requires.ended names named in
     let cell = cell_later d.view e.view on.kept p d.frame i c.args.slot.0 (c.requires.slot names named) in
     subst (λ (g : Frame). MaySettle (program_of g.system.value) e.view c.args.slot.0 c.code.result) (sym on.cells)
-    (may_settle p names named c.requires.program d.frame d.view e.view i c.args.slot.0 c.code.result c.kind_of-kind.result x (own_then d e on).approximations (c.requires.instance names named) on.kept cell ended (c.requires.undeclared names named) kinds
+    (may_settle p c.requires.own.bare names named c.requires.program d.frame d.view e.view i c.args.slot.0 c.code.result c.kind_of-kind.result x (own_then d e on).approximations (c.requires.instance names named) on.kept cell ended (c.requires.undeclared names named) kinds
     (c.code.ensures.value names (first_text d.frame.system.value)) c.code.ensures.small c.code.type_inv
     (λ single. subst (λ (k : Kind). ShowsAtLeast p e.view i k (value_by names x)) (sym kinds) (c.in_ok-show.ensures.answer names named (ap is_single (sym kinds) ∙ single))))
 
@@ -63,9 +63,9 @@ note_set-requires c =
     let p = program_at d in
     let x = c.args.value.now in
     let on = c.in_ok-show.ensures.on in
-    let ended = ended_by_each p c.requires.program d.view c.args.i x c.requires.instance c.requires.ended in
+    let ended = ended_by_each p c.requires.own.bare c.requires.program d.view c.args.i x c.requires.instance c.requires.ended in
     subst (λ (q : Program). IsNoted q c.args.i x) (ap (λ (g : Frame). program_of g.system.value) (sym on.cells ∙ sym c.settle.ensures.on.on.cells))
-    (λ _ names named. ended_noted p names d.view (instance_by p names c.args.i) x c.requires.program (c.requires.instance names named) (ended names named))
+    (λ _ names named. ended_noted p c.requires.own.bare names d.view (instance_by p names c.args.i) x c.requires.program (c.requires.instance names named) (ended names named))
 
 pub returns-clause-on : goal.returns-clause-on
 returns-clause-on c = subst (λ (e : Held). GoesOn c.args.desk.now e) (sym c.note_set.ensures) (goes_then c.args.desk.now c.show.new.desk c.settle.new.self c.in_ok-show.ensures.on c.settle.ensures.on.on)

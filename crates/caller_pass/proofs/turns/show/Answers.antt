@@ -18,8 +18,8 @@ raise_codes-requires-clause-may c =
     let names = source_names (text_of p) in
     let named = sources_named p in
     let i = instance_by p names c.args.i in
-    let ended = ended_by_each p c.requires.program d.view c.args.i c.args.value.now c.requires.instance c.requires.ended names named in
-    (i, may_show_codes p names named c.requires.program d.frame d.view i (c.requires.instance names named) (c.requires.undeclared names named) c.args.slot.0 (c.requires.slot names named) c.args.value.now ended c.deref.result.now (c.deref.ensures.value ∙ c.in_ok-codes.ensures))
+    let ended = ended_by_each p c.requires.own.bare c.requires.program d.view c.args.i c.args.value.now c.requires.instance c.requires.ended names named in
+    (i, may_show_codes p c.requires.own.bare names named c.requires.program d.frame d.view i (c.requires.instance names named) (c.requires.undeclared names named) c.args.slot.0 (c.requires.slot names named) c.args.value.now ended c.deref.result.now (c.deref.ensures.value ∙ c.in_ok-codes.ensures))
 
 pub returns-in_err-raise_codes-clause-claims : goal.returns-in_err-raise_codes-clause-claims
 returns-in_err-raise_codes-clause-claims c = λ names named.
@@ -27,9 +27,9 @@ returns-in_err-raise_codes-clause-claims c = λ names named.
     let p = program_at d in
     let i = instance_by p names c.args.i in
     let are = c.deref.ensures.value ∙ c.in_ok-codes.ensures in
-    let ended = ended_by_each p c.requires.program d.view c.args.i c.args.value.now c.requires.instance c.requires.ended names named in
-    let may = may_show_codes p names named c.requires.program d.frame d.view i (c.requires.instance names named) (c.requires.undeclared names named) c.args.slot.0 (c.requires.slot names named) c.args.value.now ended c.deref.result.now are in
-    show_claims p names named c.requires.program d.frame d.view i (c.requires.instance names named) (c.requires.undeclared names named) c.args.slot.0 (c.requires.slot names named) c.args.value.now ended c.deref.result.now are c.raise_codes.new.work c.in_err-raise_codes.ensures.on.cells refl (c.in_err-raise_codes.ensures.claims i may)
+    let ended = ended_by_each p c.requires.own.bare c.requires.program d.view c.args.i c.args.value.now c.requires.instance c.requires.ended names named in
+    let may = may_show_codes p c.requires.own.bare names named c.requires.program d.frame d.view i (c.requires.instance names named) (c.requires.undeclared names named) c.args.slot.0 (c.requires.slot names named) c.args.value.now ended c.deref.result.now are in
+    show_claims p c.requires.own.bare names named c.requires.program d.frame d.view i (c.requires.instance names named) (c.requires.undeclared names named) c.args.slot.0 (c.requires.slot names named) c.args.value.now ended c.deref.result.now are c.raise_codes.new.work c.in_err-raise_codes.ensures.on.cells refl (c.in_err-raise_codes.ensures.claims i may)
 
 pub returns-in_err-raise_codes-clause-answer : goal.returns-in_err-raise_codes-clause-answer
 returns-in_err-raise_codes-clause-answer c = λ names named.
@@ -37,9 +37,9 @@ returns-in_err-raise_codes-clause-answer c = λ names named.
     let p = program_at d in
     let i = instance_by p names c.args.i in
     let are = c.deref.ensures.value ∙ c.in_ok-codes.ensures in
-    let ended = ended_by_each p c.requires.program d.view c.args.i c.args.value.now c.requires.instance c.requires.ended names named in
-    let may = may_show_codes p names named c.requires.program d.frame d.view i (c.requires.instance names named) (c.requires.undeclared names named) c.args.slot.0 (c.requires.slot names named) c.args.value.now ended c.deref.result.now are in
-    let full = show_full p names named c.requires.program d.frame d.view i (c.requires.instance names named) (c.requires.undeclared names named) c.args.slot.0 (c.requires.slot names named) c.args.value.now ended c.deref.result.now are c.raise_codes.new.work c.in_err-raise_codes.ensures.on.cells refl (c.in_err-raise_codes.ensures.full i may) in
+    let ended = ended_by_each p c.requires.own.bare c.requires.program d.view c.args.i c.args.value.now c.requires.instance c.requires.ended names named in
+    let may = may_show_codes p c.requires.own.bare names named c.requires.program d.frame d.view i (c.requires.instance names named) (c.requires.undeclared names named) c.args.slot.0 (c.requires.slot names named) c.args.value.now ended c.deref.result.now are in
+    let full = show_full p c.requires.own.bare names named c.requires.program d.frame d.view i (c.requires.instance names named) (c.requires.undeclared names named) c.args.slot.0 (c.requires.slot names named) c.args.value.now ended c.deref.result.now are c.raise_codes.new.work c.in_err-raise_codes.ensures.on.cells refl (c.in_err-raise_codes.ensures.full i may) in
     err_is (AnswersShow p names d.frame c.raise_codes.new.work.view i c.args.value.now) (λ (e : AskFault). e ≡ CellsFull) c.from_residual-in_err-raise_codes.result c.from_residual-in_err-raise_codes.ensures (λ e is. show_fault p names d.frame c.raise_codes.new.work.view i c.args.value.now e is full)
 
 pub returns-clause-claims : goal.returns-clause-claims
@@ -48,9 +48,9 @@ returns-clause-claims c = λ names named.
     let p = program_at d in
     let i = instance_by p names c.args.i in
     let are = c.deref.ensures.value ∙ c.in_ok-codes.ensures in
-    let ended = ended_by_each p c.requires.program d.view c.args.i c.args.value.now c.requires.instance c.requires.ended names named in
-    let may = may_show_codes p names named c.requires.program d.frame d.view i (c.requires.instance names named) (c.requires.undeclared names named) c.args.slot.0 (c.requires.slot names named) c.args.value.now ended c.deref.result.now are in
-    show_claims p names named c.requires.program d.frame d.view i (c.requires.instance names named) (c.requires.undeclared names named) c.args.slot.0 (c.requires.slot names named) c.args.value.now ended c.deref.result.now are c.raise_codes.new.work c.in_ok-raise_codes.ensures.on.cells refl (c.in_ok-raise_codes.ensures.claims i may)
+    let ended = ended_by_each p c.requires.own.bare c.requires.program d.view c.args.i c.args.value.now c.requires.instance c.requires.ended names named in
+    let may = may_show_codes p c.requires.own.bare names named c.requires.program d.frame d.view i (c.requires.instance names named) (c.requires.undeclared names named) c.args.slot.0 (c.requires.slot names named) c.args.value.now ended c.deref.result.now are in
+    show_claims p c.requires.own.bare names named c.requires.program d.frame d.view i (c.requires.instance names named) (c.requires.undeclared names named) c.args.slot.0 (c.requires.slot names named) c.args.value.now ended c.deref.result.now are c.raise_codes.new.work c.in_ok-raise_codes.ensures.on.cells refl (c.in_ok-raise_codes.ensures.claims i may)
 
 pub returns-clause-answer : goal.returns-clause-answer
 returns-clause-answer c = λ names named.
@@ -58,6 +58,6 @@ returns-clause-answer c = λ names named.
     let p = program_at d in
     let i = instance_by p names c.args.i in
     let are = c.deref.ensures.value ∙ c.in_ok-codes.ensures in
-    let ended = ended_by_each p c.requires.program d.view c.args.i c.args.value.now c.requires.instance c.requires.ended names named in
-    let may = may_show_codes p names named c.requires.program d.frame d.view i (c.requires.instance names named) (c.requires.undeclared names named) c.args.slot.0 (c.requires.slot names named) c.args.value.now ended c.deref.result.now are in
-    show_done p names named c.requires.program d.frame d.view i (c.requires.instance names named) (c.requires.undeclared names named) c.args.slot.0 (c.requires.slot names named) c.args.value.now ended c.deref.result.now are c.raise_codes.new.work c.in_ok-raise_codes.ensures.on.cells refl tt (c.in_ok-raise_codes.ensures.shown i may)
+    let ended = ended_by_each p c.requires.own.bare c.requires.program d.view c.args.i c.args.value.now c.requires.instance c.requires.ended names named in
+    let may = may_show_codes p c.requires.own.bare names named c.requires.program d.frame d.view i (c.requires.instance names named) (c.requires.undeclared names named) c.args.slot.0 (c.requires.slot names named) c.args.value.now ended c.deref.result.now are in
+    show_done p c.requires.own.bare names named c.requires.program d.frame d.view i (c.requires.instance names named) (c.requires.undeclared names named) c.args.slot.0 (c.requires.slot names named) c.args.value.now ended c.deref.result.now are c.raise_codes.new.work c.in_ok-raise_codes.ensures.on.cells refl tt (c.in_ok-raise_codes.ensures.shown i may)

@@ -12,7 +12,7 @@ use Rattle.caller_pass.proofs.Leaving.{left_here, left_told}
 use Rattle.caller_pass.proofs.turns.turn.Goals as goal
 
 pub resume-requires-clause-sound : goal.resume-requires-clause-sound
-resume-requires-clause-sound g c = sound_for (program_of c.desk.inside.system.now) c.args.desk.now (ap (λ (d : Held). program_of d.frame.system.value) (sym c.desk.view_is) ∙ ap program_of c.desk.invariant.1)
+resume-requires-clause-sound g c = sound_for (program_of c.desk.inside.system.now) c.args.desk.now (subst (λ (d : Held). IsOwn d) c.desk.view_is c.desk.invariant.0.0) (ap (λ (d : Held). program_of d.frame.system.value) (sym c.desk.view_is) ∙ ap program_of c.desk.invariant.1)
 
 pub resume-requires-clause-left : goal.resume-requires-clause-left
 resume-requires-clause-left g c =
@@ -29,13 +29,13 @@ returns-clause-turned g c =
     let d = c.resume.new.desk in
     let same = ap (λ (x : Held). program_of x.frame.system.value) (sym c.desk.view_is) ∙ ap program_of c.desk.invariant.1 in
     subst (λ (q : Program). ByEachOrder q (λ names. TurnsTo q names d.view (instance_by q names c.args.i) c.resume.result)) (sym same)
-    (turned p d c.args.i c.resume.result c.resume.ensures.evaluates.kept.sound.for c.resume.ensures.evaluates.answer)
+    (turned p d c.args.i c.resume.result c.resume.ensures.evaluates.kept.sound.for.0 c.resume.ensures.evaluates.kept.sound.for.1 c.resume.ensures.evaluates.answer)
 
 pub returns-clause-left : goal.returns-clause-left
 returns-clause-left g c =
     let d = c.args.desk.now in
     let e = c.resume.new.desk in
     let same = ap (λ (x : Held). x.frame.system.value) (sym c.desk.view_is) ∙ c.desk.invariant.1 in
-    let program : program_at e ≡ program_at d = sym c.resume.ensures.evaluates.kept.sound.for ∙ ap program_of (sym same) in
+    let program : program_at e ≡ program_at d = sym c.resume.ensures.evaluates.kept.sound.for.0 ∙ ap program_of (sym same) in
     let here = subst (λ (s : System). AreLeft s (reads_known (program_at e) e.view) c.args.i c.resume.new.left) (sym same) (left_here e c.desk.inside.system.now c.args.i c.resume.new.left c.resume.ensures.left) in
     subst (λ (q : Program). AreLeft d.frame.system.value (reads_known q e.view) c.args.i c.resume.new.left) program here

@@ -1,5 +1,6 @@
 use Rattle.std.proofs.Common.{refl, ap, sym, subst}
-use Rattle.equation_law.specs.Program.{Program}
+use Rattle.equation_law.specs.Codes.{source_names}
+use Rattle.equation_law.specs.Program.{Program, text_of}
 use Rattle.expr_eval.specs.Saved.{AreSaved}
 use Rattle.memo_cells.specs.Working.{ReadsOn}
 use Rattle.circular_eval.specs.declared.local.Local.{Local}
@@ -7,6 +8,7 @@ use Rattle.circular_eval.specs.Local.{reads_here}
 use Rattle.circular_eval.specs.Looking.{ComesHere}
 use Rattle.circular_eval.proofs.Raised.{err_ok}
 use Rattle.circular_eval.proofs.Settling.{came_here}
+use Rattle.circular_eval.proofs.Tied.{no_collection}
 use Rattle.equation_law.specs.Systems.{program_of}
 use Rattle.memo_cells.proofs.Holding.{reads_itself}
 use Rattle.circular_eval.proofs.Looking.{here_sound, saved_here, saved_there}
@@ -19,7 +21,7 @@ pub resume_instance-turn-requires-clause-coded : goal.resume_instance-turn-requi
 resume_instance-turn-requires-clause-coded g c = c.requires.coded
 
 pub resume_instance-turn-requires-clause-single : goal.resume_instance-turn-requires-clause-single
-resume_instance-turn-requires-clause-single g c = c.requires.single
+resume_instance-turn-requires-clause-single g c = λ n is. no_collection (program_of c.args.system.now) (source_names (text_of (program_of c.args.system.now))) n c.args.i.now c.requires.single
 
 pub resume_instance-turn-requires-clause-saved : goal.resume_instance-turn-requires-clause-saved
 resume_instance-turn-requires-clause-saved g c =
@@ -51,7 +53,7 @@ returns-clause-came g c =
     let for = c.resume_instance-turn.ensures.evaluates.kept.sound.for in
     subst (λ (x : g.row.W.Denot). ComesHere (g.W.Words.held x) c.args.local.now c.args.i.now c.in_ok-turn.field-0) (sym back)
     (subst (λ (m : Local). ComesHere e m c.args.i.now c.in_ok-turn.field-0) l.2
-    (came_here (program_of c.args.system.now) e c.resume_instance-turn.new.reader.system.now es _ c.args.i.now c.in_ok-turn.field-0 for.0 for.3 c.in_ok-turn.ensures.evaluates.answer))
+    (came_here (program_of c.args.system.now) e c.resume_instance-turn.new.reader.system.now es _ c.args.i.now c.in_ok-turn.field-0 for.0 for.2 for.3 c.in_ok-turn.ensures.evaluates.answer))
 
 pub returns-in_err-turn-clause-saved : goal.returns-in_err-turn-clause-saved
 returns-in_err-turn-clause-saved g c =

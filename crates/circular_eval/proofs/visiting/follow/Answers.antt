@@ -1,6 +1,6 @@
 use Rattle.std.proofs.Common.{sym, ◌∙◌}
 use Rattle.expr_eval.specs.declared.sites.Turn.TheVariants as turns
-use Rattle.circular_eval.proofs.Following.{admit_refused, admit_step, need_missing, need_new, turn_is}
+use Rattle.circular_eval.proofs.Following.{admit_refused, admit_step, need_missing, need_new, no_image, turn_is}
 use Rattle.circular_eval.proofs.Raised.{err_is}
 use Rattle.circular_eval.proofs.visiting.follow.Goals as goal
 
@@ -35,3 +35,7 @@ returns-in-Done g c =
 pub returns-else-is_declared : goal.returns-else-is_declared
 returns-else-is_declared g c =
     need_missing c.args.system.now (g.W.Words.held c.args.work.now) c.args.local.now c.requires.ready c.args.number c.in-Need.need (turn_is (g.W.Words.held c.args.work.now) c.args.local.now c.args.number c.args.turn (turns.Need c.in-Need.need) c.in-Need.is c.requires.came) (sym c.if-is_declared.false ∙ c.is_declared.ensures) c.note_need.new.self c.note_need.ensures.start c.note_need.ensures.members c.note_need.ensures.need c.note_need.ensures.saved
+
+pub unreachable-requires : goal.unreachable-requires
+unreachable-requires g c =
+    no_image (g.W.Words.held c.args.work.now) c.args.local.now c.args.number c.in-Image.field-0 (turn_is (g.W.Words.held c.args.work.now) c.args.local.now c.args.number c.args.turn (turns.Image c.in-Image.field-0) c.in-Image.is c.requires.came)

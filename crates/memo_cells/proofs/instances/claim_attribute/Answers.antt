@@ -16,7 +16,7 @@ claim-requires-clause-key g c =
     let p = program_at d in
     let sources = sources_named p in
     let is = c.requires.instance (source_names (text_of p)) sources in
-    formed_on_way p sources d.view c.args.attr.0 c.args.node.0 c.args.args c.requires.coded.1 is (attribute_word c.args.attr.0 c.args.node.0) [] (codes_in c.args.args) refl (search rules, search rules, refl)
+    formed_on_way p c.requires.own.bare sources d.view c.args.attr.0 c.args.node.0 c.args.args c.requires.coded.1 is (attribute_word c.args.attr.0 c.args.node.0) [] (codes_in c.args.args) refl (search rules, search rules, refl)
 
 pub returns-in_err-slot-clause-full : goal.returns-in_err-slot-clause-full
 returns-in_err-slot-clause-full g c =
@@ -24,7 +24,7 @@ returns-in_err-slot-clause-full g c =
     let e = g.W.Words.held c.claim.new.self in
     let k = attribute_word c.args.attr.0 c.args.node.0 in
     on_err c.from_residual.result
-    (λ m named. (k, key_on_way (program_at d) named e.view c.args.attr.0 c.args.node.0 c.args.args c.requires.coded.1 (c.requires.instance m named) k [] (codes_in c.args.args) refl (search rules, search rules, refl), c.in_err-slot.ensures.full))
+    (λ m named. (k, key_on_way (program_at d) c.requires.own.bare named e.view c.args.attr.0 c.args.node.0 c.args.args c.requires.coded.1 (c.requires.instance m named) k [] (codes_in c.args.args) refl (search rules, search rules, refl), c.in_err-slot.ensures.full))
 
 pub returns-in_err-slot-clause-claims : goal.returns-in_err-slot-clause-claims
 returns-in_err-slot-clause-claims g c =
@@ -32,7 +32,7 @@ returns-in_err-slot-clause-claims g c =
     let e = g.W.Words.held c.claim.new.self in
     let k = attribute_word c.args.attr.0 c.args.node.0 in
     claims_key_each (program_at d) d.view e.view (attribute_at c.args.attr c.args.node c.args.args) k c.claim.ensures.claims
-    (λ m named. key_on_way (program_at d) named e.view c.args.attr.0 c.args.node.0 c.args.args c.requires.coded.1 (c.requires.instance m named) k [] (codes_in c.args.args) refl (search rules, search rules, refl))
+    (λ m named. key_on_way (program_at d) c.requires.own.bare named e.view c.args.attr.0 c.args.node.0 c.args.args c.requires.coded.1 (c.requires.instance m named) k [] (codes_in c.args.args) refl (search rules, search rules, refl))
 
 pub loop-code-init : goal.loop-code-init
 loop-code-init g c =
@@ -44,7 +44,7 @@ loop-code-init g c =
       few = search rules;
       way = record { key = k; slot = c.in_ok-slot.ensures.slot; named = (search rules, search rules, refl) };
       claims = claims_key_each (program_at d) d.view e.view (attribute_at c.args.attr c.args.node c.args.args) k c.claim.ensures.claims
-          (λ m named. key_on_way (program_at d) named e.view c.args.attr.0 c.args.node.0 c.args.args c.requires.coded.1 (c.requires.instance m named) k [] (codes_in c.args.args) refl (search rules, search rules, refl));
+          (λ m named. key_on_way (program_at d) c.requires.own.bare named e.view c.args.attr.0 c.args.node.0 c.args.args c.requires.coded.1 (c.requires.instance m named) k [] (codes_in c.args.args) refl (search rules, search rules, refl));
     }
 
 pub claim-requires-in-Some-clause-own : goal.claim-requires-in-Some-clause-own
@@ -60,7 +60,7 @@ claim-requires-in-Some-clause-key g c =
     let p = program_at d in
     let sources = sources_named p in
     let is = c.requires.instance (source_names (text_of p)) sources in
-    let key = key_next d.frame e.view e.view c.args.attr.0 c.args.node.0 c.args.args c.loop-code.place c.loop-code.slot.0 c.loop-code.invariant.way (own_then d e c.loop-code.invariant.on) (at_least_itself e.view) c.in-Some.code 0 (search rules) (sym c.in-Some.ensures) p sources c.requires.coded.1 is in
+    let key = key_next d.frame e.view e.view c.args.attr.0 c.args.node.0 c.args.args c.loop-code.place c.loop-code.slot.0 c.loop-code.invariant.way (own_then d e c.loop-code.invariant.on) (at_least_itself e.view) c.in-Some.code 0 (search rules) (sym c.in-Some.ensures) p c.requires.own.bare sources c.requires.coded.1 is in
     formed_at d e (argument_word c.loop-code.slot.0 c.in-Some.code) c.loop-code.invariant.on (inl (record { of = instance_by p (source_names (text_of p)) (attribute_at c.args.attr c.args.node c.args.args); instance = is; key = key }))
 
 pub returns-in_err-slot-2-clause-on : goal.returns-in_err-slot-2-clause-on
@@ -72,7 +72,7 @@ returns-in_err-slot-2-clause-full g c =
     let e = g.W.Words.held c.loop-code.work in
     let w = g.W.Words.held c.claim-in-Some.new.self in
     let k = argument_word c.loop-code.slot.0 c.in-Some.code in
-    let key = key_after d.frame e.view w.view c.args.attr.0 c.args.node.0 c.args.args c.loop-code.place c.loop-code.slot.0 c.loop-code.invariant.way (own_then d e c.loop-code.invariant.on) c.claim-in-Some.ensures.on.kept c.in-Some.code 0 (search rules) (sym c.in-Some.ensures) (program_at d) in
+    let key = key_after d.frame e.view w.view c.args.attr.0 c.args.node.0 c.args.args c.loop-code.place c.loop-code.slot.0 c.loop-code.invariant.way (own_then d e c.loop-code.invariant.on) c.claim-in-Some.ensures.on.kept c.in-Some.code 0 (search rules) (sym c.in-Some.ensures) (program_at d) c.requires.own.bare in
     on_err c.from_residual-in_err-slot-2.result (λ m named. (k, key m named c.requires.coded.1 (c.requires.instance m named), full_back d e w k c.loop-code.invariant.on c.in_err-slot-2.ensures.full))
 
 pub returns-in_err-slot-2-clause-claims : goal.returns-in_err-slot-2-clause-claims
@@ -83,7 +83,7 @@ returns-in_err-slot-2-clause-claims g c =
     let p = program_at d in
     let i = attribute_at c.args.attr c.args.node c.args.args in
     let k = argument_word c.loop-code.slot.0 c.in-Some.code in
-    let key = key_after d.frame e.view w.view c.args.attr.0 c.args.node.0 c.args.args c.loop-code.place c.loop-code.slot.0 c.loop-code.invariant.way (own_then d e c.loop-code.invariant.on) c.claim-in-Some.ensures.on.kept c.in-Some.code 0 (search rules) (sym c.in-Some.ensures) p in
+    let key = key_after d.frame e.view w.view c.args.attr.0 c.args.node.0 c.args.args c.loop-code.place c.loop-code.slot.0 c.loop-code.invariant.way (own_then d e c.loop-code.invariant.on) c.claim-in-Some.ensures.on.kept c.in-Some.code 0 (search rules) (sym c.in-Some.ensures) p c.requires.own.bare in
     claims_on_each p d.view e.view w.view i c.loop-code.invariant.claims (claims_key_each p e.view w.view i k c.claim-in-Some.ensures.claims (λ m named. key m named c.requires.coded.1 (c.requires.instance m named))) c.claim-in-Some.ensures.on.kept
 
 pub loop-code-smaller : goal.loop-code-smaller
@@ -98,7 +98,7 @@ loop-code-preserved g c =
     let i = attribute_at c.args.attr c.args.node c.args.args in
     let k = argument_word c.loop-code.slot.0 c.in-Some.code in
     let own = own_then d e c.loop-code.invariant.on in
-    let key = key_after d.frame e.view w.view c.args.attr.0 c.args.node.0 c.args.args c.loop-code.place c.loop-code.slot.0 c.loop-code.invariant.way own c.claim-in-Some.ensures.on.kept c.in-Some.code 0 (search rules) (sym c.in-Some.ensures) p in
+    let key = key_after d.frame e.view w.view c.args.attr.0 c.args.node.0 c.args.args c.loop-code.place c.loop-code.slot.0 c.loop-code.invariant.way own c.claim-in-Some.ensures.on.kept c.in-Some.code 0 (search rules) (sym c.in-Some.ensures) p c.requires.own.bare in
     record {
       on = goes_then d e w c.loop-code.invariant.on c.claim-in-Some.ensures.on;
       few = let less = place_less d.frame e.view e.view c.args.attr.0 c.args.node.0 c.args.args c.loop-code.place c.loop-code.slot.0 c.loop-code.invariant.way own (at_least_itself e.view) c.in-Some.code 0 (search rules) (sym c.in-Some.ensures) in omega (arith, less);

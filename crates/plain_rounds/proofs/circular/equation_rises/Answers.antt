@@ -14,23 +14,23 @@ use Rattle.plain_rounds.proofs.circular.equation_rises.Goals as goal
 pub returns-then-is_collection : goal.returns-then-is_collection
 returns-then-is_collection c =
     let p = program_of c.args.system.now in
-    none_rises p (instance_of p (attribute_at c.args.attr c.args.node c.args.args)) c.is_collection.result c.is_collection.ensures c.if-is_collection.true
+    none_rises p (instance_of p (attribute_at c.args.attr c.args.node c.args.args)) c.is_collection.result (c.is_collection.ensures (source_names (text_of p)) (sources_named p)) c.if-is_collection.true
 
 pub returns-in-None : goal.returns-in-None
 returns-in-None c =
     let p = program_of c.args.system.now in
-    at_site_rises p (instance_of p (attribute_at c.args.attr c.args.node c.args.args)) c.is_collection.result _ c.is_collection.ensures c.if-is_collection.false
-    (sym (ap (λ (o : Option Site). equation_rises (circular_at p.rules.attributes) (option_map OfSite o)) (c.in-None.ensures.found (source_names (text_of p)) (sources_named p))))
+    at_site_rises p (instance_of p (attribute_at c.args.attr c.args.node c.args.args)) c.is_collection.result _ (c.is_collection.ensures (source_names (text_of p)) (sources_named p)) c.if-is_collection.false
+    (sym (ap (λ (o : Option Site). equation_rises (circular_at p.rules.attributes) (option_map OfSite o)) (c.in-None.ensures (source_names (text_of p)) (sources_named p))))
 
 pub body-requires : goal.body-requires
 body-requires c =
     let p = program_of c.args.system.now in
-    let found = c.in-Some.ensures.found (source_names (text_of p)) (sources_named p) in
+    let found = c.in-Some.ensures (source_names (text_of p)) (sources_named p) in
     subst (λ (r : RuleSet). c.in-Some.site.equation.0 < length (bodies r)) (sym c.rules-rules.ensures) (slice_get_within (bodies p.rules) c.in-Some.site.equation.0 found.0.body found.2.body)
 
 pub returns-in-Some : goal.returns-in-Some
 returns-in-Some c =
     let p = program_of c.args.system.now in
     let i = instance_of p (attribute_at c.args.attr c.args.node c.args.args) in
-    at_site_rises p i c.is_collection.result c.rises.result c.is_collection.ensures c.if-is_collection.false
-    (found_rises p c.args.attr.0 c.in-Some.site (site_of p i) _ _ c.rises.result c.rules-rules.ensures c.body.ensures c.rises.ensures (c.in-Some.ensures.found (source_names (text_of p)) (sources_named p)))
+    at_site_rises p i c.is_collection.result c.rises.result (c.is_collection.ensures (source_names (text_of p)) (sources_named p)) c.if-is_collection.false
+    (found_rises p c.args.attr.0 c.in-Some.site (site_of p i) _ _ c.rises.result c.rules-rules.ensures c.body.ensures c.rises.ensures (c.in-Some.ensures (source_names (text_of p)) (sources_named p)))

@@ -8,7 +8,7 @@ use Rattle.query_runner.specs.Output.{broken_line}
 use Rattle.run_io.specs.Words.{Run}
 use Rattle.query_runner.specs.declared.running.Answer.TheVariants.{Output}
 use Rattle.equation_law.proofs.Pooled.{texts_pooled}
-use Rattle.program_reader.proofs.Answerable.{is_program}
+use Rattle.program_reader.proofs.Answerable.{is_program, said_alone}
 use Rattle.query_runner.proofs.Preparing.{broken_answer, full_answer, reply_answer, stop_answer, unbuilt_answer}
 use Rattle.query_runner.proofs.running.answer_run.Goals as goal
 
@@ -18,6 +18,9 @@ returns-in-Err-clause-answer g c = λ words asked.
 
 pub reply_lines-requires-clause-program : goal.reply_lines-requires-clause-program
 reply_lines-requires-clause-program g c = λ lifetimes among. is_program (seen_contents c.in-Ok.contents) (program_of c.in-Ok-read_system.system) c.in-Ok-read_system.ensures.said (texts_pooled c.in-Ok-read_system.system)
+
+pub reply_lines-requires-clause-sources : goal.reply_lines-requires-clause-sources
+reply_lines-requires-clause-sources g c = λ lifetimes among. said_alone (seen_contents c.in-Ok.contents) (program_of c.in-Ok-read_system.system) c.in-Ok-read_system.ensures.said
 
 pub returns-in-Ok-reply_lines-clause-answer : goal.returns-in-Ok-reply_lines-clause-answer
 returns-in-Ok-reply_lines-clause-answer g c = λ words asked.

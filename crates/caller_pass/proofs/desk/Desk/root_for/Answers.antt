@@ -1,5 +1,6 @@
 use Rattle.std.proofs.Common.{◌<◌, IfNone, IfSome, length, sym, subst}
 use Rattle.equation_law.specs.declared.system.System.{System}
+use Rattle.equation_law.specs.Checked.{HasSourcesAlone}
 use Rattle.equation_law.specs.Systems.{program_of}
 use Rattle.memo_cells.specs.Working.{Held, program_at}
 use Rattle.collection_attrs.specs.Roots.{IsRootOf, IsRootless}
@@ -9,6 +10,9 @@ use Rattle.caller_pass.proofs.desk.Desk.root_for.Goals as goal
 
 pub root_for-requires-clause-same : goal.root_for-requires-clause-same
 root_for-requires-clause-same c = c.self.invariant.0.1.system
+
+pub root_for-requires-clause-bare : goal.root_for-requires-clause-bare
+root_for-requires-clause-bare c = subst (λ (s : System). HasSourcesAlone (program_of s)) c.self.invariant.1 c.self.invariant.0.0.bare
 
 pub root_for-requires-clause-collection : goal.root_for-requires-clause-collection
 root_for-requires-clause-collection c =

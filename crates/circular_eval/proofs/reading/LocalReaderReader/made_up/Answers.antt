@@ -1,0 +1,6 @@
+use Rattle.std.proofs.Common.{refl}
+use Rattle.circular_eval.proofs.Looking.{here_up}
+use Rattle.circular_eval.proofs.reading.LocalReaderReader.made_up.Goals as goal
+
+pub returns : goal.returns
+returns g c = here_up (g.W.Words.held c.args.self.now.work.now) c.args.self.now.system.now c.args.self.now.local.now.members.entries _ c.args._node _ refl
