@@ -1,5 +1,5 @@
 -- A reader that has values up to a number never has two, and keeps them.
-use Rattle.std.proofs.Common.{◌≡◌, ◌<◌, ◌≤◌, ◌+◌, ◌*◌, ℕ, zero, suc, true, List, [], ◌∷◌, Ok, Some, ap, refl, subst, sym, ◌∙◌, arith}
+use Rattle.std.proofs.Common.{◌≡◌, ◌<◌, ◌≤◌, ◌+◌, ◌*◌, ℕ, zero, suc, true, List, [], ◌∷◌, Ok, Some, ap, slice_get, le_refl, refl, subst, sym, ◌∙◌, arith}
 use Rattle.attr_rules.specs.declared.kinds.AttrId.{AttrId}
 use Rattle.attr_rules.specs.declared.kinds.Kind.{Kind}
 use Rattle.equation_law.specs.declared.coding.Args.{Args}
@@ -7,14 +7,15 @@ use Rattle.equation_law.specs.declared.coding.Instance.{Instance as CodedInstanc
 use Rattle.equation_law.specs.declared.coding.Instance.TheVariants.{Attr as attribute_at}
 use Rattle.equation_law.specs.declared.coding.NodeRef.{NodeRef}
 use Rattle.equation_law.specs.declared.coding.Value.{Value as CodedValue}
-use Rattle.equation_law.specs.Codes.{AreCodes, AreElements, NamesInOrder, Naming, instance_by, instance_of, reference_of, source_names, value_by, value_of}
+use Rattle.equation_law.specs.Codes.{AreCodes, AreElements, Naming, instance_by, instance_of, reference_of, source_names, value_by, value_of}
 use Rattle.equation_law.specs.Equations.{kind_in}
-use Rattle.equation_law.specs.Names.{Attribute, Instance, Query}
+use Rattle.equation_law.specs.Names.{Argument, Attribute, Instance, Query}
 use Rattle.equation_law.specs.Program.{Program, text_of}
 use Rattle.equation_law.specs.Reading.{Grows, HasThere, IsSound, SettledBy, Settles}
-use Rattle.equation_law.specs.Values.{Truth, Value, as_kind}
-use Rattle.equation_law.proofs.Sources.{source_naming}
+use Rattle.equation_law.specs.Values.{Truth, Value, as_kind, tokens}
 use Rattle.rag_tests.specs.Late.{has_below, late, may_have, number_of}
+use Rattle.rag_tests.specs.Nothing.{IsReadable}
+use Rattle.rag_tests.proofs.Unmade.{named_in}
 
 pub number_is : (n : ℕ) → number_of (reference_of n) ≡ n
 number_is zero = refl
@@ -32,19 +33,25 @@ one_of_two : (i : Instance) (v w : Value) → may_have i v → may_have i w → 
 one_of_two (Attribute a r xs) v w a' b' = a' ∙ sym b'
 one_of_two (Query q) v w a b = absurd a
 
-named_in : (p q : Program) → q ≡ p → (n : Naming) → n ≡ source_names (text_of p) → NamesInOrder q n
-named_in p q same n is = subst (λ (r : Program). NamesInOrder r n) (sym same) (subst (λ (m : Naming). NamesInOrder p m) (sym is) (source_naming p))
-
-pub late_sound : {S : Type 0} (p q : Program) (n : ℕ) → q ≡ p → IsSound {S = S} q (late p n)
-late_sound p q n same = record { for = same; within = λ i v h. may_below i v n h; one_value = λ i v w a b. one_of_two i v w a b; named = named_in p q same }
+pub late_sound : {S : Type 0} (p q : Program) (n : ℕ) → q ≡ p → IsReadable q → IsSound {S = S} q (late p n)
+late_sound p q n same may = record {
+  for = (same, may);
+  within = λ i v h. may_below i v n h;
+  one_value = λ i v w a b. one_of_two i v w a b;
+  named = λ m is. (named_in p q same m is).0;
+  some = (source_names (text_of p), refl);
+  fit = may.fit;
+  trees = λ a o xs v truth m is k x there. absurd (let none : slice_get {X = Argument} [] k ≡ Some x = subst (λ (w : Value). slice_get (tokens w) k ≡ Some x) truth there in cc);
+}
 
 pub late_grows : {S : Type 0} (p q : Program) (m n : ℕ) → m ≤ n → IsSound {S = S} q (late p m) → Grows {S = S} q (late p m) (late p n)
 late_grows p q m n le sound = record {
-  sound = late_sound p q n sound.for;
+  sound = late_sound p q n sound.for.0 sound.for.1;
   values = λ i v h. more_below i v m n le h;
   bound = λ i v h. h;
   kept = λ x a. tt;
   names = λ x is. is;
+  heights = λ c. le_refl c;
 }
 
 -- what it answers where it has a value
@@ -52,7 +59,7 @@ pub late_some : {S : Type 0} (p : Program) (m n : ℕ) (i : CodedInstance) (a : 
     → value_of (text_of p) x ≡ as_kind k (Truth true) → AreElements p x → SettledBy {S = S} (late p m) (late p n) i (Ok (Some x))
 late_some {S = S} p m n i a node xs x k is le below kind value elements = record {
   kept = λ q sound. late_grows p q m n le sound;
-  answer = λ q sound coded. subst (λ (r : Program). Settles {S = S} r (late p n) (λ m. instance_by r m i) (Ok (Some x))) (sym sound.for)
+  answer = λ q sound coded. subst (λ (r : Program). Settles {S = S} r (late p n) (λ m. instance_by r m i) (Ok (Some x))) (sym sound.for.0)
       (λ m named. subst (λ (l : Naming). HasThere {S = S} p (late p n) (instance_by p l i) (value_by l x)) (sym named) (Truth true, has, value ∙ ap (λ (t : Kind). as_kind t (Truth true)) kind), elements);
 }
   where

@@ -1,5 +1,7 @@
 pub mod Bare
 pub mod Contributed
+pub mod FromParts
 pub mod Lately
 pub mod Singles
 pub mod Sweeping
+pub mod Unmade

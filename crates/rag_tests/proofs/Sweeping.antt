@@ -1,10 +1,10 @@
 -- What an instance demands first, by a pass at its cells.
-use Rattle.std.proofs.Common.{◌≡◌, true, Option, Result, Ok, refl, sym, ap, ◌∙◌}
+use Rattle.std.proofs.Common.{◌≡◌, true, Option, Result, Ok, refl, sym, ap, subst, ◌∙◌}
 use Rattle.rag_io.specs.declared.Memory.{Memory}
 use Rattle.equation_law.specs.declared.coding.Instance.{Instance as CodedInstance}
 use Rattle.equation_law.specs.declared.coding.Value.{Value as CodedValue}
 use Rattle.equation_law.specs.declared.system.System.{System}
-use Rattle.equation_law.specs.Checked.{IsProgram}
+use Rattle.equation_law.specs.Checked.{HasSourcesAlone, IsProgram}
 use Rattle.equation_law.specs.Codes.{instance_by, instance_of, source_names}
 use Rattle.equation_law.specs.Equations.{is_declared}
 use Rattle.equation_law.specs.Program.{Program, text_of}
@@ -34,7 +34,7 @@ module _ (s : System) (good : IsProgram (program_of s)) (d e : Held) (same : d.f
   here = sym (program_here s d e same on)
 
   pub need_is : IsInstanceByEach p n
-  need_is = need_instance p good e.frame here e.view on.on.own i instance n (turned p e i (Ok (turns.Need n)) here answer)
+  need_is = need_instance p good e.frame here e.view on.on.own i instance n (turned p e i (Ok (turns.Need n)) here (subst HasSourcesAlone (sym here) on.on.own.bare) answer)
 
   pub need_circular : is_declared p (instance_of p n) ≡ true → IsCircular p n
   need_circular declared = record {
@@ -45,4 +45,4 @@ module _ (s : System) (good : IsProgram (program_of s)) (d e : Held) (same : d.f
 
 -- looking at an instance reads on
 pub settled_on : (d e : Held) (i : CodedInstance) (r : Result (Option CodedValue) Memory) → IsOwn d → SettledBy (told_by d) (told_by e) i r → ReadsOn d e
-settled_on d e i r own h = (h.kept (program_at d) (sound_for (program_at d) d refl)).kept d (reads_itself d own)
+settled_on d e i r own h = (h.kept (program_at d) (sound_for (program_at d) d own refl)).kept d (reads_itself d own)

@@ -1,5 +1,7 @@
 // Cells and their keys.
 ghost use Rattle.std.specs.Prelude.{◌≡◌};
+ghost use Rattle.equation_law.specs.Checked.{HasSourcesAlone};
+ghost use Rattle.equation_law.specs.Systems.{program_of};
 ghost use Rattle.memo_cells.specs.Standing.{IsPassOf};
 
 use crate::programs::{Texts, system_said};
@@ -38,7 +40,9 @@ const KEYS: [Key; 4] = [
 ];
 
 // Makes so many cells, and answers their number, how many are settled, and whether a key is claimed.
-fn make(alloc: Global, system: &System, count: u32) -> Result<(u32, u32, bool), Memory> {
+fn make(alloc: Global, system: &System, count: u32) -> Result<(u32, u32, bool), Memory>
+    requires { HasSourcesAlone (program_of system.now) }
+{
     let (cells, mut pass) = Cells::new(alloc, system, count.clamp(1024, 4194304))?;
     let settled = cells.settled_count(&mut pass);
     let [own, last, argument, last_argument] = KEYS;
@@ -100,7 +104,9 @@ fn other_among(cells: &Cells, pass: &mut Pass, system: &System) -> Option<usize>
 }
 
 // The first claim in new cells that comes out otherwise, or how many cells are settled in the end.
-fn other_claim(alloc: Global, system: &System) -> Result<Result<u32, usize>, Memory> {
+fn other_claim(alloc: Global, system: &System) -> Result<Result<u32, usize>, Memory>
+    requires { HasSourcesAlone (program_of system.now) }
+{
     let (cells, mut pass) = Cells::new(alloc, system, 1569)?;
     let other = other_among(&cells, &mut pass, system);
     let settled = cells.settled_count(&mut pass);
@@ -111,7 +117,9 @@ fn other_claim(alloc: Global, system: &System) -> Result<Result<u32, usize>, Mem
 }
 
 // The first number of new cells that come out otherwise.
-fn other_number(alloc: Global, system: &System) -> Result<Option<u32>, Memory> {
+fn other_number(alloc: Global, system: &System) -> Result<Option<u32>, Memory>
+    requires { HasSourcesAlone (program_of system.now) }
+{
     for count in &[1024, 1025, 65536, 4194304] {
         if make(alloc, system, *count)? != (*count, 0, false) {
             return Ok(Some(*count));

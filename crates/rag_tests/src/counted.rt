@@ -1,6 +1,6 @@
 // How many evaluations demand takes, as they are counted.
 ghost use Rattle.std.specs.Prelude.{◌≡◌, ◌<◌, IfOk, IfSome};
-ghost use Rattle.equation_law.specs.Checked.{IsProgram};
+ghost use Rattle.equation_law.specs.Checked.{HasSourcesAlone, IsProgram};
 ghost use Rattle.equation_law.specs.Systems.{program_of};
 ghost use Rattle.memo_cells.specs.Standing.{IsPassOf};
 ghost use Rattle.rag_tests.specs.Circular.{IsCircular};
@@ -74,6 +74,7 @@ fn other_in_cells<L: Ledger>(
     requires parts { blank.parts ≡ L.parts }
     requires some { 0 < L.parts }
     requires program { IsProgram (program_of system.now) }
+    requires bare { HasSourcesAlone (program_of system.now) }
 {
     let (cells, mut pass) = Cells::new(alloc, system, 1024)?;
     let mut evals = Steps::<L>::new(blank);
@@ -173,7 +174,8 @@ fn loops_are_evaluated_again(rt: HostRuntime) {
 
 // The circular instance that the first query leads to, if it leads to one.
 fn circular_asked(alloc: Global, system: &System) -> Result<Option<Instance>, Memory>
-    requires { IsProgram (program_of system.now) }
+    requires program { IsProgram (program_of system.now) }
+    requires bare { HasSourcesAlone (program_of system.now) }
     ensures { IfOk result (λ found. IfSome found (IsCircular (program_of system.now))) }
 {
     if system.replies() == 0 {
@@ -197,6 +199,7 @@ fn counted_twice<L: Ledger>(
     requires parts { blank.parts ≡ L.parts }
     requires some { 0 < L.parts }
     requires program { IsProgram (program_of system.now) }
+    requires bare { HasSourcesAlone (program_of system.now) }
 {
     let Some(i) = circular_asked(alloc, system)? else {
         return Ok(None);

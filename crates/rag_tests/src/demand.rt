@@ -1,6 +1,6 @@
 // Demand over the systems that texts say: full cells, and what is known.
 ghost use Rattle.std.specs.Prelude.{◌≡◌, ◌<◌, IfOk, length};
-ghost use Rattle.equation_law.specs.Checked.{IsProgram};
+ghost use Rattle.equation_law.specs.Checked.{HasSourcesAlone, IsProgram};
 ghost use Rattle.equation_law.specs.Codes.{IsCoded, instance_of};
 ghost use Rattle.equation_law.specs.Systems.{program_of};
 ghost use Rattle.memo_cells.specs.Standing.{IsPassOf, Knows};
@@ -89,6 +89,7 @@ fn other_asked<L: Ledger>(
     requires parts { blank.parts ≡ L.parts }
     requires some { 0 < L.parts }
     requires program { IsProgram (program_of system.now) }
+    requires bare { HasSourcesAlone (program_of system.now) }
 {
     let (cells, mut pass) = Cells::new(alloc, system, 1024)?;
     let mut evals = Steps::<L>::new(blank);
@@ -129,7 +130,8 @@ const FULL: [Full; 2] = [
 type Filled = (Result<Option<usize>, Memory>, Option<ReplyFault>);
 
 fn filled(alloc: Global, system: &System) -> Filled
-    requires { IsProgram (program_of system.now) }
+    requires program { IsProgram (program_of system.now) }
+    requires bare { HasSourcesAlone (program_of system.now) }
 {
     let other = other_asked::<Brand>(alloc, system, Blank::new(1));
     (other, reply_lines(alloc, &Silent, system, 1024).err())
@@ -137,7 +139,8 @@ fn filled(alloc: Global, system: &System) -> Filled
 
 // The system of such a program, whose tree is this text.
 fn full_system(alloc: Global, row: &Full, tree: &str) -> Result<System, Refusal>
-    ensures { IfOk result (λ system. IsProgram (program_of system)) }
+    ensures program { IfOk result (λ system. IsProgram (program_of system)) }
+    ensures bare { IfOk result (λ system. HasSourcesAlone (program_of system)) }
 {
     let (ast, jrag, _, queries) = row;
     let texts = Texts {
@@ -206,6 +209,7 @@ fn asked_twice<L: Ledger>(
     requires parts { blank.parts ≡ L.parts }
     requires some { 0 < L.parts }
     requires program { IsProgram (program_of system.now) }
+    requires bare { HasSourcesAlone (program_of system.now) }
     requires query { 0 < length (program_of system.now).queries }
 {
     let (cells, mut pass) = Cells::new(alloc, system, 1024)?;

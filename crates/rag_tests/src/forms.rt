@@ -1,30 +1,68 @@
 // Expressions that no text says, with numbers of texts, nodes and components that there aren't, and sets that no expression makes.
-ghost use Rattle.std.specs.Prelude.{◌≤◌, length};
+ghost use Rattle.std.specs.Prelude.{◌≡◌, ◌≤◌, All, IfOk, [], length};
+ghost use Rattle.attr_equations.specs.Kept.{rules_in};
+ghost use Rattle.attr_rules.specs.Rules.{bodies};
+ghost use Rattle.equation_law.specs.Checked.{HasSourcesAlone};
 ghost use Rattle.equation_law.specs.Program.{most_replies};
+ghost use Rattle.equation_law.specs.Systems.{program_of};
+ghost use Rattle.rag_tests.specs.Nothing.{AsksNone, MakesNone};
 
 use crate::programs::{grammar_of, tree_of};
 use ast_grammar::{ClassId, Grammar};
 use attr_equations::Rules;
-use attr_rules::{Attributes, Dispatch, Kind, Operator, Part, QueryEq, SetOperator, TExpr, TextId};
+use attr_rules::{
+    AttrId, Attributes, Dispatch, Kind, Operator, Part, QueryEq, SetOperator, TExpr, TextId,
+};
 use broken_rules::ReadFault;
 use code_sets::Codes;
-use equation_law::{Instance, NodeRef, Queries, QueryId, Reader, Single, System, Value};
+use equation_law::{Code, Instance, NodeRef, Queries, QueryId, Reader, Single, System, Up, Value};
 use expr_eval::{Turn, evaluate_query};
 use rag_io::Memory;
 use set_values::{set_operate, size};
 use std::alloc::{AllocFailed, Global};
+use std::cmp::Ordering;
 
-/// A reader that has no value.
+/// A reader that has no value, and so has nothing of a tree that an attribute makes.
 #[derive(Drop)]
-pub(crate) struct Nothing;
+pub(crate) struct Nothing<'a> {
+    pub(crate) system: &'a System,
+}
 
-impl Reader for Nothing {
+impl Reader for Nothing<'_> {
+    ghost use Rattle.equation_law.specs.Systems.{program_of};
     ghost use Rattle.rag_tests.specs.Nothing.{nothing};
 
-    ghost tells = { λ _. nothing };
+    ghost tells = { λ reader. nothing (program_of reader.system.now) };
 
     fn settled(&mut self, _alloc: Global, _i: &Instance) -> Result<Option<Value>, Memory> {
         Ok(None)
+    }
+
+    fn made_class(&mut self, _node: NodeRef) -> ClassId {
+        ClassId(u16::MAX)
+    }
+
+    fn made_child(&mut self, _node: NodeRef, _component: u32) -> NodeRef {
+        NodeRef(0)
+    }
+
+    fn made_token(&mut self, _node: NodeRef, _component: u32) -> Code {
+        0
+    }
+
+    fn made_up(&mut self, _node: NodeRef) -> Up {
+        Up::Owner {
+            node: NodeRef(0),
+            attr: AttrId(0),
+        }
+    }
+
+    fn made_arg(&mut self, _node: NodeRef, _k: u32) -> Code {
+        0
+    }
+
+    fn made_order(&mut self, a: NodeRef, b: NodeRef) -> Ordering {
+        a.0.cmp(&b.0)
     }
 }
 
@@ -64,7 +102,9 @@ fn single(alloc: Global, text: u32) -> Result<Box<TExpr>, Failed> {
 }
 
 // An expression over two texts.
-fn of_texts(alloc: Global, form: &Form, first: u32, second: u32) -> Result<TExpr, Failed> {
+fn of_texts(alloc: Global, form: &Form, first: u32, second: u32) -> Result<TExpr, Failed>
+    ensures { IfOk result MakesNone }
+{
     match form {
         Form::Contains => {
             let set = single(alloc, first)?;
@@ -85,7 +125,9 @@ fn of_texts(alloc: Global, form: &Form, first: u32, second: u32) -> Result<TExpr
     }
 }
 
-fn expression(alloc: Global, form: &Form, k: u32, n: u32) -> Result<TExpr, Failed> {
+fn expression(alloc: Global, form: &Form, k: u32, n: u32) -> Result<TExpr, Failed>
+    ensures { IfOk result MakesNone }
+{
     let owner = Box::new(alloc, TExpr::Source(n))?;
     match form {
         Form::Same | Form::Contains | Form::Both => of_texts(alloc, form, k, n),
@@ -148,7 +190,9 @@ const FORMS: [(Form, u32, u32, Single); 34] = [
     (Form::Variable, 0, 0, NULL),
 ];
 
-fn queries_of_forms(alloc: Global) -> Result<Vec<QueryEq>, ReadFault> {
+fn queries_of_forms(alloc: Global) -> Result<Vec<QueryEq>, ReadFault>
+    ensures { IfOk result (λ queries. All AsksNone queries.items) }
+{
     let mut queries = Vec::new(alloc);
     for (form, k, n, _) in &FORMS {
         let query = expression(alloc, form, *k, *n)?;
@@ -158,7 +202,9 @@ fn queries_of_forms(alloc: Global) -> Result<Vec<QueryEq>, ReadFault> {
 }
 
 // No attribute and no equation.
-fn no_rules(alloc: Global, grammar: &Grammar) -> Result<Rules, Memory> {
+fn no_rules(alloc: Global, grammar: &Grammar) -> Result<Rules, Memory>
+    ensures { IfOk result (λ rules. bodies (rules_in rules) ≡ []) }
+{
     let attributes = Attributes::of_list(alloc, grammar, &[])?;
     let dispatch = Dispatch::of_targets(alloc, grammar, 0, &[])?;
     Rules::of_parts(
@@ -171,19 +217,25 @@ fn no_rules(alloc: Global, grammar: &Grammar) -> Result<Rules, Memory> {
 }
 
 fn system_of(alloc: Global, queries: Vec<QueryEq>) -> Result<System, ReadFault>
-    requires { length queries.items ≤ most_replies }
+    requires few { length queries.items ≤ most_replies }
+    requires none { All AsksNone queries.items }
+    ensures { IfOk result (λ system. HasSourcesAlone (program_of system)) }
 {
     let grammar = grammar_of(alloc, GRAMMAR)?;
     let rules = no_rules(alloc, &grammar)?;
     let (tree, pool) = tree_of(alloc, &grammar, TREE)?;
+    // No tree has more nodes.
+    prove!(tree.len() <= 65_536);
     let queries = Queries::new(queries);
     Ok(System::new(alloc, grammar, rules, tree, pool, queries)?)
 }
 
 // The first of these expressions that has another value.
-fn other_form(alloc: Global, system: &System) -> Result<Option<u32>, Memory> {
+fn other_form(alloc: Global, system: &System) -> Result<Option<u32>, Memory>
+    requires { HasSourcesAlone (program_of system.now) }
+{
     for query in 0..system.replies() {
-        let turn = evaluate_query(alloc, system, QueryId(query), &mut Nothing)?;
+        let turn = evaluate_query(alloc, system, QueryId(query), &mut Nothing { system })?;
         let is_value = match (&turn, FORMS.get(query as usize)) {
             (Turn::Done(value), Some((_, _, _, want))) => value.single() == Some(*want),
             _ => false,

@@ -9,6 +9,8 @@ mod codes;
 #[cfg(test)]
 mod counted;
 #[cfg(test)]
+mod created;
+#[cfg(test)]
 mod demand;
 #[cfg(test)]
 mod events;

@@ -1,6 +1,6 @@
 // The rounds over instances that callers name, and the equation of one.
 ghost use Rattle.std.specs.Prelude.{◌<◌};
-ghost use Rattle.equation_law.specs.Checked.{IsProgram};
+ghost use Rattle.equation_law.specs.Checked.{HasSourcesAlone, IsProgram};
 ghost use Rattle.equation_law.specs.Systems.{program_of};
 
 use crate::forms::Nothing;
@@ -106,7 +106,9 @@ fn names_of(alloc: Global, system: &System, rows: &[Row]) -> Result<NameList, Re
 }
 
 // The place of the first instance to which the rounds give another value, or 0 where they aren't instances.
-fn other_value(alloc: Global, system: &System) -> Result<Option<u32>, ReadFault> {
+fn other_value(alloc: Global, system: &System) -> Result<Option<u32>, ReadFault>
+    requires { HasSourcesAlone (program_of system.now) }
+{
     let names = names_of(alloc, system, &INSTANCES)?;
     if names.len() != 13 || !names.are_of(system) {
         return Ok(Some(0));
@@ -176,7 +178,8 @@ fn site_of(
     if is_collection(system, &Instance::Attr { attr, node, args }) {
         return Ok(None);
     }
-    Ok(Some(equation_of(system, attr, at, args)))
+    let mut reader = Nothing { system };
+    Ok(Some(equation_of(system, attr, at, args, &mut reader)))
 }
 
 // The place of the second statement is what the path binds.
@@ -203,11 +206,13 @@ const PLACE: EqSite = EqSite {
 };
 
 // Whether the equation of `y` there comes to the place that is bound.
-fn is_evaluated(alloc: Global, system: &System) -> bool {
+fn is_evaluated(alloc: Global, system: &System) -> bool
+    requires { IsProgram (program_of system.now) }
+{
     if system.rules().equations() <= 5 {
         return false;
     }
-    let turn = evaluate(alloc, system, &PLACE, &mut Nothing);
+    let turn = evaluate(alloc, system, &PLACE, &mut Nothing { system });
     matches!(turn, Ok(Turn::Done(Value::Int(1))))
 }
 

@@ -1,12 +1,20 @@
 // The systems that texts say, and long texts.
 ghost use Rattle.std.specs.Prelude.{◌≤◌, IfOk, length};
 ghost use Rattle.rag_io.specs.Outside.{longest_file};
-ghost use Rattle.equation_law.specs.Checked.{IsProgram};
+ghost use Rattle.ast_grammar.specs.Grammar.{IsGrammar};
+ghost use Rattle.attr_equations.specs.Kept.{rules_in};
+ghost use Rattle.attr_rules.specs.Rules.{AreRules, EquationsRise};
+ghost use Rattle.equation_law.specs.Checked.{HasSourcesAlone, IsProgram};
 ghost use Rattle.equation_law.specs.Systems.{program_of};
+ghost use Rattle.tree_arena.specs.Terms.{IsTreeOf};
 
 use ast_grammar::{Grammar, read_ast_bytes};
+use attr_equations::Rules;
+use attr_types::check;
 use broken_rules::ReadFault;
-use equation_law::System;
+use equation_law::{Queries, System};
+use jrag_reader::read_jrag_bytes;
+use monotone_check::check_monotone;
 use program_reader::{Refusal, read_system};
 use rag_io::{LONGEST_FILE, Pool};
 use run_io::Contents;
@@ -38,7 +46,8 @@ fn bytes_of(alloc: Global, text: &str) -> Result<Vec<u8>, Refusal>
 
 /// The system that four texts say.
 pub(crate) fn system_said(alloc: Global, texts: &Texts<'_>) -> Result<System, Refusal>
-    ensures { IfOk result (λ system. IsProgram (program_of system)) }
+    ensures program { IfOk result (λ system. IsProgram (program_of system)) }
+    ensures bare { IfOk result (λ system. HasSourcesAlone (program_of system)) }
 {
     let contents = Contents {
         ast: bytes_of(alloc, texts.ast)?,
@@ -53,7 +62,9 @@ pub(crate) fn system_said(alloc: Global, texts: &Texts<'_>) -> Result<System, Re
 }
 
 /// The grammar that a text says.
-pub(crate) fn grammar_of(alloc: Global, text: &str) -> Result<Grammar, ReadFault> {
+pub(crate) fn grammar_of(alloc: Global, text: &str) -> Result<Grammar, ReadFault>
+    ensures { IfOk result IsGrammar }
+{
     if text.len() > LONGEST_FILE {
         return Err(ReadFault::Memory);
     }
@@ -72,6 +83,63 @@ pub(crate) fn tree_of(
     let mut pool = Pool::new(alloc)?;
     let tree = read_tree_bytes(alloc, grammar, text.as_bytes(), &mut pool)?;
     Ok((tree, pool))
+}
+
+/// The rules that a text says over a grammar. Its texts go into the pool.
+fn rules_said(
+    alloc: Global,
+    grammar: &Grammar,
+    text: &str,
+    pool: &mut Pool,
+) -> Result<Rules, ReadFault>
+    requires { IsGrammar grammar.now }
+    ensures rules { IfOk result (λ rules. AreRules grammar.now (rules_in rules)) }
+    ensures rising { IfOk result (λ rules. EquationsRise (rules_in rules)) }
+{
+    if text.len() > LONGEST_FILE {
+        return Err(ReadFault::Memory);
+    }
+    let aspects = read_jrag_bytes(alloc, text.as_bytes(), pool)?;
+    let rules = check(alloc, grammar, &aspects)?;
+    match check_monotone(&rules) {
+        Ok(()) => Ok(rules),
+        Err(broken) => Err(ReadFault::Broken(broken)),
+    }
+}
+
+/// The tree that a text says over a grammar. Its texts go into the pool.
+fn tree_said(
+    alloc: Global,
+    grammar: &Grammar,
+    text: &str,
+    pool: &mut Pool,
+) -> Result<Tree, ReadFault>
+    ensures { IfOk result (IsTreeOf grammar.now (length pool.new)) }
+{
+    if text.len() > LONGEST_FILE {
+        return Err(ReadFault::Memory);
+    }
+    read_tree_bytes(alloc, grammar, text.as_bytes(), pool)
+}
+
+/// The system over a grammar that texts say without queries.
+fn system_over(alloc: Global, grammar: Grammar, texts: &Texts<'_>) -> Result<System, ReadFault>
+    requires { IsGrammar grammar }
+    ensures { IfOk result (λ system. IsProgram (program_of system)) }
+{
+    let mut pool = Pool::new(alloc)?;
+    let rules = rules_said(alloc, &grammar, texts.jrag, &mut pool)?;
+    let tree = tree_said(alloc, &grammar, texts.tree, &mut pool)?;
+    let queries = Queries::new(Vec::new(alloc));
+    Ok(System::new(alloc, grammar, rules, tree, pool, queries)?)
+}
+
+/// The system that texts say without queries. Its attributes may make trees, which `read_system` doesn't take yet.
+pub(crate) fn system_checked(alloc: Global, texts: &Texts<'_>) -> Result<System, ReadFault>
+    ensures { IfOk result (λ system. IsProgram (program_of system)) }
+{
+    let grammar = grammar_of(alloc, texts.ast)?;
+    system_over(alloc, grammar, texts)
 }
 
 /// A text whose second part and whose last one stand so many times, the second one each time with its number, from 1 on, in place of `#`.

@@ -1,5 +1,5 @@
 // Random programs, and some with collections, whose replies by rounds and by demand are the same.
-ghost use Rattle.equation_law.specs.Checked.{IsProgram};
+ghost use Rattle.equation_law.specs.Checked.{HasSourcesAlone, IsProgram};
 ghost use Rattle.equation_law.specs.Systems.{program_of};
 
 use crate::demand::Silent;
@@ -178,7 +178,9 @@ const COLLECTED: [Texts<'static>; 2] = [
 ];
 
 // The lines of all queries, by rounds: an integer, or `circular` where the rounds give none.
-fn rounds_lines(alloc: Global, system: &System) -> Result<String, ReadFault> {
+fn rounds_lines(alloc: Global, system: &System) -> Result<String, ReadFault>
+    requires { HasSourcesAlone (program_of system.now) }
+{
     let names = NameList::of_source(alloc, system)?;
     let table = plain_rounds(alloc, system, &names)?;
     let mut text = String::new(alloc);
@@ -193,7 +195,8 @@ fn rounds_lines(alloc: Global, system: &System) -> Result<String, ReadFault> {
 
 // Whether the lines of rounds and of demand are the same, and there are some.
 fn agree(alloc: Global, system: &System) -> Result<bool, ReadFault>
-    requires { IsProgram (program_of system.now) }
+    requires program { IsProgram (program_of system.now) }
+    requires bare { HasSourcesAlone (program_of system.now) }
 {
     let slow = rounds_lines(alloc, system)?;
     match reply_lines(alloc, &Silent, system, 4096) {

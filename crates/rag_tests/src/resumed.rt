@@ -1,15 +1,18 @@
 // Evaluations that go on where they stopped: no form over elements goes over one again that it has done with.
 ghost use Rattle.std.specs.Prelude.{◌≡◌, ◌<◌, ◌+◌, ◌*◌, ◌^◌};
+ghost use Rattle.equation_law.specs.Checked.{IsProgram};
 ghost use Rattle.equation_law.specs.Systems.{program_of};
 
 use crate::programs::{Long, Texts, long_text, system_said};
+use ast_grammar::ClassId;
 use attr_rules::AttrId;
 use collection_attrs::is_collection;
-use equation_law::{Args, Instance, NodeRef, Reader, System, Value};
+use equation_law::{Args, Code, Instance, NodeRef, Reader, System, Up, Value};
 use expr_eval::{Saved, Turn, kind_of, resume_instance};
 use program_reader::Refusal;
 use rag_io::Memory;
 use std::alloc::Global;
+use std::cmp::Ordering;
 
 /// A reader that has no value of an instance when it is demanded first, and `true`, read at its type, from then on; those of lower attributes,
 /// and of the same at earlier nodes, have theirs then too. It counts the demands.
@@ -51,6 +54,33 @@ impl Reader for Late<'_> {
             }
         }
     }
+
+    fn made_class(&mut self, _node: NodeRef) -> ClassId {
+        ClassId(u16::MAX)
+    }
+
+    fn made_child(&mut self, _node: NodeRef, _component: u32) -> NodeRef {
+        NodeRef(0)
+    }
+
+    fn made_token(&mut self, _node: NodeRef, _component: u32) -> Code {
+        0
+    }
+
+    fn made_up(&mut self, _node: NodeRef) -> Up {
+        Up::Owner {
+            node: NodeRef(0),
+            attr: AttrId(0),
+        }
+    }
+
+    fn made_arg(&mut self, _node: NodeRef, _k: u32) -> Code {
+        0
+    }
+
+    fn made_order(&mut self, a: NodeRef, b: NodeRef) -> Ordering {
+        a.0.cmp(&b.0)
+    }
 }
 
 const GRAMMAR: &str = "P ::= l:L*; L ::= <V:int>;";
@@ -85,10 +115,21 @@ const DEMANDS: [(u16, u32); 7] = [
     (10, 200),
 ];
 
-// How many demands the evaluation of an attribute of the root takes, which goes on after each that has no value. The attribute is no collection.
-fn demands_of(alloc: Global, system: &System, attr: u16) -> Result<u32, Memory> {
+/// What the evaluation of an attribute of the root comes to that goes on after each demand without a value: what was missing, in turn, the last turn,
+/// and how many demands there were.
+#[derive(Drop)]
+pub(crate) struct Followed {
+    pub(crate) missing: Vec<Instance>,
+    pub(crate) last: Turn,
+    demands: u32,
+}
+
+/// Follows the evaluation of an attribute of the root, which is no collection.
+pub(crate) fn follow(alloc: Global, system: &System, attr: AttrId) -> Result<Followed, Memory>
+    requires { IsProgram (program_of system.now) }
+{
     let i = Instance::Attr {
-        attr: AttrId(attr),
+        attr,
         node: NodeRef(1),
         args: Args::none(),
     };
@@ -102,17 +143,37 @@ fn demands_of(alloc: Global, system: &System, attr: u16) -> Result<u32, Memory> 
         demands: 0,
     };
     let mut saved = Saved::new(alloc);
+    let mut missing = Vec::new(alloc);
     for _ in 0..10_000 {
-        let turn = resume_instance(alloc, system, &i, &mut reader, &mut saved)?;
-        if let Turn::Done(_) = turn {
-            return Ok(reader.demands);
+        match resume_instance(alloc, system, &i, &mut reader, &mut saved)? {
+            Turn::Need(next) => missing.push(next).map_err(|_| Memory)?,
+            last => {
+                return Ok(Followed {
+                    missing,
+                    last,
+                    demands: reader.demands,
+                });
+            }
         }
     }
     Err(Memory)
 }
 
+// How many demands the evaluation of an attribute of the root takes that comes to a value.
+fn demands_of(alloc: Global, system: &System, attr: u16) -> Result<u32, Memory>
+    requires { IsProgram (program_of system.now) }
+{
+    let followed = follow(alloc, system, AttrId(attr))?;
+    match followed.last {
+        Turn::Done(_) => Ok(followed.demands),
+        _ => Err(Memory),
+    }
+}
+
 // The first of these attributes that takes another number of demands.
-fn other_demands(alloc: Global, system: &System) -> Result<Option<u16>, Memory> {
+fn other_demands(alloc: Global, system: &System) -> Result<Option<u16>, Memory>
+    requires { IsProgram (program_of system.now) }
+{
     for (attr, wanted) in &DEMANDS {
         if demands_of(alloc, system, *attr)? != *wanted {
             return Ok(Some(*attr));

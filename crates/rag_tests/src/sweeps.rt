@@ -1,23 +1,25 @@
 // How often the members of a local set are evaluated, and which of them are sealed while it waits.
 ghost use Rattle.std.specs.Prelude.{◌≡◌, ◌<◌, IfOk, IfSome};
 ghost use Rattle.circular_eval.specs.Local.{IsLocalAt, IsStillLocal};
-ghost use Rattle.equation_law.specs.Checked.{IsProgram};
+ghost use Rattle.equation_law.specs.Checked.{HasSourcesAlone, IsProgram};
 ghost use Rattle.equation_law.specs.Codes.{IsCoded};
 ghost use Rattle.equation_law.specs.Systems.{program_of};
 ghost use Rattle.memo_cells.specs.Working.{GoesOn, IsForSystem, IsInstanceByEach, IsOwn, ReadsOn};
 ghost use Rattle.rag_tests.specs.Circular.{IsCircular};
 
 use crate::programs::{Texts, system_said};
+use ast_grammar::ClassId;
 use attr_rules::AttrId;
 use caller_pass::{Desk, Steps, ask};
 use circular_eval::{CircTurn, Local, advance};
 use collection_attrs::is_collection;
-use equation_law::{Args, Instance, NodeRef, QueryId, Reader, System, Value};
+use equation_law::{Args, Code, Instance, NodeRef, QueryId, Reader, System, Up, Value};
 use expr_eval::{Saved, Turn, is_declared, resume_instance};
 use memo_cells::{Cells, CellsFull, Key, Slot, Words, Work};
 use program_reader::Refusal;
 use rag_io::Memory;
 use std::alloc::{AllocError, Global};
+use std::cmp::Ordering;
 use std::fmt::Write;
 use std::marker::{Brand, Model};
 use std::sync::ledger::{Blank, Ledger};
@@ -50,6 +52,30 @@ impl Reader for Counting<'_> {
     fn settled(&mut self, alloc: Global, i: &Instance) -> Result<Option<Value>, Memory> {
         self.demands = self.demands.saturating_add(1);
         self.desk.settled(alloc, i)
+    }
+
+    fn made_class(&mut self, node: NodeRef) -> ClassId {
+        self.desk.made_class(node)
+    }
+
+    fn made_child(&mut self, node: NodeRef, component: u32) -> NodeRef {
+        self.desk.made_child(node, component)
+    }
+
+    fn made_token(&mut self, node: NodeRef, component: u32) -> Code {
+        self.desk.made_token(node, component)
+    }
+
+    fn made_up(&mut self, node: NodeRef) -> Up {
+        self.desk.made_up(node)
+    }
+
+    fn made_arg(&mut self, node: NodeRef, k: u32) -> Code {
+        self.desk.made_arg(node, k)
+    }
+
+    fn made_order(&mut self, a: NodeRef, b: NodeRef) -> Ordering {
+        self.desk.made_order(a, b)
     }
 }
 
@@ -105,7 +131,7 @@ pub(crate) fn first_circular(
         }
         let mut saved = Saved::new(alloc);
         match resume_instance(alloc, system, &at, work, &mut saved)? {
-            Turn::Done(_) => return Ok(None),
+            Turn::Done(_) | Turn::Image(_) => return Ok(None),
             Turn::Need(next) => {
                 if is_declared(system, &next) {
                     return Ok(Some(next));
@@ -181,6 +207,7 @@ fn go_on_twice<L: Ledger>(
     requires parts { blank.parts ≡ L.parts }
     requires some { 0 < L.parts }
     requires program { IsProgram (program_of system.now) }
+    requires bare { HasSourcesAlone (program_of system.now) }
 {
     if system.replies() < 2 {
         return Ok(None);

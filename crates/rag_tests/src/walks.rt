@@ -1,6 +1,6 @@
 // How often what is offered to collections is evaluated, where those of all nodes go along one walk.
 ghost use Rattle.std.specs.Prelude.{◌≡◌, ◌<◌};
-ghost use Rattle.equation_law.specs.Checked.{IsProgram};
+ghost use Rattle.equation_law.specs.Checked.{HasSourcesAlone, IsProgram};
 ghost use Rattle.equation_law.specs.Systems.{program_of};
 ghost use Rattle.memo_cells.specs.Working.{IsForSystem, IsOwn, ReadsOn, told_by};
 ghost use Rattle.collection_attrs.specs.Walks.{IsWalk};
@@ -55,7 +55,7 @@ fn sum_along(
     let Some(of) = collector_of(system, &i) else {
         return Ok(None);
     };
-    let Some(root) = root_of(system, of) else {
+    let Some(root) = root_of(system, of, work) else {
         return Ok(None);
     };
     if of.attr.0 != offers.attr().0 || root != offers.root() {
@@ -65,7 +65,7 @@ fn sum_along(
     let mut saved = Saved::new(alloc);
     match survey.go_on(alloc, system, of, offers, work, &mut saved)? {
         Turn::Done(value) => Ok(Some(value.int())),
-        Turn::Need(_) => Ok(None),
+        Turn::Need(_) | Turn::Image(_) => Ok(None),
     }
 }
 
@@ -108,6 +108,7 @@ fn known_first<L: Ledger>(
     requires parts { blank.parts ≡ L.parts }
     requires some { 0 < L.parts }
     requires program { IsProgram (program_of system.now) }
+    requires bare { HasSourcesAlone (program_of system.now) }
 {
     if system.replies() == 0 {
         return Ok(None);

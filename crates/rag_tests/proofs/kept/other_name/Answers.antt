@@ -1,6 +1,5 @@
 -- A class of the grammar has a line of superclasses.
-use Rattle.std.proofs.Common.{length, arith}
-use Rattle.ast_grammar.specs.Grammar.{superclasses_of}
+use Rattle.std.proofs.Common.{arith}
 use Rattle.ast_grammar.proofs.Inherited.{length-superclasses_of}
 use Rattle.rag_tests.proofs.kept.other_name.Goals as goal
 

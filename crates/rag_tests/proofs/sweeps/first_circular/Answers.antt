@@ -14,10 +14,12 @@ pub loop-init : goal.loop-init
 loop-init c = record { on = reads_itself c.args.work.now c.requires.own; instance = c.requires.instance; coded = c.requires.coded }
 
 pub resume_instance-requires-clause-sound : goal.resume_instance-requires-clause-sound
-resume_instance-requires-clause-sound c = sound_for (program_of c.args.system.now) c.loop.work (program_here c.args.system.now c.args.work.now c.loop.work c.requires.same c.loop.invariant.on)
+resume_instance-requires-clause-sound c = sound_for (program_of c.args.system.now) c.loop.work c.loop.invariant.on.on.own (program_here c.args.system.now c.args.work.now c.loop.work c.requires.same c.loop.invariant.on)
 
 pub resume_instance-requires-clause-single : goal.resume_instance-requires-clause-single
-resume_instance-requires-clause-single c = none_is _ c.is_collection.result c.is_collection.ensures c.if-is_collection.false
+resume_instance-requires-clause-single c =
+    let sound = sound_for (program_of c.args.system.now) c.loop.work c.loop.invariant.on.on.own (program_here c.args.system.now c.args.work.now c.loop.work c.requires.same c.loop.invariant.on) in
+    λ n is. none_is _ c.is_collection.result (c.is_collection.ensures n (sound.named n is)) c.if-is_collection.false
 
 pub returns-in_err-resume_instance-clause-on : goal.returns-in_err-resume_instance-clause-on
 returns-in_err-resume_instance-clause-on c = c.resume_instance.ensures.evaluates.kept.kept c.args.work.now c.loop.invariant.on

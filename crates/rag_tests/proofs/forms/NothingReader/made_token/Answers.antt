@@ -1,0 +1,7 @@
+use Rattle.equation_law.specs.Systems.{program_of}
+use Rattle.rag_tests.specs.Nothing.{nothing}
+use Rattle.rag_tests.proofs.Unmade.{token_unmade}
+use Rattle.rag_tests.proofs.forms.NothingReader.made_token.Goals as goal
+
+pub returns : goal.returns
+returns c = token_unmade (nothing (program_of c.args.self.now.system.now)) c.args.self.now.system.now (λ q sound. sound.for) (λ n is. is) c.args._node c.args._component 0

@@ -1,0 +1,8 @@
+use Rattle.std.proofs.Common.{refl}
+use Rattle.equation_law.specs.Systems.{program_of}
+use Rattle.rag_tests.specs.Late.{late}
+use Rattle.rag_tests.proofs.Unmade.{child_unmade}
+use Rattle.rag_tests.proofs.resumed.LateReader.made_child.Goals as goal
+
+pub returns : goal.returns
+returns c = child_unmade (late (program_of c.args.self.now.system.now) c.args.self.now.known) c.args.self.now.system.now (λ q sound. sound.for) (λ n is. is) c.args._node c.args._component (record { 0 = 0 }) refl

@@ -1,0 +1,8 @@
+use Rattle.std.proofs.Common.{arith, refl}
+use Rattle.equation_law.specs.Systems.{program_of}
+use Rattle.rag_tests.specs.Late.{late}
+use Rattle.rag_tests.proofs.Unmade.{up_unmade}
+use Rattle.rag_tests.proofs.resumed.LateReader.made_up.Goals as goal
+
+pub returns : goal.returns
+returns c = up_unmade (late (program_of c.args.self.now.system.now) c.args.self.now.known) c.args.self.now.system.now (λ q sound. sound.for) (λ n is. is) (λ k past. omega (arith, past)) c.args._node _ refl
