@@ -1,0 +1,13 @@
+pub mod Arguments
+pub mod Classes
+mod Finding
+pub mod Higher
+pub mod Kept
+pub mod Lexical
+pub mod Named
+pub mod Naming
+pub mod Nodes
+mod Ordered
+pub mod Small
+pub mod Stands
+pub mod Told

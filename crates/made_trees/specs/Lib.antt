@@ -1,0 +1,4 @@
+pub mod Made
+pub mod Makers
+pub mod Stands
+pub mod Ordered
