@@ -10,7 +10,7 @@ use Rattle.equation_law.specs.declared.coding.EqSite.{EqSite}
 use Rattle.equation_law.specs.declared.coding.Instance.{Instance as CodedInstance}
 use Rattle.equation_law.specs.declared.coding.Instance.TheVariants as coded
 use Rattle.equation_law.specs.declared.coding.NodeRef.{NodeRef}
-use Rattle.equation_law.specs.Codes.{Naming, instance_of}
+use Rattle.equation_law.specs.Codes.{Naming, instance_by}
 use Rattle.equation_law.specs.Equations.{OfSite, Site, collection_of, equation_of, equation_rises, equations_of, is_circular, is_ordered, kind_in, site_of}
 use Rattle.equation_law.specs.Names.{Instance}
 use Rattle.equation_law.specs.Program.{Program}
@@ -57,35 +57,40 @@ starts_nowhere p i c = sym (ap (λ b. cond b (Some ((equations_of p).bottom i)) 
 pub starts_there : (p : Program) (i : Instance) (v : Value) → (equations_of p).circular i ≡ true → v ≡ default_of (kind_in p i) → Some v ≡ start_of p i
 starts_there p i v c e = ap Some (e ∙ bottom_is p i) ∙ sym (ap (λ b. cond b (Some ((equations_of p).bottom i)) None) c)
 
-module _ (p : Program) (q : CodedInstance) (a : AttrId) (n : NodeRef) (xs : Args) (is : q ≡ coded.Attr a n xs) where
+-- the type of an instance's values doesn't depend on what codes stand for
+pub kind_alike : (p : Program) (n m : Naming) (q : CodedInstance) → kind_in p (instance_by p n q) ≡ kind_in p (instance_by p m q)
+kind_alike p n m (coded.Attr a c xs) = refl
+kind_alike p n m (coded.Query k) = refl
+
+module _ (p : Program) (N : Naming) (q : CodedInstance) (a : AttrId) (n : NodeRef) (xs : Args) (is : q ≡ coded.Attr a n xs) where
   abbrev i : Instance
-  i = instance_of p (coded.Attr a n xs)
+  i = instance_by p N (coded.Attr a n xs)
 
   -- what is said of the instance is said of its code
-  of_code : (b : Bool) → b ≡ is_circular p i → b ≡ (equations_of p).circular (instance_of p q)
-  of_code b e = e ∙ circular_is p i ∙ ap (λ (x : CodedInstance). (equations_of p).circular (instance_of p x)) (sym is)
+  of_code : (b : Bool) → b ≡ is_circular p i → b ≡ (equations_of p).circular (instance_by p N q)
+  of_code b e = e ∙ circular_is p i ∙ ap (λ (x : CodedInstance). (equations_of p).circular (instance_by p N x)) (sym is)
 
-  pub all_hold : (d o b : Bool) → d ≡ circular_at p.rules.attributes a.0 → o ≡ is_ordered (kind_in p (instance_of p q)) → b ≡ equation_rises (circular_at p.rules.attributes) (equation_of p i) → d ≡ true → o ≡ true → b ≡ (equations_of p).circular (instance_of p q)
+  pub all_hold : (d o b : Bool) → d ≡ circular_at p.rules.attributes a.0 → o ≡ is_ordered (kind_in p (instance_by p N q)) → b ≡ equation_rises (circular_at p.rules.attributes) (equation_of p i) → d ≡ true → o ≡ true → b ≡ (equations_of p).circular (instance_by p N q)
   all_hold d o b e f g t u =
       let declared : circular_at p.rules.attributes a.0 ≡ true = sym e ∙ t in
-      let kind : is_ordered (kind_in p (instance_of p q)) ≡ is_ordered (kind_in p i) = ap (λ (x : CodedInstance). is_ordered (kind_in p (instance_of p x))) is in
+      let kind : is_ordered (kind_in p (instance_by p N q)) ≡ is_ordered (kind_in p i) = ap (λ (x : CodedInstance). is_ordered (kind_in p (instance_by p N x))) is in
       let ordered : is_ordered (kind_in p i) ≡ true = sym kind ∙ sym f ∙ u in
       let last = equation_rises (circular_at p.rules.attributes) (equation_of p i) in
       of_code b (g ∙ sym (ap (λ x. x && (is_ordered (kind_in p i) && last)) declared ∙ ap (λ x. x && last) ordered))
 
-  pub undeclared : (d b : Bool) → d ≡ circular_at p.rules.attributes a.0 → d ≡ false → b ≡ false → b ≡ (equations_of p).circular (instance_of p q)
+  pub undeclared : (d b : Bool) → d ≡ circular_at p.rules.attributes a.0 → d ≡ false → b ≡ false → b ≡ (equations_of p).circular (instance_by p N q)
   undeclared d b e t f =
       let declared : circular_at p.rules.attributes a.0 ≡ false = sym e ∙ t in
       of_code b (f ∙ sym (ap (λ x. x && (is_ordered (kind_in p i) && equation_rises (circular_at p.rules.attributes) (equation_of p i))) declared))
 
-  pub unordered : (d o b : Bool) → d ≡ circular_at p.rules.attributes a.0 → o ≡ is_ordered (kind_in p (instance_of p q)) → d ≡ true → o ≡ false → b ≡ false → b ≡ (equations_of p).circular (instance_of p q)
+  pub unordered : (d o b : Bool) → d ≡ circular_at p.rules.attributes a.0 → o ≡ is_ordered (kind_in p (instance_by p N q)) → d ≡ true → o ≡ false → b ≡ false → b ≡ (equations_of p).circular (instance_by p N q)
   unordered d o b e f t u g =
       let declared : circular_at p.rules.attributes a.0 ≡ true = sym e ∙ t in
-      let kind : is_ordered (kind_in p (instance_of p q)) ≡ is_ordered (kind_in p i) = ap (λ (x : CodedInstance). is_ordered (kind_in p (instance_of p x))) is in
+      let kind : is_ordered (kind_in p (instance_by p N q)) ≡ is_ordered (kind_in p i) = ap (λ (x : CodedInstance). is_ordered (kind_in p (instance_by p N x))) is in
       let ordered : is_ordered (kind_in p i) ≡ false = sym kind ∙ sym f ∙ u in
       let last = equation_rises (circular_at p.rules.attributes) (equation_of p i) in
       of_code b (g ∙ sym (ap (λ x. x && (is_ordered (kind_in p i) && last)) declared ∙ ap (λ x. x && last) ordered))
 
 -- a query isn't circular
-pub no_query : (p : Program) (q : CodedInstance) (n : ℕ) → q ≡ coded.Query (record { 0 = n }) → false ≡ (equations_of p).circular (instance_of p q)
-no_query p q n is = circular_is p (instance_of p (coded.Query (record { 0 = n }))) ∙ ap (λ (x : CodedInstance). (equations_of p).circular (instance_of p x)) (sym is)
+pub no_query : (p : Program) (N : Naming) (q : CodedInstance) (n : ℕ) → q ≡ coded.Query (record { 0 = n }) → false ≡ (equations_of p).circular (instance_by p N q)
+no_query p N q n is = circular_is p (instance_by p N (coded.Query (record { 0 = n }))) ∙ ap (λ (x : CodedInstance). (equations_of p).circular (instance_by p N x)) (sym is)

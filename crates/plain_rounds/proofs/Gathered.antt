@@ -11,7 +11,7 @@ module _ {A B : Type 0} (f : A → B) where
   all_at P (x ∷ xs) (suc k) d h all = all_at P xs k d (omega (arith, h)) (All-tail P (f x) (map f xs) all)
 
   -- one more of them
-  map_more : (xs : List A) (k : ℕ) (d : A) → k < length xs → map f (take (k + 1) xs) ≡ map f (take k xs) ++ f (get_or xs k d) ∷ []
+  pub map_more : (xs : List A) (k : ℕ) (d : A) → k < length xs → map f (take (k + 1) xs) ≡ map f (take k xs) ++ f (get_or xs k d) ∷ []
   map_more xs k d h = ap (map f) (take_more xs k d h) ∙ map-append f (take k xs) (get_or xs k d ∷ [])
 
   pub all_more : (P : B → Type 0) (xs : List A) (k : ℕ) (d : A) → k < length xs → All P (map f (take k xs)) → P (f (get_or xs k d)) → All P (map f (take (k + 1) xs))

@@ -8,6 +8,7 @@ use Rattle.solutions.specs.Rising.{AgreeBelow}
 use Rattle.solutions.proofs.Growing.{done_below}
 use Rattle.solutions.proofs.Runs.{and_then_some, inner_circular, inner_ends, inner_first, option_cases, or_else_none}
 use Rattle.solutions.proofs.Stopping.{inner_fits}
+use Rattle.equation_law.specs.Codes.{Naming}
 use Rattle.equation_law.specs.Equations.{equations_of, kind_in}
 use Rattle.equation_law.specs.Loops.{fits_in, order_in}
 use Rattle.equation_law.specs.Names.{Instance}
@@ -25,22 +26,22 @@ abbrev pub Falls : (Option Value → ℕ) → Option Value → Option Value → 
 Falls f o q = (f q ≤ f o) × (f q ≡ f o → q ≡ o)
 
 -- so do whole tables
-pub tables_fall : (p : Program) (f : Option Value → ℕ) (vs ws : List (Option NamedValue)) → length ws ≡ length vs → ((k : ℕ) → k < length vs → Falls f (known p (get_or vs k None)) (known p (get_or ws k None)))
-    → (sum_by (λ v. f (known p v)) ws ≤ sum_by (λ v. f (known p v)) vs) × (sum_by (λ v. f (known p v)) vs ≤ sum_by (λ v. f (known p v)) ws → map (known p) ws ≡ map (known p) vs)
-tables_fall p f [] [] l each = (omega arith, λ e. refl)
-tables_fall p f [] (w ∷ ws) l each = absurd (omega arith)
-tables_fall p f (v ∷ vs) [] l each = absurd (omega arith)
-tables_fall p f (v ∷ vs) (w ∷ ws) l each =
-    let F : Option NamedValue → ℕ = λ x. f (known p x) in
+pub tables_fall : (p : Program) (N : Naming) (f : Option Value → ℕ) (vs ws : List (Option NamedValue)) → length ws ≡ length vs → ((k : ℕ) → k < length vs → Falls f (known p N (get_or vs k None)) (known p N (get_or ws k None)))
+    → (sum_by (λ v. f (known p N v)) ws ≤ sum_by (λ v. f (known p N v)) vs) × (sum_by (λ v. f (known p N v)) vs ≤ sum_by (λ v. f (known p N v)) ws → map (known p N) ws ≡ map (known p N) vs)
+tables_fall p N f [] [] l each = (omega arith, λ e. refl)
+tables_fall p N f [] (w ∷ ws) l each = absurd (omega arith)
+tables_fall p N f (v ∷ vs) [] l each = absurd (omega arith)
+tables_fall p N f (v ∷ vs) (w ∷ ws) l each =
+    let F : Option NamedValue → ℕ = λ x. f (known p N x) in
     let here = each 0 (omega arith) in
-    let rest = tables_fall p f vs ws (omega arith) (λ k h. each (suc k) (omega arith)) in
-    let first : f (known p w) ≤ f (known p v) = here.0 in
+    let rest = tables_fall p N f vs ws (omega arith) (λ k h. each (suc k) (omega arith)) in
+    let first : f (known p N w) ≤ f (known p N v) = here.0 in
     let later : sum_by F ws ≤ sum_by F vs = rest.0 in
-    let before : sum_by F (v ∷ vs) ≡ f (known p v) + sum_by F vs = sum_by-cons F v vs in
-    let after : sum_by F (w ∷ ws) ≡ f (known p w) + sum_by F ws = sum_by-cons F w ws in (
+    let before : sum_by F (v ∷ vs) ≡ f (known p N v) + sum_by F vs = sum_by-cons F v vs in
+    let after : sum_by F (w ∷ ws) ≡ f (known p N w) + sum_by F ws = sum_by-cons F w ws in (
       omega (arith, first, later, before, after),
       λ e.
-          let same : f (known p w) ≡ f (known p v) = omega (arith, first, later, before, after, e) in
+          let same : f (known p N w) ≡ f (known p N v) = omega (arith, first, later, before, after, e) in
           let others : sum_by F vs ≤ sum_by F ws = omega (arith, first, later, before, after, e) in
           λ i. here.1 same i ∷ rest.1 others i,
     )

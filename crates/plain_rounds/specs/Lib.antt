@@ -1,8 +1,12 @@
+pub mod Checking
+pub mod CodesOf
 pub mod Coding
 pub mod Listing
 pub mod Named
 pub mod Places
 pub mod Rising
 pub mod Rooms
+pub mod Settings
 pub mod Standing
 pub mod Steps
+pub mod Trees

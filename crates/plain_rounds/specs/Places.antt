@@ -1,16 +1,20 @@
 -- Where instances stand in a list, and what values stand there.
-use Rattle.std.specs.Prelude.{◌≡◌, ℕ, suc, Bool, cond, List, [], ◌∷◌, All, MatchOption, Option, Some, None, length, slice_get}
+use Rattle.std.specs.Prelude.{◌≡◌, ℕ, suc, Bool, cond, List, [], ◌∷◌, MatchOption, Option, Some, None, length, slice_get}
 use Rattle.std.specs.Option.{option_map, option_and_then}
 use Rattle.std.specs.Borrow.{Bor}
 use Rattle.std.specs.HashMap.{HashMap, get_by}
 use Rattle.equation_law.specs.declared.coding.Instance.{Instance as CodedInstance}
+use Rattle.equation_law.specs.declared.coding.NodeRef.{NodeRef}
+use Rattle.equation_law.specs.declared.coding.TreeImage.{TreeImage}
 use Rattle.equation_law.specs.declared.coding.Value.{Value as CodedValue}
+use Rattle.equation_law.specs.declared.coding.Value.TheVariants as coded_value
 use Rattle.equation_law.specs.contracts.coding.InstancePartialEq.TheImpl as equality
 use Rattle.plain_rounds.specs.declared.values.NamedValue.{NamedValue}
-use Rattle.equation_law.specs.Codes.{AreElements, IsCoded, value_of}
+use Rattle.equation_law.specs.Codes.{AreCodes, AreElements, Naming}
+use Rattle.equation_law.specs.Created.{Making, token_kinds}
 use Rattle.equation_law.specs.Values.{Value}
 use Rattle.equation_law.specs.Program.{Program}
-use Rattle.plain_rounds.specs.Named.{value_in}
+use Rattle.plain_rounds.specs.Named.{image_making, value_in}
 
 -- whether two codes are equal
 abbrev pub same_code : CodedInstance → CodedInstance → Bool
@@ -26,25 +30,31 @@ abbrev pub kept_place : {S : Type 0} → HashMap CodedInstance ℕ S → CodedIn
 kept_place m q = get_by (same_code q) m
 
 -- the value at a place
-abbrev pub value_on : (ℕ → List ℕ) → List (Option NamedValue) → ℕ → Option Value
-value_on texts values k = option_and_then (option_map (value_in texts)) (slice_get values k)
+abbrev pub value_on : Program → Naming → List (Option NamedValue) → ℕ → Option Value
+value_on p n values k = option_and_then (option_map (value_in p n)) (slice_get values k)
 
 -- the value at the place that is kept of a code
-abbrev pub found : {S : Type 0} → (ℕ → List ℕ) → HashMap CodedInstance ℕ S → List (Option NamedValue) → CodedInstance → Option Value
-found texts m values q = option_and_then (value_on texts values) (kept_place m q)
+abbrev pub found : {S : Type 0} → Program → Naming → HashMap CodedInstance ℕ S → List (Option NamedValue) → CodedInstance → Option Value
+found p n m values q = option_and_then (value_on p n values) (kept_place m q)
 
--- a value that is read is this one, whatever the texts are, and where none is read there is none
-abbrev pub IsRead : Option (Bor CodedValue) → ((ℕ → List ℕ) → Option Value) → Type 0
-IsRead read wanted = (texts : ℕ → List ℕ) → MatchOption read (wanted texts ≡ None) (λ v. wanted texts ≡ Some (value_of texts v.now))
+-- a value that is read is this one, whatever codes stand for, and where none is read there is none
+abbrev pub IsRead : Option (Bor NamedValue) → (Program → Naming → Option Value) → Type 0
+IsRead read wanted = (p : Program) (n : Naming) → MatchOption read (wanted p n ≡ None) (λ v. wanted p n ≡ Some (value_in p n v.now))
+
+-- a tree that stands beside a value: of a `new` of the program, with as many tokens as that has, coded well, and the value is the node at its root
+pub record IsImage (p : Program) (v : CodedValue) (t : TreeImage) : Type 0 where
+  pub making : Making
+  pub is : image_making p t ≡ Some making
+  pub all : length t.tokens ≡ length (token_kinds making.arguments)
+  pub codes : AreCodes p (token_kinds making.arguments) t.tokens
+  pub root : NodeRef
+  pub node : v ≡ coded_value.Node root
+
+abbrev pub IsImaged : Program → CodedValue → Option TreeImage → Type 0
+IsImaged p v None = Unit {0}
+IsImaged p v (Some t) = IsImage p v t
 
 -- what stands somewhere is nothing, or a value, and the elements of a set are coded well
 abbrev pub IsHeld : Program → Option NamedValue → Type 0
 IsHeld p None = Unit {0}
-IsHeld p (Some v) = AreElements p v.value
-
--- the first places of well coded instances are kept, and each has a value or none
-pub record ArePlaced {S : Type 0} (p : Program) (names : List CodedInstance) (m : HashMap CodedInstance ℕ S) (values : List (Option NamedValue)) : Type 0 where
-  pub coded : All (IsCoded p) names
-  pub places : (q : CodedInstance) → kept_place m q ≡ first_place names q
-  pub long : length values ≡ length names
-  pub held : All (IsHeld p) values
+IsHeld p (Some v) = AreElements p v.value × IsImaged p v.value v.image

@@ -1,23 +1,21 @@
 // Which instances are circular, and where these start.
 ghost use Rattle.std.specs.Prelude.{◌≡◌};
 ghost use Rattle.equation_law.specs.declared.coding.Instance.TheVariants.{Attr as attribute_at};
-ghost use Rattle.equation_law.specs.Checked.{HasSourcesAlone};
-ghost use Rattle.equation_law.specs.Codes.{instance_of};
 ghost use Rattle.equation_law.specs.Equations.{equations_of};
 ghost use Rattle.equation_law.specs.Equations as spec;
-ghost use Rattle.equation_law.specs.Systems.{program_of};
-ghost use Rattle.inherited_walk.specs.Sites.{FindsEquation};
 ghost use Rattle.plain_rounds.specs.Places.{IsHeld};
 ghost use Rattle.plain_rounds.specs.Rising.{equation_rises_in};
+ghost use Rattle.plain_rounds.specs.Settings.{IsSetting, instance_at, naming_at, program_at};
 ghost use Rattle.plain_rounds.specs.Steps.{known, start_of};
 
 use crate::rising::rises;
+use crate::setting::Setting;
+use crate::standing::equation_at;
 use crate::values::NamedValue;
 use attr_rules::{AttrId, Kind};
 use collection_attrs::is_collection;
-use equation_law::{Args, EqSite, Instance, NodeRef, System, Value};
+use equation_law::{Args, Instance, NodeRef, Value};
 use expr_eval::kind_of;
-use inherited_walk::{Ways, find_noted};
 use std::alloc::Global;
 
 /// Whether it is a type of which circular attributes are.
@@ -30,62 +28,53 @@ fn is_ordered(kind: Kind) -> bool
     }
 }
 
-/// The equation of an attribute at a node with arguments, if it has one.
-fn equation_at(
+/// Whether an attribute has an equation at a node, and it is an expression that rises.
+fn equation_rises(
     alloc: Global,
-    system: &System,
+    setting: &Setting<'_>,
     attr: AttrId,
     node: NodeRef,
     args: Args,
-) -> Option<EqSite>
-    requires alone { HasSourcesAlone (program_of system.now) }
-    ensures { FindsEquation (program_of system.now) attr node args result }
+) -> bool
+    requires { IsSetting setting.now }
+    ensures { result ≡ equation_rises_in (program_at setting.now) (instance_at setting.now (attribute_at attr node args)) }
 {
-    let mut ways = Ways::new(alloc, system);
-    find_noted(system, &mut ways, attr, node, args)
-}
-
-/// Whether an attribute has an equation at a node, and it is an expression that rises.
-fn equation_rises(alloc: Global, system: &System, attr: AttrId, node: NodeRef, args: Args) -> bool
-    requires alone { HasSourcesAlone (program_of system.now) }
-    ensures { result ≡ equation_rises_in (program_of system.now) (instance_of (program_of system.now) (attribute_at attr node args)) }
-{
-    if is_collection(system, &Instance::Attr { attr, node, args }) {
+    if is_collection(setting.system, &Instance::Attr { attr, node, args }) {
         return false;
     }
-    match equation_at(alloc, system, attr, node, args) {
+    match equation_at(alloc, setting, attr, node, args) {
         None => false,
         Some(site) => {
-            let rules = system.rules();
+            let rules = setting.system.rules();
             rises(rules, rules.body(site.equation))
         }
     }
 }
 
 /// Whether an instance is circular. In a program that was checked it is where its attribute is declared so.
-pub(crate) fn is_circular(alloc: Global, system: &System, name: &Instance) -> bool
-    requires alone { HasSourcesAlone (program_of system.now) }
-    ensures { result ≡ (equations_of (program_of system.now)).circular (instance_of (program_of system.now) name.now) }
+pub(crate) fn is_circular(alloc: Global, setting: &Setting<'_>, name: &Instance) -> bool
+    requires { IsSetting setting.now }
+    ensures { result ≡ (equations_of (program_at setting.now)).circular (instance_at setting.now name.now) }
 {
     match name {
         Instance::Query(_) => false,
         Instance::Attr { attr, node, args } => {
-            system.rules().attributes().is_circular(*attr)
-                && is_ordered(kind_of(system, name))
-                && equation_rises(alloc, system, *attr, *node, *args)
+            setting.system.rules().attributes().is_circular(*attr)
+                && is_ordered(kind_of(setting.system, name))
+                && equation_rises(alloc, setting, *attr, *node, *args)
         }
     }
 }
 
 /// Where the rounds of an instance start, if it is circular.
-pub(crate) fn start_of(alloc: Global, system: &System, name: &Instance) -> Option<NamedValue>
-    requires alone { HasSourcesAlone (program_of system.now) }
-    ensures value { known (program_of system.now) result ≡ start_of (program_of system.now) (instance_of (program_of system.now) name.now) }
-    ensures elements { IsHeld (program_of system.now) result }
+pub(crate) fn start_of(alloc: Global, setting: &Setting<'_>, name: &Instance) -> Option<NamedValue>
+    requires { IsSetting setting.now }
+    ensures value { known (program_at setting.now) (naming_at setting.now) result ≡ start_of (program_at setting.now) (instance_at setting.now name.now) }
+    ensures held { IsHeld (program_at setting.now) result }
 {
-    if is_circular(alloc, system, name) {
-        let value = Value::default_of(alloc, kind_of(system, name));
-        Some(NamedValue { value })
+    if is_circular(alloc, setting, name) {
+        let value = Value::default_of(alloc, kind_of(setting.system, name));
+        Some(NamedValue { value, image: None })
     } else {
         None
     }

@@ -1,7 +1,7 @@
 // Lists of instances.
 ghost use Rattle.std.specs.Prelude.{◌≡◌, ◌↔◌, ◌<◌, ◌^◌, ◌++◌, ◌∷◌, [], All, IfOk, OnErr, OnOk, length, true};
 
-use crate::coding::name_code;
+use crate::checking::is_instance;
 use crate::growing::push;
 use crate::listing::{push_attributes, push_queries};
 use crate::naming::{Name, NamedInstance};
@@ -17,7 +17,7 @@ pub struct NameList {
 }
 
 impl NameList {
-    ghost use Rattle.equation_law.specs.Checked.{IsInstance};
+    ghost use Rattle.equation_law.specs.Checked.{IsInstance, IsProgram};
     ghost use Rattle.equation_law.specs.Program.{Program, source_instances, text_of};
     ghost use Rattle.equation_law.specs.Systems.{program_of};
     ghost use Rattle.plain_rounds.specs.Named.{instance_named, instances_in};
@@ -29,7 +29,7 @@ impl NameList {
         ensures instances { IfOk result (λ names. All (IsInstance (program_of system.now)) (instances_in (program_of system.now) names)) }
     {
         let mut names = Vec::new(alloc);
-        push_attributes(alloc, &mut names, system)?;
+        push_attributes(&mut names, system)?;
         push_queries(&mut names, system)?;
         Ok(NameList { names })
     }
@@ -56,10 +56,11 @@ impl NameList {
     /// Whether all are instances of a system: an attribute that is declared, at a node of its class or of a subclass, with arguments of the
     /// parameters' types, or a query that the system has.
     pub fn are_of(&self, system: &System) -> bool
+        requires { IsProgram (program_of system.now) }
         ensures { (result ≡ true) ↔ All (IsInstance (program_of system.now)) (instances_in (program_of system.now) self.now) }
     {
         for name in &self.names {
-            if name_code(system, name).is_none() {
+            if !is_instance(system, name) {
                 return false;
             }
         }

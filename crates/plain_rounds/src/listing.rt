@@ -10,13 +10,11 @@ ghost use Rattle.plain_rounds.specs.Listing.{AddsInstances, all_plain_instances,
 ghost use Rattle.plain_rounds.specs.Named.{name_in};
 
 use crate::growing::push;
-use crate::naming::{Name, NamedArgs, NamedInstance};
-use crate::values::NodeName;
+use crate::naming::{Name, NamedArgs, NamedInstance, NodeName};
 use ast_grammar::{ClassId, Grammar};
 use attr_rules::{Attr, AttrId};
 use equation_law::{QueryId, System};
 use rag_io::Memory;
-use std::alloc::Global;
 use tree_arena::Tree;
 
 /// Whether a node is of a class or of a subclass.
@@ -28,19 +26,18 @@ pub(crate) fn is_of(grammar: &Grammar, tree: &Tree, node: u32, class: ClassId) -
 }
 
 /// The instance of an attribute at a source node, without arguments.
-fn at_node(alloc: Global, attr: AttrId, node: u32) -> Name
+fn at_node(attr: AttrId, node: u32) -> Name
     ensures { (texts : ℕ → List ℕ) → name_in texts result ≡ at_source attr.0 node }
 {
     Name::Attribute(NamedInstance {
         attr,
         node: NodeName::Source(node),
-        args: NamedArgs::of(Vec::new(alloc)),
+        args: NamedArgs::None,
     })
 }
 
 /// The instances of an attribute, at the nodes of its class and of subclasses.
 fn push_nodes(
-    alloc: Global,
     names: &mut Vec<Name>,
     grammar: &Grammar,
     tree: &Tree,
@@ -52,7 +49,7 @@ fn push_nodes(
 {
     for node in 0..tree.len() {
         if is_of(grammar, tree, node, class) {
-            push(names, at_node(alloc, attr, node))?;
+            push(names, at_node(attr, node))?;
         }
     }
     Ok(())
@@ -60,7 +57,6 @@ fn push_nodes(
 
 /// The instances of an attribute without parameters; of one with parameters there are none.
 fn push_plain(
-    alloc: Global,
     names: &mut Vec<Name>,
     system: &System,
     attr: AttrId,
@@ -72,29 +68,18 @@ fn push_plain(
     if declared.params.count > 0 {
         return Ok(());
     }
-    push_nodes(
-        alloc,
-        names,
-        system.grammar(),
-        system.tree(),
-        attr,
-        declared.class,
-    )
+    push_nodes(names, system.grammar(), system.tree(), attr, declared.class)
 }
 
 /// The instances of all attributes without parameters.
-pub(crate) fn push_attributes(
-    alloc: Global,
-    names: &mut Vec<Name>,
-    system: &System,
-) -> Result<(), Memory>
+pub(crate) fn push_attributes(names: &mut Vec<Name>, system: &System) -> Result<(), Memory>
     ensures names { OnOk result (AddsInstances names.old.items names.new.items (all_plain_instances (program_of system.now))) }
     ensures few { length names.new.items ≤ length names.old.items + most_attributes * most_nodes }
 {
     let rules = system.rules();
     for number in 0..rules.attrs() {
         let attr = AttrId(number as u16);
-        push_plain(alloc, names, system, attr, rules.attr(attr))?;
+        push_plain(names, system, attr, rules.attr(attr))?;
     }
     Ok(())
 }

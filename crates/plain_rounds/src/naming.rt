@@ -1,13 +1,22 @@
-// Instances by structural names.
+// Instances and nodes by structural names.
 ghost use Rattle.std.specs.Prelude.{◌≡◌, ◌≤◌, length};
+ghost use Rattle.plain_rounds.specs.Named.{arguments_in};
 
-use crate::values::NodeName;
 use attr_rules::{AttrId, TextId};
 use equation_law::QueryId;
-use std::marker::Model;
+
+/// The name of a node: null, the source node of this number, or the node at this position of the tree that an instance of an attribute makes.
+#[cycle(names)]
+#[derive(Debug, Drop, PartialEq, Eq)]
+pub enum NodeName {
+    Null,
+    Source(u32),
+    Made(Box<NamedInstance>, u32),
+}
 
 /// An argument of a call: a truth value, an integer, a text by its number in the pool, or a node by its name.
-#[derive(Clone, Copy, Debug, PartialEq, Eq)]
+#[cycle(names)]
+#[derive(Debug, Drop, PartialEq, Eq)]
 pub enum NamedArg {
     Truth(bool),
     Int(i32),
@@ -15,42 +24,38 @@ pub enum NamedArg {
     Node(NodeName),
 }
 
-/// The arguments of an instance, from the left.
-#[derive(Drop)]
-pub struct NamedArgs {
-    arguments: Vec<NamedArg>,
-}
-
-impl Model for NamedArgs {
-    ghost use Rattle.std.specs.Prelude.{◌≤◌, List, length};
-    ghost use Rattle.plain_rounds.specs.declared.naming.NamedArg.{NamedArg};
-
-    ghost Value = { List NamedArg };
-
-    ghost view = { λ args. args.arguments.items };
-
-    ghost invariant = { λ args. length args.arguments.items ≤ 3 };
+/// The arguments of an instance, from the left, at most three.
+#[cycle(names)]
+#[derive(Debug, Drop, PartialEq, Eq)]
+pub enum NamedArgs {
+    None,
+    One(NamedArg),
+    Two(NamedArg, NamedArg),
+    Three(NamedArg, NamedArg, NamedArg),
 }
 
 impl NamedArgs {
-    /// The arguments of a list, at most three.
+    /// The arguments of a list, at most three. It takes no memory.
     pub fn of(list: Vec<NamedArg>) -> NamedArgs
         requires { length list.items ≤ 3 }
-        ensures { result ≡ list.items }
+        ensures { arguments_in result ≡ list.items }
     {
-        NamedArgs { arguments: list }
-    }
-
-    /// The arguments.
-    pub fn list(&self) -> &[NamedArg]
-        ensures { result.now ≡ self.now }
-    {
-        self.arguments.as_slice()
+        let mut list = list;
+        let third = list.pop();
+        let second = list.pop();
+        let first = list.pop();
+        match (first, second, third) {
+            (Some(x), Some(y), Some(z)) => NamedArgs::Three(x, y, z),
+            (_, Some(x), Some(y)) => NamedArgs::Two(x, y),
+            (_, _, Some(x)) => NamedArgs::One(x),
+            _ => NamedArgs::None,
+        }
     }
 }
 
 /// An instance of an attribute at a node, with arguments.
-#[derive(Drop)]
+#[cycle(names)]
+#[derive(Debug, Drop, PartialEq, Eq)]
 pub struct NamedInstance {
     pub attr: AttrId,
     pub node: NodeName,

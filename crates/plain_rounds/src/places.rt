@@ -2,13 +2,12 @@
 ghost use Rattle.std.specs.Prelude.{◌≡◌, All, Some, None, IfOk, IfSome, cond};
 ghost use Rattle.solutions.specs.Rounds.{or_else};
 ghost use Rattle.equation_law.specs.declared.coding.Instance.{Instance as CodedInstance};
-ghost use Rattle.equation_law.specs.Codes.{AreElements};
 ghost use Rattle.equation_law.specs.Program.{Program};
 ghost use Rattle.plain_rounds.specs.Places.{IsHeld, IsRead, first_place, found, kept_place, same_code};
 ghost use Rattle.plain_rounds.specs.Places as specs;
 
 use crate::values::NamedValue;
-use equation_law::{Instance, Value};
+use equation_law::Instance;
 use rag_io::Memory;
 use std::alloc::Global;
 use std::collections::HashMap;
@@ -37,18 +36,27 @@ fn keep_first(
 }
 
 /// The value at a place, if there are such a place and a value.
-fn value_on(values: &[Option<NamedValue>], place: usize) -> Option<&Value>
-    ensures value { IsRead result (λ texts. specs.value_on texts values.now place) }
-    ensures elements { (p : Program) → All (IsHeld p) values.now → IfSome result (λ value. AreElements p value.now) }
+fn value_on(values: &[Option<NamedValue>], place: usize) -> Option<&NamedValue>
+    ensures value { IsRead result (λ p n. specs.value_on p n values.now place) }
+    ensures held { (p : Program) → All (IsHeld p) values.now → IfSome result (λ value. IsHeld p (Some value.now)) }
 {
     match values.get(place) {
-        Some(Some(held)) => Some(&held.value),
+        Some(Some(held)) => Some(held),
         Some(None) => None,
         None => None,
     }
 }
 
 impl Places {
+    /// Those of no names. It takes no memory.
+    pub(crate) fn none(alloc: Global) -> Places
+        ensures { (q : CodedInstance) → kept_place result.map q ≡ None }
+    {
+        Places {
+            map: HashMap::new(alloc),
+        }
+    }
+
     /// The places in these names.
     pub(crate) fn of_names(alloc: Global, names: &[Instance]) -> Result<Places, Memory>
         ensures { IfOk result (λ p. (q : CodedInstance) → kept_place p.map q ≡ first_place names.now q) }
@@ -65,9 +73,9 @@ impl Places {
         &self,
         values: &'a [Option<NamedValue>],
         name: Instance,
-    ) -> Option<&'a Value>
-        ensures value { IsRead result (λ texts. found texts self.now.map values.now name) }
-        ensures elements { (p : Program) → All (IsHeld p) values.now → IfSome result (λ value. AreElements p value.now) }
+    ) -> Option<&'a NamedValue>
+        ensures value { IsRead result (λ p n. found p n self.now.map values.now name) }
+        ensures held { (p : Program) → All (IsHeld p) values.now → IfSome result (λ value. IsHeld p (Some value.now)) }
     {
         let place = self.map.get(&name)?;
         value_on(values, *place)

@@ -1,10 +1,12 @@
 // The rounds of the model over a list of instances.
-ghost use Rattle.std.specs.Prelude.{◌≡◌, ◌<◌, All, ℕ, List, IfOk, MatchOption, Some, None, count_by, is_none, length, replicate};
-ghost use Rattle.equation_law.specs.Checked.{HasSourcesAlone, IsInstance};
-ghost use Rattle.equation_law.specs.Systems.{program_of};
-ghost use Rattle.plain_rounds.specs.Named.{instances_in, value_in, value_at, Solves};
-ghost use Rattle.plain_rounds.specs.Places.{ArePlaced, IsHeld};
+ghost use Rattle.std.specs.Prelude.{◌≡◌, ◌<◌, All, IfOk, MatchOption, Some, None, count_by, is_none, length, replicate};
+ghost use Rattle.equation_law.specs.Checked.{IsInstance, IsProgram};
+ghost use Rattle.equation_law.specs.Codes.{Naming};
 ghost use Rattle.equation_law.specs.Program.{Program};
+ghost use Rattle.equation_law.specs.Systems.{program_of};
+ghost use Rattle.plain_rounds.specs.Named.{HasAt, HasNoneAt, Solves, instances_in};
+ghost use Rattle.plain_rounds.specs.Places.{IsHeld};
+ghost use Rattle.plain_rounds.specs.Settings.{AreHeld, AreLast, AreReady, IsSetting, naming_at, program_at};
 ghost use Rattle.plain_rounds.specs.Steps.{IsAfter, IsNext, IsStepAt, known};
 
 use crate::circular::is_circular;
@@ -13,9 +15,11 @@ use crate::growing::push;
 use crate::inner::inner_rounds;
 use crate::instances::NameList;
 use crate::places::Places;
+use crate::setting::Setting;
 use crate::standing::equation_value;
 use crate::values::NamedValue;
-use equation_law::{Instance, System};
+use equation_law::System;
+use made_trees::Makers;
 use rag_io::Memory;
 use std::alloc::Global;
 
@@ -23,13 +27,14 @@ use std::alloc::Global;
 #[derive(Drop)]
 pub struct Table {
     values: Vec<Option<NamedValue>>,
+    makers: Makers,
 }
 
 impl Table {
     /// The value of the k-th name, or None exactly where the rounds give that name no value or the list has no
     /// such name.
     pub fn value(&self, k: u32) -> Option<&NamedValue>
-        ensures { (texts : ℕ → List ℕ) → MatchOption result (value_at texts self.now k ≡ None) (λ v. value_at texts self.now k ≡ Some (value_in texts v.now)) }
+        ensures { (p : Program) → MatchOption result (HasNoneAt p self.now k) (λ v. HasAt p self.now k v.now) }
     {
         match self.values.get(k as usize) {
             Some(Some(value)) => Some(value),
@@ -40,8 +45,8 @@ impl Table {
 
 /// A value that may stand once more.
 fn copied(held: &Option<NamedValue>) -> Result<Option<NamedValue>, Memory>
-    ensures same { IfOk result (λ copied. (p : Program) → known p copied ≡ known p held.now) }
-    ensures elements { IfOk result (λ copied. (p : Program) → IsHeld p held.now → IsHeld p copied) }
+    ensures same { IfOk result (λ copied. (p : Program) (n : Naming) → known p n copied ≡ known p n held.now) }
+    ensures held { IfOk result (λ copied. (p : Program) → IsHeld p held.now → IsHeld p copied) }
 {
     match held {
         Some(held) => Ok(Some(held.copy()?)),
@@ -53,48 +58,42 @@ fn copied(held: &Option<NamedValue>) -> Result<Option<NamedValue>, Memory>
 /// equation.
 fn stepped(
     alloc: Global,
-    system: &System,
-    names: &[Instance],
-    places: &Places,
+    setting: &Setting<'_>,
     settled: &[Option<NamedValue>],
     inner: &[Option<NamedValue>],
     k: usize,
 ) -> Result<Option<NamedValue>, Memory>
-    requires placed { ArePlaced (program_of system.now) names.now places.now.map settled.now }
-    requires long { length inner.now ≡ length names.now }
-    requires held { All (IsHeld (program_of system.now)) inner.now }
-    requires within { k < length names.now }
-    requires alone { HasSourcesAlone (program_of system.now) }
-    ensures step { IfOk result (λ next. IsStepAt (program_of system.now) names.now settled.now inner.now k next) }
-    ensures elements { IfOk result (IsHeld (program_of system.now)) }
+    requires ready { AreReady setting.now settled.now }
+    requires inner { AreHeld setting.now inner.now }
+    requires within { k < length setting.now.names.now }
+    ensures step { let s = setting.now in IfOk result (λ next. IsStepAt (program_at s) (naming_at s) s.names.now settled.now inner.now k next) }
+    ensures held { IfOk result (IsHeld (program_at setting.now)) }
 {
-    if is_circular(alloc, system, &names[k]) {
+    if is_circular(alloc, setting, &setting.names[k]) {
         return copied(&inner[k]);
     }
     match &settled[k] {
         Some(held) => Ok(Some(held.copy()?)),
-        None => equation_value(alloc, system, names, places, settled, names[k]),
+        None => equation_value(alloc, setting, settled, k),
     }
 }
 
 /// One round over all names.
 fn round(
     alloc: Global,
-    system: &System,
-    names: &[Instance],
-    places: &Places,
+    setting: &Setting<'_>,
     settled: &[Option<NamedValue>],
 ) -> Result<Vec<Option<NamedValue>>, Memory>
-    requires placed { ArePlaced (program_of system.now) names.now places.now.map settled.now }
-    requires after { IsAfter (program_of system.now) names.now settled.now }
-    requires alone { HasSourcesAlone (program_of system.now) }
-    ensures after { IfOk result (λ next. IsNext (program_of system.now) names.now settled.now next.items) }
-    ensures elements { IfOk result (λ next. All (IsHeld (program_of system.now)) next.items) }
+    requires set { IsSetting setting.now }
+    requires settled { AreHeld setting.now settled.now }
+    requires after { IsAfter (program_at setting.now) (naming_at setting.now) setting.now.names.now settled.now }
+    ensures after { let s = setting.now in IfOk result (λ next. IsNext (program_at s) (naming_at s) s.names.now settled.now next.items) }
+    ensures held { IfOk result (λ next. AreHeld setting.now next.items) }
 {
-    let inner = inner_rounds(alloc, system, names, places, settled)?;
-    let mut next = Vec::with_capacity(alloc, names.len()).map_err(|_| Memory)?;
-    for k in 0..names.len() {
-        let value = stepped(alloc, system, names, places, settled, &inner, k)?;
+    let inner = inner_rounds(alloc, setting, settled)?;
+    let mut next = Vec::with_capacity(alloc, setting.names.len()).map_err(|_| Memory)?;
+    for k in 0..setting.names.len() {
+        let value = stepped(alloc, setting, settled, &inner, k)?;
         push(&mut next, value)?;
     }
     Ok(next)
@@ -124,31 +123,44 @@ fn nothing(alloc: Global, count: usize) -> Result<Vec<Option<NamedValue>>, Memor
     Ok(values)
 }
 
+/// The values that the rounds leave, which run until nothing is added.
+fn last_values(alloc: Global, setting: &Setting<'_>) -> Result<Vec<Option<NamedValue>>, Memory>
+    requires { IsSetting setting.now }
+    ensures { IfOk result (λ values. AreLast setting.now values.items) }
+{
+    let mut values = nothing(alloc, setting.names.len())?;
+    let mut left = missing(&values);
+    loop {
+        let next = round(alloc, setting, &values)?;
+        let now = missing(&next);
+        if now >= left {
+            return Ok(values);
+        }
+        values = next;
+        left = now;
+    }
+}
+
 /// Runs the rounds over instances of a system until nothing is added: each round gives each undeclared instance that
 /// has no value yet the value of its equation, where that isn't stuck under the values of the round before, and each
 /// circular one the value that the inner rounds leave it. It is the slow definition in executable form: a round, inner
 /// or outer, takes time linear in the list and the expressions. There are at most as many outer rounds as there are
 /// instances, and one more, and at most as many inner rounds in one of these as the values of the circular instances
 /// can rise, and these instances can be dropped, and one more.
-///
-/// It takes programs that make no trees as yet: the nodes are those of the source tree alone.
 pub fn plain_rounds(alloc: Global, system: &System, names: &NameList) -> Result<Table, Memory>
+    requires program { IsProgram (program_of system.now) }
     requires instances { All (IsInstance (program_of system.now)) (instances_in (program_of system.now) names.now) }
-    requires alone { HasSourcesAlone (program_of system.now) }
     ensures { IfOk result (λ table. Solves (program_of system.now) (instances_in (program_of system.now) names.now) table) }
 {
-    let codes = codes_of(alloc, system, names.list())?;
-    let instances = codes.as_slice();
-    let places = Places::of_names(alloc, instances)?;
-    let mut values = nothing(alloc, instances.len())?;
-    let mut left = missing(&values);
-    loop {
-        let next = round(alloc, system, instances, &places, &values)?;
-        let now = missing(&next);
-        if now >= left {
-            return Ok(Table { values });
-        }
-        values = next;
-        left = now;
-    }
+    let mut makers = Makers::new(alloc, system);
+    let codes = codes_of(alloc, system, names.list(), &mut makers)?;
+    let places = Places::of_names(alloc, &codes)?;
+    let setting = Setting {
+        system,
+        makers: &makers,
+        names: &codes,
+        places: &places,
+    };
+    let values = last_values(alloc, &setting)?;
+    Ok(Table { values, makers })
 }

@@ -1,89 +1,98 @@
-// Values by structural names of nodes.
-ghost use Rattle.std.specs.Prelude.{◌≡◌, ℕ, List, MatchOption};
-ghost use Rattle.equation_law.specs.Codes.{reference_of};
-ghost use Rattle.equation_law.specs.Values.{Truth, Int, Text, Node};
-ghost use Rattle.plain_rounds.specs.Named.{value_in, reference_named, IsNoTruth, IsNoInt, IsNoText, IsNoNode};
+// Values by what codes stand for.
+ghost use Rattle.std.specs.Prelude.{◌≡◌, IfOk, MatchOption};
+ghost use Rattle.equation_law.specs.Codes.{Naming};
+ghost use Rattle.equation_law.specs.Program.{Program};
+ghost use Rattle.equation_law.specs.Values.{Truth, Int, Text, node};
+ghost use Rattle.plain_rounds.specs.Named.{IsReadAs, value_in, IsNoTruth, IsNoInt, IsNoText};
 
-use attr_rules::TextId;
-use equation_law::{NodeRef, Value};
+use attr_rules::{Kind, TextId};
+use equation_law::{Code, NodeRef, TreeImage, Value};
 use rag_io::Memory;
+use std::alloc::Global;
 
-/// The name of a node: null, or the source node of this number.
-#[derive(Clone, Copy, Debug, PartialEq, Eq)]
-pub enum NodeName {
-    Null,
-    Source(u32),
-}
-
-impl NodeName {
-    /// The name of a node.
-    fn of_node(node: NodeRef) -> NodeName
-        ensures { reference_named result ≡ reference_of node.0 }
-    {
-        match node.source() {
-            None => NodeName::Null,
-            Some(number) => NodeName::Source(number),
-        }
-    }
-}
-
-/// A value with structural names of nodes.
+/// A value. Where a tree is made it is the node at its root, and the tree stands beside it.
 #[derive(Drop)]
 pub struct NamedValue {
     pub(crate) value: Value,
+    pub(crate) image: Option<TreeImage>,
+}
+
+/// The same tree once more.
+fn image_copy(image: &Option<TreeImage>) -> Result<Option<TreeImage>, Memory>
+    ensures { IfOk result (λ copied. copied ≡ image.now) }
+{
+    match image {
+        None => Ok(None),
+        Some(image) => Ok(Some(TreeImage {
+            equation: image.equation,
+            tokens: image.tokens.copy()?,
+        })),
+    }
 }
 
 impl NamedValue {
-    ghost use Rattle.std.specs.Prelude.{IfOk};
     ghost use Rattle.equation_law.specs.Codes.{AreElements};
-    ghost use Rattle.equation_law.specs.Program.{Program};
+    ghost use Rattle.plain_rounds.specs.Places.{IsHeld};
+    ghost use Rattle.std.specs.Prelude.{Some, [], slice_get};
+    ghost use Rattle.std.specs.Option.{option_and_then};
+    ghost use Rattle.equation_law.specs.declared.coding.TreeImage.{TreeImage as Image};
 
     /// The truth value, or None exactly where the value is of another kind.
     pub fn truth(&self) -> Option<bool>
-        ensures { (texts : ℕ → List ℕ) → MatchOption result (IsNoTruth (value_in texts self.now)) (λ b. value_in texts self.now ≡ Truth b) }
+        ensures { (p : Program) (n : Naming) → MatchOption result (IsNoTruth (value_in p n self.now)) (λ b. value_in p n self.now ≡ Truth b) }
     {
-        match &self.value {
-            Value::Truth(b) => Some(*b),
+        match (&self.value, &self.image) {
+            (Value::Truth(b), None) => Some(*b),
             _ => None,
         }
     }
 
     /// The integer, or None exactly where the value is of another kind.
     pub fn int(&self) -> Option<i32>
-        ensures { (texts : ℕ → List ℕ) → MatchOption result (IsNoInt (value_in texts self.now)) (λ z. value_in texts self.now ≡ Int z) }
+        ensures { (p : Program) (n : Naming) → MatchOption result (IsNoInt (value_in p n self.now)) (λ z. value_in p n self.now ≡ Int z) }
     {
-        match &self.value {
-            Value::Int(z) => Some(*z),
+        match (&self.value, &self.image) {
+            (Value::Int(z), None) => Some(*z),
             _ => None,
         }
     }
 
     /// The number of the text in the pool, or None exactly where the value is of another kind.
     pub fn text(&self) -> Option<TextId>
-        ensures { (texts : ℕ → List ℕ) → MatchOption result (IsNoText (value_in texts self.now)) (λ n. value_in texts self.now ≡ Text (texts n.0)) }
+        ensures { (p : Program) (n : Naming) → MatchOption result (IsNoText (value_in p n self.now)) (λ t. value_in p n self.now ≡ Text (n.text t.0)) }
     {
-        match &self.value {
-            Value::Text(number) => Some(*number),
+        match (&self.value, &self.image) {
+            (Value::Text(number), None) => Some(*number),
             _ => None,
         }
     }
 
-    /// The name of the node, or None exactly where the value is of another kind.
-    pub fn node(&self) -> Option<NodeName>
-        ensures { (texts : ℕ → List ℕ) → MatchOption result (IsNoNode (value_in texts self.now)) (λ n. value_in texts self.now ≡ Node (reference_named n)) }
+    /// The code of a token of the tree, by its place among all of the tree.
+    pub(crate) fn token(&self, place: u32) -> Option<Code>
+        ensures { result ≡ option_and_then (λ (t : Image). slice_get t.tokens place) self.now.image }
     {
-        match &self.value {
-            Value::Node(node) => Some(NodeName::of_node(*node)),
-            _ => None,
+        match &self.image {
+            Some(image) => image.tokens.get(place),
+            None => None,
         }
     }
 
     /// The same value once more.
     pub(crate) fn copy(&self) -> Result<NamedValue, Memory>
-        ensures same { IfOk result (λ copied. (texts : ℕ → List ℕ) → value_in texts copied ≡ value_in texts self.now) }
-        ensures elements { IfOk result (λ copied. (p : Program) → AreElements p self.now.value → AreElements p copied.value) }
+        ensures same { IfOk result (λ copied. (p : Program) (n : Naming) → value_in p n copied ≡ value_in p n self.now) }
+        ensures held { IfOk result (λ copied. (p : Program) → IsHeld p (Some self.now) → IsHeld p (Some copied)) }
     {
         let value = self.value.copy()?;
-        Ok(NamedValue { value })
+        let image = image_copy(&self.image)?;
+        Ok(NamedValue { value, image })
+    }
+
+    /// The value read at a type: a value of another type reads as the type's default, and a tree as its root.
+    pub(crate) fn read_as(&self, alloc: Global, kind: Kind) -> Result<Value, Memory>
+        ensures value { IfOk result (λ read. (p : Program) (n : Naming) → IsHeld p (Some self.now) → n.text 0 ≡ [] → IsReadAs p n kind self.now read) }
+        ensures elements { IfOk result (λ read. (p : Program) → IsHeld p (Some self.now) → AreElements p read) }
+    {
+        let value = self.value.copy()?;
+        Ok(value.read_as(alloc, kind))
     }
 }

@@ -1,46 +1,47 @@
--- The first table, a further round, and the end.
-use Rattle.std.proofs.Common.{◌≡◌, All, None, length, sym, subst, ap, ◌∙◌, count_by, is_none, map, List, Option, ◌≤◌}
-use Rattle.std.proofs.lemmas.List.Elements.{All-replicate}
-use Rattle.equation_law.specs.Program.{text_of}
+-- The setting, and the end.
+use Rattle.std.proofs.Common.{◌≡◌, ℕ, All, List, Some, map, slice_get, sym, subst, ap, ◌∙◌}
+use Rattle.solutions.specs.Rounds.{RoundsEnd}
+use Rattle.equation_law.specs.declared.coding.Instance.{Instance as CodedInstance}
+use Rattle.equation_law.specs.Checked.{IsInstance}
+use Rattle.equation_law.specs.Codes.{IsCoded, instance_by}
+use Rattle.equation_law.specs.Equations.{equations_of}
 use Rattle.equation_law.specs.Names.{Instance}
-use Rattle.plain_rounds.specs.declared.naming.Name.{Name}
-use Rattle.plain_rounds.specs.declared.values.NamedValue.{NamedValue}
-use Rattle.equation_law.specs.Codes.{instance_of}
-use Rattle.plain_rounds.specs.Named.{Solves, name_in}
-use Rattle.plain_rounds.specs.Places.{IsHeld}
-use Rattle.plain_rounds.specs.Steps.{IsAfter, IsNext}
 use Rattle.equation_law.specs.Systems.{program_of}
-use Rattle.plain_rounds.proofs.Solving.{after_none, after_round, each_stands, ended_at}
+use Rattle.made_trees.specs.Made.{naming_by_makers}
+use Rattle.plain_rounds.specs.declared.rounds.Table.{Table}
+use Rattle.plain_rounds.specs.Named.{assigned, instances_in, instances_named, value_at, values_in}
+use Rattle.plain_rounds.specs.Places.{first_place}
+use Rattle.plain_rounds.specs.Trees.{HaveNumbers}
+use Rattle.plain_rounds.proofs.Coded.{no_makers}
 use Rattle.plain_rounds.proofs.rounds.plain_rounds.Goals as goal
 
-pub loop-values-init : goal.loop-values-init
-loop-values-init c = record {
-  after = subst (IsAfter (program_of c.args.system.now) c.as_slice-instances.result.now) (sym c.in_ok-values.ensures) (after_none (program_of c.args.system.now) c.as_slice-instances.result.now);
-  held = subst (All (IsHeld (program_of c.args.system.now))) (sym c.in_ok-values.ensures) (All-replicate (IsHeld (program_of c.args.system.now)) (length c.as_slice-instances.result.now) None tt);
-  gaps = c.missing-left.ensures ∙ ap (λ (xs : List (Option NamedValue)). count_by is_none xs) c.deref.ensures.value;
-}
+pub codes_of-requires-clause-trees : goal.codes_of-requires-clause-trees
+codes_of-requires-clause-trees c = no_makers c.args.system.now c.new-makers.result c.new-makers.ensures.same c.new-makers.ensures.none c.requires.program
 
-pub loop-values-preserved : goal.loop-values-preserved
-loop-values-preserved c =
+pub last_values-requires : goal.last_values-requires
+last_values-requires c =
     let p = program_of c.args.system.now in
-    let names = c.as_slice-instances.result.now in
-    let r = subst (λ xs. IsNext p names xs c.in_ok-next.next.items) c.deref-in-loop-values.ensures.value c.in_ok-next.ensures.after in
+    let ms = c.codes_of.new.makers.makers in
+    let n = naming_by_makers p ms in
+    let codes = c.in_ok-codes.ensures.codes in
+    let back = sym c.deref-2.ensures.value in
     record {
-      after = after_round p names c.loop-values.values.items c.loop-values.invariant.after c.in_ok-next.next.items r;
-      held = c.in_ok-next.ensures.elements;
-      gaps = c.missing-now.ensures ∙ ap (λ (xs : List (Option NamedValue)). count_by is_none xs) c.deref-in-loop-values-2.ensures.value;
+      trees = c.in_ok-codes.ensures.trees;
+      good = c.requires.program;
+      coded = subst (All (IsCoded p)) back codes.coded;
+      instances = subst (λ (is : List CodedInstance). All (IsInstance p) (map (instance_by p n) is)) back (subst (All (IsInstance p)) (sym (codes.instances ∙ ap (instances_named p) c.list.ensures)) c.requires.instances);
+      numbers = subst (HaveNumbers p n ms) back codes.numbers;
+      places = λ q. c.in_ok-places.ensures q ∙ ap (λ (is : List CodedInstance). first_place is q) (c.deref.ensures.value ∙ back);
     }
 
-pub returns-then-now-left : goal.returns-then-now-left
-returns-then-now-left c =
+pub returns : goal.returns
+returns c =
     let p = program_of c.args.system.now in
-    let names = c.as_slice-instances.result.now in
-    let r = subst (λ xs. IsNext p names xs c.in_ok-next.next.items) c.deref-in-loop-values.ensures.value c.in_ok-next.ensures.after in
-    let now : c.missing-now.result ≡ count_by is_none c.in_ok-next.next.items = c.missing-now.ensures ∙ ap (λ (xs : List (Option NamedValue)). count_by is_none xs) c.deref-in-loop-values-2.ensures.value in
-    let full = subst (λ x. x ≤ count_by is_none c.in_ok-next.next.items) c.loop-values.invariant.gaps (subst (λ x. c.loop-values.left ≤ x) now c.if-now-left.true) in
-    let listed = ap (map (instance_of p)) c.as_slice-instances.ensures.value ∙ c.in_ok-codes.ensures.instances ∙ ap (λ (xs : List Name). map (name_in (text_of p)) xs) c.list.ensures in
-    subst (λ (is : List Instance). Solves p is (record { values = c.loop-values.values })) listed
-    (record {
-      end = ended_at p names c.loop-values.values.items c.in_ok-next.next.items c.loop-values.invariant.after r full;
-      each = each_stands p names c.loop-values.values.items c.loop-values.invariant.after;
-    })
+    let n = naming_by_makers p c.codes_of.new.makers.makers in
+    let t : Table = record { values = c.in_ok-values.values; makers = c.codes_of.new.makers } in
+    let listed : map (instance_by p n) c.deref-2.result.now ≡ instances_in p c.args.names.now = ap (map (instance_by p n)) c.deref-2.ensures.value ∙ c.in_ok-codes.ensures.codes.instances ∙ ap (instances_named p) c.list.ensures in
+    record {
+      program = ap program_of c.in_ok-codes.ensures.same;
+      end = subst (λ (is : List Instance). RoundsEnd (equations_of p) is (assigned is (values_in p t))) listed c.in_ok-values.ensures.end;
+      each = subst (λ (is : List Instance). (k : ℕ) (i : Instance) → slice_get is k ≡ Some i → value_at p t k ≡ assigned is (values_in p t) i) listed c.in_ok-values.ensures.each;
+    }

@@ -1,14 +1,13 @@
 -- The table is that of some rounds; each turn fills a gap.
-use Rattle.std.proofs.Common.{◌≡◌, All, count_by, is_none}
-use Rattle.plain_rounds.specs.Places.{IsHeld}
+use Rattle.std.proofs.Common.{◌≡◌, count_by, is_none}
+use Rattle.plain_rounds.specs.Settings.{AreHeld, naming_at, program_at}
 use Rattle.plain_rounds.specs.Steps.{IsAfter}
-use Rattle.equation_law.specs.Systems.{program_of}
-use Rattle.plain_rounds.proofs.rounds.plain_rounds.Given as goal
+use Rattle.plain_rounds.proofs.rounds.last_values.Given as goal
 
 abbrev pub invariant-loop-values : goal.invariant-loop-values
 invariant-loop-values l = record {
-  after : IsAfter (program_of l.system) l.instances l.values.items;
-  held : All (IsHeld (program_of l.system)) l.values.items;
+  after : IsAfter (program_at l.setting) (naming_at l.setting) l.setting.names.now l.values.items;
+  are : AreHeld l.setting l.values.items;
   gaps : l.left ≡ count_by is_none l.values.items;
 }
 
