@@ -1,21 +1,15 @@
--- An instance without arguments, by its name and by its codes.
-use Rattle.std.proofs.Common.{◌≡◌, ℕ, List, [], ◌∷◌, map, refl, sym, subst}
+-- An instance without arguments, by its codes.
+use Rattle.std.proofs.Common.{◌≡◌, ℕ, List, [], ◌∷◌, refl, sym, subst}
 use Rattle.attr_rules.specs.declared.kinds.Kind.{Kind}
 use Rattle.equation_law.specs.Checked.{IsInstance}
 use Rattle.equation_law.specs.Codes.{arguments_at}
 use Rattle.equation_law.specs.Names.{Argument, At, Attribute, Reference, Source}
 use Rattle.equation_law.specs.Program.{Program, text_of}
-use Rattle.plain_rounds.specs.declared.naming.NamedArg.{NamedArg}
-use Rattle.plain_rounds.specs.Named.{argument_named}
 
 -- no codes stand for no arguments
 no_arguments : (texts : ℕ → List ℕ) (ks : List Kind) → arguments_at texts ks [] ≡ []
 no_arguments texts [] = refl
 no_arguments texts (k ∷ ks) = refl
-
--- what is named without arguments
-pub bare : (p : Program) (a n : ℕ) (args : List NamedArg) → args ≡ [] → IsInstance p (Attribute a (At (Source n)) (map (argument_named (text_of p)) args)) → IsInstance p (Attribute a (At (Source n)) [])
-bare p a n args none i = subst (λ (list : List NamedArg). IsInstance p (Attribute a (At (Source n)) (map (argument_named (text_of p)) list))) none i
 
 -- what is coded without arguments
 pub coded : (p : Program) (a n : ℕ) (r : Reference) (ks : List Kind) (cs : List ℕ) → r ≡ At (Source n) → cs ≡ [] → IsInstance p (Attribute a (At (Source n)) []) → IsInstance p (Attribute a r (arguments_at (text_of p) ks cs))

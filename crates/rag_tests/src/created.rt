@@ -13,11 +13,12 @@ use std::alloc::Global;
 
 // Integers by their numbers, and trees with tokens inside and outside of the children.
 const TEXTS: Texts<'_> = Texts {
-    ast: "N ::= <K:int>; Tok ::= <V:int>; Box ::= in:Tok <W:int> out:Tok;",
+    ast: "N ::= <K:int>; Tok ::= <V:int>; Box ::= in:Tok <W:int> out:Tok; Pot ::= <P:int> mid:Tok <Q:int>;",
     jrag: "aspect A { syn int N.x() = 1; syn int N.z() = 1; syn int N.y() = 1; \
            syn nta Box N.asked() = new Box(new Tok(x()), z(), new Tok(y())); \
            syn nta Box N.known() = new Box(new Tok(5), 5 + getK(), new Tok(getK())); \
-           syn nta Tok N.twice() = new Tok(y() + x()); }",
+           syn nta Tok N.twice() = new Tok(y() + x()); \
+           syn nta Pot N.pot() = new Pot(x(), new Tok(z()), y()); }",
     tree: "N(7)",
     queries: "",
 };
@@ -26,7 +27,7 @@ const TEXTS: Texts<'_> = Texts {
 type Row = (AttrId, &'static [AttrId], EqId, [Option<Code>; 4]);
 
 // What is missing is true once it was asked for, which reads as the integer 0; so are attributes of lower numbers then.
-const MADE: [Row; 3] = [
+const MADE: [Row; 4] = [
     (
         AttrId(3),
         &[AttrId(0), AttrId(1), AttrId(2)],
@@ -39,6 +40,12 @@ const MADE: [Row; 3] = [
         &[AttrId(2)],
         EqId(5),
         [Some(0), None, None, None],
+    ),
+    (
+        AttrId(6),
+        &[AttrId(0), AttrId(1), AttrId(2)],
+        EqId(6),
+        [Some(0), Some(0), Some(0), None],
     ),
 ];
 

@@ -1,5 +1,5 @@
 //! The tests of what no case of `rag_cases` can say: what the gate, the shelf and the sink see, what a pass knows, full tables, texts that fill
-//! the pool, the rounds as the slow way to the same replies, and public calls that no run of the program reaches.
+//! the pool, the rounds as the slow way to the same replies, trees that attributes make, and public calls that no run of the program reaches.
 #![tactic(auto)]
 
 #[cfg(test)]
@@ -19,6 +19,8 @@ mod forms;
 #[cfg(test)]
 mod kept;
 #[cfg(test)]
+mod made;
+#[cfg(test)]
 mod named;
 #[cfg(test)]
 mod numbers;
@@ -30,6 +32,8 @@ mod programs;
 mod random;
 #[cfg(test)]
 mod resumed;
+#[cfg(test)]
+mod rows;
 #[cfg(test)]
 mod sweeps;
 #[cfg(test)]

@@ -179,7 +179,7 @@ const COLLECTED: [Texts<'static>; 2] = [
 
 // The lines of all queries, by rounds: an integer, or `circular` where the rounds give none.
 fn rounds_lines(alloc: Global, system: &System) -> Result<String, ReadFault>
-    requires { HasSourcesAlone (program_of system.now) }
+    requires { IsProgram (program_of system.now) }
 {
     let names = NameList::of_source(alloc, system)?;
     let table = plain_rounds(alloc, system, &names)?;

@@ -1,12 +1,12 @@
 -- The last of a list of instances is one.
-use Rattle.std.proofs.Common.{◌≡◌, ◌∙◌, All, true, Some, refl, sym, subst}
+use Rattle.std.proofs.Common.{◌≡◌, All, true, Some, refl, sym, subst}
 use Rattle.std.proofs.lemmas.List.Elements.{All-pop}
 use Rattle.equation_law.specs.Checked.{IsInstance}
 use Rattle.equation_law.specs.declared.coding.Instance.TheVariants.{Attr as attribute_at}
 use Rattle.equation_law.specs.Codes.{Naming, instance_by, instance_of}
 use Rattle.equation_law.specs.Systems.{program_of}
 use Rattle.plain_rounds.specs.Named.{instances_in}
-use Rattle.rag_tests.proofs.Bare.{bare, coded}
+use Rattle.rag_tests.proofs.Bare.{coded}
 use Rattle.rag_tests.proofs.Singles.{none_is}
 use Rattle.rag_tests.proofs.Unmade.{named_in, nothing_sound, readable}
 use Rattle.rag_tests.proofs.named.site_of.Goals as goal
@@ -18,7 +18,7 @@ equation_of-requires-clause-instance c =
     let all : All (IsInstance p) (instances_in p c.add.new.self) = c.are_of.ensures.0 yes in
     let last = (All-pop (IsInstance p) _ _ (Some _) (c.in_ok-add.ensures.added p) all).1 in
     let i = attribute_at c.args.attr c.of_source-at.result c.none-args.result in
-    let instance : IsInstance p (instance_of p i) = coded p _ _ _ _ _ c.of_source-at.ensures c.none-args.ensures.codes (bare p _ _ _ (c.of-args.ensures ∙ c.new.ensures.items) last) in
+    let instance : IsInstance p (instance_of p i) = coded p _ _ _ _ _ c.of_source-at.ensures c.none-args.ensures.codes last in
     λ n is. subst (λ (m : Naming). IsInstance p (instance_by p m i)) (sym is) instance
 
 pub equation_of-requires-clause-single : goal.equation_of-requires-clause-single
