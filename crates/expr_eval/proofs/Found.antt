@@ -48,7 +48,7 @@ use Rattle.expr_eval.specs.Elements.{node_kind}
 use Rattle.expr_eval.specs.Evaluating.{AnswersTurn, Asks, Comes, Evaluates, Given, GivenTree, Places, Stopped, TokensGiven, Wants, place_kept, places_kept, read_at, reads_at}
 use Rattle.expr_eval.specs.Reads.{Advances, IsReady, Reads, Resumes, State, TokensRead, state}
 use Rattle.expr_eval.specs.Saved.{AreSaved, SavesNothing}
-use Rattle.expr_eval.specs.Sites.{IsNoImage, IsTurned, TurnAs, expression_or_null, instance_reads, query_reads, side_reads, site_reads}
+use Rattle.expr_eval.specs.Sites.{IsImageFor, IsImageOf, IsNoImage, IsTurned, TurnAs, expression_or_null, instance_reads, query_reads, side_reads, site_reads}
 use Rattle.expr_eval.proofs.Forms.{advances_read, advances_self, advances_then, comes_next, gives_value, naming_in, wants_first}
 use Rattle.expr_eval.proofs.NewTokens.{TokensHalt, TokensStop, given_never, given_same, tokens_comes, tokens_end, tokens_halt}
 
@@ -336,3 +336,19 @@ module _ {S : Type 0} (p : Program) (r s : State S) (place : Places) (equation :
 -- what goes on behind a reader that alone went on
 pub resumes_later : {S : Type 0} {p : Program} {r s : State S} {u : Told S} {c : Asks} {res : Result Turn NoMemory} → IsReady p r → Grows p r.told u → Resumes p (state r.system u r.saved) s c res → Resumes p r s c res
 resumes_later ready grows h = record { kept = advances_then (advances_read ready grows) h.kept; answer = h.answer }
+
+-- a tree that is made by the equation that is found is made by the instance's
+pub image_found : {S : Type 0} (p : Program) (s : Told S) (a : AttrId) (m : NodeRef) (xs : Args) (k : Kind) (site : EqSite) (t u : Turn) → FindsIn p s a m xs (Some site) → IsImageOf site.equation.0 (Ok t) → TurnAs k t u → IsImageFor p s (coded_instance.Attr a m xs) (Ok u)
+image_found p s a m xs k site (turns.Done v) u found made read = subst (λ x. IsImageFor p s (coded_instance.Attr a m xs) (Ok x)) (sym read.1) tt
+image_found p s a m xs k site (turns.Need i) u found made read = subst (λ x. IsImageFor p s (coded_instance.Attr a m xs) (Ok x)) (sym read) tt
+image_found p s a m xs k site (turns.Image t) u found made read = of (node_kind k) read
+  where
+    of : (b : Bool) → cond b (u ≡ turns.Image t) ((w : CodedValue) × (u ≡ turns.Done w) × ((n : Naming) → n.text 0 ≡ [] → value_by n w ≡ default_of k) × ((q : Program) → AreElements q w)) → IsImageFor p s (coded_instance.Attr a m xs) (Ok u)
+    of true same = subst (λ x. IsImageFor p s (coded_instance.Attr a m xs) (Ok x)) (sym same) (λ n at. let one = found n at in ap (option_map (λ (x : Site). x.body)) one.1 ∙ sym one.2.body ∙ ap (body_at p.rules) (sym made))
+    of false value = subst (λ x. IsImageFor p s (coded_instance.Attr a m xs) (Ok x)) (sym value.1) tt
+
+-- what gives no tree gives none where its value is read at a type
+pub plain_read : (k : Kind) (t u : Turn) → IsNoImage (Ok t) → TurnAs k t u → IsNoImage (Ok u)
+plain_read k (turns.Done v) u plain read = subst (λ x. IsNoImage (Ok x)) (sym read.1) tt
+plain_read k (turns.Need i) u plain read = subst (λ x. IsNoImage (Ok x)) (sym read) tt
+plain_read k (turns.Image t) u plain read = absurd plain

@@ -1,6 +1,7 @@
 -- The equations that are evaluated.
 use Rattle.std.specs.Prelude.{◌≡◌, ℕ, [], cond, Option, Some, None, Result, Ok, Err, slice_get}
 use Rattle.solutions.specs.Asking.{Demands, Gives}
+use Rattle.std.specs.Option.{option_map}
 use Rattle.std.specs.Result.{IsErr}
 use Rattle.rag_io.specs.declared.Memory.{Memory as NoMemory}
 use Rattle.attr_rules.specs.declared.kinds.Kind.{Kind}
@@ -16,12 +17,12 @@ use Rattle.equation_law.specs.declared.coding.Value.{Value as CodedValue}
 use Rattle.equation_law.specs.declared.system.System.{System}
 use Rattle.equation_law.specs.Codes.{AreElements, Naming, instance_by, value_by}
 use Rattle.equation_law.specs.Created.{Making, making_in}
-use Rattle.equation_law.specs.Equations.{equations_of, place_at, world_of}
+use Rattle.equation_law.specs.Equations.{Site, equations_of, place_at, site_of, world_of}
 use Rattle.equation_law.specs.Meaning.{Place, with_tokens}
 use Rattle.equation_law.specs.Names.{Instance, Null as NoNode}
 use Rattle.inherited_walk.specs.Sites.{site_place}
 use Rattle.equation_law.specs.Program.{Program}
-use Rattle.equation_law.specs.Reading.{Told}
+use Rattle.equation_law.specs.Reading.{ByEachIn, Told}
 use Rattle.equation_law.specs.Systems.{program_of}
 use Rattle.equation_law.specs.Values.{Tree, Value, as_kind, default_of}
 use Rattle.expr_eval.specs.declared.evaluation.Context.{Context}
@@ -100,6 +101,20 @@ IsNoImage (Ok (turns.Done v)) = Unit {0}
 IsNoImage (Ok (turns.Need i)) = Unit {0}
 IsNoImage (Ok (turns.Image t)) = ⊥
 IsNoImage (Err m) = Unit {0}
+
+-- a tree that a turn gives is made by the equation of this number
+abbrev pub IsImageOf : ℕ → Result Turn NoMemory → Type 0
+IsImageOf e (Ok (turns.Done v)) = Unit {0}
+IsImageOf e (Ok (turns.Need i)) = Unit {0}
+IsImageOf e (Ok (turns.Image t)) = t.equation.0 ≡ e
+IsImageOf e (Err m) = Unit {0}
+
+-- A tree that a turn gives is made by the equation of the instance: that of its number has the right side which the instance has by each naming.
+abbrev pub IsImageFor : {S : Type 0} → Program → Told S → CodedInstance → Result Turn NoMemory → Type 0
+IsImageFor p s i (Ok (turns.Done v)) = Unit {0}
+IsImageFor p s i (Ok (turns.Need j)) = Unit {0}
+IsImageFor p s i (Ok (turns.Image t)) = ByEachIn s (λ n. option_map (λ (x : Site). x.body) (site_of p (instance_by p n i)) ≡ body_at p.rules t.equation.0)
+IsImageFor p s i (Err m) = Unit {0}
 
 -- what an expression comes to, as a turn
 abbrev pub IsTurned : Result CodedValue Halt → Result Turn NoMemory → Type 0

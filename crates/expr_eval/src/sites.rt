@@ -11,7 +11,7 @@ ghost use Rattle.equation_law.specs.Systems.{program_of};
 ghost use Rattle.expr_eval.specs.Reads.{IsReady, state};
 ghost use Rattle.expr_eval.specs.Saved.{AreSaved};
 ghost use Rattle.inherited_walk.specs.Sites.{FindsIn};
-ghost use Rattle.expr_eval.specs.Sites.{EvaluatesBody, EvaluatesInstance, EvaluatesQuery, EvaluatesSite, ImagesIn, IsNoImage, IsTurned, ResumesInstance, ResumesQuery, ResumesSite, TurnAs, expression_or_null};
+ghost use Rattle.expr_eval.specs.Sites.{EvaluatesBody, EvaluatesInstance, EvaluatesQuery, EvaluatesSite, ImagesIn, IsImageFor, IsImageOf, IsNoImage, IsTurned, ResumesInstance, ResumesQuery, ResumesSite, TurnAs, expression_or_null};
 
 use crate::binding::names_of;
 use crate::evaluation::{Context, Halt, attribute_kind, meaning};
@@ -104,7 +104,8 @@ fn image<'a, R: Reader>(
     saved: &mut Saved<'a>,
 ) -> Result<Turn, Memory>
     requires { IsReady (program_of context.now.system.now) (state context.now.system.now (R.tells reader.old) saved.old) }
-    ensures { ImagesIn context.now (R.tells reader.old) saved.old (R.tells reader.new) saved.new equation parts.now result }
+    ensures images { ImagesIn context.now (R.tells reader.old) saved.old (R.tells reader.new) saved.new equation parts.now result }
+    ensures made { IsImageOf equation.0 result }
 {
     let mut tokens = Tokens::new(context.alloc);
     match put_tokens(context, parts, reader, saved, &mut tokens) {
@@ -129,6 +130,7 @@ fn evaluate_for<'a, R: Reader>(
     requires ready { IsReady (program_of system.now) (state system.now (R.tells reader.old) saved.old) }
     ensures reads { ResumesSite system.now (R.tells reader.old) saved.old (R.tells reader.new) saved.new attr.0 site.now result }
     ensures plain { making_in (expression_or_null (body_at (program_of system.now).rules site.now.equation.0)) ≡ None → IsNoImage result }
+    ensures made { IsImageOf site.now.equation.0 result }
 {
     let Ok(names) = names_of(alloc, system, attr, site) else {
         return Err(Memory);
@@ -161,7 +163,8 @@ pub fn evaluate<R: Reader>(
     requires inner { IsRow site.now.inner }
     requires outer { IsRow site.now.outer }
     requires sound { IsSound (program_of system.now) (R.tells reader.old) }
-    ensures { EvaluatesSite (program_of system.now) (R.tells reader.old) (R.tells reader.new) site.now result }
+    ensures evaluates { EvaluatesSite (program_of system.now) (R.tells reader.old) (R.tells reader.new) site.now result }
+    ensures made { IsImageOf site.now.equation.0 result }
 {
     let attr = system.rules().target(site.equation).attribute;
     let mut saved = Saved::new(alloc);
@@ -264,7 +267,8 @@ fn at_site<'a, R: Reader>(
     requires single { IsSingleIn (program_of system.now) (R.tells reader.old) (attribute_at attr node args) }
     requires found { FindsIn (program_of system.now) (R.tells reader.old) attr node args site }
     requires rows { IfSome site (λ s. IsRow s.outer × IsRow s.inner) }
-    ensures { ResumesInstance system.now (R.tells reader.old) saved.old (R.tells reader.new) saved.new (attribute_at attr node args) result }
+    ensures resumes { ResumesInstance system.now (R.tells reader.old) saved.old (R.tells reader.new) saved.new (attribute_at attr node args) result }
+    ensures made { IsImageFor (program_of system.now) (R.tells reader.new) (attribute_at attr node args) result }
 {
     match site {
         None => Ok(Turn::Done(Value::Node(NodeRef(0)))),
@@ -288,7 +292,8 @@ fn evaluate_attribute<'a, R: Reader>(
     requires ready { IsReady (program_of system.now) (state system.now (R.tells reader.old) saved.old) }
     requires row { IsRow args }
     requires single { IsSingleIn (program_of system.now) (R.tells reader.old) (attribute_at attr node args) }
-    ensures { ResumesInstance system.now (R.tells reader.old) saved.old (R.tells reader.new) saved.new (attribute_at attr node args) result }
+    ensures resumes { ResumesInstance system.now (R.tells reader.old) saved.old (R.tells reader.new) saved.new (attribute_at attr node args) result }
+    ensures made { IsImageFor (program_of system.now) (R.tells reader.new) (attribute_at attr node args) result }
 {
     let site = find_equation(system, attr, node, args, reader);
     at_site(alloc, system, attr, node, args, site, reader, saved)
@@ -303,7 +308,8 @@ fn evaluate_asked<'a, R: Reader>(
     saved: &mut Saved<'a>,
 ) -> Result<Turn, Memory>
     requires { IsReady (program_of system.now) (state system.now (R.tells reader.old) saved.old) }
-    ensures { ResumesInstance system.now (R.tells reader.old) saved.old (R.tells reader.new) saved.new (query_at query) result }
+    ensures resumes { ResumesInstance system.now (R.tells reader.old) saved.old (R.tells reader.new) saved.new (query_at query) result }
+    ensures plain { IsNoImage result }
 {
     if query.0 >= system.replies() {
         return Ok(Turn::Done(Value::Node(NodeRef(0))));
@@ -328,6 +334,7 @@ pub fn resume_instance<'a, R: Reader>(
     requires coded { IsCoded (program_of system.now) i.now }
     requires single { IsSingleIn (program_of system.now) (R.tells reader.old) i.now }
     ensures evaluates { EvaluatesInstance (program_of system.now) (R.tells reader.old) (R.tells reader.new) i.now result }
+    ensures made { IsImageFor (program_of system.now) (R.tells reader.new) i.now result }
     ensures saved { AreSaved system.now (R.tells reader.new) saved.new }
 {
     match i {
@@ -355,6 +362,7 @@ pub fn resume_at<'a, R: Reader>(
     requires found { FindsIn (program_of system.now) (R.tells reader.old) attr node args site }
     requires rows { IfSome site (λ s. IsRow s.outer × IsRow s.inner) }
     ensures evaluates { EvaluatesInstance (program_of system.now) (R.tells reader.old) (R.tells reader.new) (attribute_at attr node args) result }
+    ensures made { IsImageFor (program_of system.now) (R.tells reader.new) (attribute_at attr node args) result }
     ensures saved { AreSaved system.now (R.tells reader.new) saved.new }
 {
     at_site(alloc, system, attr, node, args, site, reader, saved)
@@ -371,7 +379,8 @@ pub fn evaluate_instance<R: Reader>(
     requires sound { IsSound (program_of system.now) (R.tells reader.old) }
     requires coded { IsCoded (program_of system.now) i.now }
     requires single { IsSingleIn (program_of system.now) (R.tells reader.old) i.now }
-    ensures { EvaluatesInstance (program_of system.now) (R.tells reader.old) (R.tells reader.new) i.now result }
+    ensures evaluates { EvaluatesInstance (program_of system.now) (R.tells reader.old) (R.tells reader.new) i.now result }
+    ensures made { IsImageFor (program_of system.now) (R.tells reader.new) i.now result }
 {
     let mut saved = Saved::new(alloc);
     resume_instance(alloc, system, i, reader, &mut saved)

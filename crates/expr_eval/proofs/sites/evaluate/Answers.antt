@@ -13,8 +13,8 @@ pub evaluate_for-requires-clause-equation : goal.evaluate_for-requires-clause-eq
 evaluate_for-requires-clause-equation g c = equation_within (program_of c.args.system.now).rules c.args.site.now.equation.0 c.requires.equation
 
 -- the equation is read for the attribute of its target
-pub returns : goal.returns
-returns g c q there =
+pub returns-clause-evaluates : goal.returns-clause-evaluates
+returns-clause-evaluates g c q there =
     let p = program_of c.args.system.now in
     let at = c.args.site.now.equation.0 in
     let kept : option_map target_in (slice_get p.rules.equations at) ≡ Some c.target.result = ap (λ (rules : RuleSet). option_map target_in (slice_get rules.equations at)) (sym c.rules.ensures) ∙ c.target.ensures in

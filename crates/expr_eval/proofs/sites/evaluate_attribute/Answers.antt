@@ -8,5 +8,5 @@ at_site-requires-clause-ready g c = (advances_read c.requires.ready c.find_equat
 pub at_site-requires-clause-single : goal.at_site-requires-clause-single
 at_site-requires-clause-single g c = λ n named. c.requires.single n (c.find_equation-site.ensures.found.kept.names n named)
 
-pub returns : goal.returns
-returns g c = resumes_later c.requires.ready c.find_equation-site.ensures.found.kept c.at_site.ensures
+pub returns-clause-resumes : goal.returns-clause-resumes
+returns-clause-resumes g c = resumes_later c.requires.ready c.find_equation-site.ensures.found.kept c.at_site.ensures.resumes

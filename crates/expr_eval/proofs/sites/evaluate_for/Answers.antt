@@ -11,7 +11,7 @@ returns-in-New-clause-reads g c =
     let site = c.args.site.now in
     let new = ap expression_of c.in-New.is in
     let body = ap (λ (rules : RuleSet). body_at rules site.equation.0) (sym c.rules.ensures) ∙ c.body-body.ensures ∙ ap Some new in
-    site_made p _ _ c.args.attr.0 site _ _ c.in-New.field-0 (new_arguments_of c.in-New.parts) c.image.result c.rules.ensures c.body-body.ensures new (names_made p _ _ c.args.attr.0 site (new_arguments_of c.in-New.parts) c.deref.ensures.value c.in-Ok.ensures (c.image.ensures c.in-New.field-0 body))
+    site_made p _ _ c.args.attr.0 site _ _ c.in-New.field-0 (new_arguments_of c.in-New.parts) c.image.result c.rules.ensures c.body-body.ensures new (names_made p _ _ c.args.attr.0 site (new_arguments_of c.in-New.parts) c.deref.ensures.value c.in-Ok.ensures (c.image.ensures.images c.in-New.field-0 body))
 
 pub returns-clause-reads : goal.returns-clause-reads
 returns-clause-reads g c =
