@@ -62,7 +62,7 @@ not_both Nta e f = cc
 not_both Coll e f = cc
 
 -- an equation for what hangs by something is for an inherited attribute
-covers_inherited : (g : List Class) (c : ClassId) (v : Via) (d : Attr) (r : Reach) → (r ≡ reach_via v) ⊎ (r ≡ Children) → GivesValue g c r d → is_inherited d.sort ≡ true
+pub covers_inherited : (g : List Class) (c : ClassId) (v : Via) (d : Attr) (r : Reach) → (r ≡ reach_via v) ⊎ (r ≡ Children) → GivesValue g c r d → is_inherited d.sort ≡ true
 covers_inherited g c v d r either value = elim either [
   | inl e ↦ via v (subst (λ (x : Reach). GivesValue g c x d) e value)
   | inr e ↦ subst (λ (x : Reach). GivesValue g c x d) e value

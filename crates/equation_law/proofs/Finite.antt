@@ -13,18 +13,18 @@ pub record Finite {A : Type 0} (P : A → Type 0) : Type 0 where
   pub whole : (x : A) → P x → In elements x
 
 -- the elements of two lists
-in_left : {A : Type 0} (xs ys : List A) (x : A) → In xs x → In (xs ++ ys) x
+pub in_left : {A : Type 0} (xs ys : List A) (x : A) → In xs x → In (xs ++ ys) x
 in_left [] ys x h = absurd h
 in_left (y ∷ xs) ys x h = elim h [
   | inl e ↦ inl e
   | inr k ↦ inr (in_left xs ys x k)
 ]
 
-in_right : {A : Type 0} (xs ys : List A) (x : A) → In ys x → In (xs ++ ys) x
+pub in_right : {A : Type 0} (xs ys : List A) (x : A) → In ys x → In (xs ++ ys) x
 in_right [] ys x h = h
 in_right (y ∷ xs) ys x h = inr (in_right xs ys x h)
 
-in_either : {A : Type 0} (xs ys : List A) (x : A) → In (xs ++ ys) x → In xs x ⊎ In ys x
+pub in_either : {A : Type 0} (xs ys : List A) (x : A) → In (xs ++ ys) x → In xs x ⊎ In ys x
 in_either [] ys x h = inr h
 in_either (y ∷ xs) ys x h = elim h [
   | inl e ↦ inl (inl e)

@@ -1,34 +1,12 @@
 -- The nodes that stand inside some instances: those of the trees that these make, and those that these are at and have as arguments, with all that
 -- stand inside of them in turn.
-use Rattle.std.proofs.Common.{◌≡◌, ℕ, ◌<◌, true, false, ◌||◌, List, [], ◌∷◌, ◌++◌, length, refl, sym, subst, ◌∙◌, ◌⊎◌, inl, inr}
+use Rattle.std.proofs.Common.{◌≡◌, ℕ, ◌<◌, true, false, ◌||◌, List, [], ◌∷◌, ◌++◌, length, refl, sym, subst, ◌∙◌, inl, inr}
 use Rattle.solutions.specs.Rounds.{is_in}
 use Rattle.equation_law.specs.Names.{Argument, At, Instance, Made, NodeName, Null, OfInt, OfNode, OfText, OfTruth, Reference, Row, Source, end_row, made_by, row, same_instance}
 use Rattle.equation_law.specs.Program.{Program, tree_made}
 use Rattle.equation_law.proofs.Among.{HasArgument, HasInside, HasReference, HasRow}
-use Rattle.equation_law.proofs.Finite.{Finite, In, finite_below, finite_map}
+use Rattle.equation_law.proofs.Finite.{Finite, In, finite_below, finite_map, in_either, in_left, in_right}
 use Rattle.equation_law.proofs.Names.{same_instance_is}
-
--- the elements of two lists
-in_left : {A : Type 0} (xs ys : List A) (x : A) → In xs x → In (xs ++ ys) x
-in_left [] ys x h = absurd h
-in_left (y ∷ xs) ys x h = elim h [
-  | inl e ↦ inl e
-  | inr k ↦ inr (in_left xs ys x k)
-]
-
-in_right : {A : Type 0} (xs ys : List A) (x : A) → In ys x → In (xs ++ ys) x
-in_right [] ys x h = h
-in_right (y ∷ xs) ys x h = inr (in_right xs ys x h)
-
-in_either : {A : Type 0} (xs ys : List A) (x : A) → In (xs ++ ys) x → In xs x ⊎ In ys x
-in_either [] ys x h = inr h
-in_either (y ∷ xs) ys x h = elim h [
-  | inl e ↦ inl (inl e)
-  | inr k ↦ elim (in_either xs ys x k) [
-    | inl l ↦ inl (inr l)
-    | inr r ↦ inr r
-  ]
-]
 
 module _ (p : Program) where
   -- the nodes of a tree that was made

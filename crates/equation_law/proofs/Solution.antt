@@ -145,7 +145,7 @@ circular_single p i c =
     ] refl
 
 -- what demands come to, one after the other
-leaves_next : {I V : Type 0} (P : V → Type 0) (c : Demands I V) (k : V → Demands I V) → ((v : V) → Leaves P (k v)) → Leaves P (next c k)
+pub leaves_next : {I V : Type 0} (P : V → Type 0) (c : Demands I V) (k : V → Demands I V) → ((v : V) → Leaves P (k v)) → Leaves P (next c k)
 leaves_next P (Gives v) k h = h v
 leaves_next P (Needs j f) k h = λ v. leaves_next P (f v) k h
 

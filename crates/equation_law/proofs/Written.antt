@@ -63,7 +63,7 @@ truths true false u v = refl
 truths true true u v = refl
 
 -- one order behind two others
-both_then : (o p q : Ordering) → ordering_then (ordering_then o p) q ≡ ordering_then o (ordering_then p q)
+pub both_then : (o p q : Ordering) → ordering_then (ordering_then o p) q ≡ ordering_then o (ordering_then p q)
 both_then Less p q = refl
 both_then Equal p q = refl
 both_then Greater p q = refl

@@ -7,7 +7,7 @@ use Rattle.std.specs.Cmp.Lexicographic.{slice_cmp}
 use Rattle.equation_law.specs.Names.{NodeName, Source, Made, Reference, Null, At, Argument, OfInt, OfNode, OfText, OfTruth, Row, end_row, row, argument_code, arguments_code, int_code, node_cmp, node_code, reference_code, row_code, row_of, text_cmp, text_code, truth_code}
 use Rattle.equation_law.specs.Reading.{reference_cmp}
 use Rattle.equation_law.proofs.Names.{node_anti, row_writing}
-use Rattle.equation_law.proofs.Written.{ints, texts, truths}
+use Rattle.equation_law.proofs.Written.{both_then, ints, texts, truths}
 use Rattle.made_trees.specs.Ordered.{argument_cmp, arguments_cmp}
 
 -- an order behind another
@@ -15,11 +15,6 @@ pub then_equal : (o : Ordering) → ordering_then o Equal ≡ o
 then_equal Less = refl
 then_equal Equal = refl
 then_equal Greater = refl
-
-pub both_then : (o p q : Ordering) → ordering_then (ordering_then o p) q ≡ ordering_then o (ordering_then p q)
-both_then Less p q = refl
-both_then Equal p q = refl
-both_then Greater p q = refl
 
 -- the first decides where it isn't equality
 pub first_decides : (o p : Ordering) → (o ≡ Equal → ⊥) → ordering_then o p ≡ o

@@ -28,13 +28,13 @@ use Rattle.equation_law.specs.Values.{as_argument}
 use Rattle.equation_law.proofs.Codes.{one_reference, signed}
 use Rattle.equation_law.proofs.Keys.{one_list}
 use Rattle.equation_law.proofs.Names.{same_reference_is}
-use Rattle.equation_law.proofs.Written.{ints, texts}
+use Rattle.equation_law.proofs.Written.{both_then, ints, texts}
 use Rattle.made_trees.specs.declared.order.Comparison.{Comparison}
 use Rattle.made_trees.specs.declared.order.Creation.{Creation}
 use Rattle.made_trees.specs.Made.{AreNamed, IsNamed, last_code}
 use Rattle.made_trees.specs.Makers.{AreTrees, IsMakerOf, Trees, naming_of, program_for, stands_for}
 use Rattle.made_trees.specs.Ordered.{IsBehind, IsCreatedBy, LeadsTo, argument_cmp, arguments_cmp, name_by}
-use Rattle.made_trees.proofs.Lexical.{arguments_order, both_then, first_decides, made_order, same_argument, then_equal}
+use Rattle.made_trees.proofs.Lexical.{arguments_order, first_decides, made_order, same_argument, then_equal}
 use Rattle.made_trees.proofs.Named.{made_behind, named}
 
 -- what made a node says so

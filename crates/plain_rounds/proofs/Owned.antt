@@ -1,25 +1,19 @@
 -- A tree that comes of the equation of an instance is one that the instance makes.
-use Rattle.std.proofs.Common.{◌≡◌, ◌⊎◌, inl, inr, ℕ, zero, suc, Bool, true, false, ◌||◌, cond, All, List, [], ◌∷◌, ◌++◌, Option, Some, None, slice_get, refl, sym, ap, subst, ◌∙◌}
+use Rattle.std.proofs.Common.{◌≡◌, inl, inr, ℕ, zero, suc, Bool, true, false, ◌||◌, cond, All, List, [], ◌∷◌, ◌++◌, Option, Some, None, slice_get, refl, sym, ap, subst, ◌∙◌}
 use Rattle.std.specs.Option.{option_and_then}
 use Rattle.std.proofs.lemmas.List.Elements.{All-head, All-tail}
 use Rattle.std.proofs.lemmas.Option.{same_Some}
 use Rattle.ast_grammar.specs.declared.grammar.ClassId.{ClassId}
-use Rattle.ast_grammar.specs.Grammar.{Class}
-use Rattle.attr_rules.specs.declared.kinds.Attr.{Attr}
 use Rattle.attr_rules.specs.declared.kinds.Kind.{Kind}
 use Rattle.attr_rules.specs.declared.kinds.Kind.TheVariants as kinds
 use Rattle.attr_rules.specs.declared.kinds.Method.{Method}
 use Rattle.attr_rules.specs.declared.kinds.Method.TheVariants.{Add, AddAll, Sum, Or, And}
-use Rattle.attr_rules.specs.declared.dispatch.Reach.{Reach}
-use Rattle.attr_rules.specs.declared.dispatch.Reach.TheVariants.{Children}
 use Rattle.attr_rules.specs.declared.kinds.Sort.{Sort}
 use Rattle.attr_rules.specs.declared.kinds.Sort.TheVariants.{Syn, Inh, Nta, Coll}
-use Rattle.attr_rules.specs.declared.dispatch.Via.{Via}
-use Rattle.attr_rules.specs.declared.dispatch.Via.TheVariants.{Component as ByComponent, Created as ByCreated}
 use Rattle.attr_rules.specs.Expression.{Expression, NewArguments, new_child, new_end, new_token}
-use Rattle.attr_rules.specs.Rules.{Equation, GivesValue, IsBody, IsEquation, is_inherited, names_for, reach_via}
+use Rattle.attr_rules.specs.Rules.{Equation, IsBody, IsEquation, is_inherited, names_for}
 use Rattle.attr_rules.specs.Typing.{Names}
-use Rattle.solutions.specs.Asking.{Demands, Gives, Needs, next}
+use Rattle.solutions.specs.Asking.{Demands}
 use Rattle.solutions.specs.Rising.{Leaves}
 use Rattle.solutions.specs.Rounds.{inner_rounds, is_in, outer_rounds, over}
 use Rattle.solutions.proofs.Runs.{before, came, circular, ends_leaf, inner_ends, inner_first, inner_in, or_else_some, undeclared}
@@ -35,11 +29,13 @@ use Rattle.equation_law.specs.Values.{Value, as_argument, as_kind, as_tree, defa
 use Rattle.attr_rules.specs.declared.expression.SetOperator.{SetOperator}
 use Rattle.attr_rules.specs.declared.expression.SetOperator.TheVariants.{Union}
 use Rattle.equation_law.proofs.Above.{each_of}
+use Rattle.equation_law.proofs.Demanded.{covers_inherited}
 use Rattle.equation_law.proofs.Fitting.{trees_fit}
 use Rattle.equation_law.proofs.Inherited.{inherited_above}
 use Rattle.equation_law.proofs.Lists.{some_of}
 use Rattle.equation_law.proofs.Names.{same_instance_is}
 use Rattle.equation_law.proofs.Sites.{demanded_at_site, demanded_of_collection}
+use Rattle.equation_law.proofs.Solution.{leaves_next}
 use Rattle.equation_law.proofs.Typed.{no_making}
 use Rattle.made_trees.specs.Makers.{making_for}
 use Rattle.plain_rounds.specs.Trees.{IsOwn, IsOwnTree}
@@ -112,11 +108,6 @@ just_tokens (t ∷ ks) [] a k x e = absurd a
 just_tokens (t ∷ ks) (y ∷ xs) a zero x e = (t, refl, a.0.0, sym (same_Some y x e) ∙ a.0.1)
 just_tokens (t ∷ ks) (y ∷ xs) a (suc k) x e = just_tokens ks xs a.1 k x e
 
--- what demands come to, one after the other
-leaves_next : {I V : Type 0} (P : V → Type 0) (c : Demands I V) (k : V → Demands I V) → ((v : V) → Leaves P (k v)) → Leaves P (next c k)
-leaves_next P (Gives v) k h = h v
-leaves_next P (Needs j f) k h = λ v. leaves_next P (f v) k h
-
 tokens_leave : (P : Value → Type 0) (W : World) (parts : NewArguments) (place : Place) (k : List Argument → Demands Instance Value) → ((ts : List Argument) → AreJust (token_kinds parts) ts → Leaves P (k ts)) → Leaves P (with_tokens W parts place k)
 tokens_leave P W new_end place k h = h [] tt
 tokens_leave P W (new_token t e rest) place k h = leaves_next P (meaning_of W e place) _ (λ v. tokens_leave P W rest place _ (λ ts are. h (as_argument t v ∷ ts) ((v, refl), are)))
@@ -144,16 +135,6 @@ module _ (p : Program) (good : IsProgram p) where
   plain_sort N Inh k e inherited body = no_making body.typed
   plain_sort N Nta k e inherited body = cc
   plain_sort N Coll k e inherited body = cc
-
-  covers_inherited : (g : List Class) (c : ClassId) (v : Via) (d : Attr) (r : Reach) → (r ≡ reach_via v) ⊎ (r ≡ Children) → GivesValue g c r d → is_inherited d.sort ≡ true
-  covers_inherited g c v d r either value = elim either [
-    | inl e ↦ via v (subst (λ (x : Reach). GivesValue g c x d) e value)
-    | inr e ↦ subst (λ (x : Reach). GivesValue g c x d) e value
-  ]
-    where
-      via : (w : Via) → GivesValue g c (reach_via w) d → is_inherited d.sort ≡ true
-      via (ByComponent k) h = h
-      via (ByCreated b) h = h
 
   -- the site of an instance has the root of the tree of the instance, and is a `new` where the instance makes one
   pub record IsSiteOf (i : Instance) (s : Site) : Type 0 where
