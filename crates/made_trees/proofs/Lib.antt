@@ -8,6 +8,7 @@ pub mod Named
 pub mod Naming
 pub mod Nodes
 mod Ordered
+pub mod Readers
 pub mod Small
 pub mod Stands
 pub mod Told

@@ -1,5 +1,5 @@
 -- What stands in a round is what a reader over it has.
-use Rattle.std.proofs.Common.{◌≡◌, ℕ, ◌<◌, List, Option, Some, None, IsSome, IfOk, MatchOption, Result, Ok, Err, length, slice_get, refl, sym, ap, subst, ◌∙◌, inl, inr, arith}
+use Rattle.std.proofs.Common.{◌≡◌, ℕ, ◌<◌, List, Option, Some, None, IfOk, MatchOption, Result, Ok, Err, length, refl, sym, ap, subst, ◌∙◌, inl, inr}
 use Rattle.std.specs.declared.cmp.Ordering.{Ordering}
 use Rattle.ast_grammar.specs.declared.grammar.ClassId.{ClassId}
 use Rattle.attr_rules.specs.declared.kinds.Kind.{Kind}
@@ -13,20 +13,20 @@ use Rattle.equation_law.specs.declared.coding.NodeRef.{NodeRef}
 use Rattle.equation_law.specs.declared.coding.TreeImage.{TreeImage}
 use Rattle.equation_law.specs.declared.coding.Up.{Up}
 use Rattle.equation_law.specs.declared.coding.Value.{Value as CodedValue}
-use Rattle.equation_law.specs.Codes.{AreCodes, AreElements, IsCode, IsCoded, IsNamingOf, Naming, instance_by, reference_by, value_by, value_coded}
+use Rattle.equation_law.specs.Codes.{AreCodes, AreElements, IsCoded, IsNamingOf, Naming, instance_by, reference_by, value_by, value_coded}
 use Rattle.equation_law.specs.Created.{Making, token_kinds, token_type}
 use Rattle.equation_law.specs.Equations.{token_place, token_value, world_of}
 use Rattle.equation_law.specs.Meaning.{child_at}
 use Rattle.equation_law.specs.Names.{Argument, At, Attribute, Instance, Made, Reference, Row, list_of}
-use Rattle.equation_law.specs.Program.{Program, attribute_parameters, making_of}
-use Rattle.equation_law.specs.Reading.{AreTokensOf, ArgumentBy, ByEachIn, ChildBy, ClassBy, Grows, HasThere, IsClassOf, IsHigher, IsSound, OrderBy, SettledBy, Settles, TokenBy, UpBy, class_behind, code_above, higher_than, reference_cmp}
-use Rattle.equation_law.specs.Values.{Node, Nodes, Int, Text, Texts, Tree, Truth, Value, as_argument, as_kind, tokens}
-use Rattle.equation_law.proofs.Bare.{few_classes}
+use Rattle.equation_law.specs.Program.{Program, making_of}
+use Rattle.equation_law.specs.Reading.{AreTokensOf, ArgumentBy, ChildBy, ClassBy, Grows, HasThere, IsSound, OrderBy, SettledBy, Settles, TokenBy, UpBy, class_behind, code_above, reference_cmp}
+use Rattle.equation_law.specs.Values.{Node, Nodes, Int, Text, Texts, Tree, Truth, Value, as_kind, tokens}
 use Rattle.equation_law.proofs.Grown.{grows_itself}
 use Rattle.expr_eval.specs.declared.sites.Turn.{Turn}
 use Rattle.expr_eval.specs.declared.sites.Turn.TheVariants.{Done, Image, Need}
 use Rattle.expr_eval.specs.Evaluating.{Asks, Evaluates}
-use Rattle.made_trees.specs.Makers.{IsArgumentAt, Trees, naming_of, program_for, stands_for}
+use Rattle.made_trees.specs.Makers.{IsAbove, IsArgumentAt, Trees, naming_of, program_for, stands_for}
+use Rattle.made_trees.proofs.Readers.{told_argument, told_child, told_class, told_order, told_up}
 use Rattle.plain_rounds.specs.declared.standing.Standing.{Standing}
 use Rattle.plain_rounds.specs.Named.{image_making, tokens_by}
 use Rattle.plain_rounds.specs.Settings.{AreReady, naming_at, program_at}
@@ -60,25 +60,29 @@ sound s ready =
 
 -- what the makers tell of nodes the reader tells
 module _ (s : Standing) where
-  -- what holds of its program and naming holds of those that it is for
-  by_its : (P : Program → Naming → Type 0) → P (program_at s.setting) (naming_at s.setting) → (p : Program) → IsSound p (told_by s) → ByEachIn (told_by s) (λ n. P p n)
-  by_its P h p sound n is = subst (λ (q : Program). P q n) (sym sound.for.0) (subst (P (program_at s.setting)) (sym is) h)
+  abbrev trees : Trees
+  trees = s.setting.makers.now
 
-  -- and what holds by the makers does
-  moved_there : (P : Program → Naming → Type 0) → P (program_for s.setting.makers.now) (naming_of s.setting.makers.now) → P (program_at s.setting) (naming_at s.setting)
-  moved_there P h = subst (λ (T : Trees). P (program_for T) (naming_of T)) (moved s.setting) h
+  for_makers : (p : Program) → IsSound p (told_by s) → p ≡ program_for trees
+  for_makers p sound = sound.for.0 ∙ sym (ap program_for (moved s.setting))
 
-  class_is : (result : Option ClassId) (c : ClassId) → MatchOption result (c.0 ≡ 65535) (λ d. c ≡ d) → IsClassOf (program_at s.setting).grammar result c
-  class_is None c is = let few = few_classes s.setting.system.now in omega (arith, is, few)
-  class_is (Some d) c is = is
+  by_naming : (n : Naming) → n ≡ naming_at s.setting → n ≡ naming_of trees
+  by_naming n is = is ∙ sym (ap naming_of (moved s.setting))
 
-  pub standing_class : (node : NodeRef) (result : Option ClassId) (c : ClassId) → (most_nodes < node.0 → class_behind (program_for s.setting.makers.now) (stands_for s.setting.makers.now node.0) ≡ result) → MatchOption result (c.0 ≡ 65535) (λ d. c ≡ d) → ClassBy (told_by s) (told_by s) node c
-  standing_class node result c told is = record {
-    kept = λ p sound. grows_itself sound;
-    answer = λ p sound past.
-        by_its (λ p n. IsClassOf p.grammar (class_behind p (reference_by n.node node.0)) c)
-        (subst (λ (o : Option ClassId). IsClassOf (program_at s.setting).grammar o c) (sym (moved_there (λ p n. class_behind p (reference_by n.node node.0) ≡ result) (told past))) (class_is result c is)) p sound;
-  }
+  pub standing_class : (node : NodeRef) (found : Option ClassId) (c : ClassId) → (most_nodes < node.0 → class_behind (program_for trees) (stands_for trees node.0) ≡ found) → MatchOption found (c.0 ≡ 65535) (λ d. c ≡ d) → ClassBy (told_by s) (told_by s) node c
+  standing_class = told_class (told_by s) trees for_makers by_naming
+
+  pub standing_child : (node : NodeRef) (k : ℕ) (child : NodeRef) → (most_nodes < node.0 → stands_for trees child.0 ≡ child_at (world_of (program_for trees)) k (stands_for trees node.0)) → ChildBy (told_by s) (told_by s) node k child
+  standing_child = told_child (told_by s) trees for_makers by_naming
+
+  pub standing_up : (node : NodeRef) (up : Up) → (most_nodes < node.0 → IsAbove trees node.0 up) → (most_nodes < node.0 → code_above up < node.0) → UpBy (told_by s) (told_by s) node up
+  standing_up = told_up (told_by s) trees for_makers by_naming refl
+
+  pub standing_argument : (node : NodeRef) (k code : ℕ) → IsArgumentAt trees node.0 k code → ArgumentBy (told_by s) (told_by s) node k code
+  standing_argument = told_argument (told_by s) trees for_makers by_naming
+
+  pub standing_order : (a b : NodeRef) (order : Ordering) → order ≡ reference_cmp (stands_for trees a.0) (stands_for trees b.0) → OrderBy (told_by s) (told_by s) a b order
+  standing_order = told_order (told_by s) trees for_makers by_naming
 
   -- a value, or none
   settles : AreReady s.setting s.values.now → (i : CodedInstance) → IsCoded (program_at s.setting) i → (result : Result (Option CodedValue) NoMemory) → IfOk result (λ value. AreReady s.setting s.values.now → IsCoded (program_at s.setting) i → IsStandingAt s i value)
@@ -99,36 +103,6 @@ module _ (s : Standing) where
     answer = λ p sound coded. subst (λ (q : Program). Settles q (told_by s) (λ n. instance_by q n i) result) (sym sound.for.0) (settles sound.for.1 i (subst (λ (q : Program). IsCoded q i) sound.for.0 coded) result h);
   }
 
-  pub standing_child : (node : NodeRef) (k : ℕ) (result : NodeRef) → (most_nodes < node.0 → stands_for s.setting.makers.now result.0 ≡ child_at (world_of (program_for s.setting.makers.now)) k (stands_for s.setting.makers.now node.0)) → ChildBy (told_by s) (told_by s) node k result
-  standing_child node k result told = record {
-    kept = λ p sound. grows_itself sound;
-    answer = λ p sound past. by_its (λ p n. reference_by n.node result.0 ≡ child_at (world_of p) k (reference_by n.node node.0)) (moved_there (λ p n. reference_by n.node result.0 ≡ child_at (world_of p) k (reference_by n.node node.0)) (told past)) p sound;
-  }
-
-  abbrev IsAbove : NodeRef → Up → Program → Naming → Type 0
-  IsAbove node result p n = IsSome (class_behind p (reference_by n.node node.0)) → IsHigher n result (higher_than p (reference_by n.node node.0))
-
-  pub standing_up : (node : NodeRef) (result : Up) → (most_nodes < node.0 → IsAbove node result (program_for s.setting.makers.now) (naming_of s.setting.makers.now)) → (most_nodes < node.0 → code_above result < node.0) → UpBy (told_by s) (told_by s) node result
-  standing_up node result told falls = record {
-    kept = λ p sound. grows_itself sound;
-    answer = λ p sound past. by_its (IsAbove node result) (moved_there (IsAbove node result) (told past)) p sound;
-    falls = λ p sound past. falls past;
-  }
-
-  pub standing_argument : (node : NodeRef) (k result : ℕ) → IsArgumentAt s.setting.makers.now node.0 k result → ArgumentBy (told_by s) (told_by s) node k result
-  standing_argument node k result told = record {
-    kept = λ p sound. grows_itself sound;
-    answer = λ p sound n is a q o xs stands there t x type has.
-        by_its (λ p n. (a q : ℕ) (o : Reference) (xs : Row) → reference_by n.node node.0 ≡ At (Made a o xs q) → (t : Kind) (x : Argument) → slice_get (attribute_parameters p a) k ≡ Some t → slice_get (list_of xs) k ≡ Some x → IsCode p t result × (as_argument t (value_coded n t result) ≡ x))
-        (moved_there (λ p n. (a q : ℕ) (o : Reference) (xs : Row) → reference_by n.node node.0 ≡ At (Made a o xs q) → (t : Kind) (x : Argument) → slice_get (attribute_parameters p a) k ≡ Some t → slice_get (list_of xs) k ≡ Some x → IsCode p t result × (as_argument t (value_coded n t result) ≡ x)) told) p sound n is a q o xs stands t x type has;
-  }
-
-  pub standing_order : (a b : NodeRef) (result : Ordering) → result ≡ reference_cmp (stands_for s.setting.makers.now a.0) (stands_for s.setting.makers.now b.0) → OrderBy (told_by s) (told_by s) a b result
-  standing_order a b result told = record {
-    kept = λ p sound. grows_itself sound;
-    answer = λ p sound. by_its (λ p n. result ≡ reference_cmp (reference_by n.node a.0) (reference_by n.node b.0)) (moved_there (λ p n. result ≡ reference_cmp (reference_by n.node a.0) (reference_by n.node b.0)) told) p sound;
-  }
-
   -- a token, and without a code of one the default
   abbrev IsTokenBy : NodeRef → ℕ → ℕ → Program → Naming → Type 0
   IsTokenBy node k result p n =
@@ -138,7 +112,9 @@ module _ (s : Standing) where
   pub standing_token : (node : NodeRef) (k result : ℕ) (code : Option ℕ) → (AreReady s.setting s.values.now → IsTokenIn s node.0 k code) → result ≡ code_or_zero code → TokenBy (told_by s) (told_by s) node k result
   standing_token node k result code told is = record {
     kept = λ p sound. grows_itself sound;
-    answer = λ p sound. by_its (IsTokenBy node k result) (subst (λ (c : ℕ). IsTokenBy node k c (program_at s.setting) (naming_at s.setting)) (sym is) (told sound.for.1)) p sound;
+    answer = λ p sound n named.
+        subst (λ (q : Program). IsTokenBy node k result q n) (sym sound.for.0)
+        (subst (IsTokenBy node k result (program_at s.setting)) (sym named) (subst (λ (c : ℕ). IsTokenBy node k c (program_at s.setting) (naming_at s.setting)) (sym is) (told sound.for.1)));
   }
 
 -- it is stuck at an instance that has no value
