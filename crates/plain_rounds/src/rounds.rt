@@ -41,6 +41,13 @@ impl Table {
             _ => None,
         }
     }
+
+    /// What made the trees to which created nodes in the values belong.
+    pub fn makers(&self) -> &Makers
+        ensures { result.now ≡ self.now.makers }
+    {
+        &self.makers
+    }
 }
 
 /// A value that may stand once more.
@@ -150,7 +157,8 @@ fn last_values(alloc: Global, setting: &Setting<'_>) -> Result<Vec<Option<NamedV
 pub fn plain_rounds(alloc: Global, system: &System, names: &NameList) -> Result<Table, Memory>
     requires program { IsProgram (program_of system.now) }
     requires instances { All (IsInstance (program_of system.now)) (instances_in (program_of system.now) names.now) }
-    ensures { IfOk result (λ table. Solves (program_of system.now) (instances_in (program_of system.now) names.now) table) }
+    ensures solves { IfOk result (λ table. Solves (program_of system.now) (instances_in (program_of system.now) names.now) table) }
+    ensures made { IfOk result (λ table. table.makers.system ≡ system.now) }
 {
     let mut makers = Makers::new(alloc, system);
     let codes = codes_of(alloc, system, names.list(), &mut makers)?;

@@ -34,8 +34,8 @@ last_values-requires c =
       places = λ q. c.in_ok-places.ensures q ∙ ap (λ (is : List CodedInstance). first_place is q) (c.deref.ensures.value ∙ back);
     }
 
-pub returns : goal.returns
-returns c =
+pub returns-clause-solves : goal.returns-clause-solves
+returns-clause-solves c =
     let p = program_of c.args.system.now in
     let n = naming_by_makers p c.codes_of.new.makers.makers in
     let t : Table = record { values = c.in_ok-values.values; makers = c.codes_of.new.makers } in
