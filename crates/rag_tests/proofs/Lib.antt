@@ -1,5 +1,6 @@
 pub mod Bare
 pub mod Contributed
+pub mod Counting
 pub mod FromParts
 pub mod Lately
 pub mod Singles

@@ -1,3 +1,4 @@
 pub mod Circular
+pub mod Counting
 pub mod Late
 pub mod Nothing

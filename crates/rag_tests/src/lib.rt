@@ -25,6 +25,8 @@ mod named;
 #[cfg(test)]
 mod numbers;
 #[cfg(test)]
+mod ordered;
+#[cfg(test)]
 mod outside;
 #[cfg(test)]
 mod programs;
@@ -34,6 +36,8 @@ mod random;
 mod resumed;
 #[cfg(test)]
 mod rows;
+#[cfg(test)]
+mod steps;
 #[cfg(test)]
 mod sweeps;
 #[cfg(test)]

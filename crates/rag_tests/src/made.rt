@@ -85,7 +85,7 @@ fn boxes_take_the_arguments(rt: HostRuntime) {
 }
 
 // At `N(0)` no box has a value, nor has what asks for one; the nodes of a box and what they inherit ask for none.
-const ZERO: [Row; 26] = [
+const ZERO: [Row; 18] = [
     (0, ROOT, FIVE_Q, Want::Nothing),
     (0, ROOT, FIVE_A, Want::Nothing),
     (0, ROOT, FIVE_B, Want::Nothing),
@@ -104,24 +104,6 @@ const ZERO: [Row; 26] = [
     (9, ROOT, With::None, Want::Nothing),
     (10, ROOT, With::None, Want::Nothing),
     (11, ROOT, With::None, Want::Nothing),
-    (2, At::Made(0, 0), With::None, Want::Stranger),
-    (2, At::Made(0, 3), With::None, Want::Stranger),
-    (2, At::Made(3, 1), With::None, Want::Stranger),
-    (0, At::Made(0, 0), FIVE_Q, Want::Stranger),
-    (0, ROOT, With::One(Given::Int(5)), Want::Stranger),
-    (2, At::Made(22, 1), With::None, Want::Stranger),
-    (
-        0,
-        ROOT,
-        With::Two(Given::Text("q"), Given::Int(5)),
-        Want::Stranger,
-    ),
-    (
-        0,
-        ROOT,
-        With::Three(Given::Int(5), Given::Text("q"), Given::Int(5)),
-        Want::Stranger,
-    ),
 ];
 
 #[test]

@@ -54,7 +54,8 @@ pub(crate) enum Want {
 /// An attribute by its number, at a node with arguments, and what is wanted of that.
 pub(crate) type Row = (u16, At, With, Want);
 
-fn text_id(pool: &Pool, text: &str) -> TextId {
+/// The number of a text, or one that no text has.
+pub(crate) fn text_id(pool: &Pool, text: &str) -> TextId {
     match pool.find(text.as_bytes()) {
         Some(number) => TextId(number),
         None => TextId(pool.len()),
@@ -138,8 +139,12 @@ fn is_listed(want: &Want) -> bool {
     !matches!(want, Want::Stranger | Want::Unlisted)
 }
 
-// The names of the source, and behind them those of the rows that are listed.
-fn names_of(alloc: Global, system: &System, rows: &[Row]) -> Result<NameList, ReadFault> {
+/// The names of the source, and behind them those of the rows that are listed.
+pub(crate) fn names_of(
+    alloc: Global,
+    system: &System,
+    rows: &[Row],
+) -> Result<NameList, ReadFault> {
     let mut names = NameList::of_source(alloc, system)?;
     for (k, row) in rows.iter().enumerate() {
         if is_listed(&row.3) {
