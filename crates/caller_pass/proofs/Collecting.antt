@@ -40,7 +40,7 @@ walk_for_each p d sound c w a r are attribute root = λ names in_it. walk_for p 
 -- how far it has gone, taken up or new
 pub survey_taken : (p : Program) (d : Held) → IsSound p (told_by d) → (i : CodedInstance) (of : Collector) (c : Collections) (o : Option Survey) (x : Survey) → AreCollectionOf p i c → IsCollectorOf p of c → IfSome o (λ s. x ≡ s) → IfNone o (IsNew p of x)
     → IsSurveyOf p (told_by d) i o → IsSurveyed p (told_by d) c x
-survey_taken p d sound i of c None x are its own new h = survey_new (told_by d) (naming_of sound) its new
+survey_taken p d sound i of c None x are its own new h = survey_new (told_by d) sound its new
 survey_taken p d sound i of c (Some s) x are its own new h = subst (λ (y : Survey). IsSurveyed p (told_by d) c y) (sym own) (h c are)
 
 -- and how far it has gone then
@@ -52,12 +52,12 @@ survey_left p d sound i c x are h = λ k is.
 -- a walk by what a desk tells, and by what its pass knows
 pub walk_told : (s : System) (d e : Held) (w : Walk) → d.frame.system.value ≡ s → e ≡ d → IsWalk (program_at d) (reads_known (program_at d) d.view) w → IsWalk (program_of s) (told_by e) w
 walk_told s d e w same is h =
-    let here = walk_more {r = reads_known (program_at d) d.view} {t = told_by d} (λ i v a. a) (λ n in_it. in_it) h in
+    let here = walk_more {r = reads_known (program_at d) d.view} {t = told_by d} (λ i v a. a) (λ n in_it. in_it) (λ k known. known) h in
     subst (λ (t : System). IsWalk (program_of t) (told_by e) w) same (subst (λ (x : Held). IsWalk (program_at d) (told_by x) w) (sym is) here)
 
 pub walk_known : (p : Program) (e : Held) (w : Walk) → p ≡ program_at e → IsWalk p (told_by e) w → IsWalk (program_at e) (reads_known (program_at e) e.view) w
 walk_known p e w same h =
-    let here = walk_more {r = told_by e} {t = reads_known (program_at e) e.view} (λ i v a. a) (λ n in_it. in_it) h in
+    let here = walk_more {r = told_by e} {t = reads_known (program_at e) e.view} (λ i v a. a) (λ n in_it. in_it) (λ k known. known) h in
     subst (λ (q : Program). IsWalk q (reads_known (program_at e) e.view) w) same here
 
 -- what going on says of its equation

@@ -18,6 +18,7 @@ use Rattle.equation_law.specs.Reading.{ArgumentBy, ChildBy, ClassBy, Grows, IsSo
 use Rattle.equation_law.specs.Systems.{program_of}
 use Rattle.equation_law.proofs.Bare.{argument_bare, child_bare, class_bare, no_right_side, order_bare, token_bare, trees_fit, up_bare}
 use Rattle.equation_law.proofs.Codes.{sources_named}
+use Rattle.equation_law.proofs.Grown.{each_value}
 use Rattle.equation_law.proofs.Solution.{one}
 use Rattle.equation_law.proofs.Sources.{source_naming}
 use Rattle.equation_law.proofs.Tied.{never_makes}
@@ -38,6 +39,7 @@ sound d own = record {
   one_value = λ i v w a b. one (program_at d) i v w a b;
   named = λ n is. is.0;
   some = (source_names (text_of (program_at d)), source_naming (program_at d));
+  sources = λ c low. tt;
   fit = trees_fit (program_at d) own.bare;
   trees = λ a o xs v may m is. absurd (let none = never_makes (program_at d) own.bare a o in cc);
 }
@@ -75,13 +77,16 @@ grows x d p l a =
       bound = λ i v k. subst (λ (q : Program). HasValue q i v) same k;
       kept = λ y k. reads_then y x d k l;
       names = λ n is. subst (λ (q : Program). NamesInOrder q n) same is;
+      known = λ c known. known;
       heights = λ c. le_refl c;
     }
 
 -- what is known of an instance is an answer by each naming by which it may be read
 answers : (d : Held) (at : Naming → Instance) (r : Result (Option CodedValue) Memory) → ByEachNaming (program_at d) (λ names. FindsValue (program_at d) names d.view (at names) r) → Settles (program_at d) (told_by d) at r
 answers d at (Ok None) none = λ n is w a. none n is.0 a.0
-answers d at (Ok (Some v)) some = ((λ n is. let x = some n is.0 in (x.value, x.known, x.coded)), (some (source_names (text_of (program_at d))) (sources_named (program_at d))).elements)
+answers d at (Ok (Some v)) some =
+    let plainly = some (source_names (text_of (program_at d))) (sources_named (program_at d)) in
+    ((λ n is. let x = some n is.0 in (x.value, x.known, x.coded)), plainly.elements, each_value (told_by d) (λ c. tt) v)
 answers d at (Err m) h = tt
 
 -- what is answered to a coded instance
@@ -90,10 +95,11 @@ settled_at x d i r l told =
     let same : program_at d ≡ program_at x = ap (λ (f : Frame). program_of f.system.value) l.on.cells in
     record {
       kept = λ p a. grows x d p l a;
-      answer = λ p a. subst (λ (q : Program). IsCoded q i → Settles q (told_by d) (λ n. instance_by q n i) r) (same ∙ sym a.for.0)
+      answer = λ p a coded known. subst (λ (q : Program). IsCoded q i → Settles q (told_by d) (λ n. instance_by q n i) r) (same ∙ sym a.for.0)
           (λ good.
           answers d (λ n. instance_by (program_at d) n i) r
-          (subst (λ (q : Program). ByEachNaming q (λ names. FindsValue q names d.view (instance_by q names i) r)) (sym same) (told (subst (λ (q : Program). IsCoded q i) same good))));
+          (subst (λ (q : Program). ByEachNaming q (λ names. FindsValue q names d.view (instance_by q names i) r)) (sym same) (told (subst (λ (q : Program). IsCoded q i) same good))))
+          coded;
     }
 
 -- what an evaluation says, by each naming by which the desk may be read

@@ -12,7 +12,7 @@ use Rattle.caller_pass.specs.Keeping.{IsNotebookOf, Notes, walk_at}
 use Rattle.caller_pass.specs.Leaving.{reads_known}
 
 pub notes_later : (s : System) (v w : View) (n : Notes) → IsAtLeast v w → IsNotebookOf s v n → IsNotebookOf s w n
-notes_later s v w n kept h = record { system = h.system; walks = λ k x there. walk_more {r = reads_known (program_of s) v} {t = reads_known (program_of s) w} (λ j c a. (knows_later v w kept (program_of s) j a.0, a.1)) (λ n is. is) (h.walks k x there) }
+notes_later s v w n kept h = record { system = h.system; walks = λ k x there. walk_more {r = reads_known (program_of s) v} {t = reads_known (program_of s) w} (λ j c a. (knows_later v w kept (program_of s) j a.0, a.1)) (λ n is. is) (λ c known. known) (h.walks k x there) }
 
 -- nothing is kept yet
 pub notes_begin : (s : System) (n : Notes) → n.system ≡ s → n.walks ≡ [] → (v : View) → IsNotebookOf s v n

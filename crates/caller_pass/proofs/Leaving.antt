@@ -1,5 +1,5 @@
 -- What an evaluation left behind: taken up, kept, and known later.
-use Rattle.std.proofs.Common.{◌≡◌, Option, Some, None, IfSome, IfNone, sym, subst}
+use Rattle.std.proofs.Common.{◌≡◌, ℕ, Option, Some, None, IfSome, IfNone, sym, subst}
 use Rattle.equation_law.specs.declared.coding.Instance.{Instance as CodedInstance}
 use Rattle.equation_law.specs.declared.system.System.{System}
 use Rattle.equation_law.specs.Names.{Instance}
@@ -19,24 +19,24 @@ use Rattle.memo_cells.specs.Working.{Held, program_at, told_by}
 use Rattle.caller_pass.specs.Leaving.{AreLeft, IsLeft, IsSurveyOf, LeavesNothing, reads_known}
 
 -- what was left behind stays so where more has values
-pub survey_later : {S T : Type 0} (p : Program) (r : Told S) (t : Told T) → ((j : Instance) (c : Value) → r.has j c → t.has j c) → ByEachIn t r.names → (i : CodedInstance) (o : Option Survey) → IsSurveyOf p r i o → IsSurveyOf p t i o
-survey_later p r t more names i None h = tt
-survey_later p r t more names i (Some x) h = λ c is. surveyed_more more names (h c is)
+pub survey_later : {S T : Type 0} (p : Program) (r : Told S) (t : Told T) → ((j : Instance) (c : Value) → r.has j c → t.has j c) → ByEachIn t r.names → ((k : ℕ) → r.knows k → t.knows k) → (i : CodedInstance) (o : Option Survey) → IsSurveyOf p r i o → IsSurveyOf p t i o
+survey_later p r t more names knows i None h = tt
+survey_later p r t more names knows i (Some x) h = λ c is. surveyed_more more names knows (h c is)
 
-pub left_later : {S T : Type 0} {s : System} {r : Told S} {t : Told T} → ((j : Instance) (c : Value) → r.has j c → t.has j c) → ByEachIn t r.names → (i : CodedInstance) (x : Left) → AreLeft s r i x → AreLeft s t i x
-left_later {s = s} {r = r} {t = t} more names i x h = record { saved = saved_more more names x.saved h.saved; survey = survey_later (program_of s) r t more names i x.survey h.survey }
+pub left_later : {S T : Type 0} {s : System} {r : Told S} {t : Told T} → ((j : Instance) (c : Value) → r.has j c → t.has j c) → ByEachIn t r.names → ((k : ℕ) → r.knows k → t.knows k) → (i : CodedInstance) (x : Left) → AreLeft s r i x → AreLeft s t i x
+left_later {s = s} {r = r} {t = t} more names knows i x h = record { saved = saved_more more names knows x.saved h.saved; survey = survey_later (program_of s) r t more names knows i x.survey h.survey }
 
 -- what a desk tells of it is what its pass knows
 pub left_told : (d : Held) (s : System) (i : CodedInstance) (x : Left) → AreLeft s (reads_known (program_at d) d.view) i x → AreLeft s (told_by d) i x
-left_told d s i x h = left_later {r = reads_known (program_at d) d.view} {t = told_by d} (λ j c k. k) (λ n is. is) i x h
+left_told d s i x h = left_later {r = reads_known (program_at d) d.view} {t = told_by d} (λ j c k. k) (λ n is. is) (λ k known. known) i x h
 
 pub left_here : (d : Held) (s : System) (i : CodedInstance) (x : Left) → AreLeft s (told_by d) i x → AreLeft s (reads_known (program_at d) d.view) i x
-left_here d s i x h = left_later {r = told_by d} {t = reads_known (program_at d) d.view} (λ j c k. k) (λ n is. is) i x h
+left_here d s i x h = left_later {r = told_by d} {t = reads_known (program_at d) d.view} (λ j c k. k) (λ n is. is) (λ k known. known) i x h
 
 -- and so where more is known
 pub left_known : (p : Program) (v w : View) → IsAtLeast v w → (s : System) (i : CodedInstance) (m : Option Left) → IsLeft s (reads_known p v) i m → IsLeft s (reads_known p w) i m
 left_known p v w kept s i None h = tt
-left_known p v w kept s i (Some x) h = left_later {r = reads_known p v} {t = reads_known p w} (λ j c k. (knows_later v w kept p j k.0, k.1)) (λ n is. is) i x h
+left_known p v w kept s i (Some x) h = left_later {r = reads_known p v} {t = reads_known p w} (λ j c k. (knows_later v w kept p j k.0, k.1)) (λ n is. is) (λ k known. known) i x h
 
 -- nothing was left behind
 pub none_left : {S : Type 0} (s : System) (t : Told S) (i : CodedInstance) (m : Option Left) → m ≡ None → IsLeft s t i m

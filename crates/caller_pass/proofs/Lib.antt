@@ -21,6 +21,7 @@ pub mod Paying
 pub mod Places
 pub mod Sealing
 pub mod Seeking
+pub mod Sites
 pub mod Solved
 pub mod Stacks
 pub mod Stepping

@@ -1,15 +1,17 @@
 -- Where keys of what queries demand have all cells and one more is demanded, that is more than the cells can hold.
-use Rattle.std.proofs.Common.{◌≡◌, ◌≢◌, ℕ, zero, suc, ◌<◌, ◌≤◌, ⊎_elim, List, [], ◌∷◌, length, refl, sym, ap, subst, ◌∙◌, arith}
+use Rattle.std.proofs.Common.{◌≡◌, ◌≢◌, ℕ, zero, suc, ◌<◌, ◌≤◌, ◌/◌, ⊎_elim, List, [], ◌∷◌, length, refl, sym, ap, subst, ◌∙◌, arith}
 use Rattle.rag_io.specs.Pool.{ArePooled}
 use Rattle.solutions.specs.Leading.{none}
-use Rattle.equation_law.specs.Keys.{AreDifferent, IsAmong, IsAsked, IsJust, IsKey, Part, Prefix, Word}
+use Rattle.equation_law.specs.Keys.{AreDifferent, IsAmong, IsAsked, IsJust, IsKey, Member, Part, Prefix, Word}
 use Rattle.equation_law.specs.Loops.{Chain}
-use Rattle.equation_law.specs.Names.{Instance, Query}
+use Rattle.equation_law.specs.Names.{At, Instance, Query}
 use Rattle.equation_law.specs.Program.{Program}
+use Rattle.equation_law.proofs.Tied.{one_tied_code}
 use Rattle.memo_cells.specs.declared.view.Frame.{Frame}
 use Rattle.memo_cells.specs.declared.view.View.{View}
 use Rattle.memo_cells.specs.Claiming.{ClaimsKeys, ClaimsKeysOf, IsKeyOf, IsKeyOfPart}
 use Rattle.memo_cells.specs.Keys.{set_word}
+use Rattle.memo_cells.specs.Naming.{IsWordOf}
 use Rattle.memo_cells.specs.Standing.{IsPassOf}
 use Rattle.memo_cells.specs.Views.{Has, IsAtLeast, IsFull, first_view, times}
 use Rattle.memo_cells.proofs.Claiming.{LeadsToAll, claims_on_of, key_of_more}
@@ -36,12 +38,16 @@ module _ (p : Program) (pooled : ArePooled p.texts) (f : Frame) (v w : View) (fi
       let some = own.whole (kept.share ∙ ap (λ (y : View). y.share) first) x k has in
       ⊎_elim (λ same. absurd (some (same ∙ empty))) (λ c. subst (λ (j : ℕ). IsKeyOf p w (IsAsked p) j) (own.one_key x c.0 k c.1 has) c.2) (claims x)
 
-  one_word : (k l : ℕ) (x : Part) → IsKeyOfPart p w k x → IsKeyOfPart p w l x → k ≡ l
-  one_word k l (Prefix i) a b = word_once w own.one_key own.one_place p pooled k l i a b
-  one_word k l (Word i n) a b =
+  one_set_word : (k l : ℕ) (i : Instance) (n : ℕ) → IsWordOf p w k i n → IsWordOf p w l i n → k ≡ l
+  one_set_word k l i n a b =
       let key : a.key ≡ b.key = word_once w own.one_key own.one_place p pooled a.key b.key i a.stands b.stands in
       let slot : a.slot ≡ b.slot = own.one_place a.slot b.slot b.key (subst (λ (j : ℕ). Has w.keys (a.slot, j)) key a.there) b.there in
       a.is ∙ ap (λ (s : ℕ). set_word s n) slot ∙ sym b.is
+
+  one_word : (k l : ℕ) (x : Part) → IsKeyOfPart p w k x → IsKeyOfPart p w l x → k ≡ l
+  one_word k l (Prefix i) a b = word_once w own.one_key own.one_place p pooled k l i a b
+  one_word k l (Word i n) a b = one_set_word k l i n a b
+  one_word k l (Member i m) a b = one_set_word k l i (a.code / 64) a.word (subst (λ (c : ℕ). IsWordOf p w l i (c / 64)) (sym (one_tied_code p a.code b.code (At m) a.at b.at)) b.word)
 
   module _ (k : ℕ) (asked : IsKeyOf p w (IsAsked p) k) (full : IsFull f w k) where
     -- what the key of a cell is of

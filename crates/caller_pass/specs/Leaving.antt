@@ -19,9 +19,9 @@ abbrev pub IsSurveyOf : {S : Type 0} → Program → Told S → CodedInstance �
 IsSurveyOf p t i None = Unit {0}
 IsSurveyOf p t i (Some s) = (c : Collections) → AreCollectionOf p i c → IsSurveyed p t c s
 
--- what a pass knows, as a reader of that alone
+-- what a pass knows, as a reader of that alone, which knows every code
 abbrev pub reads_known : Program → View → Told Unit
-reads_known p v = record { for = λ q. q ≡ p; has = IsKnown p v; can = HasValue p; keeps = λ u. Unit {0}; names = NamesInOrder p; height = λ c. c }
+reads_known p v = record { for = λ q. q ≡ p; has = IsKnown p v; can = HasValue p; keeps = λ u. Unit {0}; names = NamesInOrder p; knows = λ c. Unit {0}; height = λ c. c }
 
 -- all that an evaluation of the equation of an instance left behind is so, by what a reader has
 pub record AreLeft {S : Type 0} (s : System) (t : Told S) (i : CodedInstance) (l : Left) : Type 0 where

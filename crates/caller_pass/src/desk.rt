@@ -116,7 +116,7 @@ impl<'a> Desk<'a> {
     ghost use Rattle.memo_cells.specs.Working.{HasCell, IsOwn, MaySettleAt, ReadsOn, program_at};
     ghost use Rattle.collection_attrs.specs.Roots.{IsRootOf, IsRootless};
     ghost use Rattle.collection_attrs.specs.Surveys.{Collections, IsCollectorOf};
-    ghost use Rattle.inherited_walk.specs.Sites.{FindsEquation};
+    ghost use Rattle.inherited_walk.specs.Sites.{FindsEquation, IsSourceSite};
     ghost use Rattle.caller_pass.specs.Noting.{IsNoted};
     ghost use Rattle.caller_pass.specs.Holding.{FindsCodeAt, FindsValueAt, HasCellThen, HasLoopAt, IsKindAt, IsKnownCell, IsReadValueAt, IsWalkAt, KnowsCell, TellsSettledAt, WhyUnknownAt, WhyUnsettledAt};
 
@@ -207,6 +207,7 @@ impl<'a> Desk<'a> {
         ensures same { self.new ≡ self.old }
         ensures found { FindsEquation (program_at self.old) attr node args result }
         ensures rows { IsRow args → IfSome result (λ s. IsRow s.outer × IsRow s.inner) }
+        ensures source { IfSome result (IsSourceSite (program_at self.old) args) }
     {
         let system = self.system;
         self.notes.site(system, attr, node, args)

@@ -13,7 +13,7 @@ ghost use Rattle.collection_attrs.specs.Surveys.{Collections, IsCollectorOf};
 ghost use Rattle.collection_attrs.specs.Walks.{Walk, new_walk};
 ghost use Rattle.caller_pass.specs.declared.walks.Walked.{Walked};
 ghost use Rattle.caller_pass.specs.Keeping.{IsNotebookOf, walk_at};
-ghost use Rattle.inherited_walk.specs.Sites.{FindsEquation};
+ghost use Rattle.inherited_walk.specs.Sites.{FindsEquation, IsSourceSite};
 ghost use Rattle.caller_pass.specs.Noting.{IsLooping, IsNoted, KeepsAtMost};
 
 use crate::walks::Walks;
@@ -142,6 +142,7 @@ impl Notebook {
         ensures same { self.new ≡ self.old }
         ensures found { FindsEquation (program_of system.now) attr node args result }
         ensures rows { IsRow args → IfSome result (λ s. IsRow s.outer × IsRow s.inner) }
+        ensures source { IfSome result (IsSourceSite (program_of system.now) args) }
     {
         find_noted(system, &mut self.ways, attr, node, args)
     }

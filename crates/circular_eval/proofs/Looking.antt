@@ -5,8 +5,10 @@ use Rattle.std.specs.declared.cmp.Ordering.{Ordering}
 use Rattle.ast_grammar.specs.declared.grammar.ClassId.{ClassId}
 use Rattle.attr_rules.specs.declared.kinds.Kind.{Kind}
 use Rattle.attr_rules.specs.declared.kinds.Kind.TheVariants as kinds
+use Rattle.equation_law.specs.declared.coding.Instance.{Instance as CodedInstance}
 use Rattle.equation_law.specs.declared.coding.NodeRef.{NodeRef}
 use Rattle.equation_law.specs.declared.coding.Up.{Up}
+use Rattle.equation_law.specs.declared.coding.Value.{Value as CodedValue}
 use Rattle.equation_law.specs.declared.system.System.{System}
 use Rattle.equation_law.specs.Checked.{HasSourcesAlone}
 use Rattle.equation_law.specs.Codes.{IsNamingOf, NamesInOrder, Naming, source_names}
@@ -14,12 +16,12 @@ use Rattle.equation_law.specs.Equations.{is_declared}
 use Rattle.equation_law.specs.Names.{Instance}
 use Rattle.equation_law.specs.Orders.{FitsKind}
 use Rattle.equation_law.specs.Program.{Program, text_of}
-use Rattle.equation_law.specs.Reading.{ArgumentBy, ChildBy, ClassBy, Grows, IsSound, OrderBy, TokenBy, Told, UpBy, code_above}
+use Rattle.equation_law.specs.Reading.{ArgumentBy, ChildBy, ClassBy, Grows, IsSound, KnowsInstance, KnowsValue, OrderBy, TokenBy, Told, UpBy, code_above}
 use Rattle.equation_law.specs.Systems.{program_of}
 use Rattle.equation_law.specs.Values.{Value, as_kind}
 use Rattle.equation_law.proofs.Bare.{argument_bare, child_bare, class_bare, order_bare, token_bare, trees_fit, up_bare}
 use Rattle.equation_law.proofs.Codes.{sources_named}
-use Rattle.equation_law.proofs.Grown.{grows_itself}
+use Rattle.equation_law.proofs.Grown.{each_instance, each_value, grows_itself}
 use Rattle.equation_law.proofs.Solution.{one}
 use Rattle.equation_law.proofs.Sources.{source_naming}
 use Rattle.equation_law.proofs.Tied.{never_makes}
@@ -45,6 +47,7 @@ work_sound held x r t own =
       one_value = λ i v w a b. one p i v w (t.can i v a) (t.can i w b);
       named = λ n is. (t.named n is).0;
       some = (source_names (text_of p), t.each (source_names (text_of p)) plain.0 plain.1);
+      sources = λ c low. t.knows c;
       fit = trees_fit p own.bare;
       trees = λ a o xs v may m is. absurd (let none = never_makes p own.bare a o in cc);
     }
@@ -90,6 +93,7 @@ here_sound d s es keeps p e same own kept = record {
   one_value = λ i v w a b. let q = program_at d in read_once (a (source_names (text_of q)) (sources_named q)) (b (source_names (text_of q)) (sources_named q));
   named = λ n is. subst (λ (q : Program). IsNamingOf q n) (sym e) is.0;
   some = let q = program_at d in (source_names (text_of q), source_naming q);
+  sources = λ c low. tt;
   fit = trees_fit p (subst HasSourcesAlone (sym e) own.bare);
   trees = λ a o xs v may m is. absurd (let none = never_makes p (subst HasSourcesAlone (sym e) own.bare) a o in cc);
 }
@@ -104,12 +108,20 @@ here_grows d e s es keeps more on kept p sound =
       bound = λ i v h. subst (λ (q : Program). MayReadByEach q es i v) same h;
       kept = kept;
       names = λ n is. subst (λ (q : Program). NamesInOrder q n) same is;
+      known = λ c k. k;
       heights = λ c. le_refl c;
     }
 
 -- where nothing is read, it is the same
 pub here_same : {S : Type 0} (d : Held) (s : System) (es : Members) (keeps : S → Type 0) (p : Program) → IsSound p (told_here d s es keeps) → Grows p (told_here d s es keeps) (told_here d s es keeps)
 here_same d s es keeps p sound = grows_itself sound
+
+-- it knows the nodes in whatever it is asked for
+pub here_instance : {S : Type 0} (d : Held) (s : System) (es : Members) (keeps : S → Type 0) (p : Program) (i : CodedInstance) → KnowsInstance p (told_here d s es keeps) i
+here_instance d s es keeps p i = each_instance (told_here d s es keeps) (λ c. tt) p i
+
+pub here_value : {S : Type 0} (d : Held) (s : System) (es : Members) (keeps : S → Type 0) (v : CodedValue) → KnowsValue (told_here d s es keeps) v
+here_value d s es keeps v = each_value (told_here d s es keeps) (λ c. tt) v
 
 -- nodes that were made there are none
 module _ {S : Type 0} (d : Held) (s : System) (es : Members) (keeps : S → Type 0) where
@@ -139,7 +151,7 @@ module _ {S : Type 0} (d : Held) (s : System) (es : Members) (keeps : S → Type
 
 -- what is saved is so whatever a reader kept
 pub saved_there : {S : Type 0} (d : Held) (s : System) (es : Members) (keeps : S → Type 0) (q : System) (x : Saved) → AreSaved q (reads_here (program_at d) d.view es) x → AreSaved q (told_here d s es keeps) x
-saved_there d s es keeps q x h = saved_more {r = reads_here (program_at d) d.view es} {t = told_here d s es keeps} (λ i v r. r) (λ n is. is) x h
+saved_there d s es keeps q x h = saved_more {r = reads_here (program_at d) d.view es} {t = told_here d s es keeps} (λ i v r. r) (λ n is. is) (λ c k. k) x h
 
 pub saved_here : {S : Type 0} (d : Held) (s : System) (es : Members) (keeps : S → Type 0) (q : System) (x : Saved) → AreSaved q (told_here d s es keeps) x → AreSaved q (reads_here (program_at d) d.view es) x
-saved_here d s es keeps q x h = saved_more {r = told_here d s es keeps} {t = reads_here (program_at d) d.view es} (λ i v r. r) (λ n is. is) x h
+saved_here d s es keeps q x h = saved_more {r = told_here d s es keeps} {t = reads_here (program_at d) d.view es} (λ i v r. r) (λ n is. is) (λ c k. k) x h

@@ -57,7 +57,7 @@ module _ (p : Program) (v w : View) (more : IsAtLeast v w) (es fs : Members) (st
 
   -- and so does what is saved
   pub saved_on : (s : System) (x : Saved) → AreSaved s (reads_here p v es) x → AreSaved s (reads_here p w fs) x
-  saved_on s x h = saved_more {r = reads_here p v es} {t = reads_here p w fs} read_more (λ n is. is) x h
+  saved_on s x h = saved_more {r = reads_here p v es} {t = reads_here p w fs} read_more (λ n is. is) (λ c k. k) x h
 
   pub kept_on : (s : System) (o : Option Saved) → IsKept s (reads_here p v es) o → IsKept s (reads_here p w fs) o
   kept_on s None h = tt

@@ -17,6 +17,7 @@ use Rattle.equation_law.specs.Systems.{program_of}
 use Rattle.equation_law.specs.Values.{Value, as_kind}
 use Rattle.equation_law.proofs.Bare.{no_right_side}
 use Rattle.equation_law.proofs.Codes.{sources_named}
+use Rattle.equation_law.proofs.Grown.{each_instance}
 use Rattle.equation_law.proofs.Names.{same_instance_is}
 use Rattle.equation_law.proofs.Pooled.{texts_pooled}
 use Rattle.expr_eval.specs.declared.sites.Turn.{Turn}
@@ -28,7 +29,7 @@ use Rattle.circular_eval.specs.Local.{AreKept, AreReadable, IsMemberOf, Members,
 use Rattle.circular_eval.specs.Looking.{ComesTo, told_here}
 use Rattle.circular_eval.proofs.Going.{program_on}
 use Rattle.circular_eval.proofs.Resuming.{other_entry}
-use Rattle.circular_eval.proofs.Looking.{fits_read, here_grows, here_same, known_read, none_read, work_reads, work_sound}
+use Rattle.circular_eval.proofs.Looking.{fits_read, here_grows, here_same, here_value, known_read, none_read, work_reads, work_sound}
 use Rattle.circular_eval.proofs.Tied.{declared_same, halts_same, reads_each}
 
 settles_err : {S : Type 0} (p : Program) (s : Told S) (at : Naming → Instance) (r : Result (Option CodedValue) Memory) → IsErr r → Settles p s at r
@@ -52,7 +53,7 @@ here_settles d s es keeps i result p same h = subst (λ (q : Program). Settles q
 pub same_settles : {S : Type 0} (d : Held) (s : System) (es : Members) (keeps : S → Type 0) (i : CodedInstance) (r : Result (Option CodedValue) Memory) → IsErr r → SettledBy (told_here d s es keeps) (told_here d s es keeps) i r
 same_settles d s es keeps i r e = record {
   kept = λ p sound. here_same d s es keeps p sound;
-  answer = λ p sound coded. settles_err p (told_here d s es keeps) (λ n. instance_by p n i) r e;
+  answer = λ p sound coded known. settles_err p (told_here d s es keeps) (λ n. instance_by p n i) r e;
 }
 
 -- what reads with a work goes on
@@ -70,6 +71,7 @@ module _ {W S : Type 0} (held : W → Held) (y : W) (t : Told W) (b : TellsPass 
         let there = a.0 names (b.each names named.0 named.1) in
         (there.0, λ others other. settled (declared names) (b.known (instance_by q names i) there.0 there.1), there.2),
     a.1,
+    here_value (held y) s es more v,
   )
   undeclared_settles declared (Ok None) a = λ names named w h.
       a names (b.each names named.0 named.1) w (b.has (instance_by q names i) w (known_read (declared names) (h names named.0)))
@@ -81,12 +83,12 @@ work_settles held x y r t a b s es keeps more goes i result e h = record {
   kept = λ p sound.
       let on = reads held x y r t a b i result h sound.for.2 in
       here_grows (held x) (held y) s es keeps more on (λ z. goes z on) p sound;
-  answer = λ p sound coded.
+  answer = λ p sound coded known.
       let on = reads held x y r t a b i result h sound.for.2 in
       let same : p ≡ program_at (held y) = sound.for.0 ∙ sym (program_on (held x) (held y) on.on) in
       let here : program_of s ≡ program_at (held y) = sym (ap program_of sound.for.1) ∙ sym (program_on (held x) (held y) on.on) in
       let work = work_sound held x r a sound.for.2 in
-      let told : Settles p t (λ n. instance_by p n i) result = h.answer p (subst (λ (q : Program). IsSound q r) (sym sound.for.0) work) coded in
+      let told : Settles p t (λ n. instance_by p n i) result = h.answer p (subst (λ (q : Program). IsSound q r) (sym sound.for.0) work) coded (each_instance r a.knows p i) in
       let undeclared = subst (λ (q : Program). is_declared q (instance_of q i) ≡ false) here e in
       here_settles (held y) s es more i result p same
       (undeclared_settles held y t b s es more i
@@ -115,7 +117,7 @@ module _ {S : Type 0} (d : Held) (s : System) (es : Members) (keeps : S → Type
   pub member_settles : (x : CodedValue) → ((p : Program) (names : Naming) → IsMemberOf p names es (instance_by p names i)) → ((p : Program) → ArePooled p.texts → IsCoded p i → ByEachNaming p (λ names. AreKept p names es → local_value p names es (instance_by p names i) ≡ value_by names x)) → ((p : Program) (names : Naming) → AreKept p names es → AreElements p x) → SettledBy (told_here d s es keeps) (told_here d s es keeps) i (Ok (Some x))
   member_settles x member is elements = record {
     kept = λ p sound. here_same d s es keeps p sound;
-    answer = λ p sound coded.
+    answer = λ p sound coded known.
         let q = held_program in
         let own : IsOwn d = sound.for.2 in
         let all = readable p sound coded in
@@ -131,6 +133,7 @@ module _ {S : Type 0} (d : Held) (s : System) (es : Members) (keeps : S → Type
                 sym (ap (as_kind (kind_in q j)) value ∙ fits_read (kind_in q j) (value_by names x) fits),
               ),
           elements q plain (all plain (sources_named q)).0,
+          here_value d s es keeps x,
         );
   }
 
@@ -138,7 +141,7 @@ module _ {S : Type 0} (d : Held) (s : System) (es : Members) (keeps : S → Type
   pub none_settles : ((p : Program) → ArePooled p.texts → IsCoded p i → ByEachNaming p (λ names. AreKept p names es → ¬ IsMemberOf p names es (instance_by p names i))) → SettledBy (told_here d s es keeps) (told_here d s es keeps) i (Ok None)
   none_settles none = record {
     kept = λ p sound. here_same d s es keeps p sound;
-    answer = λ p sound coded.
+    answer = λ p sound coded known.
         here_settles d s es keeps i (Ok None) p sound.for.0
         (λ names named w h.
         none_read (declared_by p sound coded names) (none held_program (texts_pooled d.frame.system.value) (good p sound coded) names named.0 (readable p sound coded names named.0).0) (h names named.0));

@@ -94,9 +94,9 @@ MayReadByEach p es j w = ByEachNaming p (λ names. MayRead p names es j w)
 abbrev pub ReadsByEach : Program → View → Members → Instance → Value → Type 0
 ReadsByEach p v es j w = ByEachNaming p (λ names. ReadsHere p names v es j w)
 
--- a reader of that alone, which may be read by each naming for the program whose codes are in the order of their nodes
+-- a reader of that alone, which may be read by each naming for the program whose codes are in the order of their nodes, and which knows every code
 abbrev pub reads_here : Program → View → Members → Told Unit
-reads_here p v es = record { for = λ q. q ≡ p; has = ReadsByEach p v es; can = MayReadByEach p es; keeps = λ u. Unit {0}; names = NamesInOrder p; height = λ c. c }
+reads_here p v es = record { for = λ q. q ≡ p; has = ReadsByEach p v es; can = MayReadByEach p es; keeps = λ u. Unit {0}; names = NamesInOrder p; knows = λ c. Unit {0}; height = λ c. c }
 
 -- the number of a member, which is j
 pub record IsNumberOf (p : Program) (names : Naming) (es : Members) (j : Instance) (number : ℕ) : Type 0 where

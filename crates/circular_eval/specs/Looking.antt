@@ -18,7 +18,7 @@ use Rattle.memo_cells.specs.Working.{Held, IsForSystem, IsOwn, program_at}
 use Rattle.circular_eval.specs.declared.local.Local.{Local}
 use Rattle.circular_eval.specs.Local.{AreReadable, MayReadByEach, Members, ReadsByEach, ReadsHere, reads_here}
 
--- over what a work holds and the members of a set: by each naming it has the same
+-- over what a work holds and the members of a set: by each naming it has the same; it knows every code
 abbrev pub told_here : {S : Type 0} → Held → System → Members → (S → Type 0) → Told S
 told_here d s es keeps = record {
   for = λ p. (p ≡ program_at d) × IsForSystem d s × IsOwn d × AreReadable p es;
@@ -26,6 +26,7 @@ told_here d s es keeps = record {
   can = MayReadByEach (program_at d) es;
   keeps = keeps;
   names = NamesInOrder (program_at d);
+  knows = λ c. Unit {0};
   height = λ c. c;
 }
 

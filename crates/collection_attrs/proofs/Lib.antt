@@ -6,6 +6,7 @@ pub mod Found
 pub mod Going
 pub mod Grown
 pub mod Hung
+pub mod Known
 pub mod Noting
 pub mod Outcomes
 pub mod Placed

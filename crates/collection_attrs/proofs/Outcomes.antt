@@ -32,8 +32,8 @@ module _ {S : Type 0} {p : Program} {r s : Told S} {d : Asks} {t : Turn} (e : Ev
 
 -- it says the same of demands that are the same by each naming by which the reader may be read
 answers_as : {S : Type 0} (p : Program) (s : Told S) {c d : Asks} → ByEachIn s (λ names. c names ≡ d names) → (result : Result Turn Memory) → AnswersTurn p s c result → AnswersTurn p s d result
-answers_as p s same (Ok (turns.Done v)) h = record { comes = λ names in_it. subst (λ (x : Demands Instance Value). Comes s.has x (value_by names v)) (same names in_it) (h.comes names in_it); coded = h.coded }
-answers_as p s same (Ok (turns.Need i)) h = record { wants = λ names in_it. subst (λ (x : Demands Instance Value). Wants s.has x (instance_by p names i)) (same names in_it) (h.wants names in_it); coded = h.coded }
+answers_as p s same (Ok (turns.Done v)) h = record { comes = λ names in_it. subst (λ (x : Demands Instance Value). Comes s.has x (value_by names v)) (same names in_it) (h.comes names in_it); coded = h.coded; known = h.known }
+answers_as p s same (Ok (turns.Need i)) h = record { wants = λ names in_it. subst (λ (x : Demands Instance Value). Wants s.has x (instance_by p names i)) (same names in_it) (h.wants names in_it); coded = h.coded; known = h.known }
 answers_as p s same (Ok (turns.Image t)) h = record {
   making = h.making;
   is = h.is;

@@ -73,13 +73,13 @@ module _ {S : Type 0} (p : Program) (t : Told S) (v w : Walk) (h : IsWalk p t v)
     offer = record { contribution = at.contribution; node = w.node }
 
     -- past an offer that was weighed, which is noted where it has a receiver
-    pub passes : (u : Walk) (r : Option ℕ) → u ≡ one_further w r → ByEachIn t (λ names. IsPassed p t.has offer (option_map (reference_by names.node) r)) → IsFurther u
-    passes u r is q =
+    pub passes : (u : Walk) (r : Option ℕ) → u ≡ one_further w r → IfSome r t.knows → ByEachIn t (λ names. IsPassed p t.has offer (option_map (reference_by names.node) r)) → IsFurther u
+    passes u r is new q =
         let one : passed_by p (one_further w r) ≡ passed_by p w ++ offer ∷ [] = before_offered p w.attribute w.root w.node w.contribution at.contribution at.is at.offered in
         let long = ap length same in
         let one_longer = ap length one in
         subst IsFurther (sym is) (record {
-          walk = walk_passes p t w at.contribution r sought code before at.is (slice_get_within p.rules.contributions w.contribution at.contribution at.is) at.offered q;
+          walk = walk_passes p t w at.contribution r sought code before at.is (slice_get_within p.rules.contributions w.contribution at.contribution at.is) at.offered new q;
           more = omega (arith, long, one_longer, length-append (passed_by p w) (offer ∷ []));
           longer = notes_stay r;
         })

@@ -13,7 +13,7 @@ use Rattle.equation_law.specs.Collections.{Collection, Offer, collection_demands
 use Rattle.equation_law.specs.Equations.{offers_below, world_of}
 use Rattle.equation_law.specs.Names.{At, Instance}
 use Rattle.equation_law.specs.Program.{Program}
-use Rattle.equation_law.specs.Reading.{ByEachIn, Grows, IsSound, Told}
+use Rattle.equation_law.specs.Reading.{ByEachIn, Grows, IsSound, KnowsValue, Told}
 use Rattle.equation_law.specs.Values.{Value}
 use Rattle.expr_eval.specs.declared.sites.Turn.TheVariants as turns
 use Rattle.expr_eval.specs.Evaluating.{Comes as ComesUnder, Evaluates, Wants}
@@ -26,6 +26,7 @@ use Rattle.collection_attrs.specs.Walks.{AreNotes, IsFirstFor, IsFor, IsOfferStu
 use Rattle.collection_attrs.proofs.Alike.{along, stands_behind, surveyed}
 use Rattle.collection_attrs.proofs.Found.{node_is, one_collection}
 use Rattle.collection_attrs.proofs.Grown.{naming_of, survey_new, surveyed_as}
+use Rattle.collection_attrs.proofs.Known.{combined_known, new_known}
 use Rattle.collection_attrs.proofs.Placed.{survey_over, survey_stops, survey_takes}
 use Rattle.collection_attrs.proofs.Receivers.{receiver_is, receiver_own}
 use Rattle.collection_attrs.proofs.Walked.{IsWalkBy, offers_split, survey_condition, survey_done, survey_receiver, walk_by}
@@ -104,6 +105,7 @@ module _ {S : Type 0} (p : Program) (t : Told S) (c : Collections) where
         let x = h.survey names is in
         record { within = omega arith; kept = x.kept; notes = subst (λ (ns : List Noted). AreNotes p names (take (length ns) ns) x.kept) (sym notes) x.notes; comes = x.comes };
     coded = h.coded;
+    known = h.known;
   }
 
   module _ (sound : IsSound p t) (w : Walk) (h : IsWalk p t w) (is : IsForEach p t w c) (s : Survey) where
@@ -124,6 +126,7 @@ module _ {S : Type 0} (p : Program) (t : Told S) (c : Collections) where
             let named = naming_of sound names in_it in
             over_all p t.has (one_value sound) names named (c names) w (walk_by h names in_it) (is names in_it) s (v.gone names in_it) enough of.node.0 (node_is p (its names named)) none;
         coded = v.coded;
+        known = v.known;
       }
 
       module _ (place : ℕ) (may : MayGoOn w.notes of.node.0 s.taken → IsFirstFor w.notes of.node.0 s.taken place) (n : Noted) (there : slice_get w.notes place ≡ Some n) (b : Contribution) (known : slice_get p.rules.contributions n.contribution ≡ Some b) where
@@ -131,13 +134,14 @@ module _ {S : Type 0} (p : Program) (t : Told S) (c : Collections) where
         own = record { contribution = b; node = n.node }
 
         -- it is counted with its value
-        pub counts_one : (x : Survey) (u : CodedValue) → x.taken ≡ place + 1 → AreElements p x.so_far → ByEachNaming p (λ names. value_by names x.so_far ≡ combine of.method of.kind (value_by names s.so_far) (value_by names u)) → ByEachIn t (λ names. ComesUnder t.has (contributed p own) (value_by names u)) → IsSurveyed p t c x
-        counts_one x u taken coded value comes = record {
+        pub counts_one : (x : Survey) (u : CodedValue) → KnowsValue t u → x.taken ≡ place + 1 → AreElements p x.so_far → ByEachNaming p (λ names. value_by names x.so_far ≡ combine of.method of.kind (value_by names s.so_far) (value_by names u)) → ByEachIn t (λ names. ComesUnder t.has (contributed p own) (value_by names u)) → IsSurveyed p t c x
+        counts_one x u its_known taken coded value comes = record {
           gone = λ names in_it.
               let named = naming_of sound names in_it in
               let by = its names named in
               one_more p t.has (one_value sound) names named (c names) w (walk_by h names in_it) (is names in_it) s (v.gone names in_it) enough of.node.0 (node_is p by) place may n there b known x by.method by.kind taken (value names named) (comes names in_it);
           coded = coded;
+          known = combined_known sound of.method of.kind s.so_far u x.so_far value v.known its_known;
         }
 
         -- and where it has none, the collection is stuck there
@@ -159,6 +163,7 @@ module _ {S : Type 0} {p : Program} {t : Told S} (sound : IsSound p t) {of : Col
   counted_for {w = w} {s = s} h d there = record {
     survey = λ names in_it. subst (λ (x : Collection). IsSurvey p t.has names w x (length w.notes) (value_by names s.so_far)) (same_by d there names in_it) (h.survey names in_it);
     coded = h.coded;
+    known = h.known;
   }
 
   pub comes_for : (v : CodedValue) → ByEachIn t (λ names. ComesUnder t.has (demands_of p c names) (value_by names v)) → (d : Collections) → IsCollectorOf p of d → ByEachIn t (λ names. ComesUnder t.has (demands_of p d names) (value_by names v))
@@ -170,7 +175,7 @@ module _ {S : Type 0} {p : Program} {t : Told S} (sound : IsSound p t) {of : Col
 -- begun anew or not, it is a survey that the walk has kept enough for
 pub fitted : {S : Type 0} (p : Program) (t : Told S) → IsSound p t → {of : Collector} {c : Collections} → IsCollectorOf p of c → (s x : Survey) (w : Walk) → ((x ≡ s) × (s.taken ≤ length w.notes)) ⊎ IsNew p of x → IsSurveyed p t c s → IsSurveyed p t c x × (x.taken ≤ length w.notes)
 fitted p t sound {c = c} is s x w (inl e) h = (subst (IsSurveyed p t c) (sym e.0) h, (let same = ap (λ (y : Survey). y.taken) e.0 in let l = e.1 in omega (arith, same, l)))
-fitted p t sound is s x w (inr new) h = (survey_new t (naming_of sound) is new, (let none = new.taken in omega (arith, none)))
+fitted p t sound is s x w (inr new) h = (survey_new t sound is new, (let none = new.taken in omega (arith, none)))
 
 -- where nothing is offered it has the fresh value
 pub rootless : {S : Type 0} {p : Program} {q r : Told S} {of : Collector} {c : Collections} {s : Survey} → Grows p q r → IsCollectorOf p of c → ByEachIn r (λ names. (c names).offers ≡ []) → IsNew p of s → (v : CodedValue) → v ≡ s.so_far → Evaluates p q r (demands_of p c) (Ok (turns.Done v))
@@ -185,5 +190,6 @@ rootless {p = p} {r = r} {c = c} kept is none new v same = record {
         subst (λ (os : List Offer). ComesUnder r.has (gathered (world_of p) x.method x.kind (At x.node) (fresh x.method x.kind) os) (value_by names v)) (sym (none names in_it))
         ([], subst (λ (y : Value). Ends r.has (Gives (fresh x.method x.kind)) y []) (sym value) gives);
     coded = subst (AreElements p) (sym same) new.coded;
+    known = subst (KnowsValue r) (sym same) (new_known kept.sound new);
   };
 }

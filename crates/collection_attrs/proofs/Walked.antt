@@ -1,5 +1,5 @@
 -- A walk goes on, a collection goes on in it, and what its readers come to have besides changes nothing.
-use Rattle.std.proofs.Common.{◌≡◌, ℕ, zero, suc, ◌+◌, ◌^◌, ◌<◌, Bool, true, false, List, [], ◌∷◌, ◌++◌, Option, Some, None, length, slice_get, take, drop, refl, sym, ap, subst, ◌∙◌, append-nil, inl, inr, arith}
+use Rattle.std.proofs.Common.{◌≡◌, ℕ, zero, suc, ◌+◌, ◌^◌, ◌<◌, Bool, true, false, List, [], ◌∷◌, ◌++◌, Option, Some, None, IfSome, length, slice_get, take, drop, refl, sym, ap, subst, ◌∙◌, append-nil, inl, inr, arith}
 use Rattle.std.proofs.lemmas.Bool.{cases_lt}
 use Rattle.std.specs.Option.{option_map}
 use Rattle.std.proofs.lemmas.List.{append_assoc, length-append, length-take-le, take-append-drop}
@@ -87,10 +87,11 @@ take_front (n ∷ ns) ms (suc k) e = ap (λ (xs : List Noted). n ∷ xs) (take_f
 
 -- ---- what a reader comes to have besides changes nothing
 
-pub walk_more : {S T : Type 0} {p : Program} {r : Told S} {t : Told T} {w : Walk} → ((i : Instance) (v : Value) → r.has i v → t.has i v) → ByEachIn t r.names → IsWalk p r w → IsWalk p t w
-walk_more {p = p} {w = w} g fewer h = record {
+pub walk_more : {S T : Type 0} {p : Program} {r : Told S} {t : Told T} {w : Walk} → ((i : Instance) (v : Value) → r.has i v → t.has i v) → ByEachIn t r.names → ((c : ℕ) → r.knows c → t.knows c) → IsWalk p r w → IsWalk p t w
+walk_more {p = p} {w = w} g fewer knows h = record {
   stands = h.stands;
   notable = h.notable;
+  known = λ k n there. knows n.receiver (h.known k n there);
   passed = λ names is. let x = h.passed names (fewer names is) in record { receivers = x.receivers; passed = all_passed_more p g (passed_by p w) x.receivers x.passed; noted = x.noted };
 }
 
@@ -130,6 +131,7 @@ module _ {S : Type 0} (p : Program) (t : Told S) where
   walk_begins a r l = record {
     stands = standing_first p a r l;
     notable = λ k n e. cc;
+    known = λ k n e. cc;
     passed = λ names is. record {
       receivers = [];
       passed = subst (λ (os : List Offer). ArePassed p t.has os []) (sym (before_none p a r)) tt;
@@ -142,6 +144,7 @@ module _ {S : Type 0} (p : Program) (t : Told S) where
   walk_same w u h stands notes same = record {
     stands = stands;
     notable = subst (λ (ns : List Noted). (k : ℕ) (n : Noted) → slice_get ns k ≡ Some n → IsNotable p n) (sym notes) h.notable;
+    known = subst (λ (ns : List Noted). (k : ℕ) (n : Noted) → slice_get ns k ≡ Some n → t.knows n.receiver) (sym notes) h.known;
     passed = λ names is.
         let x = h.passed names is in
         record {
@@ -163,19 +166,24 @@ module _ {S : Type 0} (p : Program) (t : Told S) where
   notable_more w (Some r) h few within known k n e =
       old_or_new w.notes (record { node = w.node; contribution = w.contribution; receiver = r }) r 0 (IsNotable p) (λ i m from e. h.notable i m e) (record { few = few; within = within; known = known }) k n (omega arith) e
 
+  known_more : (w : Walk) (r : Option ℕ) → IsWalk p t w → IfSome r t.knows → (k : ℕ) (n : Noted) → slice_get (with_note w r) k ≡ Some n → t.knows n.receiver
+  known_more w None h new k n e = h.known k n e
+  known_more w (Some r) h new k n e = old_or_new w.notes (record { node = w.node; contribution = w.contribution; receiver = r }) r 0 (λ m. t.knows m.receiver) (λ i m from e. h.known i m e) new k n (omega arith) e
+
   -- a walk that isn't at the end of the subtree stands at a node of the tree
   pub node_within : (w : Walk) → IsStanding p w → w.node < end_in p.tree w.root → w.node < length p.tree
   node_within w h u = omega (arith, u, end_within p.tree w.root h.inside)
 
   pub walk_passes : (w : Walk) (c : Contribution) (r : Option ℕ) → IsWalk p t w → w.node + 1 < 2 ^ 32 → w.node < end_in p.tree w.root → slice_get p.rules.contributions w.contribution ≡ Some c → w.contribution < length p.rules.contributions → is_offered p w.attribute w.node c ≡ true
-      → ByEachIn t (λ names. IsPassed p t.has (record { contribution = c; node = w.node }) (received names r)) → IsWalk p t (one_further w r)
-  walk_passes w c r h code u e m on q =
+      → IfSome r t.knows → ByEachIn t (λ names. IsPassed p t.has (record { contribution = c; node = w.node }) (received names r)) → IsWalk p t (one_further w r)
+  walk_passes w c r h code u e m on new q =
       let o : Offer = record { contribution = c; node = w.node } in
       let more = before_offered p w.attribute w.root w.node w.contribution c e on in
       let front = passed_by p w in
       record {
         stands = (let s = h.stands in record { inside = s.inside; from = s.from; to = s.to; within = omega (arith, m); ended = λ same. absurd (omega (arith, u, same)) });
         notable = notable_more w r h code (node_within w h.stands u) m;
+        known = known_more w r h new;
         passed = λ names is.
             let x = h.passed names is in
             let one = received names r ∷ [] in

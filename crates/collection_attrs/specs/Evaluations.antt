@@ -12,7 +12,7 @@ use Rattle.equation_law.specs.Collections.{collection_demands}
 use Rattle.equation_law.specs.Equations.{world_of}
 use Rattle.equation_law.specs.Names.{Instance}
 use Rattle.equation_law.specs.Program.{Program}
-use Rattle.equation_law.specs.Reading.{ByEachIn, Told}
+use Rattle.equation_law.specs.Reading.{ByEachIn, KnowsInstance, Told}
 use Rattle.equation_law.specs.Values.{Value}
 use Rattle.expr_eval.specs.declared.sites.Turn.{Turn}
 use Rattle.expr_eval.specs.Evaluating.{Asks, Comes, Evaluates, Wants, places_kept, reads_at}
@@ -29,9 +29,9 @@ Assignment = Instance → Option Value
 abbrev pub KeepsValues : Assignment → Assignment → Type 0
 KeepsValues A B = (i : Instance) (v : Value) → Graph A i v → Graph B i v
 
--- what a reader tells that has these values and is read by one naming
+-- what a reader tells that has these values, is read by one naming and knows all codes
 abbrev pub reading : Assignment → Naming → Told Unit
-reading A names = record { for = λ p. Unit {0}; has = Graph A; can = Graph A; keeps = λ u. Unit {0}; names = λ n. n ≡ names; height = λ c. c }
+reading A names = record { for = λ p. Unit {0}; has = Graph A; can = Graph A; keeps = λ u. Unit {0}; names = λ n. n ≡ names; knows = λ c. Unit {0}; height = λ c. c }
 
 -- by one naming, a survey stays what it is where these values give way to those
 abbrev pub KeepsSurveys : Program → Naming → Assignment → Assignment → Type 0
@@ -49,9 +49,9 @@ demands_of p c = λ names. collection_demands (world_of p) (c names)
 abbrev pub ComesTo : {S : Type 0} → Program → Told S → Collections → CodedValue → Type 0
 ComesTo p t c v = ByEachIn t (λ names. Comes t.has (demands_of p c names) (value_by names v))
 
--- it is stuck at this demand
+-- it is stuck at this demand, in which the reader knows the nodes
 abbrev pub IsStuckAt : {S : Type 0} → Program → Told S → Collector → CodedInstance → Type 0
-IsStuckAt p t of j = IsCoded p j × ForCollector p of (λ c. ByEachIn t (λ names. Wants t.has (demands_of p c names) (instance_by p names j)))
+IsStuckAt p t of j = IsCoded p j × KnowsInstance p t j × ForCollector p of (λ c. ByEachIn t (λ names. Wants t.has (demands_of p c names) (instance_by p names j)))
 
 -- the answer says what an expression comes to at a node, by its number
 abbrev pub EvaluatesAt : {S : Type 0} → Program → Told S → Told S → Expression → ℕ → Result Turn NoMemory → Type 0

@@ -8,6 +8,7 @@ use Rattle.attr_rules.specs.Expression.{Expression, Truth}
 use Rattle.attr_rules.specs.Rules.{Contribution, body_at}
 use Rattle.tree_arena.specs.Nodes.{end_in}
 use Rattle.equation_law.specs.declared.coding.Instance.{Instance as CodedInstance}
+use Rattle.equation_law.specs.declared.coding.Instance.TheVariants as coded_instance
 use Rattle.equation_law.specs.declared.coding.NodeRef.{NodeRef}
 use Rattle.equation_law.specs.declared.coding.Value.{Value as CodedValue}
 use Rattle.equation_law.specs.Codes.{AreElements, ByEachNaming, IsCoded, Naming, instance_by, reference_by, value_by}
@@ -15,7 +16,7 @@ use Rattle.equation_law.specs.Collections.{Collection, Offer, combine, fresh}
 use Rattle.equation_law.specs.Equations.{collection_of}
 use Rattle.equation_law.specs.Names.{At, Attribute, Instance, Reference, Source, same_reference}
 use Rattle.equation_law.specs.Program.{Program}
-use Rattle.equation_law.specs.Reading.{ByEachIn, Told}
+use Rattle.equation_law.specs.Reading.{ByEachIn, KnowsInstance, KnowsValue, Told}
 use Rattle.equation_law.specs.Values.{Value}
 use Rattle.collection_attrs.specs.declared.collectors.Collector.{Collector}
 use Rattle.collection_attrs.specs.declared.linking.Entry.{Entry}
@@ -73,6 +74,11 @@ AreCollectionOf p i c = ByEachNaming p (λ names. collection_of p (instance_by p
 abbrev pub SaysCollection : Program → CodedInstance → Collector → Type 0
 SaysCollection p i of = (c : Collections) × AreCollectionOf p i c × IsCollectorOf p of c
 
+-- this is the node of the instance
+abbrev pub IsAtNode : CodedInstance → NodeRef → Type 0
+IsAtNode (coded_instance.Attr a n xs) m = m ≡ n
+IsAtNode (coded_instance.Query q) m = ⊥
+
 -- the instance that a code stands for is no collection, and whether it is one
 abbrev pub IsNoCollection : Program → CodedInstance → Type 0
 IsNoCollection p i = ByEachNaming p (λ n. collection_of p (instance_by p n i) ≡ None)
@@ -90,20 +96,21 @@ abbrev pub StandsForSource : {S : Type 0} → Told S → ℕ → Type 0
 StandsForSource t node = ByEachIn t (λ names. names.node node ≡ Source node)
 
 -- What came of an offer, by each naming by which the reader may be read: it was passed, with its receiver where its condition is true, or it is stuck at
--- a demand.
+-- a demand. The reader knows the receiver, and the nodes in the demand.
 abbrev pub IsWeighed : {S : Type 0} → Program → Told S → Offer → Weighed → Type 0
 IsWeighed p t o weighings.Unmet = ByEachIn t (λ names. IsPassed p t.has o None)
-IsWeighed p t o (weighings.Met r) = ByEachIn t (λ names. IsPassed p t.has o (Some (reference_by names.node r.0)))
-IsWeighed p t o (weighings.Stuck j) = IsCoded p j × ByEachIn t (λ names. IsOfferStuck p t.has o (instance_by p names j))
+IsWeighed p t o (weighings.Met r) = t.knows r.0 × ByEachIn t (λ names. IsPassed p t.has o (Some (reference_by names.node r.0)))
+IsWeighed p t o (weighings.Stuck j) = IsCoded p j × KnowsInstance p t j × ByEachIn t (λ names. IsOfferStuck p t.has o (instance_by p names j))
 
 -- so it is of the offer of a contribution, by its number, at a node for which its code stands
 abbrev pub IsWeighedAt : {S : Type 0} → Program → Told S → ℕ → ℕ → Weighed → Type 0
 IsWeighedAt p t number node weighed = (c : Contribution) → slice_get p.rules.contributions number ≡ Some c → StandsForSource t node → IsWeighed p t (record { contribution = c; node = node }) weighed
 
--- What came of a step of a walk: it has passed more, or it stands before an offer that is stuck at a demand, or at the end of the subtree.
+-- What came of a step of a walk: it has passed more, or it stands before an offer that is stuck at a demand, in which the reader knows the nodes, or at
+-- the end of the subtree.
 abbrev pub IsPassage : {S : Type 0} → Program → Told S → Walk → Walk → Passage → Type 0
 IsPassage p t v w passages.Passed = length (passed_by p v) < length (passed_by p w)
-IsPassage p t v w (passages.Stuck j) = (w.notes ≡ v.notes) × IsCoded p j × IsStuck p t w j
+IsPassage p t v w (passages.Stuck j) = (w.notes ≡ v.notes) × IsCoded p j × KnowsInstance p t j × IsStuck p t w j
 IsPassage p t v w passages.Ended = (w.notes ≡ v.notes) × (w.node ≡ end_in p.tree w.root)
 
 -- So far a collection has gone over its offers by a naming and some values, whatever walk it went along: some first offers were passed, of those of
@@ -119,19 +126,21 @@ pub record HasGone (p : Program) (A : Instance → Value → Type 0) (names : Na
   pub comes : Comes p A c (fresh c.method c.kind) (take s.taken (kept front receivers)) (value_by names s.so_far)
   pub last : (k : ℕ) (x : Kept) → suc k ≡ s.taken → slice_get (kept front receivers) k ≡ Some x → same_reference x.receiver (At c.node) ≡ true
 
--- so it is by what a reader has, by each naming by which the reader may be read
+-- so it is by what a reader has, by each naming by which the reader may be read, and the reader knows the nodes in the value
 pub record IsSurveyed {S : Type 0} (p : Program) (t : Told S) (c : Collections) (s : Survey) : Type 0 where
   pub gone : ByEachIn t (λ names. HasGone p t.has names (c names) s)
   pub coded : AreElements p s.so_far
+  pub known : KnowsValue t s.so_far
 
 -- so it is of the collection that an attribute is at a node, as the code says it
 abbrev pub IsSurveyFor : {S : Type 0} → Program → Told S → Collector → Survey → Type 0
 IsSurveyFor p t of s = ForCollector p of (λ c. IsSurveyed p t c s)
 
--- a collection has gone over all that a walk has noted
+-- a collection has gone over all that a walk has noted, and the reader knows the nodes in its value
 pub record IsCounted {S : Type 0} (p : Program) (t : Told S) (w : Walk) (c : Collections) (s : Survey) : Type 0 where
   pub survey : ByEachIn t (λ names. IsSurvey p t.has names w (c names) (length w.notes) (value_by names s.so_far))
   pub coded : AreElements p s.so_far
+  pub known : KnowsValue t s.so_far
 
 -- by a naming, it has gone over all that is offered
 pub record HasEnded (p : Program) (A : Instance → Value → Type 0) (names : Naming) (c : Collection) (s : Survey) : Type 0 where

@@ -79,10 +79,11 @@ pub record IsNotable (p : Program) (n : Noted) : Type 0 where
   pub within : n.node < length p.tree
   pub known : n.contribution < length p.rules.contributions
 
--- so it is by what a reader has, by each naming by which the reader may be read
+-- so it is by what a reader has, by each naming by which the reader may be read, and the reader knows the receivers
 pub record IsWalk {S : Type 0} (p : Program) (t : Told S) (w : Walk) : Type 0 where
   pub stands : IsStanding p w
   pub notable : (k : ℕ) (n : Noted) → slice_get w.notes k ≡ Some n → IsNotable p n
+  pub known : (k : ℕ) (n : Noted) → slice_get w.notes k ≡ Some n → t.knows n.receiver
   pub passed : ByEachIn t (λ names. HasPassed p t.has names w)
 
 -- the collection of an instance whose root is that of the walk

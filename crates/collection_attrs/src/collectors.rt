@@ -7,7 +7,7 @@ ghost use Rattle.equation_law.specs.Equations.{collection_root};
 ghost use Rattle.equation_law.specs.Reading.{IsSound, code_above};
 ghost use Rattle.equation_law.specs.Systems.{program_of};
 ghost use Rattle.collection_attrs.specs.Roots.{FindsRoot, IsRootAt, LeadsToRoot};
-ghost use Rattle.collection_attrs.specs.Surveys.{Collections, IsCollectionOrNot, IsCollectorOf, IsNoCollection, SaysCollection};
+ghost use Rattle.collection_attrs.specs.Surveys.{Collections, IsAtNode, IsCollectionOrNot, IsCollectorOf, IsNoCollection, SaysCollection};
 
 use ast_grammar::ClassId;
 use attr_rules::{AttrId, Kind, Method};
@@ -26,6 +26,7 @@ pub struct Collector {
 /// The collection that an instance is, if it is one. It takes no memory.
 pub fn collector_of(system: &System, i: &Instance) -> Option<Collector>
     ensures some { IfSome result (SaysCollection (program_of system.now) i.now) }
+    ensures node { IfSome result (λ of. IsAtNode i.now of.node) }
     ensures none { IfNone result (IsNoCollection (program_of system.now) i.now) }
 {
     let Instance::Attr { attr, node, .. } = *i else {
@@ -95,7 +96,8 @@ fn source_root(system: &System, class: ClassId, node: NodeRef) -> Option<u32>
 /// The closest node upwards of a class or of a subclass, where that is a source node: in a tree that was made nothing contributes. Above the root of
 /// such a tree stands the owner.
 fn climb<R: Reader>(system: &System, class: ClassId, node: NodeRef, reader: &mut R) -> Option<u32>
-    requires { IsSound (program_of system.now) (R.tells reader.old) }
+    requires sound { IsSound (program_of system.now) (R.tells reader.old) }
+    requires known { (R.tells reader.old).knows node.0 }
     ensures { LeadsToRoot (program_of system.now) (R.tells reader.old) (R.tells reader.new) class node result }
 {
     // The tree has no more nodes than there are codes of source nodes.
@@ -116,6 +118,7 @@ fn climb<R: Reader>(system: &System, class: ClassId, node: NodeRef, reader: &mut
 pub fn root_of<R: Reader>(system: &System, of: Collector, reader: &mut R) -> Option<u32>
     requires collection { (c : Collections) × IsCollectorOf (program_of system.now) of c }
     requires sound { IsSound (program_of system.now) (R.tells reader.old) }
+    requires known { (R.tells reader.old).knows of.node.0 }
     ensures { FindsRoot (program_of system.now) (R.tells reader.old) (R.tells reader.new) of result }
 {
     // The tree has a root.

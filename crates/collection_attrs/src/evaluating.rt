@@ -2,7 +2,7 @@
 ghost use Rattle.std.specs.Prelude.{IsSome};
 ghost use Rattle.equation_law.specs.Codes.{IsCoded, instance_by};
 ghost use Rattle.equation_law.specs.Equations.{collection_of};
-ghost use Rattle.equation_law.specs.Reading.{ByEachIn, IsSound};
+ghost use Rattle.equation_law.specs.Reading.{ByEachIn, IsSound, KnowsInstance};
 ghost use Rattle.equation_law.specs.Systems.{program_of};
 ghost use Rattle.collection_attrs.specs.Evaluations.{EvaluatesCollection};
 ghost use Rattle.expr_eval.specs.Sites.{EvaluatesInstance};
@@ -25,6 +25,7 @@ fn collect<R: Reader>(
 ) -> Result<Turn, Memory>
     requires collection { (c : Collections) × IsCollectorOf (program_of system.now) of c }
     requires sound { IsSound (program_of system.now) (R.tells reader.old) }
+    requires known { (R.tells reader.old).knows of.node.0 }
     ensures { EvaluatesCollection (program_of system.now) (R.tells reader.old) (R.tells reader.new) of result }
 {
     let mut survey = Survey::new(alloc, system, of);
@@ -45,6 +46,7 @@ pub fn survey<R: Reader>(
 ) -> Result<Turn, Memory>
     requires collection { ByEachIn (R.tells reader.old) (λ n. IsSome (collection_of (program_of system.now) (instance_by (program_of system.now) n i.now))) }
     requires sound { IsSound (program_of system.now) (R.tells reader.old) }
+    requires known { KnowsInstance (program_of system.now) (R.tells reader.old) i.now }
     ensures { EvaluatesInstance (program_of system.now) (R.tells reader.old) (R.tells reader.new) i.now result }
 {
     match collector_of(system, i) {
@@ -62,6 +64,7 @@ pub fn evaluate_any<R: Reader>(
 ) -> Result<Turn, Memory>
     requires sound { IsSound (program_of system.now) (R.tells reader.old) }
     requires coded { IsCoded (program_of system.now) i.now }
+    requires known { KnowsInstance (program_of system.now) (R.tells reader.old) i.now }
     ensures { EvaluatesInstance (program_of system.now) (R.tells reader.old) (R.tells reader.new) i.now result }
 {
     if is_collection(system, i) {

@@ -1,5 +1,5 @@
 // What comes of an offer: its condition is evaluated, and where that is true, its receiver.
-ghost use Rattle.std.specs.Prelude.{◌+◌, ◌^◌, ◌<◌, IfOk, IfSome, length};
+ghost use Rattle.std.specs.Prelude.{◌+◌, ◌^◌, ◌<◌, IfOk, IfSome, length, suc};
 ghost use Rattle.attr_rules.specs.Rules.{bodies};
 ghost use Rattle.equation_law.specs.Reading.{Grows, IsSound};
 ghost use Rattle.equation_law.specs.Systems.{program_of};
@@ -36,6 +36,7 @@ pub(crate) fn evaluate_part<'a, R: Reader>(
 ) -> Result<Turn, Memory>
     requires known { expression.0 < length (bodies (program_of system.now).rules) }
     requires few { node + 1 < 2 ^ 32 }
+    requires node { (R.tells reader.old).knows (suc node) }
     requires sound { IsSound (program_of system.now) (R.tells reader.old) }
     requires saved { AreSaved system.now (R.tells reader.old) saved.old }
     ensures evaluates { EvaluatesPart (program_of system.now) (R.tells reader.old) (R.tells reader.new) expression node result }
@@ -61,6 +62,7 @@ fn condition<'a, R: Reader>(
 ) -> Result<Turn, Memory>
     requires known { IfSome guard (λ e. e.0 < length (bodies (program_of system.now).rules)) }
     requires few { node + 1 < 2 ^ 32 }
+    requires node { (R.tells reader.old).knows (suc node) }
     requires sound { IsSound (program_of system.now) (R.tells reader.old) }
     requires saved { AreSaved system.now (R.tells reader.old) saved.old }
     ensures evaluates { EvaluatesCondition (program_of system.now) (R.tells reader.old) (R.tells reader.new) guard node result }
@@ -84,6 +86,7 @@ pub(crate) fn weigh<'a, R: Reader>(
 ) -> Result<Weighed, Memory>
     requires known { number < length (program_of system.now).rules.contributions }
     requires few { node + 1 < 2 ^ 32 }
+    requires node { (R.tells reader.old).knows (suc node) }
     requires sound { IsSound (program_of system.now) (R.tells reader.old) }
     requires saved { AreSaved system.now (R.tells reader.old) saved.old }
     ensures kept { Grows (program_of system.now) (R.tells reader.old) (R.tells reader.new) }

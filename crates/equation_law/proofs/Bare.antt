@@ -102,7 +102,7 @@ module _ {S : Type 0} (r : Told S) (of : System) (bare : (p : Program) → IsSou
   pub class_bare : (node : NodeRef) (c : ClassId) → c.0 ≡ 65535 → ClassBy r r node c
   class_bare node c is = record {
     kept = λ p sound. grows_itself sound;
-    answer = λ p sound past n by.
+    answer = λ p sound past known n by.
         let few : length p.grammar ≤ most_classes = subst (λ (q : Program). length q.grammar ≤ most_classes) (sym (bare p sound).0) (few_classes of) in
         subst (λ (o : Option ClassId). IsClassOf p.grammar o c) (sym (behind p sound node.0 past n by)) (omega (arith, is, few));
   }
@@ -110,29 +110,31 @@ module _ {S : Type 0} (r : Told S) (of : System) (bare : (p : Program) → IsSou
   pub child_bare : (node : NodeRef) (k : ℕ) (result : NodeRef) → result.0 ≡ 0 → ChildBy r r node k result
   child_bare node k result is = record {
     kept = λ p sound. grows_itself sound;
-    answer = λ p sound past n by.
+    answer = λ p sound past known n by.
         let inside : HangsInside p.tree = subst (λ (q : Program). HangsInside q.tree) (sym (bare p sound).0) (hangs_inside of) in
         ap (reference_by n.node) is ∙ sym (none_hangs p (bare p sound).1 (sound.named n by) inside k node.0 past);
+    known = λ p sound past known. sound.sources result.0 (omega (arith, is));
   }
 
   pub token_bare : (node : NodeRef) (k result : ℕ) → TokenBy r r node k result
   token_bare node k result = record {
     kept = λ p sound. grows_itself sound;
-    answer = λ p sound n by a q o xs is w has t type. absurd (let none = ap (λ (m : Option Making). token_type m q k) (never_makes p (bare p sound).1 a o) in cc);
+    answer = λ p sound known n by a q o xs is w has t type. absurd (let none = ap (λ (m : Option Making). token_type m q k) (never_makes p (bare p sound).1 a o) in cc);
   }
 
   pub up_bare : ((c : ℕ) → most_nodes < c → r.height 0 < r.height c) → (node : NodeRef) (result : Up) → code_above result ≡ 0 → UpBy r r node result
   up_bare high node result is = record {
     kept = λ p sound. grows_itself sound;
-    answer = λ p sound past n by some. absurd (let none : IsSome {T = ClassId} None = subst (λ (o : Option ClassId). IsSome o) (behind p sound node.0 past n by) some in cc);
+    answer = λ p sound past known n by some. absurd (let none : IsSome {T = ClassId} None = subst (λ (o : Option ClassId). IsSome o) (behind p sound node.0 past n by) some in cc);
+    known = λ p sound past known. sound.sources (code_above result) (omega (arith, is));
     falls = λ p sound past. subst (λ (c : ℕ). r.height c < r.height node.0) (sym is) (high node.0 past);
   }
 
   pub argument_bare : (node : NodeRef) (k result : ℕ) → ArgumentBy r r node k result
   argument_bare node k result = record {
     kept = λ p sound. grows_itself sound;
-    answer = λ p sound n by a q o xs is some t x at of_row. absurd (let none : IsSome {T = ClassId} None = subst (λ (c : Option ClassId). IsSome c) (no_class p (bare p sound).1 a o q) some in cc);
+    answer = λ p sound known n by a q o xs is some t x at of_row. absurd (let none : IsSome {T = ClassId} None = subst (λ (c : Option ClassId). IsSome c) (no_class p (bare p sound).1 a o q) some in cc);
   }
 
   pub order_bare : ((p : Program) → IsSound p r → ByEachIn r IsInOrder) → (a b : NodeRef) (result : Ordering) → result ≡ nat_cmp a.0 b.0 → OrderBy r r a b result
-  order_bare rise a b result is = record { kept = λ p sound. grows_itself sound; answer = λ p sound n by. is ∙ order_of n (rise p sound n by) a.0 b.0 }
+  order_bare rise a b result is = record { kept = λ p sound. grows_itself sound; answer = λ p sound one other n by. is ∙ order_of n (rise p sound n by) a.0 b.0 }

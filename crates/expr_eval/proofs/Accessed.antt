@@ -1,5 +1,5 @@
 -- What accessors answer of a node by its code, by each naming: past the tree no source node has anything.
-use Rattle.std.proofs.Common.{◌≡◌, ℕ, zero, suc, ◌<◌, ◌≤◌, Bool, true, false, cond, Option, Some, None, is_some, pos, length, refl, sym, ap, ◌∙◌, arith}
+use Rattle.std.proofs.Common.{◌≡◌, ℕ, zero, suc, ◌<◌, ◌≤◌, Bool, true, false, cond, Option, Some, None, IfSome, is_some, pos, length, refl, sym, ap, ◌∙◌, arith}
 use Rattle.ast_grammar.specs.declared.grammar.ClassId.{ClassId}
 use Rattle.attr_rules.specs.declared.kinds.Kind.{Kind}
 use Rattle.attr_rules.specs.declared.kinds.Kind.TheVariants as kinds
@@ -39,6 +39,12 @@ cast_by p class (At x) b e = ap (λ t. cond t (At x) Null) e
 pub source_within : (m c : ℕ) → c ≤ most_nodes → At (Source m) ≡ reference_of c → m < most_nodes
 source_within m zero few is = cc
 source_within m (suc c) few is = let same : m ≡ c = cc in omega (arith, same, few)
+
+-- and the code of a source node, or of null, is none of theirs
+pub code_within : (o : Option ℕ) → IfSome o (λ m. m < most_nodes) → (c : ℕ) → reference_of c ≡ source_or_null o → c ≤ most_nodes
+code_within o within zero is = omega arith
+code_within None within (suc c) is = cc
+code_within (Some m) within (suc c) is = let same : c ≡ m = cc in omega (arith, same, within)
 
 module _ {p : Program} {n : Naming} (h : IsNamingOf p n) where
   -- past the tree no node has elements

@@ -13,9 +13,9 @@ use Rattle.equation_law.specs.Equations.{attribute_kind, kind_in, world_of}
 use Rattle.equation_law.specs.Meaning.{call_at, demand, token_at}
 use Rattle.equation_law.specs.Names.{At, Attribute, Instance}
 use Rattle.equation_law.specs.Program.{Program}
-use Rattle.equation_law.specs.Reading.{ByEachIn, Grows, HasNone, HasThere, IsSound, Settles, Told}
+use Rattle.equation_law.specs.Reading.{ByEachIn, Grows, HasNone, HasThere, IsSound, KnowsInstance, KnowsValue, Settles, Told}
 use Rattle.equation_law.specs.Values.{Value, as_kind, default_of}
-use Rattle.equation_law.proofs.Grown.{grows_itself}
+use Rattle.equation_law.proofs.Grown.{grows_itself, instance_known}
 use Rattle.expr_eval.specs.declared.evaluation.Halt.{Halt}
 use Rattle.expr_eval.specs.declared.evaluation.Halt.TheVariants.{Need}
 use Rattle.expr_eval.specs.Evaluating.{Answers, AreValues, CallReads, Comes, DemandReads, TokenReads, Wants, demand_of}
@@ -23,10 +23,10 @@ use Rattle.expr_eval.proofs.Forms.{answers_as, gives_value}
 
 module _ {S : Type 0} (p : Program) (r : Told S) (attr : AttrId) (xs : Args) where
   -- on null it is the default of the type
-  pub call_null : (m : ℕ) (x : CodedValue) (k : Kind) → IsSound p r → m ≡ 0 → k ≡ attribute_kind p attr.0 → ByEachIn r (λ n. value_by n x ≡ default_of k) → AreElements p x → CallReads p r r attr.0 m xs (Ok x)
-  call_null m x k sound null kind e good = record {
+  pub call_null : (m : ℕ) (x : CodedValue) (k : Kind) → IsSound p r → m ≡ 0 → k ≡ attribute_kind p attr.0 → ByEachIn r (λ n. value_by n x ≡ default_of k) → AreElements p x → KnowsValue r x → CallReads p r r attr.0 m xs (Ok x)
+  call_null m x k sound null kind e good known = record {
     kept = grows_itself sound;
-    is = λ vs are. subst (λ (o : ℕ). Answers p r (λ n. call_at (world_of p) attr.0 (reference_by n.node o) (vs n)) (Ok x)) (sym null) (gives_value (λ n at. e n at ∙ ap default_of kind) good);
+    is = λ vs are. subst (λ (o : ℕ). Answers p r (λ n. call_at (world_of p) attr.0 (reference_by n.node o) (vs n)) (Ok x)) (sym null) (gives_value (λ n at. e n at ∙ ap default_of kind) good known);
   }
 
   at_node : (n : Naming) (m : ℕ) → (m ≡ 0 → ⊥) → (vs : List Value) → AreValues p n attr.0 xs vs → demand (attribute_kind p attr.0) (Attribute attr.0 (reference_by n.node m) (arguments_for p n attr.0 xs)) ≡ call_at (world_of p) attr.0 (reference_by n.node m) vs
@@ -41,10 +41,10 @@ module _ {S : Type 0} (p : Program) (r : Told S) (attr : AttrId) (xs : Args) whe
   }
 
 -- a token that demands nothing
-pub token_given : {S : Type 0} {p : Program} {r : Told S} {t : Kind} {k m : ℕ} {x : CodedValue} → IsSound p r → ((n : Naming) → r.names n → Gives (value_by n x) ≡ token_at (world_of p) t k (reference_by n.node m)) → AreElements p x → TokenReads p r r t k m (Ok x)
-token_given {p = p} {r = r} {t = t} {k = k} {m = m} {x = x} sound is good = record {
+pub token_given : {S : Type 0} {p : Program} {r : Told S} {t : Kind} {k m : ℕ} {x : CodedValue} → IsSound p r → ((n : Naming) → r.names n → Gives (value_by n x) ≡ token_at (world_of p) t k (reference_by n.node m)) → AreElements p x → KnowsValue r x → TokenReads p r r t k m (Ok x)
+token_given {p = p} {r = r} {t = t} {k = k} {m = m} {x = x} sound is good known = record {
   kept = grows_itself sound;
-  is = answers_as p r (λ n. Gives (value_by n x)) (λ n. token_at (world_of p) t k (reference_by n.node m)) (Ok x) is (gives_value (λ n at. refl) good);
+  is = answers_as p r (λ n. Gives (value_by n x)) (λ n. token_at (world_of p) t k (reference_by n.node m)) (Ok x) is (gives_value (λ n at. refl) good known);
 }
 
 module _ {S : Type 0} (p : Program) (s : Told S) (i : Instance) where
@@ -60,9 +60,9 @@ module _ {S : Type 0} (p : Program) (r s : Told S) (grows : Grows p r s) (i : Co
   pub settled : (v : CodedValue) (o : Option CodedValue) → o ≡ Some v → Settles p s (λ n. instance_by p n i) (Ok o) → DemandReads p r s i (Ok v)
   settled v o is g =
       let h = subst (λ (x : Option CodedValue). Settles p s (λ n. instance_by p n i) (Ok x)) is g in
-      record { kept = grows; is = record { comes = λ n at. there p s (instance_by p n i) (value_by n v) (h.0 n at); coded = h.1 } }
+      record { kept = grows; is = record { comes = λ n at. there p s (instance_by p n i) (value_by n v) (h.0 n at); coded = h.1; known = h.2 } }
 
-  pub needed : (o : Option CodedValue) → IsCoded p i → o ≡ None → Settles p s (λ n. instance_by p n i) (Ok o) → DemandReads p r s i (Err (Need i))
-  needed o coded is g =
+  pub needed : (o : Option CodedValue) → IsCoded p i → KnowsInstance p r i → o ≡ None → Settles p s (λ n. instance_by p n i) (Ok o) → DemandReads p r s i (Err (Need i))
+  needed o coded known is g =
       let h = subst (λ (x : Option CodedValue). Settles p s (λ n. instance_by p n i) (Ok x)) is g in
-      record { kept = grows; is = record { wants = λ n at. none_there p s (instance_by p n i) (h n at); coded = coded } }
+      record { kept = grows; is = record { wants = λ n at. none_there p s (instance_by p n i) (h n at); coded = coded; known = instance_known grows i known } }

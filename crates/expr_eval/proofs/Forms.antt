@@ -1,5 +1,5 @@
 -- The answers to an expression from those to its parts, form by form.
-use Rattle.std.proofs.Common.{◌≡◌, ◌≤◌, ℕ, arith, List, Option, None, Some, [], ◌∷◌, ◌++◌, Bool, true, false, cond, Result, Ok, Err, IfOk, refl, sym, ap, subst, ◌∙◌}
+use Rattle.std.proofs.Common.{◌≡◌, ◌≤◌, ℕ, arith, List, Option, None, Some, [], ◌∷◌, ◌++◌, Bool, true, false, cond, Result, Ok, Err, IfOk, length, refl, sym, ap, subst, ◌∙◌}
 use Rattle.std.specs.Result.{IsErr, IsErrAnd}
 use Rattle.std.proofs.lemmas.Result.{err_from_is_err_and}
 use Rattle.rag_io.specs.declared.Place.{Place as TextPlace}
@@ -7,9 +7,12 @@ use Rattle.attr_rules.specs.declared.expression.TExpr.{TExpr}
 use Rattle.attr_rules.specs.declared.expression.TExpr.TheVariants as kept
 use Rattle.attr_rules.specs.declared.kinds.Kind.{Kind}
 use Rattle.attr_rules.specs.Expression.{Arguments, Expression, Truth as TruthLiteral, Int as IntLiteral, Text as TextLiteral, Null as NullLiteral, Empty, This, Variable, Source as SourceNode, Call, And, Or, If, New, expression_of}
+use Rattle.tree_arena.specs.Nodes.{most_nodes}
 use Rattle.solutions.specs.Asking.{Demands, Gives, Ends, Halts, after, asks, at, gives, next}
 use Rattle.solutions.proofs.Runs.{ends_more}
 use Rattle.equation_law.specs.declared.coding.Args.{Args}
+use Rattle.equation_law.specs.declared.coding.Instance.TheVariants as coded_instance
+use Rattle.equation_law.specs.declared.coding.Single.{Single as CodedSingle}
 use Rattle.equation_law.specs.declared.coding.Value.{Value as CodedValue}
 use Rattle.equation_law.specs.declared.coding.Value.TheVariants as coded
 use Rattle.equation_law.specs.Codes.{AreElements, ByEachNaming, IsNamingOf, Naming, instance_by, reference_by, value_by}
@@ -17,26 +20,45 @@ use Rattle.equation_law.specs.Equations.{world_of}
 use Rattle.equation_law.specs.Meaning.{Place, World, call_at, token_at, with_arguments}
 use Rattle.equation_law.specs.Names.{Instance, Reference}
 use Rattle.equation_law.specs.Program.{Program, attribute_parameters}
-use Rattle.equation_law.specs.Reading.{ByEachIn, Grows, IsSound, Told}
+use Rattle.equation_law.specs.Reading.{ByEachIn, Grows, KnowsValue, Told}
 use Rattle.equation_law.specs.Values.{Value, Truth, node, truth}
+use Rattle.set_values.specs.Ordered.{KnowsSingle}
+use Rattle.expr_eval.specs.declared.accessors.Elements.{Elements}
+use Rattle.expr_eval.specs.declared.evaluation.Context.{Context}
 use Rattle.expr_eval.specs.declared.evaluation.Halt.{Halt}
 use Rattle.expr_eval.specs.declared.evaluation.Halt.TheVariants.{Need, Memory}
-use Rattle.expr_eval.specs.Evaluating.{Answers, Asks, CallReads, Collects, Comes, Given, Places, TokenReads, Wants, end, more, read_at, reads_at}
+use Rattle.expr_eval.specs.Evaluating.{Answers, Asks, CallReads, Collects, Comes, Given, KnowsContext, Places, TokenReads, Wants, end, more, read_at, reads_at}
+use Rattle.expr_eval.specs.Elements.{KnowsElements}
 use Rattle.expr_eval.specs.Made.{NodeReads}
 use Rattle.expr_eval.specs.Parts.{IsMade, IsRounded, IsSaid, OneMakes, TwoMake, is_leaf, is_node_form, leaf_value, made_of_node, made_of_one, made_of_two, node_part, part_of, parts_of, token_read}
 use Rattle.expr_eval.specs.Reads.{Advances, ArgumentsRead, IsReady, Reads, State, state}
-use Rattle.expr_eval.proofs.Growing.{comes_more, saved_more}
+use Rattle.expr_eval.proofs.Growing.{comes_more, context_more, elements_more, saved_more, single_more, value_more}
+use Rattle.expr_eval.proofs.Knowing.{InValue, by_sources, one_in, two_in, value_in, value_known}
 
 -- what it has it keeps
 pub advances_self : {S : Type 0} {p : Program} {r : State S} → IsReady p r → Advances p r r
-advances_self h = record { sound = h; values = λ i v a. a; bound = λ i v a. a; kept = λ x a. a; names = λ n a. a; heights = λ c. omega arith }
+advances_self h = record { sound = h; values = λ i v a. a; bound = λ i v a. a; kept = λ x a. a; names = λ n a. a; known = λ c a. a; heights = λ c. omega arith }
 
 pub advances_then : {S : Type 0} {p : Program} {r m s : State S} → Advances p r m → Advances p m s → Advances p r s
-advances_then g h = record { sound = h.sound; values = λ i v a. h.values i v (g.values i v a); bound = λ i v a. g.bound i v (h.bound i v a); kept = λ x a. h.kept x (g.kept x a); names = λ n a. g.names n (h.names n a); heights = λ c. omega (arith, g.heights c, h.heights c) }
+advances_then g h = record { sound = h.sound; values = λ i v a. h.values i v (g.values i v a); bound = λ i v a. g.bound i v (h.bound i v a); kept = λ x a. h.kept x (g.kept x a); names = λ n a. g.names n (h.names n a); known = λ c a. h.known c (g.known c a); heights = λ c. omega (arith, g.heights c, h.heights c) }
 
 -- the reader alone goes on
 pub advances_read : {S : Type 0} {p : Program} {r : State S} {s : Told S} → IsReady p r → Grows p r.told s → Advances p r (state r.system s r.saved)
-advances_read {r = r} h g = record { sound = record { sound = g.sound; saved = saved_more g.values g.names r.saved h.saved }; values = g.values; bound = g.bound; kept = g.kept; names = g.names; heights = g.heights }
+advances_read {r = r} h g = record { sound = record { sound = g.sound; saved = saved_more g.values g.names g.known r.saved h.saved }; values = g.values; bound = g.bound; kept = g.kept; names = g.names; known = g.known; heights = g.heights }
+
+-- what the reader knew it knows
+module _ {S : Type 0} {p : Program} {r s : State S} (g : Advances p r s) where
+  pub context_later : (c : Context) → KnowsContext r.told c → KnowsContext s.told c
+  context_later c h = context_more r.told s.told g.known c h
+
+  pub elements_later : (list : Elements) → KnowsElements r.told list → KnowsElements s.told list
+  elements_later list h = elements_more r.told s.told g.known list h
+
+  pub single_later : (x : CodedSingle) → KnowsSingle r.told x → KnowsSingle s.told x
+  single_later x h = single_more r.told s.told g.known x h
+
+  pub value_later : (v : CodedValue) → KnowsValue r.told v → KnowsValue s.told v
+  value_later v h = value_more r.told s.told g.known v h
 
 -- by what it may be read is a naming for the program
 pub naming_in : {S : Type 0} {p : Program} {r s : State S} → Advances p r s → (n : Naming) → s.told.names n → IsNamingOf p n
@@ -71,27 +93,27 @@ module _ {A : Instance → Value → Type 0} {c : Demands Instance Value} (k : V
 
 -- demands that are others, by what the reader may be read
 pub answers_as : {S : Type 0} (p : Program) (s : Told S) (c d : Asks) (res : Result CodedValue Halt) → ByEachIn s (λ n. c n ≡ d n) → Answers p s c res → Answers p s d res
-answers_as p s c d (Ok v) same a = record { comes = λ n at. subst (λ x. Comes s.has x (value_by n v)) (same n at) (a.comes n at); coded = a.coded }
-answers_as p s c d (Err (Need i)) same a = record { wants = λ n at. subst (λ x. Wants s.has x (instance_by p n i)) (same n at) (a.wants n at); coded = a.coded }
+answers_as p s c d (Ok v) same a = record { comes = λ n at. subst (λ x. Comes s.has x (value_by n v)) (same n at) (a.comes n at); coded = a.coded; known = a.known }
+answers_as p s c d (Err (Need i)) same a = record { wants = λ n at. subst (λ x. Wants s.has x (instance_by p n i)) (same n at) (a.wants n at); coded = a.coded; known = a.known }
 answers_as p s c d (Err Memory) same a = tt
 
 module _ {S : Type 0} (p : Program) (s : Told S) (c : Asks) (k : Naming → Value → Demands Instance Value) where
   -- a part that has no value leaves the whole without one
   pub part_err : (h : Halt) → Answers p s c (Err h) → Answers p s (then_asks c k) (Err h)
-  part_err (Need i) a = record { wants = λ n at. wants_first (k n) (a.wants n at); coded = a.coded }
+  part_err (Need i) a = record { wants = λ n at. wants_first (k n) (a.wants n at); coded = a.coded; known = a.known }
   part_err Memory a = tt
 
   -- a part that has a value, and what follows with it
   part_ok : (v : CodedValue) (res : Result CodedValue Halt) → Given p s c v → Answers p s (λ n. k n (value_by n v)) res → Answers p s (then_asks c k) res
-  part_ok v (Ok w) g a = record { comes = λ n at. comes_next (k n) (g.comes n at) (a.comes n at); coded = a.coded }
-  part_ok v (Err (Need i)) g a = record { wants = λ n at. wants_next (k n) (g.comes n at) (a.wants n at); coded = a.coded }
+  part_ok v (Ok w) g a = record { comes = λ n at. comes_next (k n) (g.comes n at) (a.comes n at); coded = a.coded; known = a.known }
+  part_ok v (Err (Need i)) g a = record { wants = λ n at. wants_next (k n) (g.comes n at) (a.wants n at); coded = a.coded; known = a.known }
   part_ok v (Err Memory) g a = tt
 
 given_more : {S : Type 0} {p : Program} {m s : State S} {c : Asks} {v : CodedValue} → Advances p m s → Given p m.told c v → Given p s.told c v
-given_more g a = record { comes = λ n at. comes_more g.values (a.comes n (g.names n at)); coded = a.coded }
+given_more {v = v} g a = record { comes = λ n at. comes_more g.values (a.comes n (g.names n at)); coded = a.coded; known = value_later g v a.known }
 
-pub gives_value : {S : Type 0} {p : Program} {s : Told S} {w : Naming → Value} {x : CodedValue} → ByEachIn s (λ n. value_by n x ≡ w n) → AreElements p x → Given p s (λ n. Gives (w n)) x
-gives_value {p = p} {s = s} {x = x} e h = record { comes = λ n at. subst (λ v. Comes s.has (Gives v) (value_by n x)) (e n at) ([], gives); coded = h }
+pub gives_value : {S : Type 0} {p : Program} {s : Told S} {w : Naming → Value} {x : CodedValue} → ByEachIn s (λ n. value_by n x ≡ w n) → AreElements p x → KnowsValue s x → Given p s (λ n. Gives (w n)) x
+gives_value {p = p} {s = s} {x = x} e h known = record { comes = λ n at. subst (λ v. Comes s.has (Gives v) (value_by n x)) (e n at) ([], gives); coded = h; known = known }
 
 -- the truth value, whatever codes stand for
 abbrev pub ReadsTruth : Bool → CodedValue → Type 0
@@ -117,8 +139,8 @@ module _ {S : Type 0} (p : Program) (s : Told S) where
 
   collected : (place : Places) {es : Arguments} (vs : Naming → List Value) (f : Naming → List Value → Demands Instance Value) (res : Result CodedValue Halt) → ByEachIn s (λ n. Collects s.has (world_of p) (place n) es (vs n)) → Answers p s (λ n. f n (vs n)) res
       → Answers p s (λ n. with_arguments (world_of p) es (place n) (f n)) res
-  collected place vs f (Ok w) all a = record { comes = λ n at. collected_comes (f n) (all n at) (a.comes n at); coded = a.coded }
-  collected place vs f (Err (Need i)) all a = record { wants = λ n at. collected_wants (f n) (all n at) (a.wants n at); coded = a.coded }
+  collected place vs f (Ok w) all a = record { comes = λ n at. collected_comes (f n) (all n at) (a.comes n at); coded = a.coded; known = a.known }
+  collected place vs f (Err (Need i)) all a = record { wants = λ n at. collected_wants (f n) (all n at) (a.wants n at); coded = a.coded; known = a.known }
   collected place vs f (Err Memory) all a = tt
 
 -- what follows a receiver: the arguments, and then the call
@@ -242,7 +264,7 @@ module _ (p : Program) (place : Places) where
 
 -- a truth value that is given
 gives_truth : {S : Type 0} {p : Program} {s : Told S} (t : Bool) → Given p s (λ n. Gives (Truth t)) (coded.Truth t)
-gives_truth t = gives_value (λ n at. refl) tt
+gives_truth t = gives_value (λ n at. refl) tt tt
 
 module _ {p : Program} {place : Places} where
   -- an expression that is kept in this form
@@ -268,9 +290,9 @@ module _ {p : Program} {place : Places} where
   thrown {r = r} {s = s} {e = e} {res = res} f a = let g = err_from_is_err_and res f.1 in subst (Reads p r s place e) (sym (g.1 ∙ ap Err g.2)) a
 
   -- a form without parts
-  pub leaf_reads : {S : Type 0} {r : State S} {e : Expression} {res : Result CodedValue Halt} → IsReady p r → is_leaf e ≡ true → IsMade p (λ n. leaf_value (world_of p) (place n) e) res → Reads p r r place e res
-  leaf_reads {r = r} {e = e} {res = Ok x} h is made = record { kept = advances_self h; is = subst (λ c. Given p r.told c x) (λ i n. sym (leaf_gives p (place n) e is) i) (gives_value (λ n at. made.0 n (h.sound.named n at)) made.1) }
-  leaf_reads {r = r} {e = e} {res = Err k} h is none = subst (λ j. Reads p r r place e (Err j)) (sym none) (record { kept = advances_self h; is = tt })
+  pub leaf_reads : {S : Type 0} {r : State S} {e : Expression} {res : Result CodedValue Halt} → (ready : IsReady p r) → is_leaf e ≡ true → IsMade p (λ n. leaf_value (world_of p) (place n) e) res → InValue r.told.knows (leaf_value (world_of p) (place (by_sources ready.sound)) e) → Reads p r r place e res
+  leaf_reads {r = r} {e = e} {res = Ok x} h is made known = record { kept = advances_self h; is = subst (λ c. Given p r.told c x) (λ i n. sym (leaf_gives p (place n) e is) i) (gives_value (λ n at. made.0 n (h.sound.named n at)) made.1 (value_known h.sound x made.0 known)) }
+  leaf_reads {r = r} {e = e} {res = Err k} h is none known = subst (λ j. Reads p r r place e (Err j)) (sym none) (record { kept = advances_self h; is = tt })
 
   -- a whole that begins with the part
   stops : {S : Type 0} {r s : State S} (whole part : Expression) (h : Halt) (k : Naming → Value → Demands Instance Value) → Begins p place whole part k → Reads p r s place part (Err h) → Reads p r s place whole (Err h)
@@ -284,17 +306,17 @@ module _ {p : Program} {place : Places} where
 
   -- and ends with a value
   ends : {S : Type 0} {r s : State S} (whole part : Expression) (v x : CodedValue) (k : Naming → Value → Demands Instance Value) → Begins p place whole part k → Reads p r s place part (Ok v) → (w : Naming → Value) → ((n : Naming) → k n (value_by n v) ≡ Gives (w n))
-      → ByEachNaming p (λ n. value_by n x ≡ w n) → AreElements p x → Reads p r s place whole (Ok x)
-  ends {s = s} whole part v x k b a w is e good =
-      goes whole part v (Ok x) k b a (advances_self a.kept.sound) (subst (λ c. Given p s.told c x) (λ i n. sym (is n) i) (gives_value (λ n at. e n (naming_in a.kept n at)) good))
+      → ByEachNaming p (λ n. value_by n x ≡ w n) → AreElements p x → KnowsValue s.told x → Reads p r s place whole (Ok x)
+  ends {s = s} whole part v x k b a w is e good known =
+      goes whole part v (Ok x) k b a (advances_self a.kept.sound) (subst (λ c. Given p s.told c x) (λ i n. sym (is n) i) (gives_value (λ n at. e n (naming_in a.kept n at)) good known))
 
   -- what follows a first part begins with a second one
   second_stops : {S : Type 0} {m s : State S} (part : Expression) (h : Halt) (k : Naming → Value → Demands Instance Value) → Reads p m s place part (Err h) → Answers p s.told (then_asks (reads_at p place part) k) (Err h)
   second_stops {s = s} part h k a = part_err p s.told (reads_at p place part) k h a.is
 
   second_goes : {S : Type 0} {m s : State S} (part : Expression) (v x : CodedValue) (k : Naming → Value → Demands Instance Value) → Reads p m s place part (Ok v) → (w : Naming → Value) → ((n : Naming) → k n (value_by n v) ≡ Gives (w n)) → ByEachNaming p (λ n. value_by n x ≡ w n)
-      → AreElements p x → Answers p s.told (then_asks (reads_at p place part) k) (Ok x)
-  second_goes {s = s} part v x k a w is e good = part_ok p s.told (reads_at p place part) k v (Ok x) a.is (subst (λ c. Given p s.told c x) (λ i n. sym (is n) i) (gives_value (λ n at. e n (naming_in a.kept n at)) good))
+      → AreElements p x → KnowsValue s.told x → Answers p s.told (then_asks (reads_at p place part) k) (Ok x)
+  second_goes {s = s} part v x k a w is e good known = part_ok p s.told (reads_at p place part) k v (Ok x) a.is (subst (λ c. Given p s.told c x) (λ i n. sym (is n) i) (gives_value (λ n at. e n (naming_in a.kept n at)) good known))
 
   -- a call
   pub call_stops : {S : Type 0} {r s : State S} {a : Expression} {es : Arguments} {h : Halt} {t : ℕ} {here : TextPlace} → Reads p r s place a (Err h) → Reads p r s place (Call t here a es) (Err h)
@@ -303,7 +325,7 @@ module _ {p : Program} {place : Places} where
   -- its arguments have no values
   pub call_stops_at : {S : Type 0} {r m s : State S} {a : Expression} {es : Arguments} {ks : List Kind} {v : CodedValue} {h : Halt} {t : ℕ} {here : TextPlace} → Reads p r m place a (Ok v) → ArgumentsRead p m s place ks es (Err h) → Reads p r s place (Call t here a es) (Err h)
   call_stops_at {a = a} {es = es} {v = v} {h = Need i} {t = t} {here = here} x y =
-      goes (Call t here a es) a v (Err (Need i)) (behind_receiver p place t es) (λ n. refl) x y.kept (record { wants = λ n at. y.is.stopped n at (λ vs. call_at (world_of p) t (node (value_by n v)) vs); coded = y.is.coded })
+      goes (Call t here a es) a v (Err (Need i)) (behind_receiver p place t es) (λ n. refl) x y.kept (record { wants = λ n at. y.is.stopped n at (λ vs. call_at (world_of p) t (node (value_by n v)) vs); coded = y.is.coded; known = y.is.known })
   call_stops_at {a = a} {es = es} {v = v} {h = Memory} {t = t} {here = here} x y = goes (Call t here a es) a v (Err Memory) (behind_receiver p place t es) (λ n. refl) x y.kept tt
 
   pub call_goes : {S : Type 0} {r m n : State S} {u : Told S} {a : Expression} {es : Arguments} {xs : Args} {v : CodedValue} {t o : ℕ} {here : TextPlace} {res : Result CodedValue Halt} → Reads p r m place a (Ok v) → ReadsNode o v → ArgumentsRead p m n place (attribute_parameters p t) es (Ok xs) → CallReads p n.told u t o xs res
@@ -332,7 +354,8 @@ module _ {p : Program} {place : Places} where
   one_stops e {a = a} {h = h} is x = stops (expression_of e) (expression_of a) h (λ n v. Gives (made_of_one (world_of p) (expression_of e) v)) (λ n. one_part p (place n) e a is) x
 
   pub one_makes : {S : Type 0} {r s : State S} (e : TExpr) {a : TExpr} {before after : Result CodedValue Halt} → part_of e ≡ Some a → Reads p r s place (expression_of a) before → OneMakes p (made_of_one (world_of p) (expression_of e)) before after → Reads p r s place (expression_of e) after
-  one_makes e {a = a} {before = Ok v} {after = Ok x} is y made = ends (expression_of e) (expression_of a) v x (λ n w. Gives (made_of_one (world_of p) (expression_of e) w)) (λ n. one_part p (place n) e a is) y (λ n. made_of_one (world_of p) (expression_of e) (value_by n v)) (λ n. refl) made.0 made.1
+  one_makes {s = s} e {a = a} {before = Ok v} {after = Ok x} is y made = ends (expression_of e) (expression_of a) v x (λ n w. Gives (made_of_one (world_of p) (expression_of e) w)) (λ n. one_part p (place n) e a is) y (λ n. made_of_one (world_of p) (expression_of e) (value_by n v)) (λ n. refl) made.0 made.1
+      (let sound = y.kept.sound.sound in value_known sound x made.0 (one_in s.told.knows p (expression_of e) (value_by (by_sources sound) v) (value_in sound v y.is.known)))
   one_makes {r = r} {s = s} e {before = Ok v} {after = Err k} is y none = subst (λ j. Reads p r s place (expression_of e) (Err j)) (sym none) (record { kept = y.kept; is = tt })
   one_makes {r = r} {s = s} e {before = Err h} is y same = subst (Reads p r s place (expression_of e)) (sym same) (one_stops e is y)
 
@@ -363,17 +386,19 @@ module _ {p : Program} {place : Places} where
   two_stop_at e {a = a} {b = b} {v = v} {h = h} are x y = goes (expression_of e) (expression_of a) v (Err h) (behind_first p place e b) (λ n. two_parts p (place n) e a b are) x y.kept (second_stops (expression_of b) h (λ n w. Gives (made_of_two (world_of p) (expression_of e) (value_by n v) w)) y)
 
   pub two_make : {S : Type 0} {r m s : State S} (e : TExpr) {a b : TExpr} {v : CodedValue} {first second after : Result CodedValue Halt} → parts_of e ≡ Some (a, b) → first ≡ Ok v → Reads p r m place (expression_of a) first → Reads p m s place (expression_of b) second
-      → TwoMake p (made_of_two (world_of p) (expression_of e)) first second after → Reads p r s place (expression_of e) after
-  two_make e {a = a} {b = b} {first = Ok v} {second = Ok w} {after = Ok x} are there y z made =
+      → length p.tree ≤ most_nodes → TwoMake p (made_of_two (world_of p) (expression_of e)) first second after → Reads p r s place (expression_of e) after
+  two_make e {a = a} {b = b} {first = Ok v} {second = Ok w} {after = Ok x} are there y z few made =
+      let sound = z.kept.sound.sound in
+      let known = value_known sound x made.0 (two_in sound few (expression_of e) (value_by (by_sources sound) v) (value_by (by_sources sound) w) (value_in sound v (value_later z.kept v y.is.known)) (value_in sound w z.is.known)) in
       goes (expression_of e) (expression_of a) v (Ok x) (behind_first p place e b) (λ n. two_parts p (place n) e a b are) y z.kept
-      (second_goes (expression_of b) w x (λ n u. Gives (made_of_two (world_of p) (expression_of e) (value_by n v) u)) z (λ n. made_of_two (world_of p) (expression_of e) (value_by n v) (value_by n w)) (λ n. refl) made.0 made.1)
-  two_make {r = r} {s = s} e {first = Ok v} {second = Ok w} {after = Err k} are there y z none = subst (λ j. Reads p r s place (expression_of e) (Err j)) (sym none) (record { kept = advances_then y.kept z.kept; is = tt })
-  two_make e {first = Ok v} {second = Err h} are there y z same = came_as (sym same) (two_stop_at e are y z)
-  two_make e {v = v} {first = Err h} are there y z made = absurd (no_value there)
+      (second_goes (expression_of b) w x (λ n u. Gives (made_of_two (world_of p) (expression_of e) (value_by n v) u)) z (λ n. made_of_two (world_of p) (expression_of e) (value_by n v) (value_by n w)) (λ n. refl) made.0 made.1 known)
+  two_make {r = r} {s = s} e {first = Ok v} {second = Ok w} {after = Err k} are there y z few none = subst (λ j. Reads p r s place (expression_of e) (Err j)) (sym none) (record { kept = advances_then y.kept z.kept; is = tt })
+  two_make e {first = Ok v} {second = Err h} are there y z few same = came_as (sym same) (two_stop_at e are y z)
+  two_make e {v = v} {first = Err h} are there y z few made = absurd (no_value there)
 
   -- the right part, rounded
   right_goes : {S : Type 0} {m s : State S} (b : Expression) (w : CodedValue) (t : Bool) → Reads p m s place b (Ok w) → ReadsTruth t w → Answers p s.told (right_of p place b) (Ok (coded.Truth t))
-  right_goes b w t z is = second_goes b w (coded.Truth t) (λ n u. Gives (Truth (truth u))) z (λ n. Truth (truth (value_by n w))) (λ n. refl) (λ n named. ap Truth (is n)) tt
+  right_goes b w t z is = second_goes b w (coded.Truth t) (λ n u. Gives (Truth (truth u))) z (λ n. Truth (truth (value_by n w))) (λ n. refl) (λ n named. ap Truth (is n)) tt tt
 
   right_stops : {S : Type 0} {m s : State S} (b : Expression) (h : Halt) → Reads p m s place b (Err h) → Answers p s.told (right_of p place b) (Err h)
   right_stops b h z = second_stops b h (λ n u. Gives (Truth (truth u))) z

@@ -14,7 +14,8 @@ use Rattle.attr_rules.specs.declared.expression.TExpr.{TExpr}
 use Rattle.attr_rules.specs.declared.expression.TExpr.TheVariants as kept
 use Rattle.attr_rules.specs.Expression.{Expression, New, NewArguments, expression_of}
 use Rattle.attr_rules.specs.Queries.{Query as Asked}
-use Rattle.attr_rules.specs.Rules.{RuleSet, body_at}
+use Rattle.attr_rules.specs.declared.dispatch.Target.{Target}
+use Rattle.attr_rules.specs.Rules.{Equation, RuleSet, body_at, target_in}
 use Rattle.solutions.specs.Asking.{Demands, Gives, gives}
 use Rattle.equation_law.specs.declared.coding.QueryId.{QueryId}
 use Rattle.equation_law.specs.declared.coding.Args.{Args}
@@ -33,7 +34,7 @@ use Rattle.equation_law.specs.Equations.{Site, attribute_kind, body_demands, col
 use Rattle.equation_law.specs.Meaning.{Place, with_tokens}
 use Rattle.equation_law.specs.Names.{Argument, At, Attribute, Instance, Null, Query, Reference, made_by}
 use Rattle.equation_law.specs.Program.{Program, class_at, declared_of, equation_for, text_of}
-use Rattle.equation_law.specs.Reading.{ByEachIn, Grows, IsSound, Told}
+use Rattle.equation_law.specs.Reading.{ByEachIn, Grows, IsSound, KnowsInstance, KnowsValue, Told}
 use Rattle.equation_law.specs.Values.{Node, Tree, Value, as_kind, as_tree, default_of}
 use Rattle.equation_law.proofs.Inherited.{read_above}
 use Rattle.equation_law.proofs.Lists.{some_of}
@@ -50,7 +51,14 @@ use Rattle.expr_eval.specs.Reads.{Advances, IsReady, Reads, Resumes, State, Toke
 use Rattle.expr_eval.specs.Saved.{AreSaved, SavesNothing}
 use Rattle.expr_eval.specs.Sites.{IsImageFor, IsImageOf, IsNoImage, IsTurned, TurnAs, expression_or_null, instance_reads, query_reads, side_reads, site_reads}
 use Rattle.expr_eval.proofs.Forms.{advances_read, advances_self, advances_then, comes_next, gives_value, naming_in, wants_first}
+use Rattle.expr_eval.proofs.Knowing.{by_sources, default_in, kind_in, value_in, value_known}
 use Rattle.expr_eval.proofs.NewTokens.{TokensHalt, TokensStop, given_never, given_same, tokens_comes, tokens_end, tokens_halt}
+
+-- the target of an equation by its number
+pub target_here : (k : ℕ) {rules all : RuleSet} {t : Target} {q : Equation} → rules ≡ all → option_map target_in (slice_get rules.equations k) ≡ Some t → slice_get all.equations k ≡ Some q → q.target ≡ t
+target_here k {t = t} {q = q} same kept there =
+    let one : Some q.target ≡ Some t = ap (option_map target_in) (sym there) ∙ ap (λ (x : RuleSet). option_map target_in (slice_get x.equations k)) (sym same) ∙ kept in
+    cc
 
 -- an expression that isn't kept as a `new` is none
 pub not_new : (e : TExpr) → ((c : ClassId) (parts : NewArgs) → e ≡ kept.New c parts → ⊥) → making_in (expression_of e) ≡ None
@@ -84,8 +92,8 @@ unanswered p t c (Err m) e = tt
 
 -- a turn over demands that are others, by what the reader may be read
 turn_as : {S : Type 0} (p : Program) (s : Told S) (c d : Asks) (res : Result Turn NoMemory) → ByEachIn s (λ n. c n ≡ d n) → AnswersTurn p s c res → AnswersTurn p s d res
-turn_as p s c d (Ok (turns.Done v)) same a = record { comes = λ n at. subst (λ x. Comes s.has x (value_by n v)) (same n at) (a.comes n at); coded = a.coded }
-turn_as p s c d (Ok (turns.Need i)) same a = record { wants = λ n at. subst (λ x. Wants s.has x (instance_by p n i)) (same n at) (a.wants n at); coded = a.coded }
+turn_as p s c d (Ok (turns.Done v)) same a = record { comes = λ n at. subst (λ x. Comes s.has x (value_by n v)) (same n at) (a.comes n at); coded = a.coded; known = a.known }
+turn_as p s c d (Ok (turns.Need i)) same a = record { wants = λ n at. subst (λ x. Wants s.has x (instance_by p n i)) (same n at) (a.wants n at); coded = a.coded; known = a.known }
 turn_as p s c d (Ok (turns.Image t)) same a =
     record { making = a.making; is = a.is; comes = λ n at. (let one = a.comes n at in (one.0, subst (λ x. Comes s.has x (Tree one.0 (arguments_by n (token_kinds a.making.arguments) t.tokens))) (same n at) one.1)); all = a.all; codes = a.codes }
 turn_as p s c d (Err m) same a = tt
@@ -183,7 +191,10 @@ abbrev HasNaming : {S : Type 0} → Told S → Type 0
 HasNaming s = (n : Naming) × s.names n
 
 -- What a right side comes to, from what it does without the instance: a tree that is made is that of the instance, and a value is read at its type.
-module _ {S : Type 0} (p : Program) (s : Told S) (text : ByEachIn s (λ n. n.text 0 ≡ [])) (e : Expression) (k : Kind) (place : Places) (root : (n : Naming) → s.names n → Reference) where
+module _ {S : Type 0} (p : Program) (s : Told S) (sound : IsSound p s) (first : text_of p 0 ≡ []) (e : Expression) (k : Kind) (place : Places) (root : (n : Naming) → s.names n → Reference) where
+  text : ByEachIn s (λ n. n.text 0 ≡ [])
+  text n at = ap (λ (f : ℕ → List ℕ). f 0) (sound.named n at).texts ∙ first
+
   abbrev site_by : (n : Naming) → s.names n → Site
   site_by n at = record { body = e; kind = k; place = place n; root = root n at }
 
@@ -192,8 +203,8 @@ module _ {S : Type 0} (p : Program) (s : Told S) (text : ByEachIn s (λ n. n.tex
 
   -- what a turn says of this
   abbrev Says : Turn → ((n : Naming) → s.names n → Demands Instance Value) → Type 0
-  Says (turns.Done v) c = ((n : Naming) (at : s.names n) → Comes s.has (c n at) (value_by n v)) × AreElements p v
-  Says (turns.Need i) c = ((n : Naming) (at : s.names n) → Wants s.has (c n at) (instance_by p n i)) × IsCoded p i
+  Says (turns.Done v) c = ((n : Naming) (at : s.names n) → Comes s.has (c n at) (value_by n v)) × AreElements p v × KnowsValue s v
+  Says (turns.Need i) c = ((n : Naming) (at : s.names n) → Wants s.has (c n at) (instance_by p n i)) × IsCoded p i × KnowsInstance p s i
   Says (turns.Image t) c = (m : Making) × (option_and_then making_in (body_at p.rules t.equation.0) ≡ Some m) × ((n : Naming) (at : s.names n) → (r : Reference) × Comes s.has (c n at) (Tree r (arguments_by n (token_kinds m.arguments) t.tokens)))
       × (length t.tokens ≡ length (token_kinds m.arguments)) × AreCodes p (token_kinds m.arguments) t.tokens
 
@@ -203,9 +214,10 @@ module _ {S : Type 0} (p : Program) (s : Told S) (text : ByEachIn s (λ n. n.tex
   -- a value
   said_value : (v : CodedValue) (u : Turn) → Given p s (Side None) v → TurnAs k (turns.Done v) u → Says u (Body None)
   said_value v u h read =
+      let known = value_known sound read.0 (λ n is. read.2 n (ap (λ (f : ℕ → List ℕ). f 0) is.texts ∙ first)) (kind_in s.knows k (value_by (by_sources sound) v) (value_in sound v h.known)) in
       let value : (n : Naming) (at : s.names n) → as_kind k (value_by n v) ≡ value_by n read.0 = λ n at. sym (read.2 n (text n at)) in
       let ends : (n : Naming) (at : s.names n) → Comes s.has (Body None n at) (value_by n read.0) = λ n at. comes_next (λ x. Gives (as_kind k x)) (h.comes n at) (subst (λ x. Comes s.has (Gives (as_kind k (value_by n v))) x) (value n at) ([], gives)) in
-      subst (λ t. Says t (Body None)) (sym read.1) (ends, read.3 p h.coded)
+      subst (λ t. Says t (Body None)) (sym read.1) (ends, read.3 p h.coded, known)
 
   -- a `new` gives none
   no_value : (m : Making) (v : CodedValue) → HasNaming s → Given p s (Side (Some m)) v → ⊥
@@ -216,8 +228,8 @@ module _ {S : Type 0} (p : Program) (s : Told S) (text : ByEachIn s (λ n. n.tex
 
   -- a demand
   said_need : (o : Option Making) (i : CodedInstance) → Stopped p s (Side o) i → Says (turns.Need i) (Body o)
-  said_need None i h = (λ n at. wants_first (λ x. Gives (as_kind k x)) (h.wants n at), h.coded)
-  said_need (Some m) i h = (λ n at. of n at (tokens_halt s.has (world_of p) (place n) m.arguments (λ ts. Gives (Tree Null ts)) (instance_by p n i) (h.wants n at)), h.coded)
+  said_need None i h = (λ n at. wants_first (λ x. Gives (as_kind k x)) (h.wants n at), h.coded, h.known)
+  said_need (Some m) i h = (λ n at. of n at (tokens_halt s.has (world_of p) (place n) m.arguments (λ ts. Gives (Tree Null ts)) (instance_by p n i) (h.wants n at)), h.coded, h.known)
     where
       of : (n : Naming) (at : s.names n) → TokensStop s.has (world_of p) (place n) m.arguments (instance_by p n i) ⊎ TokensHalt s.has (world_of p) (place n) m.arguments (λ ts. Gives (Tree Null ts)) (instance_by p n i) → Wants s.has (Body (Some m) n at) (instance_by p n i)
       of n at (inl stops) = stops (λ ts. Gives (as_tree k (root n at) ts))
@@ -242,7 +254,7 @@ module _ {S : Type 0} (p : Program) (s : Told S) (text : ByEachIn s (λ n. n.tex
           subst (λ x. Says x (Body (Some m))) (sym same) (h.making, h.is, λ n at. (root n at, subst (λ v. Comes s.has (Body (Some m) n at) v) (tree_there k (root n at) (arguments_by n (token_kinds h.making.arguments) t.tokens) is) (comes n at)), h.all, h.codes)
       of false is value =
           let ends : (n : Naming) (at : s.names n) → Comes s.has (Body (Some m) n at) (value_by n value.0) = λ n at. subst (λ v. Comes s.has (Body (Some m) n at) v) (no_tree_there k (root n at) (arguments_by n (token_kinds h.making.arguments) t.tokens) is ∙ sym (value.2 n (text n at))) (comes n at) in
-          subst (λ x. Says x (Body (Some m))) (sym value.1) (ends, value.3 p)
+          subst (λ x. Says x (Body (Some m))) (sym value.1) (ends, value.3 p, value_known sound value.0 (λ n is. value.2 n (ap (λ (f : ℕ → List ℕ). f 0) is.texts ∙ first)) (default_in s.knows k))
 
   -- each turn
   said : (o : Option Making) (t u : Turn) → HasNaming s → (o ≡ None → IsNoImage (Ok t)) → AnswersTurn p s (Side o) (Ok t) → TurnAs k t u → Says u (Body o)
@@ -254,8 +266,8 @@ module _ {S : Type 0} (p : Program) (s : Told S) (text : ByEachIn s (λ n. n.tex
 
   -- as the answer to other demands
   answered : (c : (n : Naming) → s.names n → Demands Instance Value) (d : Asks) (u : Turn) → ((n : Naming) (at : s.names n) → c n at ≡ d n) → Says u c → AnswersTurn p s d (Ok u)
-  answered c d (turns.Done v) same h = record { comes = λ n at. subst (λ x. Comes s.has x (value_by n v)) (same n at) (h.0 n at); coded = h.1 }
-  answered c d (turns.Need i) same h = record { wants = λ n at. subst (λ x. Wants s.has x (instance_by p n i)) (same n at) (h.0 n at); coded = h.1 }
+  answered c d (turns.Done v) same h = record { comes = λ n at. subst (λ x. Comes s.has x (value_by n v)) (same n at) (h.0 n at); coded = h.1; known = h.2 }
+  answered c d (turns.Need i) same h = record { wants = λ n at. subst (λ x. Wants s.has x (instance_by p n i)) (same n at) (h.0 n at); coded = h.1; known = h.2 }
   answered c d (turns.Image t) same h =
       record { making = h.0; is = h.1; comes = λ n at. (let one = h.2 n at in (one.0, subst (λ x. Comes s.has x (Tree one.0 (arguments_by n (token_kinds h.0.arguments) t.tokens))) (same n at) one.1)); all = h.3; codes = h.4 }
 
@@ -268,8 +280,7 @@ module _ {S : Type 0} (p : Program) (s : Told S) (text : ByEachIn s (λ n. n.tex
 pub instance_evaluated : {S : Type 0} (p : Program) (r s : State S) (i : Naming → Instance) (e : Expression) (k : Kind) (place : Places) (t u : Turn) → text_of p 0 ≡ [] → ByEachIn s.told (λ n. collection_of p (i n) ≡ None) → ByEachIn s.told (λ n. HasSite p (i n) e k (place n))
     → (making_in e ≡ None → IsNoImage (Ok t)) → Resumes p r s (λ n. side_reads p (place n) e (making_in e)) (Ok t) → TurnAs k t u → Resumes p r s (λ n. (equations_of p).equation (i n)) (Ok u)
 instance_evaluated p r s i e k place t u first none is plain h read =
-    let text : ByEachIn s.told (λ n. n.text 0 ≡ []) = λ n at. ap (λ (f : ℕ → List ℕ). f 0) (naming_in h.kept n at).texts ∙ first in
-    record { kept = h.kept; answer = side_said p s.told text e k place (λ n at. (is n at).0) i t u none (λ n at. (is n at).1) h.kept.sound.sound.some plain h.answer read }
+    record { kept = h.kept; answer = side_said p s.told h.kept.sound.sound first e k place (λ n at. (is n at).0) i t u none (λ n at. (is n at).1) h.kept.sound.sound.some plain h.answer read }
 
 -- an attribute's equation that is found, read at the attribute's type
 pub attribute_evaluated : {S : Type 0} (p : Program) (r s : State S) (a : AttrId) (m : NodeRef) (xs : Args) (k : Kind) (site : EqSite) (t u : Turn) → text_of p 0 ≡ [] → k ≡ attribute_kind p a.0 → ByEachIn r.told (λ n. collection_of p (instance_by p n (coded_instance.Attr a m xs)) ≡ None)
@@ -289,12 +300,12 @@ asked_evaluated p r s q e k t u first at kind plain h read =
     instance_evaluated p r s (λ n. Query q.0) e.body k (λ n. place_at 0) t u first (λ n at. refl) (λ n at. is) (λ e. plain) side read
 
 -- what has no equation counts as null
-pub none_evaluated : {S : Type 0} (p : Program) (r : State S) (i : CodedInstance) → IsReady p r → ByEachIn r.told (λ n. collection_of p (instance_by p n i) ≡ None) → ByEachIn r.told (λ n. site_of p (instance_by p n i) ≡ None) → (x : CodedValue) → AreElements p x → ((n : Naming) → value_by n x ≡ Node Null)
+pub none_evaluated : {S : Type 0} (p : Program) (r : State S) (i : CodedInstance) → IsReady p r → ByEachIn r.told (λ n. collection_of p (instance_by p n i) ≡ None) → ByEachIn r.told (λ n. site_of p (instance_by p n i) ≡ None) → (x : CodedValue) → AreElements p x → KnowsValue r.told x → ((n : Naming) → value_by n x ≡ Node Null)
     → Resumes p r r (instance_reads p i) (Ok (turns.Done x))
-none_evaluated p r i ready single none x coded e =
+none_evaluated p r i ready single none x coded known e =
     let asks : Asks = λ n. Gives (Node Null) in
     let same : ByEachIn r.told (λ n. asks n ≡ instance_reads p i n) = λ n at. sym (demanded_at_site p (instance_by p n i) (single n at) ∙ ap (site_demands (world_of p)) (none n at)) in
-    record { kept = advances_self ready; answer = turn_as p r.told asks (instance_reads p i) (Ok (turns.Done x)) same (gives_value (λ n at. e n) coded) }
+    record { kept = advances_self ready; answer = turn_as p r.told asks (instance_reads p i) (Ok (turns.Done x)) same (gives_value (λ n at. e n) coded known) }
 
 -- as a query that isn't there
 pub past_query : (p : Program) (q : ℕ) → length p.queries ≤ q → site_of p (Query q) ≡ None
@@ -302,7 +313,7 @@ past_query p q past = ap (λ (o : Option Asked). option_map (λ x. record { body
 
 -- going on is an evaluation
 pub evaluated : {S : Type 0} {p : Program} {s : System} {r t : Told S} {x y : Saved} {c : Asks} {res : Result Turn NoMemory} → Resumes p (state s r x) (state s t y) c res → Evaluates p r t c res
-evaluated h = record { kept = record { sound = h.kept.sound.sound; values = h.kept.values; bound = h.kept.bound; kept = h.kept.kept; names = h.kept.names; heights = h.kept.heights }; answer = h.answer }
+evaluated h = record { kept = record { sound = h.kept.sound.sound; values = h.kept.values; bound = h.kept.bound; kept = h.kept.kept; names = h.kept.names; known = h.kept.known; heights = h.kept.heights }; answer = h.answer }
 
 -- where nothing is saved
 pub none_saved : {S : Type 0} {s : System} {t : Told S} (x : Saved) → SavesNothing x → AreSaved s t x
@@ -330,7 +341,7 @@ module _ {S : Type 0} (p : Program) (r s : State S) (place : Places) (equation :
 
   pub image_stopped : (before behind : List ℕ) (h : Halt) (res : Result Turn NoMemory) → TokensRead p r s place parts before behind (Err h) → IsTurned (Err h) res → Resumes p r s (image_asks p r s parts place) res
   image_stopped before behind (Need i) res h is =
-      subst (Resumes p r s (image_asks p r s parts place)) (sym is) (record { kept = h.kept; answer = record { wants = λ n at. h.is.stopped n at (λ ts. Gives (Tree Null ts)); coded = h.is.coded } })
+      subst (Resumes p r s (image_asks p r s parts place)) (sym is) (record { kept = h.kept; answer = record { wants = λ n at. h.is.stopped n at (λ ts. Gives (Tree Null ts)); coded = h.is.coded; known = h.is.known } })
   image_stopped before behind Memory res h is = failed p r s (image_asks p r s parts place) res h.kept is
 
 -- what goes on behind a reader that alone went on

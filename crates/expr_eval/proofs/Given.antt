@@ -16,13 +16,15 @@ use Rattle.equation_law.specs.Codes.{AreCodes, ByEachNaming, IsCode, IsRow, IsSm
 use Rattle.equation_law.specs.Equations.{world_of}
 use Rattle.equation_law.specs.Meaning.{with_arguments}
 use Rattle.equation_law.specs.Program.{Program}
+use Rattle.equation_law.specs.Reading.{AreKnownCodes, Told}
 use Rattle.equation_law.specs.Values.{Value, as_argument, as_arguments, as_kind}
 use Rattle.expr_eval.specs.declared.evaluation.Halt.{Halt}
 use Rattle.expr_eval.specs.declared.evaluation.Halt.TheVariants.{Need, Memory}
 use Rattle.expr_eval.specs.Evaluating.{Places, end, more}
 use Rattle.expr_eval.specs.Reads.{ArgumentsRead, IsReady, Reads, State}
-use Rattle.expr_eval.proofs.Forms.{advances_self, advances_then, naming_in, wants_first, wants_next}
+use Rattle.expr_eval.proofs.Forms.{advances_self, advances_then, naming_in, value_later, wants_first, wants_next}
 use Rattle.expr_eval.proofs.Growing.{comes_more}
+use Rattle.expr_eval.proofs.Knowing.{code_known}
 
 -- a code of another type than that of texts
 pub small_code : (p : Program) (k : Kind) (c : ℕ) → text_kind k ≡ false → IsSmall k c → c < 2 ^ 32 → IsCode p k c
@@ -55,6 +57,10 @@ module _ (p : Program) where
   no_codes : (ks : List Kind) → AreCodes p ks []
   no_codes [] = tt
   no_codes (k ∷ ks) = tt
+
+  none_known : {S : Type 0} (r : Told S) (ks : List Kind) → AreKnownCodes r ks []
+  none_known r [] = tt
+  none_known r (k ∷ ks) = tt
 
   no_arguments : (n : Naming) (ks : List Kind) → arguments_by n ks [] ≡ as_arguments ks []
   no_arguments n [] = refl
@@ -116,20 +122,21 @@ module _ {S : Type 0} {p : Program} {place : Places} where
 
   -- there are none
   pub none_given : {r : State S} {ks : List Kind} (xs : Args) → IsReady p r → IsRow xs → codes_in xs ≡ [] → ArgumentsRead p r r place ks no_more (Ok xs)
-  none_given {ks = ks} xs sound row none = record {
+  none_given {r = r} {ks = ks} xs sound row none = record {
     kept = advances_self sound;
     is = record {
       values = λ n. [];
       collects = λ n at. end;
       row = row;
       codes = subst (AreCodes p ks) (sym none) (no_codes p ks);
+      known = subst (AreKnownCodes r.told ks) (sym none) (none_known p r.told ks);
       are = λ n at. ap (arguments_by n ks) none ∙ no_arguments p n ks;
     };
   }
 
   -- the first has no value, or one behind it
   pub first_halts : {r s : State S} {ks : List Kind} {e : Expression} {es : Arguments} {h : Halt} → Reads p r s place e (Err h) → ArgumentsRead p r s place ks (argument e es) (Err h)
-  first_halts {s = s} {es = es} {h = Need i} a = record { kept = a.kept; is = record { stopped = λ n at f. wants_first (λ v. with_arguments (world_of p) es (place n) (λ vs. f (v ∷ vs))) (a.is.wants n at); coded = a.is.coded } }
+  first_halts {s = s} {es = es} {h = Need i} a = record { kept = a.kept; is = record { stopped = λ n at f. wants_first (λ v. with_arguments (world_of p) es (place n) (λ vs. f (v ∷ vs))) (a.is.wants n at); coded = a.is.coded; known = a.is.known } }
   first_halts {h = Memory} a = record { kept = a.kept; is = tt }
 
   pub rest_halts : {r m s : State S} {ks ls : List Kind} {e : Expression} {es : Arguments} {v : CodedValue} {h : Halt} → Reads p r m place e (Ok v) → ArgumentsRead p m s place ls es (Err h) → ArgumentsRead p r s place ks (argument e es) (Err h)
@@ -140,6 +147,7 @@ module _ {S : Type 0} {p : Program} {place : Places} where
           let first = comes_more b.kept.values (a.is.comes n (b.kept.names n at)) in
           wants_next (λ w. with_arguments (world_of p) es (place n) (λ vs. f (w ∷ vs))) first (b.is.stopped n at (λ vs. f (value_by n v ∷ vs)));
       coded = b.is.coded;
+      known = b.is.known;
     };
   }
   rest_halts {h = Memory} a b = record { kept = advances_then a.kept b.kept; is = tt }
@@ -156,6 +164,7 @@ module _ {S : Type 0} {p : Program} {place : Places} where
           collects = λ n at. more (ends_more b.kept.values (a.is.comes n (b.kept.names n at)).1) (b.is.collects n at);
           row = row;
           codes = subst (AreCodes p (k ∷ ls)) (sym codes) (code, b.is.codes);
+          known = subst (AreKnownCodes s.told (k ∷ ls)) (sym codes) (code_known b.kept.sound.sound k c v (value_later b.kept v a.is.known) value, b.is.known);
           are = λ n at. (let named = naming_in b.kept n at in ap (arguments_by n (k ∷ ls)) codes ∙ (λ i. value n named i ∷ b.is.are n at i));
         };
       })
@@ -171,6 +180,7 @@ module _ {S : Type 0} {p : Program} {place : Places} where
           collects = λ n at. more (ends_more b.kept.values (a.is.comes n (b.kept.names n at)).1) (b.is.collects n at);
           row = row;
           codes = subst (AreCodes p []) (sym codes) tt;
+          known = subst (AreKnownCodes s.told []) (sym codes) tt;
           are = λ n at. refl;
         };
       })

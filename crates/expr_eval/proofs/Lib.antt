@@ -8,6 +8,7 @@ pub mod Going
 pub mod Growing
 pub mod Hanging
 pub mod Kept
+pub mod Knowing
 pub mod Lighter
 pub mod MadeNodes
 pub mod Names

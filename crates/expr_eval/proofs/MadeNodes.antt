@@ -1,7 +1,6 @@
 -- What is read of nodes that were made, by each naming.
-use Rattle.std.proofs.Common.{◌≡◌, ℕ, zero, suc, ◌<◌, ◌≤◌, ◌≢◌, Bool, true, false, cond, List, [], ◌∷◌, Option, Some, None, IsSome, is_some, Result, Ok, Err, length, slice_get, refl, sym, ap, subst, ◌∙◌, arith, inl, inr}
+use Rattle.std.proofs.Common.{◌≡◌, ℕ, zero, suc, ◌<◌, ◌≤◌, ◌≢◌, Bool, true, false, cond, List, [], ◌∷◌, Option, Some, None, IsSome, is_some, Result, Ok, Err, length, slice_get, refl, sym, ap, subst, ◌∙◌, arith}
 use Rattle.std.specs.Option.{option_and_then, option_map}
-use Rattle.std.proofs.lemmas.Bool.{cases_lt}
 use Rattle.std.proofs.lemmas.Option.{slice_get_past}
 use Rattle.ast_grammar.specs.declared.grammar.ClassId.{ClassId}
 use Rattle.ast_grammar.specs.declared.grammar.Shape.{Shape}
@@ -32,13 +31,13 @@ use Rattle.equation_law.specs.Equations.{argument_or_null, decoded, source_or_nu
 use Rattle.equation_law.specs.Meaning.{is_instance, is_there, token_at}
 use Rattle.equation_law.specs.Names.{Argument, At, Attribute, Instance, Made, NodeName, Null, Reference, Row, Source, list_of, maker_of}
 use Rattle.equation_law.specs.Program.{Program, attribute_parameters, class_at, making_of, text_of, tree_made}
-use Rattle.equation_law.specs.Reading.{AreTokensOf, ByEachIn, Grows, HasNone, IsHigher, SettledBy, Settles, TokenBy, Told, UpBy, class_behind, higher_than, parent_or_maker}
+use Rattle.equation_law.specs.Reading.{AreKnownCodes, AreTokensOf, ByEachIn, Grows, HasNone, IsHigher, KnowsInstance, KnowsValue, SettledBy, Settles, TokenBy, Told, UpBy, class_behind, higher_than, parent_or_maker}
 use Rattle.equation_law.specs.Values.{Node, Truth, Value, argument_value, as_argument, as_kind, default_of, tokens}
 use Rattle.equation_law.proofs.Above.{map_nothing, through}
 use Rattle.equation_law.proofs.Codes.{IsPast, past_tree}
 use Rattle.equation_law.proofs.Created.{made_falls}
 use Rattle.inherited_walk.specs.Climbing.{GivesArguments}
-use Rattle.equation_law.proofs.Grown.{grows_on}
+use Rattle.equation_law.proofs.Grown.{grows_on, instance_known}
 use Rattle.expr_eval.specs.declared.evaluation.Halt.{Halt}
 use Rattle.expr_eval.specs.declared.evaluation.Halt.TheVariants.{Need}
 use Rattle.expr_eval.specs.Elements.{node_kind}
@@ -47,6 +46,7 @@ use Rattle.expr_eval.specs.Made.{IsChildBy, IsMakerOf, IsOfBy, NodeReads}
 use Rattle.expr_eval.proofs.Accessed.{cast_by, decoded_by, there_by}
 use Rattle.expr_eval.proofs.Forms.{gives_value}
 use Rattle.expr_eval.proofs.Hanging.{no_code_past}
+use Rattle.expr_eval.proofs.Knowing.{decoded_in, default_in, value_known}
 
 -- a node of a tree that was made
 pub record IsMadeAt (r : Reference) : Type 0 where
@@ -306,16 +306,16 @@ module _ {p : Program} (fit : TreesFit p) (t : Kind) (k : ℕ) (class : ClassId)
 -- The token of a node of a class that was made, where it is known what made the node.
 module _ {S : Type 0} {p : Program} {r s : Told S} (t : Kind) (k m : ℕ) (class : ClassId) (i : CodedInstance) (grows : Grows p r s) where
   -- what made it has no value
-  pub token_stuck : ByEachIn s (λ n. class_behind p (reference_by n.node m) ≡ Some class) → ByEachIn s (λ n. Makes (reference_by n.node m) (instance_by p n i)) → IsCoded p i → ByEachIn s (λ n. HasNone s (instance_by p n i)) → TokenReads p r s t k m (Err (Need i))
-  token_stuck is makes coded none = record {
+  pub token_stuck : ByEachIn s (λ n. class_behind p (reference_by n.node m) ≡ Some class) → ByEachIn s (λ n. Makes (reference_by n.node m) (instance_by p n i)) → IsCoded p i → KnowsInstance p s i → ByEachIn s (λ n. HasNone s (instance_by p n i)) → TokenReads p r s t k m (Err (Need i))
+  token_stuck is makes coded known none = record {
     kept = grows;
-    is = record { wants = λ n named. subst (λ c. Wants s.has c (instance_by p n i)) (sym (token_needs grows.sound.fit t k class (reference_by n.node m) (instance_by p n i) (is n named) (makes n named))) ([], at (none n named)); coded = coded };
+    is = record { wants = λ n named. subst (λ c. Wants s.has c (instance_by p n i)) (sym (token_needs grows.sound.fit t k class (reference_by n.node m) (instance_by p n i) (is n named) (makes n named))) ([], at (none n named)); coded = coded; known = known };
   }
 
   -- it has one
-  pub token_there : (x : CodedValue) → ByEachIn s (λ n. class_behind p (reference_by n.node m) ≡ Some class) → ByEachIn s (λ n. Makes (reference_by n.node m) (instance_by p n i)) → AreElements p x
+  pub token_there : (x : CodedValue) → ByEachIn s (λ n. class_behind p (reference_by n.node m) ≡ Some class) → ByEachIn s (λ n. Makes (reference_by n.node m) (instance_by p n i)) → AreElements p x → KnowsValue s x
       → ByEachIn s (λ n. (w : Value) × s.has (instance_by p n i) w × (value_by n x ≡ token_within p t k (reference_by n.node m) w)) → TokenReads p r s t k m (Ok x)
-  token_there x is makes coded known = record {
+  token_there x is makes coded good known = record {
     kept = grows;
     is = record {
       comes = λ n named.
@@ -324,6 +324,7 @@ module _ {S : Type 0} {p : Program} {r s : Told S} (t : Kind) (k m : ℕ) (class
           let ends : Ends s.has c (value_by n x) [] = subst (λ v. Ends s.has c v []) (sym one.2) gives in
           subst (λ c. Comes s.has c (value_by n x)) (sym (token_needs grows.sound.fit t k class (reference_by n.node m) (instance_by p n i) (is n named) (makes n named))) (instance_by p n i ∷ [], asks one.1 ends);
       coded = coded;
+      known = good;
     };
   }
 
@@ -332,24 +333,24 @@ class_here : (p : Program) (r s : Reference) → AreBeside p r s → IsSome (cla
 class_here p r s here = subst (λ x. IsSome (class_behind p x)) (sym here.here) here.class
 
 -- The way from a node that was made up to what made it.
-module _ {S : Type 0} {p : Program} {q r s : Told S} (node at : NodeRef) (grows : Grows p q r) (beside : ByEachIn r (λ n. AreBeside p (reference_by n.node node.0) (reference_by n.node at.0))) (made : most_nodes < at.0) where
+module _ {S : Type 0} {p : Program} {q r s : Told S} (node at : NodeRef) (grows : Grows p q r) (beside : ByEachIn r (λ n. AreBeside p (reference_by n.node node.0) (reference_by n.node at.0))) (made : most_nodes < at.0) (known : r.knows at.0) where
   higher_by : {u : Up} → UpBy r s at u → (n : Naming) → s.names n → IsHigher n u (higher_than p (reference_by n.node at.0))
-  higher_by h n named = let sound = grows.sound in let kept = h.kept p sound in h.answer p sound made n named (class_here p (reference_by n.node node.0) (reference_by n.node at.0) (beside n (kept.names n named)))
+  higher_by h n named = let sound = grows.sound in let kept = h.kept p sound in h.answer p sound made known n named (class_here p (reference_by n.node node.0) (reference_by n.node at.0) (beside n (kept.names n named)))
 
   beside_parent : {m : NodeRef} {k : ℕ} → UpBy r s at (up.Inside m k) → ByEachIn s (λ n. AreBeside p (reference_by n.node node.0) (reference_by n.node m.0))
   beside_parent {m} {k} h n named = let kept = h.kept p grows.sound in parent_beside p n (reference_by n.node node.0) (reference_by n.node at.0) (beside n (kept.names n named)) m.0 k (higher_by h n named)
 
   -- to the parent in the tree
-  pub climbs : {m : NodeRef} {k : ℕ} → UpBy r s at (up.Inside m k) → Grows p q s × (most_nodes < m.0) × ByEachIn s (λ n. AreBeside p (reference_by n.node node.0) (reference_by n.node m.0))
+  pub climbs : {m : NodeRef} {k : ℕ} → UpBy r s at (up.Inside m k) → Grows p q s × (most_nodes < m.0) × ByEachIn s (λ n. AreBeside p (reference_by n.node node.0) (reference_by n.node m.0)) × s.knows m.0
   climbs {m} h =
       let kept = h.kept p grows.sound in
       let some = kept.sound.some in
       let there = beside_parent h some.0 some.1 in
-      (grows_on grows kept, made_code (kept.sound.named some.0 some.1) m.0 (record { attribute = there.attribute; owner = there.owner; arguments = there.arguments; place = there.place; is = there.here }), beside_parent h)
+      (grows_on grows kept, made_code (kept.sound.named some.0 some.1) m.0 (record { attribute = there.attribute; owner = there.owner; arguments = there.arguments; place = there.place; is = there.here }), beside_parent h, h.known p grows.sound made known)
 
   -- and from the root to its owner
   pub owned : {t : Told S} {m : NodeRef} {b : AttrId} {xs : Args} → UpBy r s at (up.Owner m b) → GivesArguments p s t b at xs → IsMakerOf p q t node (coded_instance.Attr b m xs)
-  owned {t} {m} {b} {xs} h given = record { kept = grows_on grows (grows_on kept given.kept); coded = (given.row, (arguments given.kept.sound.some.0 given.kept.sound.some.1).0); is = by }
+  owned {t} {m} {b} {xs} h given = record { kept = grows_on grows (grows_on kept given.kept); coded = (given.row, (arguments given.kept.sound.some.0 given.kept.sound.some.1).0); known = (given.kept.known m.0 (h.known p grows.sound made known), codes given.kept.sound.some.0 given.kept.sound.some.1); is = by }
     where
       kept : Grows p r s
       kept = h.kept p grows.sound
@@ -365,6 +366,12 @@ module _ {S : Type 0} {p : Program} {q r s : Told S} (node at : NodeRef) (grows 
           let one = here n named in
           let there = node_of_owner p n (reference_by n.node node.0) (reference_by n.node at.0) one b.0 (owner n named).1 in
           given.are n named one.owner one.arguments one.place there.0 there.1
+
+      codes : (n : Naming) → t.names n → AreKnownCodes t (attribute_parameters p b.0) (codes_in xs)
+      codes n named =
+          let one = here n named in
+          let there = node_of_owner p n (reference_by n.node node.0) (reference_by n.node at.0) one b.0 (owner n named).1 in
+          given.known n named one.owner one.arguments one.place there.0 there.1
 
       by : (n : Naming) → t.names n → (x : NodeName) → reference_by n.node node.0 ≡ At x → maker_of x ≡ Some (instance_by p n (coded_instance.Attr b m xs))
       by n named = made_first p n (reference_by n.node node.0) (reference_by n.node at.0) (here n named) b.0 (reference_by n.node m.0) (arguments_for p n b.0 xs) (owner n named).1 (owner n named).0 (arguments n named).1
@@ -382,12 +389,12 @@ classless_token p t k (At (Made a o xs q)) e =
     ap (λ (c : Option ClassId). where_made c (cond (circular_at p.rules.attributes a) (Gives (default_of t)) (Needs (Attribute a o (list_of xs)) (λ v. Gives (as_kind t (token_value (tokens v) (token_place (making_of p a o) q k)))))) (Gives (default_of t))) e
 
 -- The token of a node of a class that was made, once it is known what made it, and whether that has a value.
-module _ {S : Type 0} {p : Program} {r m s : Told S} (t : Kind) (k : ℕ) (node : NodeRef) (class : ClassId) (i : CodedInstance) (o : Option CodedValue) (of_class : ByEachIn r (λ n. class_behind p (reference_by n.node node.0) ≡ Some class)) (maker : IsMakerOf p r m node i) (settled : SettledBy m s i (Ok o)) where
+module _ {S : Type 0} {p : Program} {r m s : Told S} (t : Kind) (k : ℕ) (node : NodeRef) (class : ClassId) (i : CodedInstance) (o : Option CodedValue) (of_class : ByEachIn r (λ n. class_behind p (reference_by n.node node.0) ≡ Some class)) (maker : IsMakerOf p r m node i) (settled : SettledBy m s i (Ok o)) (at_known : r.knows node.0) where
   grown : Grows p m s
   grown = settled.kept p maker.kept.sound
 
   says : Settles p s (λ n. instance_by p n i) (Ok o)
-  says = settled.answer p maker.kept.sound maker.coded
+  says = settled.answer p maker.kept.sound maker.coded maker.known
 
   class_by : ByEachIn s (λ n. class_behind p (reference_by n.node node.0) ≡ Some class)
   class_by n named = of_class n (maker.kept.names n (grown.names n named))
@@ -397,7 +404,7 @@ module _ {S : Type 0} {p : Program} {r m s : Told S} (t : Kind) (k : ℕ) (node 
 
   -- that has none
   pub made_none : o ≡ None → TokenReads p r s t k node.0 (Err (Need i))
-  made_none none = token_stuck t k node.0 class i (grows_on maker.kept grown) class_by maker_by maker.coded (subst (λ (x : Option CodedValue). Settles p s (λ n. instance_by p n i) (Ok x)) none says)
+  made_none none = token_stuck t k node.0 class i (grows_on maker.kept grown) class_by maker_by maker.coded (instance_known grown i maker.known) (subst (λ (x : Option CodedValue). Settles p s (λ n. instance_by p n i) (Ok x)) none says)
 
   held : (v : CodedValue) → o ≡ Some v → (n : Naming) → s.names n → (w : Value) × s.has (instance_by p n i) w
   held v is n named = let one = (subst (λ (x : Option CodedValue). Settles p s (λ n. instance_by p n i) (Ok x)) is says).0 n named in (one.0, one.1)
@@ -407,18 +414,19 @@ module _ {S : Type 0} {p : Program} {r m s : Told S} (t : Kind) (k : ℕ) (node 
       → TokenReads p r u t k node.0 (Ok x)
   made_known {u} v code x is token first wanted value coded =
       let kept : Grows p s u = token.kept p grown.sound in
-      token_there t k node.0 class i (grows_on (grows_on maker.kept grown) kept) x (λ n named. class_by n (kept.names n named)) (λ n named. maker_by n (kept.names n named)) coded (λ n named.
+      let good = value_known kept.sound x (λ n is. value n (ap (λ (f : ℕ → List ℕ). f 0) is.texts ∙ first)) (decoded_in u.knows (text_of p) t (Some code)) in
+      token_there t k node.0 class i (grows_on (grows_on maker.kept grown) kept) x (λ n named. class_by n (kept.names n named)) (λ n named. maker_by n (kept.names n named)) coded good (λ n named.
       let here = kept.names n named in
       let one = held v is n here in
       let text : n.text 0 ≡ [] = ap (λ (f : ℕ → List ℕ). f 0) (kept.sound.named n named).texts ∙ first in
-      let known = token_known grown.sound.fit t k class s.has (reference_by n.node node.0) (instance_by p n i) n code (class_by n here) (maker_by n here) wanted (token.answer p grown.sound n named) one.0 one.1 in
+      let known = token_known grown.sound.fit t k class s.has (reference_by n.node node.0) (instance_by p n i) n code (class_by n here) (maker_by n here) wanted (token.answer p grown.sound (grown.known node.0 (maker.kept.known node.0 at_known)) n named) one.0 one.1 in
       (one.0, kept.values (instance_by p n i) one.0 one.1, value n text ∙ sym (decoded_by n t code (wanted_no_node p.grammar (Some class) k t wanted)) ∙ known))
 
   -- it has one, and the token is of another type
   pub made_other : (v x : CodedValue) → o ≡ Some v → text_of p 0 ≡ [] → token_wanted p.grammar (Some class) k ≢ Some t → ((n : Naming) → n.text 0 ≡ [] → value_by n x ≡ default_of t) → AreElements p x → TokenReads p r s t k node.0 (Ok x)
   made_other v x is first other value coded =
       let sound = grown.sound in
-      token_there t k node.0 class i (grows_on maker.kept grown) x class_by maker_by coded (λ n named.
+      token_there t k node.0 class i (grows_on maker.kept grown) x class_by maker_by coded (value_known sound x (λ n is. value n (ap (λ (f : ℕ → List ℕ). f 0) is.texts ∙ first)) (default_in s.knows t)) (λ n named.
       let one = held v is n named in
       let text : n.text 0 ≡ [] = ap (λ (f : ℕ → List ℕ). f 0) (sound.named n named).texts ∙ first in
       let j = instance_by p n i in
@@ -436,6 +444,7 @@ token_classless {p = p} {s = s} t k m x grows first none value coded = record {
         let ends : Comes s.has (Gives (default_of t)) (value_by n x) = subst (λ v. Comes s.has (Gives v) (value_by n x)) (value n text) ([], gives) in
         subst (λ c. Comes s.has c (value_by n x)) is ends;
     coded = coded;
+    known = value_known grows.sound x (λ n is. value n (ap (λ (f : ℕ → List ℕ). f 0) is.texts ∙ first)) (default_in s.knows t);
   };
 }
 
@@ -449,16 +458,16 @@ module _ {S : Type 0} {p : Program} {r s : Told S} {node : NodeRef} where
   node_said {e} {f} {res} same h = subst (λ x. NodeReads p r s (expression_of x) node.0 res) (sym same) h
 
   pub child_read : {k : ℕ} {e : Expression} {child : NodeRef} → IsChildBy p r s k node child → NodeReads p r s (Child k e) node.0 (Ok (coded.Node child))
-  child_read h = record { kept = h.kept; is = gives_value (λ n named. ap Node (h.is n named)) tt }
+  child_read h = record { kept = h.kept; is = gives_value (λ n named. ap Node (h.is n named)) tt h.known }
 
   pub has_read : {k : ℕ} {e : Expression} {child : NodeRef} {b : Bool} (o : Option ℕ) → IsChildBy p r s k node child → source_or_null o ≡ reference_of child.0 → b ≡ is_some o → NodeReads p r s (Has k e) node.0 (Ok (coded.Truth b))
-  has_read {child = child} o h is there = record { kept = h.kept; is = gives_value (λ n named. ap Truth (there ∙ there_by n.node o child.0 is ∙ ap is_there (h.is n named))) tt }
+  has_read {child = child} o h is there = record { kept = h.kept; is = gives_value (λ n named. ap Truth (there ∙ there_by n.node o child.0 is ∙ ap is_there (h.is n named))) tt tt }
 
-  pub cast_read : {class : ClassId} {e : Expression} {b : Bool} → IsOfBy p r s class node b → b ≡ true → NodeReads p r s (Cast class e) node.0 (Ok (coded.Node node))
-  cast_read {class = class} h is = record { kept = h.kept; is = gives_value (λ n named. ap Node (cast_by p class (reference_by n.node node.0) true (sym is ∙ h.is n named))) tt }
+  pub cast_read : {class : ClassId} {e : Expression} {b : Bool} → IsOfBy p r s class node b → b ≡ true → r.knows node.0 → NodeReads p r s (Cast class e) node.0 (Ok (coded.Node node))
+  cast_read {class = class} h is known = record { kept = h.kept; is = gives_value (λ n named. ap Node (cast_by p class (reference_by n.node node.0) true (sym is ∙ h.is n named))) tt (h.kept.known node.0 known) }
 
   pub no_cast_read : {class : ClassId} {e : Expression} {b : Bool} → IsOfBy p r s class node b → b ≡ false → NodeReads p r s (Cast class e) node.0 (Ok (coded.Node (record { 0 = 0 })))
-  no_cast_read {class = class} h is = record { kept = h.kept; is = gives_value (λ n named. ap Node (cast_by p class (reference_by n.node node.0) false (sym is ∙ h.is n named))) tt }
+  no_cast_read {class = class} h is = record { kept = h.kept; is = gives_value (λ n named. ap Node (cast_by p class (reference_by n.node node.0) false (sym is ∙ h.is n named))) tt (h.kept.sound.sources 0 (omega arith)) }
 
   pub instance_read : {class : ClassId} {e : Expression} {b : Bool} → IsOfBy p r s class node b → NodeReads p r s (InstanceOf class e) node.0 (Ok (coded.Truth b))
-  instance_read h = record { kept = h.kept; is = gives_value (λ n named. ap Truth (h.is n named)) tt }
+  instance_read h = record { kept = h.kept; is = gives_value (λ n named. ap Truth (h.is n named)) tt tt }

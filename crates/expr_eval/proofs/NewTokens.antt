@@ -1,5 +1,5 @@
 -- What the tokens of a `new` come to, from the first and those behind it.
-use Rattle.std.proofs.Common.{◌≡◌, ◌⊎◌, ℕ, suc, ◌+◌, List, [], ◌∷◌, ◌++◌, append-nil, append_assoc, Some, Result, Ok, Err, length, length-append, refl, sym, ap, subst, ◌∙◌, inl, inr}
+use Rattle.std.proofs.Common.{◌≡◌, ◌⊎◌, ℕ, suc, ◌+◌, List, [], ◌∷◌, ◌++◌, append-nil, append_assoc, Result, Ok, Err, length, length-append, refl, sym, ap, subst, ◌∙◌, inl, inr}
 use Rattle.std.specs.Result.{IsErr, IsErrAnd}
 use Rattle.std.proofs.lemmas.Result.{err_from_is_err_and}
 use Rattle.ast_grammar.specs.declared.grammar.ClassId.{ClassId}
@@ -171,7 +171,7 @@ module _ {S : Type 0} {p : Program} {place : Places} where
 
   -- the first has no value
   pub token_halts : {r s : State S} {k : Kind} {e : Expression} {rest : NewArguments} {before behind : List ℕ} {h : Halt} → Reads p r s place e (Err h) → TokensRead p r s place (new_token k e rest) before behind (Err h)
-  token_halts {k = k} {rest = rest} {h = Need i} a = record { kept = a.kept; is = record { stopped = λ n named f. wants_first (λ v. with_tokens (world_of p) rest (place n) (λ us. f (as_argument k v ∷ us))) (a.is.wants n named); coded = a.is.coded } }
+  token_halts {k = k} {rest = rest} {h = Need i} a = record { kept = a.kept; is = record { stopped = λ n named f. wants_first (λ v. with_tokens (world_of p) rest (place n) (λ us. f (as_argument k v ∷ us))) (a.is.wants n named); coded = a.is.coded; known = a.is.known } }
   token_halts {h = Memory} a = record { kept = a.kept; is = tt }
 
   -- it has one, and its code is put behind
@@ -200,13 +200,14 @@ module _ {S : Type 0} {p : Program} {place : Places} where
           let first = comes_more b.kept.values (a.is.comes n (b.kept.names n named)) in
           wants_next (λ w. with_tokens (world_of p) rest (place n) (λ us. f (as_argument k w ∷ us))) first (b.is.stopped n named (λ us. f (as_argument k (value_by n v) ∷ us)));
       coded = b.is.coded;
+      known = b.is.known;
     };
   }
   token_goes c {res = Err Memory} a code value pushed b = record { kept = advances_then a.kept b.kept; is = tt }
 
   -- one of a child has no value
   pub child_halts : {r s : State S} {d : ClassId} {parts rest : NewArguments} {before then behind : List ℕ} {h : Halt} → TokensRead p r s place parts before then (Err h) → TokensRead p r s place (new_child d parts rest) before behind (Err h)
-  child_halts {rest = rest} {h = Need i} a = record { kept = a.kept; is = record { stopped = λ n named f. a.is.stopped n named (λ us. with_tokens (world_of p) rest (place n) (λ vs. f (us ++ vs))); coded = a.is.coded } }
+  child_halts {rest = rest} {h = Need i} a = record { kept = a.kept; is = record { stopped = λ n named f. a.is.stopped n named (λ us. with_tokens (world_of p) rest (place n) (λ vs. f (us ++ vs))); coded = a.is.coded; known = a.is.known } }
   child_halts {h = Memory} a = record { kept = a.kept; is = tt }
 
   -- all of a child have values
@@ -235,6 +236,7 @@ module _ {S : Type 0} {p : Program} {place : Places} where
           tokens_wants (λ us. with_tokens (world_of p) rest (place n) (λ vs. f (us ++ vs))) (tokens_more b.kept.values (a.is.2.collects n (b.kept.names n named)))
           (b.is.stopped n named (λ vs. f (arguments_by n (token_kinds parts) a.is.0 ++ vs)));
       coded = b.is.coded;
+      known = b.is.known;
     };
   }
   child_goes {res = Err Memory} a b = record { kept = advances_then a.kept b.kept; is = tt }

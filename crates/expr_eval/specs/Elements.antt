@@ -1,5 +1,5 @@
 -- The elements of a list or a set that is gone over.
-use Rattle.std.specs.Prelude.{◌≡◌, ℕ, pos, Bool, true, false, ◌&&◌, ◌||◌, List, ◌∷◌, ◌++◌, map}
+use Rattle.std.specs.Prelude.{◌≡◌, ℕ, pos, Bool, true, false, ◌&&◌, ◌||◌, List, ◌∷◌, ◌++◌, All, map}
 use Rattle.std.specs.List.{range_with_len}
 use Rattle.attr_rules.specs.declared.kinds.Kind.{Kind}
 use Rattle.attr_rules.specs.declared.kinds.Kind.TheVariants as kinds
@@ -12,8 +12,10 @@ use Rattle.equation_law.specs.Codes.{ByEachNaming, Naming, reference_by, single_
 use Rattle.equation_law.specs.Meaning.{Place, element_at, elements_at, named, token_at, with_name}
 use Rattle.equation_law.specs.Names.{Instance, Reference}
 use Rattle.equation_law.specs.Program.{Program}
+use Rattle.equation_law.specs.Reading.{Told}
 use Rattle.equation_law.specs.Systems.{program_of}
 use Rattle.equation_law.specs.Values.{Value, Node}
+use Rattle.set_values.specs.Ordered.{KnowsSingle}
 use Rattle.expr_eval.specs.declared.accessors.Elements.{Elements}
 use Rattle.expr_eval.specs.declared.accessors.Origin.{Origin}
 use Rattle.expr_eval.specs.declared.accessors.Origin.TheVariants as origins
@@ -26,6 +28,14 @@ element_from n s (origins.Set xs) i = named (map (single_by n) xs) i
 
 abbrev pub element_in : Naming → System → Elements → ℕ → Value
 element_in n s e i = element_from n s e.origin i
+
+-- a reader knows the nodes among the elements; the list of a node has source nodes alone
+abbrev pub KnowsOrigin : {S : Type 0} → Told S → Origin → Type 0
+KnowsOrigin t (origins.List m k) = Unit {0}
+KnowsOrigin t (origins.Set xs) = All (KnowsSingle t) xs
+
+abbrev pub KnowsElements : {S : Type 0} → Told S → Elements → Type 0
+KnowsElements t e = KnowsOrigin t e.origin
 
 -- so many of them from the i-th on
 abbrev pub elements_from : Naming → System → Elements → ℕ → ℕ → List Value

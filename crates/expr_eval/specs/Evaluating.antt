@@ -1,5 +1,5 @@
 -- What an evaluation over a reader says.
-use Rattle.std.specs.Prelude.{◌≡◌, ℕ, Bool, true, false, List, [], ◌∷◌, ◌++◌, Some, Result, Ok, Err, length, map}
+use Rattle.std.specs.Prelude.{◌≡◌, ℕ, Bool, true, false, List, [], ◌∷◌, ◌++◌, Some, Result, Ok, Err, All, length, map}
 use Rattle.std.specs.Option.{option_and_then}
 use Rattle.ast_grammar.specs.declared.grammar.ClassId.{ClassId}
 use Rattle.rag_io.specs.declared.Memory.{Memory as NoMemory}
@@ -19,9 +19,10 @@ use Rattle.equation_law.specs.Equations.{kind_in, world_of}
 use Rattle.equation_law.specs.Meaning.{Place, World, call_at, demand, meaning_of, token_at, with_arguments, with_tokens}
 use Rattle.equation_law.specs.Names.{Argument, Instance, Reference}
 use Rattle.equation_law.specs.Program.{Program, attribute_parameters}
-use Rattle.equation_law.specs.Reading.{ByEachIn, Grows, Told}
+use Rattle.equation_law.specs.Reading.{AreKnownCodes, ByEachIn, Grows, KnowsInstance, KnowsValue, Told}
 use Rattle.equation_law.specs.Systems.{program_of}
 use Rattle.equation_law.specs.Values.{Tree, Value, as_argument, as_arguments}
+use Rattle.set_values.specs.Ordered.{KnowsSingle}
 use Rattle.expr_eval.specs.declared.evaluation.Context.{Context}
 use Rattle.expr_eval.specs.declared.evaluation.Halt.{Halt}
 use Rattle.expr_eval.specs.declared.evaluation.Halt.TheVariants.{Need, Memory}
@@ -46,15 +47,18 @@ Comes A c v = (demands : List Instance) × Ends A c v demands
 abbrev pub Wants : (Instance → Value → Type 0) → Demands Instance Value → Instance → Type 0
 Wants A c i = (demands : List Instance) × Halts A c i demands
 
--- a value, which comes under what the reader has, by each naming by which it may be read; the elements of a set are coded well
+-- a value, which comes under what the reader has, by each naming by which it may be read; the elements of a set are coded well, and the reader
+-- knows the nodes in the value
 pub record Given {S : Type 0} (p : Program) (s : Told S) (c : Asks) (v : CodedValue) : Type 0 where
   pub comes : ByEachIn s (λ n. Comes s.has (c n) (value_by n v))
   pub coded : AreElements p v
+  pub known : KnowsValue s v
 
--- the first demand that the reader has no value for, by each naming by which it may be read
+-- the first demand that the reader has no value for, by each naming by which it may be read; it knows the nodes in it
 pub record Stopped {S : Type 0} (p : Program) (s : Told S) (c : Asks) (i : CodedInstance) : Type 0 where
   pub wants : ByEachIn s (λ n. Wants s.has (c n) (instance_by p n i))
   pub coded : IsCoded p i
+  pub known : KnowsInstance p s i
 
 abbrev pub Answers : {S : Type 0} → Program → Told S → Asks → Result CodedValue Halt → Type 0
 Answers p s c (Ok v) = Given p s c v
@@ -77,6 +81,11 @@ places_kept this names = λ n. place_kept n this names
 
 abbrev pub place_in : Context → Places
 place_in c = places_kept c.this.0 c.names.now
+
+-- a reader knows the node of a context, and the nodes among the values of its names
+pub record KnowsContext {S : Type 0} (t : Told S) (c : Context) : Type 0 where
+  pub this : t.knows c.this.0
+  pub names : All (KnowsSingle t) c.names.now
 
 -- the demand of an instance, read at its type
 abbrev pub demand_of : Program → CodedInstance → Asks
@@ -106,18 +115,20 @@ pub data Collects (A : Instance → Value → Type 0) (W : World) (place : Place
   end : Collects A W place no_more []
   more : {e : Expression} {es : Arguments} {v : Value} {vs : List Value} {demands : List Instance} → Ends A (meaning_of W e place) v demands → Collects A W place es vs → Collects A W place (argument e es) (v ∷ vs)
 
--- their codes for parameters of some types
+-- their codes for parameters of some types, of which the reader knows those of nodes
 pub record ArgumentsGiven {S : Type 0} (p : Program) (s : Told S) (place : Places) (ks : List Kind) (es : Arguments) (xs : Args) : Type 0 where
   pub values : Naming → List Value
   pub collects : ByEachIn s (λ n. Collects s.has (world_of p) (place n) es (values n))
   pub row : IsRow xs
   pub codes : AreCodes p ks (codes_in xs)
+  pub known : AreKnownCodes s ks (codes_in xs)
   pub are : ByEachIn s (λ n. arguments_by n ks (codes_in xs) ≡ as_arguments ks (values n))
 
 -- the first demand of theirs that the reader has no value for, whatever is done with them
 pub record ArgumentsStopped {S : Type 0} (p : Program) (s : Told S) (place : Places) (es : Arguments) (i : CodedInstance) : Type 0 where
   pub stopped : ByEachIn s (λ n. (f : List Value → Demands Instance Value) → Wants s.has (with_arguments (world_of p) es (place n) f) (instance_by p n i))
   pub coded : IsCoded p i
+  pub known : KnowsInstance p s i
 
 abbrev pub AnswersArguments : {S : Type 0} → Program → Told S → Places → List Kind → Arguments → Result Args Halt → Type 0
 AnswersArguments p s place ks es (Ok xs) = ArgumentsGiven p s place ks es xs
@@ -140,6 +151,7 @@ pub record TokensGiven {S : Type 0} (p : Program) (s : Told S) (place : Places) 
 pub record TokensStopped {S : Type 0} (p : Program) (s : Told S) (place : Places) (parts : NewArguments) (i : CodedInstance) : Type 0 where
   pub stopped : ByEachIn s (λ n. (f : List Argument → Demands Instance Value) → Wants s.has (with_tokens (world_of p) parts (place n) f) (instance_by p n i))
   pub coded : IsCoded p i
+  pub known : KnowsInstance p s i
 
 -- a tree, which comes under what the reader has, by each naming by which it may be read: of the `new` of the equation, with the codes of its tokens
 pub record GivenTree {S : Type 0} (p : Program) (s : Told S) (c : Asks) (image : TreeImage) : Type 0 where

@@ -29,7 +29,7 @@ use Rattle.expr_eval.specs.declared.saved.Making.{Making}
 use Rattle.expr_eval.specs.declared.saved.Saved.{Saved}
 use Rattle.expr_eval.specs.declared.saved.Stand.{Stand}
 use Rattle.expr_eval.specs.declared.sites.Turn.{Turn}
-use Rattle.expr_eval.specs.Elements.{Rooms, element_in, read_with}
+use Rattle.expr_eval.specs.Elements.{KnowsElements, Rooms, element_in, read_with}
 use Rattle.expr_eval.specs.Evaluating.{Answers, AnswersArguments, AnswersTurn, Asks, Places, Stopped, TokensGiven, TokensStopped, place_in, reads_at}
 use Rattle.expr_eval.specs.Saved.{AreSaved, IsRanged, Stands, body_of, making_of}
 
@@ -47,13 +47,15 @@ pub record IsReady {S : Type 0} (p : Program) (r : State S) : Type 0 where
   pub sound : IsSound p r.told
   pub saved : AreSaved r.system r.told r.saved
 
--- the reader keeps what it has and comes to have no other values than it might, and it may be read by what it might before; all that is saved is so
+-- the reader keeps what it has and comes to have no other values than it might, and it may be read by what it might before; what it knew it knows,
+-- and all that is saved is so
 pub record Advances {S : Type 0} (p : Program) (r s : State S) : Type 0 where
   pub sound : IsReady p s
   pub values : (i : Instance) (v : Value) → r.told.has i v → s.told.has i v
   pub bound : (i : Instance) (v : Value) → s.told.can i v → r.told.can i v
   pub kept : (x : S) → r.told.keeps x → s.told.keeps x
   pub names : ByEachIn s.told r.told.names
+  pub known : (c : ℕ) → r.told.knows c → s.told.knows c
   pub heights : (c : ℕ) → s.told.height c ≤ r.told.height c
 
 -- the answer to an expression, by what the reader has at the end
@@ -76,9 +78,10 @@ pub record TokensRead {S : Type 0} (p : Program) (r s : State S) (place : Places
   pub kept : Advances p r s
   pub is : AnswersTokens p s.told place parts before behind result
 
--- the elements of a form, and where it stands; there is room for one name more
+-- the elements of a form, of which the reader knows the nodes, and where it stands; there is room for one name more
 pub record IsStood {S : Type 0} (s : System) (t : Told S) (place : Places) (names : List CodedSingle) (m : Making) (e b : Expression) (list : Elements) (stand : Stand) : Type 0 where
   pub room : Rooms names stand.names.items
+  pub elements : KnowsElements t list
   pub ranged : IsRanged s t place e list
   pub stands : Stands s t place m b list stand
 

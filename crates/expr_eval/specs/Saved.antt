@@ -1,7 +1,7 @@
 -- How far forms over elements have gone, which an evaluation that stops leaves behind.
-use Rattle.std.specs.Prelude.{◌≡◌, ◌<◌, ◌≤◌, ◌+◌, ◌⊎◌, ℕ, Bool, true, false, cond, List, [], length, slice_index_or}
+use Rattle.std.specs.Prelude.{◌≡◌, ◌<◌, ◌≤◌, ◌+◌, ◌⊎◌, ℕ, Bool, true, false, cond, List, [], All, length, slice_index_or}
 use Rattle.std.specs.List.{Contains}
-use Rattle.attr_rules.specs.declared.expression.Quantifier.TheVariants.{Any, All, First}
+use Rattle.attr_rules.specs.declared.expression.Quantifier.TheVariants.{Any, All as Every, First}
 use Rattle.attr_rules.specs.declared.expression.SetOperator.TheVariants.{Union}
 use Rattle.attr_rules.specs.Expression.{Expression, Quantified, QuantifiedSet, Each, EachOfSet, expression_of}
 use Rattle.solutions.specs.Asking.{Demands}
@@ -11,9 +11,10 @@ use Rattle.equation_law.specs.declared.system.System.{System}
 use Rattle.equation_law.specs.Codes.{AreElements, ByEachNaming, Naming, single_by, value_by}
 use Rattle.equation_law.specs.Meaning.{Place, World, elements_at, over_elements, united}
 use Rattle.equation_law.specs.Names.{Instance, Null}
-use Rattle.equation_law.specs.Reading.{ByEachIn, Told}
+use Rattle.equation_law.specs.Reading.{ByEachIn, KnowsValue, Told}
 use Rattle.equation_law.specs.Systems.{program_of}
 use Rattle.equation_law.specs.Values.{Node, Truth, Value, default_of, elements_of, node, set_operate, truth}
+use Rattle.set_values.specs.Ordered.{KnowsSingle}
 use Rattle.expr_eval.specs.declared.accessors.Elements.{Elements}
 use Rattle.expr_eval.specs.declared.evaluation.Context.{Context}
 use Rattle.expr_eval.specs.declared.saved.Going.{Going}
@@ -21,7 +22,7 @@ use Rattle.expr_eval.specs.declared.saved.Making.{Making}
 use Rattle.expr_eval.specs.declared.saved.Making.TheVariants.{Joins, Tests}
 use Rattle.expr_eval.specs.declared.saved.Saved.{Saved}
 use Rattle.expr_eval.specs.declared.saved.Stand.{Stand}
-use Rattle.expr_eval.specs.Elements.{Rooms, element_in, elements_in, put, read_with}
+use Rattle.expr_eval.specs.Elements.{KnowsElements, Rooms, element_in, elements_in, put, read_with}
 use Rattle.expr_eval.specs.Evaluating.{Comes, Places, places_kept, read_at, world_in}
 use Rattle.expr_eval.specs.Going.{Joined, Sought, Went}
 
@@ -69,14 +70,14 @@ over (Joins t) xs f = united t (default_of t) xs f
 -- the value where there are no elements
 abbrev pub begun : Making → Value
 begun (Tests Any) = Truth false
-begun (Tests All) = Truth true
+begun (Tests Every) = Truth true
 begun (Tests First) = Node Null
 begun (Joins t) = default_of t
 
 -- the value behind an element, from the one before it and what is said there
 abbrev pub made : Making → Value → Value → Value → Value
 made (Tests Any) x v w = Truth (put false (truth v) (truth w))
-made (Tests All) x v w = Truth (put true (truth v) (truth w))
+made (Tests Every) x v w = Truth (put true (truth v) (truth w))
 made (Tests First) x v w = cond (truth w) x v
 made (Joins t) x v w = set_operate Union t v w
 
@@ -92,15 +93,16 @@ done _ count n w = n + 1
 -- this is the value when so many of them were gone over
 abbrev pub HasGone : (Instance → Value → Type 0) → (ℕ → Value) → (Value → Demands Instance Value) → ℕ → Making → ℕ → Value → Type 0
 HasGone A element f count (Tests Any) n v = (b : Bool) × (v ≡ Truth b) × Went A element f (put false) false n b
-HasGone A element f count (Tests All) n v = (b : Bool) × (v ≡ Truth b) × Went A element f (put true) true n b
+HasGone A element f count (Tests Every) n v = (b : Bool) × (v ≡ Truth b) × Went A element f (put true) true n b
 HasGone A element f count (Tests First) n v = Sought A element f count n v
 HasGone A element f count (Joins t) n v = Joined A element f t n v
 
--- a form that says b at these elements stands so, by each naming by which the reader may be read
+-- a form that says b at these elements stands so, by each naming by which the reader may be read; the reader knows the nodes in the value so far
 pub record Stands {S : Type 0} (s : System) (t : Told S) (place : Places) (m : Making) (b : Expression) (list : Elements) (stand : Stand) : Type 0 where
   pub gone : ByEachIn t (λ n. HasGone t.has (element_in n s list) (read_with (program_of s) (place n) b) list.count m stand.next (value_by n stand.so_far))
   pub within : stand.next ≤ list.count
   pub coded : AreElements (program_of s) stand.so_far
+  pub known : KnowsValue t stand.so_far
 
 -- a form stands before its first element, with room for one name more
 pub record IsFirst (c : Context) (e : Expression) (stand : Stand) : Type 0 where
@@ -118,10 +120,14 @@ pub record RangesBy {S : Type 0} (s : System) (t : Told S) (n : Naming) (place :
 abbrev pub IsRanged : {S : Type 0} → System → Told S → Places → Expression → Elements → Type 0
 IsRanged s t place e list = ByEachIn t (λ n. RangesBy s t n (place n) e list)
 
--- a form has gone so far at a place; the first of the names that are kept stands in front of those of the place
+-- a form has gone so far at a place; the first of the names that are kept stands in front of those of the place. The reader knows the node there, and
+-- the nodes among the values of the names and among the elements.
 pub record IsGoing {S : Type 0} (s : System) (t : Told S) (g : Going) : Type 0 where
   pub names : List CodedSingle
   pub room : Rooms names g.stand.names.items
+  pub node : t.knows g.this.0
+  pub known : All (KnowsSingle t) names
+  pub elements : KnowsElements t g.list
   pub ranged : IsRanged s t (places_kept g.this.0 names) (expression_of g.form.now) g.list
   pub stands : Stands s t (places_kept g.this.0 names) (making_of (expression_of g.form.now)) (body_of (expression_of g.form.now)) g.list g.stand
 

@@ -20,7 +20,7 @@ use Rattle.equation_law.specs.Created.{Making, making_in}
 use Rattle.equation_law.specs.Equations.{Site, equations_of, place_at, site_of, world_of}
 use Rattle.equation_law.specs.Meaning.{Place, with_tokens}
 use Rattle.equation_law.specs.Names.{Instance, Null as NoNode}
-use Rattle.inherited_walk.specs.Sites.{site_place}
+use Rattle.inherited_walk.specs.Sites.{KnowsSite, site_place}
 use Rattle.equation_law.specs.Program.{Program}
 use Rattle.equation_law.specs.Reading.{ByEachIn, Told}
 use Rattle.equation_law.specs.Systems.{program_of}
@@ -47,6 +47,10 @@ side_reads p place e (Some m) = with_tokens (world_of p) m.arguments place (λ t
 -- what an equation demands that is read for an attribute
 abbrev pub site_reads : Program → ℕ → EqSite → Asks
 site_reads p a s = λ n. let e = expression_or_null (body_at p.rules s.equation.0) in side_reads p (site_place p n a s) e (making_in e)
+
+-- a reader knows where the equation of a site is read for the attribute that it is for
+abbrev pub KnowsTarget : {S : Type 0} → Program → Told S → EqSite → Type 0
+KnowsTarget p t s = (e : Equation) → slice_get p.rules.equations s.equation.0 ≡ Some e → KnowsSite p t e.target.attribute.0 s
 
 -- what a query demands, which is read at the root
 abbrev pub query_reads : Program → Asked → Asks

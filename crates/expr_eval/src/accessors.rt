@@ -2,7 +2,7 @@
 ghost use Rattle.std.specs.Prelude.{◌≡◌, ◌≤◌, pos, []};
 ghost use Rattle.tree_arena.specs.Nodes.{most_nodes, token_in};
 ghost use Rattle.equation_law.specs.Codes.{ByEachNaming, Naming, reference_by, value_by};
-ghost use Rattle.equation_law.specs.Reading.{ByEachIn, Grows, IsSound};
+ghost use Rattle.equation_law.specs.Reading.{ByEachIn, Grows, IsSound, KnowsValue};
 ghost use Rattle.equation_law.specs.Equations.{count_of, element_of, source_of};
 ghost use Rattle.equation_law.specs.Equations as spec;
 ghost use Rattle.equation_law.specs.Meaning.{child_at as child_on, count_at as count_on, element_at as element_on};
@@ -34,7 +34,8 @@ pub(crate) fn source(system: &System, number: u32) -> Value
 
 /// The node that hangs at a place of a component of a node, or null where there is none. Past the tree no node has any.
 fn child_at(system: &System, node: u32, k: Part, i: u32) -> NodeRef
-    ensures { let p = program_of system.now in ByEachNaming p (λ n. reference_by n.node result.0 ≡ element_of p (n.node node) k.0 (pos i)) }
+    ensures element { let p = program_of system.now in ByEachNaming p (λ n. reference_by n.node result.0 ≡ element_of p (n.node node) k.0 (pos i)) }
+    ensures within { result.0 ≤ most_nodes }
 {
     let tree = system.tree();
     if node >= tree.len() {
@@ -69,7 +70,8 @@ fn code_at(tree: &Tree, node: u32, k: Part) -> Option<u32>
 /// The child, or the optional child, of a receiver at a component, or null. The receiver is no node that was made.
 pub(crate) fn child(system: &System, k: Part, receiver: NodeRef) -> NodeRef
     requires { receiver.0 ≤ most_nodes }
-    ensures { LeadsTo (program_of system.now) (child_on (world_in system.now) k.0) receiver.0 result.0 }
+    ensures child { LeadsTo (program_of system.now) (child_on (world_in system.now) k.0) receiver.0 result.0 }
+    ensures within { result.0 ≤ most_nodes }
 {
     match receiver.source() {
         Some(node) => child_at(system, node, k, 0),
@@ -149,11 +151,13 @@ impl Elements {
     ghost use Rattle.std.specs.Prelude.{IfOk};
     ghost use Rattle.equation_law.specs.Codes.{single_by};
     ghost use Rattle.equation_law.specs.Values.{elements_of};
-    ghost use Rattle.expr_eval.specs.Elements.{AreListed, element_in, elements_in};
+    ghost use Rattle.expr_eval.specs.declared.accessors.Origin.TheVariants.{List as list_at};
+    ghost use Rattle.expr_eval.specs.Elements.{AreListed, KnowsElements, element_in, elements_in};
 
     /// The list of a node at a component. Null has no elements.
     pub(crate) fn of(system: &System, component: Part, owner: NodeRef) -> Elements
-        ensures { AreListed system.now component.0 owner.0 result }
+        ensures list { AreListed system.now component.0 owner.0 result }
+        ensures origin { result.origin ≡ list_at owner component }
     {
         let count = match owner.source() {
             Some(node) => count_at(system, node, component),
@@ -174,8 +178,10 @@ impl Elements {
     ) -> Result<Elements, Memory>
         requires sound { IsSound (program_of system.now) (R.tells reader.old) }
         requires set { AreElements (program_of system.now) set.now }
+        requires known { KnowsValue (R.tells reader.old) set.now }
         ensures kept { Grows (program_of system.now) (R.tells reader.old) (R.tells reader.new) }
         ensures all { IfOk result (λ all. ByEachIn (R.tells reader.new) (λ n. elements_in n system.now all ≡ elements_of (value_by n set.now))) }
+        ensures known { IfOk result (KnowsElements (R.tells reader.new)) }
     {
         let values = elements(alloc, system, set, reader)?;
         let count = values.len();

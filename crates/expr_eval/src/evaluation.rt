@@ -2,14 +2,16 @@
 ghost use Rattle.std.specs.Prelude.{◌≡◌, ◌<◌, [], IfOk, OnOk, Some, length, true};
 ghost use Rattle.attr_rules.specs.Expression.{expression_of};
 ghost use Rattle.attr_rules.specs.Types.{text_kind};
+ghost use Rattle.equation_law.specs.declared.coding.Instance.TheVariants.{Attr as attribute_at};
 ghost use Rattle.equation_law.specs.Codes.{AreCodes, AreElements, ByEachNaming, IsCode, IsCoded, IsRow, Naming, codes_in, single_by, value_by, value_coded};
 ghost use Rattle.equation_law.specs.Equations.{attribute_kind as kind_of};
 ghost use Rattle.equation_law.specs.Program.{Program, attribute_parameters, text_of};
-ghost use Rattle.equation_law.specs.Reading.{Grows, IsSound};
+ghost use Rattle.equation_law.specs.Reading.{Grows, IsSound, KnowsInstance, KnowsValue};
 ghost use Rattle.equation_law.specs.Values.{as_argument, truth};
 ghost use Rattle.equation_law.specs.Systems.{program_of};
-ghost use Rattle.expr_eval.specs.Elements.{Rooms};
-ghost use Rattle.expr_eval.specs.Evaluating.{CallReads, DemandReads, is_over_form, place_in};
+ghost use Rattle.set_values.specs.Ordered.{KnowsSingle};
+ghost use Rattle.expr_eval.specs.Elements.{KnowsElements, Rooms};
+ghost use Rattle.expr_eval.specs.Evaluating.{CallReads, DemandReads, KnowsContext, is_over_form, place_in};
 ghost use Rattle.expr_eval.specs.Parts.{IsCombined, IsRounded, IsSaid, is_further, node_part};
 ghost use Rattle.expr_eval.specs.Reads.{ArgumentsReadIn, GoesOverIn, IsReady, ReadsAt, ReadsCall, ReadsChoice, ReadsIn, ReadsStandIn, state};
 ghost use Rattle.expr_eval.specs.Saved.{AreRanged, IsFirst, Stands, TakesIn, begun as begun_with, body_of, done as done_with, range_of};
@@ -76,6 +78,7 @@ fn demand<R: Reader>(
 )
     requires sound { IsSound (program_of context.now.system.now) (R.tells reader.old) }
     requires coded { IsCoded (program_of context.now.system.now) instance }
+    requires known { KnowsInstance (program_of context.now.system.now) (R.tells reader.old) instance }
     ensures { DemandReads (program_of context.now.system.now) (R.tells reader.old) (R.tells reader.new) instance came.new }
 {
     match reader.settled(context.alloc, &instance) {
@@ -127,7 +130,8 @@ fn given<'a, R: Reader>(
     reader: &mut R,
     saved: &mut Saved<'a>,
 ) -> Result<Args, Halt>
-    requires { IsReady (program_of context.now.system.now) (state context.now.system.now (R.tells reader.old) saved.old) }
+    requires ready { IsReady (program_of context.now.system.now) (state context.now.system.now (R.tells reader.old) saved.old) }
+    requires known { KnowsContext (R.tells reader.old) context.now }
     ensures { ArgumentsReadIn context.now (R.tells reader.old) saved.old (R.tells reader.new) saved.new parameters arguments.now result }
 {
     match arguments {
@@ -157,6 +161,7 @@ fn call<R: Reader>(
     requires sound { IsSound (program_of context.now.system.now) (R.tells reader.old) }
     requires row { IsRow args }
     requires codes { AreCodes (program_of context.now.system.now) (attribute_parameters (program_of context.now.system.now) attr.0) (codes_in args) }
+    requires known { KnowsInstance (program_of context.now.system.now) (R.tells reader.old) (attribute_at attr node args) }
     ensures { CallReads (program_of context.now.system.now) (R.tells reader.old) (R.tells reader.new) attr.0 node.0 args came.new }
 {
     if node == NodeRef(0) {
@@ -295,7 +300,9 @@ fn with_element<'a, R: Reader>(
     came: &mut Result<Value, Halt>,
 )
     requires ready { IsReady (program_of context.now.system.now) (state context.now.system.now (R.tells reader.old) saved.old) }
+    requires known { KnowsContext (R.tells reader.old) context.now }
     requires room { Rooms context.now.names.now names.old.items }
+    requires element { KnowsSingle (R.tells reader.old) element }
     ensures room { Rooms context.now.names.now names.new.items }
     ensures reads { ReadsAt context.now (R.tells reader.old) saved.old (R.tells reader.new) saved.new element body.now came.new }
 {
@@ -321,11 +328,15 @@ fn at_elements<'a, R: Reader>(
     saved: &mut Saved<'a>,
 ) -> Result<(), Halt>
     requires ready { IsReady (program_of context.now.system.now) (state context.now.system.now (R.tells reader.old) saved.old) }
+    requires known { KnowsContext (R.tells reader.old) context.now }
     requires room { Rooms context.now.names.now stand.old.names.items }
+    requires elements { KnowsElements (R.tells reader.old) list.now }
     requires stands { Stands context.now.system.now (R.tells reader.old) (place_in context.now) making (expression_of body.now) list.now stand.old }
     ensures room { Rooms context.now.names.now stand.new.names.items }
     ensures over { GoesOverIn context.now (R.tells reader.old) saved.old (R.tells reader.new) saved.new making body.now list.now stand.new result }
 {
+    // The codes of the nodes of the tree are no larger.
+    prove!(context.system.tree().len() <= 65_536);
     'elements: while stand.next < list.count {
         let element = list.get(context.system, stand.next);
         let mut came = Err(Halt::Memory);
@@ -355,8 +366,10 @@ fn elements_of<R: Reader>(
     requires sound { IsSound (program_of context.now.system.now) (R.tells reader.old) }
     requires form { is_over_form (expression_of form.now) ≡ true }
     requires from { AreElements (program_of context.now.system.now) from.now }
+    requires known { KnowsValue (R.tells reader.old) from.now }
     ensures kept { Grows (program_of context.now.system.now) (R.tells reader.old) (R.tells reader.new) }
     ensures ranged { IfOk result (AreRanged context.now.system.now (R.tells reader.new) (expression_of form.now) from.now) }
+    ensures known { IfOk result (KnowsElements (R.tells reader.new)) }
 {
     match form {
         TExpr::Quantified(_, k, _, _) => Ok(Elements::of(context.system, *k, from.node())),
@@ -378,8 +391,10 @@ fn at_first<R: Reader>(
     requires sound { IsSound (program_of context.now.system.now) (R.tells reader.old) }
     requires form { is_over_form (expression_of form.now) ≡ true }
     requires from { AreElements (program_of context.now.system.now) from.now }
+    requires known { KnowsValue (R.tells reader.old) from.now }
     ensures kept { Grows (program_of context.now.system.now) (R.tells reader.old) (R.tells reader.new) }
     ensures elements { IfOk result (λ stood. AreRanged context.now.system.now (R.tells reader.new) (expression_of form.now) from.now stood.0) }
+    ensures known { IfOk result (λ stood. KnowsElements (R.tells reader.new) stood.0) }
     ensures first { IfOk result (λ stood. IsFirst context.now (expression_of form.now) stood.1) }
 {
     let list = elements_of(context, form, from, reader)?;
@@ -405,6 +420,7 @@ fn standing<'a, R: Reader>(
     saved: &mut Saved<'a>,
 ) -> Result<(Elements, Stand), Halt>
     requires ready { IsReady (program_of context.now.system.now) (state context.now.system.now (R.tells reader.old) saved.old) }
+    requires known { KnowsContext (R.tells reader.old) context.now }
     requires form { is_over_form (expression_of form.now) ≡ true }
     requires range { range_of (expression_of form.now) ≡ expression_of range.now }
     ensures { ReadsStandIn context.now (R.tells reader.old) saved.old (R.tells reader.new) saved.new form.now result }
@@ -432,6 +448,7 @@ fn over_form<'a, R: Reader>(
     saved: &mut Saved<'a>,
 ) -> Result<Value, Halt>
     requires ready { IsReady (program_of context.now.system.now) (state context.now.system.now (R.tells reader.old) saved.old) }
+    requires known { KnowsContext (R.tells reader.old) context.now }
     requires form { is_over_form (expression_of form.now) ≡ true }
     requires range { range_of (expression_of form.now) ≡ expression_of range.now }
     requires body { body_of (expression_of form.now) ≡ expression_of body.now }
@@ -491,7 +508,8 @@ fn put_call<'a, R: Reader>(
     saved: &mut Saved<'a>,
     came: &mut Result<Value, Halt>,
 )
-    requires { IsReady (program_of context.now.system.now) (state context.now.system.now (R.tells reader.old) saved.old) }
+    requires ready { IsReady (program_of context.now.system.now) (state context.now.system.now (R.tells reader.old) saved.old) }
+    requires known { KnowsContext (R.tells reader.old) context.now }
     ensures { ReadsCall context.now (R.tells reader.old) saved.old (R.tells reader.new) saved.new called receiver.now arguments.now came.new }
 {
     meaning(context, receiver, reader, saved, came);
@@ -519,7 +537,8 @@ fn put_choice<'a, R: Reader>(
     saved: &mut Saved<'a>,
     came: &mut Result<Value, Halt>,
 )
-    requires { IsReady (program_of context.now.system.now) (state context.now.system.now (R.tells reader.old) saved.old) }
+    requires ready { IsReady (program_of context.now.system.now) (state context.now.system.now (R.tells reader.old) saved.old) }
+    requires known { KnowsContext (R.tells reader.old) context.now }
     ensures { ReadsChoice context.now (R.tells reader.old) saved.old (R.tells reader.new) saved.new condition.now then.now otherwise.now came.new }
 {
     meaning(context, condition, reader, saved, came);
@@ -541,6 +560,7 @@ fn further<'a, R: Reader>(
     came: &mut Result<Value, Halt>,
 )
     requires ready { IsReady (program_of context.now.system.now) (state context.now.system.now (R.tells reader.old) saved.old) }
+    requires known { KnowsContext (R.tells reader.old) context.now }
     requires further { is_further (expression_of form.now) ≡ true }
     ensures { ReadsIn context.now (R.tells reader.old) saved.old (R.tells reader.new) saved.new form.now came.new }
 {
@@ -588,6 +608,7 @@ fn put_of_node<'a, R: Reader>(
     came: &mut Result<Value, Halt>,
 )
     requires ready { IsReady (program_of context.now.system.now) (state context.now.system.now (R.tells reader.old) saved.old) }
+    requires known { KnowsContext (R.tells reader.old) context.now }
     requires part { node_part form.now ≡ Some part.now }
     ensures { ReadsIn context.now (R.tells reader.old) saved.old (R.tells reader.new) saved.new form.now came.new }
 {
@@ -611,9 +632,12 @@ pub(crate) fn meaning<'a, R: Reader>(
     saved: &mut Saved<'a>,
     came: &mut Result<Value, Halt>,
 )
-    requires { IsReady (program_of context.now.system.now) (state context.now.system.now (R.tells reader.old) saved.old) }
+    requires ready { IsReady (program_of context.now.system.now) (state context.now.system.now (R.tells reader.old) saved.old) }
+    requires known { KnowsContext (R.tells reader.old) context.now }
     ensures { ReadsIn context.now (R.tells reader.old) saved.old (R.tells reader.new) saved.new expression.now came.new }
 {
+    // The codes of the nodes of the tree are no larger.
+    prove!(context.system.tree().len() <= 65_536);
     match parts_of(expression) {
         Parts::Leaf => put_leaf(context, expression, came),
         Parts::One(part) => {

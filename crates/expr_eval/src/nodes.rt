@@ -19,7 +19,8 @@ use inherited_walk::{class_at, made_arguments};
 
 /// The child, or the optional child, of a receiver at a component, or null.
 fn child_of<R: Reader>(system: &System, k: Part, receiver: NodeRef, reader: &mut R) -> NodeRef
-    requires { IsSound (program_of system.now) (R.tells reader.old) }
+    requires sound { IsSound (program_of system.now) (R.tells reader.old) }
+    requires known { (R.tells reader.old).knows receiver.0 }
     ensures { IsChildBy (program_of system.now) (R.tells reader.old) (R.tells reader.new) k.0 receiver result }
 {
     if receiver.is_made() {
@@ -31,7 +32,8 @@ fn child_of<R: Reader>(system: &System, k: Part, receiver: NodeRef, reader: &mut
 
 /// Whether a node is of a class or below.
 fn is_of<R: Reader>(system: &System, class: ClassId, node: NodeRef, reader: &mut R) -> bool
-    requires { IsSound (program_of system.now) (R.tells reader.old) }
+    requires sound { IsSound (program_of system.now) (R.tells reader.old) }
+    requires known { (R.tells reader.old).knows node.0 }
     ensures { IsOfBy (program_of system.now) (R.tells reader.old) (R.tells reader.new) class node result }
 {
     match class_at(system, node, reader) {
@@ -44,6 +46,7 @@ fn is_of<R: Reader>(system: &System, class: ClassId, node: NodeRef, reader: &mut
 fn of_node<R: Reader>(system: &System, form: &TExpr, node: NodeRef, reader: &mut R) -> Value
     requires sound { IsSound (program_of system.now) (R.tells reader.old) }
     requires form { is_node_form (expression_of form.now) ≡ true }
+    requires known { (R.tells reader.old).knows node.0 }
     ensures { NodeReads (program_of system.now) (R.tells reader.old) (R.tells reader.new) (expression_of form.now) node.0 (Ok result) }
 {
     match form {
@@ -70,6 +73,7 @@ pub(crate) fn put_node<R: Reader>(
 )
     requires sound { IsSound (program_of context.now.system.now) (R.tells reader.old) }
     requires form { is_node_form (expression_of form.now) ≡ true }
+    requires known { (R.tells reader.old).knows node.0 }
     ensures { NodeReads (program_of context.now.system.now) (R.tells reader.old) (R.tells reader.new) (expression_of form.now) node.0 came.new }
 {
     *came = Ok(of_node(context.system, form, node, reader));
@@ -103,6 +107,7 @@ fn is_wanted(system: &System, class: ClassId, component: Part, kind: Kind) -> bo
 fn maker_of<R: Reader>(system: &System, node: NodeRef, reader: &mut R) -> Instance
     requires sound { IsSound (program_of system.now) (R.tells reader.old) }
     requires made { most_nodes < node.0 }
+    requires known { (R.tells reader.old).knows node.0 }
     requires class { ByEachIn (R.tells reader.old) (λ n. IsSome (class_behind (program_of system.now) (reference_by n.node node.0))) }
     ensures { IsMakerOf (program_of system.now) (R.tells reader.old) (R.tells reader.new) node result }
 {
@@ -137,6 +142,7 @@ fn put_made_token<R: Reader>(
 )
     requires sound { IsSound (program_of context.now.system.now) (R.tells reader.old) }
     requires made { most_nodes < node.0 }
+    requires known { (R.tells reader.old).knows node.0 }
     requires class { ByEachIn (R.tells reader.old) (λ n. class_behind (program_of context.now.system.now) (reference_by n.node node.0) ≡ Some class) }
     ensures { TokenReads (program_of context.now.system.now) (R.tells reader.old) (R.tells reader.new) kind component.0 node.0 came.new }
 {
@@ -164,7 +170,8 @@ pub(crate) fn put_token<R: Reader>(
     reader: &mut R,
     came: &mut Result<Value, Halt>,
 )
-    requires { IsSound (program_of context.now.system.now) (R.tells reader.old) }
+    requires sound { IsSound (program_of context.now.system.now) (R.tells reader.old) }
+    requires known { (R.tells reader.old).knows node.0 }
     ensures { TokenReads (program_of context.now.system.now) (R.tells reader.old) (R.tells reader.new) kind component.0 node.0 came.new }
 {
     if !node.is_made() {

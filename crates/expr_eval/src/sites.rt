@@ -6,12 +6,13 @@ ghost use Rattle.equation_law.specs.Codes.{IsCoded, IsRow, instance_of};
 ghost use Rattle.equation_law.specs.Created.{making_in};
 ghost use Rattle.equation_law.specs.Equations.{is_declared, kind_in};
 ghost use Rattle.equation_law.specs.Names.{Query};
-ghost use Rattle.equation_law.specs.Reading.{IsSingleIn, IsSound};
+ghost use Rattle.equation_law.specs.Reading.{IsSingleIn, IsSound, KnowsInstance};
 ghost use Rattle.equation_law.specs.Systems.{program_of};
 ghost use Rattle.expr_eval.specs.Reads.{IsReady, state};
 ghost use Rattle.expr_eval.specs.Saved.{AreSaved};
-ghost use Rattle.inherited_walk.specs.Sites.{FindsIn};
-ghost use Rattle.expr_eval.specs.Sites.{EvaluatesBody, EvaluatesInstance, EvaluatesQuery, EvaluatesSite, ImagesIn, IsImageFor, IsImageOf, IsNoImage, IsTurned, ResumesInstance, ResumesQuery, ResumesSite, TurnAs, expression_or_null};
+ghost use Rattle.inherited_walk.specs.Sites.{FindsIn, KnowsSite};
+ghost use Rattle.expr_eval.specs.Evaluating.{KnowsContext};
+ghost use Rattle.expr_eval.specs.Sites.{EvaluatesBody, EvaluatesInstance, EvaluatesQuery, EvaluatesSite, ImagesIn, IsImageFor, IsImageOf, IsNoImage, IsTurned, KnowsTarget, ResumesInstance, ResumesQuery, ResumesSite, TurnAs, expression_or_null};
 
 use crate::binding::names_of;
 use crate::evaluation::{Context, Halt, attribute_kind, meaning};
@@ -103,7 +104,8 @@ fn image<'a, R: Reader>(
     reader: &mut R,
     saved: &mut Saved<'a>,
 ) -> Result<Turn, Memory>
-    requires { IsReady (program_of context.now.system.now) (state context.now.system.now (R.tells reader.old) saved.old) }
+    requires ready { IsReady (program_of context.now.system.now) (state context.now.system.now (R.tells reader.old) saved.old) }
+    requires known { KnowsContext (R.tells reader.old) context.now }
     ensures images { ImagesIn context.now (R.tells reader.old) saved.old (R.tells reader.new) saved.new equation parts.now result }
     ensures made { IsImageOf equation.0 result }
 {
@@ -127,6 +129,7 @@ fn evaluate_for<'a, R: Reader>(
     requires equation { site.now.equation.0 < length (bodies (program_of system.now).rules) }
     requires inner { IsRow site.now.inner }
     requires outer { IsRow site.now.outer }
+    requires known { KnowsSite (program_of system.now) (R.tells reader.old) attr.0 site.now }
     requires ready { IsReady (program_of system.now) (state system.now (R.tells reader.old) saved.old) }
     ensures reads { ResumesSite system.now (R.tells reader.old) saved.old (R.tells reader.new) saved.new attr.0 site.now result }
     ensures plain { making_in (expression_or_null (body_at (program_of system.now).rules site.now.equation.0)) ≡ None → IsNoImage result }
@@ -152,7 +155,8 @@ fn evaluate_for<'a, R: Reader>(
     }
 }
 
-/// The meaning of the equation of a site under what a reader has at the end of the call, or the first demand that it has no value for.
+/// The meaning of the equation of a site under what a reader has at the end of the call, or the first demand that it has no value for. The
+/// reader knows where the equation is read.
 pub fn evaluate<R: Reader>(
     alloc: Global,
     system: &System,
@@ -162,6 +166,7 @@ pub fn evaluate<R: Reader>(
     requires equation { site.now.equation.0 < length (program_of system.now).rules.equations }
     requires inner { IsRow site.now.inner }
     requires outer { IsRow site.now.outer }
+    requires known { KnowsTarget (program_of system.now) (R.tells reader.old) site.now }
     requires sound { IsSound (program_of system.now) (R.tells reader.old) }
     ensures evaluates { EvaluatesSite (program_of system.now) (R.tells reader.old) (R.tells reader.new) site.now result }
     ensures made { IsImageOf site.now.equation.0 result }
@@ -219,7 +224,7 @@ pub fn evaluate_query<R: Reader>(
     asked(alloc, system, query, reader, &mut saved)
 }
 
-/// Goes on with the evaluation of an expression of the rules, which is read at a node without names.
+/// Goes on with the evaluation of an expression of the rules, which is read without names at a node that the reader knows.
 pub fn resume_body<'a, R: Reader>(
     alloc: Global,
     system: &'a System,
@@ -229,6 +234,7 @@ pub fn resume_body<'a, R: Reader>(
     saved: &mut Saved<'a>,
 ) -> Result<Turn, Memory>
     requires known { expression.0 < length (bodies (program_of system.now).rules) }
+    requires node { (R.tells reader.old).knows node.0 }
     requires sound { IsSound (program_of system.now) (R.tells reader.old) }
     requires saved { AreSaved system.now (R.tells reader.old) saved.old }
     ensures evaluates { EvaluatesBody (program_of system.now) (R.tells reader.old) (R.tells reader.new) expression.0 node.0 result }
@@ -267,6 +273,7 @@ fn at_site<'a, R: Reader>(
     requires single { IsSingleIn (program_of system.now) (R.tells reader.old) (attribute_at attr node args) }
     requires found { FindsIn (program_of system.now) (R.tells reader.old) attr node args site }
     requires rows { IfSome site (λ s. IsRow s.outer × IsRow s.inner) }
+    requires known { IfSome site (KnowsSite (program_of system.now) (R.tells reader.old) attr.0) }
     ensures resumes { ResumesInstance system.now (R.tells reader.old) saved.old (R.tells reader.new) saved.new (attribute_at attr node args) result }
     ensures made { IsImageFor (program_of system.now) (R.tells reader.new) (attribute_at attr node args) result }
 {
@@ -291,6 +298,7 @@ fn evaluate_attribute<'a, R: Reader>(
 ) -> Result<Turn, Memory>
     requires ready { IsReady (program_of system.now) (state system.now (R.tells reader.old) saved.old) }
     requires row { IsRow args }
+    requires known { KnowsInstance (program_of system.now) (R.tells reader.old) (attribute_at attr node args) }
     requires single { IsSingleIn (program_of system.now) (R.tells reader.old) (attribute_at attr node args) }
     ensures resumes { ResumesInstance system.now (R.tells reader.old) saved.old (R.tells reader.new) saved.new (attribute_at attr node args) result }
     ensures made { IsImageFor (program_of system.now) (R.tells reader.new) (attribute_at attr node args) result }
@@ -321,7 +329,7 @@ fn evaluate_asked<'a, R: Reader>(
 /// Goes on with the evaluation of what the equation of an instance comes to: the value is that of its expression, read at the instance's type,
 /// under what the reader has at the end of the call. What an earlier evaluation left behind is taken up, and what this one leaves behind is
 /// saved: no form over elements goes over one of them again that it has done with. What is no instance of the system counts as null. It needs an
-/// instance that is no collection.
+/// instance that is no collection, and of which the reader knows the nodes.
 pub fn resume_instance<'a, R: Reader>(
     alloc: Global,
     system: &'a System,
@@ -332,6 +340,7 @@ pub fn resume_instance<'a, R: Reader>(
     requires sound { IsSound (program_of system.now) (R.tells reader.old) }
     requires saved { AreSaved system.now (R.tells reader.old) saved.old }
     requires coded { IsCoded (program_of system.now) i.now }
+    requires known { KnowsInstance (program_of system.now) (R.tells reader.old) i.now }
     requires single { IsSingleIn (program_of system.now) (R.tells reader.old) i.now }
     ensures evaluates { EvaluatesInstance (program_of system.now) (R.tells reader.old) (R.tells reader.new) i.now result }
     ensures made { IsImageFor (program_of system.now) (R.tells reader.new) i.now result }
@@ -345,7 +354,7 @@ pub fn resume_instance<'a, R: Reader>(
     }
 }
 
-/// The same as `resume_instance` of an attribute at a node, whose equation was found already.
+/// The same as `resume_instance` of an attribute at a node, whose equation was found already. The reader knows where that is read.
 pub fn resume_at<'a, R: Reader>(
     alloc: Global,
     system: &'a System,
@@ -361,6 +370,7 @@ pub fn resume_at<'a, R: Reader>(
     requires single { IsSingleIn (program_of system.now) (R.tells reader.old) (attribute_at attr node args) }
     requires found { FindsIn (program_of system.now) (R.tells reader.old) attr node args site }
     requires rows { IfSome site (λ s. IsRow s.outer × IsRow s.inner) }
+    requires known { IfSome site (KnowsSite (program_of system.now) (R.tells reader.old) attr.0) }
     ensures evaluates { EvaluatesInstance (program_of system.now) (R.tells reader.old) (R.tells reader.new) (attribute_at attr node args) result }
     ensures made { IsImageFor (program_of system.now) (R.tells reader.new) (attribute_at attr node args) result }
     ensures saved { AreSaved system.now (R.tells reader.new) saved.new }
@@ -369,7 +379,7 @@ pub fn resume_at<'a, R: Reader>(
 }
 
 /// What the equation of an instance that is no collection comes to: the value is that of its expression, read at the instance's type. What is no
-/// instance of the system counts as null.
+/// instance of the system counts as null. The reader knows the nodes in the instance.
 pub fn evaluate_instance<R: Reader>(
     alloc: Global,
     system: &System,
@@ -378,6 +388,7 @@ pub fn evaluate_instance<R: Reader>(
 ) -> Result<Turn, Memory>
     requires sound { IsSound (program_of system.now) (R.tells reader.old) }
     requires coded { IsCoded (program_of system.now) i.now }
+    requires known { KnowsInstance (program_of system.now) (R.tells reader.old) i.now }
     requires single { IsSingleIn (program_of system.now) (R.tells reader.old) i.now }
     ensures evaluates { EvaluatesInstance (program_of system.now) (R.tells reader.old) (R.tells reader.new) i.now result }
     ensures made { IsImageFor (program_of system.now) (R.tells reader.new) i.now result }

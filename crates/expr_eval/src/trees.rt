@@ -1,5 +1,6 @@
 // The tokens of a `new`.
 ghost use Rattle.equation_law.specs.Systems.{program_of};
+ghost use Rattle.expr_eval.specs.Evaluating.{KnowsContext};
 ghost use Rattle.expr_eval.specs.Reads.{IsReady, TokensReadIn, state};
 
 use crate::evaluation::{Context, Halt, argument_code, meaning};
@@ -17,7 +18,8 @@ pub(crate) fn put_tokens<'a, R: Reader>(
     saved: &mut Saved<'a>,
     tokens: &mut Tokens,
 ) -> Result<(), Halt>
-    requires { IsReady (program_of context.now.system.now) (state context.now.system.now (R.tells reader.old) saved.old) }
+    requires ready { IsReady (program_of context.now.system.now) (state context.now.system.now (R.tells reader.old) saved.old) }
+    requires known { KnowsContext (R.tells reader.old) context.now }
     ensures { TokensReadIn context.now (R.tells reader.old) saved.old (R.tells reader.new) saved.new parts.now tokens.old tokens.new result }
 {
     match parts {

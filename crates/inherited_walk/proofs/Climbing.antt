@@ -16,18 +16,18 @@ use Rattle.equation_law.specs.declared.coding.EqSite.{EqSite}
 use Rattle.equation_law.specs.declared.coding.NodeRef.{NodeRef}
 use Rattle.equation_law.specs.declared.coding.Up.{Up}
 use Rattle.equation_law.specs.declared.coding.Up.TheVariants.{Inside, Owner}
-use Rattle.equation_law.specs.Codes.{IsNamingOf, IsRow, Naming, arguments_for, reference_by}
+use Rattle.equation_law.specs.Codes.{IsNamingOf, IsRow, Naming, arguments_for, codes_in, reference_by}
 use Rattle.equation_law.specs.Equations.{Site, bound_values, covering_by, covering_site, inherited_over, inherited_site, inherits, number_or_zero, site_above, site_at_owner, site_of, site_within, synthesized_site, where_made}
 use Rattle.equation_law.specs.Names.{Argument, At, Attribute, Made, NodeName, Null, Reference, Row, list_of, made_by}
-use Rattle.equation_law.specs.Program.{Program, class_at, declared_of, tree_made}
-use Rattle.equation_law.specs.Reading.{Grows, IsHigher, IsSound, Told, UpBy, class_behind, code_above, higher_than, parent_or_maker}
+use Rattle.equation_law.specs.Program.{Program, attribute_parameters, class_at, declared_of, tree_made}
+use Rattle.equation_law.specs.Reading.{AreKnownCodes, Grows, IsHigher, IsSound, Told, UpBy, class_behind, code_above, higher_than, parent_or_maker}
 use Rattle.equation_law.specs.Values.{Value, argument_value}
 use Rattle.equation_law.proofs.Above.{covers, there_is, through, within_end, within_step}
 use Rattle.equation_law.proofs.Created.{made_falls}
 use Rattle.equation_law.proofs.Lists.{some_of}
 use Rattle.equation_law.proofs.Grown.{grows_on}
 use Rattle.inherited_walk.specs.Climbing.{BindsBy, CoversBy, IsClassAt, IsHigherBy, inherited_at, is_over_attribute}
-use Rattle.inherited_walk.specs.Sites.{IsFound, IsSite, outer_values}
+use Rattle.inherited_walk.specs.Sites.{IsFound, IsSite, KnowsBound, KnowsSite, outer_values, reach_or_own}
 use Rattle.inherited_walk.proofs.Classes.{IsMadeNode, made_behind}
 use Rattle.inherited_walk.proofs.Walking.{classless, covered_by, site_read}
 
@@ -132,6 +132,33 @@ module _ {S : Type 0} (p : Program) (r s : Told S) (a : AttrId) (xs : Args) (m :
       let read = site_read p n a.0 e.inner root top e.equation.0 e.node.0 e.outer (bound_values q.target.reach 0 vs) q found.2 (ap (λ (x : NodeRef). reference_by n.node x.0) found.3 ∙ at) outer in
       (f q, ap (option_map f) found.1, subst (λ (x : Args). IsSite p n a.0 e (site_above p a.0 (arguments_for p n a.0 x) root top (bound_values q.target.reach 0 vs) q)) found.4 read)
 
+  -- of such an equation the reader knows where it is read, where it knows what its path binds
+  site_known : (via : Via) (above : NodeRef) (o : Option ClassId) (site : Option EqSite) → s.knows above.0 → AreKnownCodes s (attribute_parameters p a.0) (codes_in xs)
+      → ((w : Reach) → (w ≡ reach_via via) ⊎ (w ≡ Children) → (outer : Args) → BindsBy p r s w m outer → KnowsBound p s w outer) → CoversOf p r s a xs via above m o site → IfSome site (KnowsSite p s a.0)
+  site_known via above None site known codes binds none = subst (λ (x : Option EqSite). IfSome x (KnowsSite p s a.0)) (sym none) tt
+  site_known via above (Some c) None known codes binds covered = tt
+  site_known via above (Some c) (Some e) known codes binds covered =
+      let found = covered.some e refl in
+      let q = found.0 in
+      record {
+        node = subst (λ (x : NodeRef). s.knows x.0) (sym found.3) known;
+        inner = subst (λ (x : Args). AreKnownCodes s (attribute_parameters p a.0) (codes_in x)) (sym found.4) codes;
+        outer = subst (λ (w : Reach). KnowsBound p s w e.outer) (sym (ap reach_or_own found.2)) (binds q.target.reach (reach_of p a.0 via c q found.1) e.outer found.5);
+      }
+
+  -- it knows what the path over an attribute binds
+  bound_known : (up : Up) (b : ℕ) (o : Reference) (ys : Row) (q : ℕ) → reference_by n.node m.0 ≡ At (Made b o ys q) → IsSome (class_at p (Made b o ys q)) → (u : Option ℕ) → IsHigher n up (parent_or_maker (Made b o ys) o b (tree_made p b o) q u)
+      → (w : Reach) → (w ≡ reach_via (via_of up)) ⊎ (w ≡ Children) → (outer : Args) → BindsBy p r s w m outer → KnowsBound p s w outer
+  bound_known (Inside above k) b o ys q at there u high w h outer binds = elim h [
+    | inl e ↦ subst (λ (x : Reach). KnowsBound p s x outer) (sym e) tt
+    | inr e ↦ subst (λ (x : Reach). KnowsBound p s x outer) (sym e) tt
+  ]
+  bound_known (Owner above maker) b o ys q at there (Some u) high w h outer binds = absurd high
+  bound_known (Owner above maker) b o ys q at there None high w h outer binds = elim h [
+    | inl e ↦ binds.known n is (record { 0 = b }) o ys q (e ∙ ap (λ (k : ℕ). reach_via (by_created k)) high.1) at there
+    | inr e ↦ subst (λ (x : Reach). KnowsBound p s x outer) (sym e) tt
+  ]
+
   -- what is found for a node that was made, by where the node above it is
   abbrev Higher : Reference → Reference → Option EqSite → Type 0
   Higher x top site = (zs : List Argument) (root : Reference) → (o : Option Site) × (inherited_at p a.0 zs root x ≡ option_or o (inherited_at p a.0 zs root top)) × (zs ≡ given → IsFound p n a.0 o site)
@@ -205,19 +232,30 @@ module _ {S : Type 0} (p : Program) (r s : Told S) (a : AttrId) (xs : Args) (m :
   higher_by (Owner above maker) c site b o ys q at d of (Some u) up high class covered = absurd high
   higher_by (Owner above maker) c site b o ys q at d of None up high class covered = higher_owner b o ys q at d of above maker c site up high.0 high.1 class covered
 
+  behind : length p.tree ≤ most_nodes → IsNamingOf p n → most_nodes < m.0 → IsSome (class_behind p (reference_by n.node m.0)) → IsMadeNode p (reference_by n.node m.0)
+  behind few named far h = let d = there_is (class_behind p (reference_by n.node m.0)) h in made_behind p few named m.0 far d.0 d.1
+
   higher_found : length p.tree ≤ most_nodes → IsNamingOf p n → most_nodes < m.0 → (up : Up) (c : Option ClassId) (site : Option EqSite) → (IsSome (class_behind p (reference_by n.node m.0)) → IsHigher n up (higher_than p (reference_by n.node m.0)))
       → c ≡ class_behind p (reference_by n.node (node_of up).0) → CoversOf p r s a xs (via_of up) (node_of up) m c site → IsSome (class_behind p (reference_by n.node m.0)) → HigherBy up (reference_by n.node m.0) site
   higher_found few named far up c site high class covered some =
-      let made = behind some in
+      let made = behind few named far some in
       let stands : IsHigher n up (higher_than p (At (Made made.maker made.owner made.arguments made.place))) = subst (λ (x : Reference). IsHigher n up (higher_than p x)) made.is (high some) in
       let found = higher_by up c site made.maker made.owner made.arguments made.place made.is made.class made.of (parent_in (tree_made p made.maker made.owner) made.place) refl stands class covered in
       subst (λ (x : Reference). HigherBy up x site) (sym made.is) found
-    where
-      behind : IsSome (class_behind p (reference_by n.node m.0)) → IsMadeNode p (reference_by n.node m.0)
-      behind h = let d = there_is (class_behind p (reference_by n.node m.0)) h in made_behind p few named m.0 far d.0 d.1
+
+  higher_known : length p.tree ≤ most_nodes → IsNamingOf p n → most_nodes < m.0 → (up : Up) (c : Option ClassId) (site : Option EqSite) → IsHigher n up (higher_than p (reference_by n.node m.0)) → CoversOf p r s a xs (via_of up) (node_of up) m c site
+      → IsSome (class_behind p (reference_by n.node m.0)) → s.knows (node_of up).0 → AreKnownCodes s (attribute_parameters p a.0) (codes_in xs) → IfSome site (KnowsSite p s a.0)
+  higher_known few named far up c site high covered some known codes =
+      let made = behind few named far some in
+      let stands : IsHigher n up (higher_than p (At (Made made.maker made.owner made.arguments made.place))) = subst (λ (x : Reference). IsHigher n up (higher_than p x)) made.is high in
+      let there : IsSome (class_at p (Made made.maker made.owner made.arguments made.place)) = subst (λ (x : Option ClassId). IsSome x) (sym made.of) refl in
+      site_known (via_of up) (node_of up) c site known codes (bound_known up made.maker made.owner made.arguments made.place made.is there (parent_in (tree_made p made.maker made.owner) made.place) stands) covered
 
 -- what is found for a node that was made, by the node above it
-module _ {S : Type 0} (p : Program) {r b t s : Told S} (sound : IsSound p r) (few : length p.tree ≤ most_nodes) (a : AttrId) (xs : Args) (m : NodeRef) (far : most_nodes < m.0) (up : Up) (stands : UpBy r b m up) (site : Option EqSite) (grown : Grows p t s) (class : Option ClassId) where
+module _ {S : Type 0} (p : Program) {r b t s : Told S} (sound : IsSound p r) (few : length p.tree ≤ most_nodes) (a : AttrId) (xs : Args) (m : NodeRef) (far : most_nodes < m.0) (knows : r.knows m.0) (up : Up) (stands : UpBy r b m up) (site : Option EqSite) (grown : Grows p t s) (class : Option ClassId) where
+  above_known : IsClassAt p b t (node_of up) class → s.knows (node_of up).0
+  above_known classed = grown.known (node_of up).0 (classed.kept.known (node_of up).0 (subst b.knows (code_is up) (stands.known p sound far knows)))
+
   higher_here : IsClassAt p b t (node_of up) class → CoversOf p t s a xs (via_of up) (node_of up) m class site → IsHigherBy p r s a m xs (record { node = node_of up; site = site })
   higher_here classed covered = record {
     kept = grows_on (stands.kept p sound) (grows_on classed.kept grown);
@@ -229,7 +267,11 @@ module _ {S : Type 0} (p : Program) {r b t s : Told S} (sound : IsSound p r) (fe
         omega (arith, first, second, third, same);
     found = λ n is some zs root.
         let before = grown.names n is in
-        higher_found p t s a xs m n is few (grown.sound.named n is) far up class site (stands.answer p sound far n (classed.kept.names n before)) (classed.class n before) covered some zs root;
+        higher_found p t s a xs m n is few (grown.sound.named n is) far up class site (stands.answer p sound far knows n (classed.kept.names n before)) (classed.class n before) covered some zs root;
+    above = above_known classed;
+    known = λ n is some given.
+        let high = stands.answer p sound far knows n (classed.kept.names n (grown.names n is)) some in
+        higher_known p t s a xs m n is few (grown.sound.named n is) far up class site high covered some (above_known classed) given;
   }
 
   pub higher_is : (at : NodeRef × Via) → at ≡ (node_of up, via_of up) → IsClassAt p b t at.0 class → CoversOf p t s a xs at.1 at.0 m class site → IsHigherBy p r s a m xs (record { node = at.0; site = site })

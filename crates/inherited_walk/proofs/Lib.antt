@@ -1,4 +1,5 @@
 mod Arguments
 mod Climbing
 pub mod Classes
+mod Known
 pub mod Walking

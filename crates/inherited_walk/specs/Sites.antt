@@ -1,11 +1,12 @@
 -- Equations that are found, by their numbers, with where they are read.
-use Rattle.std.specs.Prelude.{◌≡◌, ℕ, pos, List, [], ◌++◌, map, Option, Some, None, slice_get}
+use Rattle.std.specs.Prelude.{◌≡◌, ◌≤◌, ℕ, pos, List, [], ◌++◌, map, Option, Some, None, slice_get}
 use Rattle.std.specs.Int.{int_wrap}
 use mir.Syntax.{w32}
 use Rattle.attr_rules.specs.declared.dispatch.Reach.{Reach}
 use Rattle.attr_rules.specs.declared.dispatch.Reach.TheVariants.{Own, Component, Created, Children}
 use Rattle.attr_rules.specs.declared.kinds.AttrId.{AttrId}
 use Rattle.attr_rules.specs.Rules.{Equation, body_at}
+use Rattle.tree_arena.specs.Nodes.{most_nodes}
 use Rattle.equation_law.specs.declared.coding.Args.{Args}
 use Rattle.equation_law.specs.declared.coding.EqSite.{EqSite}
 use Rattle.equation_law.specs.declared.coding.Instance.TheVariants.{Attr as attribute_at}
@@ -14,8 +15,8 @@ use Rattle.equation_law.specs.Codes.{ByEachNaming, Naming, arguments_for, codes_
 use Rattle.equation_law.specs.Equations.{Site, covering_site, site_of}
 use Rattle.equation_law.specs.Meaning.{Place}
 use Rattle.equation_law.specs.Names.{Argument, Reference, Source}
-use Rattle.equation_law.specs.Program.{Program}
-use Rattle.equation_law.specs.Reading.{ByEachIn, Told}
+use Rattle.equation_law.specs.Program.{Program, attribute_parameters}
+use Rattle.equation_law.specs.Reading.{AreKnownCodes, ByEachIn, Told}
 use Rattle.equation_law.specs.Values.{Value, Int, argument_value}
 
 -- what a path binds: places in lists, which have 32 bits
@@ -45,6 +46,32 @@ site_place p n a s = record { this = reference_by n.node s.node.0; names = map a
 pub record IsSite (p : Program) (n : Naming) (a : ℕ) (s : EqSite) (site : Site) : Type 0 where
   pub body : body_at p.rules s.equation.0 ≡ Some site.body
   pub place : site.place ≡ site_place p n a s
+
+-- a reader knows the codes of the arguments that a path over a higher-order attribute binds
+abbrev pub KnowsBound : {S : Type 0} → Program → Told S → Reach → Args → Type 0
+KnowsBound p t Own xs = Unit {0}
+KnowsBound p t (Component k) xs = Unit {0}
+KnowsBound p t (Created b) xs = AreKnownCodes t (attribute_parameters p b.0) (codes_in xs)
+KnowsBound p t Children xs = Unit {0}
+
+-- it knows where the equation of a site is read for an attribute: the node, the arguments, and what the path binds
+pub record KnowsSite {S : Type 0} (p : Program) (t : Told S) (a : ℕ) (s : EqSite) : Type 0 where
+  pub node : t.knows s.node.0
+  pub inner : AreKnownCodes t (attribute_parameters p a) (codes_in s.inner)
+  pub outer : KnowsBound p t (reach_at p s.equation.0) s.outer
+
+-- a path over a higher-order attribute binds nothing
+abbrev pub BindsNoCode : Reach → Args → Type 0
+BindsNoCode Own xs = Unit {0}
+BindsNoCode (Component k) xs = Unit {0}
+BindsNoCode (Created b) xs = codes_in xs ≡ []
+BindsNoCode Children xs = Unit {0}
+
+-- a site at a source node with these arguments, of which the path binds no argument of another attribute
+pub record IsSourceSite (p : Program) (xs : Args) (s : EqSite) : Type 0 where
+  pub node : s.node.0 ≤ most_nodes
+  pub inner : s.inner ≡ xs
+  pub outer : BindsNoCode (reach_at p s.equation.0) s.outer
 
 -- it is found exactly where there is one
 abbrev pub IsFound : Program → Naming → ℕ → Option Site → Option EqSite → Type 0

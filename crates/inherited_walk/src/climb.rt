@@ -5,9 +5,10 @@ ghost use Rattle.tree_arena.specs.Nodes.{most_nodes};
 ghost use Rattle.equation_law.specs.Checked.{IsProgram};
 ghost use Rattle.equation_law.specs.Codes.{IsRow};
 ghost use Rattle.equation_law.specs.declared.coding.Instance.TheVariants.{Attr as attribute_at};
-ghost use Rattle.equation_law.specs.Reading.{IsInstanceIn, IsSingleIn, IsSound};
+ghost use Rattle.equation_law.specs.Reading.{IsInstanceIn, IsSingleIn, IsSound, KnowsInstance};
 ghost use Rattle.equation_law.specs.Systems.{program_of};
 ghost use Rattle.inherited_walk.specs.Climbing.{BindsBy, CoversBy, FindsBy, GivesArguments, InheritsBy, IsClassAt, IsHigherBy};
+ghost use Rattle.inherited_walk.specs.Sites.{KnowsSite};
 
 use crate::walk::{bound_index, inherited, is_inherited};
 use ast_grammar::ClassId;
@@ -16,7 +17,8 @@ use equation_law::{Args, EqSite, NodeRef, Reader, System, Up};
 
 /// The class of a node of the tree or of one that was made, or None where there is none.
 pub fn class_at<R: Reader>(system: &System, node: NodeRef, reader: &mut R) -> Option<ClassId>
-    requires { IsSound (program_of system.now) (R.tells reader.old) }
+    requires sound { IsSound (program_of system.now) (R.tells reader.old) }
+    requires known { (R.tells reader.old).knows node.0 }
     ensures { IsClassAt (program_of system.now) (R.tells reader.old) (R.tells reader.new) node result }
 {
     if node.is_made() {
@@ -45,7 +47,8 @@ pub fn made_arguments<R: Reader>(
     node: NodeRef,
     reader: &mut R,
 ) -> Args
-    requires { IsSound (program_of system.now) (R.tells reader.old) }
+    requires sound { IsSound (program_of system.now) (R.tells reader.old) }
+    requires known { (R.tells reader.old).knows node.0 }
     ensures { GivesArguments (program_of system.now) (R.tells reader.old) (R.tells reader.new) maker node result }
 {
     let mut args = Args::none();
@@ -66,7 +69,8 @@ pub struct Higher {
 
 /// What a path of an equation binds towards a node that was made: in its tree a node hangs alone at its component.
 fn bound<R: Reader>(system: &System, reach: Reach, node: NodeRef, reader: &mut R) -> Args
-    requires { IsSound (program_of system.now) (R.tells reader.old) }
+    requires sound { IsSound (program_of system.now) (R.tells reader.old) }
+    requires known { (R.tells reader.old).knows node.0 }
     ensures { BindsBy (program_of system.now) (R.tells reader.old) (R.tells reader.new) reach node result }
 {
     match reach {
@@ -86,7 +90,8 @@ fn covering_made<R: Reader>(
     node: NodeRef,
     reader: &mut R,
 ) -> Option<EqSite>
-    requires { IsSound (program_of system.now) (R.tells reader.old) }
+    requires sound { IsSound (program_of system.now) (R.tells reader.old) }
+    requires known { (R.tells reader.old).knows node.0 }
     ensures { CoversBy (program_of system.now) (R.tells reader.old) (R.tells reader.new) attr args class via above node result }
 {
     let rules = system.rules();
@@ -110,6 +115,7 @@ fn above<R: Reader>(
 ) -> Higher
     requires sound { IsSound (program_of system.now) (R.tells reader.old) }
     requires made { most_nodes < node.0 }
+    requires known { (R.tells reader.old).knows node.0 }
     ensures higher { IsHigherBy (program_of system.now) (R.tells reader.old) (R.tells reader.new) attr node args result }
     ensures rows { IsRow args → IfSome result.site (λ s. IsRow s.outer × IsRow s.inner) }
 {
@@ -137,9 +143,11 @@ fn climb<R: Reader>(
     args: Args,
     reader: &mut R,
 ) -> Option<EqSite>
-    requires { IsSound (program_of system.now) (R.tells reader.old) }
+    requires sound { IsSound (program_of system.now) (R.tells reader.old) }
+    requires known { KnowsInstance (program_of system.now) (R.tells reader.old) (attribute_at attr node args) }
     ensures found { InheritsBy (program_of system.now) (R.tells reader.old) (R.tells reader.new) attr node args result }
     ensures rows { IsRow args → IfSome result (λ s. IsRow s.outer × IsRow s.inner) }
+    ensures known { IfSome result (KnowsSite (program_of system.now) (R.tells reader.new) attr.0) }
 {
     let mut at = node;
     while at.is_made() {
@@ -162,9 +170,11 @@ pub fn find_equation<R: Reader>(
     args: Args,
     reader: &mut R,
 ) -> Option<EqSite>
-    requires { IsSound (program_of system.now) (R.tells reader.old) }
+    requires sound { IsSound (program_of system.now) (R.tells reader.old) }
+    requires known { KnowsInstance (program_of system.now) (R.tells reader.old) (attribute_at attr node args) }
     ensures found { FindsBy (program_of system.now) (R.tells reader.old) (R.tells reader.new) attr node args result }
     ensures rows { IsRow args → IfSome result (λ s. IsRow s.outer × IsRow s.inner) }
+    ensures known { IfSome result (KnowsSite (program_of system.now) (R.tells reader.new) attr.0) }
 {
     if is_inherited(system, attr) {
         return climb(system, attr, node, args, reader);
@@ -190,8 +200,10 @@ pub fn equation_of<R: Reader>(
     requires sound { IsSound (program_of system.now) (R.tells reader.old) }
     requires program { IsProgram (program_of system.now) }
     requires instance { IsInstanceIn (program_of system.now) (R.tells reader.old) (attribute_at attr node args) }
+    requires known { KnowsInstance (program_of system.now) (R.tells reader.old) (attribute_at attr node args) }
     requires single { IsSingleIn (program_of system.now) (R.tells reader.old) (attribute_at attr node args) }
-    ensures { FindsBy (program_of system.now) (R.tells reader.old) (R.tells reader.new) attr node args (Some result) }
+    ensures found { FindsBy (program_of system.now) (R.tells reader.old) (R.tells reader.new) attr node args (Some result) }
+    ensures known { KnowsSite (program_of system.now) (R.tells reader.new) attr.0 result }
 {
     match find_equation(system, attr, node, args, reader) {
         Some(site) => site,

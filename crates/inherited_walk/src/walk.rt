@@ -6,7 +6,7 @@ ghost use Rattle.equation_law.specs.Equations.{bound_values, inherited_site, inh
 ghost use Rattle.equation_law.specs.Names.{Reference, Source};
 ghost use Rattle.equation_law.specs.Program.{Program, declared_of};
 ghost use Rattle.equation_law.specs.Systems.{program_of};
-ghost use Rattle.inherited_walk.specs.Sites.{IsCoveringFor, IsFoundFor, outer_values};
+ghost use Rattle.inherited_walk.specs.Sites.{BindsNoCode, IsCoveringFor, IsFoundFor, IsSourceSite, outer_values};
 
 use attr_rules::{AttrId, Part, Reach, Via};
 use equation_law::{Args, EqSite, NodeRef, System};
@@ -23,6 +23,7 @@ pub(crate) fn is_inherited(system: &System, attr: AttrId) -> bool
 pub(crate) fn synthesized(system: &System, attr: AttrId, node: u32, args: Args) -> Option<EqSite>
     ensures found { let p = program_of system.now in IsFoundFor p attr args (synthesized_site p attr.0 (Source node)) result }
     ensures rows { IsRow args → IfSome result (λ s. IsRow s.outer × IsRow s.inner) }
+    ensures source { IfSome result (IsSourceSite (program_of system.now) args) }
 {
     let tree = system.tree();
     if node >= tree.len() {
@@ -41,6 +42,7 @@ pub(crate) fn synthesized(system: &System, attr: AttrId, node: u32, args: Args) 
 /// What a path binds towards a node of this place among those that hang at the same component.
 pub(crate) fn bound_index(reach: Reach, place: u32) -> Args
     ensures row { IsRow result }
+    ensures none { BindsNoCode reach result }
     ensures values { (p : Program) (n : Naming) → outer_values p n reach result ≡ bound_values reach place [] }
 {
     match reach {
@@ -63,6 +65,7 @@ pub(crate) fn covering(
     requires above { parent < node }
     ensures found { IsCoveringFor (program_of system.now) attr args node result }
     ensures rows { IsRow args → IfSome result (λ s. IsRow s.outer × IsRow s.inner) }
+    ensures source { IfSome result (IsSourceSite (program_of system.now) args) }
 {
     let tree = system.tree();
     let rules = system.rules();
@@ -81,6 +84,7 @@ pub(crate) fn covering(
 pub(crate) fn inherited(system: &System, attr: AttrId, args: Args, node: u32) -> Option<EqSite>
     ensures found { (root : Reference) → let p = program_of system.now in IsFoundFor p attr args (λ zs. inherited_site p attr.0 zs root (Source node)) result }
     ensures rows { IsRow args → IfSome result (λ s. IsRow s.outer × IsRow s.inner) }
+    ensures source { IfSome result (IsSourceSite (program_of system.now) args) }
 {
     let tree = system.tree();
     if node >= tree.len() {

@@ -7,7 +7,7 @@ ghost use Rattle.equation_law.specs.Codes.{IsRow};
 ghost use Rattle.equation_law.specs.Systems.{program_of};
 ghost use Rattle.inherited_walk.specs.contracts.ways.StartPartialEq.TheImpl as starts;
 ghost use Rattle.inherited_walk.specs.declared.ways.Start.{Start as WayStart};
-ghost use Rattle.inherited_walk.specs.Sites.{FindsEquation, IsUncovered};
+ghost use Rattle.inherited_walk.specs.Sites.{FindsEquation, IsSourceSite, IsUncovered};
 ghost use Rattle.inherited_walk.specs.Ways.{IsWay};
 
 use crate::walk::{covering, inherited, is_inherited, synthesized};
@@ -153,6 +153,7 @@ pub fn find_noted(
     ensures same { ways.new ≡ ways.old }
     ensures found { FindsEquation (program_of system.now) attr node args result }
     ensures rows { IsRow args → IfSome result (λ s. IsRow s.outer × IsRow s.inner) }
+    ensures source { IfSome result (IsSourceSite (program_of system.now) args) }
 {
     let source = node.source()?;
     if !is_inherited(system, attr) {

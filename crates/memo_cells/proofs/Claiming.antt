@@ -2,7 +2,7 @@
 use Rattle.std.proofs.Common.{◌≡◌, ℕ, List, inl, inr, ⊎_elim, refl, sym, ap, subst, ◌∙◌}
 use Rattle.solutions.specs.Leading.{more, none}
 use Rattle.equation_law.specs.Equations.{kind_in}
-use Rattle.equation_law.specs.Keys.{HasElement, IsElementCode, IsJust, IsKey, IsReached, Part, Prefix, Word}
+use Rattle.equation_law.specs.Keys.{HasElement, IsElementCode, IsJust, IsKey, IsReached, Member, Part, Prefix, Word}
 use Rattle.equation_law.specs.Loops.{Chain, Leads}
 use Rattle.equation_law.specs.Names.{Instance}
 use Rattle.equation_law.specs.Program.{Program}
@@ -38,6 +38,7 @@ module _ (p : Program) (Q R : Instance → Type 0) (on : LeadsToAll p Q R) where
   key_more : (x : Part) → IsKey p R x → IsKey p Q x
   key_more (Prefix x) h = (h.0, h.1, reached_more h.0 h.2)
   key_more (Word j w) h = (reached_more j h.0, h.1)
+  key_more (Member j m) h = (reached_more j h.0, h.1)
 
   -- so its keys are among those of the first
   pub key_of_more : (v : View) (k : ℕ) → IsKeyOf p v R k → IsKeyOf p v Q k
@@ -47,6 +48,7 @@ module _ (p : Program) (Q R : Instance → Type 0) (on : LeadsToAll p Q R) where
 pub part_later : (v w : View) → IsAtLeast v w → (p : Program) (k : ℕ) (x : Part) → IsKeyOfPart p v k x → IsKeyOfPart p w k x
 part_later v w kept p k (Prefix x) h = stands_later v w kept p k x h
 part_later v w kept p k (Word i n) h = word_later v w kept p k i n h
+part_later v w kept p k (Member i m) h = record { code = h.code; at = h.at; word = word_later v w kept p k i _ h.word }
 
 -- what was claimed before, and what is claimed for a set to which the first leads
 pub claims_on_of : (p : Program) (Q R : Instance → Type 0) (u v w : View) → LeadsToAll p Q R → ClaimsKeysOf p Q u v → IsAtLeast v w → ClaimsKeysOf p R v w → ClaimsKeysOf p Q u w

@@ -27,6 +27,7 @@ told_pass d = record {
   itself = λ own. record { on = record { cells = refl; lender = refl; own = own; kept = at_least_itself d.view; log = log_itself d.view }; claims = refl };
   each = λ n is order. (is, order);
   named = λ n is. is;
+  knows = λ c. tt;
 }
 
 pub own_then : (d e : Held) → GoesOn d e → IsPassOf d.frame e.view

@@ -1,17 +1,25 @@
 -- Which key words are those of what a set of instances needs, and what was claimed of them.
-use Rattle.std.specs.Prelude.{◌≡◌, ℕ, ◌⊎◌}
-use Rattle.equation_law.specs.Keys.{IsJust, IsKey, Part, Prefix, Word}
-use Rattle.equation_law.specs.Names.{Instance}
+use Rattle.std.specs.Prelude.{◌≡◌, ℕ, ◌/◌, ◌⊎◌}
+use Rattle.equation_law.specs.Codes.{IsReference}
+use Rattle.equation_law.specs.Keys.{IsJust, IsKey, Member, Part, Prefix, Word}
+use Rattle.equation_law.specs.Names.{At, Instance, NodeName}
 use Rattle.equation_law.specs.Program.{Program}
 use Rattle.memo_cells.specs.declared.view.Frame.{Frame}
 use Rattle.memo_cells.specs.declared.view.View.{View}
 use Rattle.memo_cells.specs.Naming.{IsWordOf, StandsFor}
 use Rattle.memo_cells.specs.Views.{Has, IsFull, times}
 
+-- k is the key word of the word of the set of i in which the code of the node m lies
+pub record IsKeyOfMember (p : Program) (v : View) (k : ℕ) (i : Instance) (m : NodeName) : Type 0 where
+  pub code : ℕ
+  pub at : IsReference p code (At m)
+  pub word : IsWordOf p v k i (code / 64)
+
 -- k is the key word of x
 abbrev pub IsKeyOfPart : Program → View → ℕ → Part → Type 0
 IsKeyOfPart p v k (Prefix x) = StandsFor p v k x
 IsKeyOfPart p v k (Word i w) = IsWordOf p v k i w
+IsKeyOfPart p v k (Member i m) = IsKeyOfMember p v k i m
 
 -- k is the key word of a key of the set
 abbrev pub IsKeyOf : Program → View → (Instance → Type 0) → ℕ → Type 0

@@ -173,7 +173,7 @@ ClaimsForSetAt d e place = ClaimsForSet d.frame d.view e.view place
 
 -- What a reader tells that holds a pass: it is for the program of the cells, it has the values of the instances whose cells are seen
 -- settled, and reading lets the pass know no less. It may be read by each naming for the program whose codes are in the order of their nodes, and the
--- program makes nothing.
+-- program makes nothing. The reader knows every code.
 pub record TellsPass {S : Type 0} (held : S → Held) (d : S) (r : Told S) : Type 0 where
   pub for : IsOwn (held d) → r.for (program_at (held d))
   pub only : (p : Program) → r.for p → (p ≡ program_at (held d)) × HasSourcesAlone p
@@ -185,6 +185,7 @@ pub record TellsPass {S : Type 0} (held : S → Held) (d : S) (r : Told S) : Typ
   pub itself : IsOwn (held d) → r.keeps d
   pub each : ByEachOrder (program_at (held d)) r.names
   pub named : ByEachIn r (NamesInOrder (program_at (held d)))
+  pub knows : (c : ℕ) → r.knows c
 
 -- what such a reader tells, which is seen as what it holds
 abbrev pub told_by : Held → Told Held
@@ -194,5 +195,6 @@ told_by d = record {
   can = HasValue (program_at d);
   keeps = λ x. ReadsOn x d;
   names = NamesInOrder (program_at d);
+  knows = λ c. Unit {0};
   height = λ c. c;
 }

@@ -21,7 +21,7 @@ use Rattle.equation_law.specs.Names.{Argument, At, Attribute, Instance, Made, Re
 use Rattle.equation_law.specs.Program.{Program, making_of}
 use Rattle.equation_law.specs.Reading.{AreTokensOf, ArgumentBy, ChildBy, ClassBy, Grows, HasThere, IsSound, OrderBy, SettledBy, Settles, TokenBy, UpBy, class_behind, code_above, reference_cmp}
 use Rattle.equation_law.specs.Values.{Node, Nodes, Int, Text, Texts, Tree, Truth, Value, as_kind, tokens}
-use Rattle.equation_law.proofs.Grown.{grows_itself}
+use Rattle.equation_law.proofs.Grown.{each_value, grows_itself}
 use Rattle.expr_eval.specs.declared.sites.Turn.{Turn}
 use Rattle.expr_eval.specs.declared.sites.Turn.TheVariants.{Done, Image, Need}
 use Rattle.expr_eval.specs.Evaluating.{Asks, Evaluates}
@@ -54,6 +54,7 @@ sound s ready =
       one_value = λ i v w a b. cc;
       named = λ n is. subst (λ (m : Naming). IsNamingOf p m) (sym is) (named_there s.setting ready.set);
       some = (naming_at s.setting, refl);
+      sources = λ c low. tt;
       fit = (trees_there s.setting ready.set).fit;
       trees = λ a o xs v may m is. own_tokens p a o xs v (ready.own (Attribute a o xs) v may) m is;
     }
@@ -70,26 +71,26 @@ module _ (s : Standing) where
   by_naming n is = is ∙ sym (ap naming_of (moved s.setting))
 
   pub standing_class : (node : NodeRef) (found : Option ClassId) (c : ClassId) → (most_nodes < node.0 → class_behind (program_for trees) (stands_for trees node.0) ≡ found) → MatchOption found (c.0 ≡ 65535) (λ d. c ≡ d) → ClassBy (told_by s) (told_by s) node c
-  standing_class = told_class (told_by s) trees for_makers by_naming
+  standing_class = told_class (told_by s) trees for_makers by_naming (λ c. tt)
 
   pub standing_child : (node : NodeRef) (k : ℕ) (child : NodeRef) → (most_nodes < node.0 → stands_for trees child.0 ≡ child_at (world_of (program_for trees)) k (stands_for trees node.0)) → ChildBy (told_by s) (told_by s) node k child
-  standing_child = told_child (told_by s) trees for_makers by_naming
+  standing_child = told_child (told_by s) trees for_makers by_naming (λ c. tt)
 
   pub standing_up : (node : NodeRef) (up : Up) → (most_nodes < node.0 → IsAbove trees node.0 up) → (most_nodes < node.0 → code_above up < node.0) → UpBy (told_by s) (told_by s) node up
-  standing_up = told_up (told_by s) trees for_makers by_naming refl
+  standing_up = told_up (told_by s) trees for_makers by_naming (λ c. tt) refl
 
   pub standing_argument : (node : NodeRef) (k code : ℕ) → IsArgumentAt trees node.0 k code → ArgumentBy (told_by s) (told_by s) node k code
-  standing_argument = told_argument (told_by s) trees for_makers by_naming
+  standing_argument = told_argument (told_by s) trees for_makers by_naming (λ c. tt)
 
   pub standing_order : (a b : NodeRef) (order : Ordering) → order ≡ reference_cmp (stands_for trees a.0) (stands_for trees b.0) → OrderBy (told_by s) (told_by s) a b order
-  standing_order = told_order (told_by s) trees for_makers by_naming
+  standing_order = told_order (told_by s) trees for_makers by_naming (λ c. tt)
 
   -- a value, or none
   settles : AreReady s.setting s.values.now → (i : CodedInstance) → IsCoded (program_at s.setting) i → (result : Result (Option CodedValue) NoMemory) → IfOk result (λ value. AreReady s.setting s.values.now → IsCoded (program_at s.setting) i → IsStandingAt s i value)
       → Settles (program_at s.setting) (told_by s) (λ n. instance_by (program_at s.setting) n i) result
   settles ready i coded (Ok (Some v)) h =
       let x = h ready coded in
-      (λ n is. subst (λ (m : Naming). HasThere (program_at s.setting) (told_by s) (instance_by (program_at s.setting) m i) (value_by m v)) (sym is) (x.0.0, x.0.1, x.0.2), x.1)
+      (λ n is. subst (λ (m : Naming). HasThere (program_at s.setting) (told_by s) (instance_by (program_at s.setting) m i) (value_by m v)) (sym is) (x.0.0, x.0.1, x.0.2), x.1, each_value (told_by s) (λ c. tt) v)
   settles ready i coded (Ok None) h = λ n is w has. absurd (
       let some = subst (λ (m : Naming). standing_at s (instance_by (program_at s.setting) m i) ≡ Some w) is has in
       let wrong : None ≡ Some w = sym (h ready coded) ∙ some in
@@ -100,7 +101,7 @@ module _ (s : Standing) where
   pub standing_settled : (i : CodedInstance) (result : Result (Option CodedValue) NoMemory) → IfOk result (λ value. AreReady s.setting s.values.now → IsCoded (program_at s.setting) i → IsStandingAt s i value) → SettledBy (told_by s) (told_by s) i result
   standing_settled i result h = record {
     kept = λ p sound. grows_itself sound;
-    answer = λ p sound coded. subst (λ (q : Program). Settles q (told_by s) (λ n. instance_by q n i) result) (sym sound.for.0) (settles sound.for.1 i (subst (λ (q : Program). IsCoded q i) sound.for.0 coded) result h);
+    answer = λ p sound coded known. subst (λ (q : Program). Settles q (told_by s) (λ n. instance_by q n i) result) (sym sound.for.0) (settles sound.for.1 i (subst (λ (q : Program). IsCoded q i) sound.for.0 coded) result h);
   }
 
   -- a token, and without a code of one the default
@@ -112,7 +113,7 @@ module _ (s : Standing) where
   pub standing_token : (node : NodeRef) (k result : ℕ) (code : Option ℕ) → (AreReady s.setting s.values.now → IsTokenIn s node.0 k code) → result ≡ code_or_zero code → TokenBy (told_by s) (told_by s) node k result
   standing_token node k result code told is = record {
     kept = λ p sound. grows_itself sound;
-    answer = λ p sound n named.
+    answer = λ p sound known n named.
         subst (λ (q : Program). IsTokenBy node k result q n) (sym sound.for.0)
         (subst (IsTokenBy node k result (program_at s.setting)) (sym named) (subst (λ (c : ℕ). IsTokenBy node k c (program_at s.setting) (naming_at s.setting)) (sym is) (told sound.for.1)));
   }

@@ -29,8 +29,8 @@ use Rattle.plain_rounds.specs.Settings.{AreReady, instance_at, naming_at, progra
 abbrev pub standing_at : Standing → Instance → Option Value
 standing_at s i = standing_in s.setting s.values.now i
 
--- A reader for its program, where the places are those of the list. It has these values and no other, and is read by what the makers name. What stands
--- above a node that was made has a smaller code.
+-- A reader for its program, where the places are those of the list. It has these values and no other, is read by what the makers name, and knows every
+-- code. What stands above a node that was made has a smaller code.
 abbrev pub told_by : Standing → Told Standing
 told_by s = record {
   for = λ p. (p ≡ program_at s.setting) × AreReady s.setting s.values.now;
@@ -38,6 +38,7 @@ told_by s = record {
   can = λ i v. standing_at s i ≡ Some v;
   keeps = λ earlier. earlier ≡ s;
   names = λ n. n ≡ naming_at s.setting;
+  knows = λ c. Unit {0};
   height = λ c. c;
 }
 

@@ -1,4 +1,5 @@
 pub mod Coded
+pub mod Known
 pub mod Listed
 pub mod NodeCodes
 pub mod Operators

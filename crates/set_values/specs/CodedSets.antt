@@ -1,10 +1,13 @@
 -- Sets by the codes of their elements, and what operators on sets make of membership.
-use Rattle.std.specs.Prelude.{◌≡◌, ℕ, Bool, ◌&&◌, ◌||◌, not, List, map}
+use Rattle.std.specs.Prelude.{◌≡◌, ◌<◌, ◌⊎◌, ℕ, Bool, true, ◌&&◌, ◌||◌, not, List, [], ◌∷◌, map}
 use Rattle.attr_rules.specs.declared.expression.SetOperator.{SetOperator}
 use Rattle.attr_rules.specs.declared.expression.SetOperator.TheVariants.{Union, Inter, Minus}
 use Rattle.attr_rules.specs.declared.kinds.Kind.{Kind}
+use Rattle.code_sets.specs.Members.{has_code}
 use Rattle.equation_law.specs.declared.coding.Single.{Single as CodedSingle}
+use Rattle.equation_law.specs.declared.coding.Single.TheVariants as single
 use Rattle.equation_law.specs.declared.coding.Value.{Value as CodedValue}
+use Rattle.equation_law.specs.declared.coding.Value.TheVariants as coded
 use Rattle.equation_law.specs.declared.system.System.{System as KeptSystem}
 use Rattle.equation_law.specs.Codes.{AreElements, Naming, nodes_by, single_by, value_by}
 use Rattle.equation_law.specs.Names.{NodeName, Source, node_cmp, text_cmp}
@@ -32,6 +35,27 @@ node_set cs = nodes_set Source cs
 -- coded values stand for these by a naming
 abbrev pub StandFor : Naming → List CodedSingle → List Value → Type 0
 StandFor n list vs = map (single_by n) list ≡ vs
+
+-- the node of a code
+abbrev pub coded_node : ℕ → CodedSingle
+coded_node c = single.Node (record { 0 = c })
+
+-- the codes of the nodes in a value
+abbrev pub node_codes : CodedValue → List ℕ
+node_codes (coded.Truth b) = []
+node_codes (coded.Int z) = []
+node_codes (coded.Text n) = []
+node_codes (coded.Node n) = n.0 ∷ []
+node_codes (coded.Texts cs) = []
+node_codes (coded.Nodes cs) = cs
+
+-- each code of a node in the second value is one of the first; null is no node
+abbrev pub HasNodesOf : CodedValue → CodedValue → Type 0
+HasNodesOf v w = (c : ℕ) → 0 < c → has_code (node_codes w) c ≡ true → has_code (node_codes v) c ≡ true
+
+-- each of the third is one of either of two
+abbrev pub HasNodesOfBoth : CodedValue → CodedValue → CodedValue → Type 0
+HasNodesOfBoth v w set = (c : ℕ) → 0 < c → has_code (node_codes set) c ≡ true → (has_code (node_codes v) c ≡ true) ⊎ (has_code (node_codes w) c ≡ true)
 
 -- it holds in the program of each system where the elements of the set are coded well
 abbrev pub WhereCoded : CodedValue → (Program → Type 0) → Type 0

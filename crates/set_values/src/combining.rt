@@ -2,7 +2,7 @@
 ghost use Rattle.std.specs.Prelude.{◌≡◌, ◌||◌, IfOk};
 ghost use Rattle.code_sets.specs.Members.{AreMade};
 ghost use Rattle.equation_law.specs.Codes.{AreElements, ByEachNaming, value_by};
-ghost use Rattle.set_values.specs.CodedSets.{WhereBothCoded, made_by, with_operator};
+ghost use Rattle.set_values.specs.CodedSets.{HasNodesOfBoth, WhereBothCoded, made_by, with_operator};
 
 use attr_rules::{Kind, SetOperator};
 use code_sets::Codes;
@@ -44,6 +44,7 @@ pub fn set_operate(
 ) -> Result<Value, Memory>
     ensures value { IfOk result (λ set. WhereBothCoded left right (λ p. ByEachNaming p (λ n. value_by n set ≡ made_by n operator kind left right))) }
     ensures elements { IfOk result (λ set. WhereBothCoded left right (λ p. AreElements p set)) }
+    ensures nodes { IfOk result (λ set. WhereBothCoded left right (λ p. HasNodesOfBoth left right set)) }
 {
     match kind {
         Kind::Texts => {

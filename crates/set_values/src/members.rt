@@ -7,7 +7,7 @@ ghost use Rattle.equation_law.specs.Program.{Program, text_of};
 ghost use Rattle.equation_law.specs.Sets.{has};
 ghost use Rattle.equation_law.specs.Systems.{program_of};
 ghost use Rattle.equation_law.specs.Values as spec;
-ghost use Rattle.set_values.specs.CodedSets.{WhereCoded, nodes_set, text_set};
+ghost use Rattle.set_values.specs.CodedSets.{HasNodesOf, WhereCoded, nodes_set, text_set};
 
 use attr_rules::TextId;
 use code_sets::{Code, Codes};
@@ -31,6 +31,7 @@ pub fn known_text(system: &System, number: TextId) -> Code
 pub fn single_set(alloc: Global, system: &System, value: &Value) -> Result<Value, Memory>
     ensures value { IfOk result (λ set. ByEachNaming (program_of system.now) (λ n. value_by n set ≡ spec.single (value_by n value.now))) }
     ensures elements { IfOk result (AreElements (program_of system.now)) }
+    ensures nodes { IfOk result (HasNodesOf value.now) }
 {
     match value {
         Value::Text(number) => Ok(Value::Texts(Codes::one(alloc, known_text(system, *number))?)),

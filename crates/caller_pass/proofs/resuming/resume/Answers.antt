@@ -18,4 +18,4 @@ pub resume_single-requires-clause-saved : goal.resume_single-requires-clause-sav
 resume_single-requires-clause-saved c = c.requires.left.saved
 
 pub returns-in-None-clause-left : goal.returns-in-None-clause-left
-returns-in-None-clause-left c = record { saved = c.resume_single.ensures.saved; survey = survey_later (program_of c.args.system.now) (told_by c.args.desk.now) (told_by c.resume_single.new.desk) c.resume_single.ensures.evaluates.kept.values c.resume_single.ensures.evaluates.kept.names c.args.i c.args.left.now.survey c.requires.left.survey }
+returns-in-None-clause-left c = record { saved = c.resume_single.ensures.saved; survey = survey_later (program_of c.args.system.now) (told_by c.args.desk.now) (told_by c.resume_single.new.desk) c.resume_single.ensures.evaluates.kept.values c.resume_single.ensures.evaluates.kept.names c.resume_single.ensures.evaluates.kept.known c.args.i c.args.left.now.survey c.requires.left.survey }

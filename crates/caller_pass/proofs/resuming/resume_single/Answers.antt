@@ -1,17 +1,20 @@
-use Rattle.std.proofs.Common.{◌≡◌, None, sym, subst}
+use Rattle.std.proofs.Common.{◌≡◌, None, IfSome, sym, subst}
+use Rattle.std.proofs.lemmas.Option.{IfSome_then}
 use Rattle.equation_law.specs.declared.system.System.{System}
 use Rattle.equation_law.specs.declared.coding.Instance.{Instance as CodedInstance}
 use Rattle.equation_law.specs.declared.coding.Instance.TheVariants.{Attr as attribute_at}
-use Rattle.equation_law.specs.Codes.{instance_of, source_names}
+use Rattle.equation_law.specs.Codes.{codes_in, instance_of, source_names}
 use Rattle.equation_law.specs.Equations.{collection_of}
-use Rattle.equation_law.specs.Program.{text_of}
+use Rattle.equation_law.specs.Program.{attribute_parameters, text_of}
 use Rattle.equation_law.specs.Reading.{IsSound}
 use Rattle.equation_law.specs.Systems.{program_of}
+use Rattle.equation_law.proofs.Grown.{each_codes, each_instance}
 use Rattle.expr_eval.specs.Saved.{AreSaved}
 use Rattle.expr_eval.specs.Sites.{EvaluatesInstance}
-use Rattle.inherited_walk.specs.Sites.{FindsEquation}
+use Rattle.inherited_walk.specs.Sites.{FindsEquation, IsSourceSite}
 use Rattle.memo_cells.specs.Working.{Held, told_by}
 use Rattle.circular_eval.proofs.Tied.{no_collection}
+use Rattle.caller_pass.proofs.Sites.{site_known}
 use Rattle.caller_pass.proofs.resuming.resume_single.Goals as goal
 
 pub resume_at-requires-clause-sound : goal.resume_at-requires-clause-sound
@@ -24,6 +27,15 @@ pub resume_at-requires-clause-found : goal.resume_at-requires-clause-found
 resume_at-requires-clause-found c = λ n is.
     let found = subst (λ (s : System). FindsEquation (program_of s) c.in-Attr.attr c.in-Attr.node c.in-Attr.args c.site-site.result) c.requires.same c.site-site.ensures.found in
     found n (c.requires.sound.named n (subst (λ (d : Held). (told_by d).names n) c.site-site.ensures.same is))
+
+-- the equation is read at a source node, with arguments that the desk knows as it knows every code
+pub resume_at-requires-clause-known : goal.resume_at-requires-clause-known
+resume_at-requires-clause-known c =
+    let p = program_of c.args.system.now in
+    let e = c.site-site.new.self in
+    let a = c.in-Attr.attr.0 in
+    let at = subst (λ (s : System). IfSome c.site-site.result (IsSourceSite (program_of s) c.in-Attr.args)) c.requires.same c.site-site.ensures.source in
+    IfSome_then c.site-site.result at (site_known p (told_by e) (resume_at-requires-clause-sound c) a (each_codes (told_by e) (λ k. tt) (attribute_parameters p a) (codes_in c.in-Attr.args)))
 
 pub resume_at-requires-clause-single : goal.resume_at-requires-clause-single
 resume_at-requires-clause-single c =
@@ -43,3 +55,6 @@ returns-in-Query-clause-evaluates c = c.resume_instance.ensures.evaluates
 
 pub resume_instance-requires-clause-single : goal.resume_instance-requires-clause-single
 resume_instance-requires-clause-single c = λ n is. let p = program_of c.args.system.now in no_collection p (source_names (text_of p)) n c.args.i c.requires.single
+
+pub resume_instance-requires-clause-known : goal.resume_instance-requires-clause-known
+resume_instance-requires-clause-known c = each_instance (told_by c.args.desk.now) (λ k. tt) (program_of c.args.system.now) c.args.i

@@ -11,7 +11,7 @@ use Rattle.circular_eval.proofs.Settling.{came_here}
 use Rattle.circular_eval.proofs.Tied.{no_collection}
 use Rattle.equation_law.specs.Systems.{program_of}
 use Rattle.memo_cells.proofs.Holding.{reads_itself}
-use Rattle.circular_eval.proofs.Looking.{here_sound, saved_here, saved_there}
+use Rattle.circular_eval.proofs.Looking.{here_instance, here_sound, saved_here, saved_there}
 use Rattle.circular_eval.proofs.reading.evaluate.Goals as goal
 
 pub resume_instance-turn-requires-clause-sound : goal.resume_instance-turn-requires-clause-sound
@@ -19,6 +19,9 @@ resume_instance-turn-requires-clause-sound g c = here_sound (g.W.Words.held c.ar
 
 pub resume_instance-turn-requires-clause-coded : goal.resume_instance-turn-requires-clause-coded
 resume_instance-turn-requires-clause-coded g c = c.requires.coded
+
+pub resume_instance-turn-requires-clause-known : goal.resume_instance-turn-requires-clause-known
+resume_instance-turn-requires-clause-known g c = here_instance {S = Unit} (g.W.Words.held c.args.work.now) c.args.system.now c.args.local.now.members.entries (λ u. Unit {0}) (program_of c.args.system.now) c.args.i.now
 
 pub resume_instance-turn-requires-clause-single : goal.resume_instance-turn-requires-clause-single
 resume_instance-turn-requires-clause-single g c = λ n is. no_collection (program_of c.args.system.now) (source_names (text_of (program_of c.args.system.now))) n c.args.i.now c.requires.single

@@ -4,6 +4,7 @@ use Rattle.equation_law.specs.Checked.{IsInstance}
 use Rattle.equation_law.specs.Codes.{ByEachNaming, IsCoded, instance_by}
 use Rattle.equation_law.specs.Program.{Program}
 use Rattle.equation_law.specs.Reading.{Settles}
+use Rattle.equation_law.proofs.Grown.{each_instance}
 use Rattle.memo_cells.specs.declared.view.Frame.{Frame}
 use Rattle.memo_cells.specs.Working.{program_at}
 use Rattle.memo_cells.proofs.Claiming.{claims_same}
@@ -34,7 +35,7 @@ returns-in_err-add g c =
 pub returns-in-Some : goal.returns-in-Some
 returns-in-Some g c =
     let on1 = (reads g.W.Words.held c.args.work.now c.settled.new.self (g.W.Reader.tells c.args.work.now) (g.W.Reader.tells c.settled.new.self) (g.met.W.Work.tells_pass c.args.work.now) (g.met.W.Work.tells_pass c.settled.new.self) c.args.i c.settled.result c.settled.ensures c.requires.ready.own) in
-    let told = c.in_ok-value.ensures.answer (program_at (g.W.Words.held c.args.work.now)) (work_sound g.W.Words.held c.args.work.now (g.W.Reader.tells c.args.work.now) (g.met.W.Work.tells_pass c.args.work.now) c.requires.ready.own) (new_coded c.args.system.now (g.W.Words.held c.args.work.now) c.args.local.now c.requires.ready c.args.i c.args.by c.requires.new) in
+    let told = c.in_ok-value.ensures.answer (program_at (g.W.Words.held c.args.work.now)) (work_sound g.W.Words.held c.args.work.now (g.W.Reader.tells c.args.work.now) (g.met.W.Work.tells_pass c.args.work.now) c.requires.ready.own) (new_coded c.args.system.now (g.W.Words.held c.args.work.now) c.args.local.now c.requires.ready c.args.i c.args.by c.requires.new) (each_instance (g.W.Reader.tells c.args.work.now) (g.met.W.Work.tells_pass c.args.work.now).knows (program_at (g.W.Words.held c.args.work.now)) c.args.i) in
     let seen = subst (λ (o : Option CodedValue). Settles (program_at (g.W.Words.held c.args.work.now)) (g.W.Reader.tells c.settled.new.self) (λ n. instance_by (program_at (g.W.Words.held c.args.work.now)) n c.args.i) (Ok o)) c.in-Some.is told in
     admitted c.args.system.now (g.W.Words.held c.args.work.now) c.args.local.now c.requires.ready c.args.i c.args.by c.requires.new (g.W.Words.held c.settled.new.self) on1.on (λ names named. claims_same (program_at (g.W.Words.held c.args.work.now)) (instance_by (program_at (g.W.Words.held c.args.work.now)) names c.args.local.now.start) (g.W.Words.held c.args.work.now).view (g.W.Words.held c.settled.new.self).view on1.claims) c.add.new.self (record { slot = None; value = c.in-Some.value; by = c.args.by }) refl (settled_fit c.args.system.now (g.W.Words.held c.args.work.now) c.args.local.now c.requires.ready c.args.i c.args.by c.requires.new g.W.Words.held c.settled.new.self (g.W.Reader.tells c.settled.new.self) (g.met.W.Work.tells_pass c.settled.new.self) on1.on c.in-Some.value seen (record { slot = None; value = c.in-Some.value; by = c.args.by }) refl refl) c.add.ensures.few c.add.ensures.start c.add.ensures.need c.add.ensures.saved c.in_ok-add.ensures.added c.in_ok-add.field-0
 

@@ -79,10 +79,11 @@ upwards-preserved g c =
       same = λ names in_it.
           let before = kept.names names in_it in
           let of : class_behind p (reference_by names.node c.upwards.at.0) ≡ Some c.in_ok-own.own = sym (own.class names before) ∙ c.in_ok-own.was in
-          let high = c.made_up.ensures.answer p own.kept.sound far names in_it (ap is_some of) in
+          let high = c.made_up.ensures.answer p own.kept.sound far (own.kept.known c.upwards.at.0 i.known) names in_it (ap is_some of) in
           i.same names (own.kept.names names before)
           ∙ root_higher p c.args.class few (kept.sound.named names in_it) c.upwards.at.0 far c.in_ok-own.own of off c.made_up.result high
           ∙ ap (λ k. root_over p (Some c.args.class) (reference_by names.node k)) (sym c.node_above-at.ensures);
+      known = subst (g.R.Reader.tells c.made_up.new.self).knows (sym c.node_above-at.ensures) (c.made_up.ensures.known p own.kept.sound far (own.kept.known c.upwards.at.0 i.known));
     }
 
 pub returns : goal.returns

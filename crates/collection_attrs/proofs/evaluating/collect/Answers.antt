@@ -3,7 +3,7 @@ use Rattle.equation_law.specs.Systems.{program_of}
 use Rattle.equation_law.proofs.Grown.{grows_on}
 use Rattle.collection_attrs.specs.Walks.{IsWalk, Walk}
 use Rattle.collection_attrs.proofs.Found.{walk_for_each}
-use Rattle.collection_attrs.proofs.Grown.{naming_of, survey_new}
+use Rattle.collection_attrs.proofs.Grown.{survey_new}
 use Rattle.collection_attrs.proofs.Surveying.{rootless}
 use Rattle.collection_attrs.proofs.Walked.{walk_begins}
 use Rattle.collection_attrs.proofs.evaluating.collect.Goals as goal
@@ -30,7 +30,7 @@ go_on-requires-clause-collection g c =
     let d = c.requires.collection.0 in
     let of = c.requires.collection.1 in
     let for = walk_for_each p t d c.new-offers.result c.args.of.attr.0 c.in-Some.root (ap (λ (w : Walk). w.attribute) c.new-offers.ensures) (ap (λ (w : Walk). w.root) c.new-offers.ensures) (found.offers d of) in
-    (d, of, for, survey_new t (naming_of found.kept.sound) of c.new-survey.ensures)
+    (d, of, for, survey_new t found.kept.sound of c.new-survey.ensures)
 
 pub returns : goal.returns
 returns g c = λ x is.

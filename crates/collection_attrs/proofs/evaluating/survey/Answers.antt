@@ -3,8 +3,12 @@ use Rattle.equation_law.specs.Codes.{instance_by}
 use Rattle.equation_law.specs.Systems.{program_of}
 use Rattle.equation_law.proofs.Sites.{demanded_of_collection}
 use Rattle.collection_attrs.proofs.Grown.{naming_of}
+use Rattle.collection_attrs.proofs.Known.{node_known_of}
 use Rattle.collection_attrs.proofs.Outcomes.{evaluates_as}
 use Rattle.collection_attrs.proofs.evaluating.survey.Goals as goal
+
+pub collect-requires-clause-known : goal.collect-requires-clause-known
+collect-requires-clause-known g c = node_known_of (program_of c.args.system.now) (g.R.Reader.tells c.args.reader.now) c.args.i.now c.in-Some.ensures.node c.requires.known
 
 pub returns : goal.returns
 returns g c =

@@ -18,5 +18,6 @@ returns-in-None-clause-evaluates g c = λ e is.
       answer = record {
         comes = λ names in_it. subst (λ (x : Expression). Comes (g.R.Reader.tells c.args.reader.now).has (read_at p (place_kept names (suc c.args.node) []) x) (Truth true)) (sym literal) ([], gives);
         coded = tt;
+        known = tt;
       };
     }

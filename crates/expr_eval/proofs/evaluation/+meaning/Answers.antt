@@ -1,9 +1,10 @@
 -- What the forms' parts that were evaluated give.
-use Rattle.std.proofs.Common.{◌<◌, List, [], slice_set, refl, arith, ap, subst, sym, ◌∙◌}
+use Rattle.std.proofs.Common.{◌≤◌, ◌<◌, List, [], length, slice_set, refl, arith, ap, rules, subst, sym, ◌∙◌}
 use Rattle.attr_rules.specs.Expression.{expression_of}
 use Rattle.equation_law.specs.Codes.{Naming, source_names, value_by}
 use Rattle.equation_law.specs.Systems.{program_of}
-use Rattle.expr_eval.proofs.Forms.{advances_read, advances_self, advances_then, and_ends, and_goes, and_stops, boxed, call_boxed, call_goes, call_stops, call_stops_at, came_as, choice_boxed, if_otherwise, if_stops, if_then, leaf_reads, node_goes, node_stops, none_said, one_makes, or_ends, or_goes, or_stops, out_of_memory, read_as, said, said_is, token_goes, token_stops, two_make, two_stop}
+use Rattle.expr_eval.proofs.Forms.{advances_read, advances_self, advances_then, and_ends, and_goes, and_stops, boxed, call_boxed, call_goes, call_stops, call_stops_at, came_as, choice_boxed, context_later, elements_later, if_otherwise, if_stops, if_then, leaf_reads, node_goes, node_stops, none_said, one_makes, or_ends, or_goes, or_stops, out_of_memory, read_as, said, said_is, single_later, token_goes, token_stops, two_make, two_stop}
+use Rattle.tree_arena.specs.Nodes.{most_nodes}
 use Rattle.std.specs.Prelude.{Vec}
 use Rattle.std.specs.declared.alloc.Global.{Global}
 use Rattle.equation_law.specs.declared.coding.Single.{Single}
@@ -14,8 +15,9 @@ use Rattle.expr_eval.specs.Saved.{body_of, making_of}
 use Rattle.attr_rules.specs.Types.{parameter_kinds}
 use Rattle.expr_eval.proofs.Given.{boxed_arguments, first_halts, for_parameters, none_given, one_given, one_more, rest_halts, room_behind, said_arguments, thrown_arguments}
 use Rattle.expr_eval.proofs.Growing.{ranged_more, stands_more}
+use Rattle.expr_eval.proofs.Knowing.{leaf_known}
 use Rattle.expr_eval.proofs.Over.{done_further}
-use Rattle.expr_eval.proofs.Resuming.{going_is, halted, handed, loses, over_by, over_ends, over_halts, puts, range_stops, read_at_element, stood_first, stops_at, taken, taken_in}
+use Rattle.expr_eval.proofs.Resuming.{element_there, going_is, halted, handed, loses, over_by, over_ends, over_halts, puts, range_stops, read_at_element, stood_first, stops_at, taken, taken_in}
 use Rattle.expr_eval.proofs.evaluation.+meaning.Goals as goal
 
 any_names : Naming
@@ -34,7 +36,7 @@ given-behind-requires-clause-few g t c =
     room_behind (program_of c.args.context.now.system.now) c.args.parameters c.in_ok-behind-in-More.behind c.in-Some.ensures c.rest.ensures c.in_ok-behind-in-More.ensures.is.row c.in_ok-behind-in-More.ensures.is.codes
 
 pub given-returns-in-End : goal.given-returns-in-End
-given-returns-in-End g t c = said_arguments c.in-End.is (none_given c.none.result c.requires c.none.ensures.row c.none.ensures.codes)
+given-returns-in-End g t c = said_arguments c.in-End.is (none_given c.none.result c.requires.ready c.none.ensures.row c.none.ensures.codes)
 
 pub given-returns-in-Some : goal.given-returns-in-Some
 given-returns-in-Some g t c =
@@ -55,16 +57,26 @@ at_elements-returns-in_err-said-clause-over g t c =
     handed (GoesOver system _ _ (place_in c.args.context.now) c.args.making (expression_of c.args.body.now) c.args.list.now _) c.from_residual.ensures
     (stops_at c.args.context.now _ c.get-element.result c.elements.stand _ now.1 now.2 within refl refl c.get-element.ensures (came_as c.in_err-said.was c.with_element.ensures.reads))
 
+pub at_elements-with_element-requires : goal.at_elements-with_element-requires
+at_elements-with_element-requires g t c =
+    let few : length (program_of c.args.context.now.system.now).tree ≤ most_nodes = omega (arith, c.len.ensures.few, c.len.ensures.number, ap length c.tree.ensures) in
+    let now = c.elements.invariant in
+    let known = context_later now.1 c.args.context.now c.requires.known in
+    let element = element_there c.args.context.now c.get-element.result c.args.list.now c.elements.stand.next now.1 few c.get-element.ensures c.requires.elements in
+    search (rules, known, element)
+
 pub at_elements-elements-preserved : goal.at_elements-elements-preserved
 at_elements-elements-preserved g t c =
     let system = c.args.context.now.system.now in
     let now = c.elements.invariant in
     let within : c.elements.stand.next < c.args.list.now.count = omega (arith, c.elements-test.true) in
     let said = came_as c.in_ok-said.was c.with_element.ensures.reads in
-    let taken = c.in_ok-take_in.ensures in (
+    let taken = c.in_ok-take_in.ensures in
+    let element = element_there c.args.context.now c.get-element.result c.args.list.now c.elements.stand.next now.1 (omega (arith, c.len.ensures.few, c.len.ensures.number, ap length c.tree.ensures)) c.get-element.ensures c.requires.elements in (
       subst (λ (v : Vec Single Global). Rooms c.args.context.now.names.now v.items) (sym taken.names) c.with_element.ensures.room,
       loses c.leave.new.self (advances_then now.1 said.kept) c.leave.ensures,
-      taken_in c.args.context.now c.take_in.new.stand c.get-element.result c.in_ok-said.said said.kept.sound.sound c.get-element.ensures (stands_more said.kept.values said.kept.names now.2) within said.is taken.next taken.so_far taken.coded,
+      taken_in c.args.context.now c.take_in.new.stand c.get-element.result c.in_ok-said.said said.kept.sound.sound c.get-element.ensures
+          (single_later said.kept c.get-element.result element) (stands_more said.kept.values said.kept.names said.kept.known now.2) within said.is taken.next taken.so_far taken.coded,
     )
 
 pub at_elements-elements-smaller : goal.at_elements-elements-smaller
@@ -78,23 +90,26 @@ pub over_form-returns-in_err-put-in-Ok : goal.over_form-returns-in_err-put-in-Ok
 over_form-returns-in_err-put-in-Ok g t c =
     let stood = c.in_ok-list.ensures in
     let over = over_by c.making_of.ensures (sym c.requires.body) c.in-Ok.ensures.over in
+    let kept_to = advances_then stood.kept over.kept in
     let ranged = ranged_more over.kept.values over.kept.names stood.is.ranged in
-    out_of_memory (puts c.put.new.self _ (advances_then stood.kept over.kept) c.put.ensures (going_is c.args.context.now c.args.form c.in_ok-list.list c.at_elements.new.stand c.in-Ok.ensures.room ranged over.is.0)) c.from_residual-in_err-put-in-Ok.ensures
+    out_of_memory (puts c.put.new.self _ kept_to c.put.ensures (going_is c.args.context.now c.args.form c.in_ok-list.list c.at_elements.new.stand c.in-Ok.ensures.room (context_later kept_to c.args.context.now c.requires.known) (elements_later over.kept c.in_ok-list.list stood.is.elements) ranged over.is.0)) c.from_residual-in_err-put-in-Ok.ensures
 
 pub over_form-returns-in_err-put-in-Err-Need : goal.over_form-returns-in_err-put-in-Err-Need
 over_form-returns-in_err-put-in-Err-Need g t c =
     let stood = c.in_ok-list.ensures in
     let over = over_by c.making_of.ensures (sym c.requires.body) (halted c.in-Err-Need.field-0-is c.in-Err-Need.ensures.over) in
+    let kept_to = advances_then stood.kept over.kept in
     let ranged = ranged_more over.kept.values over.kept.names stood.is.ranged in
-    out_of_memory (puts c.put-in-Err-Need.new.self _ (advances_then stood.kept over.kept) c.put-in-Err-Need.ensures (going_is c.args.context.now c.args.form c.in_ok-list.list c.at_elements.new.stand c.in-Err-Need.ensures.room ranged over.is.0)) c.from_residual-in_err-put-in-Err-Need.ensures
+    out_of_memory (puts c.put-in-Err-Need.new.self _ kept_to c.put-in-Err-Need.ensures (going_is c.args.context.now c.args.form c.in_ok-list.list c.at_elements.new.stand c.in-Err-Need.ensures.room (context_later kept_to c.args.context.now c.requires.known) (elements_later over.kept c.in_ok-list.list stood.is.elements) ranged over.is.0)) c.from_residual-in_err-put-in-Err-Need.ensures
 
 pub over_form-returns-in_ok-put-in-Ok : goal.over_form-returns-in_ok-put-in-Ok
 over_form-returns-in_ok-put-in-Ok g t c =
     let system = c.args.context.now.system.now in
     let stood = c.in_ok-list.ensures in
     let over = over_by c.making_of.ensures (sym c.requires.body) c.in-Ok.ensures.over in
+    let kept_to = advances_then stood.kept over.kept in
     let ranged = ranged_more over.kept.values over.kept.names stood.is.ranged in
-    let kept = puts c.put.new.self _ (advances_then stood.kept over.kept) c.put.ensures (going_is c.args.context.now c.args.form c.in_ok-list.list c.at_elements.new.stand c.in-Ok.ensures.room ranged over.is.0) in
+    let kept = puts c.put.new.self _ kept_to c.put.ensures (going_is c.args.context.now c.args.form c.in_ok-list.list c.at_elements.new.stand c.in-Ok.ensures.room (context_later kept_to c.args.context.now c.requires.known) (elements_later over.kept c.in_ok-list.list stood.is.elements) ranged over.is.0) in
     over_ends system (place_in c.args.context.now) (expression_of c.args.form.now) c.requires.form c.in_ok-value-in-Ok.value kept ranged over.is.0 over.is.1 c.in_ok-value-in-Ok.ensures.same (c.in_ok-value-in-Ok.ensures.elements (program_of system) over.is.0.coded)
 
 pub over_form-returns-in_ok-put-in-Err-Need : goal.over_form-returns-in_ok-put-in-Err-Need
@@ -102,8 +117,9 @@ over_form-returns-in_ok-put-in-Err-Need g t c =
     let system = c.args.context.now.system.now in
     let stood = c.in_ok-list.ensures in
     let over = over_by c.making_of.ensures (sym c.requires.body) (halted c.in-Err-Need.field-0-is c.in-Err-Need.ensures.over) in
+    let kept_to = advances_then stood.kept over.kept in
     let ranged = ranged_more over.kept.values over.kept.names stood.is.ranged in
-    let kept = puts c.put-in-Err-Need.new.self _ (advances_then stood.kept over.kept) c.put-in-Err-Need.ensures (going_is c.args.context.now c.args.form c.in_ok-list.list c.at_elements.new.stand c.in-Err-Need.ensures.room ranged over.is.0) in
+    let kept = puts c.put-in-Err-Need.new.self _ kept_to c.put-in-Err-Need.ensures (going_is c.args.context.now c.args.form c.in_ok-list.list c.at_elements.new.stand c.in-Err-Need.ensures.room (context_later kept_to c.args.context.now c.requires.known) (elements_later over.kept c.in_ok-list.list stood.is.elements) ranged over.is.0) in
     over_halts system (place_in c.args.context.now) (expression_of c.args.form.now) c.requires.form c.in-Err-Need.instance kept ranged over.is.0 over.is.1 over.is.2
 
 pub standing-returns-in-Some : goal.standing-returns-in-Some
@@ -124,7 +140,7 @@ standing-returns-in_err-from-in-None g t c =
 pub standing-returns-in_ok-at_first-in-None : goal.standing-returns-in_ok-at_first-in-None
 standing-returns-in_ok-at_first-in-None g t c =
     let range = read_as (sym c.requires.range) (came_as c.in_ok-from-in-None.was c.meaning.ensures) in
-    let stood = stood_first c.args.context.now (expression_of c.args.form.now) range c.in_ok-at_first-in-None.ensures.kept c.in_ok-at_first-in-None.ensures.elements c.in_ok-at_first-in-None.ensures.first in
+    let stood = stood_first c.args.context.now (expression_of c.args.form.now) range c.in_ok-at_first-in-None.ensures.kept c.in_ok-at_first-in-None.ensures.elements c.in_ok-at_first-in-None.ensures.known c.in_ok-at_first-in-None.ensures.first in
     record { kept = advances_then (loses c.take.new.self (advances_self c.requires.ready) c.in-None.ensures.loses) stood.kept; is = stood.is }
 
 pub standing-returns-in_err-at_first-in-None : goal.standing-returns-in_err-at_first-in-None
@@ -139,7 +155,9 @@ pub with_element-returns-clause-reads : goal.with_element-returns-clause-reads
 with_element-returns-clause-reads g t c = read_at_element c.args.context.now c.args.element (c.deref.ensures.value ∙ ap (λ (xs : List Single). slice_set xs 0 c.args.element) c.requires.room.1) c.meaning.ensures
 
 pub meaning-returns-in-Leaf : goal.meaning-returns-in-Leaf
-meaning-returns-in-Leaf g t c = leaf_reads c.requires c.in-Leaf.ensures c.put_leaf.ensures
+meaning-returns-in-Leaf g t c =
+    let few : length (program_of c.args.context.now.system.now).tree ≤ most_nodes = omega (arith, c.len.ensures.few, c.len.ensures.number, ap length c.tree.ensures) in
+    leaf_reads c.requires.ready c.in-Leaf.ensures c.put_leaf.ensures (leaf_known c.requires.ready.sound few c.args.context.now (expression_of c.args.expression.now) c.requires.known)
 
 pub meaning-returns-in-One : goal.meaning-returns-in-One
 meaning-returns-in-One g t c = one_makes c.args.expression.now c.in-One.ensures c.meaning.ensures c.make_whole.ensures
@@ -157,7 +175,7 @@ pub put_of_node-returns-in-Err : goal.put_of_node-returns-in-Err
 put_of_node-returns-in-Err g t c = node_stops c.args.form.now c.requires.part c.in-Err.is c.meaning.ensures
 
 pub meaning-returns-in-Ok-came : goal.meaning-returns-in-Ok-came
-meaning-returns-in-Ok-came g t c = two_make c.args.expression.now c.in-Two.ensures c.in-Ok-came.is c.meaning-in-Two.ensures c.meaning-in-Ok-came.ensures c.make_both.ensures
+meaning-returns-in-Ok-came g t c = two_make c.args.expression.now c.in-Two.ensures c.in-Ok-came.is c.meaning-in-Two.ensures c.meaning-in-Ok-came.ensures (omega (arith, c.len.ensures.few, c.len.ensures.number, ap length c.tree.ensures)) c.make_both.ensures
 
 pub meaning-returns-in-Err-came : goal.meaning-returns-in-Err-came
 meaning-returns-in-Err-came g t c = two_stop c.args.expression.now c.in-Two.ensures c.in-Err-came.is c.meaning-in-Two.ensures

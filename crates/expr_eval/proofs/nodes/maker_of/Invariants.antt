@@ -11,6 +11,7 @@ abbrev pub invariant-above : goal.invariant-above
 invariant-above g l =
     let p = program_of l.system in
     Grows p (g.R.Reader.tells l.initial.reader) (g.R.Reader.tells l.reader) × (most_nodes < l.at.0) × ByEachIn (g.R.Reader.tells l.reader) (λ n. AreBeside p (reference_by n.node l.fn.node.0) (reference_by n.node l.at.0))
+    × (g.R.Reader.tells l.reader).knows l.at.0
 
 abbrev pub decreases-above : goal.decreases-above
 decreases-above g l = (g.R.Reader.tells l.reader).height l.at.0

@@ -8,7 +8,7 @@ pub returns-in-Has : goal.returns-in-Has
 returns-in-Has g c = node_said c.in-Has.is (has_read c.source.result c.child_of-in-Has.ensures c.source.ensures c.is_some.ensures)
 
 pub returns-then-is_of : goal.returns-then-is_of
-returns-then-is_of g c = node_said c.in-Cast.is (cast_read c.is_of.ensures c.if-is_of.true)
+returns-then-is_of g c = node_said c.in-Cast.is (cast_read c.is_of.ensures c.if-is_of.true c.requires.known)
 
 pub returns-else-is_of : goal.returns-else-is_of
 returns-else-is_of g c = node_said c.in-Cast.is (no_cast_read c.is_of.ensures c.if-is_of.false)

@@ -4,6 +4,7 @@ use Rattle.tree_arena.specs.Nodes.{most_nodes}
 use Rattle.equation_law.specs.Systems.{program_of}
 use Rattle.equation_law.proofs.Pooled.{first_text}
 use Rattle.expr_eval.proofs.Calls.{token_given}
+use Rattle.expr_eval.proofs.Knowing.{token_known}
 use Rattle.expr_eval.proofs.MadeNodes.{token_classless, token_later}
 use Rattle.expr_eval.proofs.nodes.put_token.Goals as goal
 
@@ -11,13 +12,18 @@ pub token-requires : goal.token-requires
 token-requires g c = ltb-false most_nodes c.args.node.0 (sym c.is_made.ensures ∙ c.if-not-is_made.true)
 
 pub returns-then-not-is_made : goal.returns-then-not-is_made
-returns-then-not-is_made g c = token_given c.requires (λ n named. c.token.ensures.value n (c.requires.named n named)) (c.token.ensures.coded (program_of c.args.context.now.system.now))
+returns-then-not-is_made g c =
+    let sound = c.requires.sound in
+    token_given sound (λ n named. c.token.ensures.value n (sound.named n named)) (c.token.ensures.coded (program_of c.args.context.now.system.now)) (token_known sound c.token.result c.args.kind c.args.component.0 c.args.node.0 c.token.ensures.value)
 
 pub put_made_token-requires-clause-sound : goal.put_made_token-requires-clause-sound
 put_made_token-requires-clause-sound g c = c.in-Some.ensures.kept.sound
 
 pub put_made_token-requires-clause-made : goal.put_made_token-requires-clause-made
 put_made_token-requires-clause-made g c = ltb-true most_nodes c.args.node.0 (sym c.is_made.ensures ∙ c.if-not-is_made.false)
+
+pub put_made_token-requires-clause-known : goal.put_made_token-requires-clause-known
+put_made_token-requires-clause-known g c = c.in-Some.ensures.kept.known c.args.node.0 c.requires.known
 
 pub put_made_token-requires-clause-class : goal.put_made_token-requires-clause-class
 put_made_token-requires-clause-class g c = λ n named. sym (c.in-Some.ensures.class n named)

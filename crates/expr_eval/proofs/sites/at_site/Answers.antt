@@ -1,4 +1,4 @@
-use Rattle.std.proofs.Common.{Option, refl, subst}
+use Rattle.std.proofs.Common.{Option, arith, refl, subst}
 use Rattle.std.proofs.lemmas.Option.{slice_get_within}
 use Rattle.attr_rules.specs.Rules.{bodies}
 use Rattle.equation_law.specs.declared.coding.EqSite.{EqSite}
@@ -20,7 +20,7 @@ pub returns-in-None-clause-resumes : goal.returns-in-None-clause-resumes
 returns-in-None-clause-resumes g c =
     let p = program_of c.args.system.now in
     let found = subst (λ (o : Option EqSite). FindsIn p (g.R.Reader.tells c.args.reader.now) c.args.attr c.args.node c.args.args o) c.in-None.is c.requires.found in
-    none_evaluated p _ (attribute_at c.args.attr c.args.node c.args.args) c.requires.ready c.requires.single found _ tt (λ n. refl)
+    none_evaluated p _ (attribute_at c.args.attr c.args.node c.args.args) c.requires.ready c.requires.single found _ tt (c.requires.ready.sound.sources 0 (omega arith)) (λ n. refl)
 
 pub returns-in_ok-turn-in-Some-clause-resumes : goal.returns-in_ok-turn-in-Some-clause-resumes
 returns-in_ok-turn-in-Some-clause-resumes g c =

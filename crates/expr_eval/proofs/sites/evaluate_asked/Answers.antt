@@ -10,7 +10,7 @@ use Rattle.expr_eval.proofs.sites.evaluate_asked.Goals as goal
 pub returns-then-query-replies-clause-resumes : goal.returns-then-query-replies-clause-resumes
 returns-then-query-replies-clause-resumes g c =
     let p = program_of c.args.system.now in
-    none_evaluated p _ (query_at c.args.query) c.requires (λ n named. refl) (λ n named. past_query p c.args.query.0 (omega (arith, c.replies.ensures.number, c.if-query-replies.true))) _ tt (λ n. refl)
+    none_evaluated p _ (query_at c.args.query) c.requires (λ n named. refl) (λ n named. past_query p c.args.query.0 (omega (arith, c.replies.ensures.number, c.if-query-replies.true))) _ tt (c.requires.sound.sources 0 (omega arith)) (λ n. refl)
 
 pub returns-clause-resumes : goal.returns-clause-resumes
 returns-clause-resumes g c =

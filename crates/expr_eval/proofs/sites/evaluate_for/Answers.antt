@@ -1,9 +1,24 @@
-use Rattle.std.proofs.Common.{Some, ap, sym, ◌∙◌}
+use Rattle.std.proofs.Common.{Some, ap, rules, subst, sym, ◌∙◌}
+use Rattle.std.specs.List.{All}
 use Rattle.attr_rules.specs.Expression.{expression_of, new_arguments_of}
 use Rattle.attr_rules.specs.Rules.{RuleSet, body_at}
 use Rattle.equation_law.specs.Systems.{program_of}
+use Rattle.set_values.specs.Ordered.{KnowsSingle}
+use Rattle.expr_eval.proofs.Knowing.{names_known}
 use Rattle.expr_eval.proofs.Found.{names_made, names_read, not_new, site_evaluated, site_made}
 use Rattle.expr_eval.proofs.sites.evaluate_for.Goals as goal
+
+pub image-requires-clause-known : goal.image-requires-clause-known
+image-requires-clause-known g c =
+    let known = names_known c.requires.ready.sound c.args.attr.0 c.args.site.now _ c.requires.known c.in-Ok.ensures in
+    record { this = c.requires.known.node; names = subst (All (KnowsSingle (g.R.Reader.tells c.args.reader.now))) (sym c.deref.ensures.value) known }
+
+pub meaning-requires : goal.meaning-requires
+meaning-requires g c =
+    let known = names_known c.requires.ready.sound c.args.attr.0 c.args.site.now _ c.requires.known c.in-Ok.ensures in
+    let names = subst (All (KnowsSingle (g.R.Reader.tells c.args.reader.now))) (sym c.deref.ensures.value) known in
+    let node = c.requires.known.node in
+    search (rules, names, node)
 
 pub returns-in-New-clause-reads : goal.returns-in-New-clause-reads
 returns-in-New-clause-reads g c =

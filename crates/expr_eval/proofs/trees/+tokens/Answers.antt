@@ -4,7 +4,7 @@ use Rattle.expr_eval.proofs.NewTokens.{boxed_tokens, child_goes, child_halts, no
 use Rattle.expr_eval.proofs.trees.+tokens.Goals as goal
 
 pub returns-in-End : goal.returns-in-End
-returns-in-End g t c = said_tokens c.in-End.is (none_made c.requires)
+returns-in-End g t c = said_tokens c.in-End.is (none_made c.requires.ready)
 
 pub returns-in_err-value-in-Token : goal.returns-in_err-value-in-Token
 returns-in_err-value-in-Token g t c = thrown_tokens c.from_residual.ensures (said_tokens c.in-Token.is (token_halts (boxed c.deref.ensures (came_as c.in_err-value-in-Token.was c.meaning.ensures))))

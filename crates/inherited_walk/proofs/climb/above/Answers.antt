@@ -15,7 +15,7 @@ returns-in-Some-clause-higher g c =
       | in-Inside w ↦ w.via-is ∙ ap (λ (x : Up). (node_of x, via_of x)) (sym w.in-Inside.is)
       | in-Owner w ↦ w.via-is ∙ ap (λ (x : Up). (node_of x, via_of x)) (sym w.in-Owner.is)
     ] in
-    higher_is p c.requires.sound few c.args.attr c.args.args c.args.node c.requires.made c.made_up.result c.made_up.ensures c.covering_made-site.result c.covering_made-site.ensures.kept (Some c.in-Some.class) c.match-made_up.via at c.in-Some.ensures c.covering_made-site.ensures
+    higher_is p c.requires.sound few c.args.attr c.args.args c.args.node c.requires.made c.requires.known c.made_up.result c.made_up.ensures c.covering_made-site.result c.covering_made-site.ensures.kept (Some c.in-Some.class) c.match-made_up.via at c.in-Some.ensures c.covering_made-site.ensures
 
 pub returns-in-None-clause-higher : goal.returns-in-None-clause-higher
 returns-in-None-clause-higher g c =
@@ -25,7 +25,7 @@ returns-in-None-clause-higher g c =
       | in-Inside w ↦ w.via-is ∙ ap (λ (x : Up). (node_of x, via_of x)) (sym w.in-Inside.is)
       | in-Owner w ↦ w.via-is ∙ ap (λ (x : Up). (node_of x, via_of x)) (sym w.in-Owner.is)
     ] in
-    higher_is p c.requires.sound few c.args.attr c.args.args c.args.node c.requires.made c.made_up.result c.made_up.ensures None (grows_itself c.class_at.ensures.kept.sound) None c.match-made_up.via at c.in-None.ensures refl
+    higher_is p c.requires.sound few c.args.attr c.args.args c.args.node c.requires.made c.requires.known c.made_up.result c.made_up.ensures None (grows_itself c.class_at.ensures.kept.sound) None c.match-made_up.via at c.in-None.ensures refl
 
 pub returns-in-Some-clause-rows : goal.returns-in-Some-clause-rows
 returns-in-Some-clause-rows g c row = covered_rows (program_of c.args.system.now) _ _ c.args.attr c.args.args c.in-Some.class c.match-made_up.via.1 c.match-made_up.via.0 c.args.node c.covering_made-site.result c.covering_made-site.ensures row

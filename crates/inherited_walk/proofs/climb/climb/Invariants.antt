@@ -12,6 +12,7 @@ invariant-loop-at g l = record {
   kept : Grows (program_of l.system) (g.R.Reader.tells l.initial.reader) (g.R.Reader.tells l.reader);
   same : ByEachIn (g.R.Reader.tells l.reader) (λ n. (root : Reference) → inherited_at (program_of l.system) l.attr.0 (arguments_for (program_of l.system) n l.attr.0 l.args) root (reference_by n.node l.initial.at.0)
       ≡ inherited_at (program_of l.system) l.attr.0 (arguments_for (program_of l.system) n l.attr.0 l.args) root (reference_by n.node l.at.0));
+  reached : (g.R.Reader.tells l.reader).knows l.at.0;
 }
 
 abbrev pub decreases-loop-at : goal.decreases-loop-at

@@ -4,7 +4,7 @@ use Rattle.attr_rules.specs.Types.{parameter_kinds}
 use Rattle.equation_law.specs.Codes.{IsRow, codes_in, reference_by}
 use Rattle.equation_law.specs.Names.{At, Made, Reference, Row, list_of}
 use Rattle.equation_law.specs.Program.{attribute_parameters, class_at}
-use Rattle.equation_law.specs.Reading.{ByEachIn, Grows}
+use Rattle.equation_law.specs.Reading.{AreKnownCodes, ByEachIn, Grows}
 use Rattle.equation_law.specs.Systems.{program_of}
 use Rattle.inherited_walk.proofs.Arguments.{AreRead}
 use Rattle.inherited_walk.proofs.climb.made_arguments.Given as goal
@@ -16,6 +16,8 @@ invariant-loop-node g l = record {
   count : length (codes_in l.args) + length (parameter_kinds l.wanted) ≡ length (attribute_parameters (program_of l.system) l.fn.maker.0);
   read : ByEachIn (g.R.Reader.tells l.reader) (λ n. (o : Reference) (xs : Row) (q : ℕ) → reference_by n.node l.node.0 ≡ At (Made l.fn.maker.0 o xs q) → IsSome (class_at (program_of l.system) (Made l.fn.maker.0 o xs q))
       → AreRead (program_of l.system) n (attribute_parameters (program_of l.system) l.fn.maker.0) (codes_in l.args) (list_of xs) (parameter_kinds l.wanted));
+  known : ByEachIn (g.R.Reader.tells l.reader) (λ n. (o : Reference) (xs : Row) (q : ℕ) → reference_by n.node l.node.0 ≡ At (Made l.fn.maker.0 o xs q) → IsSome (class_at (program_of l.system) (Made l.fn.maker.0 o xs q))
+      → AreKnownCodes (g.R.Reader.tells l.reader) (attribute_parameters (program_of l.system) l.fn.maker.0) (codes_in l.args));
 }
 
 abbrev pub decreases-loop-node : goal.decreases-loop-node

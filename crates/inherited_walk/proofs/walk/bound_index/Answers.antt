@@ -3,12 +3,14 @@ use Rattle.attr_rules.specs.declared.dispatch.Reach.{Reach}
 use Rattle.attr_rules.specs.declared.dispatch.Reach.TheVariants.{Own, Created, Children}
 use Rattle.attr_rules.specs.declared.kinds.AttrId.{AttrId}
 use Rattle.equation_law.specs.Equations.{bound_values}
+use Rattle.inherited_walk.proofs.Known.{no_code}
 use Rattle.inherited_walk.proofs.Walking.{none_bound}
 use Rattle.inherited_walk.proofs.walk.bound_index.Goals as goal
 
 pub returns-in-Own : goal.returns-in-Own
 returns-in-Own c = record {
   row = c.none-in-Own.ensures.row;
+  none = no_code c.args.reach c.none-in-Own.result c.none-in-Own.ensures.codes;
   values = λ p n. none_bound p n c.args.reach c.none-in-Own.result c.none-in-Own.ensures.codes ∙ sym (binds_nothing c.args.reach c.in-Own.is);
 }
   where

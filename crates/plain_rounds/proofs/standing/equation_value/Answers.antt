@@ -1,6 +1,7 @@
 use Rattle.std.proofs.Common.{Ok, subst, sym}
 use Rattle.std.proofs.lemmas.Option.{get_or_from_slice_get, slice_get-get_or}
 use Rattle.equation_law.specs.declared.coding.Instance.{Instance as CodedInstance}
+use Rattle.equation_law.proofs.Grown.{each_instance}
 use Rattle.expr_eval.specs.Evaluating.{Evaluates}
 use Rattle.expr_eval.specs.Sites.{instance_reads}
 use Rattle.plain_rounds.specs.declared.standing.Standing.{Standing}
@@ -13,6 +14,11 @@ use Rattle.plain_rounds.proofs.standing.equation_value.Goals as goal
 
 pub evaluate_any-requires-clause-sound : goal.evaluate_any-requires-clause-sound
 evaluate_any-requires-clause-sound c = sound (record { setting = c.args.setting.now; values = c.args.values }) c.requires.ready
+
+pub evaluate_any-requires-clause-known : goal.evaluate_any-requires-clause-known
+evaluate_any-requires-clause-known c =
+    let s = c.args.setting.now in
+    each_instance (told_by (record { setting = s; values = c.args.values })) (λ k. tt) (program_at s) _
 
 pub tree_value-requires : goal.tree_value-requires
 tree_value-requires c =

@@ -1,10 +1,11 @@
-use Rattle.std.proofs.Common.{◌≡◌, ap, refl, sym, ◌∙◌, inl, inr}
-use Rattle.equation_law.specs.Codes.{value_by}
+use Rattle.std.proofs.Common.{◌≡◌, true, false, [], ap, refl, sym, ◌∙◌, inl, inr}
+use Rattle.equation_law.specs.Codes.{source_names, value_by}
 use Rattle.equation_law.specs.Systems.{program_of}
 use Rattle.equation_law.specs.Values as spec
 use Rattle.set_values.proofs.Coded.{holds_made}
+use Rattle.set_values.proofs.Known.{bare_codes, is_bare, nodes_within}
 use Rattle.set_values.proofs.NodeCodes.{IsNode, made_nodes}
-use Rattle.set_values.proofs.Operators.{at_kind}
+use Rattle.set_values.proofs.Operators.{at_kind, from_either}
 use Rattle.set_values.proofs.TextCodes.{IsKnown, first_text_by, made_texts_by}
 use Rattle.set_values.proofs.combining.set_operate.Goals as goal
 
@@ -49,7 +50,32 @@ returns-in-Truth c =
         ]
       ]
     ] in
+    let bare : is_bare (spec.default_of c.args.kind) ≡ true = elim c.in-Truth.is [
+      | inl e ↦ ap (λ k. is_bare (spec.default_of k)) e
+      | inr r ↦ elim r [
+        | inl e ↦ ap (λ k. is_bare (spec.default_of k)) e
+        | inr q ↦ elim q [
+          | inl e ↦ ap (λ k. is_bare (spec.default_of k)) e
+          | inr n ↦ ap (λ k. is_bare (spec.default_of k)) n.1
+        ]
+      ]
+    ] in
     record {
       value = λ system good other n h. c.default_of.ensures.value n (first_text_by system h) ∙ same (value_by n c.args.left) (value_by n c.args.right);
       elements = λ system good other. c.default_of.ensures.elements (program_of system);
+      nodes = λ system good other k some e.
+          let by = source_names (λ x. []) in
+          let none = bare_codes by c.default_of.result (ap is_bare (c.default_of.ensures.value by refl) ∙ bare) k some in
+          absurd (let both : false ≡ true = sym none ∙ e in cc);
     }
+
+pub returns-in_ok-codes-in-Nodes-clause-nodes : goal.returns-in_ok-codes-in-Nodes-clause-nodes
+returns-in_ok-codes-in-Nodes-clause-nodes c = λ system good other k some e.
+    let p = program_of system in
+    let left = c.into_nodes.ensures in
+    let right = c.into_nodes-in-Nodes.ensures in
+    let by = source_names (λ x. []) in
+    elim (from_either c.args.operator _ _ (sym (c.in_ok-codes-in-Nodes.ensures.members k) ∙ e)) [
+      | inl h ↦ inl (nodes_within p c.args.left c.into_nodes.result (left.nodes by) (left.elements p good) good k h)
+      | inr h ↦ inr (nodes_within p c.args.right c.into_nodes-in-Nodes.result (right.nodes by) (right.elements p other) other k h)
+    ]

@@ -1,4 +1,4 @@
-use Rattle.std.proofs.Common.{◌<◌, arith, length, refl, sym, subst}
+use Rattle.std.proofs.Common.{◌<◌, arith, length, refl, suc, sym, subst}
 use Rattle.attr_rules.specs.Rules.{RuleSet}
 use Rattle.equation_law.specs.Systems.{program_of}
 use Rattle.equation_law.proofs.Grown.{grows_itself, grows_on}
@@ -31,6 +31,13 @@ evaluate_part-requires-clause-known g c =
 
 pub evaluate_part-requires-clause-few : goal.evaluate_part-requires-clause-few
 evaluate_part-requires-clause-few g c = (c.requires.walk.notable c.in-Some.place (noted_in c.entry-entry.result) c.entry-entry.ensures).few
+
+pub evaluate_part-requires-clause-node : goal.evaluate_part-requires-clause-node
+evaluate_part-requires-clause-node g c =
+    let p = program_of c.args.system.now in
+    let n = noted_in c.entry-entry.result in
+    let within = (c.requires.walk.notable c.in-Some.place n c.entry-entry.ensures).within in
+    c.kept.invariant.kept.sound.sources (suc n.node) (omega (arith, within, few_nodes p c.tree.ensures c.len.ensures.number c.len.ensures.few))
 
 pub returns-in_err-value-clause-survey : goal.returns-in_err-value-clause-survey
 returns-in_err-value-clause-survey g c =
@@ -65,7 +72,7 @@ kept-preserved g c =
     let kept = grows_on i.kept step.kept in
     let few = few_nodes p c.tree.ensures c.len.ensures.number c.len.ensures.few in
     let within = note.within in
-    let one = counts_one p (g.R.Reader.tells c.evaluate_part.new.reader) d step.kept.sound w (walk_grows kept c.requires.walk) (for_same p d w w kept refl refl c.requires.collection.2) c.kept.self of (surveyed_grows step.kept (i.survey d of)) i.within place c.in-Some.ensures.some n there at.contribution at.is c.count.new.self _ counted.0 counted.1 counted.2
+    let one = counts_one p (g.R.Reader.tells c.evaluate_part.new.reader) d step.kept.sound w (walk_grows kept c.requires.walk) (for_same p d w w kept refl refl c.requires.collection.2) c.kept.self of (surveyed_grows step.kept (i.survey d of)) i.within place c.in-Some.ensures.some n there at.contribution at.is c.count.new.self _ done.known counted.0 counted.1 counted.2
     (λ names in_it. comes_there p names at.contribution c.entry-entry.result.node ((naming_of step.kept.sound names in_it).sources c.entry-entry.result.node (omega (arith, within, few))) at.contribution.value (done.comes names in_it))
     in
     let inside = c.in-Some.ensures.within.1 in
@@ -77,7 +84,7 @@ returns-in_err-count-in-Done-clause-survey g c =
     let p = program_of c.args.system.now in
     let at = at_rules p c.rules-rules.ensures c.contribution.ensures in
     let step = c.in_ok-value.ensures.evaluates at.contribution.value at.value in
-    λ x is. survey_new (g.R.Reader.tells c.evaluate_part.new.reader) (naming_of step.kept.sound) is c.in_err-count-in-Done.ensures.anew
+    λ x is. survey_new (g.R.Reader.tells c.evaluate_part.new.reader) step.kept.sound is c.in_err-count-in-Done.ensures.anew
 
 pub returns-in_err-count-in-Done-clause-within : goal.returns-in_err-count-in-Done-clause-within
 returns-in_err-count-in-Done-clause-within g c =
@@ -109,6 +116,7 @@ returns-in-Need-clause-stuck g c =
     let few = few_nodes p c.tree.ensures c.len.ensures.number c.len.ensures.few in
     let within = note.within in (
       stop.coded,
+      stop.known,
       wants_for step.kept.sound of c.in-Need.instance
           (counts_not p (g.R.Reader.tells c.evaluate_part.new.reader) d step.kept.sound w (walk_grows kept c.requires.walk) (for_same p d w w kept refl refl c.requires.collection.2) c.kept.self of (surveyed_grows step.kept (i.survey d of)) i.within place c.in-Some.ensures.some n there at.contribution at.is c.in-Need.instance
           (λ names in_it. wants_there p names at.contribution c.entry-entry.result.node ((naming_of step.kept.sound names in_it).sources c.entry-entry.result.node (omega (arith, within, few))) at.contribution.value (stop.wants names in_it))),

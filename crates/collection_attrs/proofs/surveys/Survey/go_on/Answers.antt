@@ -8,6 +8,7 @@ use Rattle.equation_law.proofs.Grown.{grows_itself, grows_on}
 use Rattle.collection_attrs.specs.Evaluations.{IsStuckAt, demands_of}
 use Rattle.collection_attrs.specs.Surveys.{HasCounted, IsPassage}
 use Rattle.collection_attrs.proofs.Grown.{counted_grows, surveyed_grows, walk_grows}
+use Rattle.collection_attrs.proofs.Known.{copied_known}
 use Rattle.collection_attrs.proofs.Surveying.{comes_for, counted_ends, counted_same, counted_stuck, fitted, for_same, passed_within, surveyed_for, wants_for}
 use Rattle.collection_attrs.proofs.surveys.Survey.go_on.Goals as goal
 
@@ -51,7 +52,7 @@ returns-in-Some-clause-evaluates g c =
     let i = c.offers.invariant in
     let counting = c.count_kept.ensures in
     let stop = subst (λ (o : Option CodedInstance). IfSome o (IsStuckAt p (g.R.Reader.tells c.count_kept.new.reader) c.args.of)) c.in-Some.is c.in_ok-instance.ensures.stuck in
-    λ x is. record { kept = grows_on i.kept counting.kept; answer = record { wants = stop.1 x is; coded = stop.0 } }
+    λ x is. record { kept = grows_on i.kept counting.kept; answer = record { wants = stop.2 x is; coded = stop.0; known = stop.1 } }
 
 pub returns-in_err-pass_next-clause-survey : goal.returns-in_err-pass_next-clause-survey
 returns-in_err-pass_next-clause-survey g c =
@@ -111,8 +112,8 @@ returns-in-Stuck-clause-evaluates g c =
     let counted = subst (λ (o : Option CodedInstance). IfNone o (HasCounted p (g.R.Reader.tells c.count_kept.new.reader) c.args.of w s)) c.in_default.is c.in_ok-instance.ensures.counted in
     let for = for_same p d w u (grows_on counting.kept passing.kept) same.0 same.1 (for_same p d c.args.offers.now w i.kept i.same.0 i.same.1 c.requires.collection.2) in
     let stop = subst (IsPassage p t w u) c.in-Stuck.is c.in_ok-pass_next.ensures.passage in
-    let h = counted_stuck p t d kept.sound u passing.walk for s (counted_same p t d w u s stop.0 (counted_grows passing.kept (counted d of))) c.in-Stuck.instance stop.2 in
-    λ x is. record { kept = kept; answer = record { wants = wants_for kept.sound of c.in-Stuck.instance h x is; coded = stop.1 } }
+    let h = counted_stuck p t d kept.sound u passing.walk for s (counted_same p t d w u s stop.0 (counted_grows passing.kept (counted d of))) c.in-Stuck.instance stop.3 in
+    λ x is. record { kept = kept; answer = record { wants = wants_for kept.sound of c.in-Stuck.instance h x is; coded = stop.1; known = stop.2 } }
 
 pub returns-in-Ended-clause-evaluates : goal.returns-in-Ended-clause-evaluates
 returns-in-Ended-clause-evaluates g c =
@@ -139,5 +140,6 @@ returns-in-Ended-clause-evaluates g c =
       answer = record {
         comes = λ names in_it. subst (λ (v : Value). Comes t.has (demands_of p x names) v) (sym (copy.same names)) (comes_for kept.sound of s.so_far h x is names in_it);
         coded = copy.elements p all.coded;
+        known = copied_known kept.sound s.so_far _ copy.same all.known;
       };
     }
