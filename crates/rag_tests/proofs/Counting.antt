@@ -25,14 +25,15 @@ module _ {S : Type 0} (T : Trees) where
     one_value = λ i v w a b. absurd a;
     named = λ n names. subst (λ (q : Program). IsNamingOf q n) (sym is) (subst (IsNamingOf (program_for T)) (sym names) (named T trees));
     some = (naming_of T, refl);
+    sources = λ c low. tt;
     fit = subst (λ (q : Program). TreesFit q) (sym is) trees.fit;
     trees = λ a o xs v can m making. absurd can;
   }
 
   -- it has no value
   pub counting_settled : (i : CodedInstance) → SettledBy {S = S} (told_by T) (told_by T) i (Ok None)
-  counting_settled i = record { kept = λ p sound. grows_itself sound; answer = λ p sound coded n is w has. has }
+  counting_settled i = record { kept = λ p sound. grows_itself sound; answer = λ p sound coded known n is w has. has }
 
   -- and so none of a tree that it would have a token of
   pub counting_token : (node : NodeRef) (k code : ℕ) → TokenBy {S = S} (told_by T) (told_by T) node k code
-  counting_token node k code = record { kept = λ p sound. grows_itself sound; answer = λ p sound n is a q o xs stands w has. absurd has }
+  counting_token node k code = record { kept = λ p sound. grows_itself sound; answer = λ p sound known n is a q o xs stands w has. absurd has }

@@ -13,6 +13,7 @@ use Rattle.equation_law.specs.Names.{Argument, Attribute, Instance, Query}
 use Rattle.equation_law.specs.Program.{Program, text_of}
 use Rattle.equation_law.specs.Reading.{Grows, HasThere, IsSound, SettledBy, Settles}
 use Rattle.equation_law.specs.Values.{Truth, Value, as_kind, tokens}
+use Rattle.equation_law.proofs.Grown.{each_value}
 use Rattle.rag_tests.specs.Late.{has_below, late, may_have, number_of}
 use Rattle.rag_tests.specs.Nothing.{IsReadable}
 use Rattle.rag_tests.proofs.Unmade.{named_in}
@@ -40,6 +41,7 @@ late_sound p q n same may = record {
   one_value = λ i v w a b. one_of_two i v w a b;
   named = λ m is. (named_in p q same m is).0;
   some = (source_names (text_of p), refl);
+  sources = λ c low. tt;
   fit = may.fit;
   trees = λ a o xs v truth m is k x there. absurd (let none : slice_get {X = Argument} [] k ≡ Some x = subst (λ (w : Value). slice_get (tokens w) k ≡ Some x) truth there in cc);
 }
@@ -51,6 +53,7 @@ late_grows p q m n le sound = record {
   bound = λ i v h. h;
   kept = λ x a. tt;
   names = λ x is. is;
+  known = λ c k. k;
   heights = λ c. le_refl c;
 }
 
@@ -59,8 +62,8 @@ pub late_some : {S : Type 0} (p : Program) (m n : ℕ) (i : CodedInstance) (a : 
     → value_of (text_of p) x ≡ as_kind k (Truth true) → AreElements p x → SettledBy {S = S} (late p m) (late p n) i (Ok (Some x))
 late_some {S = S} p m n i a node xs x k is le below kind value elements = record {
   kept = λ q sound. late_grows p q m n le sound;
-  answer = λ q sound coded. subst (λ (r : Program). Settles {S = S} r (late p n) (λ m. instance_by r m i) (Ok (Some x))) (sym sound.for.0)
-      (λ m named. subst (λ (l : Naming). HasThere {S = S} p (late p n) (instance_by p l i) (value_by l x)) (sym named) (Truth true, has, value ∙ ap (λ (t : Kind). as_kind t (Truth true)) kind), elements);
+  answer = λ q sound coded known. subst (λ (r : Program). Settles {S = S} r (late p n) (λ m. instance_by r m i) (Ok (Some x))) (sym sound.for.0)
+      (λ m named. subst (λ (l : Naming). HasThere {S = S} p (late p n) (instance_by p l i) (value_by l x)) (sym named) (Truth true, has, value ∙ ap (λ (t : Kind). as_kind t (Truth true)) kind), elements, each_value (late {S = S} p n) (λ c. tt) x);
 }
   where
     there : has_below n (instance_of p (attribute_at a node xs)) (Truth true)

@@ -4,5 +4,6 @@ pub mod Counting
 pub mod FromParts
 pub mod Lately
 pub mod Singles
+pub mod Sites
 pub mod Sweeping
 pub mod Unmade

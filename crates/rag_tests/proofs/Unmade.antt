@@ -44,6 +44,7 @@ nothing_sound p may = record {
   one_value = λ i v w a b. absurd a;
   named = λ n is. (named_in p p refl n is).0;
   some = (source_names (text_of p), refl);
+  sources = λ c low. tt;
   fit = may.fit;
   trees = λ a o xs v can m is. absurd can;
 }
@@ -71,7 +72,7 @@ module _ {S : Type 0} (r : Told S) (of : System) (for : (q : Program) → IsSoun
   pub class_unmade : (node : NodeRef) (c : ClassId) → c.0 ≡ 65535 → ClassBy r r node c
   class_unmade node c is = record {
     kept = λ q sound. grows_itself sound;
-    answer = λ q sound past n names.
+    answer = λ q sound past known n names.
         let few : length q.grammar ≤ most_classes = subst (λ (x : Program). length x.grammar ≤ most_classes) (sym (for q sound).0) (few_classes of) in
         let none = ap (λ (m : Naming). class_behind q (reference_by m.node node.0)) (by q sound n names) ∙ none_stands q (for q sound).1.few node.0 past in
         subst (λ (o : Option ClassId). IsClassOf q.grammar o c) (sym none) (omega (arith, is, few));
@@ -80,35 +81,37 @@ module _ {S : Type 0} (r : Told S) (of : System) (for : (q : Program) → IsSoun
   pub child_unmade : (node : NodeRef) (k : ℕ) (result : NodeRef) → result.0 ≡ 0 → ChildBy r r node k result
   child_unmade node k result is = record {
     kept = λ q sound. grows_itself sound;
-    answer = λ q sound past n names.
+    answer = λ q sound past known n names.
         let inside : HangsInside q.tree = subst (λ (x : Program). HangsInside x.tree) (sym (for q sound).0) (hangs_inside of) in
         let none = ap (λ (m : Naming). child_at (world_of q) k (reference_by m.node node.0)) (by q sound n names) ∙ none_hangs q (for q sound).1.few inside k node.0 past in
         ap (reference_by n.node) is ∙ sym none;
+    known = λ q sound past known. sound.sources result.0 (omega (arith, is));
   }
 
   pub token_unmade : (node : NodeRef) (k result : ℕ) → TokenBy r r node k result
   token_unmade node k result = record {
     kept = λ q sound. grows_itself sound;
-    answer = λ q sound n names a at o xs is. never_made q a node.0 at o xs (subst (λ (m : Naming). reference_by m.node node.0 ≡ At (Made a o xs at)) (by q sound n names) is);
+    answer = λ q sound known n names a at o xs is. never_made q a node.0 at o xs (subst (λ (m : Naming). reference_by m.node node.0 ≡ At (Made a o xs at)) (by q sound n names) is);
   }
 
   pub up_unmade : ((c : ℕ) → most_nodes < c → r.height 0 < r.height c) → (node : NodeRef) (result : Up) → code_above result ≡ 0 → UpBy r r node result
   up_unmade high node result is = record {
     kept = λ q sound. grows_itself sound;
-    answer = λ q sound past n names some.
+    answer = λ q sound past known n names some.
         let none = ap (λ (m : Naming). class_behind q (reference_by m.node node.0)) (by q sound n names) ∙ none_stands q (for q sound).1.few node.0 past in
         absurd (let never : IsSome {T = ClassId} None = subst (λ (o : Option ClassId). IsSome o) none some in cc);
+    known = λ q sound past known. sound.sources (code_above result) (omega (arith, is));
     falls = λ q sound past. subst (λ (c : ℕ). r.height c < r.height node.0) (sym is) (high node.0 past);
   }
 
   pub argument_unmade : (node : NodeRef) (k result : ℕ) → ArgumentBy r r node k result
   argument_unmade node k result = record {
     kept = λ q sound. grows_itself sound;
-    answer = λ q sound n names a at o xs is. never_made q a node.0 at o xs (subst (λ (m : Naming). reference_by m.node node.0 ≡ At (Made a o xs at)) (by q sound n names) is);
+    answer = λ q sound known n names a at o xs is. never_made q a node.0 at o xs (subst (λ (m : Naming). reference_by m.node node.0 ≡ At (Made a o xs at)) (by q sound n names) is);
   }
 
   pub order_unmade : (a b : NodeRef) (result : Ordering) → result ≡ nat_cmp a.0 b.0 → OrderBy r r a b result
   order_unmade a b result is = record {
     kept = λ q sound. grows_itself sound;
-    answer = λ q sound n names. is ∙ order_of n (named_in q q refl n (by q sound n names)).1 a.0 b.0;
+    answer = λ q sound one other n names. is ∙ order_of n (named_in q q refl n (by q sound n names)).1 a.0 b.0;
   }

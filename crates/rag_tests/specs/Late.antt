@@ -1,4 +1,5 @@
--- A reader that has values of instances up to one, by the numbers of their attributes and nodes. It is read by the names of source nodes.
+-- A reader that has values of instances up to one, by the numbers of their attributes and nodes. It is read by the names of source nodes, and
+-- knows every code.
 use Rattle.std.specs.Prelude.{◌≡◌, ◌<◌, ◌+◌, ◌*◌, ℕ, suc, true}
 use Rattle.equation_law.specs.Codes.{source_names}
 use Rattle.equation_law.specs.Names.{At, Attribute, Instance, Made, Null, Query, Reference, Source}
@@ -21,4 +22,4 @@ may_have (Attribute a r xs) v = v ≡ Truth true
 may_have (Query q) v = ⊥
 
 abbrev pub late : {S : Type 0} → Program → ℕ → Told S
-late p n = record { for = λ q. (q ≡ p) × IsReadable q; has = has_below n; can = may_have; keeps = λ earlier. Unit {0}; names = λ m. m ≡ source_names (text_of p); height = λ c. c }
+late p n = record { for = λ q. (q ≡ p) × IsReadable q; has = has_below n; can = may_have; keeps = λ earlier. Unit {0}; names = λ m. m ≡ source_names (text_of p); knows = λ c. Unit {0}; height = λ c. c }

@@ -1,4 +1,4 @@
--- A reader that has no value. It is read by the names of source nodes, so no code stands for a node that was made.
+-- A reader that has no value. It is read by the names of source nodes, so no code stands for a node that was made, and knows every code.
 use Rattle.std.specs.Prelude.{◌≡◌, ◌≤◌, None, length}
 use Rattle.attr_rules.specs.declared.expression.TExpr.{TExpr}
 use Rattle.attr_rules.specs.declared.queries.QueryEq.{QueryEq}
@@ -16,7 +16,7 @@ pub record IsReadable (p : Program) : Type 0 where
   pub few : length p.tree ≤ most_nodes
 
 abbrev pub nothing : {S : Type 0} → Program → Told S
-nothing p = record { for = λ q. (q ≡ p) × IsReadable q; has = λ i v. ⊥; can = λ i v. ⊥; keeps = λ earlier. Unit {0}; names = λ n. n ≡ source_names (text_of p); height = λ c. c }
+nothing p = record { for = λ q. (q ≡ p) × IsReadable q; has = λ i v. ⊥; can = λ i v. ⊥; keeps = λ earlier. Unit {0}; names = λ n. n ≡ source_names (text_of p); knows = λ c. Unit {0}; height = λ c. c }
 
 -- the expression is no `new`
 abbrev pub MakesNone : TExpr → Type 0

@@ -5,7 +5,10 @@ use Rattle.equation_law.specs.Checked.{IsInstance}
 use Rattle.equation_law.specs.declared.coding.Instance.TheVariants.{Attr as attribute_at}
 use Rattle.equation_law.specs.Codes.{Naming, instance_by, instance_of}
 use Rattle.equation_law.specs.Systems.{program_of}
+use Rattle.equation_law.proofs.Grown.{each_instance}
 use Rattle.plain_rounds.specs.Named.{instances_in}
+use Rattle.rag_tests.specs.declared.forms.Nothing.{Nothing}
+use Rattle.rag_tests.specs.Nothing.{nothing}
 use Rattle.rag_tests.proofs.Bare.{coded}
 use Rattle.rag_tests.proofs.Singles.{none_is}
 use Rattle.rag_tests.proofs.Unmade.{named_in, nothing_sound, readable}
@@ -28,3 +31,6 @@ equation_of-requires-clause-single c =
 
 pub equation_of-requires-clause-sound : goal.equation_of-requires-clause-sound
 equation_of-requires-clause-sound c = nothing_sound (program_of c.args.system.now) (readable (program_of c.args.system.now) c.requires)
+
+pub equation_of-requires-clause-known : goal.equation_of-requires-clause-known
+equation_of-requires-clause-known c = let p = program_of c.args.system.now in each_instance (nothing {S = Nothing} p) (λ k. tt) p (attribute_at c.args.attr c.of_source-at.result c.none-args.result)

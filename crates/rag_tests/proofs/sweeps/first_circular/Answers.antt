@@ -1,5 +1,6 @@
 use Rattle.std.proofs.Common.{Ok, sym, subst, ◌∙◌}
 use Rattle.equation_law.specs.Systems.{program_of}
+use Rattle.equation_law.proofs.Grown.{each_instance}
 use Rattle.expr_eval.specs.declared.sites.Turn.{Turn}
 use Rattle.expr_eval.specs.Evaluating.{AnswersTurn}
 use Rattle.expr_eval.specs.Sites.{instance_reads}
@@ -15,6 +16,9 @@ loop-init c = record { on = reads_itself c.args.work.now c.requires.own; instanc
 
 pub resume_instance-requires-clause-sound : goal.resume_instance-requires-clause-sound
 resume_instance-requires-clause-sound c = sound_for (program_of c.args.system.now) c.loop.work c.loop.invariant.on.on.own (program_here c.args.system.now c.args.work.now c.loop.work c.requires.same c.loop.invariant.on)
+
+pub resume_instance-requires-clause-known : goal.resume_instance-requires-clause-known
+resume_instance-requires-clause-known c = each_instance (told_by c.loop.work) (λ k. tt) (program_of c.args.system.now) c.loop.at
 
 pub resume_instance-requires-clause-single : goal.resume_instance-requires-clause-single
 resume_instance-requires-clause-single c =

@@ -3,7 +3,7 @@ use Rattle.equation_law.specs.Systems.{program_of}
 use Rattle.memo_cells.specs.Working.{told_by}
 use Rattle.memo_cells.proofs.Holding.{reads_itself}
 use Rattle.collection_attrs.proofs.Found.{walk_for_each}
-use Rattle.collection_attrs.proofs.Grown.{naming_of, survey_new, walk_grows}
+use Rattle.collection_attrs.proofs.Grown.{survey_new, walk_grows}
 use Rattle.caller_pass.proofs.Desks.{sound_for}
 use Rattle.rag_tests.proofs.walks.sum_along.Goals as goal
 
@@ -38,7 +38,7 @@ go_on-requires-clause-collection c =
     let attr : c.args.offers.now.attribute ≡ c.in-Some.of.attr.0 = omega (arith, c.if-of-attr.false, c.attr.ensures) in
     let root : c.args.offers.now.root ≡ c.in-Some-root_of.root = omega (arith, c.if-root.false, c.root.ensures) in
     let for = walk_for_each p (told_by c.root_of.new.reader) found.0 c.args.offers.now c.in-Some.of.attr.0 c.in-Some-root_of.root attr root (c.in-Some-root_of.ensures.offers found.0 found.2) in
-    (found.0, found.2, for, survey_new (told_by c.root_of.new.reader) (naming_of c.root_of.ensures.kept.sound) found.2 c.new-survey.ensures)
+    (found.0, found.2, for, survey_new (told_by c.root_of.new.reader) c.root_of.ensures.kept.sound found.2 c.new-survey.ensures)
 
 pub returns-in_err-value-clause-on : goal.returns-in_err-value-clause-on
 returns-in_err-value-clause-on c =
