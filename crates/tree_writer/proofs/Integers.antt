@@ -1,13 +1,14 @@
 -- The digits of integers, as they are printed, write them.
-use Rattle.std.proofs.Common.{◌≡◌, ℕ, suc, ◌+◌, ◌%◌, ◌-◌, ◌*◌, ◌^◌, ◌<◌, ◌≤◌, List, [], ◌∷◌, nat_lt, Bool, true, false, refl, sym, ap, ◌∙◌, arith}
+use Rattle.std.proofs.Common.{◌≡◌, ℕ, suc, ◌+◌, ◌%◌, ◌-◌, ◌*◌, ◌^◌, ◌<◌, ◌≤◌, ◌⊎◌, inl, inr, List, [], ◌∷◌, length, nat_lt, Bool, true, false, refl, sym, ap, ◌∙◌, arith}
 use Rattle.std.specs.List.{fold, AllPass}
 use Rattle.std.specs.Char.{digit_value}
 use Rattle.std.specs.Fmt as fmt
 use Rattle.std.specs.Fmt.{signed_decimal}
 use Rattle.std.specs.Int.{int_wrap}
 use Rattle.std.specs.Str.Parse.{AllDigits, IsNumeral, digits_value_after}
+use Rattle.std.proofs.lemmas.Bool.{cases_lt}
 use Rattle.std.proofs.lemmas.Bool.Decides.{nat_tests}
-use Rattle.std.proofs.lemmas.Fmt.{decimal_is_IsNumeral}
+use Rattle.std.proofs.lemmas.Fmt.{decimal_is_IsNumeral, decimal_nonempty}
 use Rattle.std.proofs.lemmas.Int.{ints}
 use Rattle.std.proofs.lemmas.List.Elements.{All-nil, All-cons}
 use Rattle.std.proofs.lemmas.Str.Parse.{digit_from_value}
@@ -83,3 +84,11 @@ small_text code small = ap signed_decimal (wrapped_small code small)
 
 pub large_text : (code n : ℕ) → 2 ^ 31 ≤ code → code + (n + 1) ≡ 2 ^ 32 → int_text code ≡ 45 ∷ fmt.decimal (suc n)
 large_text code n large is = ap signed_decimal (wrapped_large code n large is)
+
+-- it has a digit
+pub int_some : (code : ℕ) → code < 2 ^ 32 → 0 < length (int_text code)
+int_some code fits = by_size (cases_lt code (2 ^ 31))
+  where
+    by_size : (code < 2 ^ 31) ⊎ (2 ^ 31 ≤ code) → 0 < length (int_text code)
+    by_size (inl small) = let some = decimal_nonempty code (omega arith) in let same = ap length (small_text code small) in omega (arith, some, same)
+    by_size (inr large) = let same = ap length (large_text code (4294967295 - code) large (omega arith)) in omega (arith, same)

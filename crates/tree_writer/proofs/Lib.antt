@@ -1,7 +1,6 @@
 pub mod Classes
 pub mod Components
 pub mod Integers
-pub mod Known
 pub mod Leaves
 pub mod Listing
 pub mod Meanings
@@ -10,11 +9,12 @@ pub mod PartTexts
 pub mod Pieces
 pub mod ReadPieces
 pub mod Scans
+pub mod SourceTrees
 pub mod Steps
+pub mod Still
 pub mod Subtrees
 pub mod Texts
 pub mod Told
 pub mod Trees
 pub mod Turns
-pub mod Weights
 pub mod Whole

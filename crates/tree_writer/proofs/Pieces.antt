@@ -1,11 +1,14 @@
 -- The texts of trees at the components at which they hang.
-use Rattle.std.proofs.Common.{◌≡◌, ℕ, suc, ◌<◌, ◌≤◌, List, [], ◌∷◌, ◌++◌, false, ◌==◌, codes, slice_get, refl, ◌∙◌, arith}
+use Rattle.std.proofs.Common.{◌≡◌, ℕ, suc, ◌<◌, ◌≤◌, List, [], ◌∷◌, ◌++◌, true, false, ◌==◌, if◌then◌else◌, codes, map, slice_get, refl, sym, ap, ◌∙◌, arith}
 use Rattle.std.proofs.lemmas.Bool.{cond-true, cond-false, eq-eqb}
 use Rattle.std.proofs.lemmas.Bool.Decides.{nat_tests}
+use Rattle.std.proofs.lemmas.List.{append-nil}
 use Rattle.ast_grammar.specs.declared.grammar.ClassId.{ClassId}
 use Rattle.ast_grammar.specs.Grammar.{Class, Component, components_of}
-use Rattle.tree_arena.specs.Terms.{Forest, Hangs, over, token, one, none, element}
-use Rattle.tree_writer.specs.Canonical.{Piece, arguments_text, joined, name_in, pieces_of, texts_at}
+use Rattle.tree_arena.specs.Terms.{Forest, Empty, Tree, Hangs}
+use Rattle.tree_writer.specs.Canonical.{Piece, arguments_text, joined, name_in, pieces_of, texts_at, tree_text}
+use Rattle.tree_writer.specs.Showing.{trees_at}
+use Rattle.tree_writer.proofs.Subtrees.{none_before}
 
 -- the same texts stand at component k and behind it
 pub record Agrees (pieces others : List Piece) (k : ℕ) : Type 0 where
@@ -42,15 +45,22 @@ module _ (g : List Class) (pool : List (List ℕ)) where
   node_text c tokens below =
       name_in (slice_get g c.0) ++ (codes "(" ++ (joined (arguments_text pool (pieces_of g pool below) 0 (components_of g c.0) tokens) ++ codes ")"))
 
+  -- of a tree without those beside it this is all
+  pub alone_text : (c : ClassId) (k : ℕ) (tokens : List ℕ) (below : Forest) → tree_text g pool (Tree c k tokens below Empty) ≡ node_text c tokens below
+  alone_text c k tokens below = append-nil (node_text c tokens below)
+
+  -- the pieces at a component are the texts of the trees there
+  pub pieces_at : (k : ℕ) (trees : Forest) → texts_at k (pieces_of g pool trees) ≡ map (tree_text g pool) (trees_at k trees)
+  pieces_at k Empty = refl
+  pieces_at k (Tree c j tokens below beside) =
+      let text = node_text c tokens below in
+      elim (j == k) as (λ b. (if b then text ∷ texts_at k (pieces_of g pool beside) else texts_at k (pieces_of g pool beside))
+      ≡ map (tree_text g pool) (if b then Tree c j tokens below Empty ∷ trees_at k beside else trees_at k beside)) [
+        | true ↦ ap (λ ts. text ∷ ts) (pieces_at k beside) ∙ ap (λ t. t ∷ map (tree_text g pool) (trees_at k beside)) (sym (alone_text c j tokens below))
+        | false ↦ pieces_at k beside
+      ]
+
   -- before the first component nothing hangs
   pub nothing_before : {n : ℕ} {xs : List Component} {k : ℕ} {trees : Forest} {tokens : List ℕ} → Hangs g n xs k trees tokens → (j : ℕ) → j < k
       → texts_at j (pieces_of g pool trees) ≡ []
-  nothing_before over j lt = refl
-  nothing_before (token is behind) j lt = nothing_before behind j (omega arith)
-  nothing_before (one {k = k} {c = c} {tokens = tokens} {below = below} {beside = beside} may fits inner behind) j lt =
-      text_elsewhere k (node_text c tokens below) (pieces_of g pool beside) j (let apart : (k == j) ≡ false = grind (arith, nat_tests) in apart)
-      ∙ nothing_before behind j (omega arith)
-  nothing_before (none may behind) j lt = nothing_before behind j (omega arith)
-  nothing_before (element {k = k} {c = c} {tokens = tokens} {below = below} {beside = beside} is fits inner behind) j lt =
-      text_elsewhere k (node_text c tokens below) (pieces_of g pool beside) j (let apart : (k == j) ≡ false = grind (arith, nat_tests) in apart)
-      ∙ nothing_before behind j lt
+  nothing_before {trees = trees} hangs j lt = pieces_at j trees ∙ ap (map (tree_text g pool)) (none_before hangs j lt)

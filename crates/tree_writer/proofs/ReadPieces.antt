@@ -30,13 +30,13 @@ pub record Reads (pool : List (List ℕ)) (m : Mode) (p : Place) (text : List �
   pub clean : (more : List Lexed) → texts_broken N7 pool (tokens more) ≡ texts_broken N7 pool more
 
 -- a node and what stands behind it, piece by piece
-regroup_node : (name inner outer : List ℕ) → (name ++ (codes "(" ++ (inner ++ codes ")"))) ++ outer ≡ name ++ (codes "(" ++ (inner ++ (codes ")" ++ outer)))
+pub regroup_node : (name inner outer : List ℕ) → (name ++ (codes "(" ++ (inner ++ codes ")"))) ++ outer ≡ name ++ (codes "(" ++ (inner ++ (codes ")" ++ outer)))
 regroup_node name inner outer =
     append_assoc name (codes "(" ++ (inner ++ codes ")")) outer
     ∙ ap (λ (bytes : List ℕ). name ++ (codes "(" ++ bytes)) (append_assoc inner (codes ")") outer)
 
 -- brackets and what stands behind them
-regroup_brackets : (inner outer : List ℕ) → (codes "[" ++ (inner ++ codes "]")) ++ outer ≡ codes "[" ++ (inner ++ (codes "]" ++ outer))
+pub regroup_brackets : (inner outer : List ℕ) → (codes "[" ++ (inner ++ codes "]")) ++ outer ≡ codes "[" ++ (inner ++ (codes "]" ++ outer))
 regroup_brackets inner outer = ap (λ (bytes : List ℕ). codes "[" ++ bytes) (append_assoc inner (codes "]") outer)
 
 -- a text of a pool is not past it

@@ -1,11 +1,12 @@
 -- The texts of the trees that hang at some components are read again to them.
-use Rattle.std.proofs.Common.{◌≡◌, ℕ, suc, List, [], ◌∷◌, Bool, true, false, length, refl, sym, ap, subst, ◌∙◌, arith}
+use Rattle.std.proofs.Common.{◌≡◌, ℕ, suc, List, [], ◌∷◌, Bool, true, false, Some, length, slice_get, refl, sym, ap, subst, ◌∙◌, arith}
+use Rattle.std.specs.Option.{option_map}
 use Rattle.rag_io.specs.declared.token.Place.{Place}
 use Rattle.ast_grammar.specs.declared.grammar.ClassId.{ClassId}
 use Rattle.ast_grammar.specs.declared.grammar.Shape.{Shape}
 use Rattle.ast_grammar.specs.declared.grammar.Shape.TheVariants as shapes
-use Rattle.ast_grammar.specs.Grammar.{Class, Component, components_of}
-use Rattle.tree_arena.specs.Terms.{Forest, Empty, Tree, Fits, Hangs, over, token, one, none, element, IsCode, MayHaveOne}
+use Rattle.ast_grammar.specs.Grammar.{Class, Component, abstract_in, components_of}
+use Rattle.tree_arena.specs.Terms.{Forest, Empty, Tree, Hangs, over, token, one, none, element, IsCode, MayHaveOne}
 use Rattle.tree_syntax.specs.Written.{Written}
 use Rattle.tree_reader.specs.Grown.{beside_each}
 use Rattle.tree_reader.specs.Wants.{Components}
@@ -64,10 +65,10 @@ module _ (g : List Class) (pool : List (List ℕ)) where
 
   module _ (suits : Suits g pool) where
     -- the arguments of a node
-    pub inner_of : (wanted c : ClassId) (tokens : List ℕ) (below : Forest) → Fits g wanted c → IsHung (components_of g c.0) 0 below tokens
+    pub inner_of : (c : ClassId) (tokens : List ℕ) (below : Forest) → option_map abstract_in (slice_get g c.0) ≡ Some false → IsHung (components_of g c.0) 0 below tokens
         → IsInner g pool c tokens below
-    inner_of wanted c tokens below fits h = record {
-      found = fit_found g pool c suits fits.concrete;
+    inner_of c tokens below concrete h = record {
+      found = fit_found g pool c suits concrete;
       told = h.arguments (pieces_of g pool below) (agrees_all (pieces_of g pool below) 0) true;
     }
 
@@ -89,7 +90,7 @@ module _ (g : List Class) (pool : List (List ℕ)) where
         }
     hung (one {x} {xs} {k} {c} {tokens} {codes = later} {below} {beside} may fits inside behind) =
         let h = hung behind in
-        let inner = inner_of x.class c tokens below fits (hung inside) in
+        let inner = inner_of c tokens below fits.concrete (hung inside) in
         let text : List ℕ = node_text g pool c tokens below in
         let alone : texts_at k (record { component = k; text = text } ∷ pieces_of g pool beside) ≡ text ∷ [] =
         text_here k text (pieces_of g pool beside) ∙ ap (λ (ts : List (List ℕ)). text ∷ ts) (nothing_before g pool behind k (omega arith)) in
@@ -125,7 +126,7 @@ module _ (g : List Class) (pool : List (List ℕ)) where
         }
     hung (element {x} {xs} {k} {c} {tokens} {codes = later} {below} {beside} is fits inside behind) =
         let l = (hung behind).elements is in
-        let inner = inner_of x.class c tokens below fits (hung inside) in
+        let inner = inner_of c tokens below fits.concrete (hung inside) in
         let text : List ℕ = node_text g pool c tokens below in
         let all : IsList x xs k (Tree c k tokens below beside) later = record {
           inner = Tree c k tokens below l.inner;

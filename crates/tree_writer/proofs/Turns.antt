@@ -1,200 +1,282 @@
 -- One turn of the writing: a part is taken, its front is written, and what follows is put in its place.
-use Rattle.std.proofs.Common.{◌≡◌, ℕ, zero, suc, ◌+◌, ◌<◌, ◌≤◌, List, [], ◌∷◌, ◌++◌, Option, Some, None, All, codes, length, map, reverse, slice_get, refl, sym, ap, subst, append_assoc, ◌∙◌, arith}
-use Rattle.std.proofs.lemmas.Grind.{flat_map-append}
+use Rattle.std.proofs.Common.{◌≡◌, ℕ, suc, ◌+◌, ◌<◌, ◌⊎◌, inl, inr, List, [], ◌∷◌, ◌++◌, Option, Some, None, All, codes, length, map, slice_get, refl, sym, ap, subst, append_assoc, ◌∙◌, arith}
+use Rattle.std.specs.Option.{option_map}
 use Rattle.std.proofs.lemmas.List.{append-nil}
-use Rattle.std.proofs.lemmas.List.Elements.{All-append, All-cons, All-head, All-nil, All-tail, All-weaker}
+use Rattle.std.proofs.lemmas.List.Elements.{All-head, All-tail}
+use Rattle.std.proofs.lemmas.Option.{slice_get_within}
+use Rattle.ast_grammar.specs.declared.grammar.ClassId.{ClassId}
+use Rattle.ast_grammar.specs.declared.grammar.Component as kept_component
 use Rattle.ast_grammar.specs.declared.grammar.Shape.{Shape}
 use Rattle.ast_grammar.specs.declared.grammar.Shape.TheVariants as shapes
-use Rattle.ast_grammar.specs.Grammar.{Class, components_of}
-use Rattle.tree_arena.specs.Nodes as nodes
-use Rattle.tree_arena.specs.Nodes.{class_in, hanging, token_in, tokens_at}
-use Rattle.tree_arena.specs.Terms.{Forest, Empty, Tree, IsTerm, IsTreeOf, nodes_of, root, roots_at}
+use Rattle.ast_grammar.specs.Grammar.{Class, component_at, components_of, name_of_class, nameless}
+use Rattle.tree_arena.specs.Terms.{Forest, Empty, Tree}
 use Rattle.tree_writer.specs.declared.parts.Part.{Part}
 use Rattle.tree_writer.specs.declared.parts.Part.TheVariants.{Node, Argument, Comma, Close, CloseList}
-use Rattle.tree_writer.specs.Canonical.{all_texts, argument_text, canonical, joined, pieces_of, text_or_empty}
-use Rattle.tree_writer.specs.Parts.{IsPart, argument_front, arguments_from, behind_argument, behind_front, class_text, code_at, front_of, further_parts, left_of, listed, node_part, shape_at, written_of}
-use Rattle.tree_writer.proofs.Subtrees.{Found, IsBetween, below_are, below_between, found, trees_at}
-use Rattle.tree_writer.proofs.PartTexts.{argument_at as argument_text_at, argument_in, argument_parts, arguments_are, arguments_in, arguments_length, listed_text, nodes_text, part_text, parts_text, pieces_at, text_in, tree_text}
-use Rattle.tree_writer.proofs.Weights.{argument_falls, node_falls, part_weight, total, total-append}
-use Rattle.tree_writer.proofs.Known.{IsThere, code_there, many, shape_there, there}
+use Rattle.tree_writer.specs.Canonical.{argument_text, arguments_text, further, joined, name_in, pieces_of, root_arguments, tree_text}
+use Rattle.tree_writer.specs.Parts.{AreShown, AreTextsOf, GoesOn, IsHalfway, IsPart, IsTextOf, PutsNodes, arguments_from, further_parts, listed, node_part}
+use Rattle.tree_writer.specs.Showing.{HasChild, HasToken, IsBare, IsChildOf, IsClassOf, IsShown, IsSubtree, IsTokenOf, hung_at, root_class, root_codes, subtree}
+use Rattle.tree_writer.proofs.PartTexts.{Stands, arguments_length, class_known, component_known, stands}
+use Rattle.tree_writer.proofs.Pieces.{alone_text}
+use Rattle.tree_writer.proofs.ReadPieces.{regroup_brackets, regroup_node}
+use Rattle.tree_writer.proofs.Still.{IsStill, Shown}
+use Rattle.tree_writer.proofs.Subtrees.{IsTokenShape}
 
--- The parts that follow are there, where this is the tree.
-module _ (tree : List nodes.Node) where
-  further_there : (parts : List Part) → All (IsPart tree) parts → All (IsPart tree) (further_parts parts)
-  further_there [] all = All-nil (IsPart tree)
-  further_there (p ∷ parts) all =
-      All-cons (IsPart tree) Comma (p ∷ further_parts parts) tt
-      (All-cons (IsPart tree) p (further_parts parts) (All-head (IsPart tree) p parts all) (further_there parts (All-tail (IsPart tree) p parts all)))
+-- what is still to be written has later the texts that it had
+module _ (g : List Class) (pool : List (List ℕ)) {shows later : Shown} (still : IsStill shows later) where
+  text_still : (p : Part) (text : List ℕ) → IsTextOf g pool shows p text → IsTextOf g pool later p text
+  text_still (Node n) text t = record { tree = t.tree; shown = still n t.tree t.shown; grown = t.grown; are = t.are }
+  text_still (Argument n k) text t = record { tree = t.tree; shown = still n t.tree t.shown; grown = t.grown; at = t.at }
+  text_still Comma text t = t
+  text_still Close text t = t
+  text_still CloseList text t = t
 
-  listed_there : (parts : List Part) → All (IsPart tree) parts → All (IsPart tree) (listed parts)
-  listed_there [] all = All-nil (IsPart tree)
-  listed_there (p ∷ parts) all =
-      All-cons (IsPart tree) p (further_parts parts) (All-head (IsPart tree) p parts all) (further_there parts (All-tail (IsPart tree) p parts all))
+  pub texts_still : (parts : List Part) (text : List ℕ) → AreTextsOf g pool shows parts text → AreTextsOf g pool later parts text
+  texts_still [] text t = t
+  texts_still (p ∷ parts) text (first, rest, here, left, e) = (first, rest, text_still p first here, texts_still parts rest left, e)
 
-  arguments_there : (n k count : ℕ) → n < length tree → k + count ≤ length (tokens_at tree n) → All (IsPart tree) (arguments_from n k count)
-  arguments_there n k zero l h = All-nil (IsPart tree)
-  arguments_there n k (suc count) l h =
-      All-cons (IsPart tree) (Argument n k) (arguments_from n (suc k) count) (l, omega (arith, h)) (arguments_there n (suc k) count l (omega (arith, h)))
+module _ (g : List Class) (pool : List (List ℕ)) (shows : Shown) where
+  -- each of some parts has the text at its place
+  pub AreEach : List Part → List (List ℕ) → Type 0
+  AreEach [] [] = Unit {0}
+  AreEach [] (text ∷ texts) = ⊥
+  AreEach (p ∷ parts) [] = ⊥
+  AreEach (p ∷ parts) (text ∷ texts) = IsTextOf g pool shows p text × AreEach parts texts
 
-  nodes_there : (ms : List ℕ) → All (λ m. m < length tree) ms → All (IsPart tree) (map node_part ms)
-  nodes_there [] all = All-nil (IsPart tree)
-  nodes_there (m ∷ ms) all =
-      All-cons (IsPart tree) (Node m) (map node_part ms) (All-head (λ i. i < length tree) m ms all) (nodes_there ms (All-tail (λ i. i < length tree) m ms all))
+  -- they are put in front of others, with commas between them
+  further_texts : (parts : List Part) (texts : List (List ℕ)) → AreEach parts texts → (stack : List Part) (rest : List ℕ) → AreTextsOf g pool shows stack rest
+      → AreTextsOf g pool shows (further_parts parts ++ stack) (further texts ++ rest)
+  unfolding AreEach
+  further_texts [] [] each stack rest left = left
+  further_texts [] (text ∷ texts) each stack rest left = absurd each
+  further_texts (p ∷ parts) [] each stack rest left = absurd each
+  further_texts (p ∷ parts) (text ∷ texts) each stack rest left = (
+    codes ", ",
+    text ++ (further texts ++ rest),
+    refl,
+    (text, further texts ++ rest, each.0, further_texts parts texts each.1 stack rest left, refl),
+    append_assoc (codes ", ") (text ++ further texts) rest ∙ ap (λ t. codes ", " ++ t) (append_assoc text (further texts) rest),
+  )
 
-  closed_there : (parts : List Part) (p : Part) → IsPart tree p → All (IsPart tree) parts → All (IsPart tree) (listed parts ++ p ∷ [])
-  closed_there parts p h all = All-append (IsPart tree) (listed parts) (p ∷ []) (listed_there parts all) (All-cons (IsPart tree) p [] h (All-nil (IsPart tree)))
+  pub listed_texts : (parts : List Part) (texts : List (List ℕ)) → AreEach parts texts → (stack : List Part) (rest : List ℕ) → AreTextsOf g pool shows stack rest
+      → AreTextsOf g pool shows (listed parts ++ stack) (joined texts ++ rest)
+  unfolding AreEach
+  listed_texts [] [] each stack rest left = left
+  listed_texts [] (text ∷ texts) each stack rest left = absurd each
+  listed_texts (p ∷ parts) [] each stack rest left = absurd each
+  listed_texts (p ∷ parts) (text ∷ texts) each stack rest left =
+      (text, further texts ++ rest, each.0, further_texts parts texts each.1 stack rest left, append_assoc text (further texts) rest)
 
-  behind_there : (shape : Option Shape) (ms : List ℕ) → All (λ m. m < length tree) ms → All (IsPart tree) (behind_front shape ms)
-  behind_there None ms all = All-nil (IsPart tree)
-  behind_there (Some shapes.Child) ms all = listed_there (map node_part ms) (nodes_there ms all)
-  behind_there (Some shapes.List) ms all = closed_there (map node_part ms) CloseList tt (nodes_there ms all)
-  behind_there (Some shapes.Optional) ms all = closed_there (map node_part ms) CloseList tt (nodes_there ms all)
-  behind_there (Some shapes.Text) ms all = All-nil (IsPart tree)
-  behind_there (Some shapes.Int) ms all = All-nil (IsPart tree)
-  behind_there (Some shapes.Truth) ms all = All-nil (IsPart tree)
+  -- some arguments of a node, from the k-th on
+  pub arguments_each : (n : ℕ) (tree : Forest) → shows n tree → IsSubtree g (length pool) tree → (texts : List (List ℕ)) (k : ℕ)
+      → ((i m : ℕ) (text : List ℕ) → k + i ≡ m → slice_get texts i ≡ Some text → slice_get (root_arguments g pool tree) m ≡ Some text)
+      → AreEach (arguments_from n k (length texts)) texts
+  unfolding AreEach
+  arguments_each n tree shown grown [] k at = tt
+  arguments_each n tree shown grown (text ∷ texts) k at = (
+    record { tree = tree; shown = shown; grown = grown; at = at 0 k text (omega arith) refl },
+    arguments_each n tree shown grown texts (suc k) (λ i m t e f. at (suc i) m t (omega (arith, e)) f),
+  )
 
--- the nodes that hang at a node follow it, and are there
-module _ {g : List Class} {texts : ℕ} {term : Forest} (grown : IsTerm g texts term) (n k : ℕ) (l : n < length (nodes_of term)) where
-  hang_between : All (IsBetween (suc n) (length (nodes_of term))) (hanging (nodes_of term) n k)
-  hang_between =
-      let f = found grown n l in
-      subst (All (IsBetween (suc n) (length (nodes_of term)))) (sym (f.node.trees k)) (below_between f k)
+  -- nodes that show these trees
+  pub nodes_each : (ms : List ℕ) (trees : List Forest) → AreShown shows ms trees → All (IsSubtree g (length pool)) trees → AreEach (map node_part ms) (map (tree_text g pool) trees)
+  unfolding AreEach
+  nodes_each [] [] h all = tt
+  nodes_each [] (tree ∷ trees) h all = h
+  nodes_each (m ∷ ms) [] h all = h
+  nodes_each (m ∷ ms) (tree ∷ trees) h all = (
+    record { tree = tree; shown = h.0; grown = All-head (IsSubtree g (length pool)) tree trees all; are = refl },
+    nodes_each ms trees h.1 (All-tail (IsSubtree g (length pool)) tree trees all),
+  )
 
-  hang_there : All (λ m. m < length (nodes_of term)) (hanging (nodes_of term) n k)
-  hang_there = All-weaker (IsBetween (suc n) (length (nodes_of term))) (λ m. m < length (nodes_of term)) (λ m b. b.1) (hanging (nodes_of term) n k) hang_between
+-- the next part
+next_part : (g : List Class) (pool : List (List ℕ)) (shows : Shown) (p : Part) (text : List ℕ) (stack : List Part) (whole : List ℕ)
+    → IsHalfway g pool shows text (p ∷ stack) whole → IsPart g pool shows p
+next_part g pool shows p text stack whole (rest, (first, others, here, below, e), is) = (first, here)
 
-  hang_later : All (λ m. suc n ≤ m) (hanging (nodes_of term) n k)
-  hang_later = All-weaker (IsBetween (suc n) (length (nodes_of term))) (λ m. suc n ≤ m) (λ m b. b.0) (hanging (nodes_of term) n k) hang_between
+-- where a token stands nothing hangs
+bare_of : {g : List Class} {pool : List (List ℕ)} {tree : Forest} {k : ℕ} {text : List ℕ} {shape : Shape} → Stands g pool tree k text shape → IsTokenShape shape → IsBare tree k
+bare_of {tree = tree} {k = k} s leaf = record { there = slice_get_within (root_codes tree) k s.code s.token; none = s.bare leaf }
 
-module _ {g : List Class} {texts : ℕ} {term : Forest} (grown : IsTerm g texts term) where
-  turn_there : (p : Part) → IsPart (nodes_of term) p → All (IsPart (nodes_of term)) (left_of g (nodes_of term) p)
-  turn_there (Node n) l =
-      closed_there (nodes_of term) (arguments_from n 0 (length (tokens_at (nodes_of term) n))) Close tt
-      (arguments_there (nodes_of term) n 0 (length (tokens_at (nodes_of term) n)) l (omega arith))
-  turn_there (Argument n k) l = behind_there (nodes_of term) (shape_at g (nodes_of term) n k) (hanging (nodes_of term) n k) (hang_there grown n k l.0)
-  turn_there Comma l = All-nil (IsPart (nodes_of term))
-  turn_there Close l = All-nil (IsPart (nodes_of term))
-  turn_there CloseList l = All-nil (IsPart (nodes_of term))
+-- What the calls for a part need.
+module _ {g : List Class} {pool : List (List ℕ)} {shows : Shown} where
+  pub node_shown : (n : ℕ) → IsPart g pool shows (Node n) → IsShown shows n
+  node_shown n (text, here) = (here.tree, here.shown)
 
-  turn_falls : (p : Part) → IsPart (nodes_of term) p → total (part_weight (nodes_of term)) (left_of g (nodes_of term) p) < part_weight (nodes_of term) p
-  unfolding part_weight
-  turn_falls (Node n) l = node_falls (nodes_of term) n l
-  turn_falls (Argument n k) l = argument_falls (nodes_of term) n k (shape_at g (nodes_of term) n k) (hang_later grown n k l.0)
-  turn_falls Comma l = omega arith
-  turn_falls Close l = omega arith
-  turn_falls CloseList l = omega arith
+  pub node_class : (n : ℕ) (c : ClassId) → IsPart g pool shows (Node n) → IsClassOf shows n c → c.0 < length g
+  node_class n c (text, here) class = class_known here.grown (class here.tree here.shown)
 
--- The text of a part is what is written of it and the texts of what follows.
-module _ (g : List Class) (pool : List (List ℕ)) (term : Forest) (grown : IsTerm g (length pool) term) where
-  arguments_text_of : (n : ℕ) (f : Found g (length pool) term n)
-      → parts_text g pool term (listed (arguments_from n 0 (length (tokens_at (nodes_of term) n)))) ≡ joined (arguments_in g pool (Tree f.class f.component f.tokens f.below Empty))
-  arguments_text_of n f =
-      let whole = Tree f.class f.component f.tokens f.below Empty in
-      let texts = arguments_in g pool whole in
-      let number : length (tokens_at (nodes_of term) n) ≡ length texts =
-      many f ∙ sym (arguments_length pool (pieces_of g pool f.below) 0 (components_of g f.class.0) f.tokens)
-      in
-      ap (λ count. parts_text g pool term (listed (arguments_from n 0 count))) number ∙ listed_text g pool term (arguments_from n 0 (length texts))
-      ∙ ap joined (arguments_are g pool term n texts 0
-      (λ i m e. let place : m ≡ i = omega (arith, e) in
-      ap (λ o. argument_in g pool o m) f.tree ∙ ap (λ j. text_or_empty (slice_get texts j)) place))
+  pub argument_shown : (n k : ℕ) → IsPart g pool shows (Argument n k) → IsShown shows n
+  argument_shown n k (text, here) = (here.tree, here.shown)
 
-  node_text : (n : ℕ) (f : Found g (length pool) term n)
-      → part_text g pool term (Node n) ≡ written_of g pool (nodes_of term) (Node n) ++ parts_text g pool term (left_of g (nodes_of term) (Node n))
-  node_text n f =
-      let name = class_text g (Some f.class) in
-      let parts = listed (arguments_from n 0 (length (tokens_at (nodes_of term) n))) in
-      ap (text_in g pool) f.tree
-      ∙ ap (λ t. name ++ (codes "(" ++ t)) (ap (λ t. t ++ codes ")") (sym (arguments_text_of n f)) ∙ sym (flat_map-append (part_text g pool term) parts (Close ∷ [])))
-      ∙ sym (append_assoc name (codes "(") (parts_text g pool term (parts ++ Close ∷ [])))
-      ∙ ap (λ o. (class_text g o ++ codes "(") ++ parts_text g pool term (parts ++ Close ∷ [])) (sym f.node.class)
+  pub argument_class : (n k : ℕ) (c : ClassId) → IsPart g pool shows (Argument n k) → IsClassOf shows n c → c.0 < length g
+  argument_class n k c (text, here) class = class_known here.grown (class here.tree here.shown)
 
-  argument_text_of : (n k : ℕ) (f : Found g (length pool) term n) (x : IsThere g f.class f.tokens k)
-      → part_text g pool term (Argument n k)
-      ≡ written_of g pool (nodes_of term) (Argument n k) ++ parts_text g pool term (left_of g (nodes_of term) (Argument n k))
-  argument_text_of n k f x =
-      let ms = roots_at (suc n) f.below k in
-      let texts = map (tree_text g pool) (trees_at k f.below) in
-      ap (λ o. argument_in g pool o k) f.tree
-      ∙ argument_text_at pool (pieces_of g pool f.below) 0 (components_of g f.class.0) f.tokens k k x.component x.code (omega arith) x.at x.token
-      ∙ ap (argument_text pool x.component.shape x.code) (pieces_at g pool k f.below)
-      ∙ argument_parts g pool term x.component.shape x.code ms texts (nodes_text g pool term ms (trees_at k f.below) (below_are f k))
-      ∙ ap (λ roots. argument_front pool x.component.shape x.code ++ parts_text g pool term (behind_argument x.component.shape roots)) (sym (f.node.trees k))
-      ∙ ap (λ code. argument_front pool x.component.shape code ++ parts_text g pool term (behind_argument x.component.shape (hanging (nodes_of term) n k))) (sym (code_there f k x))
-      ∙ ap (λ s. front_of pool s (code_at (nodes_of term) n k) ++ parts_text g pool term (behind_front s (hanging (nodes_of term) n k))) (sym (shape_there f k x))
+  pub argument_known : (n k : ℕ) (c : ClassId) → IsPart g pool shows (Argument n k) → IsClassOf shows n c → k < length (components_of g c.0)
+  argument_known n k c (text, here) class = component_known pool here.grown (class here.tree here.shown) here.at
 
-  turn_text : (p : Part) → IsPart (nodes_of term) p → part_text g pool term p ≡ written_of g pool (nodes_of term) p ++ parts_text g pool term (left_of g (nodes_of term) p)
-  turn_text (Node n) l = node_text n (found grown n l)
-  turn_text (Argument n k) l = let f = found grown n l.0 in argument_text_of n k f (there f k l.1)
-  turn_text Comma l = refl
-  turn_text Close l = refl
-  turn_text CloseList l = refl
+  module _ (n k : ℕ) (c : ClassId) (y : kept_component.Component) (part : IsPart g pool shows (Argument n k)) (class : IsClassOf shows n c)
+      (named : option_map nameless (component_at g c.0 k) ≡ Some y) where
+    what_stands : Stands g pool part.1.tree k part.0 y.shape
+    what_stands = stands pool y part.1.grown (class part.1.tree part.1.shown) part.1.at named
 
--- What is written so far and what is still to be written, the next part first.
-pub record IsHalfway (g : List Class) (pool : List (List ℕ)) (tree : List nodes.Node) (text : List ℕ) (stack : List Part) : Type 0 where
-  pub parts : All (IsPart tree) stack
-  pub whole : (term : Forest) → IsTerm g (length pool) term → tree ≡ nodes_of term → text ++ parts_text g pool term stack ≡ joined (all_texts (pieces_of g pool term))
+    pub argument_child : y.shape ≡ shapes.Child → HasChild shows n k 0
+    argument_child child =
+        let one = ap length ((what_stands.alone child).alone) in
+        (part.1.tree, part.1.shown, omega (arith, one))
 
-module _ {g : List Class} {pool : List (List ℕ)} {tree : List nodes.Node} (t : IsTreeOf g (length pool) tree) where
-  -- at first the root is to be written
-  pub begins : (stack : List Part) → stack ≡ Node 0 ∷ [] → IsHalfway g pool tree [] stack
-  begins stack e =
-      subst (IsHalfway g pool tree []) (sym e)
-      (record { parts = All-cons (IsPart tree) (Node 0) [] (subst (λ ns. 0 < length ns) (sym t.are) (some t.grown)) (All-nil (IsPart tree)); whole = λ term grown are. whole grown })
+    pub argument_token : IsTokenShape y.shape → HasToken shows n k
+    argument_token leaf = (part.1.tree, part.1.shown, bare_of what_stands leaf)
+
+    pub argument_text_known : (code : ℕ) → y.shape ≡ shapes.Text → IsTokenOf shows n k code → code < length pool
+    argument_text_known code word token =
+        let s = what_stands in
+        let there : slice_get (root_codes part.1.tree) k ≡ Some code = token part.1.tree part.1.shown (bare_of s (subst IsTokenShape (sym word) tt)) in
+        let same : s.code ≡ code = let known = s.token in cc in
+        subst (λ v. v < length pool) same (s.within word)
+
+-- What is known of a later state is known of the trees that the earlier one showed.
+module _ {shows later : Shown} (still : IsStill shows later) where
+  pub child_still : (n k i : ℕ) → HasChild shows n k i → HasChild later n k i
+  child_still n k i (tree, shown, l) = (tree, still n tree shown, l)
+
+  pub token_still : (n k : ℕ) → HasToken shows n k → HasToken later n k
+  token_still n k (tree, shown, bare) = (tree, still n tree shown, bare)
+
+  pub token_before : (n k code : ℕ) → IsTokenOf later n k code → IsTokenOf shows n k code
+  token_before n k code token tree shown bare = token tree (still n tree shown) bare
+
+  pub child_before : (last : Shown) (n k i m : ℕ) → IsChildOf later last n k i m → IsChildOf shows last n k i m
+  child_before last n k i m child tree sub shown at = child tree sub (still n tree shown) at
+
+  pub puts_before : (last : Shown) (n k : ℕ) (old new : List Part) → PutsNodes later last n k old new → PutsNodes shows last n k old new
+  puts_before last n k old new put tree shown = put tree (still n tree shown)
+
+-- the name of a class
+name_is : (o : Option Class) (name : List ℕ) → option_map name_of_class o ≡ Some name → name_in o ≡ name
+name_is None name e = cc
+name_is (Some c) name e = cc
+
+-- a node's front is written, and the rest of it is left
+node_regroup : (text name inner rest new : List ℕ) → new ≡ (text ++ name) ++ codes "(" → new ++ (inner ++ (codes ")" ++ rest)) ≡ text ++ ((name ++ (codes "(" ++ (inner ++ codes ")"))) ++ rest)
+node_regroup text name inner rest new e =
+    ap (λ t. t ++ (inner ++ (codes ")" ++ rest))) e ∙ append_assoc (text ++ name) (codes "(") (inner ++ (codes ")" ++ rest))
+    ∙ append_assoc text name (codes "(" ++ (inner ++ (codes ")" ++ rest))) ∙ ap (λ t. text ++ t) (sym (regroup_node name inner rest))
+
+module _ {g : List Class} {pool : List (List ℕ)} {shows later : Shown} (still : IsStill shows later) where
+  -- a node
+  pub node_goes_on : (n count : ℕ) (c : ClassId) (name text new : List ℕ) (stack left : List Part) → IsClassOf shows n c
+      → option_map name_of_class (slice_get g c.0) ≡ Some name → count ≡ length (components_of g c.0) → new ≡ (text ++ name) ++ codes "("
+      → left ≡ listed (arguments_from n 0 count) ++ Close ∷ stack → GoesOn g pool shows later (Node n) text stack new left
+  node_goes_on n count c name text new stack left class called many written put whole (rest, (first, others, here, below, e), is) =
+      of_tree here.grown (still n here.tree here.shown) (class here.tree here.shown)
+      (ap (λ t. text ++ t) (sym (ap (λ t. t ++ others) here.are) ∙ sym e) ∙ is)
     where
-      some : {term : Forest} → IsTerm g (length pool) term → 0 < length (nodes_of term)
-      some (root fits hangs) = omega arith
+      of_tree : {tree : Forest} → IsSubtree g (length pool) tree → later n tree → root_class tree ≡ Some c → text ++ (tree_text g pool tree ++ others) ≡ whole
+          → IsHalfway g pool later new left whole
+      of_tree (subtree {c = d} {k} {tokens} {below = trees} concrete hangs) shown same so_far = (
+        joined args ++ (codes ")" ++ others),
+        subst (λ ps. AreTextsOf g pool later ps (joined args ++ (codes ")" ++ others))) (sym (put ∙ ap (λ i. listed (arguments_from n 0 i) ++ Close ∷ stack) number))
+            (listed_texts g pool later (arguments_from n 0 (length args)) args
+            (arguments_each g pool later n (Tree d k tokens trees Empty) shown (subtree concrete hangs) args 0
+            (λ i m t place at. let here : i ≡ m = omega (arith, place) in ap (λ j. slice_get args j) (sym here) ∙ at))
+            (Close ∷ stack) (codes ")" ++ others) (codes ")", others, refl, texts_still g pool still stack others below, refl)),
+        node_regroup text name (joined args) others new written ∙ ap (λ t. text ++ (t ++ others)) texts ∙ so_far,
+      )
+        where
+          args : List (List ℕ)
+          args = arguments_text pool (pieces_of g pool trees) 0 (components_of g d.0) tokens
 
-      whole : {term : Forest} → IsTerm g (length pool) term → parts_text g pool term (Node 0 ∷ []) ≡ joined (all_texts (pieces_of g pool term))
-      whole (root fits hangs) = refl
+          one : d ≡ c
+          one = cc
 
-  -- a turn
-  pub goes_on : (p : Part) (rest old stack : List Part) (text new : List ℕ) → IsHalfway g pool tree text old → old ≡ p ∷ rest
-      → new ≡ text ++ written_of g pool tree p → stack ≡ left_of g tree p ++ rest → IsHalfway g pool tree new stack
-  goes_on p rest old stack text new half e w s =
-      let all = subst (All (IsPart tree)) e half.parts in
-      let here = All-head (IsPart tree) p rest all in
-      let left : All (IsPart tree) (left_of g tree p) =
-      subst (λ ns. All (IsPart ns) (left_of g ns p)) (sym t.are) (turn_there t.grown p (subst (λ ns. IsPart ns p) t.are here))
-      in
-      record {
-        parts = subst (All (IsPart tree)) (sym s) (All-append (IsPart tree) (left_of g tree p) rest left (All-tail (IsPart tree) p rest all));
-        whole = λ term grown are. next term here are grown (half.whole term grown are);
-      }
-    where
-      next : (term : Forest) → IsPart tree p → tree ≡ nodes_of term → IsTerm g (length pool) term
-          → text ++ parts_text g pool term old ≡ joined (all_texts (pieces_of g pool term)) → new ++ parts_text g pool term stack ≡ joined (all_texts (pieces_of g pool term))
-      next term here are grown so_far =
-          let written = written_of g pool tree p in
-          let left = left_of g tree p in
-          let turn : part_text g pool term p ≡ written ++ parts_text g pool term left =
-          subst (λ ns. part_text g pool term p ≡ written_of g pool ns p ++ parts_text g pool term (left_of g ns p)) (sym are) (turn_text g pool term grown p (subst (λ ns. IsPart ns p) are here))
-          in
-          ap (λ ps. new ++ parts_text g pool term ps) s ∙ ap (λ u. new ++ u) (flat_map-append (part_text g pool term) left rest)
-          ∙ ap (λ u. u ++ (parts_text g pool term left ++ parts_text g pool term rest)) w
-          ∙ append_assoc text written (parts_text g pool term left ++ parts_text g pool term rest)
-          ∙ ap (λ u. text ++ u) (sym (append_assoc written (parts_text g pool term left) (parts_text g pool term rest)) ∙ ap (λ u. u ++ parts_text g pool term rest) (sym turn))
-          ∙ ap (λ ps. text ++ parts_text g pool term ps) (sym e) ∙ so_far
+          number : count ≡ length args
+          number = many ∙ ap (λ (x : ClassId). length (components_of g x.0)) (sym one) ∙ sym (arguments_length pool (pieces_of g pool trees) 0 (components_of g d.0) tokens)
 
-  -- there is less to be written then
-  pub falls : (p : Part) (rest old stack : List Part) (text : List ℕ) → IsHalfway g pool tree text old → old ≡ p ∷ rest → stack ≡ left_of g tree p ++ rest
-      → total (part_weight tree) stack < total (part_weight tree) old
-  falls p rest old stack text half e s =
-      let here = All-head (IsPart tree) p rest (subst (All (IsPart tree)) e half.parts) in
-      let less : total (part_weight tree) (left_of g tree p) < part_weight tree p =
-      subst (λ ns. total (part_weight ns) (left_of g ns p) < part_weight ns p) (sym t.are) (turn_falls t.grown p (subst (λ ns. IsPart ns p) t.are here))
-      in
-      let after = ap (total (part_weight tree)) s ∙ total-append (part_weight tree) (left_of g tree p) rest in
-      let before = ap (total (part_weight tree)) e in
-      omega (arith, less, after, before)
+          texts : name ++ (codes "(" ++ (joined args ++ codes ")")) ≡ tree_text g pool (Tree d k tokens trees Empty)
+          texts =
+              ap (λ t. t ++ (codes "(" ++ (joined args ++ codes ")"))) (sym (ap (λ (x : ClassId). name_in (slice_get g x.0)) one ∙ name_is (slice_get g c.0) name called))
+              ∙ sym (alone_text g pool d k tokens trees)
 
--- a stack without parts
-pub empty_of : (stack : List Part) → length stack ≡ 0 → reverse stack ≡ []
-empty_of [] e = refl
-empty_of (p ∷ stack) e = absurd (omega (arith, e))
+  -- the child that is an argument
+  pub child_goes_on : (n k m : ℕ) (c : ClassId) (y : kept_component.Component) (text : List ℕ) (stack : List Part) (whole : List ℕ) → IsClassOf shows n c
+      → option_map nameless (component_at g c.0 k) ≡ Some y → y.shape ≡ shapes.Child → IsChildOf shows later n k 0 m
+      → IsHalfway g pool shows text (Argument n k ∷ stack) whole → IsHalfway g pool later text (Node m ∷ stack) whole
+  child_goes_on n k m c y text stack whole class named child shown (rest, (first, others, here, below, e), is) =
+      let s = stands pool y here.grown (class here.tree here.shown) here.at named in
+      let alone = s.alone child in
+      let one : slice_get (hung_at here.tree k) 0 ≡ Some alone.tree = ap (λ ts. slice_get ts 0) alone.alone in
+      let grown : IsSubtree g (length pool) alone.tree = All-head (IsSubtree g (length pool)) alone.tree [] (subst (All (IsSubtree g (length pool))) alone.alone s.grown) in
+      let same : first ≡ tree_text g pool alone.tree =
+      s.are ∙ ap (λ sh. argument_text pool sh s.code (map (tree_text g pool) (hung_at here.tree k))) child ∙ ap (λ ts. joined (map (tree_text g pool) ts)) alone.alone
+      ∙ append-nil (tree_text g pool alone.tree)
+      in (
+        rest,
+        (first, others, record { tree = alone.tree; shown = shown here.tree alone.tree here.shown one; grown = grown; are = same }, texts_still g pool still stack others below, e),
+        is,
+      )
 
--- where nothing is left, the text is whole but for its line feed
-pub ends : (g : List Class) (pool : List (List ℕ)) (tree : List nodes.Node) (text new : List ℕ) (stack : List Part) → IsHalfway g pool tree text stack → stack ≡ []
-    → new ≡ text ++ 10 ∷ [] → (term : Forest) → IsTerm g (length pool) term → tree ≡ nodes_of term → new ≡ canonical g pool term
-ends g pool tree text new stack half e f term grown are =
-    f ∙ ap (λ u. u ++ 10 ∷ []) (sym (append-nil text) ∙ ap (λ ps. text ++ parts_text g pool term ps) (sym e) ∙ half.whole term grown are)
+  pub child_part : (n k m : ℕ) (c : ClassId) (y : kept_component.Component) → IsPart g pool shows (Argument n k) → IsClassOf shows n c
+      → option_map nameless (component_at g c.0 k) ≡ Some y → y.shape ≡ shapes.Child → IsChildOf shows later n k 0 m → IsPart g pool later (Node m)
+  child_part n k m c y (first, here) class named child shown =
+      next_part g pool later (Node m) [] [] first
+      (child_goes_on n k m c y [] [] first class named child shown (first, (first, [], here, refl, sym (append-nil first)), refl))
+
+  -- the bracket in front of a list or an optional
+  brackets_go_on : (n k : ℕ) (c : ClassId) (y : kept_component.Component) (text new : List ℕ) (stack left : List Part) → IsClassOf shows n c
+      → option_map nameless (component_at g c.0 k) ≡ Some y
+      → ((code : ℕ) (texts : List (List ℕ)) → argument_text pool y.shape code texts ≡ codes "[" ++ (joined texts ++ codes "]"))
+      → new ≡ text ++ codes "[" → PutsNodes shows later n k (CloseList ∷ stack) left → GoesOn g pool shows later (Argument n k) text stack new left
+  brackets_go_on n k c y text new stack left class named brackets written put whole (rest, (first, others, here, below, e), is) =
+      let s = stands pool y here.grown (class here.tree here.shown) here.at named in
+      let texts = map (tree_text g pool) (hung_at here.tree k) in
+      let there = put here.tree here.shown in
+      let inner = joined texts in (
+        inner ++ (codes "]" ++ others),
+        subst (λ ps. AreTextsOf g pool later ps (inner ++ (codes "]" ++ others))) (sym there.2)
+            (listed_texts g pool later (map node_part there.0) texts (nodes_each g pool later there.0 (hung_at here.tree k) there.1 s.grown)
+            (CloseList ∷ stack) (codes "]" ++ others) (codes "]", others, refl, texts_still g pool still stack others below, refl)),
+        ap (λ t. t ++ (inner ++ (codes "]" ++ others))) written ∙ append_assoc text (codes "[") (inner ++ (codes "]" ++ others))
+            ∙ ap (λ t. text ++ t) (sym (regroup_brackets inner others) ∙ ap (λ t. t ++ others) (sym (s.are ∙ brackets s.code texts)) ∙ sym e) ∙ is,
+      )
+
+  pub listed_goes_on : (n k : ℕ) (c : ClassId) (y : kept_component.Component) (text new : List ℕ) (stack left : List Part) → IsClassOf shows n c
+      → option_map nameless (component_at g c.0 k) ≡ Some y → (y.shape ≡ shapes.List) ⊎ (y.shape ≡ shapes.Optional)
+      → new ≡ text ++ codes "[" → PutsNodes shows later n k (CloseList ∷ stack) left → GoesOn g pool shows later (Argument n k) text stack new left
+  listed_goes_on n k c y text new stack left class named (inl list) =
+      brackets_go_on n k c y text new stack left class named (λ code texts. ap (λ s. argument_text pool s code texts) list)
+  listed_goes_on n k c y text new stack left class named (inr optional) =
+      brackets_go_on n k c y text new stack left class named (λ code texts. ap (λ s. argument_text pool s code texts) optional)
+
+  -- a token, which is written whole
+  pub token_goes_on : (n k code : ℕ) (c : ClassId) (y : kept_component.Component) (text new : List ℕ) (stack : List Part) → IsClassOf shows n c
+      → option_map nameless (component_at g c.0 k) ≡ Some y → IsTokenShape y.shape → IsTokenOf shows n k code
+      → new ≡ text ++ argument_text pool y.shape code [] → GoesOn g pool shows later (Argument n k) text stack new stack
+  token_goes_on n k code c y text new stack class named leaf token written whole (rest, (first, others, here, below, e), is) =
+      let s = stands pool y here.grown (class here.tree here.shown) here.at named in
+      let there : slice_get (root_codes here.tree) k ≡ Some code = token here.tree here.shown (bare_of s leaf) in
+      let same : s.code ≡ code = let known = s.token in cc in
+      let short : first ≡ argument_text pool y.shape code [] =
+      s.are ∙ ap (λ v. argument_text pool y.shape v (map (tree_text g pool) (hung_at here.tree k))) same ∙ ap (λ ts. argument_text pool y.shape code (map (tree_text g pool) ts)) (s.bare leaf)
+      in (
+        others,
+        texts_still g pool still stack others below,
+        ap (λ t. t ++ others) (written ∙ ap (λ t. text ++ t) (sym short)) ∙ append_assoc text first others ∙ ap (λ t. text ++ t) (sym e) ∙ is,
+      )
+
+-- a sign
+pub sign_goes_on : (g : List Class) (pool : List (List ℕ)) (shows : Shown) (p : Part) (sign text new : List ℕ) (stack : List Part) → ((t : List ℕ) → IsTextOf g pool shows p t → t ≡ sign)
+    → new ≡ text ++ sign → GoesOn g pool shows shows p text stack new stack
+sign_goes_on g pool shows p sign text new stack only written whole (rest, (first, others, here, below, e), is) = (
+  others,
+  below,
+  ap (λ t. t ++ others) (written ∙ ap (λ t. text ++ t) (sym (only first here))) ∙ append_assoc text first others ∙ ap (λ t. text ++ t) (sym e) ∙ is,
+)
+
+-- At first the subtree is to be written.
+pub begins : {g : List Class} {pool : List (List ℕ)} {shows : Shown} (n : ℕ) (text : List ℕ) (tree : Forest) → shows n tree → IsSubtree g (length pool) tree
+    → IsHalfway g pool shows text (Node n ∷ []) (text ++ tree_text g pool tree)
+begins {g} {pool} n text tree shown grown = (
+  tree_text g pool tree,
+  (tree_text g pool tree, [], record { tree = tree; shown = shown; grown = grown; are = refl }, refl, sym (append-nil (tree_text g pool tree))),
+  refl,
+)

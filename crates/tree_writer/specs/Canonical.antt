@@ -75,9 +75,18 @@ abbrev pub all_texts : List Piece → List (List ℕ)
 all_texts [] = []
 all_texts (p ∷ pieces) = p.text ∷ all_texts pieces
 
--- the canonical text of a tree: no white space but one space behind each comma, and one line feed at its end
+-- the texts of the arguments of the root of a tree
+abbrev pub root_arguments : List Class → List (List ℕ) → Forest → List (List ℕ)
+root_arguments g pool Empty = []
+root_arguments g pool (Tree c k tokens below beside) = arguments_text pool (pieces_of g pool below) 0 (components_of g c.0) tokens
+
+-- the text of a tree, which may be part of another: no white space but one space behind each comma
+abbrev pub tree_text : List Class → List (List ℕ) → Forest → List ℕ
+tree_text g pool tree = joined (all_texts (pieces_of g pool tree))
+
+-- the canonical text of a whole tree has one line feed at its end
 abbrev pub canonical : List Class → List (List ℕ) → Forest → List ℕ
-canonical g pool term = joined (all_texts (pieces_of g pool term)) ++ 10 ∷ []
+canonical g pool term = tree_text g pool term ++ 10 ∷ []
 
 -- the text is the canonical one of each tree of these nodes
 abbrev pub IsCanonicalOf : List Class → List (List ℕ) → List Node → List ℕ → Type 0

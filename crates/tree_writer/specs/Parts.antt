@@ -1,16 +1,11 @@
--- What is still to be written of a tree, in parts: what is written of a part at once, and the parts that follow it.
-use Rattle.std.specs.Prelude.{ℕ, zero, suc, ◌<◌, List, [], ◌∷◌, ◌++◌, Bool, true, false, Option, Some, None, codes, length, map, slice_get, slice_index}
-use Rattle.std.specs.Option.{option_and_then, option_map}
-use Rattle.ast_grammar.specs.declared.grammar.ClassId.{ClassId}
-use Rattle.ast_grammar.specs.declared.grammar.Shape.{Shape}
-use Rattle.ast_grammar.specs.declared.grammar.Shape.TheVariants as shapes
-use Rattle.ast_grammar.specs.Grammar.{Class, Component, component_at}
-use Rattle.tree_arena.specs.Nodes as nodes
-use Rattle.tree_arena.specs.Nodes.{class_in, hanging, tokens_at}
+-- What is still to be written, in parts, each with its text.
+use Rattle.std.specs.Prelude.{◌≡◌, ℕ, zero, suc, List, [], ◌∷◌, ◌++◌, Bool, true, false, Some, codes, length, map, slice_get}
+use Rattle.ast_grammar.specs.Grammar.{Class}
+use Rattle.tree_arena.specs.Terms.{Forest}
 use Rattle.tree_writer.specs.declared.parts.Part.{Part}
-use Rattle.tree_writer.specs.declared.writing.Source.{Source}
 use Rattle.tree_writer.specs.declared.parts.Part.TheVariants.{Node, Argument, Comma, Close, CloseList}
-use Rattle.tree_writer.specs.Canonical.{int_text, name_in, truth_text, value_text}
+use Rattle.tree_writer.specs.Canonical.{root_arguments, tree_text}
+use Rattle.tree_writer.specs.Showing.{IsSubtree, hung_at}
 
 abbrev pub node_part : ℕ → Part
 node_part n = Node n
@@ -34,72 +29,61 @@ abbrev pub arguments_from : ℕ → ℕ → ℕ → List Part
 arguments_from n k zero = []
 arguments_from n k (suc count) = Argument n k ∷ arguments_from n (suc k) count
 
--- the front of an argument at a component of this shape, where this is the code
-abbrev pub argument_front : List (List ℕ) → Shape → ℕ → List ℕ
-argument_front pool shapes.Child code = []
-argument_front pool shapes.List code = codes "["
-argument_front pool shapes.Optional code = codes "["
-argument_front pool shapes.Text code = value_text pool code
-argument_front pool shapes.Int code = int_text code
-argument_front pool shapes.Truth code = truth_text code
+-- each of some codes shows the tree at its place
+abbrev pub AreShown : (ℕ → Forest → Type 0) → List ℕ → List Forest → Type 0
+AreShown shows [] [] = Unit {0}
+AreShown shows [] (tree ∷ trees) = ⊥
+AreShown shows (m ∷ ms) [] = ⊥
+AreShown shows (m ∷ ms) (tree ∷ trees) = shows m tree × AreShown shows ms trees
 
--- the parts behind it, where these nodes hang
-abbrev pub behind_argument : Shape → List ℕ → List Part
-behind_argument shapes.Child roots = listed (map node_part roots)
-behind_argument shapes.List roots = listed (map node_part roots) ++ CloseList ∷ []
-behind_argument shapes.Optional roots = listed (map node_part roots) ++ CloseList ∷ []
-behind_argument shapes.Text roots = []
-behind_argument shapes.Int roots = []
-behind_argument shapes.Truth roots = []
+-- nodes that show later what hangs at component k of a node were put in front of other parts
+abbrev pub PutsNodes : (ℕ → Forest → Type 0) → (ℕ → Forest → Type 0) → ℕ → ℕ → List Part → List Part → Type 0
+PutsNodes shows later n k old new = (tree : Forest) → shows n tree → (ms : List ℕ) × AreShown later ms (hung_at tree k) × (new ≡ listed (map node_part ms) ++ old)
 
-abbrev pub shape_in : Component → Shape
-shape_in x = x.shape
+-- a code of the root of a tree of the grammar, with so many texts
+abbrev pub HasSubtree : List Class → ℕ → (ℕ → Forest → Type 0) → ℕ → Type 0
+HasSubtree g texts shows n = (tree : Forest) × shows n tree × IsSubtree g texts tree
 
--- the shape of a component of a node's class
-abbrev pub shape_at : List Class → List nodes.Node → ℕ → ℕ → Option Shape
-shape_at g tree n k = option_and_then (λ (c : ClassId). option_map shape_in (component_at g c.0 k)) (class_in tree n)
+-- the text of each such tree was added
+abbrev pub AddsSubtree : List Class → List (List ℕ) → (ℕ → Forest → Type 0) → ℕ → List ℕ → List ℕ → Type 0
+AddsSubtree g pool shows n old new = (tree : Forest) → shows n tree → IsSubtree g (length pool) tree → new ≡ old ++ tree_text g pool tree
 
--- the code there
-abbrev pub code_at : List nodes.Node → ℕ → ℕ → ℕ
-code_at tree n k = slice_index (tokens_at tree n) k
+-- The text of a node's subtree.
+pub record IsNodeText (g : List Class) (pool : List (List ℕ)) (shows : ℕ → Forest → Type 0) (n : ℕ) (text : List ℕ) : Type 0 where
+  pub tree : Forest
+  pub shown : shows n tree
+  pub grown : IsSubtree g (length pool) tree
+  pub are : text ≡ tree_text g pool tree
 
--- the name of a class
-abbrev pub class_text : List Class → Option ClassId → List ℕ
-class_text g None = []
-class_text g (Some c) = name_in (slice_get g c.0)
+-- The text of what stands at a component of a node.
+pub record IsArgumentText (g : List Class) (pool : List (List ℕ)) (shows : ℕ → Forest → Type 0) (n k : ℕ) (text : List ℕ) : Type 0 where
+  pub tree : Forest
+  pub shown : shows n tree
+  pub grown : IsSubtree g (length pool) tree
+  pub at : slice_get (root_arguments g pool tree) k ≡ Some text
 
-abbrev pub front_of : List (List ℕ) → Option Shape → ℕ → List ℕ
-front_of pool None code = []
-front_of pool (Some shape) code = argument_front pool shape code
+-- a text of a part, where these trees are shown
+abbrev pub IsTextOf : List Class → List (List ℕ) → (ℕ → Forest → Type 0) → Part → List ℕ → Type 0
+IsTextOf g pool shows (Node n) text = IsNodeText g pool shows n text
+IsTextOf g pool shows (Argument n k) text = IsArgumentText g pool shows n k text
+IsTextOf g pool shows Comma text = text ≡ codes ", "
+IsTextOf g pool shows Close text = text ≡ codes ")"
+IsTextOf g pool shows CloseList text = text ≡ codes "]"
 
-abbrev pub behind_front : Option Shape → List ℕ → List Part
-behind_front None roots = []
-behind_front (Some shape) roots = behind_argument shape roots
+abbrev pub IsPart : List Class → List (List ℕ) → (ℕ → Forest → Type 0) → Part → Type 0
+IsPart g pool shows p = (text : List ℕ) × IsTextOf g pool shows p text
 
--- what is written of a part at once
-abbrev pub written_of : List Class → List (List ℕ) → List nodes.Node → Part → List ℕ
-written_of g pool tree (Node n) = class_text g (class_in tree n) ++ codes "("
-written_of g pool tree (Argument n k) = front_of pool (shape_at g tree n k) (code_at tree n k)
-written_of g pool tree Comma = codes ", "
-written_of g pool tree Close = codes ")"
-written_of g pool tree CloseList = codes "]"
+-- a text of several parts
+abbrev pub AreTextsOf : List Class → List (List ℕ) → (ℕ → Forest → Type 0) → List Part → List ℕ → Type 0
+AreTextsOf g pool shows [] text = text ≡ []
+AreTextsOf g pool shows (p ∷ parts) text =
+    (first rest : List ℕ) × IsTextOf g pool shows p first × AreTextsOf g pool shows parts rest × (text ≡ first ++ rest)
 
--- the same by the grammar, the pool and the tree that are written
-abbrev pub written_from : Source → Part → List ℕ
-written_from source part = written_of source.grammar.now source.pool.now source.tree.now part
+-- what is written, with a text of what is still to be written, is the whole
+abbrev pub IsHalfway : List Class → List (List ℕ) → (ℕ → Forest → Type 0) → List ℕ → List Part → List ℕ → Type 0
+IsHalfway g pool shows text stack whole = (rest : List ℕ) × AreTextsOf g pool shows stack rest × (text ++ rest ≡ whole)
 
--- the parts that follow
-abbrev pub left_of : List Class → List nodes.Node → Part → List Part
-left_of g tree (Node n) = listed (arguments_from n 0 (length (tokens_at tree n))) ++ Close ∷ []
-left_of g tree (Argument n k) = behind_front (shape_at g tree n k) (hanging tree n k)
-left_of g tree Comma = []
-left_of g tree Close = []
-left_of g tree CloseList = []
-
--- the node and the component of a part are there
-abbrev pub IsPart : List nodes.Node → Part → Type 0
-IsPart tree (Node n) = n < length tree
-IsPart tree (Argument n k) = (n < length tree) × (k < length (tokens_at tree n))
-IsPart tree Comma = Unit {0}
-IsPart tree Close = Unit {0}
-IsPart tree CloseList = Unit {0}
+-- one part was taken, something was written, and what is left of it was put in its place
+abbrev pub GoesOn : List Class → List (List ℕ) → (ℕ → Forest → Type 0) → (ℕ → Forest → Type 0) → Part → List ℕ → List Part → List ℕ → List Part → Type 0
+GoesOn g pool shows later p text stack new left =
+    (whole : List ℕ) → IsHalfway g pool shows text (p ∷ stack) whole → IsHalfway g pool later new left whole

@@ -1,11 +1,10 @@
 // The stack of what is still to be written.
-ghost use Rattle.std.specs.Prelude.{◌≡◌, ◌<◌, ◌++◌, ◌∷◌, OnOk, length, map, reverse};
-ghost use Rattle.tree_arena.specs.Nodes.{hanging, tokens_at};
-ghost use Rattle.tree_writer.specs.Parts.{arguments_from, behind_argument, comma_unless, listed, node_part};
+ghost use Rattle.std.specs.Prelude.{◌≡◌, ◌++◌, ◌∷◌, OnOk, reverse};
+ghost use Rattle.tree_writer.specs.Parts.{PutsNodes, arguments_from, comma_unless, listed};
+ghost use Rattle.tree_writer.specs.Showing.{IsShown};
 
-use ast_grammar::Shape;
+use crate::showing::ShowsNodes;
 use rag_io::Memory;
-use tree_arena::Tree;
 
 /// A part of what is still to be written.
 #[derive(Clone, Copy)]
@@ -38,50 +37,31 @@ fn push_listed(stack: &mut Vec<Part>, part: Part, is_last: bool) -> Result<(), M
     push(stack, part)
 }
 
-// The nodes that hang at a component of a node.
-fn push_nodes(tree: &Tree, stack: &mut Vec<Part>, n: u32, k: u32) -> Result<(), Memory>
-    requires { n < length tree.now }
-    ensures { OnOk result (reverse stack.new.items ≡ listed (map node_part (hanging tree.now n k)) ++ reverse stack.old.items) }
+/// The nodes that hang at a component of a node, with commas between them.
+pub(crate) fn push_nodes<N: ShowsNodes>(
+    nodes: &mut N,
+    stack: &mut Vec<Part>,
+    n: u32,
+    k: u32,
+) -> Result<(), Memory>
+    requires { IsShown (N.shows nodes.old) n }
+    ensures kept { N.keeps nodes.old nodes.new }
+    ensures put { OnOk result (PutsNodes (N.shows nodes.old) (N.shows nodes.new) n k (reverse stack.old.items) (reverse stack.new.items)) }
 {
-    let count = tree.count(n, k);
+    let count = nodes.count(n, k);
     'places: for i in (0..count).rev() {
-        let Some(child) = tree.child(n, k, i) else {
-            unreachable!()
-        };
+        let child = nodes.child(n, k, i);
         push_listed(stack, Part::Node(child), i + 1 == count)?;
     }
     Ok(())
 }
 
-/// The arguments of a node, with commas between them.
-pub(crate) fn push_arguments(tree: &Tree, stack: &mut Vec<Part>, n: u32) -> Result<(), Memory>
-    requires { n < length tree.now }
-    ensures { OnOk result (reverse stack.new.items ≡ listed (arguments_from n 0 (length (tokens_at tree.now n))) ++ reverse stack.old.items) }
+/// So many arguments of a node, with commas between them.
+pub(crate) fn push_arguments(stack: &mut Vec<Part>, n: u32, count: u32) -> Result<(), Memory>
+    ensures { OnOk result (reverse stack.new.items ≡ listed (arguments_from n 0 count) ++ reverse stack.old.items) }
 {
-    let count = tree.components(n);
     'arguments: for k in (0..count).rev() {
         push_listed(stack, Part::Argument(n, k), k + 1 == count)?;
     }
     Ok(())
-}
-
-/// What follows the front of an argument at a component of this shape.
-pub(crate) fn push_argument(
-    tree: &Tree,
-    stack: &mut Vec<Part>,
-    shape: Shape,
-    n: u32,
-    k: u32,
-) -> Result<(), Memory>
-    requires { n < length tree.now }
-    ensures { OnOk result (reverse stack.new.items ≡ behind_argument shape (hanging tree.now n k) ++ reverse stack.old.items) }
-{
-    match shape {
-        Shape::Child => push_nodes(tree, stack, n, k),
-        Shape::List | Shape::Optional => {
-            push(stack, Part::CloseList)?;
-            push_nodes(tree, stack, n, k)
-        }
-        Shape::Text | Shape::Int | Shape::Truth => Ok(()),
-    }
 }

@@ -1,12 +1,12 @@
 // The canonical text of a tree.
-ghost use Rattle.std.specs.Prelude.{◌≡◌, ◌<◌, ◌++◌, IfOk, OnOk, Some, length, reverse};
+ghost use Rattle.std.specs.Prelude.{◌≡◌, ◌<◌, ◌++◌, ◌∷◌, IfOk, OnOk, length, reverse};
 ghost use Rattle.std.specs.Fmt.{signed_decimal};
-ghost use Rattle.tree_arena.specs.Nodes.{token_in, tokens_at};
 ghost use Rattle.tree_arena.specs.Terms.{IsTreeOf};
 ghost use Rattle.tree_writer.specs.Canonical.{IsCanonicalOf, int_text, truth_text};
-ghost use Rattle.tree_writer.specs.Parts.{IsPart, argument_front, code_at, left_of, shape_at, written_from};
+ghost use Rattle.tree_writer.specs.Parts.{AddsSubtree, GoesOn, HasSubtree, IsPart};
 
-use crate::parts::{Part, push, push_argument, push_arguments};
+use crate::parts::{Part, push, push_arguments, push_nodes};
+use crate::showing::{ShowsNodes, SourceNodes};
 use ast_grammar::{Grammar, Shape};
 use rag_io::{Memory, Pool, push_quoted};
 use std::alloc::Global;
@@ -15,11 +15,10 @@ use tree_arena::Tree;
 // How many bytes are set aside for the text of a node. Longer texts take more as they go.
 const USUAL_LENGTH: usize = 16;
 
-// What is written: a tree, its grammar, and the texts of its tokens.
+// What nodes are written by: their grammar, and the texts of their tokens.
 #[derive(Clone, Copy)]
 struct Source<'a> {
     grammar: &'a Grammar,
-    tree: &'a Tree,
     pool: &'a Pool,
 }
 
@@ -53,95 +52,112 @@ fn add_truth(text: &mut Vec<u8>, code: u32) -> Result<(), Memory>
     }
 }
 
-fn shape_of(source: &Source<'_>, n: u32, k: u32) -> Shape
-    requires tree { IsTreeOf source.now.grammar.now (length source.now.pool.now) source.now.tree.now }
-    requires part { IsPart source.now.tree.now (Part.Argument n k) }
-    ensures { shape_at source.now.grammar.now source.now.tree.now n k ≡ Some result }
-{
-    let class = source.tree.class_of(n);
-    source.grammar.component(class, k).shape
-}
-
-// Writes the front of an argument: the bracket of a list or an optional, and a token whole.
-fn add_front(
-    alloc: Global,
+// Writes the front of a node, and puts its arguments on the stack.
+fn write_node<N: ShowsNodes>(
     source: &Source<'_>,
-    text: &mut Vec<u8>,
-    shape: Shape,
-    n: u32,
-    k: u32,
-) -> Result<(), Memory>
-    requires tree { IsTreeOf source.now.grammar.now (length source.now.pool.now) source.now.tree.now }
-    requires part { IsPart source.now.tree.now (Part.Argument n k) }
-    requires shape { shape_at source.now.grammar.now source.now.tree.now n k ≡ Some shape }
-    ensures { OnOk result (text.new.items ≡ text.old.items ++ argument_front source.now.pool.now shape (code_at source.now.tree.now n k)) }
-{
-    let code = source.tree.token(n, k);
-    match shape {
-        Shape::Child => Ok(()),
-        Shape::List | Shape::Optional => add(text, b"[".as_slice()),
-        Shape::Text => push_quoted(text, source.pool.get(code)),
-        Shape::Int => add_int(alloc, text, code),
-        Shape::Truth => add_truth(text, code),
-    }
-}
-
-fn write_node(
-    source: &Source<'_>,
+    nodes: &mut N,
     text: &mut Vec<u8>,
     stack: &mut Vec<Part>,
     n: u32,
 ) -> Result<(), Memory>
-    requires tree { IsTreeOf source.now.grammar.now (length source.now.pool.now) source.now.tree.now }
-    requires part { IsPart source.now.tree.now (Part.Node n) }
-    ensures text { OnOk result (text.new.items ≡ text.old.items ++ written_from source.now (Part.Node n)) }
-    ensures left { OnOk result (reverse stack.new.items ≡ left_of source.now.grammar.now source.now.tree.now (Part.Node n) ++ reverse stack.old.items) }
+    requires part { IsPart source.now.grammar.now source.now.pool.now (N.shows nodes.old) (Part.Node n) }
+    ensures kept { N.keeps nodes.old nodes.new }
+    ensures on { OnOk result (GoesOn source.now.grammar.now source.now.pool.now (N.shows nodes.old) (N.shows nodes.new) (Part.Node n) text.old.items (reverse stack.old.items) text.new.items (reverse stack.new.items)) }
+    ensures more { OnOk result (length text.old.items < length text.new.items) }
 {
-    let class = source.tree.class_of(n);
+    let class = nodes.class_of(n);
     add(text, source.grammar.class_name(class))?;
     add(text, b"(".as_slice())?;
     push(stack, Part::Close)?;
-    push_arguments(source.tree, stack, n)
+    push_arguments(stack, n, source.grammar.arity(class))
 }
 
-fn write_argument(
+// Writes the front of an argument, and puts what follows on the stack: of a child the front of its node, of a list or an optional the bracket.
+// A token is written whole.
+fn write_argument<N: ShowsNodes>(
     alloc: Global,
     source: &Source<'_>,
+    nodes: &mut N,
     text: &mut Vec<u8>,
     stack: &mut Vec<Part>,
     n: u32,
     k: u32,
 ) -> Result<(), Memory>
-    requires tree { IsTreeOf source.now.grammar.now (length source.now.pool.now) source.now.tree.now }
-    requires part { IsPart source.now.tree.now (Part.Argument n k) }
-    ensures text { OnOk result (text.new.items ≡ text.old.items ++ written_from source.now (Part.Argument n k)) }
-    ensures left { OnOk result (reverse stack.new.items ≡ left_of source.now.grammar.now source.now.tree.now (Part.Argument n k) ++ reverse stack.old.items) }
+    requires part { IsPart source.now.grammar.now source.now.pool.now (N.shows nodes.old) (Part.Argument n k) }
+    ensures kept { N.keeps nodes.old nodes.new }
+    ensures on { OnOk result (GoesOn source.now.grammar.now source.now.pool.now (N.shows nodes.old) (N.shows nodes.new) (Part.Argument n k) text.old.items (reverse stack.old.items) text.new.items (reverse stack.new.items)) }
+    ensures more { OnOk result (length text.old.items < length text.new.items) }
 {
-    let shape = shape_of(source, n, k);
-    add_front(alloc, source, text, shape, n, k)?;
-    push_argument(source.tree, stack, shape, n, k)
+    let class = nodes.class_of(n);
+    match source.grammar.component(class, k).shape {
+        Shape::Child => {
+            let child = nodes.child(n, k, 0);
+            write_node(source, nodes, text, stack, child)
+        }
+        Shape::List | Shape::Optional => {
+            add(text, b"[".as_slice())?;
+            push(stack, Part::CloseList)?;
+            push_nodes(nodes, stack, n, k)
+        }
+        Shape::Text => {
+            let code = nodes.token(n, k);
+            push_quoted(text, source.pool.get(code))
+        }
+        Shape::Int => {
+            let code = nodes.token(n, k);
+            add_int(alloc, text, code)
+        }
+        Shape::Truth => {
+            let code = nodes.token(n, k);
+            add_truth(text, code)
+        }
+    }
 }
 
 // Writes what is written of a part at once, and puts what follows on the stack.
-fn write_part(
+fn write_part<N: ShowsNodes>(
     alloc: Global,
     source: &Source<'_>,
+    nodes: &mut N,
     text: &mut Vec<u8>,
     stack: &mut Vec<Part>,
     part: Part,
 ) -> Result<(), Memory>
-    requires tree { IsTreeOf source.now.grammar.now (length source.now.pool.now) source.now.tree.now }
-    requires part { IsPart source.now.tree.now part }
-    ensures text { OnOk result (text.new.items ≡ text.old.items ++ written_from source.now part) }
-    ensures left { OnOk result (reverse stack.new.items ≡ left_of source.now.grammar.now source.now.tree.now part ++ reverse stack.old.items) }
+    requires part { IsPart source.now.grammar.now source.now.pool.now (N.shows nodes.old) part }
+    ensures kept { N.keeps nodes.old nodes.new }
+    ensures on { OnOk result (GoesOn source.now.grammar.now source.now.pool.now (N.shows nodes.old) (N.shows nodes.new) part text.old.items (reverse stack.old.items) text.new.items (reverse stack.new.items)) }
+    ensures more { OnOk result (length text.old.items < length text.new.items) }
 {
     match part {
-        Part::Node(n) => write_node(source, text, stack, n),
-        Part::Argument(n, k) => write_argument(alloc, source, text, stack, n, k),
+        Part::Node(n) => write_node(source, nodes, text, stack, n),
+        Part::Argument(n, k) => write_argument(alloc, source, nodes, text, stack, n, k),
         Part::Comma => add(text, b", ".as_slice()),
         Part::Close => add(text, b")".as_slice()),
         Part::CloseList => add(text, b"]".as_slice()),
     }
+}
+
+/// Adds the canonical text of the subtree of a node, without a line feed. It needs a subtree of this grammar whose texts are in the pool. It
+/// takes time and memory in proportion to the text, and each node of the subtree is looked at once for itself and once for each component.
+pub fn add_subtree<N: ShowsNodes>(
+    alloc: Global,
+    grammar: &Grammar,
+    pool: &Pool,
+    nodes: &mut N,
+    n: u32,
+    text: &mut Vec<u8>,
+) -> Result<(), Memory>
+    requires { HasSubtree grammar.now (length pool.now) (N.shows nodes.old) n }
+    ensures kept { N.keeps nodes.old nodes.new }
+    ensures text { OnOk result (AddsSubtree grammar.now pool.now (N.shows nodes.old) n text.old.items text.new.items) }
+{
+    let source = Source { grammar, pool };
+    let mut stack = Vec::new(alloc);
+    push(&mut stack, Part::Node(n))?;
+    'parts: while let Some(part) = stack.pop() {
+        write_part(alloc, &source, nodes, text, &mut stack, part)?;
+    }
+    Ok(())
 }
 
 /// The canonical text of a tree: no white space but one space behind each comma, integers in decimal digits without leading zeros, and one
@@ -155,18 +171,10 @@ pub fn write_tree(
     requires { IsTreeOf grammar.now (length pool.now) tree.now }
     ensures { IfOk result (λ text. IsCanonicalOf grammar.now pool.now tree.now text.items) }
 {
-    let source = Source {
-        grammar,
-        tree,
-        pool,
-    };
     let room = tree.len() as usize * USUAL_LENGTH;
     let mut text = Vec::with_capacity(alloc, room).map_err(|_| Memory)?;
-    let mut stack = Vec::new(alloc);
-    push(&mut stack, Part::Node(0))?;
-    'parts: while let Some(part) = stack.pop() {
-        write_part(alloc, &source, &mut text, &mut stack, part)?;
-    }
+    let mut nodes = SourceNodes(tree);
+    add_subtree(alloc, grammar, pool, &mut nodes, 0, &mut text)?;
     add(&mut text, b"\n".as_slice())?;
     Ok(text)
 }

@@ -1,12 +1,19 @@
-use Rattle.std.proofs.Common.{◌≡◌, ◌-◌, ◌≤◌, suc, reverse, sym, arith}
-use Rattle.tree_arena.specs.Nodes.{hanging}
-use Rattle.tree_writer.proofs.Listing.{nodes_more}
+use Rattle.std.proofs.Common.{◌≡◌, ◌-◌, ◌≤◌, suc, reverse, arith}
+use Rattle.tree_writer.specs.Showing.{hung_at}
+use Rattle.tree_writer.proofs.Listing.{puts_more}
 use Rattle.tree_writer.proofs.parts.push_nodes.Goals as goal
 
 pub places-preserved : goal.places-preserved
-places-preserved c =
-    let ms = hanging c.args.tree.now c.args.n c.args.k in
+places-preserved g c =
+    let laws = g.met.N.ShowsNodes in
+    let looked = c.child-child in
     let next : suc (c.places.i - 1) ≡ c.places.i = omega arith in
     let within : c.places.i ≤ c.count-count.result = omega arith in
-    nodes_more ms (c.places.i - 1) c.places.i c.in-Some.child c.count-count.result (reverse c.args.stack.now.items) (reverse c.places.stack.items)
-    (reverse c.push_listed.new.stack.items) next c.count-count.ensures within (sym c.in-Some.ensures) c.places.invariant c.in_ok-push_listed.ensures
+    record {
+      kept = laws.further c.args.nodes.now c.places.nodes looked.new.self c.places.invariant.kept looked.ensures.kept;
+      put = λ tree shown.
+          puts_more (λ m t h. laws.still c.places.nodes looked.new.self m t looked.ensures.kept h) (hung_at tree c.args.k) (c.places.i - 1) c.places.i looked.result c.count-count.result
+          (reverse c.args.stack.now.items) (reverse c.places.stack.items) (reverse c.push_listed.new.stack.items) next (c.count-count.ensures.count tree shown) within
+          (λ child at. looked.ensures.child tree child (laws.still c.args.nodes.now c.places.nodes c.args.n tree c.places.invariant.kept shown) at)
+          (c.places.invariant.put tree shown) c.in_ok-push_listed.ensures;
+    }
