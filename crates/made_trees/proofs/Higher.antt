@@ -13,7 +13,7 @@ use Rattle.equation_law.specs.Names.{At, Instance, Made, NodeName, Reference, ma
 use Rattle.equation_law.specs.Equations.{number_or_zero}
 use Rattle.equation_law.specs.Program.{making_of}
 use Rattle.equation_law.specs.Reading.{code_above, IsHigher, Parent, class_behind, higher_than, parent_or_maker}
-use Rattle.made_trees.specs.declared.makers.Spot.{Spot}
+use Rattle.made_trees.specs.declared.spots.Spot.{Spot}
 use Rattle.made_trees.specs.declared.news.Stand.{Stand as FoundNode}
 use Rattle.made_trees.specs.Made.{CanMake, maker_at, node_of}
 use Rattle.made_trees.specs.Makers.{AreTrees, IsOwnerOf, IsSpotOf, IsStandAt, Trees, naming_of, program_for, stands_for}

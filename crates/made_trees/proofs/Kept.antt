@@ -1,5 +1,5 @@
 -- The makers that are kept, by their numbers.
-use Rattle.std.proofs.Common.{◌≡◌, inl, inr, ℕ, zero, suc, ◌-◌, ◌<◌, ◌==◌, false, cond, List, [], ◌∷◌, ◌++◌, Option, Some, None, IfSome, OnErr, OnOk, Result, Ok, Err, length, map, reverse, slice_get, arith, refl, sym, ap, subst, ◌∙◌}
+use Rattle.std.proofs.Common.{◌≡◌, inl, inr, ℕ, zero, suc, ◌-◌, ◌<◌, ◌==◌, false, cond, List, [], ◌∷◌, ◌++◌, Option, Some, None, OnErr, OnOk, Result, Ok, Err, length, map, reverse, slice_get, arith, refl, sym, ap, subst, ◌∙◌}
 use Rattle.std.specs.Option.{option_map}
 use Rattle.std.proofs.lemmas.Bool.{cases_lt, cond-false, cond-true, eq-eqb, ne_eqb}
 use Rattle.std.proofs.lemmas.Bool.Decides.{nat_tests}
@@ -13,18 +13,13 @@ use Rattle.equation_law.specs.contracts.coding.InstancePartialEq.TheImpl as equa
 use Rattle.rag_io.specs.declared.Memory.{Memory}
 use Rattle.equation_law.specs.declared.system.System.{System}
 use Rattle.equation_law.specs.Codes.{IsCoded, instance_by}
-use Rattle.equation_law.specs.Created.{Making}
-use Rattle.equation_law.specs.Names.{Attribute, Instance, Query}
 use Rattle.equation_law.specs.Systems.{program_of}
 use Rattle.equation_law.proofs.Keys.{key_is, key_self}
 use Rattle.equation_law.specs.declared.coding.Instance.{Instance as CodedInstance}
 use Rattle.equation_law.specs.Program.{Program}
 use Rattle.made_trees.specs.declared.makers.Maker.{Maker}
 use Rattle.made_trees.specs.Made.{AreMakers, CanMake, maker_at, naming_by_makers}
-use Rattle.made_trees.specs.Makers.{AreKept, IsNumberOf, IsStandAt, Keeps, KeepsMaking, Stays, Trees, instance_in, makers_in, making_by, making_for, naming_of, program_for}
-use Rattle.made_trees.specs.declared.makers.Spot.{Spot}
-use Rattle.made_trees.specs.declared.news.Stand.{Stand as FoundNode}
-use Rattle.made_trees.specs.Stands.{IsSmall, stand_of, stands_or_none}
+use Rattle.made_trees.specs.Makers.{AreKept, IsEquationAt, IsNumberOf, Keeps, KeepsMaking, Stays, Trees, instance_in, makers_in, making_for, naming_of, program_for}
 use Rattle.made_trees.proofs.Naming.{instance_kept, kept_behind, last_or_before, number_below, true_or_false}
 use Rattle.made_trees.proofs.Stands.{get_left, get_right}
 
@@ -163,21 +158,11 @@ pub makers_err : {S : Type 0} (kept after : List Maker) (known more : HashMap Co
 makers_err kept after known more (Ok u) stays = tt
 makers_err kept after known more (Err e) stays = ap makers_in stays.items
 
--- the node at a spot is found by the equation that is kept
-pub no_stand : (s : System) (kept : List Maker) (spot : Spot) (o : Option FoundNode) → slice_get kept spot.tree ≡ None → IsStandAt (record { system = s; makers = makers_in kept }) spot o
-no_stand s kept spot o none x there = absurd (let wrong = sym (kept_maker kept spot.tree ∙ ap (option_map instance_in) none) ∙ there in let bad : None ≡ Some x = wrong in cc)
-
-pub stand_kept : {S : Type 0} (s : System) (kept : List Maker) (known : HashMap CodedInstance ℕ S) (spot : Spot) (m : Maker) (o : Option FoundNode) → AreKept (program_of s) kept known → slice_get kept spot.tree ≡ Some m
-    → slice_get (stands_or_none (making_by (program_of s) m.equation)) spot.position ≡ option_map stand_of o → IsStandAt (record { system = s; makers = makers_in kept }) spot o
-stand_kept s kept known spot m o old here e x there =
-    let same : m.instance ≡ x = same_Some m.instance x (sym (kept_maker kept spot.tree ∙ ap (option_map instance_in) here) ∙ there) in
-    let making = ap (λ (y : CodedInstance). making_for (program_of s) (instance_by (program_of s) (naming_by_makers (program_of s) (makers_in kept)) y)) (sym same) ∙ (old.equations spot.tree m here).making in
-    ap (λ (y : Option Making). slice_get (stands_or_none y) spot.position) making ∙ e
-
-pub small_kept : {S : Type 0} (s : System) (kept : List Maker) (known : HashMap CodedInstance ℕ S) (t : ℕ) (m : Maker) → AreKept (program_of s) kept known → slice_get kept t ≡ Some m → IfSome (making_by (program_of s) m.equation) IsSmall
-small_kept s kept known t m old here = of (instance_by (program_of s) (naming_by_makers (program_of s) (makers_in kept)) m.instance) (making_by (program_of s) m.equation) (old.equations t m here).making
-  where
-    of : (i : Instance) (o : Option Making) → making_for (program_of s) i ≡ o → IfSome o IsSmall
-    of (Attribute a r xs) (Some x) e = old.small a r x e
-    of (Query q) (Some x) e = absurd (cc)
-    of i None e = tt
+-- the equation that is kept with a maker is the one by which it made its tree
+pub equation_kept : {S : Type 0} (s : System) (kept : List Maker) (known : HashMap CodedInstance ℕ S) (t : ℕ) (m : Maker) → AreKept (program_of s) kept known → slice_get kept t ≡ Some m → IsEquationAt (record { system = s; makers = makers_in kept }) t m.equation
+equation_kept s kept known t m old here = record {
+  within = (old.equations t m here).within;
+  making = λ x there.
+      let same : m.instance ≡ x = same_Some m.instance x (sym (kept_maker kept t ∙ ap (option_map instance_in) here) ∙ there) in
+      ap (λ (y : CodedInstance). making_for (program_of s) (instance_by (program_of s) (naming_by_makers (program_of s) (makers_in kept)) y)) (sym same) ∙ (old.equations t m here).making;
+}

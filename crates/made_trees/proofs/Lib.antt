@@ -1,6 +1,8 @@
 pub mod Arguments
 pub mod Classes
+mod Equations
 mod Finding
+pub mod Following
 pub mod Higher
 pub mod Kept
 pub mod Lexical

@@ -45,7 +45,7 @@ true_or_false false = inr refl
 
 module _ (p : Program) where
   -- with one maker more, codes that stood for something go on to stand for it
-  node_kept : (m : CodedInstance) (ms : List CodedInstance) (k : ℕ) → k < last_code (length ms) → node_by_makers p (m ∷ ms) k ≡ node_by_makers p ms k
+  pub node_kept : (m : CodedInstance) (ms : List CodedInstance) (k : ℕ) → k < last_code (length ms) → node_by_makers p (m ∷ ms) k ≡ node_by_makers p ms k
   node_kept m ms k l = cond-false (is_of_tree (length ms) k) _ _ (not_below (length ms) k l)
 
   pub reference_kept : (m : CodedInstance) (ms : List CodedInstance) (c : ℕ) → c ≤ last_code (length ms) → reference_by (node_by_makers p (m ∷ ms)) c ≡ reference_by (node_by_makers p ms) c
@@ -73,7 +73,7 @@ module _ (p : Program) where
   instance_kept m ms (coded.Query q) l = absurd l
 
   -- what could make a tree can make one behind more of them
-  named_more : (l m : ℕ) → l ≤ m → (ks : List Kind) (cs : List ℕ) → AreNamed l ks cs → AreNamed m ks cs
+  pub named_more : (l m : ℕ) → l ≤ m → (ks : List Kind) (cs : List ℕ) → AreNamed l ks cs → AreNamed m ks cs
   named_more l m le [] cs h = tt
   named_more l m le (k ∷ ks) [] h = tt
   named_more l m le (k ∷ ks) (c ∷ cs) h = (of k h.0, named_more l m le ks cs h.1)

@@ -1,5 +1,5 @@
 -- What is told of a node, from the spot at which its code stands and what is found there.
-use Rattle.std.proofs.Common.{◌≡◌, inl, inr, ℕ, zero, suc, ◌+◌, ◌*◌, ◌<◌, ◌≤◌, ◌==◌, nat_lt, false, ◌∷◌, List, Option, Some, None, IfSome, length, slice_get, arith, refl, sym, ap, subst, ◌∙◌}
+use Rattle.std.proofs.Common.{◌≡◌, inl, inr, ℕ, zero, suc, ◌+◌, ◌-◌, ◌*◌, ◌/◌, ◌%◌, ◌<◌, ◌≤◌, ◌==◌, nat_lt, false, ◌∷◌, List, Option, Some, None, IfSome, length, slice_get, arith, refl, sym, ap, subst, ◌∙◌}
 use Rattle.std.specs.Option.{option_and_then, option_map}
 use Rattle.std.proofs.lemmas.Bool.{cond-true, eq-eqb, ltb-false}
 use Rattle.std.proofs.lemmas.Option.{same_Some, slice_get_past}
@@ -16,9 +16,10 @@ use Rattle.equation_law.specs.Equations.{child_of, made_or_null, source_or_null,
 use Rattle.equation_law.specs.Names.{At, Instance, Made, NodeName, Null, Source, made_by, row_of}
 use Rattle.equation_law.specs.Program.{making_of}
 use Rattle.equation_law.specs.Reading.{class_behind}
-use Rattle.made_trees.specs.declared.makers.Spot.{Spot}
+use Rattle.made_trees.specs.declared.spots.Spot.{Spot}
 use Rattle.made_trees.specs.declared.news.Stand.{Stand as FoundNode}
-use Rattle.made_trees.specs.Made.{maker_at, node_of}
+use Rattle.equation_law.specs.Keys.{IsMade}
+use Rattle.made_trees.specs.Made.{last_code, maker_at, node_of}
 use Rattle.made_trees.specs.Makers.{child_code, AreTrees, IsMakerOf, IsSpotOf, IsStandAt, IsTokenAt, Trees, making_for, naming_of, program_for, stands_for}
 use Rattle.made_trees.specs.Stands.{Stand, child_place, stand_of, stands_or_none}
 use Rattle.made_trees.proofs.Naming.{node_past, node_there, number_below, past_sources}
@@ -154,3 +155,10 @@ source_by T (suc k) n e low = let few = ltb-false most_nodes (suc k) low in ap A
 
 pub last_maker : (x : CodedInstance) (before ms : List CodedInstance) (n : ℕ) → ms ≡ x ∷ before → n ≡ length before → maker_at ms n ≡ Some x
 last_maker x before ms n is same = ap (λ (l : List CodedInstance). maker_at l n) is ∙ cond-true (length before == n) _ _ (eq-eqb (length before) n (sym same))
+
+-- a code of these trees stands for a node that was made
+pub made_known : (T : Trees) → AreTrees T → (c : ℕ) → most_nodes < c → c ≤ last_code (length T.makers) → (m : NodeName) × (stands_for T c ≡ At m) × IsMade m
+made_known T trees c past known =
+    let s : Spot = record { tree = (c - suc most_nodes) / most_made; position = (c - suc most_nodes) % most_made } in
+    let h = at_spot T trees c s (omega (arith, past), omega arith, omega (arith, past, known)) in
+    (Made h.attribute h.owner (row_of h.arguments) s.position, h.stands, tt)

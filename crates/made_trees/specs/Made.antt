@@ -1,5 +1,5 @@
 -- What codes stand for where some instances made trees, in this order: the tree of the t-th of them has the codes from 65,537 + 16 t on.
-use Rattle.std.specs.Prelude.{◌≡◌, ◌<◌, ◌≤◌, ◌^◌, ◌+◌, ◌-◌, ◌*◌, ◌/◌, ◌%◌, ℕ, suc, Bool, cond, ◌&&◌, nat_lt, ◌==◌, List, [], ◌∷◌, Option, Some, None, length}
+use Rattle.std.specs.Prelude.{◌≡◌, ◌<◌, ◌≤◌, ◌^◌, ◌+◌, ◌-◌, ◌*◌, ◌/◌, ◌%◌, ℕ, suc, Bool, cond, ◌&&◌, nat_lt, ◌==◌, List, [], ◌∷◌, ◌++◌, Option, Some, None, length}
 use Rattle.attr_rules.specs.declared.kinds.Kind.{Kind}
 use Rattle.attr_rules.specs.declared.kinds.Kind.TheVariants as kinds
 use Rattle.tree_arena.specs.Nodes.{most_nodes}
@@ -31,6 +31,10 @@ naming_by_makers p ms = record { text = text_of p; node = node_by_makers p ms }
 -- so many codes stand for null, source nodes and nodes of the first trees: those up to this one
 abbrev pub last_code : ℕ → ℕ
 last_code trees = most_nodes + most_made * trees
+
+-- these makers, and then more
+abbrev pub Follow : List CodedInstance → List CodedInstance → Type 0
+Follow before after = (more : List CodedInstance) × (after ≡ more ++ before)
 
 -- the maker of the tree t; the list has the last one first
 abbrev pub maker_at : List CodedInstance → ℕ → Option CodedInstance

@@ -25,7 +25,7 @@ use Rattle.equation_law.specs.Reading.{IsHigher, class_behind, higher_than}
 use Rattle.equation_law.specs.Systems.{program_of}
 use Rattle.equation_law.specs.Values.{as_argument}
 use Rattle.made_trees.specs.declared.makers.Maker.{Maker}
-use Rattle.made_trees.specs.declared.makers.Spot.{Spot}
+use Rattle.made_trees.specs.declared.spots.Spot.{Spot}
 use Rattle.made_trees.specs.declared.news.Stand.{Stand as FoundNode}
 use Rattle.made_trees.specs.Made.{AreMakers, maker_at, naming_by_makers}
 use Rattle.made_trees.specs.Stands.{IsSmall, stand_of, stands_or_none}
@@ -151,3 +151,8 @@ IsAbove T c u = IsSome (class_behind (program_for T) (stands_for T c)) → IsHig
 -- the `new` of an equation is that by which an instance makes a tree
 abbrev pub IsMakingOf : Trees → CodedInstance → Option EqId → Type 0
 IsMakingOf T i e = making_for (program_for T) (instance_by (program_for T) (naming_of T) i) ≡ making_by (program_for T) e
+
+-- the equation is the one by which the tree of this number was made
+pub record IsEquationAt (T : Trees) (t : ℕ) (e : Option EqId) : Type 0 where
+  pub within : IsEquationWithin (program_for T) e
+  pub making : (x : CodedInstance) → maker_at T.makers t ≡ Some x → IsMakingOf T x e

@@ -2,10 +2,14 @@
 //! that were made, what stands above them, and their order.
 #![tactic(auto)]
 
+mod keeping;
 mod makers;
 mod news;
 mod order;
 mod roots;
+mod spots;
 
-pub use makers::Makers;
+pub use keeping::{KeepsMakers, argument_of, child_of, class_of, maker_of, token_place_of, up_of};
+pub use makers::{Lent, Makers};
+pub use order::order_of;
 pub use roots::class_made;

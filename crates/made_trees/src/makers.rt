@@ -16,20 +16,16 @@ ghost use Rattle.made_trees.specs.Stands.{IsSmall, stands_of, stands_or_none};
 ghost use Rattle.made_trees.specs.Stands as standing;
 ghost use Rattle.attr_rules.specs.Expression.{new_arguments_of};
 
-use crate::news::{Front, Stand, child_place, find, own_token};
+use crate::keeping::{KeepsMakers, class_of};
+use crate::spots::root_of;
 use ast_grammar::ClassId;
-use attr_rules::{AttrId, EqId, NewArgs, TExpr};
-use equation_law::{Code, Instance, NodeRef, System, Up};
+use attr_rules::EqId;
+use equation_law::{Instance, NodeRef, System};
 use rag_io::Memory;
 use std::alloc::Global;
 use std::collections::HashMap;
 use std::marker::Model;
 use std::snapshot::Snapshot;
-
-// A source tree has at most so many nodes, and a tree that is made so many.
-const MOST_NODES: u32 = 65_536;
-
-const MOST_MADE: u32 = 16;
 
 // So many trees have codes of 32 bits.
 const MOST_TREES: u32 = 268_431_359;
@@ -39,13 +35,6 @@ const MOST_TREES: u32 = 268_431_359;
 pub(crate) struct Maker {
     pub(crate) instance: Instance,
     pub(crate) equation: Option<EqId>,
-}
-
-/// Where a code stands: a tree, by its number, and a position of it.
-#[derive(Clone, Copy)]
-pub(crate) struct Spot {
-    pub(crate) tree: u32,
-    pub(crate) position: u32,
 }
 
 /// What made trees, in the order in which it came, each with a number.
@@ -69,62 +58,6 @@ impl Model for Makers {
     ghost view = { λ m. record { system = m.system.value; makers = makers_in m.kept.items } };
 
     ghost invariant = { λ m. AreKept (program_of m.system.value) m.kept.items m.numbers };
-}
-
-/// The node at a position of the tree that an equation makes, if there is one.
-pub(crate) fn stand_in<'a>(
-    system: &'a System,
-    equation: Option<EqId>,
-    position: u32,
-) -> Option<Stand<'a>>
-    requires within { specs.IsEquationWithin (program_of system.now) equation }
-    requires small { IfSome (specs.making_by (program_of system.now) equation) IsSmall }
-    ensures { slice_get (stands_or_none (specs.making_by (program_of system.now) equation)) position ≡ option_map standing.stand_of result }
-{
-    match system.rules().body(equation?) {
-        TExpr::New(class, parts) => stand_of(*class, parts, position),
-        _ => None,
-    }
-}
-
-/// The node at a position of a tree of this class with these arguments.
-fn stand_of<'a>(class: ClassId, parts: &'a NewArgs, position: u32) -> Option<Stand<'a>>
-    requires { IsSmall (record { class = class; arguments = new_arguments_of parts.now }) }
-    ensures { slice_get (stands_of (record { class = class; arguments = new_arguments_of parts.now })) position ≡ option_map standing.stand_of result }
-{
-    if position == 0 {
-        return Some(Stand {
-            class,
-            parts,
-            parent: 0,
-            component: 0,
-            tokens: 0,
-        });
-    }
-    let front = Front {
-        parent: 0,
-        first: 1,
-        component: 0,
-        tokens: 0,
-    };
-    find(parts, front, position).ok()
-}
-
-/// Where a code stands among so many trees.
-fn spot_of(trees: u32, node: NodeRef) -> Option<Spot>
-    ensures { IsSpotOf trees node.0 result }
-{
-    if node.0 <= MOST_NODES {
-        return None;
-    }
-    let place = node.0 - 1 - MOST_NODES;
-    let tree = place / MOST_MADE;
-    let position = place % MOST_MADE;
-    if tree < trees {
-        Some(Spot { tree, position })
-    } else {
-        None
-    }
 }
 
 /// Keeps a maker with its number, or nothing where there isn't enough memory.
@@ -177,40 +110,13 @@ impl Makers {
         self.numbers.get(i).copied()
     }
 
-    /// The instance of a number.
-    fn instance(&self, number: u32) -> Option<Instance>
-        ensures { result ≡ maker_at self.now.makers number }
-    {
-        let maker = self.kept.get(number as usize)?;
-        Some(maker.instance)
-    }
-
-    /// The node at a spot, if there is one.
-    fn stand<'a>(&self, system: &'a System, spot: Spot) -> Option<Stand<'a>>
-        requires { self.now.system ≡ system.now }
-        ensures { IsStandAt self.now spot result }
-    {
-        let maker = self.kept.get(spot.tree as usize)?;
-        stand_in(system, maker.equation, spot.position)
-    }
-
-    /// The class of a node that was made, or None where there is none. It takes time in proportion to the `new`.
-    pub fn made_class(&self, system: &System, node: NodeRef) -> Option<ClassId>
-        requires { self.now.system ≡ system.now }
-        ensures { most_nodes < node.0 → class_behind (program_for self.now) (stands_for self.now node.0) ≡ result }
-    {
-        let spot = spot_of(self.len(), node)?;
-        let stand = self.stand(system, spot)?;
-        Some(stand.class)
-    }
-
     /// The class of a node of the tree or of one that was made, or None where there is none.
     pub fn class(&self, system: &System, node: NodeRef) -> Option<ClassId>
         requires { self.now.system ≡ system.now }
         ensures { class_behind (program_for self.now) (stands_for self.now node.0) ≡ result }
     {
         if node.is_made() {
-            return self.made_class(system, node);
+            return class_of(&mut Lent(self), system, node);
         }
         let number = node.source()?;
         let tree = system.tree();
@@ -221,111 +127,20 @@ impl Makers {
         }
     }
 
-    /// The child of a node that was made at a component, or null where it has none. It takes time in proportion to the `new`.
-    pub fn child(&self, system: &System, node: NodeRef, component: u32) -> NodeRef
-        requires { self.now.system ≡ system.now }
-        ensures { most_nodes < node.0 → stands_for self.now result.0 ≡ child_at (world_of (program_for self.now)) component (stands_for self.now node.0) }
+    /// The equation by which a tree was made, or None where there is none.
+    fn equation(&self, tree: u32) -> Option<EqId>
+        requires { tree < length self.now.makers }
+        ensures { specs.IsEquationAt self.now tree result }
     {
-        let _nodes = system.tree().len();
-        let Some(spot) = spot_of(self.len(), node) else {
-            return NodeRef(0);
-        };
-        match self.child_position(system, node, spot, component) {
-            Some(position) => code_of(Spot { position, ..spot }),
-            None => NodeRef(0),
-        }
+        self.kept[tree as usize].equation
     }
 
-    /// The position of this child in its tree.
-    fn child_position(
-        &self,
-        system: &System,
-        node: NodeRef,
-        spot: Spot,
-        component: u32,
-    ) -> Option<u32>
-        requires same { self.now.system ≡ system.now }
-        requires spot { IsSpotOf (length self.now.makers) node.0 (Some spot) }
-        ensures child { stands_for self.now (specs.child_code spot result) ≡ child_at (world_of (program_for self.now)) component (stands_for self.now node.0) }
-        ensures few { IfSome result (λ j. j < most_made) }
-        ensures trees { spot.tree < 268431359 }
+    /// The instance that made a tree.
+    fn instance(&self, tree: u32) -> Instance
+        requires { tree < length self.now.makers }
+        ensures { maker_at self.now.makers tree ≡ Some result }
     {
-        let _trees = self.len();
-        let stand = self.stand(system, spot)?;
-        child_place(stand.parts, spot.position + 1, component)
-    }
-
-    /// What stands above a node that was made: its parent in the tree, or the owner of the tree. It takes time in proportion to the `new`.
-    pub fn up(&self, system: &System, node: NodeRef) -> Up
-        requires { self.now.system ≡ system.now }
-        ensures above { most_nodes < node.0 → IsAbove self.now node.0 result }
-        ensures falls { most_nodes < node.0 → code_above result < node.0 }
-    {
-        match spot_of(self.len(), node) {
-            Some(spot) if spot.position == 0 => self.owner(spot),
-            Some(spot) => self.parent(system, node, spot),
-            None => nothing_above(),
-        }
-    }
-
-    /// The owner of a tree.
-    fn owner(&self, spot: Spot) -> Up
-        ensures { specs.IsOwnerOf self.now spot.tree result }
-    {
-        match self.instance(spot.tree) {
-            Some(Instance::Attr { attr, node, .. }) => Up::Owner { node, attr },
-            _ => nothing_above(),
-        }
-    }
-
-    /// The parent of a node, by its code and where it stands.
-    fn parent(&self, system: &System, node: NodeRef, spot: Spot) -> Up
-        requires same { self.now.system ≡ system.now }
-        requires spot { IsSpotOf (length self.now.makers) node.0 (Some spot) }
-        requires below { 0 < spot.position }
-        ensures above { IsAbove self.now node.0 result }
-        ensures falls { code_above result < node.0 }
-    {
-        let _trees = self.len();
-        match self.stand(system, spot) {
-            Some(stand) => Up::Inside {
-                parent: NodeRef(node.0 - (spot.position - stand.parent)),
-                component: stand.component,
-            },
-            None => nothing_above(),
-        }
-    }
-
-    /// The code of an argument of what made a node, or 0 where there is none.
-    pub fn arg(&self, node: NodeRef, k: u32) -> Code
-        ensures { IsArgumentAt self.now node.0 k result }
-    {
-        match self.maker(node) {
-            Some((Instance::Attr { args, .. }, _)) => match args.code_at(k) {
-                Some(code) => code,
-                None => 0,
-            },
-            _ => 0,
-        }
-    }
-
-    /// The place of the token of a node at a component among all of the tree. It takes time in proportion to the `new`.
-    pub fn token_place(&self, system: &System, node: NodeRef, component: u32) -> Option<u32>
-        requires { self.now.system ≡ system.now }
-        ensures { IsTokenAt self.now node.0 component result }
-    {
-        let spot = spot_of(self.len(), node)?;
-        let stand = self.stand(system, spot)?;
-        own_token(stand.parts, stand.tokens, component)
-    }
-
-    /// What made a node, and the node's position in the tree.
-    pub fn maker(&self, node: NodeRef) -> Option<(Instance, u32)>
-        ensures { IsMakerOf self.now node.0 result }
-    {
-        let spot = spot_of(self.len(), node)?;
-        let instance = self.instance(spot.tree)?;
-        Some((instance, spot.position))
+        self.kept[tree as usize].instance
     }
 
     /// The equation by which an instance makes a tree, if it is one.
@@ -381,29 +196,33 @@ impl Makers {
     }
 }
 
-/// The code of the root of a tree.
-pub(crate) fn root_of(tree: u32) -> NodeRef
-    requires { tree < 268431359 }
-    ensures { result.0 ≡ suc (most_nodes + (most_made * tree + 0)) }
-{
-    NodeRef(MOST_NODES + 1 + MOST_MADE * tree)
-}
+/// Makers, as what keeps the makers of trees.
+#[derive(Clone, Copy)]
+pub struct Lent<'a>(pub &'a Makers);
 
-/// The code of a spot.
-fn code_of(spot: Spot) -> NodeRef
-    requires tree { spot.tree < 268431359 }
-    requires position { spot.position < most_made }
-    ensures { result.0 ≡ suc (most_nodes + (most_made * spot.tree + spot.position)) }
-{
-    NodeRef(MOST_NODES + 1 + MOST_MADE * spot.tree + spot.position)
-}
+impl KeepsMakers for Lent<'_> {
+    ghost use Rattle.std.specs.Prelude.{◌≡◌, refl};
+    ghost use Rattle.std.proofs.Common.{◌∙◌};
 
-/// Nothing: where no node stands, what stands above isn't asked.
-fn nothing_above() -> Up
-    ensures { code_above result ≡ 0 }
-{
-    Up::Owner {
-        node: NodeRef(0),
-        attr: AttrId(0),
+    ghost trees = { λ s. s.0.now };
+
+    ghost keeps = { λ r s. s.0.now ≡ r.0.now };
+
+    fn count(&mut self) -> u32 {
+        self.0.len()
     }
+
+    fn equation(&mut self, tree: u32) -> Option<EqId> {
+        self.0.equation(tree)
+    }
+
+    fn instance(&mut self, tree: u32) -> Instance {
+        self.0.instance(tree)
+    }
+
+    ghost same = { λ s. refl };
+
+    ghost further = { λ r s t e f. f ∙ e };
+
+    ghost still = { λ r s e. e };
 }

@@ -1,14 +1,17 @@
 // What a `new` makes, node by node.
-ghost use Rattle.std.specs.Prelude.{◌≡◌, ◌+◌, ◌≤◌, ℕ, Option, slice_get};
-ghost use Rattle.std.specs.Option.{option_and_then};
+ghost use Rattle.std.specs.Prelude.{◌≡◌, ◌+◌, ◌≤◌, ℕ, IfSome, Option, slice_get};
+ghost use Rattle.std.specs.Option.{option_and_then, option_map};
 ghost use Rattle.attr_rules.specs.Expression.{new_arguments_of};
 ghost use Rattle.attr_rules.specs.Typing as typing;
 ghost use Rattle.equation_law.specs.Created.{own_tokens};
-ghost use Rattle.made_trees.specs.Stands.{IsFoundFrom, IsSmallFrom, most_parts};
+ghost use Rattle.equation_law.specs.Systems.{program_of};
+ghost use Rattle.made_trees.specs.Makers as makers;
+ghost use Rattle.made_trees.specs.Stands.{IsFoundFrom, IsSmall, IsSmallFrom, most_parts, stands_of, stands_or_none};
 ghost use Rattle.made_trees.specs.Stands as stands;
 
 use ast_grammar::ClassId;
-use attr_rules::NewArgs;
+use attr_rules::{EqId, NewArgs, TExpr};
+use equation_law::System;
 
 /// A node: its class, its arguments, its parent with the component at which it hangs there, and how many tokens stand in front of its own.
 #[derive(Clone, Copy)]
@@ -27,6 +30,45 @@ pub(crate) struct Front {
     pub(crate) first: u32,
     pub(crate) component: u32,
     pub(crate) tokens: u32,
+}
+
+/// The node at a position of the tree that an equation makes, if there is one.
+pub(crate) fn stand_in<'a>(
+    system: &'a System,
+    equation: Option<EqId>,
+    position: u32,
+) -> Option<Stand<'a>>
+    requires within { makers.IsEquationWithin (program_of system.now) equation }
+    requires small { IfSome (makers.making_by (program_of system.now) equation) IsSmall }
+    ensures { slice_get (stands_or_none (makers.making_by (program_of system.now) equation)) position ≡ option_map stands.stand_of result }
+{
+    match system.rules().body(equation?) {
+        TExpr::New(class, parts) => stand_of(*class, parts, position),
+        _ => None,
+    }
+}
+
+/// The node at a position of a tree of this class with these arguments.
+fn stand_of<'a>(class: ClassId, parts: &'a NewArgs, position: u32) -> Option<Stand<'a>>
+    requires { IsSmall (record { class = class; arguments = new_arguments_of parts.now }) }
+    ensures { slice_get (stands_of (record { class = class; arguments = new_arguments_of parts.now })) position ≡ option_map stands.stand_of result }
+{
+    if position == 0 {
+        return Some(Stand {
+            class,
+            parts,
+            parent: 0,
+            component: 0,
+            tokens: 0,
+        });
+    }
+    let front = Front {
+        parent: 0,
+        first: 1,
+        component: 0,
+        tokens: 0,
+    };
+    find(parts, front, position).ok()
 }
 
 /// How many nodes are made below a node.

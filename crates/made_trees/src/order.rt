@@ -5,10 +5,10 @@ ghost use Rattle.equation_law.specs.Codes.{IsCode};
 ghost use Rattle.equation_law.specs.Program.{attribute_parameters};
 ghost use Rattle.equation_law.specs.Reading.{reference_cmp};
 ghost use Rattle.equation_law.specs.Systems.{program_of};
-ghost use Rattle.made_trees.specs.Makers.{naming_of, stands_for};
+ghost use Rattle.made_trees.specs.Makers.{AreTrees, naming_of, stands_for};
 ghost use Rattle.made_trees.specs.Ordered.{IsOrderOfCodes, IsOrderOfNodes, IsOrderOfRows, AreWhole, IsCreation, LeadsTo};
 
-use crate::makers::Makers;
+use crate::keeping::{KeepsMakers, maker_of};
 use attr_rules::{AttrId, Kind, Params};
 use equation_law::{Args, Code, Instance, NodeRef, System};
 use std::cmp::Ordering;
@@ -28,54 +28,59 @@ enum Comparison {
     Between(NodeRef, NodeRef),
 }
 
-impl Makers {
-    /// The order of two nodes by their names. Null is the first, and then come the source nodes by their numbers. A node that was made goes by the
-    /// node at which an attribute made it, by the attribute, by the arguments in turn and by its position. It takes no memory. Each step leads to
-    /// nodes that stand in what made the two, so there is at most one step more than trees that were made.
-    pub fn order(&self, system: &System, a: NodeRef, b: NodeRef) -> Ordering
-        requires { self.now.system ≡ system.now }
-        ensures { result ≡ reference_cmp (stands_for self.now a.0) (stands_for self.now b.0) }
-    {
-        let (mut left, mut right) = (a, b);
-        loop {
-            match self.compare(system, left, right) {
-                Comparison::Decided(order) => return order,
-                Comparison::Between(x, y) => {
-                    left = x;
-                    right = y;
-                }
+/// The order of two nodes by their names. Null is the first, and then come the source nodes by their numbers. A node that was made goes by the
+/// node at which an attribute made it, by the attribute, by the arguments in turn and by its position. It takes no memory. Each step leads to
+/// nodes that stand in what made the two, so there is at most one step more than trees that were made.
+pub fn order_of<K: KeepsMakers>(keeper: &mut K, system: &System, a: NodeRef, b: NodeRef) -> Ordering
+    requires { (K.trees keeper.old).system ≡ system.now }
+    ensures kept { K.keeps keeper.old keeper.new }
+    ensures order { result ≡ reference_cmp (stands_for (K.trees keeper.old) a.0) (stands_for (K.trees keeper.old) b.0) }
+{
+    let (mut left, mut right) = (a, b);
+    loop {
+        match compare(keeper, system, left, right) {
+            Comparison::Decided(order) => return order,
+            Comparison::Between(x, y) => {
+                left = x;
+                right = y;
             }
         }
     }
+}
 
-    /// The order of two nodes, or that of two that stand in what made them.
-    fn compare(&self, system: &System, left: NodeRef, right: NodeRef) -> Comparison
-        requires { self.now.system ≡ system.now }
-        ensures { LeadsTo (naming_of self.now) left.0 (reference_cmp (stands_for self.now left.0) (stands_for self.now right.0)) result }
-    {
-        let _trees = self.len();
-        match (self.creation(left), self.creation(right)) {
-            (None, None) => Comparison::Decided(left.0.cmp(&right.0)),
-            (None, Some(_)) => Comparison::Decided(Ordering::Less),
-            (Some(_), None) => Comparison::Decided(Ordering::Greater),
-            (Some(x), Some(y)) => by_creation(system, x, y),
-        }
+/// The order of two nodes, or that of two that stand in what made them.
+fn compare<K: KeepsMakers>(
+    keeper: &mut K,
+    system: &System,
+    left: NodeRef,
+    right: NodeRef,
+) -> Comparison
+    requires { (K.trees keeper.old).system ≡ system.now }
+    ensures kept { K.keeps keeper.old keeper.new }
+    ensures leads { LeadsTo (naming_of (K.trees keeper.old)) left.0 (reference_cmp (stands_for (K.trees keeper.old) left.0) (stands_for (K.trees keeper.old) right.0)) result }
+{
+    match (creation_of(keeper, left), creation_of(keeper, right)) {
+        (None, None) => Comparison::Decided(left.0.cmp(&right.0)),
+        (None, Some(_)) => Comparison::Decided(Ordering::Less),
+        (Some(_), None) => Comparison::Decided(Ordering::Greater),
+        (Some(x), Some(y)) => by_creation(system, x, y),
     }
+}
 
-    /// What made a node, if it was made.
-    fn creation(&self, node: NodeRef) -> Option<Creation>
-        ensures { IsCreation self.now node.0 result }
-    {
-        let _trees = self.len();
-        match self.maker(node)? {
-            (Instance::Attr { attr, node, args }, position) => Some(Creation {
-                attr,
-                owner: node,
-                args,
-                position,
-            }),
-            (Instance::Query(_), _) => None,
-        }
+/// What made a node, if it was made.
+fn creation_of<K: KeepsMakers>(keeper: &mut K, node: NodeRef) -> Option<Creation>
+    ensures kept { K.keeps keeper.old keeper.new }
+    ensures trees { AreTrees (K.trees keeper.old) }
+    ensures creation { IsCreation (K.trees keeper.old) node.0 result }
+{
+    match maker_of(keeper, node)? {
+        (Instance::Attr { attr, node, args }, position) => Some(Creation {
+            attr,
+            owner: node,
+            args,
+            position,
+        }),
+        (Instance::Query(_), _) => None,
     }
 }
 

@@ -8,7 +8,9 @@ ghost use Rattle.equation_law.specs.Program.{making_at};
 ghost use Rattle.equation_law.specs.Systems.{program_of};
 ghost use Rattle.made_trees.specs.Makers.{IsEquationWithin, IsRootOf, making_by, making_for, naming_of, program_for};
 
-use crate::makers::{Makers, root_of, stand_in};
+use crate::makers::Makers;
+use crate::news::stand_in;
+use crate::spots::root_of;
 use ast_grammar::ClassId;
 use attr_rules::{AttrId, EqId, TExpr};
 use equation_law::{Instance, NodeRef, System};

@@ -1,5 +1,5 @@
 -- Codes by the makers so far: makers that are added give them the same meaning, and what has them.
-use Rattle.std.proofs.Common.{◌≡◌, inl, inr, ℕ, zero, suc, ◌+◌, ◌*◌, ◌<◌, ◌≤◌, ◌^◌, ◌==◌, ℤ, Bool, List, [], ◌∷◌, ◌++◌, append_assoc, length, length-append, Option, Some, None, refl, sym, ap, subst, ◌∙◌, arith}
+use Rattle.std.proofs.Common.{◌≡◌, inl, inr, ℕ, zero, suc, ◌+◌, ◌*◌, ◌<◌, ◌≤◌, ◌^◌, ◌==◌, ℤ, Bool, List, [], ◌∷◌, ◌++◌, length, length-append, Option, Some, None, refl, sym, ap, subst, ◌∙◌, arith}
 use Rattle.std.proofs.lemmas.Bool.{cond-false, ne_eqb}
 use Rattle.std.proofs.lemmas.List.Elements.{All-cons, All-nil}
 use Rattle.std.proofs.lemmas.Option.{same_Some}
@@ -25,46 +25,25 @@ use Rattle.equation_law.proofs.Names.{same_list}
 use Rattle.equation_law.proofs.Fitting.{trees_fit}
 use Rattle.equation_law.proofs.Keys.{one_key_by}
 use Rattle.equation_law.proofs.Pooled.{texts_pooled}
-use Rattle.made_trees.specs.Made.{AreMakers, AreNamed, last_code, maker_at, naming_by_makers, node_by_makers, node_of}
+use Rattle.made_trees.specs.Made.{AreMakers, AreNamed, Follow, last_code, maker_at, naming_by_makers, node_by_makers, node_of}
 use Rattle.equation_law.specs.declared.system.System.{System}
 use Rattle.equation_law.specs.Systems.{program_of}
 use Rattle.made_trees.specs.Makers.{AreSmall, AreTrees, IsMore, Trees, making_for, naming_of, program_for, stands_for}
+use Rattle.made_trees.proofs.Following.{follow_length, follow_more, reference_follows}
 use Rattle.made_trees.proofs.Kept.{few_makers}
-use Rattle.made_trees.proofs.Naming.{can_more, instance_kept, made_there, maker_coded, naming_is, node_there, number_below, past_sources, reference_kept}
+use Rattle.made_trees.proofs.Naming.{can_more, instance_kept, made_there, maker_coded, naming_is, node_there, number_below, past_sources}
 use Rattle.made_trees.proofs.Small.{trees_small}
 use Rattle.made_trees.proofs.Stands.{length_is}
 use Rattle.plain_rounds.specs.Trees.{HaveNumbers}
-use Rattle.plain_rounds.specs.Coding.{AreArgumentsCoded, AreEachCoded, AreNamesCoded, AreSomeArguments, Follow, IsArgumentCoded, IsCodedAs, IsInstanceCoded, IsNameCoded, IsNamedBy, IsNodeCoded, IsSomeArgument, IsSomeNode}
-
--- makers that follow makers
-pub follow_itself : (ms : List CodedInstance) → Follow ms ms
-follow_itself ms = ([], refl)
-
-pub follow_on : {xs ys zs : List CodedInstance} → Follow xs ys → Follow ys zs → Follow xs zs
-follow_on {xs} f g = (g.0 ++ f.0, g.1 ∙ ap (λ (l : List CodedInstance). g.0 ++ l) f.1 ∙ sym (append_assoc g.0 f.0 xs))
-
-pub follow_more : {xs ys : List CodedInstance} {i : CodedInstance} → IsMore xs i ys → Follow xs ys
-follow_more {i = i} more = elim more [
-  | inl same ↦ ([], same)
-  | inr one ↦ (i ∷ [], one)
-]
-
-pub follow_length : {xs ys : List CodedInstance} → Follow xs ys → length xs ≤ length ys
-follow_length {xs} {ys} f = let l : length ys ≡ length f.0 + length xs = ap length f.1 ∙ length-append f.0 xs in omega (arith, l)
+use Rattle.plain_rounds.specs.Coding.{AreArgumentsCoded, AreEachCoded, AreNamesCoded, AreSomeArguments, IsArgumentCoded, IsCodedAs, IsInstanceCoded, IsNameCoded, IsNamedBy, IsNodeCoded, IsSomeArgument, IsSomeNode}
 
 module _ (p : Program) where
   -- a code that has a meaning keeps it
-  node_further : (more ms : List CodedInstance) (c : ℕ) → c ≤ last_code (length ms) → reference_by (node_by_makers p (more ++ ms)) c ≡ reference_by (node_by_makers p ms) c
-  node_further [] ms c low = refl
-  node_further (m ∷ more) ms c low =
-      let l : length (more ++ ms) ≡ length more + length ms = length-append more ms in
-      reference_kept p m (more ++ ms) c (omega (arith, l, low)) ∙ node_further more ms c low
-
   pub node_kept : {ms ns : List CodedInstance} {r : Reference} {c : ℕ} → Follow ms ns → IsNodeCoded p ms r c → IsNodeCoded p ns r c
   node_kept {ms} {ns} {r} {c} f h =
       let l = follow_length f in
       let low = h.1 in
-      (subst (λ (l : List CodedInstance). reference_by (node_by_makers p l) c ≡ r) (sym f.1) (node_further f.0 ms c h.1 ∙ h.0), omega (arith, l, low))
+      (reference_follows p f c h.1 ∙ h.0, omega (arith, l, low))
 
   value_kept : {ms ns : List CodedInstance} → Follow ms ns → (k : Kind) (x : Argument) (c : ℕ) → IsCodedAs p ms k x c → IsCodedAs p ns k x c
   value_kept f kinds.Truth x c h = record { code = h.code; named = tt; is = h.is }

@@ -25,10 +25,6 @@ IsSomeArgument p x = (k : Kind) × IsValue p k (argument_value x)
 abbrev pub AreSomeArguments : Program → List Argument → Type 0
 AreSomeArguments p xs = (ks : List Kind) × AreArguments p ks xs
 
--- these makers, and then more
-abbrev pub Follow : List CodedInstance → List CodedInstance → Type 0
-Follow before after = (more : List CodedInstance) × (after ≡ more ++ before)
-
 -- the code of a node; further makers give it the same meaning
 abbrev pub IsNodeCoded : Program → List CodedInstance → Reference → ℕ → Type 0
 IsNodeCoded p ms r c = (reference_by (node_by_makers p ms) c ≡ r) × (c ≤ last_code (length ms))

@@ -4,9 +4,10 @@ ghost use Rattle.equation_law.specs.Checked.{IsInstance};
 ghost use Rattle.equation_law.specs.Names.{Query};
 ghost use Rattle.equation_law.specs.Program.{text_of};
 ghost use Rattle.equation_law.specs.Systems.{program_of};
+ghost use Rattle.made_trees.specs.Made.{Follow};
 ghost use Rattle.made_trees.specs.Makers.{AreTrees};
 ghost use Rattle.plain_rounds.specs.CodesOf.{AreCodesOfArguments, AreCodesOfNames, IsCodeOfArgument, IsCodeOfInstance, IsCodeOfNode};
-ghost use Rattle.plain_rounds.specs.Coding.{AreSomeArguments, IsNameCoded, IsSomeArgument, IsSomeNode, Follow};
+ghost use Rattle.plain_rounds.specs.Coding.{AreSomeArguments, IsNameCoded, IsSomeArgument, IsSomeNode};
 ghost use Rattle.plain_rounds.specs.Named.{argument_named, arguments_named, instance_named, instances_named, name_in, reference_named};
 
 use crate::growing::push;

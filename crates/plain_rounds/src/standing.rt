@@ -14,6 +14,9 @@ use collection_attrs::evaluate_any;
 use equation_law::{Args, Code, EqSite, Instance, NodeRef, Reader, TreeImage, Up, Value};
 use expr_eval::{Turn, kind_of};
 use inherited_walk::find_equation;
+use made_trees::{
+    Lent, argument_of, child_of, class_of, maker_of, order_of, token_place_of, up_of,
+};
 use rag_io::Memory;
 use std::alloc::Global;
 use std::cmp::Ordering;
@@ -44,9 +47,10 @@ impl Standing<'_> {
         ensures { AreReady self.now.setting self.now.values.now → IsTokenIn self.now node.0 component result }
     {
         let setting = &self.setting;
-        let (maker, _) = setting.makers.maker(node)?;
+        let mut makers = Lent(setting.makers);
+        let (maker, _) = maker_of(&mut makers, node)?;
         let held = setting.places.value(self.values, maker)?;
-        let place = setting.makers.token_place(setting.system, node, component)?;
+        let place = token_place_of(&mut makers, setting.system, node, component)?;
         held.token(place)
     }
 }
@@ -62,7 +66,7 @@ impl Reader for Standing<'_> {
 
     fn made_class(&mut self, node: NodeRef) -> ClassId {
         let setting = &self.setting;
-        match setting.makers.made_class(setting.system, node) {
+        match class_of(&mut Lent(setting.makers), setting.system, node) {
             Some(class) => class,
             None => ClassId(u16::MAX),
         }
@@ -70,7 +74,7 @@ impl Reader for Standing<'_> {
 
     fn made_child(&mut self, node: NodeRef, component: u32) -> NodeRef {
         let setting = &self.setting;
-        setting.makers.child(setting.system, node, component)
+        child_of(&mut Lent(setting.makers), setting.system, node, component)
     }
 
     fn made_token(&mut self, node: NodeRef, component: u32) -> Code {
@@ -82,16 +86,16 @@ impl Reader for Standing<'_> {
 
     fn made_up(&mut self, node: NodeRef) -> Up {
         let setting = &self.setting;
-        setting.makers.up(setting.system, node)
+        up_of(&mut Lent(setting.makers), setting.system, node)
     }
 
     fn made_arg(&mut self, node: NodeRef, k: u32) -> Code {
-        self.setting.makers.arg(node, k)
+        argument_of(&mut Lent(self.setting.makers), node, k)
     }
 
     fn made_order(&mut self, a: NodeRef, b: NodeRef) -> Ordering {
         let setting = &self.setting;
-        setting.makers.order(setting.system, a, b)
+        order_of(&mut Lent(setting.makers), setting.system, a, b)
     }
 }
 

@@ -14,7 +14,8 @@ use Rattle.plain_rounds.specs.declared.naming.NamedInstance.{NamedInstance}
 use Rattle.plain_rounds.specs.declared.naming.NodeName.{NodeName}
 use Rattle.plain_rounds.specs.Coding.{AreArgumentsCoded, AreSomeArguments, IsArgumentCoded, IsInstanceCoded, IsNodeCoded, IsSomeNode}
 use Rattle.plain_rounds.specs.Named.{argument_named, arguments_named, instance_named, reference_named}
-use Rattle.plain_rounds.proofs.Coded.{added, argument_kept, coded_kept, first_of, follow_more, follow_on, instance_coded, int_coded, node_argument, makers_of, node_kept, parts, rest_of, some_parts, source_coded, source_few, text_coded, three_coded, truth_coded, two_coded}
+use Rattle.made_trees.proofs.Following.{follow_more, follow_on}
+use Rattle.plain_rounds.proofs.Coded.{added, argument_kept, coded_kept, first_of, instance_coded, int_coded, node_argument, makers_of, node_kept, parts, rest_of, some_parts, source_coded, source_few, text_coded, three_coded, truth_coded, two_coded}
 use Rattle.plain_rounds.proofs.Sizes.{maker_smaller, one_smaller, owner_smaller, three_smaller, two_smaller}
 use Rattle.plain_rounds.proofs.coding.+codes.Goals as goal
 

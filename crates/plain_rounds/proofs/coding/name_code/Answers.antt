@@ -4,7 +4,8 @@ use Rattle.equation_law.specs.Systems.{program_of}
 use Rattle.plain_rounds.specs.declared.naming.Name.{Name}
 use Rattle.plain_rounds.specs.Coding.{IsNameCoded}
 use Rattle.plain_rounds.specs.Named.{arguments_named, name_in, reference_named}
-use Rattle.plain_rounds.proofs.Coded.{follow_more, follow_on, name_added}
+use Rattle.made_trees.proofs.Following.{follow_more, follow_on}
+use Rattle.plain_rounds.proofs.Coded.{name_added}
 use Rattle.plain_rounds.proofs.coding.name_code.Goals as goal
 
 pub returns-in_err-add-clause-follow : goal.returns-in_err-add-clause-follow

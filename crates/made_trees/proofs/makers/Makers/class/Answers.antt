@@ -14,7 +14,7 @@ returns-then-number-len c =
     let T = c.args.self.now in
     let n = c.in_ok-number.number in
     ap (class_behind (program_for T)) (source_by T c.args.node.0 n c.in_ok-number.ensures (sym c.is_made.ensures ∙ c.if-is_made.false)) ∙ ap (λ (s : System). class_in (program_of s).tree n) c.requires
-    ∙ ap (λ (nodes : List Node). class_in nodes n) (sym c.tree-tree.ensures) ∙ c.class_of.ensures
+    ∙ ap (λ (nodes : List Node). class_in nodes n) (sym c.tree-tree.ensures) ∙ c.class_of-then-number-len.ensures
 
 pub returns-else-number-len : goal.returns-else-number-len
 returns-else-number-len c =

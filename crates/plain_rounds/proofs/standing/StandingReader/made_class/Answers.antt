@@ -5,10 +5,10 @@ use Rattle.plain_rounds.proofs.standing.StandingReader.made_class.Goals as goal
 
 pub returns-in-Some : goal.returns-in-Some
 returns-in-Some c =
-    standing_class c.args.self.now c.args.node c.made_class.result c.in-Some.class c.made_class.ensures
+    standing_class c.args.self.now c.args.node c.class_of.result c.in-Some.class c.class_of.ensures.class
     (subst (λ (o : Option ClassId). MatchOption o (c.in-Some.class.0 ≡ 65535) (λ d. c.in-Some.class ≡ d)) (sym c.in-Some.is) refl)
 
 pub returns-in-None : goal.returns-in-None
 returns-in-None c =
     let none : ClassId = record { 0 = 65535 } in
-    standing_class c.args.self.now c.args.node c.made_class.result none c.made_class.ensures (subst (λ (o : Option ClassId). MatchOption o (none.0 ≡ 65535) (λ d. none ≡ d)) (sym c.in-None.is) refl)
+    standing_class c.args.self.now c.args.node c.class_of.result none c.class_of.ensures.class (subst (λ (o : Option ClassId). MatchOption o (none.0 ≡ 65535) (λ d. none ≡ d)) (sym c.in-None.is) refl)
